@@ -1,0 +1,86 @@
+//! How users of combine run a parser: on the whole input, and on pieces with a kept state.
+//!
+//! Over pieces each window is a slice of the one buffer, from the first byte not taken: no byte is copied, so what is
+//! measured is the parsing alone.
+
+use crate::measure::REFUSED;
+use combine::error::UnexpectedParse;
+use combine::stream::{MaybePartialStream, PartialStream};
+use combine::{Parser, Stream};
+
+pub type Window<'a> = MaybePartialStream<&'a [u8]>;
+
+/// How many bytes a parser takes, the whole input at once (`size` 0) or in pieces; `REFUSED` where it refuses.
+pub fn taken<'a>(
+    whole: impl Parser<&'a [u8]>,
+    resumable: impl Parser<Window<'a>>,
+    bytes: &'a [u8],
+    size: usize,
+) -> u64 {
+    let taken = if size == 0 {
+        self::whole(whole, bytes).map(|(_, taken)| taken)
+    } else {
+        pieces(resumable, bytes, size).map(|(_, taken)| taken)
+    };
+    taken.map_or(REFUSED, |taken| taken as u64)
+}
+
+/// The value and how many bytes it took.
+pub fn whole<'a, P: Parser<&'a [u8]>>(mut parser: P, bytes: &'a [u8]) -> Option<(P::Output, usize)> {
+    let (value, rest) = parser.parse(bytes).ok()?;
+    Some((value, bytes.len() - rest.len()))
+}
+
+/// The same, fed in pieces of `size` bytes and then the end.
+pub fn pieces<'a, P: Parser<Window<'a>>>(mut parser: P, bytes: &'a [u8], size: usize) -> Option<(P::Output, usize)> {
+    let mut state = P::PartialState::default();
+    let (mut taken, mut fed) = (0, 0);
+    loop {
+        let open = fed < bytes.len();
+        fed = bytes.len().min(fed + size);
+        let mut window = MaybePartialStream(&bytes[taken..fed], open);
+        let answer = parser.parse_with_state(&mut window, &mut state);
+        taken = fed - window.0.len();
+        match answer {
+            Ok(value) => return Some((value, taken)),
+            Err(UnexpectedParse::Eoi) if open => {}
+            Err(_) => return None,
+        }
+    }
+}
+
+/// The values of one message after the other, fed in pieces of `size` bytes; the number of bytes that they took.
+pub fn each<'a, P: Parser<PartialStream<&'a [u8]>>>(
+    mut parser: P,
+    bytes: &'a [u8],
+    size: usize,
+    mut see: impl FnMut(P::Output),
+) -> Option<usize> {
+    let mut state = P::PartialState::default();
+    let (mut taken, mut fed) = (0, 0);
+    while fed < bytes.len() {
+        fed = bytes.len().min(fed + size);
+        while taken < fed {
+            let mut window = PartialStream(&bytes[taken..fed]);
+            let answer = parser.parse_with_state(&mut window, &mut state);
+            taken = fed - window.0.len();
+            match answer {
+                Ok(value) => {
+                    see(value);
+                    state = P::PartialState::default();
+                }
+                Err(UnexpectedParse::Eoi) => break,
+                Err(_) => return None,
+            }
+        }
+    }
+    Some(taken)
+}
+
+/// These bytes, one by one.
+pub fn exactly<I: Stream<Token = u8>>(text: &'static [u8]) -> impl Parser<I, Output = ()>
+where
+    I::Error: combine::error::ParseError<u8, I::Range, I::Position>,
+{
+    combine::parser::token::tokens_cmp(text.iter().copied(), |left: u8, right: u8| left == right).map(|_| ())
+}

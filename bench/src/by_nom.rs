@@ -1,0 +1,61 @@
+//! How users of nom parse pieces: with the streaming parsers, begun again at the first byte not taken.
+
+use crate::measure::REFUSED;
+use nom::multi::fold_many0;
+use nom::IResult;
+
+/// How many bytes the items in turn take, the whole input at once (`size` 0) or in pieces; `REFUSED` where one fails.
+pub fn taken<'a, T>(
+    complete: impl Fn(&'a [u8]) -> IResult<&'a [u8], T>,
+    streaming: impl Fn(&'a [u8]) -> IResult<&'a [u8], T>,
+    bytes: &'a [u8],
+    size: usize,
+) -> u64 {
+    let taken = if size == 0 {
+        fold_many0(complete, || (), |(), _| ())(bytes).ok().map(|(rest, ())| bytes.len() - rest.len())
+    } else {
+        each(streaming, bytes, size, |_| ())
+    };
+    taken.map_or(REFUSED, |taken| taken as u64)
+}
+
+/// The values of one item after the other, fed in pieces of `size` bytes; the number of bytes that they took.
+pub fn each<'a, T>(
+    item: impl Fn(&'a [u8]) -> IResult<&'a [u8], T>,
+    bytes: &'a [u8],
+    size: usize,
+    mut see: impl FnMut(T),
+) -> Option<usize> {
+    let (mut taken, mut fed) = (0, 0);
+    while fed < bytes.len() {
+        fed = bytes.len().min(fed + size);
+        while taken < fed {
+            match item(&bytes[taken..fed]) {
+                Ok((rest, value)) => {
+                    see(value);
+                    taken = fed - rest.len();
+                }
+                Err(nom::Err::Incomplete(_)) => break,
+                Err(_) => return None,
+            }
+        }
+    }
+    Some(taken)
+}
+
+/// Both forms of a parser: `complete` for whole inputs, `streaming` for pieces.
+#[macro_export]
+macro_rules! both_forms {
+    ($($item:item)*) => {
+        mod complete {
+            #[allow(unused_imports)]
+            use nom::{bytes::complete::{tag, take_while1}, character::complete::{char, satisfy}};
+            $($item)*
+        }
+        mod streaming {
+            #[allow(unused_imports)]
+            use nom::{bytes::streaming::{tag, take_while1}, character::streaming::{char, satisfy}};
+            $($item)*
+        }
+    };
+}

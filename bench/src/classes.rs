@@ -1,0 +1,18 @@
+//! Classes of bytes, and the runs of them that begin a slice.
+
+pub fn is_lower(byte: u8) -> bool {
+    byte.is_ascii_lowercase()
+}
+
+pub fn is_digit(byte: u8) -> bool {
+    byte.is_ascii_digit()
+}
+
+/// Where the bytes from `at` on stop being of a class.
+#[inline(always)]
+pub fn past(bytes: &[u8], mut at: usize, is_in: impl Fn(u8) -> bool) -> usize {
+    while at < bytes.len() && is_in(bytes[at]) {
+        at += 1;
+    }
+    at
+}

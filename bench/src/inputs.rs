@@ -1,0 +1,82 @@
+//! Inputs: the same bytes on each run, and the shorter input is how the longer one begins.
+
+/// A generator of numbers with a fixed seed (xorshift).
+struct Dice(u64);
+
+impl Dice {
+    fn new() -> Dice {
+        Dice(0x9e37_79b9_7f4a_7c15)
+    }
+
+    /// A number from `least` to `most`.
+    fn between(&mut self, least: u64, most: u64) -> u64 {
+        self.0 ^= self.0 << 13;
+        self.0 ^= self.0 >> 7;
+        self.0 ^= self.0 << 17;
+        least + (self.0 >> 11) % (most - least + 1)
+    }
+
+    fn push(&mut self, all: &mut Vec<u8>, count: u64, first: u8, last: u8) {
+        for _ in 0..count {
+            all.push(self.between(first as u64, last as u64) as u8);
+        }
+    }
+}
+
+fn repeated(size: usize, mut one: impl FnMut(&mut Dice, &mut Vec<u8>)) -> Vec<u8> {
+    let mut dice = Dice::new();
+    let mut all = Vec::with_capacity(size + 1024);
+    while all.len() < size {
+        one(&mut dice, &mut all);
+    }
+    all
+}
+
+/// `del WORD;` (one in three) and `WORD=DIGITS;`, words of 2 to 7 letters, numbers of 1 to 5 digits.
+pub fn messages(size: usize) -> Vec<u8> {
+    repeated(size, |dice, all| {
+        let deletes = dice.between(0, 2) == 0;
+        if deletes {
+            all.extend_from_slice(b"del ");
+        }
+        let letters = dice.between(2, 7);
+        dice.push(all, letters, b'a', b'z');
+        if !deletes {
+            all.push(b'=');
+            let digits = dice.between(1, 5);
+            dice.push(all, digits, b'0', b'9');
+        }
+        all.push(b';');
+    })
+}
+
+/// A letter and a digit, twice: `a1b2`.
+pub fn pairs(size: usize) -> Vec<u8> {
+    repeated(size, |dice, all| {
+        for _ in 0..2 {
+            dice.push(all, 1, b'a', b'z');
+            dice.push(all, 1, b'0', b'9');
+        }
+    })
+}
+
+/// Words of 1 to 8 letters, each with a `;` behind it.
+pub fn words(size: usize) -> Vec<u8> {
+    repeated(size, |dice, all| {
+        let letters = dice.between(1, 8);
+        dice.push(all, letters, b'a', b'z');
+        all.push(b';');
+    })
+}
+
+/// Lines of 1 to 6 words of 1 to 8 letters, a `,` behind each word and a `;` behind each line.
+pub fn lines(size: usize) -> Vec<u8> {
+    repeated(size, |dice, all| {
+        for _ in 0..dice.between(1, 6) {
+            let letters = dice.between(1, 8);
+            dice.push(all, letters, b'a', b'z');
+            all.push(b',');
+        }
+        all.push(b';');
+    })
+}

@@ -1,0 +1,27 @@
+//! What a measure is.
+
+/// What stands for a refused input.
+pub const REFUSED: u64 = u64::MAX;
+
+/// What the calls of ours answer where they met a fault, as want of memory.
+pub const FAULT: u64 = u64::MAX - 1;
+
+/// One side of a measure: parses the bytes, and answers a checksum, or `REFUSED`.
+///
+/// The second argument is the size of the pieces that the bytes are fed in; 0 is for the whole input at once.
+pub type Call = fn(&[u8], usize) -> u64;
+
+/// The same work on each side.
+pub struct Measure {
+    /// The name of its file; ours is the export `combine_bench_NAME`.
+    pub name: &'static str,
+    /// What is measured, in a line.
+    pub what: &'static str,
+    /// Makes at least so many bytes, the same ones each time.
+    pub input: fn(usize) -> Vec<u8>,
+    /// The sizes of pieces that are shown of it.
+    pub pieces: &'static [usize],
+    /// The sides but ours, by name; the first is the loop by hand.
+    /// A name may begin with that of its crate, as `combine by message`: another form of the same work.
+    pub sides: &'static [(&'static str, Call)],
+}

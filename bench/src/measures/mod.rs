@@ -1,0 +1,21 @@
+//! The measures: one file and one line each.
+
+use crate::measure::Measure;
+
+macro_rules! measures {
+    ($($name:ident)*) => {
+        $(mod $name;)*
+        pub const ALL: &[&Measure] = &[$(&$name::MEASURE),*];
+    };
+}
+
+measures! {
+    messages_skip
+    messages_collect
+    one_token
+    tuple_of_2
+    tuple_of_4
+    tuple_of_tuples
+    many_in_many
+    many_in_many_in_many
+}

@@ -1,0 +1,16 @@
+pub mod Calls
+pub mod Distances
+pub mod Explaining
+pub mod Inside
+pub mod Mapped
+pub mod Moved
+pub mod Progress
+pub mod Same
+pub mod Says
+pub mod Sessions
+pub mod Pieces
+pub mod Sequels
+pub mod Sequences
+pub mod Singles
+pub mod Starting
+pub mod Single

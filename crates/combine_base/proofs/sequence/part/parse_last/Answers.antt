@@ -1,0 +1,59 @@
+use Rattle.std.proofs.Common.{inl, inr, ap, refl}
+use Rattle.combine_base.specs.declared.error.ParseResult.TheVariants.{CommitOk}
+use Rattle.combine_base.proofs.Starting.{at_rest}
+use Rattle.combine_base.proofs.sequence.part.parse_last.Goals as goal
+
+pub returns-in-CommitOk-clause-runs : goal.returns-in-CommitOk-clause-runs
+returns-in-CommitOk-clause-runs g c =
+    record {
+      stopped = _;
+      answer = _;
+      answers = at_rest _ _ _ (g.met.P.Parser.laws c.args.part.now c.requires.lawful) _ c.requires.starts _ c.in-CommitOk.ensures.answers;
+      explained = c.in-CommitOk.ensures.explained;
+      is = ap CommitOk c.push.ensures;
+      leaves = inr (λ q. q, c.requires.fresh);
+    }
+
+pub returns-in-PeekOk-clause-runs : goal.returns-in-PeekOk-clause-runs
+returns-in-PeekOk-clause-runs g c =
+    record {
+      stopped = _;
+      answer = _;
+      answers = at_rest _ _ _ (g.met.P.Parser.laws c.args.part.now c.requires.lawful) _ c.requires.starts _ c.in-PeekOk.ensures.answers;
+      explained = c.in-PeekOk.ensures.explained;
+      is = rw (c.accepted_after.ensures, c.push-in-PeekOk.ensures);
+      leaves = inr (λ q. q, c.requires.fresh);
+    }
+
+pub returns-then-needs_more-clause-runs : goal.returns-then-needs_more-clause-runs
+returns-then-needs_more-clause-runs g c =
+    record {
+      stopped = _;
+      answer = _;
+      answers = at_rest _ _ _ (g.met.P.Parser.laws c.args.part.now c.requires.lawful) _ c.requires.starts _ c.in-CommitErr.ensures.answers;
+      explained = c.in-CommitErr.ensures.explained;
+      is = refl;
+      leaves = inl (c.needs_more.ensures.0 c.if-needs_more.true, c.last.ensures, c.in-CommitErr.ensures.valid);
+    }
+
+pub returns-else-needs_more-clause-runs : goal.returns-else-needs_more-clause-runs
+returns-else-needs_more-clause-runs g c =
+    record {
+      stopped = _;
+      answer = _;
+      answers = at_rest _ _ _ (g.met.P.Parser.laws c.args.part.now c.requires.lawful) _ c.requires.starts _ c.in-CommitErr.ensures.answers;
+      explained = c.in-CommitErr.ensures.explained;
+      is = refl;
+      leaves = inr (λ q. let e = c.needs_more.ensures.1 q in let f = c.if-needs_more.false in cc, c.requires.fresh);
+    }
+
+pub returns-in-PeekErr-clause-runs : goal.returns-in-PeekErr-clause-runs
+returns-in-PeekErr-clause-runs g c =
+    record {
+      stopped = _;
+      answer = _;
+      answers = at_rest _ _ _ (g.met.P.Parser.laws c.args.part.now c.requires.lawful) _ c.requires.starts _ c.in-PeekErr.ensures.answers;
+      explained = c.in-PeekErr.ensures.explained;
+      is = c.refused_after.ensures;
+      leaves = inr (λ q. q, c.requires.fresh);
+    }

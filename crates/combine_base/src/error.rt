@@ -1,0 +1,402 @@
+//! Answers of parsers, errors, and what they say.
+ghost use Rattle.std.specs.Prelude.{◌≡◌, List, [], Bool, true, false, None, length, IsTrue, ◌↔◌};
+ghost use Rattle.combine_base.specs.Results.{inner, peeked, merged, accepts, standard, from_standard, combined, as_result, MapsValue, MapsError};
+ghost use Rattle.combine_base.specs.NoItems.{no_items};
+ghost use Rattle.combine_base.specs.Items.{Item, Unexpected, Expected, Message, OfToken, Fixed, Count, shown, end_of_input};
+ghost use Rattle.combine_base.specs.Errors.{Errors, Only, Says, Placed, Cleared, ClearedAfter, Merged, IsFault, if_kept, later};
+
+use crate::stream::{Kind, StreamOnce};
+use std::string::String;
+
+/// Whether something was committed to, a token taken or not.
+#[derive(Clone, Copy, Debug, PartialEq, Eq)]
+pub enum Commit<T> {
+    Commit(T),
+    Peek(T),
+}
+
+impl<T> Commit<T> {
+    pub fn is_peek(&self) -> bool
+        ensures { result ≡ peeked self.now }
+    {
+        match self {
+            Commit::Commit(_) => false,
+            Commit::Peek(_) => true,
+        }
+    }
+
+    pub fn into_inner(self) -> T
+        ensures { result ≡ inner self }
+    {
+        match self {
+            Commit::Commit(value) => value,
+            Commit::Peek(value) => value,
+        }
+    }
+
+    /// The value changed, the commitment kept.
+    pub fn map<U, F: FnOnce(T) -> U>(self, f: F) -> Commit<U>
+        requires { F.pre f (inner self) }
+        ensures value { F.post f (inner self) (inner result) }
+        ensures same { peeked result ≡ peeked self }
+    {
+        match self {
+            Commit::Commit(value) => Commit::Commit(f(value)),
+            Commit::Peek(value) => Commit::Peek(f(value)),
+        }
+    }
+
+    /// The value of `other`, committed if either is.
+    pub fn merge<U>(&self, other: Commit<U>) -> Commit<U>
+        ensures { result ≡ merged self.now other }
+    {
+        match self {
+            Commit::Commit(_) => Commit::Commit(other.into_inner()),
+            Commit::Peek(_) => other,
+        }
+    }
+
+    /// What the function answers on the value, made committed if this is.
+    pub fn combine_commit<U, E, F: FnOnce(T) -> ParseResult<U, E>>(self, f: F) -> ParseResult<U, E>
+        requires { F.pre f (inner self) }
+        ensures { (r : ParseResult U E) × F.post f (inner self) r × (result ≡ combined self r) }
+    {
+        match self {
+            Commit::Commit(value) => match f(value) {
+                ParseResult::CommitOk(answer) => ParseResult::CommitOk(answer),
+                ParseResult::PeekOk(answer) => ParseResult::CommitOk(answer),
+                ParseResult::CommitErr(error) => ParseResult::CommitErr(error),
+                ParseResult::PeekErr(Tracked { error, offset: _ }) => ParseResult::CommitErr(error),
+            },
+            Commit::Peek(value) => f(value),
+        }
+    }
+}
+
+/// What a parser answers.
+///
+/// A fault (an error of kind `Memory`, `Read`, `Reset` or `Lost`) and need of more (`End` on an open stream) are committed errors.
+#[derive(Drop)]
+pub enum ParseResult<O, E> {
+    CommitOk(O),
+    PeekOk(O),
+    CommitErr(E),
+    PeekErr(Tracked<E>),
+}
+
+impl<O, E> ParseResult<O, E> {
+    pub fn is_ok(&self) -> bool
+        ensures { result ≡ accepts self.now }
+    {
+        match self {
+            ParseResult::CommitOk(_) => true,
+            ParseResult::PeekOk(_) => true,
+            ParseResult::CommitErr(_) => false,
+            ParseResult::PeekErr(_) => false,
+        }
+    }
+
+    pub fn is_err(&self) -> bool
+        ensures { IsTrue result ↔ (accepts self.now ≡ false) }
+    {
+        !self.is_ok()
+    }
+
+    pub fn map<P, F: FnOnce(O) -> P>(self, f: F) -> ParseResult<P, E>
+        requires { F.IsAlwaysCallable f }
+        ensures { MapsValue (F.post f) self result }
+    {
+        match self {
+            ParseResult::CommitOk(value) => ParseResult::CommitOk(f(value)),
+            ParseResult::PeekOk(value) => ParseResult::PeekOk(f(value)),
+            ParseResult::CommitErr(error) => ParseResult::CommitErr(error),
+            ParseResult::PeekErr(error) => ParseResult::PeekErr(error),
+        }
+    }
+
+    pub fn map_err<D, F: FnOnce(E) -> D>(self, f: F) -> ParseResult<O, D>
+        requires { F.IsAlwaysCallable f }
+        ensures { MapsError (F.post f) self result }
+    {
+        match self {
+            ParseResult::CommitOk(value) => ParseResult::CommitOk(value),
+            ParseResult::PeekOk(value) => ParseResult::PeekOk(value),
+            ParseResult::CommitErr(error) => ParseResult::CommitErr(f(error)),
+            ParseResult::PeekErr(Tracked { error, offset }) => ParseResult::PeekErr(Tracked {
+                error: f(error),
+                offset,
+            }),
+        }
+    }
+
+    /// The same answer as std's `Result`.
+    pub fn into_result(self) -> Result<(O, Commit<()>), Commit<Tracked<E>>>
+        ensures { result ≡ standard self }
+    {
+        match self {
+            ParseResult::CommitOk(value) => Ok((value, Commit::Commit(()))),
+            ParseResult::PeekOk(value) => Ok((value, Commit::Peek(()))),
+            ParseResult::CommitErr(error) => Err(Commit::Commit(Tracked::from(error))),
+            ParseResult::PeekErr(error) => Err(Commit::Peek(error)),
+        }
+    }
+
+    /// The value or the error, whether committed or not.
+    pub(crate) fn without_commit(self) -> Result<O, E>
+        ensures { result ≡ as_result self }
+    {
+        match self {
+            ParseResult::CommitOk(value) => Ok(value),
+            ParseResult::PeekOk(value) => Ok(value),
+            ParseResult::CommitErr(error) => Err(error),
+            ParseResult::PeekErr(Tracked { error, offset: _ }) => Err(error),
+        }
+    }
+}
+
+impl<O, E> From<ParseResult<O, E>> for Result<(O, Commit<()>), Commit<Tracked<E>>> {
+    fn from(answer: ParseResult<O, E>) -> Self
+        ensures { result ≡ standard answer }
+    {
+        answer.into_result()
+    }
+}
+
+impl<O, E> From<Result<(O, Commit<()>), Commit<Tracked<E>>>> for ParseResult<O, E> {
+    fn from(answer: Result<(O, Commit<()>), Commit<Tracked<E>>>) -> Self
+        ensures { result ≡ from_standard answer }
+    {
+        match answer {
+            Ok((value, Commit::Commit(()))) => ParseResult::CommitOk(value),
+            Ok((value, Commit::Peek(()))) => ParseResult::PeekOk(value),
+            Err(Commit::Commit(Tracked { error, offset: _ })) => ParseResult::CommitErr(error),
+            Err(Commit::Peek(error)) => ParseResult::PeekErr(error),
+        }
+    }
+}
+
+/// What a function that parses answers: a value or an error, each with what it commits to.
+pub type StdParseResult<O, Input> = Result<
+    (O, Commit<()>),
+    Commit<Tracked<<Input as StreamOnce>::Error>>,
+>;
+
+/// What an item speaks of.
+#[derive(Debug, PartialEq, Drop)]
+pub enum Info<T, R> {
+    Token(T),
+    Range(R),
+    Static(&'static str),
+    Owned(String),
+    /// How many elements are missing.
+    More(usize),
+}
+
+impl<T, R> From<&'static str> for Info<T, R> {
+    ghost use Rattle.combine_base.specs.declared.error.Info.TheVariants.{Static};
+
+    ghost from_gives = { λ text info. info ≡ Static text };
+
+    fn from(text: &'static str) -> Self {
+        Info::Static(text)
+    }
+}
+
+impl<T, R> From<String> for Info<T, R> {
+    ghost use Rattle.combine_base.specs.declared.error.Info.TheVariants.{Owned};
+
+    ghost from_gives = { λ text info. info ≡ Owned text };
+
+    fn from(text: String) -> Self {
+        Info::Owned(text)
+    }
+}
+
+/// The first part of a parser that is counted by an error; nothing reads it.
+#[derive(Clone, Copy, Debug, PartialEq, Eq)]
+pub struct ErrorOffset(pub u8);
+
+#[derive(Drop)]
+pub struct Tracked<E> {
+    pub error: E,
+    pub offset: ErrorOffset,
+}
+
+impl<E> From<E> for Tracked<E> {
+    fn from(error: E) -> Self
+        ensures { result ≡ record { error = error; offset = record { 0 = 1 } } }
+    {
+        Tracked {
+            error,
+            offset: ErrorOffset(1),
+        }
+    }
+}
+
+/// A kind alone; takes no memory.
+#[derive(Clone, Copy, Debug, PartialEq, Eq)]
+pub struct UnexpectedParse(pub Kind);
+
+impl<T: Copy, R: Copy> StreamError<T, R> for UnexpectedParse {
+    ghost kind = { λ e. e.0 };
+
+    ghost items = { λ _. [] };
+
+    ghost keeps = { false };
+
+    fn kind(&self) -> Kind {
+        self.0
+    }
+
+    fn unexpected_token(token: T) -> Self {
+        UnexpectedParse(Kind::Refused)
+    }
+
+    fn unexpected(info: Info<T, R>) -> Self
+        ensures kind { result.0 ≡ Kind.Refused }
+        ensures items { [] ≡ if_kept false (Unexpected (shown info)) }
+    {
+        UnexpectedParse(Kind::Refused)
+    }
+
+    fn expected(info: Info<T, R>) -> Self
+        ensures kind { result.0 ≡ Kind.Refused }
+        ensures items { [] ≡ if_kept false (Expected (shown info)) }
+    {
+        UnexpectedParse(Kind::Refused)
+    }
+
+    fn message(info: Info<T, R>) -> Self
+        ensures kind { result.0 ≡ Kind.Refused }
+        ensures items { [] ≡ if_kept false (Message (shown info)) }
+    {
+        UnexpectedParse(Kind::Refused)
+    }
+
+    fn end_of_input() -> Self {
+        UnexpectedParse(Kind::End)
+    }
+
+    fn expected_more(missing: usize) -> Self {
+        UnexpectedParse(Kind::Refused)
+    }
+}
+
+impl<T: Copy, R: Copy, P: Ord + Copy> ParseError<T, R, P> for UnexpectedParse {
+    type StreamError = UnexpectedParse;
+
+    ghost seen = { no_items };
+
+    fn kind(&self) -> Kind {
+        self.0
+    }
+
+    fn position(&self) -> Option<P> {
+        None
+    }
+
+    fn set_position(&mut self, position: P) {}
+
+    fn add(&mut self, item: UnexpectedParse) {}
+
+    fn add_unexpected(&mut self, info: &Info<T, R>) {}
+
+    fn add_expected(&mut self, info: &Info<T, R>) {}
+
+    fn add_message(&mut self, info: &Info<T, R>) {}
+
+    fn clear_expected(&mut self) {}
+
+    fn count_items(&self) -> usize {
+        0
+    }
+
+    fn clear_expected_after(&mut self, kept: usize) {}
+
+    fn merge(self, other: Self) -> Self {
+        if self.0 == Kind::Refused { self } else { other }
+    }
+}
+
+/// An item before it is added to an error.
+pub trait StreamError<T, R>: Drop {
+    ghost use Rattle.combine_base.specs.declared.stream.Kind.{Kind};
+
+    ghost kind: { Self → Kind };
+
+    /// The item, where items are kept.
+    ghost items: { Self → List (Item T R) };
+
+    ghost keeps: { Bool };
+
+    fn kind(&self) -> Kind
+        ensures { result ≡ kind self.now };
+
+    fn unexpected_token(token: T) -> Self
+        ensures kind { kind result ≡ Kind.Refused }
+        ensures items { items result ≡ if_kept keeps (Unexpected (OfToken token)) };
+
+    fn unexpected(info: Info<T, R>) -> Self
+        ensures kind { kind result ≡ Kind.Refused }
+        ensures items { items result ≡ if_kept keeps (Unexpected (shown info)) };
+
+    fn expected(info: Info<T, R>) -> Self
+        ensures kind { kind result ≡ Kind.Refused }
+        ensures items { items result ≡ if_kept keeps (Expected (shown info)) };
+
+    fn message(info: Info<T, R>) -> Self
+        ensures kind { kind result ≡ Kind.Refused }
+        ensures items { items result ≡ if_kept keeps (Message (shown info)) };
+
+    fn end_of_input() -> Self
+        ensures { items result ≡ if_kept keeps end_of_input };
+
+    fn expected_more(missing: usize) -> Self
+        ensures kind { kind result ≡ Kind.Refused }
+        ensures items { items result ≡ if_kept keeps (Message (Count missing)) };
+}
+
+/// An error: a kind, and perhaps a position and items.
+pub trait ParseError<T, R, P: Ord>: Drop {
+    type StreamError: StreamError<T, R>;
+
+    ghost seen: { Errors T R P Self };
+
+    fn kind(&self) -> Kind
+        ensures { result ≡ seen.kind self.now };
+
+    fn position(&self) -> Option<P>
+        ensures { result ≡ seen.position self.now };
+
+    fn set_position(&mut self, position: P)
+        ensures { Placed seen position self.old self.new };
+
+    fn add(&mut self, item: Self::StreamError)
+        ensures { Says seen (Unit {0}) (λ is. is ≡ Self.StreamError.items item) self.old self.new };
+
+    fn add_unexpected(&mut self, info: &Info<T, R>)
+        ensures { Says seen (Unit {0}) (Only (Unexpected (shown info.now))) self.old self.new };
+
+    fn add_expected(&mut self, info: &Info<T, R>)
+        ensures { Says seen (Unit {0}) (Only (Expected (shown info.now))) self.old self.new };
+
+    fn add_message(&mut self, info: &Info<T, R>)
+        ensures { Says seen (Unit {0}) (Only (Message (shown info.now))) self.old self.new };
+
+    fn clear_expected(&mut self)
+        ensures { Cleared seen self.old self.new };
+
+    /// How many items are kept (our own: the crate has no such call).
+    fn count_items(&self) -> usize
+        ensures { result ≡ length (seen.items self.now) };
+
+    /// Clears what is expected after that many items (our own).
+    fn clear_expected_after(&mut self, kept: usize)
+        ensures { ClearedAfter seen kept self.old self.new };
+
+    /// The error with the later position, or at equal positions both.
+    fn merge(self, other: Self) -> Self
+        requires first { IsFault (seen.kind self) → ⊥ }
+        requires second { IsFault (seen.kind other) → ⊥ }
+        ensures { Merged seen (later P.cmp (seen.position self) (seen.position other)) self other result };
+}

@@ -1,0 +1,301 @@
+//! The protocol of parsers, and the calls that run one.
+ghost use Rattle.std.specs.Prelude.{◌≡◌, ℕ, ◌+◌, ◌<◌, ◌≤◌, List, [], ◌∷◌, ◌++◌, Bool, true, false, IsTrue, MatchResult, length, drop};
+
+use crate::error::{ErrorOffset, ParseResult, Tracked};
+use crate::refusal::{add_unexpected_token, peeked, token_at};
+use crate::stream::{Kind, Stream};
+
+mod answer;
+mod references;
+mod session;
+
+pub use answer::{Answer, judge};
+pub use session::{Session, SessionError};
+
+/// How a call begins: afresh, or from a kept state.
+pub trait ParseMode: Copy {
+    ghost first: { Self → Bool };
+
+    fn is_first(self) -> bool
+        ensures { result ≡ first self };
+
+    fn set_first(&mut self)
+        ensures { first self.new ≡ true };
+}
+
+/// A call that begins afresh, whatever the state holds.
+#[derive(Clone, Copy)]
+pub struct FirstMode;
+
+impl ParseMode for FirstMode {
+    ghost first = { λ _. true };
+
+    fn is_first(self) -> bool {
+        true
+    }
+
+    fn set_first(&mut self) {}
+}
+
+/// A call that goes on from the kept state, until `first` is set.
+#[derive(Clone, Copy, Default)]
+pub struct PartialMode {
+    pub first: bool,
+}
+
+impl ParseMode for PartialMode {
+    ghost first = { λ m. m.first };
+
+    fn is_first(self) -> bool {
+        self.first
+    }
+
+    fn set_first(&mut self) {
+        self.first = true;
+    }
+}
+
+/// A parser over a stream.
+///
+/// An implementation writes `parse_mode`, `add_error` and `parser_count`; the other calls have bodies over them.
+/// It gives its meaning, the laws of that meaning, and what its calls need.
+pub trait Parser<Input: Stream> {
+    ghost use Rattle.std.specs.Prelude.{◌≡◌, ℕ, true, false, Bool};
+    ghost use Rattle.combine_base.specs.View.{View};
+    ghost use Rattle.combine_base.specs.Meaning.{Meaning, IsMeaning, MeansOne, MeansSame, begun};
+    ghost use Rattle.combine_base.specs.Answer.{Answers, world};
+    ghost use Rattle.combine_base.specs.Errors.{Says};
+    ghost use Rattle.combine_base.specs.Drivers.{Explains, Explained, Starts, Results, StartResults};
+    ghost use Rattle.combine_base.specs.Streams.{Passes};
+    ghost use Rattle.combine_base.specs.declared.stream.Failures.{Failures};
+
+    type Output: Drop;
+
+    /// What is kept while more input is needed.
+    type PartialState: Default + Drop;
+
+    /// What a call needs of a caller's functions and types.
+    ghost lawful: { Self → Type 0 };
+
+    /// What a caller's functions owe so that there is one outcome: each answers from what its arguments hold. No call needs it.
+    ghost determined: { Self → Type 0 };
+
+    /// The states that a call may be given: a parser that a state holds is lawful.
+    ghost valid: { Self.PartialState → Type 0 };
+
+    /// Which outcomes the parser has on a view, from the start and from a state.
+    ghost meaning: { Self → Meaning Input.Position Input.Token Input.Range Self.Output Self.PartialState };
+
+    /// How many parsers are run one after another, at most 255.
+    ghost parts: { Self → ℕ };
+
+    /// Parses, afresh or from the kept state.
+    ///
+    /// An acceptance has taken exactly its tokens. A refusal leaves an end of the unread tokens. Need of more is `CommitErr` of kind `End` on an open stream, and the state then keeps what goes on. A fault is `CommitErr`. After every answer but need of more the state is a default one.
+    fn parse_mode<M: ParseMode>(
+        &mut self,
+        mode: M,
+        input: &mut Input,
+        state: &mut Self::PartialState,
+    ) -> ParseResult<Self::Output, Input::Error>
+        requires lawful { lawful self.old }
+        requires valid { valid state.old }
+        ensures lawful { lawful self.new }
+        ensures valid { valid state.new }
+        ensures same { MeansSame (meaning self.old) (meaning self.new) }
+        ensures passes { Passes (Input.marks input.old) (Input.marks input.new) (Input.failures input.old) (Input.failures input.new) }
+        ensures answers { Answers (world Input.step Input.Error.seen Input.steady Self.PartialState.is_default)
+            (meaning self.old)
+            (record { first = M.first mode; state = state.old; left = state.new; old = Input.view input.old; new = Input.view input.new; before = Input.failures input.old; after = Input.failures input.new })
+            result };
+
+    /// Says what was expected where the parser began, to an error of its own or of a parser round it. An item that finds no memory makes it an error of kind `Memory`.
+    fn add_error(&mut self, error: &mut Tracked<Input::Error>)
+        requires { lawful self.old }
+        ensures lawful { lawful self.new }
+        ensures same { MeansSame (meaning self.old) (meaning self.new) }
+        ensures says { Says Input.Error.seen (meaning self.old).lean (meaning self.old).adds error.old.error error.new.error };
+
+    /// How many parsers are run one after another, at most 255.
+    fn parser_count(&self) -> ErrorOffset
+        ensures { result.0 ≡ parts self.now };
+
+    /// Puts the stream back to where this parser was refused peeked, and has the error say which token stands there and what was expected.
+    final fn explain(
+        &mut self,
+        start: Input::Checkpoint,
+        input: &mut Input,
+        error: &mut Tracked<Input::Error>,
+    ) -> Result<(), Kind>
+        requires { lawful self.old }
+        ensures lawful { lawful self.new }
+        ensures same { MeansSame (meaning self.old) (meaning self.new) }
+        ensures passes { Passes (Input.marks input.old) (Input.marks input.new) (Input.failures input.old) (Input.failures input.new) }
+        ensures explains { Explains Input.steady Input.step (Input.stands input.old start) (Input.view input.old) (Input.view input.new) (Input.failures input.old) (Input.failures input.new) Input.Error.seen (meaning self.old).lean (meaning self.old).adds error.old.error error.new.error result }
+    {
+        match token_at(start, input)? {
+            Some(token) => {
+                add_unexpected_token(&mut error.error, token);
+                self.add_error(error);
+            }
+            None => self.add_error(error),
+        }
+        Ok(())
+    }
+
+    /// As `parse_mode`; a peeked refusal is put back and explained.
+    #[inline(always)]
+    final fn parse_explained<M: ParseMode>(
+        &mut self,
+        mode: M,
+        input: &mut Input,
+        state: &mut Self::PartialState,
+    ) -> ParseResult<Self::Output, Input::Error>
+        requires lawful { lawful self.old }
+        requires valid { valid state.old }
+        ensures lawful { lawful self.new }
+        ensures valid { valid state.new }
+        ensures same { MeansSame (meaning self.old) (meaning self.new) }
+        ensures passes { Passes (Input.marks input.old) (Input.marks input.new) (Input.failures input.old) (Input.failures input.new) }
+        ensures answers { Answers (world Input.step Input.Error.seen Input.steady Self.PartialState.is_default)
+            (meaning self.old)
+            (record { first = M.first mode; state = state.old; left = state.new; old = Input.view input.old; new = Input.view input.new; before = Input.failures input.old; after = Input.failures input.new })
+            result }
+        ensures explained { Explained Input.Error.seen (meaning self.old) (Input.view input.old) (Input.view input.new) result }
+    {
+        let start = input.checkpoint();
+        let position = input.position();
+        match self.parse_mode(mode, input, state) {
+            ParseResult::PeekErr(refusal) => {
+                let mut refusal = refusal;
+                match self.explain(start, input, &mut refusal) {
+                    Ok(()) => peeked(refusal),
+                    Err(kind) => ParseResult::CommitErr(input.new_error(kind, position)),
+                }
+            }
+            answer => answer,
+        }
+    }
+
+    /// As from a default state, whatever the state held.
+    final fn parse_first(
+        &mut self,
+        input: &mut Input,
+        state: &mut Self::PartialState,
+    ) -> ParseResult<Self::Output, Input::Error>
+        requires lawful { lawful self.old }
+        requires valid { valid state.old }
+        ensures lawful { lawful self.new }
+        ensures valid { valid state.new }
+        ensures same { MeansSame (meaning self.old) (meaning self.new) }
+        ensures passes { Passes (Input.marks input.old) (Input.marks input.new) (Input.failures input.old) (Input.failures input.new) }
+        ensures answers { Answers (world Input.step Input.Error.seen Input.steady Self.PartialState.is_default)
+            (meaning self.old)
+            (record { first = true; state = state.old; left = state.new; old = Input.view input.old; new = Input.view input.new; before = Input.failures input.old; after = Input.failures input.new })
+            result }
+    {
+        self.parse_mode(FirstMode, input, state)
+    }
+
+    /// Goes on from the kept state.
+    final fn parse_partial(
+        &mut self,
+        input: &mut Input,
+        state: &mut Self::PartialState,
+    ) -> ParseResult<Self::Output, Input::Error>
+        requires lawful { lawful self.old }
+        requires valid { valid state.old }
+        ensures lawful { lawful self.new }
+        ensures valid { valid state.new }
+        ensures same { MeansSame (meaning self.old) (meaning self.new) }
+        ensures passes { Passes (Input.marks input.old) (Input.marks input.new) (Input.failures input.old) (Input.failures input.new) }
+        ensures answers { Answers (world Input.step Input.Error.seen Input.steady Self.PartialState.is_default)
+            (meaning self.old)
+            (record { first = false; state = state.old; left = state.new; old = Input.view input.old; new = Input.view input.new; before = Input.failures input.old; after = Input.failures input.new })
+            result }
+    {
+        self.parse_mode(PartialMode::default(), input, state)
+    }
+
+    /// From the start; a refusal is left as it is.
+    final fn parse_lazy(&mut self, input: &mut Input) -> ParseResult<Self::Output, Input::Error>
+        requires { lawful self.old }
+        ensures lawful { lawful self.new }
+        ensures same { MeansSame (meaning self.old) (meaning self.new) }
+        ensures passes { Passes (Input.marks input.old) (Input.marks input.new) (Input.failures input.old) (Input.failures input.new) }
+        ensures answers { Starts (world Input.step Input.Error.seen Input.steady Self.PartialState.is_default)
+            (meaning self.old) (Input.view input.old) (Input.view input.new) (Input.failures input.old) (Input.failures input.new) result }
+    {
+        let mut state = Self::PartialState::default();
+        self.parse_mode(FirstMode, input, &mut state)
+    }
+
+    /// From the start. On a peeked refusal the stream is put back and the error says which token stands there and what was expected.
+    final fn parse_stream(&mut self, input: &mut Input) -> ParseResult<Self::Output, Input::Error>
+        requires { lawful self.old }
+        ensures lawful { lawful self.new }
+        ensures same { MeansSame (meaning self.old) (meaning self.new) }
+        ensures passes { Passes (Input.marks input.old) (Input.marks input.new) (Input.failures input.old) (Input.failures input.new) }
+        ensures answers { Starts (world Input.step Input.Error.seen Input.steady Self.PartialState.is_default)
+            (meaning self.old) (Input.view input.old) (Input.view input.new) (Input.failures input.old) (Input.failures input.new) result }
+        ensures explained { Explained Input.Error.seen (meaning self.old) (Input.view input.old) (Input.view input.new) result }
+    {
+        let mut state = Self::PartialState::default();
+        self.parse_explained(FirstMode, input, &mut state)
+    }
+
+    /// Goes on from the kept state, and answers as `parse_stream` does.
+    final fn parse_with_state(
+        &mut self,
+        input: &mut Input,
+        state: &mut Self::PartialState,
+    ) -> Result<Self::Output, Input::Error>
+        requires lawful { lawful self.old }
+        requires valid { valid state.old }
+        ensures lawful { lawful self.new }
+        ensures valid { valid state.new }
+        ensures same { MeansSame (meaning self.old) (meaning self.new) }
+        ensures passes { Passes (Input.marks input.old) (Input.marks input.new) (Input.failures input.old) (Input.failures input.new) }
+        ensures results { Results (world Input.step Input.Error.seen Input.steady Self.PartialState.is_default)
+            (meaning self.old) Input.Error.seen
+            (record { first = false; state = state.old; left = state.new; old = Input.view input.old; new = Input.view input.new; before = Input.failures input.old; after = Input.failures input.new })
+            result }
+    {
+        self.parse_explained(PartialMode::default(), input, state)
+            .without_commit()
+    }
+
+    /// From the start: the value and the input that is left, or the error.
+    final fn parse(&mut self, input: Input) -> Result<(Self::Output, Input), Input::Error>
+        requires { lawful self.old }
+        ensures lawful { lawful self.new }
+        ensures same { MeansSame (meaning self.old) (meaning self.new) }
+        ensures results { MatchResult result
+            (λ p. StartResults (world Input.step Input.Error.seen Input.steady Self.PartialState.is_default) (meaning self.old) Input.Error.seen (Input.view input) (Input.view p.1) (Input.failures input) (Input.failures p.1) (Ok p.0))
+            (λ e. (new : View Input.Position Input.Token) × (after : Failures) × StartResults (world Input.step Input.Error.seen Input.steady Self.PartialState.is_default) (meaning self.old) Input.Error.seen (Input.view input) new (Input.failures input) after (Err e)) }
+    {
+        let mut input = input;
+        let mut state = Self::PartialState::default();
+        match self
+            .parse_explained(FirstMode, &mut input, &mut state)
+            .without_commit()
+        {
+            Ok(value) => Ok((value, input)),
+            Err(error) => Err(error),
+        }
+    }
+
+    /// Adds nothing.
+    final fn add_committed_expected_error(&mut self, error: &mut Tracked<Input::Error>)
+        requires { lawful self.old }
+        ensures lawful { lawful self.new }
+        ensures same { MeansSame (meaning self.old) (meaning self.new) }
+        ensures nothing { error.new ≡ error.old }
+    {}
+
+    ghost default_valid: { (s : Self.PartialState) → Self.PartialState.is_default s → valid s };
+
+    ghost laws: { (p : Self) → lawful p → IsMeaning Self.PartialState.is_default valid (meaning p) };
+
+    ghost single: { (p : Self) → lawful p → determined p → MeansOne valid (meaning p) };
+}

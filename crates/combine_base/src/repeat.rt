@@ -1,0 +1,76 @@
+//! What collects the values of a repetition.
+ghost use Rattle.std.specs.Prelude.{◌≡◌, List, [], ◌∷◌, ◌++◌, MatchResult};
+
+use std::alloc::{AllocError, Global};
+
+/// A collection that grows by one value at a time.
+pub trait Append<A>: Drop {
+    ghost use Rattle.std.specs.Prelude.{◌≡◌, MatchResult};
+
+    /// What is seen of a collection.
+    ghost Held: { Type 0 };
+
+    ghost held: { Self → Held };
+
+    /// What an empty collection holds.
+    ghost none: { Held };
+
+    /// What a collection holds after one more value.
+    ghost more: { Held → A → Held };
+
+    /// Holds of a type whose collections take no memory.
+    ghost lean: { Type 0 };
+
+    /// An empty collection, which takes no memory yet.
+    fn empty(alloc: Global) -> Self
+        ensures { held result ≡ none };
+
+    /// Adds a value at the end; a refused growth changes nothing.
+    fn append(&mut self, value: A) -> Result<(), AllocError>
+        ensures { MatchResult result (λ _. held self.new ≡ more (held self.old) value) (λ _. (lean → ⊥) × (held self.new ≡ held self.old)) };
+}
+
+impl<A: Drop> Append<A> for Vec<A> {
+    ghost Held = { List A };
+
+    ghost held = { λ v. v.items };
+
+    ghost none = { [] };
+
+    ghost more = { λ xs x. xs ++ x ∷ [] };
+
+    ghost lean = { ⊥ };
+
+    fn empty(alloc: Global) -> Vec<A> {
+        Vec::new(alloc)
+    }
+
+    fn append(&mut self, value: A) -> Result<(), AllocError> {
+        self.push(value)?;
+        Ok(())
+    }
+}
+
+/// Keeps nothing, and takes no memory.
+#[derive(Clone, Default, Drop)]
+pub struct Sink;
+
+impl<A: Drop> Append<A> for Sink {
+    ghost Held = { Unit {0} };
+
+    ghost held = { λ _. tt };
+
+    ghost none = { tt };
+
+    ghost more = { λ _ _. tt };
+
+    ghost lean = { Unit {0} };
+
+    fn empty(alloc: Global) -> Sink {
+        Sink
+    }
+
+    fn append(&mut self, value: A) -> Result<(), AllocError> {
+        Ok(())
+    }
+}

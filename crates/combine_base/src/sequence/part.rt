@@ -1,0 +1,212 @@
+//! The last part of a sequence, after those before it.
+ghost use Rattle.std.specs.Prelude.{◌≡◌, true};
+ghost use Rattle.combine_base.specs.Answer.{world};
+ghost use Rattle.combine_base.specs.Meaning.{MeansSame};
+ghost use Rattle.combine_base.specs.Parts.{GoesOn, Runs, RunsFrom, accepted_as, refused_as};
+ghost use Rattle.combine_base.specs.Streams.{Passes};
+
+use crate::error::{ParseResult, Tracked};
+use crate::parser::{ParseMode, Parser};
+use crate::sequence::{Placed, SequenceState};
+use crate::stream::{Stream, needs_more};
+use std::mem;
+
+/// A tuple of values, with room for one more.
+pub(crate) trait Push<A> {
+    type Pushed;
+
+    ghost pushed: { Self → A → Self.Pushed };
+
+    fn push(self, last: A) -> Self::Pushed
+        ensures { result ≡ pushed self last };
+}
+
+impl<A> Push<A> for () {
+    ghost use Rattle.combine_base.specs.Tuples.{push_0};
+
+    type Pushed = (A,);
+
+    ghost pushed = { push_0 };
+
+    #[inline]
+    fn push(self, last: A) -> (A,) {
+        (last,)
+    }
+}
+
+impl<A, B> Push<B> for (A,) {
+    ghost use Rattle.combine_base.specs.Tuples.{push_1};
+
+    type Pushed = (A, B);
+
+    ghost pushed = { push_1 };
+
+    #[inline]
+    fn push(self, last: B) -> (A, B) {
+        let (a,) = self;
+        (a, last)
+    }
+}
+
+impl<A, B, C> Push<C> for (A, B) {
+    ghost use Rattle.combine_base.specs.Tuples.{push_2};
+
+    type Pushed = (A, B, C);
+
+    ghost pushed = { push_2 };
+
+    #[inline]
+    fn push(self, last: C) -> (A, B, C) {
+        let (a, b) = self;
+        (a, b, last)
+    }
+}
+
+impl<A, B, C, D> Push<D> for (A, B, C) {
+    ghost use Rattle.combine_base.specs.Tuples.{push_3};
+
+    type Pushed = (A, B, C, D);
+
+    ghost pushed = { push_3 };
+
+    #[inline]
+    fn push(self, last: D) -> (A, B, C, D) {
+        let (a, b, c) = self;
+        (a, b, c, last)
+    }
+}
+
+/// Takes the state that a call in this mode runs from: in first mode a default one, and else the one that is kept. It leaves a default one.
+#[inline]
+pub fn take_state<S: Default + Drop, M: ParseMode>(mode: M, state: &mut S) -> S
+    ensures from { RunsFrom S.is_default (M.first mode) state.old result }
+    ensures left { S.is_default state.new }
+{
+    let given = mem::take(state);
+    if mode.is_first() { S::default() } else { given }
+}
+
+/// An acceptance after other parts, `committed` if one of them was.
+#[inline]
+pub fn accepted_after<V, E>(committed: bool, value: V) -> ParseResult<V, E>
+    ensures { result ≡ accepted_as committed value }
+{
+    if committed {
+        ParseResult::CommitOk(value)
+    } else {
+        ParseResult::PeekOk(value)
+    }
+}
+
+/// A peeked refusal after other parts, `committed` if one of them was.
+#[inline]
+pub fn refused_after<V, E>(committed: bool, refusal: Tracked<E>) -> ParseResult<V, E>
+    ensures { result ≡ refused_as committed refusal }
+{
+    if !committed {
+        return ParseResult::PeekErr(refusal);
+    }
+    let Tracked { error, offset: _ } = refusal;
+    ParseResult::CommitErr(error)
+}
+
+/// Runs the last part, from what is kept of it and of those before it. A peeked refusal is put back to where the part began, and explained by it. Need of more is kept in `state`, which is a default one.
+#[inline]
+pub(crate) fn parse_last<
+    Input: Stream,
+    T: Push<P::Output> + Drop,
+    P: Parser<Input>,
+    S: Placed<Last = SequenceState<T, P::PartialState>> + Default + Drop,
+    M: ParseMode,
+>(
+    part: &mut P,
+    mode: M,
+    input: &mut Input,
+    from: SequenceState<T, P::PartialState>,
+    state: &mut S,
+) -> ParseResult<T::Pushed, Input::Error>
+    requires lawful { P.lawful part.old }
+    requires valid { P.valid from.state }
+    requires starts { M.first mode ≡ true → P.PartialState.is_default from.state }
+    requires fresh { S.is_default state.old }
+    ensures lawful { P.lawful part.new }
+    ensures same { MeansSame (P.meaning part.old) (P.meaning part.new) }
+    ensures passes { Passes (Input.marks input.old) (Input.marks input.new) (Input.failures input.old) (Input.failures input.new) }
+    ensures runs { Runs (world Input.step Input.Error.seen Input.steady P.PartialState.is_default) Input.Error.seen P.valid
+        S.is_default S.place (P.meaning part.old) from.committed (T.pushed from.value) (λ s. record { value = from.value; committed = from.committed; state = s })
+        state.new (Input.view input.old) (Input.view input.new) (Input.failures input.old) (Input.failures input.new) result from.state }
+{
+    let SequenceState {
+        value,
+        committed,
+        state: mut kept,
+    } = from;
+    match part.parse_explained(mode, input, &mut kept) {
+        ParseResult::CommitOk(last) => ParseResult::CommitOk(value.push(last)),
+        ParseResult::PeekOk(last) => accepted_after(committed, value.push(last)),
+        ParseResult::CommitErr(error) => {
+            if needs_more(input, &error) {
+                *state = S::last(SequenceState {
+                    value,
+                    committed,
+                    state: kept,
+                });
+                return ParseResult::CommitErr(error);
+            }
+            ParseResult::CommitErr(error)
+        }
+        ParseResult::PeekErr(refusal) => refused_after(committed, refusal),
+    }
+}
+
+/// Goes on with the last part where those before it have accepted. `kept` is the state that they left, and `state` is a default one.
+#[inline]
+pub(crate) fn parse_rest<
+    Input: Stream,
+    T: Push<P::Output> + Drop,
+    P: Parser<Input>,
+    S: Placed<Last = SequenceState<T, P::PartialState>> + Default + Drop,
+    M: ParseMode,
+>(
+    answer: ParseResult<T, Input::Error>,
+    kept: S::Before,
+    part: &mut P,
+    mode: M,
+    input: &mut Input,
+    state: &mut S,
+) -> ParseResult<T::Pushed, Input::Error>
+    requires lawful { P.lawful part.old }
+    requires fresh { S.is_default state.old }
+    ensures lawful { P.lawful part.new }
+    ensures same { MeansSame (P.meaning part.old) (P.meaning part.new) }
+    ensures passes { Passes (Input.marks input.old) (Input.marks input.new) (Input.failures input.old) (Input.failures input.new) }
+    ensures goes_on { GoesOn (world Input.step Input.Error.seen Input.steady P.PartialState.is_default) Input.Error.seen P.valid
+        S.is_default S.place T.pushed (P.meaning part.old) kept
+        state.new (Input.view input.old) (Input.view input.new) (Input.failures input.old) (Input.failures input.new) result answer }
+{
+    let mut afresh = mode;
+    afresh.set_first();
+    match answer {
+        ParseResult::CommitOk(value) => {
+            let from = SequenceState {
+                value,
+                committed: true,
+                state: P::PartialState::default(),
+            };
+            parse_last(part, afresh, input, from, state)
+        }
+        ParseResult::PeekOk(value) => {
+            let from = SequenceState {
+                value,
+                committed: false,
+                state: P::PartialState::default(),
+            };
+            parse_last(part, afresh, input, from, state)
+        }
+        ParseResult::CommitErr(error) => {
+            *state = S::before(kept);
+            ParseResult::CommitErr(error)
+        }
+        ParseResult::PeekErr(refusal) => ParseResult::PeekErr(refusal),
+    }
+}

@@ -1,0 +1,408 @@
+//! Tuples as parsers.
+ghost use Rattle.std.specs.Prelude.{◌≡◌, ◌+◌, min, true};
+ghost use Rattle.combine_base.specs.Answer.{Answers, world};
+ghost use Rattle.combine_base.specs.Meaning.{MeansSame};
+ghost use Rattle.combine_base.specs.Parts.{run_from};
+ghost use Rattle.combine_base.specs.Places.{begins_1, begins_2, begins_3, begins_4, begins_valid, begins_valid_1, first_fresh, place_2, place_3, place_4, valid_1, valid_2, valid_3, valid_4};
+ghost use Rattle.combine_base.specs.Streams.{Passes};
+ghost use Rattle.combine_base.specs.Tuples.{followed_is_meaning, followed_means_one, push_1, push_2, push_3, tuple_1, tuple_1_is_meaning, tuple_1_means_one, tuple_2, tuple_3, tuple_4};
+
+use crate::error::{ErrorOffset, ParseResult, Tracked};
+use crate::parser::{ParseMode, Parser};
+use crate::sequence::part::{parse_last, parse_rest, take_state};
+use crate::sequence::{
+    PartialState1, PartialState2, PartialState3, PartialState4, Place, Placed, SequenceState,
+};
+use crate::stream::Stream;
+
+type State1<Input, A> = PartialState1<SequenceState<(), <A as Parser<Input>>::PartialState>>;
+
+type State2<Input, A, B> = PartialState2<
+    SequenceState<(), <A as Parser<Input>>::PartialState>,
+    SequenceState<(<A as Parser<Input>>::Output,), <B as Parser<Input>>::PartialState>,
+>;
+
+type State3<Input, A, B, C> = PartialState3<
+    SequenceState<(), <A as Parser<Input>>::PartialState>,
+    SequenceState<(<A as Parser<Input>>::Output,), <B as Parser<Input>>::PartialState>,
+    SequenceState<
+        (<A as Parser<Input>>::Output, <B as Parser<Input>>::Output),
+        <C as Parser<Input>>::PartialState,
+    >,
+>;
+
+type State4<Input, A, B, C, D> = PartialState4<
+    SequenceState<(), <A as Parser<Input>>::PartialState>,
+    SequenceState<(<A as Parser<Input>>::Output,), <B as Parser<Input>>::PartialState>,
+    SequenceState<
+        (<A as Parser<Input>>::Output, <B as Parser<Input>>::Output),
+        <C as Parser<Input>>::PartialState,
+    >,
+    SequenceState<
+        (
+            <A as Parser<Input>>::Output,
+            <B as Parser<Input>>::Output,
+            <C as Parser<Input>>::Output,
+        ),
+        <D as Parser<Input>>::PartialState,
+    >,
+>;
+
+/// How many parsers two are, at most 255.
+fn add_counts(before: ErrorOffset, last: ErrorOffset) -> ErrorOffset
+    ensures { result.0 ≡ min (before.0 + last.0) 255 }
+{
+    ErrorOffset(before.0.saturating_add(last.0))
+}
+
+/// Runs one part, from what is kept of it. `state` is a default one, and keeps what goes on where more is needed.
+#[inline]
+fn parse_1<Input: Stream, A: Parser<Input>, M: ParseMode>(
+    a: &mut A,
+    mode: M,
+    input: &mut Input,
+    from: State1<Input, A>,
+    state: &mut State1<Input, A>,
+) -> ParseResult<(A::Output,), Input::Error>
+    requires lawful { A.lawful a.old }
+    requires valid { valid_1 A.valid from }
+    requires starts { M.first mode ≡ true → begins_1 (first_fresh A.PartialState.is_default) from }
+    requires fresh { begins_1 (first_fresh A.PartialState.is_default) state.old }
+    ensures lawful { A.lawful a.new }
+    ensures valid { valid_1 A.valid state.new }
+    ensures same { MeansSame (tuple_1 (A.meaning a.old)) (tuple_1 (A.meaning a.new)) }
+    ensures passes { Passes (Input.marks input.old) (Input.marks input.new) (Input.failures input.old) (Input.failures input.new) }
+    ensures answers { Answers (world Input.step Input.Error.seen Input.steady (begins_1 (first_fresh A.PartialState.is_default)))
+        (tuple_1 (A.meaning a.old))
+        (run_from from state.new (Input.view input.old) (Input.view input.new) (Input.failures input.old) (Input.failures input.new))
+        result }
+{
+    let SequenceState {
+        value: (),
+        committed: _,
+        state: mut kept,
+    } = from.into_only();
+    match a.parse_mode(mode, input, &mut kept) {
+        ParseResult::CommitOk(value) => ParseResult::CommitOk((value,)),
+        ParseResult::PeekOk(value) => ParseResult::PeekOk((value,)),
+        ParseResult::CommitErr(error) => {
+            *state = PartialState1::A(SequenceState {
+                value: (),
+                committed: false,
+                state: kept,
+            });
+            ParseResult::CommitErr(error)
+        }
+        ParseResult::PeekErr(refusal) => ParseResult::PeekErr(refusal),
+    }
+}
+
+/// Runs two parts, from what is kept of them. `state` is a default one, and keeps what goes on where more is needed.
+#[inline]
+fn parse_2<Input: Stream, A: Parser<Input>, B: Parser<Input>, M: ParseMode>(
+    a: &mut A,
+    b: &mut B,
+    mode: M,
+    input: &mut Input,
+    from: State2<Input, A, B>,
+    state: &mut State2<Input, A, B>,
+) -> ParseResult<(A::Output, B::Output), Input::Error>
+    requires lawful { A.lawful a.old × B.lawful b.old }
+    requires valid { valid_2 A.valid B.valid from }
+    requires starts { M.first mode ≡ true → begins_2 (first_fresh A.PartialState.is_default) from }
+    requires fresh { begins_2 (first_fresh A.PartialState.is_default) state.old }
+    ensures lawful { A.lawful a.new × B.lawful b.new }
+    ensures valid { valid_2 A.valid B.valid state.new }
+    ensures same { MeansSame (tuple_2 Input.step (A.meaning a.old) (B.meaning b.old)) (tuple_2 Input.step (A.meaning a.new) (B.meaning b.new)) }
+    ensures passes { Passes (Input.marks input.old) (Input.marks input.new) (Input.failures input.old) (Input.failures input.new) }
+    ensures answers { Answers (world Input.step Input.Error.seen Input.steady (begins_2 (first_fresh A.PartialState.is_default)))
+        (tuple_2 Input.step (A.meaning a.old) (B.meaning b.old))
+        (run_from from state.new (Input.view input.old) (Input.view input.new) (Input.failures input.old) (Input.failures input.new))
+        result }
+{
+    match from.into_place() {
+        Place::Before(at) => {
+            let mut kept = PartialState1::default();
+            let answer = parse_1(a, mode, input, at, &mut kept);
+            parse_rest(answer, kept, b, mode, input, state)
+        }
+        Place::Last(at) => parse_last(b, mode, input, at, state),
+    }
+}
+
+/// Runs three parts, from what is kept of them. `state` is a default one, and keeps what goes on where more is needed.
+#[inline]
+fn parse_3<Input: Stream, A: Parser<Input>, B: Parser<Input>, C: Parser<Input>, M: ParseMode>(
+    a: &mut A,
+    b: &mut B,
+    c: &mut C,
+    mode: M,
+    input: &mut Input,
+    from: State3<Input, A, B, C>,
+    state: &mut State3<Input, A, B, C>,
+) -> ParseResult<(A::Output, B::Output, C::Output), Input::Error>
+    requires lawful { A.lawful a.old × B.lawful b.old × C.lawful c.old }
+    requires valid { valid_3 A.valid B.valid C.valid from }
+    requires starts { M.first mode ≡ true → begins_3 (first_fresh A.PartialState.is_default) from }
+    requires fresh { begins_3 (first_fresh A.PartialState.is_default) state.old }
+    ensures lawful { A.lawful a.new × B.lawful b.new × C.lawful c.new }
+    ensures valid { valid_3 A.valid B.valid C.valid state.new }
+    ensures same { MeansSame (tuple_3 Input.step (A.meaning a.old) (B.meaning b.old) (C.meaning c.old)) (tuple_3 Input.step (A.meaning a.new) (B.meaning b.new) (C.meaning c.new)) }
+    ensures passes { Passes (Input.marks input.old) (Input.marks input.new) (Input.failures input.old) (Input.failures input.new) }
+    ensures answers { Answers (world Input.step Input.Error.seen Input.steady (begins_3 (first_fresh A.PartialState.is_default)))
+        (tuple_3 Input.step (A.meaning a.old) (B.meaning b.old) (C.meaning c.old))
+        (run_from from state.new (Input.view input.old) (Input.view input.new) (Input.failures input.old) (Input.failures input.new))
+        result }
+{
+    match from.into_place() {
+        Place::Before(at) => {
+            let mut kept = PartialState2::default();
+            let answer = parse_2(a, b, mode, input, at, &mut kept);
+            parse_rest(answer, kept, c, mode, input, state)
+        }
+        Place::Last(at) => parse_last(c, mode, input, at, state),
+    }
+}
+
+/// Runs four parts, from what is kept of them. `state` is a default one, and keeps what goes on where more is needed.
+#[inline]
+fn parse_4<
+    Input: Stream,
+    A: Parser<Input>,
+    B: Parser<Input>,
+    C: Parser<Input>,
+    D: Parser<Input>,
+    M: ParseMode,
+>(
+    a: &mut A,
+    b: &mut B,
+    c: &mut C,
+    d: &mut D,
+    mode: M,
+    input: &mut Input,
+    from: State4<Input, A, B, C, D>,
+    state: &mut State4<Input, A, B, C, D>,
+) -> ParseResult<(A::Output, B::Output, C::Output, D::Output), Input::Error>
+    requires lawful { A.lawful a.old × B.lawful b.old × C.lawful c.old × D.lawful d.old }
+    requires valid { valid_4 A.valid B.valid C.valid D.valid from }
+    requires starts { M.first mode ≡ true → begins_4 (first_fresh A.PartialState.is_default) from }
+    requires fresh { begins_4 (first_fresh A.PartialState.is_default) state.old }
+    ensures lawful { A.lawful a.new × B.lawful b.new × C.lawful c.new × D.lawful d.new }
+    ensures valid { valid_4 A.valid B.valid C.valid D.valid state.new }
+    ensures same { MeansSame (tuple_4 Input.step (A.meaning a.old) (B.meaning b.old) (C.meaning c.old) (D.meaning d.old)) (tuple_4 Input.step (A.meaning a.new) (B.meaning b.new) (C.meaning c.new) (D.meaning d.new)) }
+    ensures passes { Passes (Input.marks input.old) (Input.marks input.new) (Input.failures input.old) (Input.failures input.new) }
+    ensures answers { Answers (world Input.step Input.Error.seen Input.steady (begins_4 (first_fresh A.PartialState.is_default)))
+        (tuple_4 Input.step (A.meaning a.old) (B.meaning b.old) (C.meaning c.old) (D.meaning d.old))
+        (run_from from state.new (Input.view input.old) (Input.view input.new) (Input.failures input.old) (Input.failures input.new))
+        result }
+{
+    match from.into_place() {
+        Place::Before(at) => {
+            let mut kept = PartialState3::default();
+            let answer = parse_3(a, b, c, mode, input, at, &mut kept);
+            parse_rest(answer, kept, d, mode, input, state)
+        }
+        Place::Last(at) => parse_last(d, mode, input, at, state),
+    }
+}
+
+impl<Input: Stream, A: Parser<Input>> Parser<Input> for (A,) {
+    type Output = (A::Output,);
+
+    type PartialState = State1<Input, A>;
+
+    ghost lawful = { λ p. A.lawful p.0 };
+
+    ghost determined = { λ p. A.determined p.0 };
+
+    ghost valid = { valid_1 A.valid };
+
+    ghost meaning = { λ p. tuple_1 (A.meaning p.0) };
+
+    ghost parts = { λ p. A.parts p.0 };
+
+    #[inline(always)]
+    fn parse_mode<M: ParseMode>(
+        &mut self,
+        mode: M,
+        input: &mut Input,
+        state: &mut Self::PartialState,
+    ) -> ParseResult<(A::Output,), Input::Error> {
+        let from = take_state(mode, state);
+        parse_1(&mut self.0, mode, input, from, state)
+    }
+
+    #[inline]
+    fn add_error(&mut self, error: &mut Tracked<Input::Error>) {
+        self.0.add_error(error);
+    }
+
+    #[inline]
+    fn parser_count(&self) -> ErrorOffset {
+        self.0.parser_count()
+    }
+
+    ghost default_valid = { begins_valid_1 A.default_valid };
+
+    ghost laws = { λ p l. tuple_1_is_meaning (A.laws p.0 l) };
+
+    ghost single = { λ p l d. tuple_1_means_one (A.single p.0 l d) };
+}
+
+impl<Input: Stream, A: Parser<Input>, B: Parser<Input>> Parser<Input> for (A, B) {
+    type Output = (A::Output, B::Output);
+
+    type PartialState = State2<Input, A, B>;
+
+    ghost lawful = { λ p. A.lawful p.0 × B.lawful p.1 };
+
+    ghost determined = { λ p. A.determined p.0 × B.determined p.1 };
+
+    ghost valid = { valid_2 A.valid B.valid };
+
+    ghost meaning = { λ p. tuple_2 Input.step (A.meaning p.0) (B.meaning p.1) };
+
+    ghost parts = { λ p. min (A.parts p.0 + B.parts p.1) 255 };
+
+    #[inline(always)]
+    fn parse_mode<M: ParseMode>(
+        &mut self,
+        mode: M,
+        input: &mut Input,
+        state: &mut Self::PartialState,
+    ) -> ParseResult<(A::Output, B::Output), Input::Error> {
+        let from = take_state(mode, state);
+        parse_2(&mut self.0, &mut self.1, mode, input, from, state)
+    }
+
+    #[inline]
+    fn add_error(&mut self, error: &mut Tracked<Input::Error>) {
+        self.0.add_error(error);
+    }
+
+    #[inline]
+    fn parser_count(&self) -> ErrorOffset {
+        add_counts(self.0.parser_count(), self.1.parser_count())
+    }
+
+    ghost default_valid = { begins_valid place_2 B.valid (begins_valid_1 A.default_valid) };
+
+    ghost laws = { λ p l. followed_is_meaning Input.step place_2 push_1 (tuple_1_is_meaning (A.laws p.0 l.0)) (B.laws p.1 l.1) };
+
+    ghost single = { λ p l d. followed_means_one Input.step place_2 push_1 (tuple_1_means_one (A.single p.0 l.0 d.0)) (B.single p.1 l.1 d.1) };
+}
+
+impl<Input: Stream, A: Parser<Input>, B: Parser<Input>, C: Parser<Input>> Parser<Input>
+    for (A, B, C) {
+    type Output = (A::Output, B::Output, C::Output);
+
+    type PartialState = State3<Input, A, B, C>;
+
+    ghost lawful = { λ p. A.lawful p.0 × B.lawful p.1 × C.lawful p.2 };
+
+    ghost determined = { λ p. A.determined p.0 × B.determined p.1 × C.determined p.2 };
+
+    ghost valid = { valid_3 A.valid B.valid C.valid };
+
+    ghost meaning = { λ p. tuple_3 Input.step (A.meaning p.0) (B.meaning p.1) (C.meaning p.2) };
+
+    ghost parts = { λ p. min (A.parts p.0 + B.parts p.1 + C.parts p.2) 255 };
+
+    #[inline(always)]
+    fn parse_mode<M: ParseMode>(
+        &mut self,
+        mode: M,
+        input: &mut Input,
+        state: &mut Self::PartialState,
+    ) -> ParseResult<(A::Output, B::Output, C::Output), Input::Error> {
+        let from = take_state(mode, state);
+        parse_3(
+            &mut self.0,
+            &mut self.1,
+            &mut self.2,
+            mode,
+            input,
+            from,
+            state,
+        )
+    }
+
+    #[inline]
+    fn add_error(&mut self, error: &mut Tracked<Input::Error>) {
+        self.0.add_error(error);
+    }
+
+    #[inline]
+    fn parser_count(&self) -> ErrorOffset {
+        add_counts(
+            add_counts(self.0.parser_count(), self.1.parser_count()),
+            self.2.parser_count(),
+        )
+    }
+
+    ghost default_valid = { begins_valid place_3 C.valid (begins_valid place_2 B.valid (begins_valid_1 A.default_valid)) };
+
+    ghost laws = { λ p l. followed_is_meaning Input.step place_3 push_2 (followed_is_meaning Input.step place_2 push_1 (tuple_1_is_meaning (A.laws p.0 l.0)) (B.laws p.1 l.1)) (C.laws p.2 l.2) };
+
+    ghost single = { λ p l d. followed_means_one Input.step place_3 push_2 (followed_means_one Input.step place_2 push_1 (tuple_1_means_one (A.single p.0 l.0 d.0)) (B.single p.1 l.1 d.1)) (C.single p.2 l.2 d.2) };
+}
+
+impl<Input: Stream, A: Parser<Input>, B: Parser<Input>, C: Parser<Input>, D: Parser<Input>> Parser<
+    Input,
+> for (A, B, C, D) {
+    type Output = (A::Output, B::Output, C::Output, D::Output);
+
+    type PartialState = State4<Input, A, B, C, D>;
+
+    ghost lawful = { λ p. A.lawful p.0 × B.lawful p.1 × C.lawful p.2 × D.lawful p.3 };
+
+    ghost determined = { λ p. A.determined p.0 × B.determined p.1 × C.determined p.2 × D.determined p.3 };
+
+    ghost valid = { valid_4 A.valid B.valid C.valid D.valid };
+
+    ghost meaning = { λ p. tuple_4 Input.step (A.meaning p.0) (B.meaning p.1) (C.meaning p.2) (D.meaning p.3) };
+
+    ghost parts = { λ p. min (A.parts p.0 + B.parts p.1 + C.parts p.2 + D.parts p.3) 255 };
+
+    #[inline(always)]
+    fn parse_mode<M: ParseMode>(
+        &mut self,
+        mode: M,
+        input: &mut Input,
+        state: &mut Self::PartialState,
+    ) -> ParseResult<(A::Output, B::Output, C::Output, D::Output), Input::Error> {
+        let from = take_state(mode, state);
+        parse_4(
+            &mut self.0,
+            &mut self.1,
+            &mut self.2,
+            &mut self.3,
+            mode,
+            input,
+            from,
+            state,
+        )
+    }
+
+    #[inline]
+    fn add_error(&mut self, error: &mut Tracked<Input::Error>) {
+        self.0.add_error(error);
+    }
+
+    #[inline]
+    fn parser_count(&self) -> ErrorOffset {
+        add_counts(
+            add_counts(
+                add_counts(self.0.parser_count(), self.1.parser_count()),
+                self.2.parser_count(),
+            ),
+            self.3.parser_count(),
+        )
+    }
+
+    ghost default_valid = { begins_valid place_4 D.valid (begins_valid place_3 C.valid (begins_valid place_2 B.valid (begins_valid_1 A.default_valid))) };
+
+    ghost laws = { λ p l. followed_is_meaning Input.step place_4 push_3 (followed_is_meaning Input.step place_3 push_2 (followed_is_meaning Input.step place_2 push_1 (tuple_1_is_meaning (A.laws p.0 l.0)) (B.laws p.1 l.1)) (C.laws p.2 l.2)) (D.laws p.3 l.3) };
+
+    ghost single = { λ p l d. followed_means_one Input.step place_4 push_3 (followed_means_one Input.step place_3 push_2 (followed_means_one Input.step place_2 push_1 (tuple_1_means_one (A.single p.0 l.0 d.0)) (B.single p.1 l.1 d.1)) (C.single p.2 l.2 d.2)) (D.single p.3 l.3 d.3) };
+}

@@ -1,0 +1,136 @@
+//! Streams: where parsers take their tokens from.
+ghost use Rattle.std.specs.Prelude.{◌≡◌, ℕ, ◌<◌, ◌≤◌, length};
+ghost use Rattle.std.specs.Prelude.{nat_lt, ◌||◌, ◌↔◌, ◌⊎◌, true, false};
+ghost use Rattle.combine_base.specs.View.{View, Takes};
+ghost use Rattle.combine_base.specs.Errors.{New};
+ghost use Rattle.combine_base.specs.Streams.{Uncons, ResetTo, Passes};
+
+use crate::error::ParseError;
+
+pub mod fed;
+mod slices;
+
+pub use slices::Left;
+
+/// Why a read, a reset or a parse didn't succeed.
+#[derive(Clone, Copy, Debug, PartialEq, Eq)]
+pub enum Kind {
+    /// The parser refuses.
+    Refused,
+    /// The input ended: on an open stream this is need of more, on an ended one a refusal.
+    End,
+    /// A growth was refused.
+    Memory,
+    /// A read failed.
+    Read,
+    /// A reset failed.
+    Reset,
+    /// The input is shorter than a distance that was kept.
+    Lost,
+}
+
+/// How often a stream's reads and resets have failed.
+#[derive(Clone, Copy, Debug, PartialEq, Eq)]
+pub struct Failures {
+    pub reads: u64,
+    pub resets: u64,
+}
+
+/// A stream that gives its tokens one by one.
+pub trait StreamOnce: Drop {
+    ghost use Rattle.combine_base.specs.declared.stream.Kind.{Kind};
+    ghost use Rattle.combine_base.specs.declared.stream.Failures.{Failures};
+    ghost use Rattle.combine_base.specs.View.{advanced};
+    ghost use Rattle.std.specs.declared.cmp.Ordering.TheVariants.{Less};
+
+    type Token: Copy;
+
+    type Range: Copy;
+
+    type Position: Ord + Copy;
+
+    type Error: ParseError<Self::Token, Self::Range, Self::Position>;
+
+    /// The places that a stream can be put back to.
+    ghost Mark: { Type 0 };
+
+    /// The position, the unread tokens, and whether more may follow.
+    ghost view: { Self → View Self.Position Self.Token };
+
+    /// The position after a token.
+    ghost step: { Self.Position → Self.Token → Self.Position };
+
+    /// The view at a place.
+    ghost marks: { Self → Mark → View Self.Position Self.Token → Type 0 };
+
+    /// How often reads and resets have failed.
+    ghost failures: { Self → Failures };
+
+    /// Holds of a stream whose counts of failures stay where its calls succeed.
+    ghost steady: { Type 0 };
+
+    /// Takes the first token. At the end of the unread tokens it answers `End` and changes nothing; a failed read is `Read`, and its count rises.
+    fn uncons(&mut self) -> Result<Self::Token, Kind>
+        ensures read { Uncons steady step (view self.old) (view self.new) (failures self.old) (failures self.new) result }
+        ensures passes { Passes (marks self.old) (marks self.new) (failures self.old) (failures self.new) };
+
+    /// Whether more tokens may follow those that are unread.
+    fn is_partial(&self) -> bool
+        ensures { result ≡ (view self.now).is_open };
+
+    /// An error of that kind without items, which takes no memory.
+    fn new_error(&self, why: Kind, position: Self::Position) -> Self::Error
+        ensures { New Self.Error.seen why position result };
+
+    /// Tokens that are taken move the position on.
+    ghost moves: { (s : Self) (n : ℕ) → 0 < n → n ≤ length (view s).unread → Self.Position.cmp (view s).position (advanced step n (view s)).position ≡ Less };
+}
+
+/// A stream that can be put back.
+pub trait ResetStream: StreamOnce {
+    type Checkpoint: Copy;
+
+    /// The view that a checkpoint stands for.
+    ghost stands: { Self → Self.Checkpoint → View Self.Position Self.Token → Type 0 };
+
+    /// Stands for the view of this moment.
+    fn checkpoint(&self) -> Self::Checkpoint
+        ensures stands { stands self.now result (Self.view self.now) }
+        ensures short { length (Self.view self.now).unread < 18446744073709551616 };
+
+    /// Puts the stream back to where the checkpoint was made. A failed reset is `Reset`; its count rises, and the view stays.
+    fn reset(&mut self, checkpoint: Self::Checkpoint) -> Result<(), Kind>
+        ensures to { ResetTo Self.steady Self.step (stands self.old checkpoint) (Self.view self.old) (Self.view self.new) (Self.failures self.old) (Self.failures self.new) result }
+        ensures passes { Passes (Self.marks self.old) (Self.marks self.new) (Self.failures self.old) (Self.failures self.new) };
+
+    fn failures(&self) -> Failures
+        ensures { result ≡ Self.failures self.now };
+
+    /// A checkpoint stands as long as the places do.
+    ghost lasts: { (s t : Self) (c : Self.Checkpoint) (v : View Self.Position Self.Token) → ((m : Self.Mark) (u : View Self.Position Self.Token) → Self.marks s m u → Self.marks t m u) → stands s c v → stands t c v };
+}
+
+/// A stream that knows its position.
+pub trait Positioned: StreamOnce {
+    fn position(&self) -> Self::Position
+        ensures { result ≡ (Self.view self.now).position };
+}
+
+/// A stream that parsers read: it can be put back and knows its position.
+pub trait Stream: ResetStream + Positioned {}
+
+impl<S: ResetStream + Positioned> Stream for S {}
+
+/// Whether a token was taken since that position, or, as `begun` says, before it.
+pub fn has_taken<Input: Stream>(begun: bool, since: Input::Position, input: &Input) -> bool
+    ensures { (n : ℕ) (old : Input) → since ≡ (Input.view old).position → Takes Input.step n (Input.view old) (Input.view input.now) → result ≡ (begun || nat_lt 0 n) }
+{
+    begun || since.cmp(&input.position()).is_lt()
+}
+
+/// Whether a committed error means need of more.
+pub fn needs_more<Input: Stream>(input: &Input, error: &Input::Error) -> bool
+    ensures { (result ≡ true) ↔ ((Input.Error.seen.kind error.now ≡ Kind.End) × ((Input.view input.now).is_open ≡ true)) }
+{
+    error.kind() == Kind::End && input.is_partial()
+}

@@ -1,0 +1,17 @@
+-- what the laws of `attempt` and `map` say
+use Rattle.std.specs.Prelude.{◌↔◌}
+use Rattle.combine_base.specs.View.{View}
+use Rattle.combine_base.specs.Outcome.{Outcome}
+use Rattle.combine_base.specs.Meaning.{Meaning, MeansSame}
+
+-- two meanings have the same outcomes on every view, from the start; their states may differ
+abbrev pub SameFromTheStart : {P T R V S S' : Type 0} → Meaning P T R V S → Meaning P T R V S' → Type 0
+SameFromTheStart {P} {T} {R} {V} m m' = (v : View P T) (o : Outcome V) → m.whole v o ↔ m'.whole v o
+
+-- one function and then another, each known by its relation
+abbrev pub composed : {A B C : Type 0} → (A → B → Type 0) → (B → C → Type 0) → A → C → Type 0
+composed {A} {B} f g a c = (b : B) × f a b × g b c
+
+-- a function gives what the second gives of what the first does
+abbrev pub IsComposition : {A B C : Type 0} → (A → B → Type 0) → (B → C → Type 0) → (A → C → Type 0) → Type 0
+IsComposition {A} {B} {C} f g h = (a : A) (c : C) → h a c ↔ composed f g a c

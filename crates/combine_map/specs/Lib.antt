@@ -1,0 +1,3 @@
+pub mod Attempt
+pub mod Parsers
+pub mod Laws

@@ -1,0 +1,62 @@
+//! Parsers that change the value of another parser, or put its refusals back.
+ghost use Rattle.std.specs.Prelude.{◌≡◌, if◌then◌else◌};
+ghost use Rattle.combine_map.specs.Attempt.{IsFresh};
+ghost use Rattle.combine_map.specs.Parsers.{attempt_of, map_of};
+
+pub mod types;
+
+use combine_base::parser::Parser;
+use combine_base::stream::Stream;
+use types::{Map, Try};
+
+/// As `p`, its value changed by `f`.
+///
+/// What is taken, refusals, faults and need of more are those of `p`, and so is the state. The crate takes an `FnMut`.
+#[inline]
+pub fn map<Input: Stream, P: Parser<Input>, B: Drop, F: Fn(P::Output) -> B>(p: P, f: F) -> Map<P, F>
+    ensures { result ≡ map_of p f }
+{
+    Map(p, f)
+}
+
+/// As `p`, but every refusal is peeked, with the stream put back to where the parser began. Faults stay committed.
+///
+/// On need of more the stream is put back too, but `p` does not begin again: the state keeps the distance that was read, in tokens, and the state of `p`; the next call passes over that distance and goes on. (The crate's `attempt` takes the tokens.) Faults are those of `p`, `Reset` where the stream could not be put back, `Read` where the distance could not be read again, and `Lost` where the input is shorter than a kept distance.
+#[inline]
+pub fn attempt<Input: Stream, P: Parser<Input>>(p: P) -> Try<P>
+    ensures { result ≡ attempt_of p }
+{
+    Try(p)
+}
+
+/// What `attempt` keeps while more input is needed: the distance that was read, in tokens, and the state of its part.
+#[derive(Drop)]
+pub struct TryState<S> {
+    distance: u64,
+    part: S,
+}
+
+impl<S: Default> Default for TryState<S> {
+    ghost is_default = { IsFresh S.is_default };
+
+    #[inline]
+    fn default() -> Self {
+        TryState {
+            distance: 0,
+            part: S::default(),
+        }
+    }
+}
+
+impl<S> TryState<S> {
+    /// Hands out the distance that a call begins with: none where it begins afresh.
+    #[inline]
+    fn begin(&mut self, first: bool) -> u64
+        ensures begun { result ≡ (if first then 0 else self.old.distance) }
+        ensures left { self.new ≡ record { distance = 0; part = self.old.part } }
+    {
+        let distance = if first { 0 } else { self.distance };
+        self.distance = 0;
+        distance
+    }
+}

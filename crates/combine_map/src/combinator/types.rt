@@ -1,0 +1,185 @@
+//! The parsers that `map` and `attempt` answer.
+ghost use Rattle.std.specs.Prelude.{◌≡◌, if◌then◌else◌, nat_lt};
+ghost use Rattle.combine_map.specs.Attempt.{HasValid, attempted, attempted_is_meaning, attempted_means_one, losing, refusing};
+ghost use Rattle.combine_map.specs.Parsers.{attempt_part, map_function, map_part};
+ghost use Rattle.combine_base.specs.Mapped.{mapped, mapped_is_meaning, mapped_means_one};
+
+use super::TryState;
+use combine_base::distance::{measure, pass_over};
+use combine_base::error::{ErrorOffset, ParseError, ParseResult, Tracked};
+use combine_base::parser::{ParseMode, Parser};
+use combine_base::stream::{Kind, Positioned, ResetStream, Stream, StreamOnce, needs_more};
+
+/// As its part, the value changed by its function; the state is that of the part.
+#[derive(Clone, Copy, Drop)]
+pub struct Map<P, F>(pub(super) P, pub(super) F);
+
+impl<Input: Stream, P: Parser<Input>, B: Drop, F: Fn(P::Output) -> B> Parser<Input> for Map<P, F> {
+    type Output = B;
+
+    type PartialState = P::PartialState;
+
+    ghost lawful = { λ p. P.lawful (map_part p) × F.IsAlwaysCallable (map_function p) };
+
+    ghost determined = { λ p. P.determined (map_part p) };
+
+    ghost valid = { P.valid };
+
+    ghost meaning = { λ p. mapped (P.meaning (map_part p)) (F.post (map_function p)) };
+
+    ghost parts = { λ p. P.parts (map_part p) };
+
+    ghost default_valid = { P.default_valid };
+
+    ghost laws = { λ p l. mapped_is_meaning P.PartialState.is_default P.valid (P.meaning (map_part p)) (F.post (map_function p)) (P.laws (map_part p) l.0) };
+
+    ghost single = { λ p l d. mapped_means_one P.valid (P.meaning (map_part p)) (F.post (map_function p)) (P.single (map_part p) l.0 d) };
+
+    #[inline(always)]
+    fn parse_mode<M: ParseMode>(
+        &mut self,
+        mode: M,
+        input: &mut Input,
+        state: &mut Self::PartialState,
+    ) -> ParseResult<B, Input::Error> {
+        match self.0.parse_mode(mode, input, state) {
+            ParseResult::CommitOk(value) => ParseResult::CommitOk((self.1)(value)),
+            ParseResult::PeekOk(value) => ParseResult::PeekOk((self.1)(value)),
+            ParseResult::CommitErr(error) => ParseResult::CommitErr(error),
+            ParseResult::PeekErr(refusal) => ParseResult::PeekErr(refusal),
+        }
+    }
+
+    #[inline]
+    fn add_error(&mut self, error: &mut Tracked<Input::Error>) {
+        self.0.add_error(error);
+    }
+
+    #[inline]
+    fn parser_count(&self) -> ErrorOffset {
+        self.0.parser_count()
+    }
+}
+
+/// As its part, but every refusal is peeked and put back; the state is a `TryState`.
+#[derive(Clone, Copy, Drop)]
+pub struct Try<P>(pub(super) P);
+
+impl<Input: Stream, P: Parser<Input>> Parser<Input> for Try<P> {
+    type Output = P::Output;
+
+    type PartialState = TryState<P::PartialState>;
+
+    ghost lawful = { λ p. P.lawful (attempt_part p) };
+
+    ghost determined = { λ p. P.determined (attempt_part p) };
+
+    ghost valid = { HasValid P.valid };
+
+    ghost meaning = { λ p. attempted Input.step (P.meaning (attempt_part p)) };
+
+    ghost parts = { λ p. P.parts (attempt_part p) };
+
+    ghost default_valid = { λ s d. P.default_valid _ d.1 };
+
+    ghost laws = { λ p l. attempted_is_meaning _ P.PartialState.is_default _ (P.meaning (attempt_part p)) (P.laws (attempt_part p) l) };
+
+    ghost single = { λ p l d. attempted_means_one _ _ (P.meaning (attempt_part p)) (P.single (attempt_part p) l d) };
+
+    #[inline(always)]
+    fn parse_mode<M: ParseMode>(
+        &mut self,
+        mode: M,
+        input: &mut Input,
+        state: &mut Self::PartialState,
+    ) -> ParseResult<P::Output, Input::Error> {
+        let start = input.checkpoint();
+        let position = input.position();
+        let distance = state.begin(mode.is_first());
+        if let Err(kind) = pass_over(input, distance) {
+            return fault(input, lost(kind), position, &mut state.part);
+        }
+        match self.0.parse_mode(mode, input, &mut state.part) {
+            ParseResult::CommitOk(value) => ParseResult::CommitOk(value),
+            ParseResult::PeekOk(value) => accepted(distance, value),
+            ParseResult::PeekErr(refusal) => match input.reset(start) {
+                Ok(()) => ParseResult::PeekErr(refusal),
+                Err(kind) => fault(input, kind, position, &mut state.part),
+            },
+            ParseResult::CommitErr(error) => {
+                if needs_more(input, &error) {
+                    return match measure(input, start) {
+                        Ok(distance) => {
+                            state.distance = distance;
+                            ParseResult::CommitErr(error)
+                        }
+                        Err(kind) => fault(input, kind, position, &mut state.part),
+                    };
+                }
+                if !refuses(error.kind()) {
+                    return ParseResult::CommitErr(error);
+                }
+                match input.reset(start) {
+                    Ok(()) => ParseResult::PeekErr(Tracked::from(error)),
+                    Err(kind) => fault(input, kind, position, &mut state.part),
+                }
+            }
+        }
+    }
+
+    #[inline]
+    fn add_error(&mut self, error: &mut Tracked<Input::Error>) {
+        self.0.add_error(error);
+    }
+
+    #[inline]
+    fn parser_count(&self) -> ErrorOffset {
+        self.0.parser_count()
+    }
+}
+
+/// The kind of a failure to pass over the kept distance.
+#[inline]
+fn lost(kind: Kind) -> Kind
+    ensures { result ≡ losing kind }
+{
+    match kind {
+        Kind::End => Kind::Lost,
+        other => other,
+    }
+}
+
+/// Whether an error of that kind, where it isn't need of more, is a refusal.
+#[inline]
+fn refuses(kind: Kind) -> bool
+    ensures { result ≡ refusing kind }
+{
+    matches!(kind, Kind::Refused | Kind::End)
+}
+
+/// A peeked acceptance, made committed where tokens were read before.
+#[inline]
+fn accepted<O, E>(distance: u64, value: O) -> ParseResult<O, E>
+    ensures { result ≡ (if nat_lt 0 distance then ParseResult.CommitOk value else ParseResult.PeekOk value) }
+{
+    if distance > 0 {
+        ParseResult::CommitOk(value)
+    } else {
+        ParseResult::PeekOk(value)
+    }
+}
+
+/// A fault at that position, which leaves a default state.
+#[cold]
+fn fault<O, Input: Stream, S: Default + Drop>(
+    input: &Input,
+    why: Kind,
+    position: Input::Position,
+    state: &mut S,
+) -> ParseResult<O, Input::Error>
+    ensures error { (e : Input.Error) × (result ≡ ParseResult.CommitErr e) × (Input.Error.seen.kind e ≡ why) }
+    ensures fresh { S.is_default state.new }
+{
+    *state = S::default();
+    ParseResult::CommitErr(input.new_error(why, position))
+}

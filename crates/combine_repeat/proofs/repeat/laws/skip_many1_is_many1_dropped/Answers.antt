@@ -1,0 +1,5 @@
+use Rattle.combine_repeat.proofs.Comparing.{many1_or_skip}
+use Rattle.combine_repeat.proofs.repeat.laws.skip_many1_is_many1_dropped.Goals as goal
+
+pub returns : goal.returns
+returns g c = many1_or_skip _ _ _ _ _ (g.P.Parser.meaning c.args.parser.now)

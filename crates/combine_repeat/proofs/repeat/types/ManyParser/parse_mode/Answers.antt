@@ -1,0 +1,5 @@
+use Rattle.combine_repeat.specs.RepetitionLaws.{turns_means_same}
+use Rattle.combine_repeat.proofs.repeat.types.ManyParser.parse_mode.Goals as goal
+
+pub returns-clause-same : goal.returns-clause-same
+returns-clause-same g c = turns_means_same _ _ _ _ _ c.take_turns.ensures.same

@@ -1,0 +1,6 @@
+use Rattle.combine_base.specs.Mapped.{mapped_means_same}
+use Rattle.combine_repeat.specs.RepetitionLaws.{turns_means_same}
+use Rattle.combine_repeat.proofs.repeat.types.SkipMany1Parser.add_error.Goals as goal
+
+pub returns-clause-same : goal.returns-clause-same
+returns-clause-same g c = mapped_means_same _ _ _ (turns_means_same _ _ _ _ _ c.add_error.ensures.same)

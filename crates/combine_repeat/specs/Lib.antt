@@ -1,0 +1,6 @@
+pub mod Turns
+pub mod TurnLaws
+pub mod Repetition
+pub mod RepetitionLaws
+pub mod Compared
+pub mod Built

@@ -1,0 +1,69 @@
+//! Repetitions: a parser runs turn after turn, until it is refused peeked.
+//!
+//! The values are collected in any `F: Append<P::Output>`, for which the constructors take an allocator first; the crate takes `F: Extend + Default`, and no allocator. The skipping forms drop the values.
+//!
+//! A turn that takes nothing is refused, committed, with the message `repetition takes nothing`, at the position where it began; in the crate such a parser may hang. A turn that took its tokens in an earlier piece counts as one that takes them.
+//!
+//! A collection that can't grow gives the committed fault `Memory`, and a stream that can't be put back the committed fault `Reset`, each at the position where the turn began; the faults of the parser are passed on. On need of more the state keeps what is collected, whether a turn committed, which the crate forgets, and the turn that runs. What is added to an error, and how many parsers are counted, is as for the parser, but the skipping forms count as 1.
+ghost use Rattle.std.specs.Prelude.{◌≡◌};
+ghost use Rattle.combine_repeat.specs.Built.{many_of, many1_of, skip_many_of, skip_many1_of};
+
+pub mod laws;
+mod turns;
+pub mod types;
+
+use combine_base::parser::Parser;
+pub use combine_base::repeat::{Append, Sink};
+use combine_base::stream::Stream;
+use std::alloc::Global;
+use std::marker::PhantomData;
+pub use turns::TurnsState;
+use types::{Many, Many1, SkipMany, SkipMany1};
+
+/// Turns of `parser` until it is refused peeked, their values collected in order.
+///
+/// Such a refusal ends the turns: the stream is put back to where that turn began, and the answer is accepted, committed exactly if there was a turn before. A committed refusal of a turn is the answer, and so is need of more.
+#[inline]
+pub fn many<F, Input: Stream, P: Parser<Input>>(alloc: Global, parser: P) -> Many<F, P>
+where
+    F: Append<P::Output>,
+    ensures { result ≡ many_of alloc parser }
+{
+    Many {
+        alloc,
+        parser,
+        collects: PhantomData,
+    }
+}
+
+/// `parser` once, and then turns of it until it is refused peeked, all values collected in order.
+///
+/// The first turn counts also where it takes nothing, and its refusal, committed or peeked, is the answer. From then on as `many`, committed exactly if a turn was.
+#[inline]
+pub fn many1<F, Input: Stream, P: Parser<Input>>(alloc: Global, parser: P) -> Many1<F, P>
+where
+    F: Append<P::Output>,
+    ensures { result ≡ many1_of alloc parser }
+{
+    Many1 {
+        alloc,
+        parser,
+        collects: PhantomData,
+    }
+}
+
+/// As `many`, with the values dropped; it takes no memory of its own, but for that of an error's message.
+#[inline]
+pub fn skip_many<Input: Stream, P: Parser<Input>>(parser: P) -> SkipMany<P>
+    ensures { result ≡ skip_many_of parser }
+{
+    SkipMany(parser)
+}
+
+/// As `many1`, with the values dropped; it takes no memory of its own, but for that of an error's message.
+#[inline]
+pub fn skip_many1<Input: Stream, P: Parser<Input>>(parser: P) -> SkipMany1<P>
+    ensures { result ≡ skip_many1_of parser }
+{
+    SkipMany1(parser)
+}

@@ -1,0 +1,214 @@
+//! The loop that all repetitions of one parser run, and what it keeps.
+ghost use Rattle.std.specs.Prelude.{◌≡◌, ◌||◌, ℕ, false, None, MatchResult, if◌then◌else◌};
+ghost use Rattle.combine_base.specs.Meaning.{MeansSame};
+ghost use Rattle.combine_base.specs.View.{Takes};
+ghost use Rattle.combine_base.specs.Answer.{Answers, world};
+ghost use Rattle.combine_base.specs.Streams.{Passes};
+ghost use Rattle.combine_repeat.specs.Repetition.{appended, asks_first, cut_at, fresh_turns, goes_at, kept_or, so_far, turns_from};
+
+use combine_base::error::{ParseResult, Tracked};
+use combine_base::parser::{ParseMode, Parser};
+use combine_base::refusal::refusal_saying;
+use combine_base::repeat::Append;
+use combine_base::stream::{Kind, Stream, has_taken, needs_more};
+use std::alloc::AllocError;
+
+/// Which turn runs.
+#[derive(Clone, Copy)]
+pub(crate) enum Place {
+    /// The first one of `many1`, which may take nothing and which is asked for.
+    First,
+    /// Any other, and whether it took a token in an earlier piece.
+    Later(bool),
+}
+
+impl Place {
+    #[inline]
+    fn is_first(self) -> bool
+        ensures { result ≡ asks_first self }
+    {
+        match self {
+            Place::First => true,
+            Place::Later(_) => false,
+        }
+    }
+
+    /// Whether a turn is a block that is accepted so, this piece's part of it begun at that position.
+    #[inline]
+    fn goes<Input: Stream>(self, committed: bool, since: Input::Position, input: &Input) -> bool
+        ensures { (n : ℕ) (old : Input) → since ≡ (Input.view old).position → Takes Input.step n (Input.view old) (Input.view input.now) → result ≡ goes_at self n committed }
+    {
+        match self {
+            Place::First => true,
+            Place::Later(begun) => committed && has_taken(begun, since, input),
+        }
+    }
+
+    /// The place of the same turn in the next piece.
+    #[inline]
+    fn cut<Input: Stream>(self, since: Input::Position, input: &Input) -> Place
+        ensures { (n : ℕ) (old : Input) → since ≡ (Input.view old).position → Takes Input.step n (Input.view old) (Input.view input.now) → result ≡ cut_at self n }
+    {
+        match self {
+            Place::First => Place::First,
+            Place::Later(begun) => Place::Later(has_taken(begun, since, input)),
+        }
+    }
+}
+
+/// The turns so far: what is collected, whether one committed, and which one runs.
+#[derive(Drop)]
+pub(crate) struct Turns<F> {
+    collection: F,
+    committed: bool,
+    place: Place,
+}
+
+impl<F> Turns<F> {
+    /// The first turn runs, or would if there is one.
+    #[inline]
+    pub(crate) fn none_yet(collection: F, place: Place) -> Turns<F>
+        ensures { result ≡ record { collection = collection; committed = false; place = place } }
+    {
+        Turns {
+            collection,
+            committed: false,
+            place,
+        }
+    }
+
+    /// One more turn was a block, and the next one runs.
+    #[inline]
+    fn add<A>(&mut self, value: A, committed: bool) -> Result<(), AllocError>
+    where
+        F: Append<A>,
+        ensures { MatchResult result (λ _. so_far F.held self.new ≡ record { mark = Place.Later false; held = F.more (F.held self.old.collection) value; committed = self.old.committed || committed }) (λ _. F.lean → ⊥) }
+    {
+        self.collection.append(value)?;
+        self.committed = self.committed || committed;
+        self.place = Place::Later(false);
+        Ok(())
+    }
+
+    /// The turns end, accepted.
+    #[inline]
+    fn end<E>(self) -> ParseResult<F, E>
+        ensures { result ≡ (if self.committed then ParseResult.CommitOk self.collection else ParseResult.PeekOk self.collection) }
+    {
+        let Turns {
+            collection,
+            committed,
+            place: _,
+        } = self;
+        if committed {
+            return ParseResult::CommitOk(collection);
+        }
+        ParseResult::PeekOk(collection)
+    }
+
+    /// The turn that was asked for is refused peeked, which is committed if a turn before it was.
+    #[inline]
+    fn refused<E: Drop>(self, refusal: Tracked<E>) -> ParseResult<F, E>
+    where
+        F: Drop,
+        ensures { result ≡ (if self.committed then ParseResult.CommitErr refusal.error else ParseResult.PeekErr refusal) }
+    {
+        if self.committed {
+            let Tracked { error, offset: _ } = refusal;
+            return ParseResult::CommitErr(error);
+        }
+        ParseResult::PeekErr(refusal)
+    }
+}
+
+/// What a repetition keeps while more input is needed: the turns so far, of a default state none, and the state of the one that runs.
+#[derive(Drop)]
+pub struct TurnsState<F, S> {
+    turns: Option<Turns<F>>,
+    running: S,
+}
+
+impl<F, S: Default> Default for TurnsState<F, S> {
+    ghost is_default = { fresh_turns S.is_default };
+
+    #[inline]
+    fn default() -> Self {
+        TurnsState {
+            turns: None,
+            running: S::default(),
+        }
+    }
+}
+
+impl<F: Drop, S> TurnsState<F, S> {
+    /// Hands out the turns that are kept, if the call resumes; else those of the start.
+    #[inline]
+    fn begin(&mut self, first: bool, start: Turns<F>) -> Turns<F>
+        ensures turns { result ≡ (if first then start else kept_or start self.old.turns) }
+        ensures left { self.new ≡ record { turns = None; running = self.old.running } }
+    {
+        match self.turns.take() {
+            Some(kept) => if first { start } else { kept },
+            None => start,
+        }
+    }
+}
+
+/// One call of turns, which begin so where nothing is kept.
+#[inline]
+pub(crate) fn take_turns<Input: Stream, P: Parser<Input>, F: Append<P::Output>, M: ParseMode>(
+    parser: &mut P,
+    start: Turns<F>,
+    mode: M,
+    input: &mut Input,
+    state: &mut TurnsState<F, P::PartialState>,
+) -> ParseResult<F, Input::Error>
+    requires lawful { P.lawful parser.old }
+    requires valid { P.valid state.old.running }
+    ensures lawful { P.lawful parser.new }
+    ensures valid { P.valid state.new.running }
+    ensures same { MeansSame (P.meaning parser.old) (P.meaning parser.new) }
+    ensures passes { Passes (Input.marks input.old) (Input.marks input.new) (Input.failures input.old) (Input.failures input.new) }
+    ensures answers { Answers (world Input.step Input.Error.seen Input.steady ⟦<TurnsState<F, P::PartialState> as Default>⟧.is_default)
+        (turns_from Input.step (appended F.held F.none F.more F.lean) (so_far F.held start) (P.meaning parser.old))
+        (record { first = M.first mode; state = state.old; left = state.new; old = Input.view input.old; new = Input.view input.new; before = Input.failures input.old; after = Input.failures input.new })
+        result }
+{
+    let mut mode = mode;
+    let mut turns = state.begin(mode.is_first(), start);
+    'turns: loop {
+        let checkpoint = input.checkpoint();
+        let position = input.position();
+        let (value, committed) = match parser.parse_mode(mode, input, &mut state.running) {
+            ParseResult::CommitOk(value) => (value, true),
+            ParseResult::PeekOk(value) => (value, false),
+            ParseResult::PeekErr(refusal) => {
+                if turns.place.is_first() {
+                    return turns.refused(refusal);
+                }
+                if let Err(kind) = input.reset(checkpoint) {
+                    return ParseResult::CommitErr(input.new_error(kind, position));
+                }
+                return turns.end();
+            }
+            ParseResult::CommitErr(error) => {
+                if needs_more(input, &error) {
+                    turns.place = turns.place.cut(position, input);
+                    state.turns = Some(turns);
+                }
+                return ParseResult::CommitErr(error);
+            }
+        };
+        if !turns.place.goes(committed, position, input) {
+            return ParseResult::CommitErr(refusal_saying(
+                input,
+                position,
+                "repetition takes nothing",
+            ));
+        }
+        if let Err(_refused) = turns.add(value, committed) {
+            return ParseResult::CommitErr(input.new_error(Kind::Memory, position));
+        }
+        mode.set_first();
+    }
+}

@@ -1,0 +1,75 @@
+-- what a list must be able to give, where its items are known
+use Rattle.std.proofs.Common.{ℕ, zero, suc, ◌<◌, ◌≡◌, List, [], ◌∷◌, length, Bool, Some, None, Option, refl, sym, ap, subst, arith, slice_get, ◌↔◌}
+use Rattle.combine_base.specs.View.{View}
+use Rattle.combine_base.specs.Items.{Item}
+use Rattle.combine_base.specs.Outcome.{Outcome}
+use Rattle.combine_base.specs.Meaning.{MeansSame}
+use Rattle.combine_token.specs.TokenLists.{TokenList, token_list}
+use Rattle.combine_token.specs.Iterated.{GaveAt, GaveAll, Stands, Ends, iterated}
+use Rattle.combine_token.specs.Listed.{Within, listed}
+use Rattle.combine_token.proofs.Iterating.{gave_none}
+use Rattle.combine_token.proofs.Listing.{matching_within}
+
+-- each known item, and the end after them, can come
+pub record Gives {L I A B : Type 0} (clones : L → L → Type 0) (makes : L → I → Type 0) (steps : I → Option A → I → Type 0) (list : L) (v : A → B) (ys : List B) : Type 0 where
+  pub item : (k : ℕ) (y : B) → slice_get ys k ≡ Some y → (x : A) × (v x ≡ y) × Stands clones makes steps list k x
+  pub end : Ends clones makes steps list (length ys)
+
+-- an iterator that has such items left, and can give the first of them or end
+module _ {I A B : Type 0} (steps : I → Option A → I → Type 0) (v : A → B) (left : I → List B → Type 0) (some : (s : I) (y : B) (ys : List B) → left s (y ∷ ys) → (x : A) × (t : I) × (v x ≡ y) × steps s (Some x) t × left t ys) (none : (s : I) → left s [] → (t : I) × steps s None t) where
+  gives_item : (ys : List B) (s : I) (k : ℕ) (y : B) → left s ys → slice_get ys k ≡ Some y → (z : GaveAt steps k s) × (v z.item ≡ y)
+  gives_item [] s k y h e = absurd (cc)
+  gives_item (w ∷ ys) s zero y h e =
+      let z = some s w ys h in
+      (record { item = z.0; before = s; after = z.1; gave = gave_none steps s; gives = z.3 }, let i = z.2 in cc)
+  gives_item (w ∷ ys) s (suc k) y h e =
+      let z = some s w ys h in
+      let r = gives_item ys z.1 k y z.4 e in (
+        record { item = r.0.item; before = r.0.before; after = r.0.after; gave = record { items = z.0 ∷ r.0.gave.items; yields = (z.1, z.3, r.0.gave.yields); long = ap suc r.0.gave.long }; gives = r.0.gives },
+        r.1,
+      )
+
+  gives_end : (ys : List B) (s : I) → left s ys → GaveAll steps (length ys) s
+  gives_end [] s h = let z = none s h in record { last = s; end = z.0; gave = gave_none steps s; none = z.1 }
+  gives_end (w ∷ ys) s h =
+      let z = some s w ys h in
+      let r = gives_end ys z.1 z.4 in
+      record { last = r.last; end = r.end; gave = record { items = z.0 ∷ r.gave.items; yields = (z.1, z.3, r.gave.yields); long = ap suc r.gave.long }; none = r.none }
+
+  pub gives_all : {L : Type 0} (clones : L → L → Type 0) (makes : L → I → Type 0) (list : L) (ys : List B) (clone : L) (start : I) → clones list clone → makes clone start → left start ys → Gives clones makes steps list v ys
+  gives_all clones makes list ys clone start i j h = record {
+    item = λ k y e.
+        let r = gives_item ys start k y h e in
+        (r.0.item, r.1, record { before = r.0.before; after = r.0.after; reached = record { clone = clone; is_clone = i; start = start; made = j; gave = r.0.gave }; gives = r.0.gives });
+    end = let r = gives_end ys start h in record { before = r.last; after = r.end; reached = record { clone = clone; is_clone = i; start = start; made = j; gave = r.gave }; gives = r.none };
+  }
+
+there : {B : Type 0} (ys : List B) (k : ℕ) → k < length ys → (y : B) × (slice_get ys k ≡ Some y)
+there [] k d = absurd (omega arith)
+there (y ∷ ys) zero d = (y, refl)
+there (y ∷ ys) (suc k) d = there ys k (omega arith)
+
+module _ {L I A B T : Type 0} (clones : L → L → Type 0) (makes : L → I → Type 0) (steps : I → Option A → I → Type 0) (list : L) (v : A → B) (ys : List B) (h : Gives clones makes steps list v ys) (compares : A → T → Bool → Type 0) (known : B → T → Bool → Type 0) (read : (x : A) (t : T) (b : Bool) → known (v x) t b → compares x t b) where
+  -- what is known of the items is known of the list
+  pub listed_within : Within (listed known ys) (iterated clones makes steps list compares)
+  listed_within = record {
+    fits = λ n t b p. let z = h.item n p.0 p.1 in (z.0, z.2, read z.0 t b (subst (λ y. known y t b) (sym z.1) p.2));
+    has = λ n d. let e = there ys n d in let z = h.item n e.0 e.1 in (z.0, z.2);
+    ends = λ m e. subst (Ends clones makes steps list) (sym e) h.end;
+  }
+
+-- lists of which the same is known mean the same
+module _ {P T R V S : Type 0} (l l' : TokenList T) (h : Within l l') (k : Within l' l) (gives : V → Type 0) (matched : S → ℕ) (lean : Type 0) (adds : List (Item T R) → Type 0) where
+  both_ways : (n : ℕ) (v : View P T) (o : Outcome V) → (token_list l {P = P} {R = R} gives (λ (m : ℕ). m) lean adds).rest n v o ↔ (token_list l' {P = P} {R = R} gives (λ (m : ℕ). m) lean adds).rest n v o
+  both_ways n v o = (matching_within l l' h gives n v.is_open v.unread o, matching_within l' l k gives n v.is_open v.unread o)
+
+  pub token_list_means_same : MeansSame (token_list l {P = P} gives matched lean adds) (token_list l' gives matched lean adds)
+  token_list_means_same = record {
+    whole = both_ways 0;
+    rest = λ s. both_ways (matched s);
+    lost = λ s v. (λ p. p, λ p. p);
+    keeps = (λ p. p, λ p. p);
+    puts_back = (λ p. p, λ p. p);
+    lean = (λ p. p, λ p. p);
+    adds = λ is. (λ p. p, λ p. p);
+  }

@@ -1,0 +1,13 @@
+pub mod Adding
+pub mod Choosing
+pub mod Merging
+pub mod Optionals
+pub mod Ors
+pub mod OneToken
+pub mod Stateless
+pub mod Matches
+pub mod ListAnswered
+pub mod Iterating
+pub mod Listing
+pub mod StdLists
+pub mod Giving

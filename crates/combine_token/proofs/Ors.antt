@@ -1,0 +1,74 @@
+-- a choice of two: it tries the first, then the second
+use Rattle.std.proofs.Common.{◌≡◌, Bool, true, false, if◌then◌else◌, arith, refl}
+use Rattle.combine_base.specs.View.{View}
+use Rattle.combine_base.specs.Meaning.{Meaning, IsMeaning}
+use Rattle.combine_base.specs.Answer.{World}
+use Rattle.combine_base.proofs.Calls.{around}
+use Rattle.combine_base.specs.declared.stream.Failures.{Failures}
+use Rattle.combine_token.specs.Choice.{Either, refused, last_is, firm_or, either_into}
+use Rattle.combine_token.specs.Or.{either_of, or_whole}
+use Rattle.combine_token.proofs.Choosing.{Tries, tries_start}
+use Rattle.combine_token.specs.declared.choice.OrState.{OrState}
+use Rattle.combine_token.specs.declared.choice.OrState.TheVariants.{Peek, A, B}
+
+module _ {P T R V S S' E : Type 0} (a : Meaning P T R V S) (b : Meaning P T R V S') where
+  pub first_starts : (w : World P T S E) (valid : S → Type 0) → IsMeaning w.fresh valid a → (first : Bool) (s : S) → (first ≡ true → w.fresh s) → (v : View P T) (f : Failures) → Tries w (λ (s : OrState S S'). s ≡ Peek) a (Either b.whole refused) (either_of a b) first s v f false (A s) v f
+  first_starts w valid h first s d v f = tries_start w (λ s. s ≡ Peek) a (Either b.whole refused) (either_of a b) valid h first s (A s) d (λ v o i. i) (λ v i. i) (λ k. k.0) (λ k. k.0) (λ k. k.0) v f
+
+  pub second_starts : (w : World P T S' E) (valid : S' → Type 0) → IsMeaning w.fresh valid b → (first : Bool) (t : S') → (first ≡ true → w.fresh t) → (v : View P T) (f : Failures) → Tries w (λ (s : OrState S S'). s ≡ Peek) b refused (either_of a b) first t v f false (B t) v f
+  second_starts w valid h first t d v f = tries_start w (λ s. s ≡ Peek) b refused (either_of a b) valid h first t (B t) d (λ v o i. i) (λ v i. i) (λ k. k.1) (λ k. k.1) (λ k. k.1) v f
+
+  -- what is left to try, as a state of the choice
+  pub second_as_state : (w : World P T (OrState S S') E) (fresh : S' → Type 0) (t : S') (now : View P T) (so_far : Failures) (given : OrState S S') (old : View P T) (before : Failures) → Tries (around w fresh) w.fresh b refused (either_of a b) false t now so_far false given old before → Tries w w.fresh (either_of a b) refused (either_of a b) false (B t) now so_far false given old before
+  second_as_state w fresh t now so_far given old before z = record {
+    same = z.same;
+    gives = λ x c o j i. z.gives x c o j (last_is ((either_of a b).rest (B t)) _ o i);
+    failures = z.failures;
+    reads = z.reads;
+    resets = z.resets;
+    keeps = λ k. k;
+    puts_back = λ k. k;
+    lean = λ k. k;
+    lost = z.lost;
+  }
+
+  -- a first-mode call is one from the beginning
+  pub or_begins : (w : World P T (OrState S S') E) (first : Bool) (given s : OrState S S') → s ≡ (if first then Peek else given) → (v : View P T) (f : Failures) → Tries w w.fresh (either_of a b) refused (either_of a b) false s v f first given v f
+  or_begins w true given s e v f = record {
+    same = refl;
+    gives = λ x c o j i. let k = last_is ((either_of a b).rest s) _ o i in rw e at k;
+    failures = λ s. refl;
+    reads = omega arith;
+    resets = omega arith;
+    keeps = λ k. k;
+    puts_back = λ k. k;
+    lean = λ k. k;
+    lost = λ i k. absurd (rw e at k);
+  }
+  or_begins w false given s e v f = record {
+    same = refl;
+    gives = λ x c o j i. let k = last_is ((either_of a b).rest s) _ o i in rw e at k;
+    failures = λ s. refl;
+    reads = omega arith;
+    resets = omega arith;
+    keeps = λ k. k;
+    puts_back = λ k. k;
+    lean = λ k. k;
+    lost = λ i k. (refl, rw e at k);
+  }
+
+  -- at the beginning the first is given a default state
+  pub or_begins_afresh : (w : World P T (OrState S S') E) (fresh valid : S → Type 0) → IsMeaning fresh valid a → (first : Bool) (given : OrState S S') (s : S) → fresh s → Peek ≡ (if first then Peek else given) → (v : View P T) (f : Failures) → Tries w w.fresh (either_of a b) refused (either_of a b) false (A s) v f first given v f
+  or_begins_afresh w fresh valid h first given s d e v f =
+      let z = or_begins w first given Peek e v f in
+      record {
+        same = refl;
+        gives = λ x c o j i. z.gives x c o j (firm_or (or_whole a b) _ o (either_into (a.rest s) a.whole (Either b.whole refused) (Either b.whole refused) (λ v o k. (h.start s v o d).0 k) (λ v o k. k) _ o (last_is ((either_of a b).rest (A s)) _ o i)));
+        failures = z.failures;
+        reads = z.reads;
+        resets = z.resets;
+        keeps = λ k. k;
+        puts_back = λ k. k;
+        lean = λ k. k;
+        lost = λ i k. absurd (h.found s v d k);
+      }

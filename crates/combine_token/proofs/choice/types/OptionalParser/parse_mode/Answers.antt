@@ -1,0 +1,17 @@
+use Rattle.combine_token.proofs.Optionals.{optional_ok, optional_peek_ok, optional_err, optional_none}
+use Rattle.combine_token.proofs.choice.types.OptionalParser.parse_mode.Goals as goal
+
+pub returns-in-CommitOk-clause-answers : goal.returns-in-CommitOk-clause-answers
+returns-in-CommitOk-clause-answers g c = optional_ok _ _ _ _ c.in-CommitOk.ensures.answers
+
+pub returns-in-PeekOk-clause-answers : goal.returns-in-PeekOk-clause-answers
+returns-in-PeekOk-clause-answers g c = optional_peek_ok _ _ _ _ c.in-PeekOk.ensures.answers
+
+pub returns-in-CommitErr-clause-answers : goal.returns-in-CommitErr-clause-answers
+returns-in-CommitErr-clause-answers g c = optional_err _ _ _ _ c.in-CommitErr.ensures.answers
+
+pub returns-in-Ok-clause-answers : goal.returns-in-Ok-clause-answers
+returns-in-Ok-clause-answers g c =
+    let n = c.in-Ok.ensures.to.is in
+    let stands = g.met.Input.ResetStream.lasts _ _ _ _ c.parse_mode.ensures.passes.marks c.checkpoint-start.ensures.stands in
+    optional_none _ _ _ _ _ _ (n.0 _ stands) n.1 c.in-PeekErr.ensures.answers

@@ -1,0 +1,42 @@
+use Rattle.std.proofs.Common.{false, refl}
+use Rattle.combine_base.proofs.Same.{same_none, same_more, passes_more, answers_same}
+use Rattle.combine_token.specs.Choice.{refused}
+use Rattle.combine_token.specs.Or.{or_means_same}
+use Rattle.combine_token.proofs.Choosing.{begun_reads, tries_asks, tries_next, tries_answers}
+use Rattle.combine_token.proofs.Merging.{no_fault, merged_answers}
+use Rattle.combine_token.proofs.Ors.{first_starts, second_as_state}
+use Rattle.combine_token.proofs.choice.types.Or.try_first.Goals as goal
+
+pub returns-in-CommitOk-clause-same : goal.returns-in-CommitOk-clause-same
+returns-in-CommitOk-clause-same g c = or_means_same _ _ _ _ c.parse_mode.ensures.same (same_none _)
+
+pub returns-in-PeekOk-clause-same : goal.returns-in-PeekOk-clause-same
+returns-in-PeekOk-clause-same g c = or_means_same _ _ _ _ c.parse_mode.ensures.same (same_none _)
+
+pub returns-then-needs_more-clause-same : goal.returns-then-needs_more-clause-same
+returns-then-needs_more-clause-same g c = or_means_same _ _ _ _ c.parse_mode.ensures.same (same_none _)
+
+pub returns-in-CommitErr-clause-same : goal.returns-in-CommitErr-clause-same
+returns-in-CommitErr-clause-same g c = or_means_same _ _ _ _ c.parse_mode.ensures.same (same_none _)
+
+pub returns-clause-same : goal.returns-clause-same
+returns-clause-same g c = or_means_same _ _ _ _ c.parse_mode.ensures.same (same_none _)
+
+pub returns-in-Ok-clause-same : goal.returns-in-Ok-clause-same
+returns-in-Ok-clause-same g c = same_more _ _ _ (or_means_same _ _ _ _ c.parse_mode.ensures.same (same_none _)) c.try_second-later.ensures.same
+
+pub returns-then-needs_more-clause-answers : goal.returns-then-needs_more-clause-answers
+returns-then-needs_more-clause-answers g c =
+    let z = first_starts _ _ _ _ (g.met.P.Parser.laws _ c.requires.lawful.0) _ _ c.requires.fresh _ _ in
+    tries_asks _ _ _ _ _ _ _ z refl refl _ (c.needs_more.ensures.0 c.if-needs_more.true) c.in-CommitErr.ensures.answers (λ v o i. i) (λ v i. i)
+
+pub returns-in-Ok-clause-answers : goal.returns-in-Ok-clause-answers
+returns-in-Ok-clause-answers g c =
+    let h = g.met.P.Parser.laws _ c.requires.lawful.0 in
+    let k = g.met.Q.Parser.laws _ c.requires.lawful.1 in
+    let n = c.in-Ok.ensures.to.is in
+    let back = n.0 _ (g.met.Input.ResetStream.lasts _ _ _ _ c.parse_mode.ensures.passes.marks c.checkpoint-start.ensures.stands) in
+    let passes = passes_more _ _ _ _ _ _ c.parse_mode.ensures.passes c.in-Ok.ensures.passes in
+    let z = tries_next _ _ _ _ _ _ _ _ refused k _ _ _ _ _ (first_starts _ _ _ _ h _ _ c.requires.fresh _ _) (begun_reads _ _ _ h _ _ c.requires.valid) _ c.in-PeekErr.ensures.answers (λ v o i. i) (λ p. p.1) (λ p. p.1) (λ p. p.1) false _ c.default-fresh.ensures _ _ back n.1 passes in
+    let later = answers_same _ _ _ (or_means_same _ _ _ _ c.parse_mode.ensures.same (same_none _)) _ _ c.try_second-later.ensures.answers in
+    merged_answers _ _ _ _ _ _ _ _ (no_fault _ _ _ _ c.in-PeekErr.ensures.answers) _ _ (tries_answers _ _ _ _ (second_as_state _ _ _ _ _ _ _ _ _ _ z) refl refl refl _ later) c.after_refusal.ensures

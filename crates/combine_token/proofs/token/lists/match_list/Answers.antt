@@ -1,0 +1,84 @@
+use Rattle.std.proofs.Common.{arith, refl, sym, ◌∙◌, lt-ltb, le-ltb}
+use Rattle.std.proofs.lemmas.Bool.{false≢true}
+use Rattle.combine_base.proofs.Same.{passes_none, passes_more}
+use Rattle.combine_token.specs.Iterated.{iterated_ends_once}
+use Rattle.combine_token.proofs.Iterating.{reached, reached_more, stands_there, ends, ends_early}
+use Rattle.combine_token.proofs.Matches.{arrived_first, arrived_next}
+use Rattle.combine_token.proofs.ListAnswered.{match_accepted, match_refused, match_put_back, match_unread, match_asks, mismatch_told}
+use Rattle.combine_token.proofs.token.lists.match_list.Goals as goal
+
+pub items-init : goal.items-init
+items-init g c =
+    let i = c.into_iter-item-iterator.ensures.into_iter_gives in
+    let z = c.in-Ok-pass_over.ensures.gave in
+    let x = c.requires.list.ready _ _ c.in-Ok.ensures.cases c.into_iter-items.ensures.into_iter_gives in
+    let y = c.in-Ok-pass_over.ensures.left in
+    record {
+      passes = passes_none _ _;
+      cleared = c.begin-matched.ensures.left;
+      reached = rw i (reached _ _ _ _ _ _ _ _ c.in-Ok.ensures.cases c.into_iter-items.ensures.into_iter_gives z);
+      few = rw i (omega (arith, x.2, y.2));
+      arrived = arrived_first _ _ _ _ _ _ _ _ _ _ _ (rw c.is_first.ensures at c.begin-matched.ensures.matched);
+    }
+
+pub returns-in-Err-pass_over-clause-answers : goal.returns-in-Err-pass_over-clause-answers
+returns-in-Err-pass_over-clause-answers g c =
+    let z = c.in-Err-pass_over.ensures.gave in
+    let a = arrived_first _ _ _ _ _ _ _ _ _ _ _ (rw c.is_first.ensures at c.begin-matched.ensures.matched) in
+    match_accepted _ _ _ _ _ _ _ _ _ _ a c.begin-matched.ensures.left _ (omega (arith, z.0)) (ends_early _ _ _ _ _ _ _ c.in-Ok.ensures.cases c.into_iter-items.ensures.into_iter_gives z.1) refl refl _ refl _ c.accepted.ensures
+
+pub returns-then-matched-gt0-clause-passes : goal.returns-then-matched-gt0-clause-passes
+returns-then-matched-gt0-clause-passes g c = passes_more _ _ _ _ _ _ c.items.invariant.passes c.uncons.ensures.passes
+
+pub returns-then-matched-gt0-clause-answers : goal.returns-then-matched-gt0-clause-answers
+returns-then-matched-gt0-clause-answers g c =
+    let i = c.items.invariant in
+    let n = c.if-not-cmp.ensures in
+    match_refused _ _ _ _ _ _ _ _ _ _ i.arrived i.cleared (_, stands_there _ _ _ _ _ _ _ _ i.reached c.in-Some.ensures.steps) _ _ _ (_, stands_there _ _ _ _ _ _ _ _ i.reached c.in-Some.ensures.steps, n) c.in-Ok-uncons.ensures.read.is _ (sym (lt-ltb 0 _ c.if-matched-gt0.true)) (mismatch_told _ _ _ _ _ c.mismatch-error.ensures) refl refl
+
+pub returns-then-not-cmp-clause-passes : goal.returns-then-not-cmp-clause-passes
+returns-then-not-cmp-clause-passes g c = passes_more _ _ _ _ _ _ c.items.invariant.passes (passes_more _ _ _ _ _ _ c.uncons.ensures.passes c.put_back.ensures.passes)
+
+pub returns-then-not-cmp-clause-answers : goal.returns-then-not-cmp-clause-answers
+returns-then-not-cmp-clause-answers g c =
+    let i = c.items.invariant in
+    let n = c.if-not-cmp.ensures in
+    let a = i.passes.resets in
+    let b = c.uncons.ensures.passes.resets in
+    let o = g.met.Input.ResetStream.lasts _ _ _ _ c.uncons.ensures.passes.marks (g.met.Input.ResetStream.lasts _ _ _ _ i.passes.marks c.checkpoint-start.ensures.stands) in
+    match_put_back _ _ _ _ _ _ _ _ _ _ i.arrived i.cleared (_, stands_there _ _ _ _ _ _ _ _ i.reached c.in-Some.ensures.steps) _ _ _ (_, stands_there _ _ _ _ _ _ _ _ i.reached c.in-Some.ensures.steps, n) c.in-Ok-uncons.ensures.read.is _ (sym (le-ltb _ _ c.if-matched-gt0.false)) _ o (omega arith) c.put_back.ensures.back
+
+pub returns-then-asks_for_more-clause-passes : goal.returns-then-asks_for_more-clause-passes
+returns-then-asks_for_more-clause-passes g c = passes_more _ _ _ _ _ _ c.items.invariant.passes c.uncons.ensures.passes
+
+pub returns-then-asks_for_more-clause-answers : goal.returns-then-asks_for_more-clause-answers
+returns-then-asks_for_more-clause-answers g c =
+    let i = c.items.invariant in
+    let k = c.asks_for_more.ensures.0 c.if-asks_for_more.true in
+    match_asks _ _ _ _ _ _ _ _ _ _ i.arrived (_, stands_there _ _ _ _ _ _ _ _ i.reached c.in-Some.ensures.steps) refl (rw k.0 at c.in-Err-uncons.ensures.read.is) k.1 _ (c.new_error-then-asks_for_more.ensures.kind ∙ k.0)
+
+pub returns-in-Err-uncons-clause-passes : goal.returns-in-Err-uncons-clause-passes
+returns-in-Err-uncons-clause-passes g c = passes_more _ _ _ _ _ _ c.items.invariant.passes c.uncons.ensures.passes
+
+pub returns-in-Err-uncons-clause-answers : goal.returns-in-Err-uncons-clause-answers
+returns-in-Err-uncons-clause-answers g c =
+    let i = c.items.invariant in
+    match_unread _ _ _ _ _ _ _ _ _ _ i.arrived i.cleared (_, stands_there _ _ _ _ _ _ _ _ i.reached c.in-Some.ensures.steps) _ refl _ _ c.in-Err-uncons.ensures.read.is i.passes.reads (λ z. false≢true (sym c.if-asks_for_more.false ∙ c.asks_for_more.ensures.1 z)) c.no_more.ensures
+
+pub items-preserved : goal.items-preserved
+items-preserved g c =
+    let i = c.items.invariant in
+    let n = c.if-not-cmp.ensures in
+    let s = c.in-Some.ensures.steps in
+    record {
+      passes = passes_more _ _ _ _ _ _ i.passes c.uncons.ensures.passes;
+      cleared = i.cleared;
+      reached = reached_more _ _ _ _ _ _ _ _ i.reached s;
+      few = let o = c.in-Some.ensures.goes.on c.items.iterator.1 in let f = i.few in omega (arith, o.2);
+      arrived = arrived_next _ _ _ _ _ _ (iterated_ends_once _ _ _ _ _ _ _ c.requires.list) _ _ _ _ _ _ _ _ _ i.arrived _ (_, stands_there _ _ _ _ _ _ _ _ i.reached s, n) (_, stands_there _ _ _ _ _ _ _ _ i.reached s) c.in-Ok-uncons.ensures.read.is;
+    }
+
+pub returns-clause-answers : goal.returns-clause-answers
+returns-clause-answers g c =
+    let i = c.items.invariant in
+    match_accepted _ _ _ _ _ _ _ _ _ _ i.arrived i.cleared _ (omega arith) (ends _ _ _ _ _ _ _ i.reached c.in-None.ensures.steps) refl refl _ refl _ c.accepted-2.ensures

@@ -1,0 +1,13 @@
+pub mod Alternatives
+pub mod Choice
+pub mod Given
+pub mod Iterated
+pub mod ListAnswers
+pub mod Listed
+pub mod OneToken
+pub mod Optional
+pub mod Or
+pub mod Stateless
+pub mod TokenListLaws
+pub mod TokenLists
+pub mod TokenParsers

@@ -1,0 +1,103 @@
+//! Lists of tokens, matched one by one.
+ghost use Rattle.std.specs.Prelude.{◌≡◌};
+ghost use Rattle.std.specs.Option.{option_copied};
+ghost use Rattle.combine_base.specs.Answer.{Answers, world};
+ghost use Rattle.combine_base.specs.Streams.{Passes};
+ghost use Rattle.combine_token.specs.Iterated.{IsIterated, iterated};
+ghost use Rattle.combine_token.specs.ListAnswers.{expecting};
+ghost use Rattle.combine_token.specs.TokenLists.{token_list};
+ghost use Rattle.combine_token.specs.TokenParsers.{matched_before, tokens_of};
+
+mod answers;
+pub mod types;
+
+use answers::{accepted, asks_for_more, mismatch, no_more, pass_over, put_back};
+use combine_base::error::{Info, ParseResult};
+use combine_base::parser::ParseMode;
+use combine_base::stream::{Kind, Stream};
+use std::marker::PhantomData;
+use types::{Tokens, TokensState};
+
+/// A parser of the tokens of a list, one after another; its value is a clone of the list.
+///
+/// `cmp` is given each item of the list with the token at its place, and says whether the token fits.
+/// `expected` is what errors say was expected.
+/// A token that doesn't fit, or the end of ended input, refuses: peeked where no token was matched before it, else committed. The end of an open piece asks for more. An empty list is accepted peeked.
+/// A clone of the list that finds no memory is the fault `Memory`.
+///
+/// An iterator of each clone of the list gives equally many items, fewer than 2^64.
+///
+/// Unlike the crate's, `cmp` is an `Fn`, and `expected` is owned and turned into an `Info` here.
+pub fn tokens<C, E, T, Input: Stream>(cmp: C, expected: E, tokens: T) -> Tokens<C, T, Input>
+where
+    C: Fn(T::Item, Input::Token) -> bool,
+    E: Into<Info<Input::Token, Input::Range>>,
+    T: Clone + IntoIterator,
+    ensures { (e : _) × E.converts expected e × (result ≡ tokens_of cmp e tokens) }
+{
+    Tokens {
+        cmp,
+        expected: expected.into(),
+        tokens,
+        reads: PhantomData,
+    }
+}
+
+/// One call of a parser of a list of tokens, as `tokens` makes one (our own: parsers of fixed lists stand on it).
+///
+/// `expected` is what the error of a committed mismatch says was expected, if it says so.
+#[inline(always)]
+pub fn match_list<C, T, Input: Stream, M: ParseMode>(
+    cmp: &C,
+    list: &T,
+    expected: Option<&Info<Input::Token, Input::Range>>,
+    mode: M,
+    input: &mut Input,
+    state: &mut TokensState,
+) -> ParseResult<T, Input::Error>
+where
+    C: Fn(T::Item, Input::Token) -> bool,
+    T: Clone + IntoIterator,
+    T::Item: Drop,
+    requires callable { C.IsAlwaysCallable cmp.now }
+    requires list { IsIterated T.is_clone T.into_iter_gives T.IntoIter.next_gives list.now T.IntoIter.can_next T.IntoIter.remaining }
+    ensures passes { Passes (Input.marks input.old) (Input.marks input.new) (Input.failures input.old) (Input.failures input.new) }
+    ensures answers { Answers (world Input.step Input.Error.seen Input.steady (λ s. matched_before s ≡ 0))
+        (token_list (iterated T.is_clone T.into_iter_gives T.IntoIter.next_gives list.now (λ x t b. C.post cmp.now x t b)) (T.is_clone list.now) matched_before (T.is_infallible list.now) (λ is. is ≡ expecting (option_copied expected.entry)))
+        (record { first = M.first mode; state = state.old; left = state.new; old = Input.view input.old; new = Input.view input.new; before = Input.failures input.old; after = Input.failures input.new })
+        result }
+{
+    let mut matched = state.begin(!mode.is_first());
+    let start = input.checkpoint();
+    let position = input.position();
+    let mut items = match list.clone() {
+        Ok(list) => list.into_iter(),
+        Err(_refused) => return ParseResult::CommitErr(input.new_error(Kind::Memory, position)),
+    };
+    match pass_over(&mut items, matched) {
+        Ok(()) => {}
+        Err(count) => return accepted(list, count > 0, position, input),
+    }
+    'items: for item in items {
+        match input.uncons() {
+            Ok(token) => {
+                if !cmp(item, token) {
+                    if matched > 0 {
+                        let error = mismatch(token, expected, position, input);
+                        return ParseResult::CommitErr(error);
+                    }
+                    return put_back(start, position, input);
+                }
+            }
+            Err(kind) => {
+                if asks_for_more(kind, input) {
+                    state.matched = matched;
+                    return ParseResult::CommitErr(input.new_error(kind, position));
+                }
+                return no_more(matched > 0, kind, position, input);
+            }
+        }
+        matched += 1;
+    }
+    accepted(list, matched > 0, position, input)
+}

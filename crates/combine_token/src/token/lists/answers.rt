@@ -1,0 +1,113 @@
+//! How the items of a list are passed over, and how its match is answered.
+ghost use Rattle.std.specs.Prelude.{◌≡◌, ◌↔◌, ◌+◌, ◌<◌, ◌≤◌, MatchResult, true};
+ghost use Rattle.std.specs.Iterator.{IsFinite, size};
+ghost use Rattle.std.specs.Option.{option_copied};
+ghost use Rattle.combine_base.specs.Streams.{Passes};
+ghost use Rattle.combine_token.specs.Iterated.{Gave, GaveAll};
+ghost use Rattle.combine_token.specs.ListAnswers.{Accepted, FindsNone, Mismatch, PutBack};
+
+use combine_base::error::{Info, ParseError, ParseResult, Tracked};
+use combine_base::refusal::{add_unexpected_token, no_token};
+use combine_base::stream::{Kind, Stream};
+
+/// Takes the first `n` items, or answers how many there were, if there were fewer.
+#[inline]
+pub(super) fn pass_over<I: Iterator>(items: &mut I, n: usize) -> Result<(), usize>
+where
+    I::Item: Drop,
+    requires can { I.can_next items.old }
+    requires ends { IsFinite (I.remaining items.old) }
+    ensures gave { MatchResult result (λ _. Gave I.next_gives n items.old items.new) (λ m. (m < n) × GaveAll I.next_gives m items.old) }
+    ensures left { MatchResult result (λ _. I.can_next items.new × IsFinite (I.remaining items.new) × (n + size (I.remaining items.new) ≤ size (I.remaining items.old))) (λ _. Unit {0}) }
+{
+    'items: for passed in 0..n {
+        let Some(_item) = items.next() else {
+            return Err(passed);
+        };
+    }
+    Ok(())
+}
+
+/// An acceptance with a clone of the list.
+#[inline]
+pub(super) fn accepted<T: Clone, Input: Stream>(
+    tokens: &T,
+    committed: bool,
+    position: Input::Position,
+    input: &Input,
+) -> ParseResult<T, Input::Error>
+    ensures { Accepted Input.Error.seen.kind (T.is_clone tokens.now) (T.is_infallible tokens.now) committed result }
+{
+    match tokens.clone() {
+        Ok(value) => {
+            if committed {
+                return ParseResult::CommitOk(value);
+            }
+            ParseResult::PeekOk(value)
+        }
+        Err(_refused) => ParseResult::CommitErr(input.new_error(Kind::Memory, position)),
+    }
+}
+
+/// The error of a refusal at a token that doesn't fit.
+pub(super) fn mismatch<Input: Stream>(
+    token: Input::Token,
+    expected: Option<&Info<Input::Token, Input::Range>>,
+    position: Input::Position,
+    input: &Input,
+) -> Input::Error
+    ensures { Mismatch Input.Error.seen position token (option_copied expected.entry) result }
+{
+    let mut error = input.new_error(Kind::Refused, position);
+    add_unexpected_token(&mut error, token);
+    if let Some(info) = expected {
+        error.add_expected(info);
+    }
+    error
+}
+
+/// A peeked refusal, with the stream put back to where the call began.
+pub(super) fn put_back<O, Input: Stream>(
+    start: Input::Checkpoint,
+    position: Input::Position,
+    input: &mut Input,
+) -> ParseResult<O, Input::Error>
+    ensures back { PutBack Input.steady Input.Error.seen.kind (Input.stands input.old start) (Input.view input.old) (Input.view input.new) (Input.failures input.old) (Input.failures input.new) result }
+    ensures passes { Passes (Input.marks input.old) (Input.marks input.new) (Input.failures input.old) (Input.failures input.new) }
+{
+    if let Err(kind) = input.reset(start) {
+        return ParseResult::CommitErr(input.new_error(kind, position));
+    }
+    ParseResult::PeekErr(Tracked::from(input.new_error(Kind::Refused, position)))
+}
+
+/// Whether a read found the end of open input.
+#[inline]
+pub(super) fn asks_for_more<Input: Stream>(why: Kind, input: &Input) -> bool
+    ensures { (result ≡ true) ↔ ((why ≡ Kind.End) × ((Input.view input.now).is_open ≡ true)) }
+{
+    why == Kind::End && input.is_partial()
+}
+
+/// What is answered where a read gave no token: at the end of ended input a refusal.
+pub(super) fn no_more<O, Input: Stream>(
+    committed: bool,
+    why: Kind,
+    position: Input::Position,
+    input: &Input,
+) -> ParseResult<O, Input::Error>
+    ensures { FindsNone Input.Error.seen.kind Input.Error.seen.frugal (Input.view input.now).is_open committed why result }
+{
+    match no_token::<O, Input>(input, why, position) {
+        ParseResult::PeekErr(refusal) => {
+            if committed {
+                let Tracked { error, offset: _ } = refusal;
+                return ParseResult::CommitErr(error);
+            }
+            ParseResult::PeekErr(refusal)
+        }
+        ParseResult::CommitErr(error) => ParseResult::CommitErr(error),
+        ParseResult::CommitOk(_) => unreachable!(),
+        ParseResult::PeekOk(_) => unreachable!(),
+    }
+}

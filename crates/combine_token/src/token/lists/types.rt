@@ -1,0 +1,125 @@
+//! The parsers of lists of tokens, and their states.
+ghost use Rattle.std.specs.Prelude.{◌≡◌, not, if◌then◌else◌, MatchResult};
+ghost use Rattle.combine_base.specs.Errors.{Only};
+ghost use Rattle.combine_base.specs.Items.{Expected, shown};
+ghost use Rattle.combine_token.specs.ListAnswers.{NoText};
+ghost use Rattle.combine_token.specs.TokenLists.{ComparesOnce, token_list};
+ghost use Rattle.combine_token.specs.TokenListLaws.{token_list_is_meaning, token_list_means_one};
+ghost use Rattle.combine_token.specs.Iterated.{IsIterated, iterated, iterated_ends_once};
+
+use crate::token::lists::match_list;
+use combine_base::error::{ErrorOffset, Info, ParseError, ParseResult, Tracked};
+use combine_base::parser::{ParseMode, Parser};
+use combine_base::stream::Stream;
+use std::alloc::AllocError;
+use std::marker::PhantomData;
+
+/// The parser that `tokens` makes.
+///
+/// Its errors at a committed mismatch say which token stands there and what was expected, at the position where the call began.
+/// On need of more nothing is left unread: the state keeps how many tokens were matched.
+/// It has no parameter for what is expected, unlike the crate's.
+#[derive(Drop)]
+pub struct Tokens<C, T, Input: Stream> {
+    pub(super) cmp: C,
+    pub(super) expected: Info<Input::Token, Input::Range>,
+    pub(super) tokens: T,
+    pub(super) reads: PhantomData<Input>,
+}
+
+impl<C: Clone, T: Clone, Input: Stream> Clone for Tokens<C, T, Input> {
+    ghost is_clone = { λ p q. C.is_clone p.cmp q.cmp × T.is_clone p.tokens q.tokens × (shown q.expected ≡ shown p.expected) };
+
+    ghost is_infallible = { λ p. C.is_infallible p.cmp × T.is_infallible p.tokens × NoText p.expected };
+
+    fn clone(&self) -> Result<Self, AllocError> {
+        Ok(Tokens {
+            cmp: self.cmp.clone()?,
+            expected: copied(&self.expected)?,
+            tokens: self.tokens.clone()?,
+            reads: PhantomData,
+        })
+    }
+}
+
+/// An equal info; the clone of a text takes memory.
+fn copied<T: Copy, R: Copy>(info: &Info<T, R>) -> Result<Info<T, R>, AllocError>
+    ensures { MatchResult result (λ i. shown i ≡ shown info.now) (λ _. NoText info.now → ⊥) }
+{
+    match info {
+        Info::Token(token) => Ok(Info::Token(*token)),
+        Info::Range(range) => Ok(Info::Range(*range)),
+        Info::Static(text) => Ok(Info::Static(*text)),
+        Info::Owned(text) => Ok(Info::Owned(text.clone()?)),
+        Info::More(missing) => Ok(Info::More(*missing)),
+    }
+}
+
+/// How many items of a list were matched in earlier pieces; none by default.
+#[derive(Default, Drop)]
+pub struct TokensState {
+    pub(super) matched: usize,
+}
+
+impl TokensState {
+    /// Hands out how many items were matched before, if the call resumes, and keeps none.
+    pub(super) fn begin(&mut self, resumes: bool) -> usize
+        ensures matched { result ≡ (if resumes then self.old.matched else 0) }
+        ensures left { self.new.matched ≡ 0 }
+    {
+        let matched = if resumes { self.matched } else { 0 };
+        self.matched = 0;
+        matched
+    }
+}
+
+impl<Input: Stream, C: Fn(T::Item, Input::Token) -> bool, T: Clone + IntoIterator> Parser<Input>
+    for Tokens<C, T, Input>
+where
+    T::Item: Drop,
+{
+    type Output = T;
+
+    type PartialState = TokensState;
+
+    ghost lawful = { λ p. C.IsAlwaysCallable p.cmp × IsIterated T.is_clone T.into_iter_gives T.IntoIter.next_gives p.tokens T.IntoIter.can_next T.IntoIter.remaining };
+
+    ghost determined = { λ p. ComparesOnce (iterated T.is_clone T.into_iter_gives T.IntoIter.next_gives p.tokens (λ x t b. C.post p.cmp x t b)) };
+
+    ghost valid = { λ s. Unit {0} };
+
+    ghost meaning = { λ p. token_list (iterated T.is_clone T.into_iter_gives T.IntoIter.next_gives p.tokens (λ x t b. C.post p.cmp x t b)) (T.is_clone p.tokens) (λ s. s.matched) (T.is_infallible p.tokens) (Only (Expected (shown p.expected))) };
+
+    ghost parts = { λ _. 1 };
+
+    ghost default_valid = { λ s d. tt };
+
+    ghost laws = { λ p l. token_list_is_meaning _ _ _ _ _ _ _ (λ s d. d) };
+
+    ghost single = { λ p l d. token_list_means_one (λ _. Unit {0}) _ _ _ _ _ _ (iterated_ends_once _ _ _ _ _ _ _ l.1) d };
+
+    #[inline(always)]
+    fn parse_mode<M: ParseMode>(
+        &mut self,
+        mode: M,
+        input: &mut Input,
+        state: &mut TokensState,
+    ) -> ParseResult<T, Input::Error> {
+        match_list(
+            &self.cmp,
+            &self.tokens,
+            Some(&self.expected),
+            mode,
+            input,
+            state,
+        )
+    }
+
+    fn add_error(&mut self, error: &mut Tracked<Input::Error>) {
+        error.error.add_expected(&self.expected);
+    }
+
+    fn parser_count(&self) -> ErrorOffset {
+        ErrorOffset(1)
+    }
+}

@@ -1,0 +1,74 @@
+//! The reading of one token, of which the parsers of single tokens are made.
+ghost use Rattle.combine_base.specs.Answer.{world};
+ghost use Rattle.combine_base.specs.Streams.{Passes};
+ghost use Rattle.combine_token.specs.OneToken.{satisfied, PutBack, ReadsToken, ReadsTokenIf};
+
+use combine_base::error::{ParseResult, Tracked};
+use combine_base::refusal::no_token;
+use combine_base::stream::{Kind, Stream};
+
+/// Reads what comes first, a token (`Some`) or the end of an ended list (`None`), under a test (our own: the crate has no such call).
+///
+/// A token that the test answers a value for is taken, and accepted committed with that value; such an end is accepted peeked. What the test answers `None` for is refused peeked, a token being put back. The end of an open list is need of more, and nothing is taken then.
+///
+/// A failed read or reset is the fault `Read` or `Reset`. Where an error keeps items, one that finds no memory for "end of input" is the fault `Memory`.
+#[inline(always)]
+pub fn one_token<B, Input: Stream, F: FnOnce(Option<Input::Token>) -> Option<B>>(
+    test: F,
+    input: &mut Input,
+) -> ParseResult<B, Input::Error>
+    requires { F.IsAlwaysCallable test }
+    ensures passes { Passes (Input.marks input.old) (Input.marks input.new) (Input.failures input.old) (Input.failures input.new) }
+    ensures reads { ReadsToken (world Input.step Input.Error.seen Input.steady ⟦<() as Default>⟧.is_default) (F.post test) (Input.view input.old) (Input.view input.new) (Input.failures input.old) (Input.failures input.new) result }
+    ensures back { PutBack (Input.view input.old) (Input.view input.new) result }
+{
+    let start = input.checkpoint();
+    let position = input.position();
+    match input.uncons() {
+        Ok(token) => match test(Some(token)) {
+            Some(value) => ParseResult::CommitOk(value),
+            None => match input.reset(start) {
+                Ok(()) => ParseResult::PeekErr(Tracked::from(input.new_error(
+                    Kind::Refused,
+                    position,
+                ))),
+                Err(kind) => ParseResult::CommitErr(input.new_error(kind, position)),
+            },
+        },
+        Err(Kind::End) => {
+            if input.is_partial() {
+                return ParseResult::CommitErr(input.new_error(Kind::End, position));
+            }
+            match test(None) {
+                Some(value) => ParseResult::PeekOk(value),
+                None => no_token(input, Kind::End, position),
+            }
+        }
+        Err(kind) => ParseResult::CommitErr(input.new_error(kind, position)),
+    }
+}
+
+/// As `one_token`, for a token that the predicate holds of (our own). Another token, and the end of an ended list, is refused peeked.
+#[inline(always)]
+pub fn token_if<Input: Stream, F: FnOnce(Input::Token) -> bool>(
+    predicate: F,
+    input: &mut Input,
+) -> ParseResult<Input::Token, Input::Error>
+    requires { F.IsAlwaysCallable predicate }
+    ensures passes { Passes (Input.marks input.old) (Input.marks input.new) (Input.failures input.old) (Input.failures input.new) }
+    ensures reads { ReadsTokenIf (world Input.step Input.Error.seen Input.steady ⟦<() as Default>⟧.is_default) (F.post predicate) (Input.view input.old) (Input.view input.new) (Input.failures input.old) (Input.failures input.new) result }
+    ensures back { PutBack (Input.view input.old) (Input.view input.new) result }
+{
+    one_token(
+        |first: Option<Input::Token>| -> Option<Input::Token>
+            requires { F.IsAlwaysCallable predicate }
+            ensures { satisfied (F.post predicate) first result }
+        {
+            match first {
+                Some(token) => { if predicate(token) { Some(token) } else { None } }
+                None => None,
+            }
+        },
+        input,
+    )
+}

@@ -1,0 +1,226 @@
+//! The parsers that the functions of `token` answer.
+ghost use Rattle.std.specs.Prelude.{◌≡◌, true};
+ghost use Rattle.combine_base.specs.Errors.{Nothing, Only};
+ghost use Rattle.combine_base.specs.Items.{Expected, OfToken};
+ghost use Rattle.combine_token.specs.OneToken.{IsPredicate, of_function, of_function_is_predicate, satisfied, satisfied_is_test, takes_one, takes_one_is_meaning, takes_one_means_one};
+ghost use Rattle.combine_token.specs.Given.{gives, gives_is_meaning, gives_means_one};
+
+pub use crate::token::lists::types::Tokens;
+use crate::token::reading::token_if;
+use combine_base::error::{ErrorOffset, Info, ParseError, ParseResult, Tracked};
+use combine_base::parser::{ParseMode, Parser};
+use combine_base::stream::{Kind, Stream, StreamOnce};
+use std::marker::PhantomData;
+
+/// The parser of [`any`](crate::token::any).
+#[derive(Drop)]
+#[derive_where(Clone, Copy)]
+pub struct Any<Input> {
+    pub(super) reads: PhantomData<Input>,
+}
+
+/// The parser of [`satisfy`](crate::token::satisfy).
+#[derive(Drop)]
+#[derive_where(Clone, Copy; F)]
+pub struct Satisfy<Input, F> {
+    pub(super) predicate: F,
+    pub(super) reads: PhantomData<Input>,
+}
+
+/// The parser of [`token`](crate::token::token). It is `Clone` and, unlike the crate's, not `Copy`.
+#[derive(Drop)]
+#[derive_where(Clone)]
+pub struct Token<Input: StreamOnce>
+where
+    Input::Token: PartialEq,
+{
+    pub(super) token: Input::Token,
+    pub(super) reads: PhantomData<Input>,
+}
+
+/// The parser of [`value`](crate::token::value).
+#[derive(Drop)]
+#[derive_where(Clone, Copy; T)]
+pub struct Value<Input, T> {
+    pub(super) value: T,
+    pub(super) reads: PhantomData<Input>,
+}
+
+impl<Input: Stream> Parser<Input> for Any<Input> {
+    type Output = Input::Token;
+
+    type PartialState = ();
+
+    ghost lawful = { λ p. Unit {0} };
+
+    ghost determined = { λ p. Unit {0} };
+
+    ghost valid = { λ s. Unit {0} };
+
+    ghost meaning = { λ p. takes_one (satisfied (of_function (λ t. true))) (Unit {0}) Nothing };
+
+    ghost parts = { λ p. 1 };
+
+    #[inline(always)]
+    fn parse_mode<M: ParseMode>(
+        &mut self,
+        mode: M,
+        input: &mut Input,
+        state: &mut (),
+    ) -> ParseResult<Input::Token, Input::Error> {
+        token_if(
+            |_: Input::Token| -> bool
+                ensures { result ≡ true }
+            { true },
+            input,
+        )
+    }
+
+    #[inline]
+    fn add_error(&mut self, error: &mut Tracked<Input::Error>) {}
+
+    #[inline]
+    fn parser_count(&self) -> ErrorOffset {
+        ErrorOffset(1)
+    }
+
+    ghost default_valid = { λ s d. tt };
+
+    ghost laws = { λ p l. takes_one_is_meaning (satisfied (of_function (λ t. true))) _ _ _ _ };
+
+    ghost single = { λ p l d. takes_one_means_one (satisfied (of_function (λ t. true))) _ _ _ (satisfied_is_test _ (of_function_is_predicate (λ t. true))) };
+}
+
+impl<Input: Stream, F: Fn(Input::Token) -> bool> Parser<Input> for Satisfy<Input, F> {
+    type Output = Input::Token;
+
+    type PartialState = ();
+
+    ghost lawful = { λ p. F.IsAlwaysCallable p.predicate };
+
+    ghost determined = { λ p. IsPredicate (F.post p.predicate) };
+
+    ghost valid = { λ s. Unit {0} };
+
+    ghost meaning = { λ p. takes_one (satisfied (F.post p.predicate)) (Unit {0}) Nothing };
+
+    ghost parts = { λ p. 1 };
+
+    #[inline(always)]
+    fn parse_mode<M: ParseMode>(
+        &mut self,
+        mode: M,
+        input: &mut Input,
+        state: &mut (),
+    ) -> ParseResult<Input::Token, Input::Error> {
+        token_if(&self.predicate, input)
+    }
+
+    #[inline]
+    fn add_error(&mut self, error: &mut Tracked<Input::Error>) {}
+
+    #[inline]
+    fn parser_count(&self) -> ErrorOffset {
+        ErrorOffset(1)
+    }
+
+    ghost default_valid = { λ s d. tt };
+
+    ghost laws = { λ p l. takes_one_is_meaning (satisfied (F.post p.predicate)) _ _ _ _ };
+
+    ghost single = { λ p l d. takes_one_means_one (satisfied (F.post p.predicate)) _ _ _ (satisfied_is_test _ d) };
+}
+
+impl<Input: Stream> Parser<Input> for Token<Input>
+where
+    Input::Token: PartialEq,
+{
+    type Output = Input::Token;
+
+    type PartialState = ();
+
+    ghost lawful = { λ p. Unit {0} };
+
+    ghost determined = { λ p. Unit {0} };
+
+    ghost valid = { λ s. Unit {0} };
+
+    ghost meaning = { λ p. takes_one (satisfied (of_function (λ t. Input.Token.eq t p.token))) (Unit {0}) (Only (Expected (OfToken p.token))) };
+
+    ghost parts = { λ p. 1 };
+
+    #[inline(always)]
+    fn parse_mode<M: ParseMode>(
+        &mut self,
+        mode: M,
+        input: &mut Input,
+        state: &mut (),
+    ) -> ParseResult<Input::Token, Input::Error> {
+        let expected = self.token;
+        token_if(
+            move |token: Input::Token| -> bool
+                ensures { result ≡ Input.Token.eq token expected }
+            { token == expected },
+            input,
+        )
+    }
+
+    #[inline]
+    fn add_error(&mut self, error: &mut Tracked<Input::Error>) {
+        error.error.add_expected(&Info::Token(self.token));
+    }
+
+    #[inline]
+    fn parser_count(&self) -> ErrorOffset {
+        ErrorOffset(1)
+    }
+
+    ghost default_valid = { λ s d. tt };
+
+    ghost laws = { λ p l. takes_one_is_meaning (satisfied (of_function (λ t. Input.Token.eq t p.token))) _ _ _ _ };
+
+    ghost single = { λ p l d. takes_one_means_one (satisfied (of_function (λ t. Input.Token.eq t p.token))) _ _ _ (satisfied_is_test _ (of_function_is_predicate (λ t. Input.Token.eq t p.token))) };
+}
+
+impl<Input: Stream, T: Clone> Parser<Input> for Value<Input, T> {
+    type Output = T;
+
+    type PartialState = ();
+
+    ghost lawful = { λ p. Unit {0} };
+
+    ghost determined = { λ p. Unit {0} };
+
+    ghost valid = { λ s. Unit {0} };
+
+    ghost meaning = { λ p. gives (λ at v. T.is_clone p.value v) (T.is_infallible p.value) Nothing };
+
+    ghost parts = { λ p. 1 };
+
+    #[inline(always)]
+    fn parse_mode<M: ParseMode>(
+        &mut self,
+        mode: M,
+        input: &mut Input,
+        state: &mut (),
+    ) -> ParseResult<T, Input::Error> {
+        match self.value.clone() {
+            Ok(value) => ParseResult::PeekOk(value),
+            Err(_) => ParseResult::CommitErr(input.new_error(Kind::Memory, input.position())),
+        }
+    }
+
+    #[inline]
+    fn add_error(&mut self, error: &mut Tracked<Input::Error>) {}
+
+    #[inline]
+    fn parser_count(&self) -> ErrorOffset {
+        ErrorOffset(1)
+    }
+
+    ghost default_valid = { λ s d. tt };
+
+    ghost laws = { λ p l. gives_is_meaning (λ at v. T.is_clone p.value v) _ _ _ _ };
+
+    ghost single = { λ p l d. gives_means_one (λ at v. T.is_clone p.value v) _ _ _ };
+}

@@ -1,0 +1,41 @@
+//! Reads a message from standard input piece by piece, and writes a line for each piece that needs more and one for the decision.
+//!
+//! The arguments are up to 64 piece sizes in bytes. The status is 0 where a message is accepted and 1 where it is refused; where the program gives up it is 2, with one line on standard error.
+#![tactic(auto)]
+
+use feedline_core::{Fault, read_args, read_input, run};
+use std::env;
+use std::process::ExitCode;
+
+fn main(rt: HostRuntime) -> ExitCode {
+    match answer(&rt) {
+        Ok(true) => ExitCode::SUCCESS,
+        Ok(false) => ExitCode::FAILURE,
+        Err(fault) => {
+            let _unwritten = eprintln!(rt; "{fault}");
+            ExitCode::from(2)
+        }
+    }
+}
+
+/// Whether the message of standard input is accepted.
+fn answer(rt: &HostRuntime) -> Result<bool, Fault> {
+    let mut words: Vec<String> = Vec::new(rt.alloc());
+    let Ok(given) = env::args(rt) else {
+        return Err(Fault::Argument);
+    };
+    for word in given.skip(1) {
+        if words.push(word).is_err() {
+            return Err(Fault::Memory);
+        }
+    }
+    let mut texts: Vec<&str> = Vec::new(rt.alloc());
+    for word in &words {
+        if texts.push(word.as_str()).is_err() {
+            return Err(Fault::Memory);
+        }
+    }
+    let args = read_args(rt.alloc(), &texts)?;
+    let input = read_input(rt.alloc(), rt.stdin())?;
+    run(rt.alloc(), &args.sizes, &input, &mut rt.stdout())
+}

@@ -1,0 +1,11 @@
+use Rattle.std.proofs.Common.{take, map}
+use Rattle.combine_base.proofs.Pieces.{SoFar}
+use Rattle.feedline_core.proofs.Running.{Written}
+use Rattle.feedline_core.proofs.feeding.drive.Given as goal
+
+-- more was asked for after each piece so far, and a line written
+abbrev pub invariant-pieces : goal.invariant-pieces
+invariant-pieces g l = record {
+  far : SoFar g.P.Parser.meaning (g.P.Parser.meaning l.fn.parser) (take l.piece-index (map (λ p. p.now) l.pieces)) l.session;
+  written : Written (g.W.Write.contents l.fn.out) (g.W.Write.contents l.out) l.piece-index;
+}

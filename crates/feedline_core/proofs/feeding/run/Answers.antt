@@ -1,0 +1,18 @@
+use Rattle.std.proofs.Common.{map, ap, subst, ◌∙◌}
+use Rattle.combine_repeat.specs.Built.{many1_of}
+use Rattle.feedline_core.specs.Runs.{Runs}
+use Rattle.feedline_core.specs.Messages.{message}
+use Rattle.feedline_core.proofs.feeding.run.Goals as goal
+
+pub returns : goal.returns
+returns g c =
+    let del = rw c.token-4.ensures at rw c.token-3.ensures at rw c.token-2.ensures at rw c.token.ensures at c.attempt-del.ensures in
+    let word = c.many1.ensures ∙ ap (λ p. many1_of c.args.alloc p) c.satisfy.ensures in
+    let delete = rw c.token-5.ensures at rw word at rw del at c.map-delete.ensures in
+    let key = c.many1-2.ensures ∙ ap (λ p. many1_of c.args.alloc p) c.satisfy-2.ensures in
+    let digits = c.many1-3.ensures ∙ ap (λ p. many1_of c.args.alloc p) c.satisfy-3.ensures in
+    let set = rw c.token-7.ensures at rw digits at rw c.token-6.ensures at rw key at c.map-set.ensures in
+    let parser = rw set at rw delete at c.or.ensures in
+    let drove = rw parser at c.drive.ensures in
+    let pieces = ap (map (λ p. p.now)) c.deref.ensures.value ∙ c.in_ok-pieces.ensures in
+    subst (λ ps. Runs message ps (g.W.Write.contents c.args.out.now) (g.W.Write.contents c.drive.new.out) c.drive.result) pieces drove

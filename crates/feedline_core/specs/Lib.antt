@@ -1,0 +1,5 @@
+pub mod Sizes
+pub mod Cut
+pub mod Lines
+pub mod Runs
+pub mod Messages

@@ -1,0 +1,55 @@
+-- the messages that are read: `del WORD;` or `WORD=DIGITS;`, by the meanings of the parsers that they are composed of
+use Rattle.std.specs.Prelude.{ℕ, ◌≡◌, ◌+◌, nat_eq, [], ◌∷◌, ◌++◌, Bool}
+use Rattle.std.specs.Char.{is_ascii_digit, is_ascii_lowercase}
+use Rattle.std.specs.Global.{Vec}
+use Rattle.combine_base.specs.Meaning.{Meaning, Reading}
+use Rattle.combine_base.specs.Mapped.{mapped}
+use Rattle.combine_base.specs.Errors.{Nothing}
+use Rattle.combine_base.specs.Tuples.{tuple_3, tuple_4}
+use Rattle.combine_token.specs.Choice.{Either, refused}
+use Rattle.combine_token.specs.OneToken.{of_function, satisfied, takes_one}
+use Rattle.combine_base.specs.declared.sequence.SequenceState.{SequenceState}
+use Rattle.combine_base.specs.declared.sequence.PartialState4.{PartialState4}
+use Rattle.combine_map.specs.Attempt.{attempted}
+use Rattle.combine_map.specs.declared.combinator.TryState.{TryState}
+use Rattle.combine_repeat.specs.Repetition.{appended, many1}
+use Rattle.combine_repeat.specs.declared.repeat.turns.TurnsState.{TurnsState}
+use Rattle.feedline_core.specs.declared.message.Message.{Message}
+use Rattle.feedline_core.specs.declared.message.Message.TheVariants.{Set, Delete}
+
+-- a position is the number of bytes before it
+abbrev pub step : ℕ → ℕ → ℕ
+step p b = p + 1
+
+-- one byte of which this holds
+abbrev pub byte_where : (ℕ → Bool) → Meaning ℕ ℕ (Unit {0}) ℕ (Unit {0})
+byte_where f = takes_one (satisfied (of_function f)) (Unit {0}) Nothing
+
+abbrev pub byte : ℕ → Meaning ℕ ℕ (Unit {0}) ℕ (Unit {0})
+byte b = byte_where (λ t. nat_eq t b)
+
+-- one or more such bytes, collected
+abbrev pub bytes_where : (ℕ → Bool) → Meaning ℕ ℕ (Unit {0}) (Vec ℕ) (TurnsState (Vec ℕ) (Unit {0}))
+bytes_where f = many1 step (appended (λ v. v.items) [] (λ bs b. bs ++ b ∷ []) ⊥) (byte_where f)
+
+abbrev pub word : Meaning ℕ ℕ (Unit {0}) (Vec ℕ) (TurnsState (Vec ℕ) (Unit {0}))
+word = bytes_where is_ascii_lowercase
+
+abbrev pub digits : Meaning ℕ ℕ (Unit {0}) (Vec ℕ) (TurnsState (Vec ℕ) (Unit {0}))
+digits = bytes_where is_ascii_digit
+
+-- the bytes of `del `, all or none of which are taken
+abbrev pub del : Meaning ℕ ℕ (Unit {0}) (ℕ × ℕ × ℕ × ℕ) (TryState (PartialState4 (SequenceState (Unit {0}) (Unit {0})) (SequenceState (record { 0 : ℕ }) (Unit {0})) (SequenceState (ℕ × ℕ) (Unit {0})) (SequenceState (ℕ × ℕ × ℕ) (Unit {0}))))
+del = attempted step (tuple_4 step (byte 100) (byte 101) (byte 108) (byte 32))
+
+-- `del WORD;`
+abbrev pub delete : Reading ℕ ℕ Message
+delete = (mapped (tuple_3 step del word (byte 59)) (λ parts m. m ≡ Delete parts.1)).whole
+
+-- `WORD=DIGITS;`
+abbrev pub set : Reading ℕ ℕ Message
+set = (mapped (tuple_4 step word (byte 61) digits (byte 59)) (λ parts m. m ≡ Set parts.0 parts.2)).whole
+
+-- the first of the two that isn't refused peeked
+abbrev pub message : Reading ℕ ℕ Message
+message = Either delete (Either set refused)

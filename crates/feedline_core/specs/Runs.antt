@@ -1,0 +1,51 @@
+-- what is written where an input is fed piece by piece to a parser of messages
+use Rattle.std.specs.Prelude.{ℕ, ◌≡◌, ◌⊎◌, List, [], ◌∷◌, ◌++◌, length, Bool, true, false, Option, Result, Ok, Err}
+use Rattle.std.specs.Io.KnownBytes.{Appends}
+use Rattle.combine_base.specs.Outcome.{Outcome, Accepted, Refused, Undecided}
+use Rattle.combine_base.specs.Meaning.{Reading}
+use Rattle.combine_base.specs.Pieces.{joined, Decides, Asked}
+use Rattle.combine_base.specs.declared.parser.answer.Answer.{Answer}
+use Rattle.combine_base.specs.declared.parser.answer.Answer.TheVariants as answers
+use Rattle.feedline_core.specs.Lines.{more_line, accepted_line, refused_line, decision_line}
+use Rattle.feedline_core.specs.declared.message.Message.{Message}
+use Rattle.feedline_core.specs.declared.fault.Fault.{Fault}
+use Rattle.feedline_core.specs.declared.fault.Fault.TheVariants as faults
+
+abbrev pub is_accepted : {V : Type 0} → Outcome V → Bool
+is_accepted (Accepted v n k) = true
+is_accepted (Refused k) = false
+is_accepted Undecided = false
+
+-- the line of an answer, and whether it accepts
+abbrev pub answer_line : {E : Type 0} → Answer Message E → List ℕ
+answer_line answers.More = []
+answer_line (answers.Accepted m taken committed) = accepted_line m taken
+answer_line (answers.Refused error committed) = refused_line committed
+
+abbrev pub answer_accepts : {E : Type 0} → Answer Message E → Bool
+answer_accepts answers.More = false
+answer_accepts (answers.Accepted m taken committed) = true
+answer_accepts (answers.Refused error committed) = false
+
+-- a line for each number of unread bytes
+abbrev pub more_lines : List ℕ → List ℕ
+more_lines [] = []
+more_lines (u ∷ us) = more_line u ++ more_lines us
+
+module _ (r : Reading ℕ ℕ Message) (pieces : List (List ℕ)) where
+  -- These lines: one for each piece at whose end, more being open, the reading is undecided, with a number of unread bytes; and then that of the outcome on the whole input, ended.
+  pub record Prints (text : List ℕ) (accepted : Bool) : Type 0 where
+    pub outcome : Outcome Message
+    pub decides : Decides r (joined pieces) outcome
+    pub unread : List ℕ
+    pub asked : Asked r pieces (length unread)
+    pub lines : text ≡ more_lines unread ++ decision_line outcome
+    pub accepts : accepted ≡ is_accepted outcome
+
+  abbrev pub ran : Option (List ℕ) → Option (List ℕ) → Result Bool Fault → Type 0
+  ran old new (Ok accepted) = (text : List ℕ) × Prints text accepted × Appends old new text
+  ran old new (Err why) = (why ≡ faults.Memory) ⊎ (why ≡ faults.Write)
+
+  -- those lines are written, or memory or the writer failed
+  pub record Runs (old new : Option (List ℕ)) (result : Result Bool Fault) : Type 0 where
+    pub is : ran old new result

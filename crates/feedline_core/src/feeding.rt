@@ -1,0 +1,144 @@
+//! Feeds an input piece by piece, and writes the lines.
+ghost use Rattle.std.specs.Prelude.{◌≡◌, [], true, false, MatchResult, map};
+ghost use Rattle.std.specs.Char.{is_ascii_digit, is_ascii_lowercase};
+ghost use Rattle.feedline_core.specs.Cut.{pieces_of};
+ghost use Rattle.feedline_core.specs.Messages.{message};
+ghost use Rattle.combine_base.specs.Sessions.{Feeds, Ends};
+ghost use Rattle.std.specs.Io.KnownBytes.{Appends};
+ghost use Rattle.feedline_core.specs.Runs.{Runs, answer_line, answer_accepts};
+
+use crate::fault::Fault;
+use crate::lines::{write_accepted, write_more, write_refused};
+use crate::message::Message;
+use crate::pieces::cut;
+use combine_base::error::UnexpectedParse;
+use combine_base::parser::{Answer, Parser, Session};
+use combine_base::stream::fed;
+use combine_map::combinator::{attempt, map};
+use combine_repeat::repeat::many1;
+use combine_token::choice::or;
+use combine_token::token::{satisfy, token};
+use std::alloc::Global;
+use std::io::Write;
+
+/// Reads the message of an input that is fed in pieces of these sizes, and then the rest as one piece: `del WORD;` or `WORD=DIGITS;`, where `WORD` is one or more of `a` to `z` and `DIGITS` one or more of `0` to `9`.
+///
+/// It stops at the first decision. It writes a line `more N` for each piece that needs more, with N bytes unread, and then the line of the decision; it answers whether that accepts. It answers `Memory` where a growth was refused and `Write` where a write failed; of what the writer then holds nothing is said.
+pub fn run<W: Write>(alloc: Global, sizes: &[u32], input: &[u8], out: &mut W) -> Result<bool, Fault>
+    ensures { Runs message (pieces_of sizes.now input.now) (W.contents out.old) (W.contents out.new) result }
+{
+    let pieces = cut(alloc, sizes, input)?;
+    let del = attempt((token(b'd'), token(b'e'), token(b'l'), token(b' ')));
+    let delete = map(
+        (del, many1(alloc, satisfy(is_letter)), token(b';')),
+        made_delete,
+    );
+    let set = map(
+        (
+            many1(alloc, satisfy(is_letter)),
+            token(b'='),
+            many1(alloc, satisfy(is_decimal)),
+            token(b';'),
+        ),
+        made_set,
+    );
+    drive(alloc, or(delete, set), &pieces, out)
+}
+
+fn is_letter(byte: u8) -> bool
+    ensures { result ≡ is_ascii_lowercase byte }
+{
+    byte.is_ascii_lowercase()
+}
+
+fn is_decimal(byte: u8) -> bool
+    ensures { result ≡ is_ascii_digit byte }
+{
+    byte.is_ascii_digit()
+}
+
+fn made_delete(parts: ((u8, u8, u8, u8), Vec<u8>, u8)) -> Message
+    ensures { result ≡ Message.Delete parts.1 }
+{
+    let (_del, word, _end) = parts;
+    Message::Delete { word }
+}
+
+fn made_set(parts: (Vec<u8>, u8, Vec<u8>, u8)) -> Message
+    ensures { result ≡ Message.Set parts.0 parts.2 }
+{
+    let (word, _equals, digits, _end) = parts;
+    Message::Set { word, digits }
+}
+
+/// Feeds the pieces and then the end until there is a decision, and writes a line for each piece that needs more and one for the decision. Answers whether that accepts.
+pub(crate) fn drive<P: Parser<fed::Stream<u8>, Output = Message> + Drop, W: Write>(
+    alloc: Global,
+    parser: P,
+    pieces: &[&[u8]],
+    out: &mut W,
+) -> Result<bool, Fault>
+    requires { P.lawful parser }
+    ensures { Runs (P.meaning parser).whole (map (λ p. p.now) pieces.now) (W.contents out.old) (W.contents out.new) result }
+{
+    let mut session = Session::new(alloc, parser);
+    'pieces: for piece in pieces {
+        match feed(&mut session, piece)? {
+            Answer::More => write_more(out, session.unread().len())?,
+            answer => return write_decision(out, &answer),
+        }
+    }
+    let answer = end(&mut session)?;
+    write_decision(out, &answer)
+}
+
+/// Feeds a piece. A session of fewer than 2^64 bytes that is still running gives no answer for want of memory alone.
+fn feed<P: Parser<fed::Stream<u8>>>(
+    session: &mut Session<P, u8>,
+    piece: &[u8],
+) -> Result<Answer<P::Output, UnexpectedParse>, Fault>
+    ensures { MatchResult result
+        (λ answer. Feeds P.meaning P.valid session.old session.new piece.now true (Ok answer))
+        (λ why. why ≡ Fault.Memory) }
+{
+    match session.feed(piece) {
+        Ok(answer) => Ok(answer),
+        Err(_fault) => Err(Fault::Memory),
+    }
+}
+
+/// Says that the input has ended.
+fn end<P: Parser<fed::Stream<u8>>>(
+    session: &mut Session<P, u8>,
+) -> Result<Answer<P::Output, UnexpectedParse>, Fault>
+    ensures { MatchResult result
+        (λ answer. Ends P.meaning P.valid session.old session.new [] false (Ok answer))
+        (λ why. why ≡ Fault.Memory) }
+{
+    match session.end() {
+        Ok(answer) => Ok(answer),
+        Err(_fault) => Err(Fault::Memory),
+    }
+}
+
+/// Writes the line of a decision, and answers whether it accepts.
+fn write_decision<W: Write>(
+    out: &mut W,
+    answer: &Answer<Message, UnexpectedParse>,
+) -> Result<bool, Fault>
+    ensures { MatchResult result
+        (λ accepted. (accepted ≡ answer_accepts answer.now) × Appends (W.contents out.old) (W.contents out.new) (answer_line answer.now))
+        (λ why. why ≡ Fault.Write) }
+{
+    match answer {
+        Answer::Accepted { value, taken, .. } => {
+            write_accepted(out, value, *taken)?;
+            Ok(true)
+        }
+        Answer::Refused { committed, .. } => {
+            write_refused(out, *committed)?;
+            Ok(false)
+        }
+        Answer::More => Ok(false),
+    }
+}

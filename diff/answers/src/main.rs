@@ -1,0 +1,41 @@
+//! What combine answers: reads cases, one a line, and writes each with ` = ` and its answer behind it.
+//! diff/README.md says how both are written.
+mod guarded;
+#[macro_use]
+mod parsers;
+mod run;
+mod show;
+
+use std::io::{BufRead, BufWriter, Write};
+
+fn main() -> std::io::Result<()> {
+    // A parse that is stopped says nothing on standard error.
+    std::panic::set_hook(Box::new(|_| ()));
+    let mut out = BufWriter::new(std::io::stdout().lock());
+    for line in std::io::stdin().lock().lines() {
+        let line = line?;
+        let case = line.split(" = ").next().unwrap_or("");
+        if case.is_empty() || case.starts_with('#') {
+            continue;
+        }
+        let answer = read(case).and_then(|(parser, tokens, ends)| parsers::answer(parser, &tokens, &ends));
+        writeln!(out, "{case} = {}", answer.as_deref().unwrap_or("unknown"))?;
+    }
+    out.flush()
+}
+
+/// A case: the parser, the tokens, and where each window ends, with whether more may follow there.
+fn read(case: &str) -> Option<(&str, Vec<u8>, Vec<(usize, bool)>)> {
+    let (parser, pieces) = case.split_once(' ')?;
+    let (pieces, ended) = match pieces.strip_suffix('.') {
+        Some(pieces) => (pieces, true),
+        None => (pieces, false),
+    };
+    let (mut tokens, mut ends) = (Vec::new(), Vec::new());
+    for piece in pieces.split('/') {
+        tokens.extend_from_slice(piece.as_bytes());
+        ends.push((tokens.len(), true));
+    }
+    ends.last_mut()?.1 = !ended;
+    Some((parser, tokens, ends))
+}

@@ -1,0 +1,42 @@
+"""The cases: each parser of parsers.list on each short input over each cut."""
+
+import itertools
+import pathlib
+
+HERE = pathlib.Path(__file__).resolve().parent
+TOKENS = "abc"
+LONGEST = 4
+# Up to this length the first piece may be empty too.
+LONGEST_WITH_EMPTY = 3
+
+
+def parsers(path=HERE / "parsers.list"):
+    lines = path.read_text().splitlines()
+    return [line for line in lines if line and not line.startswith("#")]
+
+
+def inputs():
+    for length in range(LONGEST + 1):
+        for tokens in itertools.product(TOKENS, repeat=length):
+            yield "".join(tokens)
+
+
+def cuts(tokens):
+    """Every way to feed the tokens: open pieces, and the last one with the end."""
+    first = 0 if len(tokens) <= LONGEST_WITH_EMPTY else 1
+    places = range(first, len(tokens) + 1)
+    for count in range(len(places) + 1):
+        for chosen in itertools.combinations(places, count):
+            ends = [0, *chosen, len(tokens)]
+            yield "/".join(tokens[begin:end] for begin, end in zip(ends, ends[1:])) + "."
+
+
+def every_case():
+    return [f"{parser} {pieces}" for parser in parsers() for tokens in inputs() for pieces in cuts(tokens)]
+
+
+def windows(pieces):
+    """The pieces in order, each with whether more may follow it."""
+    ended = pieces.endswith(".")
+    parts = pieces.removesuffix(".").split("/")
+    return [(part, not (ended and at == len(parts) - 1)) for at, part in enumerate(parts)]

@@ -1,0 +1,192 @@
+"""What a parser means: its outcome on a list of tokens, ended or open, written down as the equations say it.
+
+It stands in for our program while that is not there, and checks it when it is. An outcome is one of
+('accepted', value, count, committed), ('refused', committed) and ('undecided',); a value is the text that is shown.
+"""
+
+import functools
+
+import cases
+
+UNDECIDED = ("undecided",)
+
+
+def answer(case):
+    """The answer to a case: the windows at whose end the tokens so far, open, leave it undecided; then the outcome."""
+    parser, pieces = case.split(" ")
+    parse = meaning(parser)
+    tokens = ""
+    feeding = cases.windows(pieces)
+    for asked, (piece, open_) in enumerate(feeding):
+        tokens += piece
+        outcome = parse(tokens, open_)
+        if outcome != UNDECIDED:
+            return f"asked {asked} {show(outcome)}"
+    return f"asked {len(feeding)} undecided"
+
+
+def show(outcome):
+    kind = "committed" if outcome[-1] else "peeked"
+    if outcome[0] == "refused":
+        return f"refused {kind}"
+    _, value, count, _ = outcome
+    return f"accepted {value} taken {count} {kind}"
+
+
+@functools.cache
+def meaning(parser):
+    name, parts = split(parser)
+    if name in ("satisfy", "token", "tokens", "value"):
+        return LEAVES[name](*parts)
+    return CONSTRUCTORS[name](*[meaning(part) for part in parts])
+
+
+def split(parser):
+    """The name of a constructor and the texts of its arguments."""
+    name, rest = parser.removesuffix(")").split("(", 1)
+    parts, depth = [""], 0
+    for letter in rest:
+        if letter == "," and depth == 0:
+            parts.append("")
+            continue
+        depth += {"(": 1, ")": -1}.get(letter, 0)
+        parts[-1] += letter
+    return name, [] if parts == [""] and name == "any" else parts
+
+
+def one(fits):
+    def parse(tokens, open_):
+        if not tokens:
+            return UNDECIDED if open_ else ("refused", False)
+        return ("accepted", tokens[0], 1, True) if fits(tokens[0]) else ("refused", False)
+
+    return parse
+
+
+def token_list(wanted):
+    def parse(tokens, open_):
+        for at, token in enumerate(wanted):
+            if at == len(tokens):
+                return UNDECIDED if open_ else ("refused", at > 0)
+            if tokens[at] != token:
+                return ("refused", at > 0)
+        return ("accepted", f'"{wanted}"', len(wanted), len(wanted) > 0)
+
+    return parse
+
+
+def value(token):
+    return lambda tokens, open_: ("accepted", token, 0, False)
+
+
+def with_value(function, parse):
+    """The same outcomes, the value changed."""
+
+    def parse_with(tokens, open_):
+        outcome = parse(tokens, open_)
+        if outcome[0] != "accepted":
+            return outcome
+        _, value, count, committed = outcome
+        return ("accepted", function(value), count, committed)
+
+    return parse_with
+
+
+def after(count, committed, outcome):
+    """An outcome further on in a list: so many tokens and this commitment came before."""
+    if outcome[0] == "accepted":
+        return ("accepted", outcome[1], count + outcome[2], committed or outcome[3])
+    if outcome[0] == "refused":
+        return ("refused", committed or outcome[1])
+    return outcome
+
+
+def sequence(parsers, collect):
+    """One after the other; the first that is not accepted gives the outcome."""
+
+    def parse(tokens, open_):
+        values, count, committed = [], 0, False
+        for part in parsers:
+            outcome = part(tokens[count:], open_)
+            if outcome[0] != "accepted":
+                return after(count, committed, outcome)
+            values.append(outcome[1])
+            _, _, count, committed = after(count, committed, outcome)
+        return ("accepted", collect(values), count, committed)
+
+    return parse
+
+
+def choice(*parsers):
+    """The first alternative that is not refused peeked."""
+
+    def parse(tokens, open_):
+        for part in parsers:
+            outcome = part(tokens, open_)
+            if outcome != ("refused", False):
+                return outcome
+        return ("refused", False)
+
+    return parse
+
+
+def optional(parse):
+    return choice(with_value(lambda it: f"some({it})", parse), value("none"))
+
+
+def attempt(parse):
+    def parse_attempt(tokens, open_):
+        outcome = parse(tokens, open_)
+        return ("refused", False) if outcome[0] == "refused" else outcome
+
+    return parse_attempt
+
+
+def turns(parse, collect, least):
+    """Blocks that each take tokens, until a peeked refusal; a turn that takes nothing is a committed refusal."""
+
+    def parse_turns(tokens, open_):
+        values, count, committed = [], 0, False
+        while True:
+            outcome = parse(tokens[count:], open_)
+            first = len(values) < least
+            if outcome[0] == "accepted" and (outcome[2] > 0 or first):
+                values.append(outcome[1])
+                _, _, count, committed = after(count, committed, outcome)
+            elif outcome[0] == "accepted":
+                return ("refused", True)
+            elif outcome == ("refused", False) and not first:
+                return ("accepted", collect(values), count, committed)
+            else:
+                return outcome
+
+    return parse_turns
+
+
+def listed(values):
+    return f"[{','.join(values)}]"
+
+
+def nothing(values):
+    return "()"
+
+
+LEAVES = {
+    "satisfy": lambda letters: one(lambda token: token in letters),
+    "token": lambda letter: one(lambda token: token == letter),
+    "tokens": token_list,
+    "value": value,
+}
+
+CONSTRUCTORS = {
+    "any": lambda: one(lambda token: True),
+    "map": lambda parse: with_value(lambda it: f"<{it}>", parse),
+    "attempt": attempt,
+    "or": choice,
+    "optional": optional,
+    "tuple": lambda *parsers: sequence(parsers, lambda values: f"({','.join(values)})"),
+    "many": lambda parse: turns(parse, listed, 0),
+    "many1": lambda parse: turns(parse, listed, 1),
+    "skip_many": lambda parse: turns(parse, nothing, 0),
+    "skip_many1": lambda parse: turns(parse, nothing, 1),
+}
