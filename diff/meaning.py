@@ -1,7 +1,7 @@
 """What a parser means: its outcome on a list of tokens, ended or open, written down as the equations say it.
 
-It stands in for our program while that is not there, and checks it when it is. An outcome is one of
-('accepted', value, count, committed), ('refused', committed) and ('undecided',); a value is the text that is shown.
+Our program's answers are checked against it. An outcome is one of ('accepted', value, count, committed),
+('refused', committed) and ('undecided',); a value is the text that is shown.
 """
 
 import functools
