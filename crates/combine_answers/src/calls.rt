@@ -13,11 +13,13 @@ use std::str::Chars;
 mod of_more;
 mod of_one;
 mod of_several;
+pub(crate) mod sizes;
 pub(crate) mod texts;
 
 pub(crate) use of_more::{Tuple3Call, Tuple4Call};
 pub(crate) use of_one::{
-    AttemptCall, Many1Call, ManyCall, MapCall, OptionalCall, SkipMany1Call, SkipManyCall,
+    AttemptCall, Many1Call, Many1WithinCall, ManyCall, MapCall, OptionalCall, SkipMany1Call,
+    SkipManyCall,
 };
 pub(crate) use of_several::{OrCall, Tuple1Call, Tuple2Call};
 

@@ -8,7 +8,8 @@ mod calls;
 mod feeding;
 mod leaves;
 mod list;
+mod room;
 mod run;
 mod show;
 
-pub use list::answer;
+pub use list::{answer, answer_with_unread};

@@ -1,10 +1,12 @@
 //! The list of parsers.
 
-use crate::calls::texts::{A, Aab, Ab, Abc, Ac, B, Bc, Empty};
+use crate::answered::Style;
+use crate::calls::sizes::{One, Three, Two, Zero};
+use crate::calls::texts::{A, Aab, Ab, Abc, Ac, B, Bc, Empty, Hello, Let, Lex};
 use crate::calls::{
-    AnyCall, AttemptCall, Call, Many1Call, ManyCall, MapCall, OptionalCall, OrCall, SatisfyAbCall,
-    SkipMany1Call, SkipManyCall, TokenCall, TokensCall, Tuple1Call, Tuple2Call, Tuple3Call,
-    Tuple4Call, ValueCall, Visitor,
+    AnyCall, AttemptCall, Call, Many1Call, Many1WithinCall, ManyCall, MapCall, OptionalCall,
+    OrCall, SatisfyAbCall, SkipMany1Call, SkipManyCall, TokenCall, TokensCall, Tuple1Call,
+    Tuple2Call, Tuple3Call, Tuple4Call, ValueCall, Visitor,
 };
 use crate::feeding::{Feeding, read_feeding};
 use crate::run::run;
@@ -17,11 +19,22 @@ use std::alloc::{AllocError, Global};
 type Found = Option<Result<String, AllocError>>;
 
 /// The answer to a case, `PARSER PIECES`; none where it is no case, or the parser isn't in the list.
+///
+/// It begins with `asked N` for N pieces at whose end the parser asked for more, unless there was a fault.
 pub fn answer(alloc: Global, case: &str) -> Result<Option<String>, AllocError> {
+    answer_in_style(alloc, case, Style::Count)
+}
+
+/// As `answer`, but it begins with `more U, ` for each piece at whose end the parser asked for more, for U tokens that are unread there.
+pub fn answer_with_unread(alloc: Global, case: &str) -> Result<Option<String>, AllocError> {
+    answer_in_style(alloc, case, Style::Unread)
+}
+
+fn answer_in_style(alloc: Global, case: &str, style: Style) -> Result<Option<String>, AllocError> {
     let Some((parser, pieces)) = case.split_once(' ') else {
         return Ok(None);
     };
-    let feeding = read_feeding(alloc, pieces)?;
+    let feeding = read_feeding(alloc, pieces, style)?;
     let found = single_tokens(alloc, parser, &feeding)
         .or_else(|| maps(alloc, parser, &feeding))
         .or_else(|| choices(alloc, parser, &feeding))
@@ -36,7 +49,9 @@ pub fn answer(alloc: Global, case: &str) -> Result<Option<String>, AllocError> {
         .or_else(|| many_times_several(alloc, parser, &feeding))
         .or_else(|| once_or_more(alloc, parser, &feeding))
         .or_else(|| skipped(alloc, parser, &feeding))
-        .or_else(|| begun_again(alloc, parser, &feeding));
+        .or_else(|| begun_again(alloc, parser, &feeding))
+        .or_else(|| words(alloc, parser, &feeding))
+        .or_else(|| without_room(alloc, parser, &feeding));
     found.transpose()
 }
 
@@ -59,7 +74,7 @@ impl<O: Show> Visitor<O> for Runs<'_> {
         self,
         parser: P,
     ) -> Result<String, AllocError> {
-        run(self.alloc, parser, self.feeding).to_text(self.alloc)
+        run(self.alloc, parser, self.feeding)?.to_text(self.alloc, self.feeding.style)
     }
 }
 
@@ -83,6 +98,9 @@ macro_rules! call {
     (tokens(bc)) => { TokensCall<Bc> };
     (tokens(aab)) => { TokensCall<Aab> };
     (tokens(abc)) => { TokensCall<Abc> };
+    (tokens(let)) => { TokensCall<Let> };
+    (tokens(lex)) => { TokensCall<Lex> };
+    (tokens(hello)) => { TokensCall<Hello> };
     (value(x)) => { ValueCall<b'x'> };
     (map($f:ident $a:tt)) => { MapCall<call!($f $a)> };
     (attempt($f:ident $a:tt)) => { AttemptCall<call!($f $a)> };
@@ -94,6 +112,10 @@ macro_rules! call {
     (tuple($f:ident $a:tt, $g:ident $b:tt, $h:ident $c:tt, $i:ident $d:tt)) => { Tuple4Call<call!($f $a), call!($g $b), call!($h $c), call!($i $d)> };
     (many($f:ident $a:tt)) => { ManyCall<call!($f $a)> };
     (many1($f:ident $a:tt)) => { Many1Call<call!($f $a)> };
+    (many1_within(0, $f:ident $a:tt)) => { Many1WithinCall<call!($f $a), Zero> };
+    (many1_within(1, $f:ident $a:tt)) => { Many1WithinCall<call!($f $a), One> };
+    (many1_within(2, $f:ident $a:tt)) => { Many1WithinCall<call!($f $a), Two> };
+    (many1_within(3, $f:ident $a:tt)) => { Many1WithinCall<call!($f $a), Three> };
     (skip_many($f:ident $a:tt)) => { SkipManyCall<call!($f $a)> };
     (skip_many1($f:ident $a:tt)) => { SkipMany1Call<call!($f $a)> };
 }
@@ -334,5 +356,30 @@ fn begun_again(alloc: Global, parser: &str, feeding: &Feeding<'_>) -> Found {
         many(tuple(any(), optional(attempt(many(or(tokens(b), tokens(ac))))))),
         many(tuple(any(), optional(attempt(many1(or(tokens(b), tokens(ac))))))),
         many(tuple(optional(attempt(tuple(token(a), token(b)))), any(), any())),
+    )
+}
+
+/// Parsers of words.
+fn words(alloc: Global, parser: &str, feeding: &Feeding<'_>) -> Found {
+    answer_among!(
+        alloc, parser, feeding;
+        or(attempt(tokens(let)), tokens(lex)),
+        optional(tokens(hello)),
+    )
+}
+
+/// Collections that refuse to grow.
+fn without_room(alloc: Global, parser: &str, feeding: &Feeding<'_>) -> Found {
+    answer_among!(
+        alloc, parser, feeding;
+        many1_within(0, any()),
+        many1_within(1, any()),
+        many1_within(2, any()),
+        many1_within(3, any()),
+        optional(many1_within(0, token(a))),
+        or(attempt(many1_within(0, token(a))), many1_within(0, token(b))),
+        tuple(attempt(many1_within(1, token(a))), token(b)),
+        many(many1_within(1, token(a))),
+        skip_many(many1_within(1, token(a))),
     )
 }

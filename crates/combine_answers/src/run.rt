@@ -5,7 +5,7 @@ use crate::feeding::Feeding;
 use combine_base::error::UnexpectedParse;
 use combine_base::parser::{Answer, Parser, Session, SessionError, judge};
 use combine_base::stream::{Positioned, fed};
-use std::alloc::Global;
+use std::alloc::{AllocError, Global};
 
 /// What a parser answers to an input: at the last piece that is fed, or at the first at which it decides.
 ///
@@ -14,11 +14,11 @@ pub(crate) fn run<P: Parser<fed::Stream<u8>> + Drop>(
     alloc: Global,
     parser: P,
     feeding: &Feeding<'_>,
-) -> Answered<P::Output>
+) -> Result<Answered<P::Output>, AllocError>
     requires { P.lawful parser }
 {
     match feeding.pieces.as_slice() {
-        [only] if feeding.ended => run_at_once(alloc, parser, only),
+        [only] if feeding.ended => Ok(run_at_once(alloc, parser, only)),
         [first @ .., []] if feeding.ended => run_session(alloc, parser, first, true),
         pieces if feeding.ended => run_windows(alloc, parser, pieces),
         pieces => run_session(alloc, parser, pieces, false),
@@ -35,16 +35,17 @@ fn run_at_once<P: Parser<fed::Stream<u8>> + Drop>(
 {
     let mut parser = parser;
     let mut stream = fed::Stream::new(alloc);
+    let unread = Vec::new(alloc);
     if let Err(fault) = feed(&mut stream, input, true) {
         return Answered {
-            asked: 0,
+            unread,
             answer: Err(fault),
         };
     }
     let parsed = parser.parse_stream(&mut stream);
     let answer = judge(&stream, parsed, stream.position());
     Answered {
-        asked: 0,
+        unread,
         answer: answer.map_err(SessionError::Fault),
     }
 }
@@ -55,27 +56,23 @@ fn run_session<P: Parser<fed::Stream<u8>> + Drop>(
     parser: P,
     pieces: &[&[u8]],
     ended: bool,
-) -> Answered<P::Output>
+) -> Result<Answered<P::Output>, AllocError>
     requires { P.lawful parser }
 {
+    let mut unread = Vec::new(alloc);
     let mut session = Session::new(alloc, parser);
-    for (asked, piece) in pieces.iter().enumerate() {
+    for piece in pieces {
         match session.feed(piece) {
-            Ok(Answer::More) => {}
-            answer => return Answered { asked, answer },
+            Ok(Answer::More) => unread.push(session.unread().len())?,
+            answer => return Ok(Answered { unread, answer }),
         }
     }
-    let asked = pieces.len();
-    if ended {
-        return Answered {
-            asked,
-            answer: session.end(),
-        };
-    }
-    Answered {
-        asked,
-        answer: Ok(Answer::More),
-    }
+    let answer = if ended {
+        session.end()
+    } else {
+        Ok(Answer::More)
+    };
+    Ok(Answered { unread, answer })
 }
 
 /// Feeds the pieces over a stream, the last one with the end.
@@ -83,23 +80,24 @@ fn run_windows<P: Parser<fed::Stream<u8>> + Drop>(
     alloc: Global,
     parser: P,
     pieces: &[&[u8]],
-) -> Answered<P::Output>
+) -> Result<Answered<P::Output>, AllocError>
     requires { P.lawful parser }
 {
     let mut parser = parser;
     let mut stream = fed::Stream::new(alloc);
     let mut state = P::PartialState::default();
-    for (asked, piece) in pieces.iter().enumerate() {
-        let last = asked + 1 == pieces.len();
+    let mut unread = Vec::new(alloc);
+    for (at, piece) in pieces.iter().enumerate() {
+        let last = at + 1 == pieces.len();
         match go_on(&mut parser, &mut stream, &mut state, piece, last) {
-            Ok(Answer::More) => {}
-            answer => return Answered { asked, answer },
+            Ok(Answer::More) => unread.push(stream.unread().len())?,
+            answer => return Ok(Answered { unread, answer }),
         }
     }
-    Answered {
-        asked: pieces.len(),
+    Ok(Answered {
+        unread,
         answer: Ok(Answer::More),
-    }
+    })
 }
 
 /// Feeds a piece, with the end where it is the last, and parses on from the state.

@@ -1,5 +1,12 @@
-//! Reads cases, one a line, and writes each with its answer.
+//! The bench: reads cases, one a line, and writes each with its answer; and, as tests, worked rows over every cut.
 #![tactic(auto)]
+
+#[cfg(test)]
+mod messages;
+#[cfg(test)]
+mod rows;
+#[cfg(test)]
+mod sessions;
 
 use combine_answers::answer;
 use std::io;

@@ -5,6 +5,7 @@
 
 use feedline_core::{Fault, read_args, read_input, run};
 use std::env;
+use std::io::ErrorKind;
 use std::process::ExitCode;
 
 fn main(rt: HostRuntime) -> ExitCode {
@@ -20,15 +21,7 @@ fn main(rt: HostRuntime) -> ExitCode {
 
 /// Whether the message of standard input is accepted.
 fn answer(rt: &HostRuntime) -> Result<bool, Fault> {
-    let mut words: Vec<String> = Vec::new(rt.alloc());
-    let Ok(given) = env::args(rt) else {
-        return Err(Fault::Argument);
-    };
-    for word in given.skip(1) {
-        if words.push(word).is_err() {
-            return Err(Fault::Memory);
-        }
-    }
+    let words = words(rt)?;
     let mut texts: Vec<&str> = Vec::new(rt.alloc());
     for word in &words {
         if texts.push(word.as_str()).is_err() {
@@ -38,4 +31,19 @@ fn answer(rt: &HostRuntime) -> Result<bool, Fault> {
     let args = read_args(rt.alloc(), &texts)?;
     let input = read_input(rt.alloc(), rt.stdin())?;
     run(rt.alloc(), &args.sizes, &input, &mut rt.stdout())
+}
+
+/// The arguments behind the program's name; one that isn't UTF-8 is a bad argument.
+fn words(rt: &HostRuntime) -> Result<Vec<String>, Fault> {
+    let given = env::args(rt).map_err(|error| match error.kind() {
+        ErrorKind::OutOfMemory => Fault::Memory,
+        _ => Fault::Argument,
+    })?;
+    let mut words = Vec::new(rt.alloc());
+    for word in given.skip(1) {
+        if words.push(word).is_err() {
+            return Err(Fault::Memory);
+        }
+    }
+    Ok(words)
 }

@@ -1,6 +1,8 @@
 //! Calls of constructors over one parser.
 
+use crate::calls::sizes::Size;
 use crate::calls::{Call, Visitor};
+use crate::room::Room;
 use crate::show::{Mapped, Show};
 use combine_base::parser::Parser;
 use combine_base::stream::fed;
@@ -166,6 +168,44 @@ impl<O: Show, V: Visitor<Vec<O>>> Visitor<O> for Many1Next<V> {
         parser: P,
     ) -> Result<String, AllocError> {
         self.next.visit(many1::<Vec<O>, _, _>(self.alloc, parser))
+    }
+}
+
+/// `many1_within(N,C)`: `many1` into a collection with room for N values.
+#[derive(Drop)]
+pub(crate) struct Many1WithinCall<C, N>(PhantomData<(C, N)>);
+
+/// Hands `many1` of its parser on, into a collection with room for N values.
+#[derive(Drop)]
+struct Many1WithinNext<V, N> {
+    alloc: Global,
+    next: V,
+    room: PhantomData<N>,
+}
+
+impl<C: Call, N: Size> Call for Many1WithinCall<C, N> {
+    type Output = Room<N>;
+
+    fn accept<V: Visitor<Room<N>>>(alloc: Global, visitor: V) -> Result<String, AllocError> {
+        C::accept(
+            alloc,
+            Many1WithinNext {
+                alloc,
+                next: visitor,
+                room: PhantomData,
+            },
+        )
+    }
+}
+
+impl<O: Show, V: Visitor<Room<N>>, N: Size> Visitor<O> for Many1WithinNext<V, N> {
+    ghost ready = { λ s. V.ready s.next };
+
+    fn visit<P: Parser<fed::Stream<u8>, Output = O> + Drop>(
+        self,
+        parser: P,
+    ) -> Result<String, AllocError> {
+        self.next.visit(many1::<Room<N>, _, _>(self.alloc, parser))
     }
 }
 

@@ -60,3 +60,24 @@ pub(crate) struct Abc;
 impl Text for Abc {
     const TEXT: &'static str = "abc";
 }
+
+#[derive(Drop)]
+pub(crate) struct Let;
+
+impl Text for Let {
+    const TEXT: &'static str = "let";
+}
+
+#[derive(Drop)]
+pub(crate) struct Lex;
+
+impl Text for Lex {
+    const TEXT: &'static str = "lex";
+}
+
+#[derive(Drop)]
+pub(crate) struct Hello;
+
+impl Text for Hello {
+    const TEXT: &'static str = "hello";
+}

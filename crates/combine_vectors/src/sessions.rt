@@ -1,0 +1,184 @@
+//! Sessions: their rows, and growths that are refused.
+ghost use Rattle.std.specs.Prelude.{ℕ, ◌+◌};
+
+use combine::ParserExt;
+use combine::error::UnexpectedParse;
+use combine::parser::choice::optional;
+use combine::parser::repeat::{Append, many1, skip_many};
+use combine::parser::token::token;
+use combine::parser::{Answer, Parser, Session, SessionError};
+use combine::stream::{Kind, fed};
+use std::alloc::{AllocError, Global};
+use std::process::Abort;
+
+#[test]
+fn a_session_of_one_token(rt: HostRuntime) {
+    let mut session = Session::new(rt.alloc(), token(b'a'));
+    assert_eq!(rt; session.feed(b""), Ok(Answer::More));
+    let accepted = Answer::Accepted {
+        value: b'a',
+        taken: 1,
+        committed: true,
+    };
+    assert_eq!(rt; session.feed(b"ab"), Ok(accepted));
+    assert_eq!(rt; session.unread(), b"b".as_slice());
+    assert_eq!(rt; session.feed(b"c"), Err(SessionError::Closed));
+    assert_eq!(rt; session.end(), Err(SessionError::Closed));
+    assert_eq!(rt; session.unread(), b"b".as_slice());
+}
+
+/// What a parser answers to an input that is fed as one piece, and then the end.
+fn answer_to<P: Parser<fed::Stream<u8>> + Drop>(
+    alloc: Global,
+    parser: P,
+    input: &[u8],
+) -> Result<Answer<P::Output, UnexpectedParse>, SessionError>
+    requires { P.lawful parser }
+{
+    let mut session = Session::new(alloc, parser);
+    match session.feed(input) {
+        Ok(Answer::More) => session.end(),
+        answer => answer,
+    }
+}
+
+fn second(pair: (u8, u8)) -> u8 {
+    pair.1
+}
+
+#[test]
+fn method_forms(rt: HostRuntime) {
+    let parser = token(b'a').and(token(b'b')).map(second).or(token(b'c'));
+    let accepted = Answer::Accepted {
+        value: b'b',
+        taken: 2,
+        committed: true,
+    };
+    assert_eq!(rt; answer_to(rt.alloc(), parser, b"ab"), Ok(accepted));
+}
+
+/// What a parser answers to a slice, and how much of it is left.
+fn parsed<'a, P: Parser<&'a [u8]> + Drop>(
+    parser: P,
+    input: &'a [u8],
+) -> Result<(P::Output, usize), UnexpectedParse>
+    requires { P.lawful parser }
+{
+    let mut parser = parser;
+    let (value, rest) = parser.parse(input)?;
+    Ok((value, rest.len()))
+}
+
+#[test]
+fn a_slice(rt: HostRuntime) {
+    let refused = Err(UnexpectedParse(Kind::Refused));
+    assert_eq!(rt;
+        parsed((token(b'a'), optional(token(b'b'))), b"abc"),
+        Ok(((b'a', Some(b'b')), 1))
+    );
+    assert_eq!(rt; parsed((token(b'a'), optional(token(b'b'))), b"c"), refused);
+}
+
+#[test]
+fn a_session_of_a_reference(rt: HostRuntime) {
+    let mut parser = token(b'a');
+    let mut session = Session::new(rt.alloc(), parser.by_ref());
+    let accepted = Answer::Accepted {
+        value: b'a',
+        taken: 1,
+        committed: true,
+    };
+    assert_eq!(rt; session.feed(b"a"), Ok(accepted));
+}
+
+/// A collection with no room.
+#[derive(Debug, Drop, PartialEq)]
+struct Full;
+
+impl Append<u8> for Full {
+    ghost Held = { ℕ };
+
+    ghost held = { λ _. 0 };
+
+    ghost none = { 0 };
+
+    ghost more = { λ taken _. taken + 1 };
+
+    ghost lean = { ⊥ };
+
+    fn empty(_alloc: Global) -> Full {
+        Full
+    }
+
+    fn append(&mut self, _value: u8) -> Result<(), AllocError> {
+        Err(AllocError)
+    }
+}
+
+#[test]
+fn a_session_after_a_refused_growth(rt: HostRuntime) {
+    let mut session = Session::new(rt.alloc(), many1::<Full, _, _>(rt.alloc(), token(b'a')));
+    assert_eq!(rt; session.feed(b""), Ok(Answer::More));
+    assert_eq!(rt; session.feed(b"a"), Err(SessionError::Fault(Kind::Memory)));
+    assert_eq!(rt; session.feed(b"a"), Err(SessionError::Failed));
+    assert_eq!(rt; session.end(), Err(SessionError::Failed));
+}
+
+/// Feeds a piece, and once more where it found no room: what is unread is then as before.
+fn feed_again<P: Parser<fed::Stream<u8>>>(
+    rt: &impl Abort,
+    session: &mut Session<P, u8>,
+    piece: &[u8],
+) -> Result<Answer<P::Output, UnexpectedParse>, SessionError> {
+    let unread = session.unread().len();
+    match session.feed(piece) {
+        Err(SessionError::Memory) => {
+            assert_eq!(rt; session.unread().len(), unread);
+            session.feed(piece)
+        }
+        answer => answer,
+    }
+}
+
+/// The answers are those of ample memory, or want of memory within the parse: also where `growths/run` has the allocator refuse.
+#[test]
+fn a_session_with_any_growth_refused(rt: HostRuntime) {
+    let mut session = Session::new(rt.alloc(), many1::<Vec<u8>, _, _>(rt.alloc(), token(b'a')));
+    for piece in ["aa", "a", "aaaaaaaaaaaaaaaaaaaa"] {
+        match feed_again(&rt, &mut session, piece.as_bytes()) {
+            Ok(answer) => assert_eq!(rt; answer, Answer::More),
+            Err(why) => {
+                assert_eq!(rt; why, SessionError::Fault(Kind::Memory));
+                assert_eq!(rt; session.end(), Err(SessionError::Failed));
+                return;
+            }
+        }
+    }
+    match session.end() {
+        Ok(
+            Answer::Accepted {
+                value,
+                taken,
+                committed,
+            },
+        ) => {
+            assert_eq!(rt; value.as_slice(), [b'a'; 23].as_slice());
+            assert_eq!(rt; (taken, committed), (23, true));
+        }
+        Ok(_) => assert!(rt; false, "accepted where memory is ample"),
+        Err(why) => assert_eq!(rt; why, SessionError::Fault(Kind::Memory)),
+    }
+}
+
+/// A parser that takes no memory answers as ever; only `feed` may be refused.
+#[test]
+fn a_skipping_session_with_any_growth_refused(rt: HostRuntime) {
+    let mut session = Session::new(rt.alloc(), skip_many(token(b'a')));
+    assert_eq!(rt; feed_again(&rt, &mut session, b"aa"), Ok(Answer::More));
+    let accepted = Answer::Accepted {
+        value: (),
+        taken: 2,
+        committed: true,
+    };
+    assert_eq!(rt; session.end(), Ok(accepted));
+}
