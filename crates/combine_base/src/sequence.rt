@@ -79,7 +79,7 @@ impl<A: Default> Default for PartialState1<A> {
 impl<A> PartialState1<A> {
     ghost use Rattle.combine_base.specs.Places.{only};
 
-    #[inline]
+    #[inline(always)]
     pub(crate) fn into_only(self) -> A
         ensures { result ≡ only self }
     {
@@ -157,7 +157,7 @@ impl<A: Drop, B> Placed for PartialState2<A, B> {
 
     ghost place = { place_2 };
 
-    #[inline]
+    #[inline(always)]
     fn into_place(self) -> Place<PartialState1<A>, B> {
         match self {
             PartialState2::A(at) => Place::Before(PartialState1::A(at)),
@@ -165,12 +165,12 @@ impl<A: Drop, B> Placed for PartialState2<A, B> {
         }
     }
 
-    #[inline]
+    #[inline(always)]
     fn before(state: PartialState1<A>) -> Self {
         PartialState2::A(state.into_only())
     }
 
-    #[inline]
+    #[inline(always)]
     fn last(state: B) -> Self {
         PartialState2::B(state)
     }
@@ -185,7 +185,7 @@ impl<A: Drop, B: Drop, C> Placed for PartialState3<A, B, C> {
 
     ghost place = { place_3 };
 
-    #[inline]
+    #[inline(always)]
     fn into_place(self) -> Place<PartialState2<A, B>, C> {
         match self {
             PartialState3::A(at) => Place::Before(PartialState2::A(at)),
@@ -194,7 +194,7 @@ impl<A: Drop, B: Drop, C> Placed for PartialState3<A, B, C> {
         }
     }
 
-    #[inline]
+    #[inline(always)]
     fn before(state: PartialState2<A, B>) -> Self {
         match state {
             PartialState2::A(at) => PartialState3::A(at),
@@ -202,7 +202,7 @@ impl<A: Drop, B: Drop, C> Placed for PartialState3<A, B, C> {
         }
     }
 
-    #[inline]
+    #[inline(always)]
     fn last(state: C) -> Self {
         PartialState3::C(state)
     }
@@ -217,7 +217,7 @@ impl<A: Drop, B: Drop, C: Drop, D> Placed for PartialState4<A, B, C, D> {
 
     ghost place = { place_4 };
 
-    #[inline]
+    #[inline(always)]
     fn into_place(self) -> Place<PartialState3<A, B, C>, D> {
         match self {
             PartialState4::A(at) => Place::Before(PartialState3::A(at)),
@@ -227,7 +227,7 @@ impl<A: Drop, B: Drop, C: Drop, D> Placed for PartialState4<A, B, C, D> {
         }
     }
 
-    #[inline]
+    #[inline(always)]
     fn before(state: PartialState3<A, B, C>) -> Self {
         match state {
             PartialState3::A(at) => PartialState4::A(at),
@@ -236,7 +236,7 @@ impl<A: Drop, B: Drop, C: Drop, D> Placed for PartialState4<A, B, C, D> {
         }
     }
 
-    #[inline]
+    #[inline(always)]
     fn last(state: D) -> Self {
         PartialState4::D(state)
     }

@@ -40,7 +40,7 @@ impl<S, T> Default for OrState<S, T> {
 
 impl<S: Drop, T: Drop> OrState<S, T> {
     /// Hands out what is kept, if the call resumes.
-    #[inline]
+    #[inline(always)]
     pub(crate) fn begin(&mut self, first: bool) -> OrState<S, T>
         ensures begun { result ≡ (if first then OrState.Peek else self.old) }
         ensures left { self.new ≡ OrState.Peek }
@@ -88,7 +88,7 @@ pub fn or_is_associative<
 {}
 
 /// Whether an answer is need of more.
-#[inline]
+#[inline(always)]
 pub(crate) fn asks_for_more<O, Input: Stream>(
     input: &Input,
     answer: &ParseResult<O, Input::Error>,
@@ -104,7 +104,7 @@ pub(crate) fn asks_for_more<O, Input: Stream>(
 }
 
 /// The answer of the later alternatives, after one that was refused peeked: where they are refused peeked too, the errors are merged in order.
-#[inline]
+#[inline(always)]
 pub(crate) fn after_refusal<O, T: Copy, R: Copy, P: Ord, E: ParseError<T, R, P>>(
     first: Tracked<E>,
     answer: ParseResult<O, E>,

@@ -28,7 +28,7 @@ impl<A> Push<A> for () {
 
     ghost pushed = { push_0 };
 
-    #[inline]
+    #[inline(always)]
     fn push(self, last: A) -> (A,) {
         (last,)
     }
@@ -41,7 +41,7 @@ impl<A, B> Push<B> for (A,) {
 
     ghost pushed = { push_1 };
 
-    #[inline]
+    #[inline(always)]
     fn push(self, last: B) -> (A, B) {
         let (a,) = self;
         (a, last)
@@ -55,7 +55,7 @@ impl<A, B, C> Push<C> for (A, B) {
 
     ghost pushed = { push_2 };
 
-    #[inline]
+    #[inline(always)]
     fn push(self, last: C) -> (A, B, C) {
         let (a, b) = self;
         (a, b, last)
@@ -69,7 +69,7 @@ impl<A, B, C, D> Push<D> for (A, B, C) {
 
     ghost pushed = { push_3 };
 
-    #[inline]
+    #[inline(always)]
     fn push(self, last: D) -> (A, B, C, D) {
         let (a, b, c) = self;
         (a, b, c, last)
@@ -77,7 +77,7 @@ impl<A, B, C, D> Push<D> for (A, B, C) {
 }
 
 /// Takes the state that a call in this mode runs from: in first mode a default one, and else the one that is kept. It leaves a default one.
-#[inline]
+#[inline(always)]
 pub fn take_state<S: Default + Drop, M: ParseMode>(mode: M, state: &mut S) -> S
     ensures from { RunsFrom S.is_default (M.first mode) state.old result }
     ensures left { S.is_default state.new }
@@ -87,7 +87,7 @@ pub fn take_state<S: Default + Drop, M: ParseMode>(mode: M, state: &mut S) -> S
 }
 
 /// An acceptance after other parts, `committed` if one of them was.
-#[inline]
+#[inline(always)]
 pub fn accepted_after<V, E>(committed: bool, value: V) -> ParseResult<V, E>
     ensures { result ≡ accepted_as committed value }
 {
@@ -99,7 +99,7 @@ pub fn accepted_after<V, E>(committed: bool, value: V) -> ParseResult<V, E>
 }
 
 /// A peeked refusal after other parts, `committed` if one of them was.
-#[inline]
+#[inline(always)]
 pub fn refused_after<V, E>(committed: bool, refusal: Tracked<E>) -> ParseResult<V, E>
     ensures { result ≡ refused_as committed refusal }
 {
@@ -111,7 +111,7 @@ pub fn refused_after<V, E>(committed: bool, refusal: Tracked<E>) -> ParseResult<
 }
 
 /// Runs the last part, from what is kept of it and of those before it. A peeked refusal is put back to where the part began, and explained by it. Need of more is kept in `state`, which is a default one.
-#[inline]
+#[inline(always)]
 pub(crate) fn parse_last<
     Input: Stream,
     T: Push<P::Output> + Drop,
@@ -160,7 +160,7 @@ pub(crate) fn parse_last<
 }
 
 /// Goes on with the last part where those before it have accepted. `kept` is the state that they left, and `state` is a default one.
-#[inline]
+#[inline(always)]
 pub(crate) fn parse_rest<
     Input: Stream,
     T: Push<P::Output> + Drop,

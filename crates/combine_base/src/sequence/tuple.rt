@@ -56,7 +56,7 @@ fn add_counts(before: ErrorOffset, last: ErrorOffset) -> ErrorOffset
 }
 
 /// Runs one part, from what is kept of it. `state` is a default one, and keeps what goes on where more is needed.
-#[inline]
+#[inline(always)]
 fn parse_1<Input: Stream, A: Parser<Input>, M: ParseMode>(
     a: &mut A,
     mode: M,
@@ -98,7 +98,7 @@ fn parse_1<Input: Stream, A: Parser<Input>, M: ParseMode>(
 }
 
 /// Runs two parts, from what is kept of them. `state` is a default one, and keeps what goes on where more is needed.
-#[inline]
+#[inline(always)]
 fn parse_2<Input: Stream, A: Parser<Input>, B: Parser<Input>, M: ParseMode>(
     a: &mut A,
     b: &mut B,
@@ -131,7 +131,7 @@ fn parse_2<Input: Stream, A: Parser<Input>, B: Parser<Input>, M: ParseMode>(
 }
 
 /// Runs three parts, from what is kept of them. `state` is a default one, and keeps what goes on where more is needed.
-#[inline]
+#[inline(always)]
 fn parse_3<Input: Stream, A: Parser<Input>, B: Parser<Input>, C: Parser<Input>, M: ParseMode>(
     a: &mut A,
     b: &mut B,
@@ -165,7 +165,7 @@ fn parse_3<Input: Stream, A: Parser<Input>, B: Parser<Input>, C: Parser<Input>, 
 }
 
 /// Runs four parts, from what is kept of them. `state` is a default one, and keeps what goes on where more is needed.
-#[inline]
+#[inline(always)]
 fn parse_4<
     Input: Stream,
     A: Parser<Input>,

@@ -23,7 +23,7 @@ pub(crate) enum Place {
 }
 
 impl Place {
-    #[inline]
+    #[inline(always)]
     fn is_first(self) -> bool
         ensures { result ≡ asks_first self }
     {
@@ -34,7 +34,7 @@ impl Place {
     }
 
     /// Whether a turn is a block that is accepted so, this piece's part of it begun at that position.
-    #[inline]
+    #[inline(always)]
     fn goes<Input: Stream>(self, committed: bool, since: Input::Position, input: &Input) -> bool
         ensures { (n : ℕ) (old : Input) → since ≡ (Input.view old).position → Takes Input.step n (Input.view old) (Input.view input.now) → result ≡ goes_at self n committed }
     {
@@ -45,7 +45,7 @@ impl Place {
     }
 
     /// The place of the same turn in the next piece.
-    #[inline]
+    #[inline(always)]
     fn cut<Input: Stream>(self, since: Input::Position, input: &Input) -> Place
         ensures { (n : ℕ) (old : Input) → since ≡ (Input.view old).position → Takes Input.step n (Input.view old) (Input.view input.now) → result ≡ cut_at self n }
     {
@@ -78,7 +78,7 @@ impl<F> Turns<F> {
     }
 
     /// One more turn was a block, and the next one runs.
-    #[inline]
+    #[inline(always)]
     fn add<A>(&mut self, value: A, committed: bool) -> Result<(), AllocError>
     where
         F: Append<A>,
@@ -91,7 +91,7 @@ impl<F> Turns<F> {
     }
 
     /// The turns end, accepted.
-    #[inline]
+    #[inline(always)]
     fn end<E>(self) -> ParseResult<F, E>
         ensures { result ≡ (if self.committed then ParseResult.CommitOk self.collection else ParseResult.PeekOk self.collection) }
     {
@@ -107,7 +107,7 @@ impl<F> Turns<F> {
     }
 
     /// The turn that was asked for is refused peeked, which is committed if a turn before it was.
-    #[inline]
+    #[inline(always)]
     fn refused<E: Drop>(self, refusal: Tracked<E>) -> ParseResult<F, E>
     where
         F: Drop,
@@ -142,7 +142,7 @@ impl<F, S: Default> Default for TurnsState<F, S> {
 
 impl<F: Drop, S> TurnsState<F, S> {
     /// Hands out the turns that are kept, if the call resumes; else those of the start.
-    #[inline]
+    #[inline(always)]
     fn begin(&mut self, first: bool, start: Turns<F>) -> Turns<F>
         ensures turns { result ≡ (if first then start else kept_or start self.old.turns) }
         ensures left { self.new ≡ record { turns = None; running = self.old.running } }
@@ -154,8 +154,33 @@ impl<F: Drop, S> TurnsState<F, S> {
     }
 }
 
+/// One call of the parser of a turn, as `parse_mode`. A turn that begins afresh is a first-mode call, so that the mode is known where it is compiled.
+#[inline(always)]
+fn parse_turn<Input: Stream, P: Parser<Input>, M: ParseMode>(
+    parser: &mut P,
+    mode: M,
+    input: &mut Input,
+    state: &mut P::PartialState,
+) -> ParseResult<P::Output, Input::Error>
+    requires lawful { P.lawful parser.old }
+    requires valid { P.valid state.old }
+    ensures lawful { P.lawful parser.new }
+    ensures valid { P.valid state.new }
+    ensures same { MeansSame (P.meaning parser.old) (P.meaning parser.new) }
+    ensures passes { Passes (Input.marks input.old) (Input.marks input.new) (Input.failures input.old) (Input.failures input.new) }
+    ensures answers { Answers (world Input.step Input.Error.seen Input.steady P.PartialState.is_default)
+        (P.meaning parser.old)
+        (record { first = M.first mode; state = state.old; left = state.new; old = Input.view input.old; new = Input.view input.new; before = Input.failures input.old; after = Input.failures input.new })
+        result }
+{
+    if mode.is_first() {
+        return parser.parse_first(input, state);
+    }
+    parser.parse_mode(mode, input, state)
+}
+
 /// One call of turns, which begin so where nothing is kept.
-#[inline]
+#[inline(always)]
 pub(crate) fn take_turns<Input: Stream, P: Parser<Input>, F: Append<P::Output>, M: ParseMode>(
     parser: &mut P,
     start: Turns<F>,
@@ -179,7 +204,7 @@ pub(crate) fn take_turns<Input: Stream, P: Parser<Input>, F: Append<P::Output>, 
     'turns: loop {
         let checkpoint = input.checkpoint();
         let position = input.position();
-        let (value, committed) = match parser.parse_mode(mode, input, &mut state.running) {
+        let (value, committed) = match parse_turn(parser, mode, input, &mut state.running) {
             ParseResult::CommitOk(value) => (value, true),
             ParseResult::PeekOk(value) => (value, false),
             ParseResult::PeekErr(refusal) => {

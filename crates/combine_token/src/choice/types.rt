@@ -17,7 +17,7 @@ pub struct Or<P, Q>(pub(super) P, pub(super) Q);
 
 impl<P, Q> Or<P, Q> {
     /// The second parser goes on, or begins.
-    #[inline]
+    #[inline(always)]
     fn try_second<Input: Stream, M: ParseMode>(
         &mut self,
         mode: M,
@@ -50,7 +50,7 @@ impl<P, Q> Or<P, Q> {
     }
 
     /// The first parser goes on, or begins; the second is tried where it is refused peeked.
-    #[inline]
+    #[inline(always)]
     fn try_first<Input: Stream, M: ParseMode>(
         &mut self,
         mode: M,

@@ -31,14 +31,14 @@ returns-in-Err-clause-answers g c =
     let p = answers_same _ _ _ c.turns.invariant.same _ _ c.in-PeekErr.ensures.answers in
     let n = c.in-Err.ensures.to.is in
     let a = c.turns.invariant.passes.resets in
-    let b = c.parse_mode.ensures.passes.resets in
+    let b = c.parse_turn.ensures.passes.resets in
     turn_unreset _ _ _ _ _ _ _ _ _ _ _ c.turns.invariant.reaches _ (c.new_error.ensures.kind ∙ n.0) (omega arith) n.1 (λ d. (c.turns.invariant.cleared, d)) (peeked_refusal _ _ _ _ p.is).leaves
 
 pub returns-in-PeekErr-clause-answers : goal.returns-in-PeekErr-clause-answers
 returns-in-PeekErr-clause-answers g c =
     let p = answers_same _ _ _ c.turns.invariant.same _ _ c.in-PeekErr.ensures.answers in
     let n = c.in_default.ensures.to.is in
-    let t = g.met.Input.ResetStream.lasts _ _ _ _ c.parse_mode.ensures.passes.marks c.checkpoint-checkpoint.ensures.stands in
+    let t = g.met.Input.ResetStream.lasts _ _ _ _ c.parse_turn.ensures.passes.marks c.checkpoint-checkpoint.ensures.stands in
     turn_ends _ _ _ _ _ _ _ _ _ _ _ c.turns.invariant.reaches _ c.turns.turns.collection _ (refused_later _ (sym c.is_first-in-PeekErr.ensures ∙ c.if-is_first.false)) refl c.end.ensures p (n.0 _ t) (λ d. (c.turns.invariant.cleared, d)) n.1
 
 pub returns-in-CommitErr-clause-answers : goal.returns-in-CommitErr-clause-answers
@@ -54,7 +54,7 @@ returns-in-CommitErr-clause-answers g c =
 
 pub returns-then-not-goes-clause-answers : goal.returns-then-not-goes-clause-answers
 returns-then-not-goes-clause-answers g c =
-    elim c.match-parse_mode.branch [
+    elim c.match-parse_turn.branch [
       | in-CommitOk w ↦
           let j = judged_by _ _ _ _ _ (g.met.P.Parser.laws _ c.requires.lawful) _ _ _ c.turns.invariant.reaches _ _ _ _ w.value-is (answers_same _ _ _ c.turns.invariant.same _ _ w.in-CommitOk.ensures.answers).is (λ n t. c.goes.ensures n _ c.position-position.ensures t) in
           comes_told _ _ _ _ _ (g.met.P.Parser.laws _ c.requires.lawful) _ _ _ c.turns.invariant.reaches _ _ j c.if-not-goes.true _ c.refusal_saying.ensures refl c.turns.invariant.cleared refl (λ _. refl)
@@ -65,7 +65,7 @@ returns-then-not-goes-clause-answers g c =
 
 pub returns-in-Err-add-clause-answers : goal.returns-in-Err-add-clause-answers
 returns-in-Err-add-clause-answers g c =
-    elim c.match-parse_mode.branch [
+    elim c.match-parse_turn.branch [
       | in-CommitOk w ↦
           let j = judged_by _ _ _ _ _ (g.met.P.Parser.laws _ c.requires.lawful) _ _ _ c.turns.invariant.reaches _ _ _ _ w.value-is (answers_same _ _ _ c.turns.invariant.same _ _ w.in-CommitOk.ensures.answers).is (λ n t. c.goes.ensures n _ c.position-position.ensures t) in
           comes_unstored _ _ _ _ _ (g.met.P.Parser.laws _ c.requires.lawful) _ _ _ c.turns.invariant.reaches _ _ j _ c.new_error-in-Err-add.ensures.kind c.in-Err-add.ensures refl c.turns.invariant.cleared refl (λ _. refl)
@@ -80,7 +80,7 @@ turns-smaller g c =
     let f = g.Input.StreamOnce.failures c.args.input.now in
     let u : Run _ _ _ = record { first = g.M.ParseMode.first c.args.mode; state = c.args.state.now; left = c.args.state.now; old = v; new = v; before = f; after = f } in
     let e = ap (λ (x : SoFar _ _). x.mark) c.in_default-add.ensures in
-    elim c.match-parse_mode.branch [
+    elim c.match-parse_turn.branch [
       | in-CommitOk w ↦
           let j = judged_by _ _ _ _ _ (g.met.P.Parser.laws _ c.requires.lawful) u _ _ c.turns.invariant.reaches _ _ _ _ w.value-is (answers_same _ _ _ c.turns.invariant.same _ _ w.in-CommitOk.ensures.answers).is (λ n t. c.goes.ensures n _ c.position-position.ensures t) in
           rw e (comes_out _ _ _ _ _ (g.met.P.Parser.laws _ c.requires.lawful) u _ _ c.turns.invariant.reaches _ _ j c.if-not-goes.false)
@@ -94,24 +94,24 @@ turns-preserved g c =
     let v = g.Input.StreamOnce.view c.args.input.now in
     let f = g.Input.StreamOnce.failures c.args.input.now in
     let u : Run _ _ _ = record { first = g.M.ParseMode.first c.args.mode; state = c.args.state.now; left = c.args.state.now; old = v; new = v; before = f; after = f } in
-    elim c.match-parse_mode.branch [
+    elim c.match-parse_turn.branch [
       | in-CommitOk w ↦
           let j = judged_by _ _ _ _ _ (g.met.P.Parser.laws _ c.requires.lawful) u _ _ c.turns.invariant.reaches _ _ _ _ w.value-is (answers_same _ _ _ c.turns.invariant.same _ _ w.in-CommitOk.ensures.answers).is (λ n t. c.goes.ensures n _ c.position-position.ensures t) in
           record {
-            lawful = c.parse_mode.ensures.lawful;
-            valid = c.parse_mode.ensures.valid;
-            same = same_more _ _ _ c.turns.invariant.same c.parse_mode.ensures.same;
-            passes = passes_more _ _ _ _ _ _ c.turns.invariant.passes c.parse_mode.ensures.passes;
+            lawful = c.parse_turn.ensures.lawful;
+            valid = c.parse_turn.ensures.valid;
+            same = same_more _ _ _ c.turns.invariant.same c.parse_turn.ensures.same;
+            passes = passes_more _ _ _ _ _ _ c.turns.invariant.passes c.parse_turn.ensures.passes;
             cleared = c.turns.invariant.cleared;
             reaches = comes_again _ _ _ _ _ (g.met.P.Parser.laws _ c.requires.lawful) u _ _ c.turns.invariant.reaches c.turns.invariant.valid _ _ j c.if-not-goes.false _ _ c.set_first.ensures _ _ c.in_default-add.ensures refl;
           }
       | in-PeekOk w ↦
           let j = judged_by _ _ _ _ _ (g.met.P.Parser.laws _ c.requires.lawful) u _ _ c.turns.invariant.reaches _ _ _ _ w.value-is (answers_same _ _ _ c.turns.invariant.same _ _ w.in-PeekOk.ensures.answers).is (λ n t. c.goes.ensures n _ c.position-position.ensures t) in
           record {
-            lawful = c.parse_mode.ensures.lawful;
-            valid = c.parse_mode.ensures.valid;
-            same = same_more _ _ _ c.turns.invariant.same c.parse_mode.ensures.same;
-            passes = passes_more _ _ _ _ _ _ c.turns.invariant.passes c.parse_mode.ensures.passes;
+            lawful = c.parse_turn.ensures.lawful;
+            valid = c.parse_turn.ensures.valid;
+            same = same_more _ _ _ c.turns.invariant.same c.parse_turn.ensures.same;
+            passes = passes_more _ _ _ _ _ _ c.turns.invariant.passes c.parse_turn.ensures.passes;
             cleared = c.turns.invariant.cleared;
             reaches = comes_again _ _ _ _ _ (g.met.P.Parser.laws _ c.requires.lawful) u _ _ c.turns.invariant.reaches c.turns.invariant.valid _ _ j c.if-not-goes.false _ _ c.set_first.ensures _ _ c.in_default-add.ensures refl;
           }

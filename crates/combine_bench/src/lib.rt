@@ -1,0 +1,13 @@
+//! Our side of the measures of `bench/`: for each a function that is called from outside, whose parser takes the bytes whole or in pieces.
+#![tactic(auto)]
+
+mod classes;
+mod many_in_many;
+mod many_in_many_in_many;
+mod messages_collect;
+mod messages_skip;
+mod one_token;
+mod run;
+mod tuple_of_2;
+mod tuple_of_4;
+mod tuple_of_tuples;
