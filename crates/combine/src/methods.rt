@@ -18,6 +18,8 @@ pub trait ParserExt<Input: Stream>: Parser<Input> {
     final fn by_ref(&mut self) -> &mut Self
     where
         Self: Sized,
+        ensures same { result.now ≡ self.old }
+        ensures borrow { result.ghost_name ≡ self.entry.ghost_name }
     {
         self
     }

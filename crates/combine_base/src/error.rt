@@ -273,7 +273,10 @@ impl<T: Copy, R: Copy> StreamError<T, R> for UnexpectedParse {
         UnexpectedParse(Kind::Refused)
     }
 
-    fn end_of_input() -> Self {
+    fn end_of_input() -> Self
+        ensures kind { result.0 ≡ Kind.End }
+        ensures items { [] ≡ if_kept {T = T} {R = R} false end_of_input }
+    {
         UnexpectedParse(Kind::End)
     }
 

@@ -1,8 +1,8 @@
 //! Refusals whose errors are given items.
 ghost use Rattle.combine_base.specs.Drivers.{LooksAt};
 ghost use Rattle.combine_base.specs.Errors.{Only, Says};
-ghost use Rattle.combine_base.specs.Items.{OfToken, Unexpected};
-ghost use Rattle.combine_base.specs.Refusals.{NoToken, Peeked, Told};
+ghost use Rattle.combine_base.specs.Items.{Fixed, Message, OfToken, Unexpected};
+ghost use Rattle.combine_base.specs.Refusals.{NoToken, Peeked, Saying, SaysEnd, Told};
 ghost use Rattle.combine_base.specs.Streams.{Passes};
 
 use crate::error::{Info, ParseError, ParseResult, Tracked};
@@ -14,7 +14,8 @@ pub fn no_token<O, Input: Stream>(
     why: Kind,
     position: Input::Position,
 ) -> ParseResult<O, Input::Error>
-    ensures { NoToken Input.Error.seen.kind Input.Error.seen.frugal (Input.view input.now).is_open why result }
+    ensures refuses { NoToken Input.Error.seen.kind Input.Error.seen.frugal (Input.view input.now).is_open why result }
+    ensures says { SaysEnd Input.Error.seen position result }
 {
     let mut error = input.new_error(why, position);
     if why != Kind::End || input.is_partial() {
@@ -33,7 +34,8 @@ pub fn refusal_saying<Input: Stream>(
     position: Input::Position,
     message: &'static str,
 ) -> Input::Error
-    ensures { Told Input.Error.seen.kind Input.Error.seen.frugal result }
+    ensures told { Told Input.Error.seen.kind Input.Error.seen.frugal result }
+    ensures says { Saying Input.Error.seen Kind.Refused position (Only (Message (Fixed message.now))) result }
 {
     let mut error = input.new_error(Kind::Refused, position);
     error.add_message(&Info::Static(message));

@@ -1,5 +1,5 @@
 -- one call of `attempt`: it has passed over the distance, and each answer of the part there is an answer of it
-use Rattle.std.proofs.Common.{ℕ, ◌+◌, ◌<◌, ◌≤◌, ◌≡◌, Bool, true, false, ◌||◌, if◌then◌else◌, length, arith, ap, sym, subst, refl, ◌∙◌, length-append, nat_lt, Ok, Err, List, ltb-true, ltb-false}
+use Rattle.std.proofs.Common.{ℕ, ◌+◌, ◌<◌, ◌≤◌, ◌≡◌, Bool, true, false, ◌||◌, if◌then◌else◌, arith, ap, sym, subst, refl, ◌∙◌, length-append, nat_lt, Ok, Err, List, ltb-true, ltb-false}
 use Rattle.combine_base.specs.View.{View, Takes, advanced, extended, Follows}
 use Rattle.combine_base.specs.Advance.{advanced_extended}
 use Rattle.combine_base.specs.Outcome.{Outcome, Accepted, Refused, Undecided, after, IsCommitted}

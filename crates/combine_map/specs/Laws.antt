@@ -2,7 +2,7 @@
 use Rattle.std.specs.Prelude.{◌↔◌}
 use Rattle.combine_base.specs.View.{View}
 use Rattle.combine_base.specs.Outcome.{Outcome}
-use Rattle.combine_base.specs.Meaning.{Meaning, MeansSame}
+use Rattle.combine_base.specs.Meaning.{Meaning}
 
 -- two meanings have the same outcomes on every view, from the start; their states may differ
 abbrev pub SameFromTheStart : {P T R V S S' : Type 0} → Meaning P T R V S → Meaning P T R V S' → Type 0

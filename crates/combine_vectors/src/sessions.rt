@@ -7,7 +7,7 @@ use combine::parser::choice::optional;
 use combine::parser::repeat::{Append, many1, skip_many};
 use combine::parser::token::token;
 use combine::parser::{Answer, Parser, Session, SessionError};
-use combine::stream::{Kind, fed};
+use combine::stream::{Kind, Stream, fed};
 use std::alloc::{AllocError, Global};
 use std::process::Abort;
 
@@ -57,26 +57,35 @@ fn method_forms(rt: HostRuntime) {
     assert_eq!(rt; answer_to(rt.alloc(), parser, b"ab"), Ok(accepted));
 }
 
-/// What a parser answers to a slice, and how much of it is left.
-fn parsed<'a, P: Parser<&'a [u8]> + Drop>(
+/// What a parser answers to a whole input, and what is left of it.
+fn parsed<Input: Stream, P: Parser<Input> + Drop>(
     parser: P,
-    input: &'a [u8],
-) -> Result<(P::Output, usize), UnexpectedParse>
+    input: Input,
+) -> Result<(P::Output, Input), Input::Error>
     requires { P.lawful parser }
 {
     let mut parser = parser;
-    let (value, rest) = parser.parse(input)?;
-    Ok((value, rest.len()))
+    parser.parse(input)
+}
+
+/// A token with another behind it, if it is there.
+fn pair_of<Input: Stream>(
+    first: Input::Token,
+    second: Input::Token,
+    input: Input,
+) -> Result<((Input::Token, Option<Input::Token>), Input), Input::Error>
+where
+    Input::Token: PartialEq,
+{
+    parsed((token(first), optional(token(second))), input)
 }
 
 #[test]
-fn a_slice(rt: HostRuntime) {
+fn slices(rt: HostRuntime) {
+    let accepted = Ok(((b'a', Some(b'b')), b"c".as_slice()));
+    assert_eq!(rt; pair_of(b'a', b'b', b"abc".as_slice()), accepted);
     let refused = Err(UnexpectedParse(Kind::Refused));
-    assert_eq!(rt;
-        parsed((token(b'a'), optional(token(b'b'))), b"abc"),
-        Ok(((b'a', Some(b'b')), 1))
-    );
-    assert_eq!(rt; parsed((token(b'a'), optional(token(b'b'))), b"c"), refused);
+    assert_eq!(rt; pair_of(b'a', b'b', b"cab".as_slice()), refused);
 }
 
 #[test]

@@ -58,7 +58,8 @@ impl<T: Copy + 'static> Stream<T> {
 
     // Lets the taken tokens go where they are at least half, so that each token is moved few times.
     fn drop_taken(&mut self)
-        ensures { fed_view self.new ≡ fed_view self.old }
+        ensures same { fed_view self.new ≡ fed_view self.old }
+        ensures few { self.new.at + self.new.at ≤ length self.new.tokens.items }
     {
         let taken = self.at;
         let len = self.tokens.len();

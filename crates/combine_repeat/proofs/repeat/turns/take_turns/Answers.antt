@@ -57,10 +57,10 @@ returns-then-not-goes-clause-answers g c =
     elim c.match-parse_turn.branch [
       | in-CommitOk w ↦
           let j = judged_by _ _ _ _ _ (g.met.P.Parser.laws _ c.requires.lawful) _ _ _ c.turns.invariant.reaches _ _ _ _ w.value-is (answers_same _ _ _ c.turns.invariant.same _ _ w.in-CommitOk.ensures.answers).is (λ n t. c.goes.ensures n _ c.position-position.ensures t) in
-          comes_told _ _ _ _ _ (g.met.P.Parser.laws _ c.requires.lawful) _ _ _ c.turns.invariant.reaches _ _ j c.if-not-goes.true _ c.refusal_saying.ensures refl c.turns.invariant.cleared refl (λ _. refl)
+          comes_told _ _ _ _ _ (g.met.P.Parser.laws _ c.requires.lawful) _ _ _ c.turns.invariant.reaches _ _ j c.if-not-goes.true _ c.refusal_saying.ensures.told refl c.turns.invariant.cleared refl (λ _. refl)
       | in-PeekOk w ↦
           let j = judged_by _ _ _ _ _ (g.met.P.Parser.laws _ c.requires.lawful) _ _ _ c.turns.invariant.reaches _ _ _ _ w.value-is (answers_same _ _ _ c.turns.invariant.same _ _ w.in-PeekOk.ensures.answers).is (λ n t. c.goes.ensures n _ c.position-position.ensures t) in
-          comes_told _ _ _ _ _ (g.met.P.Parser.laws _ c.requires.lawful) _ _ _ c.turns.invariant.reaches _ _ j c.if-not-goes.true _ c.refusal_saying.ensures refl c.turns.invariant.cleared refl (λ _. refl)
+          comes_told _ _ _ _ _ (g.met.P.Parser.laws _ c.requires.lawful) _ _ _ c.turns.invariant.reaches _ _ j c.if-not-goes.true _ c.refusal_saying.ensures.told refl c.turns.invariant.cleared refl (λ _. refl)
     ]
 
 pub returns-in-Err-add-clause-answers : goal.returns-in-Err-add-clause-answers
