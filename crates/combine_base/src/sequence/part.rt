@@ -6,7 +6,7 @@ ghost use Rattle.combine_base.specs.Parts.{GoesOn, Runs, RunsFrom, accepted_as, 
 ghost use Rattle.combine_base.specs.Streams.{Passes};
 
 use crate::error::{ParseResult, Tracked};
-use crate::parser::{ParseMode, Parser};
+use crate::parser::{FirstMode, ParseMode, Parser};
 use crate::sequence::{Placed, SequenceState};
 use crate::stream::{Stream, needs_more};
 use std::mem;
@@ -166,12 +166,10 @@ pub(crate) fn parse_rest<
     T: Push<P::Output> + Drop,
     P: Parser<Input>,
     S: Placed<Last = SequenceState<T, P::PartialState>> + Default + Drop,
-    M: ParseMode,
 >(
     answer: ParseResult<T, Input::Error>,
     kept: S::Before,
     part: &mut P,
-    mode: M,
     input: &mut Input,
     state: &mut S,
 ) -> ParseResult<T::Pushed, Input::Error>
@@ -184,8 +182,6 @@ pub(crate) fn parse_rest<
         S.is_default S.place T.pushed (P.meaning part.old) kept
         state.new (Input.view input.old) (Input.view input.new) (Input.failures input.old) (Input.failures input.new) result answer }
 {
-    let mut afresh = mode;
-    afresh.set_first();
     match answer {
         ParseResult::CommitOk(value) => {
             let from = SequenceState {
@@ -193,7 +189,7 @@ pub(crate) fn parse_rest<
                 committed: true,
                 state: P::PartialState::default(),
             };
-            parse_last(part, afresh, input, from, state)
+            parse_last(part, FirstMode, input, from, state)
         }
         ParseResult::PeekOk(value) => {
             let from = SequenceState {
@@ -201,7 +197,7 @@ pub(crate) fn parse_rest<
                 committed: false,
                 state: P::PartialState::default(),
             };
-            parse_last(part, afresh, input, from, state)
+            parse_last(part, FirstMode, input, from, state)
         }
         ParseResult::CommitErr(error) => {
             *state = S::before(kept);

@@ -124,7 +124,7 @@ fn parse_2<Input: Stream, A: Parser<Input>, B: Parser<Input>, M: ParseMode>(
         Place::Before(at) => {
             let mut kept = PartialState1::default();
             let answer = parse_1(a, mode, input, at, &mut kept);
-            parse_rest(answer, kept, b, mode, input, state)
+            parse_rest(answer, kept, b, input, state)
         }
         Place::Last(at) => parse_last(b, mode, input, at, state),
     }
@@ -158,7 +158,7 @@ fn parse_3<Input: Stream, A: Parser<Input>, B: Parser<Input>, C: Parser<Input>, 
         Place::Before(at) => {
             let mut kept = PartialState2::default();
             let answer = parse_2(a, b, mode, input, at, &mut kept);
-            parse_rest(answer, kept, c, mode, input, state)
+            parse_rest(answer, kept, c, input, state)
         }
         Place::Last(at) => parse_last(c, mode, input, at, state),
     }
@@ -200,7 +200,7 @@ fn parse_4<
         Place::Before(at) => {
             let mut kept = PartialState3::default();
             let answer = parse_3(a, b, c, mode, input, at, &mut kept);
-            parse_rest(answer, kept, d, mode, input, state)
+            parse_rest(answer, kept, d, input, state)
         }
         Place::Last(at) => parse_last(d, mode, input, at, state),
     }
