@@ -125,7 +125,7 @@ impl<S: ResetStream + Positioned> Stream for S {}
 pub fn has_taken<Input: Stream>(begun: bool, since: Input::Position, input: &Input) -> bool
     ensures { (n : ℕ) (old : Input) → since ≡ (Input.view old).position → Takes Input.step n (Input.view old) (Input.view input.now) → result ≡ (begun || nat_lt 0 n) }
 {
-    begun || since.cmp(&input.position()).is_lt()
+    begun || since.cmp(&input.position()).is_ne()
 }
 
 /// Whether a committed error means need of more.
