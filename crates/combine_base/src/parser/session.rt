@@ -129,7 +129,7 @@ impl<P: Parser<fed::Stream<T>>, T: Copy + 'static> Session<P, T> {
     ghost use Rattle.combine_base.specs.declared.parser.session.Stage.{Stage};
     ghost use Rattle.combine_base.specs.declared.parser.session.Stage.TheVariants as stages;
 
-    // Parses the unread tokens, of which a piece is the end.
+    // Parses the unread tokens, of which a piece is the end. A stream in a local of its own is read much faster than one behind a reference.
     fn advance(
         parser: &mut P,
         stream: &mut fed::Stream<T>,
@@ -148,8 +148,11 @@ impl<P: Parser<fed::Stream<T>>, T: Copy + 'static> Session<P, T> {
             (record { parser = parser.new; state = state.new; seen = fed_view stream.new; stage = stage_after result })
             piece more result }
     {
-        let parsed = parser.parse_partial(stream, state);
-        judge(stream, parsed, stream.position())
+        let mut input = stream.take();
+        let parsed = parser.parse_partial(&mut input, state);
+        let answer = judge(&input, parsed, input.position());
+        stream.put(input);
+        answer
     }
 
     fn stage_after(parsed: &Result<Answer<P::Output, UnexpectedParse>, Kind>) -> Stage

@@ -4,6 +4,7 @@ ghost use Rattle.std.specs.Prelude.{◌≡◌, ℕ, ◌+◌, ◌^◌, ◌<◌, �
 use crate::error::UnexpectedParse;
 use crate::stream::{Failures, Kind, Positioned, ResetStream, StreamOnce};
 use std::alloc::{AllocError, Global};
+use std::mem::replace;
 
 /// Tokens that are fed piece by piece; those that are unread are kept.
 ///
@@ -46,6 +47,40 @@ impl<T: Copy + 'static> Stream<T> {
     {
         self.drop_taken();
         self.tokens.extend_from_slice(piece)
+    }
+
+    /// Takes the stream out. What is left has no unread tokens.
+    #[inline(always)]
+    pub(crate) fn take(&mut self) -> Self
+        ensures taken { fed_view result ≡ fed_view self.old }
+        ensures left { (fed_view self.new).unread ≡ [] }
+    {
+        let alloc = *self.tokens.allocator();
+        let at = self.at;
+        self.at = 0;
+        Stream {
+            tokens: replace(&mut self.tokens, Vec::new(alloc)),
+            at,
+            dropped: self.dropped,
+            is_open: self.is_open,
+        }
+    }
+
+    /// Puts back a stream that was taken out.
+    #[inline(always)]
+    pub(crate) fn put(&mut self, back: Self)
+        ensures { fed_view self.new ≡ fed_view back }
+    {
+        let Stream {
+            tokens,
+            at,
+            dropped,
+            is_open,
+        } = back;
+        self.tokens = tokens;
+        self.at = at;
+        self.dropped = dropped;
+        self.is_open = is_open;
     }
 
     /// How many more tokens may be fed.
