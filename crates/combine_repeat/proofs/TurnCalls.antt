@@ -7,7 +7,7 @@ use Rattle.combine_base.specs.Meaning.{Meaning, Reading, IsReading, begun}
 use Rattle.combine_base.specs.Answer.{Run, World, Answers, Accepts, Refuses, Asks, Leaves, fails, peeks, ends, loses}
 use Rattle.combine_base.specs.Refusals.{Told}
 use Rattle.combine_base.proofs.Progress.{Progress, takes_more, takes_open, progress_more, progress_outcome, resumes_more, takes_none}
-use Rattle.combine_base.proofs.Calls.{around, Settles, settles, peeked_refusal, unreset}
+use Rattle.combine_base.proofs.Calls.{around, Settles, settles, unreset}
 use Rattle.combine_repeat.specs.Turns.{Goes, Stops, Rule, IsRule, Collecting, SoFar, Collects, Turned}
 use Rattle.combine_repeat.proofs.Turning.{turned_stop, turned_block, turned_cut, after_a_block, after_a_cut}
 use Rattle.combine_base.specs.declared.stream.Kind.{Kind}
@@ -65,13 +65,11 @@ module _ {P T R A V S U E Mark : Type 0} (w : World P T S E) (fresh : U → Type
     turn_refuses i k d j e y a = record { meant = stops i (Refused k) (Refused (s.committed || k)) d j refl tt; leaves = leaves e y; failures = unchanged e.failures a }
 
     -- a peeked refusal that ends the turns, put back
-    pub turn_ends : (e : Tracked E) (v : V) (result : ParseResult V E) → rule.judge s.mark (Refused false) ≡ Stops (Accepted tt 0 false) → c.held v ≡ s.held → result ≡ (if s.committed then CommitOk v else PeekOk v) → Answers w m r (PeekErr e) → u.new ≡ r.old → (w.fresh r.left → fresh u.left) → (w.steady → u.after ≡ r.after) → Answers (around w fresh) whole u result
-    turn_ends e v result j h i p n l a = rw i (by_commitment s.committed (rw (or_false s.committed) at accepted))
+    pub turn_ends : (v : V) (result : ParseResult V E) → rule.judge s.mark (Refused false) ≡ Stops (Accepted tt 0 false) → c.held v ≡ s.held → result ≡ (if s.committed then CommitOk v else PeekOk v) → Refuses w m r false → u.new ≡ r.old → (w.fresh r.left → fresh u.left) → (w.steady → u.after ≡ r.after) → Answers (around w fresh) whole u result
+    turn_ends v result j h i y n l a = rw i (by_commitment s.committed (rw (or_false s.committed) at accepted))
       where
         accepted : Accepts (around w fresh) whole u v (s.committed || false)
-        accepted =
-            let y = peeked_refusal w m r (w.kind e.error) p.is in
-            turn_accepts (Refused false) 0 false v y.meant j h (rw n (takes_none w.step r.old)) (l y.leaves.state) a y.failures
+        accepted = turn_accepts (Refused false) 0 false v y.meant j h (rw n (takes_none w.step r.old)) (l y.leaves.state) a y.failures
 
         by_commitment : (b : Bool) → Accepts (around w fresh) whole u v b → Answers (around w fresh) whole u (if b then CommitOk v else PeekOk v)
         by_commitment true x = record { is = x }
@@ -121,8 +119,8 @@ module _ {P T R A V S U E Mark : Type 0} (w : World P T S E) (fresh : U → Type
     turn_unstored d e b k y = record { is = rw e (λ f. b, leaves k y) }
 
     -- the stream could not be put back
-    pub turn_unreset : (d : E) → w.kind d ≡ kinds.Reset → u.before.resets < u.after.resets → u.new ≡ r.new → (w.fresh r.left → fresh u.left) → Leaves w r → Answers (around w fresh) whole u (CommitErr d)
-    turn_unreset d e b n l y = unreset (around w fresh) whole u d e (record { count = z.progress.count + y.count; taken = all_taken y.count (rw n y.taken); state = l y.state }) b
+    pub turn_unreset : (d : E) → w.kind d ≡ kinds.Reset → u.before.resets < u.after.resets → Ends → Leaves w r → Answers (around w fresh) whole u (CommitErr d)
+    turn_unreset d e b k y = unreset (around w fresh) whole u d e (leaves k y) b
 
     -- a turn is a block: the next one begins
     pub turn_goes : IsReading (begun m r.first r.state) → (a : A) (k : Bool) (h : c.Held) (p : Accepts w m r a k) → rule.judge s.mark (Accepted a p.count k) ≡ Goes → c.more s.held a h → Progress w (begun whole u.first u.state) (Turned w.step rule c turn (turn (rule.next s.mark)) (after_a_block w.step rule hr c turn s h k)) u.old r.new u.before r.after

@@ -1,13 +1,14 @@
 //! The loop that all repetitions of one parser run, and what it keeps.
-ghost use Rattle.std.specs.Prelude.{◌≡◌, ◌||◌, ℕ, false, None, MatchResult, if◌then◌else◌};
+ghost use Rattle.std.specs.Prelude.{◌≡◌, ◌||◌, ℕ, false, true, None, MatchResult, if◌then◌else◌};
 ghost use Rattle.combine_base.specs.Meaning.{MeansSame};
 ghost use Rattle.combine_base.specs.View.{Takes};
 ghost use Rattle.combine_base.specs.Answer.{Answers, world};
 ghost use Rattle.combine_base.specs.Streams.{Passes};
+ghost use Rattle.combine_repeat.specs.OneTurn.{OneTurn, stopped_answer, stopped_state};
 ghost use Rattle.combine_repeat.specs.Repetition.{appended, asks_first, cut_at, fresh_turns, goes_at, kept_or, so_far, turns_from};
 
 use combine_base::error::{ParseResult, Tracked};
-use combine_base::parser::{ParseMode, Parser};
+use combine_base::parser::{FirstMode, ParseMode, Parser};
 use combine_base::refusal::refusal_saying;
 use combine_base::repeat::Append;
 use combine_base::stream::{Kind, Stream, has_taken, needs_more};
@@ -154,7 +155,7 @@ impl<F: Drop, S> TurnsState<F, S> {
     }
 }
 
-/// One call of the parser of a turn, as `parse_mode`. A turn that begins afresh is a first-mode call, so that the mode is known where it is compiled.
+/// One call of the parser of a turn, as `parse_mode`. A turn that begins afresh is a first-mode call, so that the mode is known where it is compiled, and has a state of its own, which is stored on need of more alone.
 #[inline(always)]
 fn parse_turn<Input: Stream, P: Parser<Input>, M: ParseMode>(
     parser: &mut P,
@@ -164,6 +165,7 @@ fn parse_turn<Input: Stream, P: Parser<Input>, M: ParseMode>(
 ) -> ParseResult<P::Output, Input::Error>
     requires lawful { P.lawful parser.old }
     requires valid { P.valid state.old }
+    requires fresh { M.first mode ≡ true → P.PartialState.is_default state.old }
     ensures lawful { P.lawful parser.new }
     ensures valid { P.valid state.new }
     ensures same { MeansSame (P.meaning parser.old) (P.meaning parser.new) }
@@ -174,9 +176,101 @@ fn parse_turn<Input: Stream, P: Parser<Input>, M: ParseMode>(
         result }
 {
     if mode.is_first() {
-        return parser.parse_first(input, state);
+        let mut own = P::PartialState::default();
+        let answer = parser.parse_first(input, &mut own);
+        if let ParseResult::CommitErr(error) = &answer {
+            if needs_more(input, error) {
+                *state = own;
+            }
+        }
+        return answer;
     }
     parser.parse_mode(mode, input, state)
+}
+
+/// Why no further turn runs.
+enum Stop<E> {
+    /// The turns end, accepted.
+    Over,
+    /// The turn that was asked for is refused peeked.
+    Refused(Tracked<E>),
+    /// The turn needs more.
+    More(E),
+    Failed(E),
+}
+
+/// One turn: where it is a block the next one runs, and else it is said why none does.
+#[inline(always)]
+fn one_turn<Input: Stream, P: Parser<Input>, F: Append<P::Output>, M: ParseMode>(
+    parser: &mut P,
+    mode: M,
+    turns: &mut Turns<F>,
+    input: &mut Input,
+    running: &mut P::PartialState,
+) -> Option<Stop<Input::Error>>
+    requires lawful { P.lawful parser.old }
+    requires valid { P.valid running.old }
+    requires fresh { M.first mode ≡ true → P.PartialState.is_default running.old }
+    ensures lawful { P.lawful parser.new }
+    ensures valid { P.valid running.new }
+    ensures same { MeansSame (P.meaning parser.old) (P.meaning parser.new) }
+    ensures passes { Passes (Input.marks input.old) (Input.marks input.new) (Input.failures input.old) (Input.failures input.new) }
+    ensures turned { OneTurn (world Input.step Input.Error.seen Input.steady P.PartialState.is_default)
+        (appended F.held F.none F.more F.lean) (P.meaning parser.old)
+        (record { first = M.first mode; state = running.old; left = running.new; old = Input.view input.old; new = Input.view input.new; before = Input.failures input.old; after = Input.failures input.new })
+        turns.old turns.new result }
+{
+    let checkpoint = input.checkpoint();
+    let position = input.position();
+    let (value, committed) = match parse_turn(parser, mode, input, running) {
+        ParseResult::CommitOk(value) => (value, true),
+        ParseResult::PeekOk(value) => (value, false),
+        ParseResult::PeekErr(refusal) => {
+            if turns.place.is_first() {
+                return Some(Stop::Refused(refusal));
+            }
+            if let Err(kind) = input.reset(checkpoint) {
+                return Some(Stop::Failed(input.new_error(kind, position)));
+            }
+            return Some(Stop::Over);
+        }
+        ParseResult::CommitErr(error) => {
+            if needs_more(input, &error) {
+                turns.place = turns.place.cut(position, input);
+                return Some(Stop::More(error));
+            }
+            return Some(Stop::Failed(error));
+        }
+    };
+    if !turns.place.goes(committed, position, input) {
+        let error = refusal_saying(input, position, "repetition takes nothing");
+        return Some(Stop::Failed(error));
+    }
+    if let Err(_refused) = turns.add(value, committed) {
+        return Some(Stop::Failed(input.new_error(Kind::Memory, position)));
+    }
+    None
+}
+
+/// What turns answer that stop so; on need of more they are kept.
+#[inline(always)]
+fn stopped<F: Drop, S, E: Drop>(
+    turns: Turns<F>,
+    why: Stop<E>,
+    state: &mut TurnsState<F, S>,
+) -> ParseResult<F, E>
+    ensures answer { result ≡ stopped_answer turns why }
+    ensures state { state.new ≡ stopped_state turns why state.old }
+{
+    match why {
+        Stop::Over => turns.end(),
+        Stop::Refused(refusal) => turns.refused(refusal),
+        Stop::More(error) => {
+            state.turns = Some(turns);
+            ParseResult::CommitErr(error)
+        }
+        Stop::Failed(error) => ParseResult::CommitErr(error),
+    }
 }
 
 /// One call of turns, which begin so where nothing is kept.
@@ -199,41 +293,15 @@ pub(crate) fn take_turns<Input: Stream, P: Parser<Input>, F: Append<P::Output>, 
         (record { first = M.first mode; state = state.old; left = state.new; old = Input.view input.old; new = Input.view input.new; before = Input.failures input.old; after = Input.failures input.new })
         result }
 {
-    let mut mode = mode;
     let mut turns = state.begin(mode.is_first(), start);
+    if mode.is_first() {
+        state.running = P::PartialState::default();
+    } else if let Some(why) = one_turn(parser, mode, &mut turns, input, &mut state.running) {
+        return stopped(turns, why, state);
+    }
     'turns: loop {
-        let checkpoint = input.checkpoint();
-        let position = input.position();
-        let (value, committed) = match parse_turn(parser, mode, input, &mut state.running) {
-            ParseResult::CommitOk(value) => (value, true),
-            ParseResult::PeekOk(value) => (value, false),
-            ParseResult::PeekErr(refusal) => {
-                if turns.place.is_first() {
-                    return turns.refused(refusal);
-                }
-                if let Err(kind) = input.reset(checkpoint) {
-                    return ParseResult::CommitErr(input.new_error(kind, position));
-                }
-                return turns.end();
-            }
-            ParseResult::CommitErr(error) => {
-                if needs_more(input, &error) {
-                    turns.place = turns.place.cut(position, input);
-                    state.turns = Some(turns);
-                }
-                return ParseResult::CommitErr(error);
-            }
-        };
-        if !turns.place.goes(committed, position, input) {
-            return ParseResult::CommitErr(refusal_saying(
-                input,
-                position,
-                "repetition takes nothing",
-            ));
+        if let Some(why) = one_turn(parser, FirstMode, &mut turns, input, &mut state.running) {
+            return stopped(turns, why, state);
         }
-        if let Err(_refused) = turns.add(value, committed) {
-            return ParseResult::CommitErr(input.new_error(Kind::Memory, position));
-        }
-        mode.set_first();
     }
 }

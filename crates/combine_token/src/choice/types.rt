@@ -8,7 +8,7 @@ ghost use Rattle.combine_token.specs.Or.{either_of, or_is_meaning, or_means_one,
 
 use super::{OrState, after_refusal, asks_for_more};
 use combine_base::error::{ErrorOffset, ParseResult, Tracked};
-use combine_base::parser::{ParseMode, Parser};
+use combine_base::parser::{FirstMode, ParseMode, Parser};
 use combine_base::stream::{Stream, needs_more};
 
 /// The choice of two parsers, as `or` makes it.
@@ -90,7 +90,7 @@ impl<P, Q> Or<P, Q> {
             ParseResult::PeekErr(refused) => match input.reset(start) {
                 Ok(()) => {
                     let fresh = Q::PartialState::default();
-                    let later = self.try_second(mode, input, fresh, state);
+                    let later = self.try_second(FirstMode, input, fresh, state);
                     after_refusal(refused, later)
                 }
                 Err(kind) => ParseResult::CommitErr(input.new_error(kind, position)),
@@ -131,7 +131,7 @@ impl<Input: Stream, P: Parser<Input>, Q: Parser<Input, Output = P::Output>> Pars
         match state.begin(mode.is_first()) {
             OrState::B(kept) => self.try_second(mode, input, kept, state),
             OrState::A(kept) => self.try_first(mode, input, kept, state),
-            OrState::Peek => self.try_first(mode, input, P::PartialState::default(), state),
+            OrState::Peek => self.try_first(FirstMode, input, P::PartialState::default(), state),
         }
     }
 

@@ -1,4 +1,4 @@
-use Rattle.std.proofs.Common.{◌≡◌, ◌+◌, length, None}
+use Rattle.std.proofs.Common.{◌≡◌, ◌+◌, length, true, None}
 use Rattle.combine_base.specs.Answer.{world}
 use Rattle.combine_base.specs.Meaning.{MeansSame}
 use Rattle.combine_base.specs.Streams.{Passes}
@@ -12,6 +12,7 @@ abbrev pub invariant-turns : goal.invariant-turns
 invariant-turns g l = record {
   lawful : g.P.Parser.lawful l.parser;
   valid : g.P.Parser.valid l.state.running;
+  fresh : g.P.PartialState.Default.is_default l.state.running;
   same : MeansSame (g.P.Parser.meaning l.fn.parser) (g.P.Parser.meaning l.parser);
   passes : Passes (g.Input.StreamOnce.marks l.fn.input) (g.Input.StreamOnce.marks l.input) (g.Input.StreamOnce.failures l.fn.input) (g.Input.StreamOnce.failures l.input);
   cleared : l.state.turns ≡ None;
@@ -24,7 +25,7 @@ invariant-turns g l = record {
       (g.P.Parser.meaning l.fn.parser)
       (turns_from g.Input.StreamOnce.step (appended g.F.Append.held g.F.Append.none g.F.Append.more g.F.Append.lean) (so_far g.F.Append.held l.fn.start) (g.P.Parser.meaning l.fn.parser))
       (g.M.ParseMode.first l.fn.mode) l.fn.state (g.Input.StreamOnce.view l.fn.input) (g.Input.StreamOnce.failures l.fn.input)
-      (g.M.ParseMode.first l.mode) l.state.running (g.Input.StreamOnce.view l.input) (g.Input.StreamOnce.failures l.input)
+      true l.state.running (g.Input.StreamOnce.view l.input) (g.Input.StreamOnce.failures l.input)
       (so_far g.F.Append.held l.turns);
 }
 
