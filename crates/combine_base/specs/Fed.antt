@@ -14,12 +14,10 @@ seen_from s at = record { position = s.dropped + at; unread = drop at s.tokens.i
 abbrev pub fed_view : {T : Type 0} → Stream T → View ℕ T
 fed_view s = seen_from s s.at
 
--- a checkpoint is the count of tokens taken, at a place that is held still
+-- a checkpoint is a place among the tokens that are held
 pub record Stands {T : Type 0} (s : Stream T) (checkpoint : ℕ) (v : View ℕ T) : Type 0 where
-  pub at : ℕ
-  pub within : at ≤ length s.tokens.items
-  pub place : checkpoint ≡ s.dropped + at
-  pub seen : v ≡ seen_from s at
+  pub within : checkpoint ≤ length s.tokens.items
+  pub seen : v ≡ seen_from s checkpoint
 
 -- the piece stands behind what was unread, or nothing changed
 abbrev pub FeedsPiece : {T E : Type 0} → View ℕ T → View ℕ T → List T → Result Unit E → Type 0

@@ -8,7 +8,7 @@ use std::mem::replace;
 
 /// Tokens that are fed piece by piece; those that are unread are kept.
 ///
-/// The position is how many tokens were taken. Only `feed` takes memory: no parse asks for any. Our own: with the crate a caller keeps the input that is left, and makes a stream of it for each call.
+/// The position is how many tokens were taken. A checkpoint is a place among the tokens that are held, and stands for it until the stream is fed again. Only `feed` takes memory: no parse asks for any. Our own: with the crate a caller keeps the input that is left, and makes a stream of it for each call.
 #[derive(Drop)]
 pub struct Stream<T: Copy + 'static> {
     tokens: Vec<T>,
@@ -174,24 +174,21 @@ impl<T: Copy + 'static> StreamOnce for Stream<T> {
 impl<T: Copy + 'static> ResetStream for Stream<T> {
     ghost use Rattle.combine_base.specs.Fed.{Stands};
 
-    type Checkpoint = u64;
+    type Checkpoint = usize;
 
     ghost stands = { Stands };
 
     ghost lasts = { λ s t c v h k. h c v k };
 
     #[inline(always)]
-    fn checkpoint(&self) -> u64 {
-        self.dropped + self.at as u64
+    fn checkpoint(&self) -> usize {
+        self.at
     }
 
     #[inline(always)]
-    fn reset(&mut self, checkpoint: u64) -> Result<(), Kind> {
-        if self.dropped <= checkpoint {
-            let at = checkpoint - self.dropped;
-            if at <= self.tokens.len() as u64 {
-                self.at = at as usize;
-            }
+    fn reset(&mut self, checkpoint: usize) -> Result<(), Kind> {
+        if checkpoint <= self.tokens.len() {
+            self.at = checkpoint;
         }
         Ok(())
     }
