@@ -149,11 +149,42 @@ fn feed_again<P: Parser<fed::Stream<u8>>>(
     }
 }
 
-/// The answers are those of ample memory, or want of memory within the parse: also where `growths/run` has the allocator refuse.
+/// What the sessions below are fed.
+const PIECES: [&str; 3] = ["aa", "a", "aaaaaaaaaaaaaaaaaaaa"];
+
+/// All that was fed is accepted.
+fn assert_all_accepted(rt: &impl Abort, answer: Answer<Vec<u8>, UnexpectedParse>) {
+    let Answer::Accepted {
+        value,
+        taken,
+        committed,
+    } = answer
+    else {
+        assert!(rt; false, "accepted where memory is ample");
+        return;
+    };
+    assert_eq!(rt; value.as_slice(), [b'a'; 23].as_slice());
+    assert_eq!(rt; (taken, committed), (23, true));
+}
+
+/// With ample memory: where this fails, `trials/run` sees that a growth of the next test was refused.
+#[test]
+fn a_session_with_ample_memory(rt: HostRuntime) {
+    let mut session = Session::new(rt.alloc(), many1::<Vec<u8>, _, _>(rt.alloc(), token(b'a')));
+    for piece in PIECES {
+        assert_eq!(rt; session.feed(piece.as_bytes()), Ok(Answer::More));
+    }
+    match session.end() {
+        Ok(answer) => assert_all_accepted(&rt, answer),
+        Err(_why) => assert!(rt; false, "accepted where memory is ample"),
+    }
+}
+
+/// The answers are those of ample memory, or want of memory within the parse: also where `trials/run` has the allocator refuse.
 #[test]
 fn a_session_with_any_growth_refused(rt: HostRuntime) {
     let mut session = Session::new(rt.alloc(), many1::<Vec<u8>, _, _>(rt.alloc(), token(b'a')));
-    for piece in ["aa", "a", "aaaaaaaaaaaaaaaaaaaa"] {
+    for piece in PIECES {
         match feed_again(&rt, &mut session, piece.as_bytes()) {
             Ok(answer) => assert_eq!(rt; answer, Answer::More),
             Err(why) => {
@@ -164,19 +195,16 @@ fn a_session_with_any_growth_refused(rt: HostRuntime) {
         }
     }
     match session.end() {
-        Ok(
-            Answer::Accepted {
-                value,
-                taken,
-                committed,
-            },
-        ) => {
-            assert_eq!(rt; value.as_slice(), [b'a'; 23].as_slice());
-            assert_eq!(rt; (taken, committed), (23, true));
-        }
-        Ok(_) => assert!(rt; false, "accepted where memory is ample"),
+        Ok(answer) => assert_all_accepted(&rt, answer),
         Err(why) => assert_eq!(rt; why, SessionError::Fault(Kind::Memory)),
     }
+}
+
+/// With ample memory: where this fails, `trials/run` sees that a growth of the next test was refused.
+#[test]
+fn a_skipping_session_with_ample_memory(rt: HostRuntime) {
+    let mut session = Session::new(rt.alloc(), skip_many(token(b'a')));
+    assert_eq!(rt; session.feed(b"aa"), Ok(Answer::More));
 }
 
 /// A parser that takes no memory answers as ever; only `feed` may be refused.
