@@ -1,0 +1,49 @@
+//! Parsers that are driven by hand: over a stream that is fed, with a state that the caller keeps.
+
+use combine::error::UnexpectedParse;
+use combine::parser::Parser;
+use combine::parser::combinator::attempt;
+use combine::parser::token::token;
+use combine::stream::{Kind, fed};
+use std::alloc::AllocError;
+
+/// Feeds a piece; want of memory where it finds no room.
+fn feed(stream: &mut fed::Stream<u8>, piece: &[u8]) -> Result<(), AllocError> {
+    if stream.room() < piece.len() as u64 {
+        return Err(AllocError);
+    }
+    stream.feed(piece)
+}
+
+#[test]
+fn a_state_that_the_caller_keeps(rt: HostRuntime) -> Result<(), AllocError> {
+    let mut parser = (token(b'a'), token(b'b'));
+    let mut state = Default::default();
+    let mut stream = fed::Stream::new(rt.alloc());
+    feed(&mut stream, b"a")?;
+    let more = parser.parse_with_state(&mut stream, &mut state);
+    assert_eq!(rt; more, Err(UnexpectedParse(Kind::End)));
+    assert!(rt; stream.unread().is_empty());
+    feed(&mut stream, b"bc")?;
+    let accepted = parser.parse_with_state(&mut stream, &mut state);
+    assert_eq!(rt; accepted, Ok((b'a', b'b')));
+    assert_eq!(rt; stream.unread(), b"c".as_slice());
+    Ok(())
+}
+
+/// All tokens are unread again, also those of the piece before.
+#[test]
+fn a_refused_attempt_leaves_all_tokens(rt: HostRuntime) -> Result<(), AllocError> {
+    let mut parser = attempt((token(b'a'), token(b'b')));
+    let mut state = Default::default();
+    let mut stream = fed::Stream::new(rt.alloc());
+    feed(&mut stream, b"a")?;
+    let more = parser.parse_with_state(&mut stream, &mut state);
+    assert_eq!(rt; more, Err(UnexpectedParse(Kind::End)));
+    assert_eq!(rt; stream.unread(), b"a".as_slice());
+    feed(&mut stream, b"c")?;
+    let refused = parser.parse_with_state(&mut stream, &mut state);
+    assert_eq!(rt; refused, Err(UnexpectedParse(Kind::Refused)));
+    assert_eq!(rt; stream.unread(), b"ac".as_slice());
+    Ok(())
+}
