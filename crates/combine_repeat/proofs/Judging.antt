@@ -9,10 +9,10 @@ use Rattle.combine_base.proofs.Progress.{takes_none}
 use Rattle.combine_base.proofs.Same.{answers_same}
 use Rattle.combine_base.specs.declared.stream.Failures.{Failures}
 use Rattle.combine_base.specs.declared.error.Tracked.{Tracked}
-use Rattle.combine_base.specs.declared.error.ParseResult.TheVariants.{CommitOk, PeekOk, CommitErr, PeekErr}
+use Rattle.combine_base.specs.declared.error.ParseResult.TheVariants.{CommitErr, PeekErr}
 use Rattle.combine_repeat.specs.Turns.{Collecting}
 use Rattle.combine_repeat.specs.Repetition.{goes_at}
-use Rattle.combine_repeat.specs.OneTurn.{Judged, OneTurn, GoesOn, IsOver, IsRefused, NeedsMore, HasFailed, InTurn, TakesNothing, Unstored, Unreset}
+use Rattle.combine_repeat.specs.OneTurn.{Judged, OneTurn, HasFailed, InTurn, TakesNothing, Unstored, Unreset}
 use Rattle.combine_repeat.specs.declared.repeat.turns.Place.{Place}
 use Rattle.combine_repeat.specs.declared.repeat.turns.Stop.{Stop}
 use Rattle.combine_repeat.specs.declared.repeat.turns.Stop.TheVariants as stop

@@ -1,5 +1,6 @@
 pub mod Turning
 pub mod TurnCalls
+pub mod OwnState
 pub mod Judging
 pub mod Repeating
 pub mod Mapping

@@ -1,5 +1,5 @@
 -- one call of a repetition: where its turns begin, and each way out of them
-use Rattle.std.proofs.Common.{ℕ, ◌+◌, ◌<◌, ◌≤◌, ◌≡◌, Bool, true, false, ◌||◌, ◌&&◌, if◌then◌else◌, nat_lt, Option, Some, None, length, drop, arith, ap, sym, refl, ◌∙◌, length-drop, ltb-true, subst}
+use Rattle.std.proofs.Common.{ℕ, ◌+◌, ◌<◌, ◌≤◌, ◌≡◌, Bool, true, false, ◌&&◌, if◌then◌else◌, nat_lt, Option, Some, None, length, drop, arith, ap, sym, refl, ◌∙◌, length-drop, ltb-true, subst}
 use Rattle.combine_base.specs.View.{View, Takes}
 use Rattle.combine_base.specs.Outcome.{Accepted, Refused}
 use Rattle.combine_base.specs.Meaning.{Meaning, IsReading, IsMeaning, begun}
@@ -7,7 +7,7 @@ use Rattle.combine_base.specs.Answer.{Run, World, Answers, Asks}
 use Rattle.combine_base.proofs.Progress.{progress_none, takes_open}
 use Rattle.combine_base.proofs.Calls.{around, needs}
 use Rattle.combine_repeat.specs.Turns.{Stops, Collecting, SoFar, Turned}
-use Rattle.combine_repeat.specs.Repetition.{asks_first, fresh_turns, goes_at, goes_if, refused_at, cut_at, until_refused, so_far, so_far_or, kept_or, turns_from}
+use Rattle.combine_repeat.specs.Repetition.{asks_first, fresh_turns, goes_at, goes_if, refused_at, until_refused, so_far, so_far_or, kept_or, turns_from}
 use Rattle.combine_repeat.specs.RepetitionLaws.{until_refused_is_rule}
 use Rattle.combine_repeat.specs.OneTurn.{OneTurn, GoesOn, IsOver, IsRefused, NeedsMore, HasFailed, InTurn, TakesNothing, Unstored, Unreset, stopped_answer, stopped_state}
 use Rattle.combine_repeat.proofs.TurnCalls.{Reaches, Ends, turn_ends, turn_peeks, turn_told, turn_unstored, turn_unreset, turn_goes, turn_asks, turn_fails}

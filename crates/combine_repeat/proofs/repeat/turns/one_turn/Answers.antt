@@ -1,14 +1,24 @@
 use Rattle.std.proofs.Common.{refl, sym, ◌∙◌}
-use Rattle.combine_repeat.specs.OneTurn.{TakesNothing, Unstored}
+use Rattle.std.proofs.lemmas.Bool.{false≢true}
+use Rattle.combine_repeat.specs.OneTurn.{InTurn, TakesNothing, Unstored}
 use Rattle.combine_repeat.proofs.Judging.{judged_by, put_back}
 use Rattle.combine_repeat.proofs.repeat.turns.one_turn.Goals as goal
 use Rattle.combine_repeat.proofs.repeat.turns.one_turn.Goals.{in-CommitOk, in-PeekOk}
+
+pub returns-then-is_first-clause-turned : goal.returns-then-is_first-clause-turned
+returns-then-is_first-clause-turned g c = record { is = record { first = sym c.is_first.ensures ∙ c.if-is_first.true; answers = c.in-PeekErr.ensures.answers; turns = refl } }
 
 pub returns-in-PeekErr-clause-turned : goal.returns-in-PeekErr-clause-turned
 returns-in-PeekErr-clause-turned g c =
     let n = c.in_default.ensures.to.is in
     let e = n.0 _ (g.met.Input.ResetStream.lasts _ _ _ _ c.parse_turn.ensures.passes.marks c.checkpoint-checkpoint.ensures.stands) in
     record { is = record { later = sym c.is_first.ensures ∙ c.if-is_first.false; refused = put_back _ _ _ _ _ _ _ _ _ _ _ _ c.in-PeekErr.ensures.answers e n.1; view = e; turns = refl } }
+
+pub returns-then-needs_more-clause-turned : goal.returns-then-needs_more-clause-turned
+returns-then-needs_more-clause-turned g c = record { is = record { needs = c.needs_more.ensures.0 c.if-needs_more.true; answers = c.in-CommitErr.ensures.answers; place = _; cut = λ n t. c.cut-turns.ensures n _ c.position-position.ensures t; turns = refl } }
+
+pub returns-in-CommitErr-clause-turned : goal.returns-in-CommitErr-clause-turned
+returns-in-CommitErr-clause-turned g c = record { is = InTurn (λ q. false≢true (sym c.if-needs_more.false ∙ c.needs_more.ensures.1 q)) c.in-CommitErr.ensures.answers }
 
 pub returns-then-not-goes-clause-turned : goal.returns-then-not-goes-clause-turned
 returns-then-not-goes-clause-turned g c =
