@@ -1,11 +1,13 @@
 -- what the error of a call says, and how it becomes that of a call around it
-use Rattle.std.proofs.Common.{◌<◌, ◌≡◌, Bool, true, false, sym, subst, refl, ◌∙◌}
+use Rattle.std.proofs.Common.{◌<◌, ◌≤◌, ◌≡◌, ◌+◌, arith, Bool, true, false, sym, subst, refl, ◌∙◌}
+use Rattle.combine_base.specs.View.{Moves}
 use Rattle.combine_base.specs.Meaning.{Meaning}
 use Rattle.combine_base.specs.Answer.{Run, World, Answers, Refuses, Asks, Leaves, fails, peeks, ends, loses}
-use Rattle.combine_base.proofs.Progress.{takes_open}
+use Rattle.combine_base.proofs.Progress.{takes_more, takes_open}
 use Rattle.combine_base.specs.declared.stream.Kind.{Kind}
 use Rattle.combine_base.specs.declared.stream.Kind.TheVariants as kinds
-use Rattle.combine_base.specs.declared.error.ParseResult.TheVariants.{CommitErr}
+use Rattle.combine_base.specs.declared.error.Tracked.{Tracked}
+use Rattle.combine_base.specs.declared.error.ParseResult.TheVariants.{CommitErr, PeekErr}
 
 module _ {P T R A S E : Type 0} (w : World P T S E) (m : Meaning P T R A S) (r : Run P T S) where
   pub peeked_refusal : (k : Kind) → peeks w m r k → Refuses w m r false
@@ -115,3 +117,13 @@ module _ {P T R A S E : Type 0} (w : World P T S E) (m : Meaning P T R A S) (u :
   -- the stream could not be put back
   pub unreset : (e : E) → w.kind e ≡ kinds.Reset → Leaves w u → u.before.resets < u.after.resets → Answers w m u (CommitErr e)
   unreset e i l h = record { is = rw i (h, l) }
+
+module _ {P T R A B S S' E : Type 0} (w : World P T S E) (fresh : S' → Type 0) (m : Meaning P T R A S) (m' : Meaning P T R B S') (r : Run P T S) (u : Run P T S') where
+  -- the stream could not be put back to where a refusal began, and an end of what was unread there is left
+  pub refusal_unreset : (t : Tracked E) → Answers w m r (PeekErr t) → (k : Kind) → (k ≡ kinds.Reset) × Moves w.step r.new u.new × (r.after.resets < u.after.resets) → r.before.resets ≤ r.after.resets → u.old ≡ r.old → u.before ≡ r.before → (w.fresh r.left → fresh u.left) → (e : E) → w.kind e ≡ k → Answers (around w fresh) m' u (CommitErr e)
+  refusal_unreset t p k h x i j f e q =
+      let y = (peeked_refusal w m r (w.kind t.error) p.is).leaves in
+      let z = h.1 in
+      let a = h.2 in
+      let n = takes_more w.step y.count z.count r.old r.new u.new y.taken z.taken in
+      record { is = rw (q, h.0) (rw j (omega arith), record { count = y.count + z.count; taken = rw i n; state = f y.state }) }

@@ -4,11 +4,12 @@ use Rattle.std.specs.Cmp.{IsTotalOrder}
 use Rattle.std.specs.declared.cmp.Ordering.{Ordering}
 use Rattle.std.specs.declared.cmp.Ordering.TheVariants.{Less}
 use Rattle.std.specs.Ordering.{is_lt}
-use Rattle.combine_base.specs.View.{View, Takes, advanced}
+use Rattle.combine_base.specs.View.{View, Takes, Moves, advanced}
 use Rattle.combine_base.specs.Advance.{advanced_twice}
 use Rattle.combine_base.specs.Streams.{TakesToken, FindsEnd, no_token}
-use Rattle.combine_base.specs.Distances.{Moves, PassesOver, Counts, Measures}
+use Rattle.combine_base.specs.Distances.{PassesOver, Counts, Measures}
 use Rattle.combine_base.proofs.Moved.{moved}
+use Rattle.combine_base.proofs.Progress.{moves_more}
 use Rattle.combine_base.specs.declared.stream.Kind.{Kind}
 use Rattle.combine_base.specs.declared.stream.Kind.TheVariants as kinds
 use Rattle.combine_base.specs.declared.stream.Failures.{Failures}
@@ -53,7 +54,7 @@ module _ {P T : Type 0} (step : P → T → P) where
 
     pub over_stopped : (d : ℕ) → i < d → (k : Kind) → no_token steady step now new f g k → PassesOver steady step old new b g d (Err k)
     over_stopped d l kinds.End e = let z = found_end e in record { is = (omega arith, moves_to e.same) }
-    over_stopped d l kinds.Read e = let z = e.1 in record { is = (omega arith, moves_to e.0) }
+    over_stopped d l kinds.Read e = let z = e.1 in record { is = (omega arith, moves_more step i old now new s e.0) }
     over_stopped d l kinds.Refused e = absurd e
     over_stopped d l kinds.Memory e = absurd e
     over_stopped d l kinds.Reset e = absurd e
@@ -61,18 +62,22 @@ module _ {P T : Type 0} (step : P → T → P) where
 
     pub count_stopped : (n : ℕ) → i < n → n ≤ length old.unread → (k : Kind) → no_token steady step now new f g k → Counts steady step old new b g n (Err k)
     count_stopped n l m kinds.End e = absurd (let z = found_end e in omega arith)
-    count_stopped n l m kinds.Read e = let z = e.1 in record { is = (refl, omega arith, moves_to e.0) }
+    count_stopped n l m kinds.Read e = let z = e.1 in record { is = (refl, omega arith, moves_more step i old now new s e.0) }
     count_stopped n l m kinds.Refused e = absurd e
     count_stopped n l m kinds.Memory e = absurd e
     count_stopped n l m kinds.Reset e = absurd e
     count_stopped n l m kinds.Lost e = absurd e
 
+-- the stream could not be put back to v
+pub not_measured : {P T : Type 0} (steady : Type 0) (step : P → T → P) (v old new : View P T) (f g : Failures) (n : ℕ) (k : Kind) → Takes step n v old → (k ≡ kinds.Reset) × Moves step old new × (f.resets < g.resets) → Measures steady step old new f g v n (Err k)
+not_measured steady step v old new f g n k t r = record { is = (rw r.0 r.2, moves_more step n v old new t r.1) }
+
 -- the stream was put back to v, the tokens to where it was were counted, and it is put back again
 module _ {P T : Type 0} (steady : Type 0) (step : P → T → P) (v old a b new : View P T) (f0 f1 f2 f3 : Failures) (n : ℕ) (e : a ≡ v) where
-  pub measure_unreset : (c : ℕ) → Counts steady step a b f1 f2 n (Ok c) → (k : Kind) → (k ≡ kinds.Reset) × (new ≡ b) × (f2.resets < f3.resets) → f0.resets ≤ f2.resets → Measures steady step old new f0 f3 v n (Err k)
+  pub measure_unreset : (c : ℕ) → Counts steady step a b f1 f2 n (Ok c) → (k : Kind) → (k ≡ kinds.Reset) × Moves step b new × (f2.resets < f3.resets) → f0.resets ≤ f2.resets → Measures steady step old new f0 f3 v n (Err k)
   measure_unreset c h k r i =
       let j = r.2 in
-      record { is = (rw r.0 (omega arith), record { count = n; taken = rw r.1 (subst (λ x. Takes step n x b) e h.is.1) }) }
+      record { is = (rw r.0 (omega arith), moves_more step n v b new (subst (λ x. Takes step n x b) e h.is.1) r.1) }
 
   pub measure_stopped : (k : Kind) → Counts steady step a b f1 f2 n (Err k) → f0.reads ≤ f1.reads → Measures steady step old b f0 f2 v n (Err k)
   measure_stopped k h i =

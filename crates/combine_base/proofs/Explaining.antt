@@ -1,11 +1,20 @@
--- a peeked refusal that was put back and explained
-use Rattle.std.proofs.Common.{◌≡◌, ◌⊎◌, inl, inr, List, [], ◌∷◌, sym, subst}
-use Rattle.combine_base.specs.View.{View}
+-- a peeked refusal that was put back and explained, or could not be
+use Rattle.std.proofs.Common.{◌≡◌, ◌<◌, ◌≤◌, ◌+◌, ◌⊎◌, inl, inr, List, [], ◌∷◌, false, sym, subst, arith, Err}
+use Rattle.combine_base.specs.View.{View, Takes, Moves}
 use Rattle.combine_base.specs.Items.{Item}
 use Rattle.combine_base.specs.Errors.{Errors, Says, Added, Unstored}
 use Rattle.combine_base.specs.Meaning.{Meaning, MeansSame}
-use Rattle.combine_base.specs.Drivers.{AtToken, Explained}
+use Rattle.combine_base.specs.Drivers.{AtToken, Explained, Broke, LooksAt}
+use Rattle.combine_base.specs.Streams.{TakesToken}
+use Rattle.combine_base.specs.Answer.{Run, World, Answers, Refuses, Leaves, fails}
 use Rattle.combine_base.specs.Refusals.{Peeked}
+use Rattle.combine_base.proofs.Calls.{peeked_refusal}
+use Rattle.combine_base.proofs.Distances.{takes_token}
+use Rattle.combine_base.proofs.Progress.{takes_more, moves_more}
+use Rattle.combine_base.specs.declared.stream.Kind.{Kind}
+use Rattle.combine_base.specs.declared.stream.Kind.TheVariants as kinds
+use Rattle.combine_base.specs.declared.stream.Failures.{Failures}
+use Rattle.combine_base.specs.declared.error.Tracked.{Tracked}
 use Rattle.combine_base.specs.declared.error.ParseResult.{ParseResult}
 use Rattle.combine_base.specs.declared.error.ParseResult.TheVariants.{CommitOk, PeekOk, CommitErr, PeekErr}
 
@@ -31,3 +40,33 @@ module _ {P T R V S E : Type 0} (s : Errors T R P E) (m m' : Meaning P T R V S) 
   explained_by (PeekOk v) b a p = absurd p.is
   explained_by (CommitErr x) b a p = record { is = tt }
   explained_by (PeekErr t) b a p = record { is = record { own = e; back = b; says = subst (λ x. Says s m.lean (AtToken m.adds old.unread) e x) (sym p.is.0) (as_before a) } }
+
+-- the stream was put back, the token there was read, and the stream could not be put back again
+pub look_unreset : {P T : Type 0} (steady : Type 0) (step : P → T → P) (marked : View P T → Type 0) (old there read new : View P T) (f0 f1 f2 f3 : Failures) (t : T) (k : Kind) → ((v : View P T) → marked v → there ≡ v) → TakesToken steady step there read f1 f2 t → (k ≡ kinds.Reset) × Moves step read new × (f2.resets < f3.resets) → f0.resets ≤ f2.resets → LooksAt steady step marked old new f0 f3 (Err k)
+look_unreset {P} {T} steady step marked old there read new f0 f1 f2 f3 t k back taken unreset i =
+    let j = unreset.2 in
+    let one : (v : View P T) → marked v → Takes step 1 v read = λ v h. subst (λ x. Takes step 1 x read) (back v h) (takes_token step steady there read f1 f2 t taken) in
+    record { is = (rw unreset.0 (omega arith), λ v h. inr (moves_more step 1 v read new (one v h) unreset.1)) }
+
+-- the stream could not be put back, or its first token could not be read
+module _ {P T R V S E : Type 0} (w : World P T S E) (m : Meaning P T R V S) (r : Run P T S) (new : View P T) (after : Failures) where
+  abbrev then : Run P T S
+  then = record { first = r.first; state = r.state; left = r.left; old = r.old; new = new; before = r.before; after = after }
+
+  pub unexplained : (t : Tracked E) (k : Kind) (e : E) → Answers w m r (PeekErr t) → Broke k r.after after → Moves w.step r.new new ⊎ Moves w.step r.old new → r.before.reads ≤ r.after.reads → r.before.resets ≤ r.after.resets → w.kind e ≡ k → Answers w m then (CommitErr e)
+  unexplained t k e p b q x y i = record { is = rw i (by_kind k b) }
+    where
+      refusal : Refuses w m r false
+      refusal = peeked_refusal w m r (w.kind t.error) p.is
+
+      left : Moves w.step r.new new ⊎ Moves w.step r.old new → Leaves w then
+      left (inl z) = record { count = refusal.leaves.count + z.count; taken = takes_more w.step refusal.leaves.count z.count r.old r.new new refusal.leaves.taken z.taken; state = refusal.leaves.state }
+      left (inr z) = record { count = z.count; taken = z.taken; state = refusal.leaves.state }
+
+      by_kind : (k : Kind) → Broke k r.after after → fails w m then k
+      by_kind kinds.Read h = (omega arith, left q)
+      by_kind kinds.Reset h = (omega arith, left q)
+      by_kind kinds.Refused h = absurd h
+      by_kind kinds.End h = absurd h
+      by_kind kinds.Memory h = absurd h
+      by_kind kinds.Lost h = absurd h

@@ -1,6 +1,6 @@
 -- a call that has gone on to a later place: what is left there means what the whole does, less what was taken
 use Rattle.std.proofs.Common.{ℕ, ◌+◌, ◌<◌, ◌≡◌, List, [], Bool, true, false, length, drop, arith, ap, sym, subst, refl, ◌∙◌, length-drop, nat_lt, ltb-true, ltb-false}
-use Rattle.combine_base.specs.View.{View, Takes, advanced, extended, Follows}
+use Rattle.combine_base.specs.View.{View, Takes, Moves, advanced, extended, Follows}
 use Rattle.combine_base.specs.Advance.{advanced_twice, extended_none, extended_same, follows_none}
 use Rattle.combine_base.specs.Outcome.{Outcome, Accepted, Refused, Undecided, after, IsCommitted}
 use Rattle.combine_base.specs.Meaning.{Reading}
@@ -25,6 +25,12 @@ module _ {P T : Type 0} (step : P → T → P) where
         enough = let a = h.enough in let b = k.enough in omega (arith, length-drop n u.unread);
         rest = k.rest ∙ ap (advanced step m) e ∙ advanced_twice step n m u;
       }
+
+  pub moves_none : (v : View P T) → Moves step v v
+  moves_none v = record { count = 0; taken = takes_none v }
+
+  pub moves_more : (n : ℕ) (u v w : View P T) → Takes step n u v → Moves step v w → Moves step u w
+  moves_more n u v w h k = record { count = n + k.count; taken = takes_more n k.count u v w h k.taken }
 
   pub takes_open : (n : ℕ) (u v : View P T) → Takes step n u v → v.is_open ≡ u.is_open
   takes_open n u v h = ap (λ (x : View P T). x.is_open) h.rest

@@ -1,15 +1,10 @@
 -- tokens passed over, and tokens counted
 use Rattle.std.specs.Prelude.{ℕ, ◌<◌, ◌≡◌, length, Result, Ok, Err}
-use Rattle.combine_base.specs.View.{View, Takes}
+use Rattle.combine_base.specs.View.{View, Takes, Moves}
 use Rattle.combine_base.specs.Drivers.{Broke}
 use Rattle.combine_base.specs.declared.stream.Kind.{Kind}
 use Rattle.combine_base.specs.declared.stream.Kind.TheVariants as kinds
 use Rattle.combine_base.specs.declared.stream.Failures.{Failures}
-
--- some tokens were taken
-pub record Moves {Position Token : Type 0} (step : Position → Token → Position) (old new : View Position Token) : Type 0 where
-  pub count : ℕ
-  pub taken : Takes step count old new
 
 module _ {Position Token : Type 0} (steady : Type 0) (step : Position → Token → Position) (old new : View Position Token) (before after : Failures) where
   -- why a distance was not passed over: the tokens ended within it, or a read failed

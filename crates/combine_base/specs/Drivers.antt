@@ -1,6 +1,6 @@
 -- what a peeked refusal is made to say, and what the drivers answer
-use Rattle.std.specs.Prelude.{ℕ, ◌≡◌, ◌<◌, ◌⊎◌, List, [], ◌∷◌, true, Result, Ok, Err, Option, Some, None}
-use Rattle.combine_base.specs.View.{View, Takes}
+use Rattle.std.specs.Prelude.{◌≡◌, ◌<◌, ◌⊎◌, List, [], ◌∷◌, true, Result, Ok, Err, Option, Some, None}
+use Rattle.combine_base.specs.View.{View, Moves}
 use Rattle.combine_base.specs.Items.{Item, Unexpected, OfToken}
 use Rattle.combine_base.specs.Errors.{Errors, Says}
 use Rattle.combine_base.specs.Meaning.{Meaning}
@@ -33,10 +33,10 @@ first [] = None
 first (t ∷ ts) = Some t
 
 module _ {P T : Type 0} (steady : Type 0) (step : P → T → P) (marked : View P T → Type 0) (old new : View P T) (before after : Failures) where
-  -- the stream is put back, but for a failed read or reset
+  -- the stream is put back, but for a failed read or reset, which leaves an end of what was unread there or before the call
   abbrev pub puts_back : {A : Type 0} → (View P T → A → Type 0) → Result A Kind → Type 0
   puts_back said (Ok a) = ((v : View P T) → marked v → (new ≡ v) × said v a) × (steady → after ≡ before)
-  puts_back said (Err k) = Broke k before after × ((v : View P T) → marked v → (new ≡ old) ⊎ ((n : ℕ) × Takes step n v new))
+  puts_back said (Err k) = Broke k before after × ((v : View P T) → marked v → Moves step old new ⊎ Moves step v new)
 
   -- the first token is looked at
   pub record LooksAt (result : Result (Option T) Kind) : Type 0 where

@@ -1,6 +1,6 @@
 -- what the calls of a stream promise
 use Rattle.std.specs.Prelude.{◌<◌, ◌≤◌, ◌≡◌, [], ◌∷◌, Result, Ok, Err}
-use Rattle.combine_base.specs.View.{View}
+use Rattle.combine_base.specs.View.{View, Moves}
 use Rattle.combine_base.specs.declared.stream.Kind.{Kind}
 use Rattle.combine_base.specs.declared.stream.Kind.TheVariants as kinds
 use Rattle.combine_base.specs.declared.stream.Failures.{Failures}
@@ -24,9 +24,10 @@ module _ {Position Token : Type 0} (steady : Type 0) (step : Position → Token 
     pub same : new ≡ old
     pub failures : steady → after ≡ before
 
+  -- a failed read is counted, and leaves an end of what was unread
   abbrev pub no_token : Kind → Type 0
   no_token kinds.End = FindsEnd
-  no_token kinds.Read = (new ≡ old) × (before.reads < after.reads)
+  no_token kinds.Read = Moves step old new × (before.reads < after.reads)
   no_token kinds.Refused = ⊥
   no_token kinds.Memory = ⊥
   no_token kinds.Reset = ⊥
@@ -39,9 +40,10 @@ module _ {Position Token : Type 0} (steady : Type 0) (step : Position → Token 
   pub record Uncons (result : Result Token Kind) : Type 0 where
     pub is : unconses result
 
+  -- so does a failed reset
   abbrev pub resets : (View Position Token → Type 0) → Result Unit Kind → Type 0
   resets marked (Ok u) = ((v : View Position Token) → marked v → new ≡ v) × (steady → after ≡ before)
-  resets marked (Err k) = (k ≡ kinds.Reset) × (new ≡ old) × (before.resets < after.resets)
+  resets marked (Err k) = (k ≡ kinds.Reset) × Moves step old new × (before.resets < after.resets)
 
 pub record ResetTo {Position Token : Type 0} (steady : Type 0) (step : Position → Token → Position) (marked : View Position Token → Type 0) (old new : View Position Token) (before after : Failures) (result : Result Unit Kind) : Type 0 where
   pub is : resets steady step old new before after marked result

@@ -69,7 +69,7 @@ pub trait StreamOnce: Drop {
     /// Holds of a stream whose counts of failures stay where its calls succeed.
     ghost steady: { Type 0 };
 
-    /// Takes the first token. At the end of the unread tokens it answers `End` and changes nothing; a failed read is `Read`, and its count rises.
+    /// Takes the first token. At the end of the unread tokens it answers `End` and changes nothing. A failed read is `Read`; its count rises, and an end of the unread tokens is left.
     fn uncons(&mut self) -> Result<Self::Token, Kind>
         ensures read { Uncons steady step (view self.old) (view self.new) (failures self.old) (failures self.new) result }
         ensures passes { Passes (marks self.old) (marks self.new) (failures self.old) (failures self.new) };
@@ -98,7 +98,7 @@ pub trait ResetStream: StreamOnce {
         ensures stands { stands self.now result (Self.view self.now) }
         ensures short { length (Self.view self.now).unread < 18446744073709551616 };
 
-    /// Puts the stream back to where the checkpoint was made. A failed reset is `Reset`; its count rises, and the view stays.
+    /// Puts the stream back to where the checkpoint was made. A failed reset is `Reset`; its count rises, and an end of the unread tokens is left.
     fn reset(&mut self, checkpoint: Self::Checkpoint) -> Result<(), Kind>
         ensures to { ResetTo Self.steady Self.step (stands self.old checkpoint) (Self.view self.old) (Self.view self.new) (Self.failures self.old) (Self.failures self.new) result }
         ensures passes { Passes (Self.marks self.old) (Self.marks self.new) (Self.failures self.old) (Self.failures self.new) };

@@ -1,6 +1,6 @@
 -- one call of `attempt`: it has passed over the distance, and each answer of the part there is an answer of it
 use Rattle.std.proofs.Common.{ℕ, ◌+◌, ◌<◌, ◌≤◌, ◌≡◌, Bool, true, false, ◌||◌, if◌then◌else◌, arith, ap, sym, subst, refl, ◌∙◌, length-append, nat_lt, Ok, Err, List, ltb-true, ltb-false}
-use Rattle.combine_base.specs.View.{View, Takes, advanced, extended, Follows}
+use Rattle.combine_base.specs.View.{View, Takes, Moves, advanced, extended, Follows}
 use Rattle.combine_base.specs.Advance.{advanced_extended}
 use Rattle.combine_base.specs.Outcome.{Outcome, Accepted, Refused, Undecided, after, IsCommitted}
 use Rattle.combine_base.specs.OutcomeFacts.{or_true, or_false}
@@ -174,8 +174,11 @@ module _ {P T R V S E : Type 0} (w : World P T S E) (m : Meaning P T R V S) wher
         by_kind kinds.Lost h = absurd h
 
     -- the stream could not be put back
-    pub try_unreset : (k : Kind) (result : ParseResult V E) → (e : E) × (result ≡ CommitErr e) × (w.kind e ≡ k) → (k ≡ kinds.Reset) × (u.new ≡ r.new) × (r.after.resets < u.after.resets) → r.before.reads ≤ r.after.reads → r.before.resets ≤ r.after.resets → u.left.distance ≡ held → w.fresh u.left.part → Leaves w r → Answers (around w (IsFresh w.fresh)) (attempted w.step m) u result
-    try_unreset k result i h x y n l p = broken k result i (rw h.0 h.2) x y (leaves h.1 (n ∙ z.none, l) p)
+    pub try_unreset : (k : Kind) (result : ParseResult V E) → (e : E) × (result ≡ CommitErr e) × (w.kind e ≡ k) → (k ≡ kinds.Reset) × Moves w.step r.new u.new × (r.after.resets < u.after.resets) → r.before.reads ≤ r.after.reads → r.before.resets ≤ r.after.resets → u.left.distance ≡ held → w.fresh u.left.part → Leaves w r → Answers (around w (IsFresh w.fresh)) (attempted w.step m) u result
+    try_unreset k result i h x y n l p =
+        let s = h.1 in
+        let t = takes_more w.step d p.count u.old r.old r.new z.taken p.taken in
+        broken k result i (rw h.0 h.2) x y (record { count = d + p.count + s.count; taken = takes_more w.step (d + p.count) s.count u.old r.new u.new t s.taken; state = (n ∙ z.none, l) })
 
     -- the tokens read could not be counted
     pub try_unmeasured : (k : Kind) (result : ParseResult V E) → (e : E) × (result ≡ CommitErr e) × (w.kind e ≡ k) → (g : E) → (w.kind g ≡ kinds.End) × (r.new.is_open ≡ true) → Answers w m r (CommitErr g) → ((n : ℕ) → Takes w.step n u.old r.new → Measures w.steady w.step r.new u.new r.after u.after u.old n (Err k)) → r.before.reads ≤ r.after.reads → r.before.resets ≤ r.after.resets → u.left.distance ≡ held → w.fresh u.left.part → Answers (around w (IsFresh w.fresh)) (attempted w.step m) u result

@@ -1,12 +1,14 @@
--- what one turn answers: whether it is a block, and a peeked refusal that is put back
-use Rattle.std.proofs.Common.{ℕ, ◌≡◌, Bool, true, false, Option, Some, None, sym, ◌∙◌}
-use Rattle.combine_base.specs.View.{View, Takes}
+-- what one turn answers: whether it is a block, and a peeked refusal that is put back, or could not be
+use Rattle.std.proofs.Common.{ℕ, ◌+◌, ◌<◌, ◌≤◌, ◌≡◌, arith, Bool, true, false, Option, Some, None, sym, ◌∙◌}
+use Rattle.combine_base.specs.View.{View, Takes, Moves}
 use Rattle.combine_base.specs.Outcome.{Outcome, Refused}
 use Rattle.combine_base.specs.Meaning.{Meaning, MeansSame, begun}
 use Rattle.combine_base.specs.Answer.{Run, World, Answers, Accepts, Refuses}
 use Rattle.combine_base.proofs.Calls.{peeked_refusal}
-use Rattle.combine_base.proofs.Progress.{takes_none}
+use Rattle.combine_base.proofs.Progress.{takes_none, takes_more}
 use Rattle.combine_base.proofs.Same.{answers_same}
+use Rattle.combine_base.specs.declared.stream.Kind.{Kind}
+use Rattle.combine_base.specs.declared.stream.Kind.TheVariants as kinds
 use Rattle.combine_base.specs.declared.stream.Failures.{Failures}
 use Rattle.combine_base.specs.declared.error.Tracked.{Tracked}
 use Rattle.combine_base.specs.declared.error.ParseResult.TheVariants.{CommitErr, PeekErr}
@@ -27,6 +29,15 @@ module _ {P T R A S E : Type 0} (w : World P T S E) (m : Meaning P T R A S) wher
   put_back first state left old now new before later after e p n f =
       let y = peeked_refusal w m _ (w.kind e.error) p.is in
       record { meant = y.meant; leaves = record { count = 0; taken = rw n (takes_none w.step old); state = y.leaves.state }; failures = λ s. f s ∙ y.failures s }
+
+module _ {P T R A V S E : Type 0} (w : World P T S E) (c : Collecting A V) (m : Meaning P T R A S) (t n : Kept V) where
+  -- the same where the stream could not be put back
+  pub not_put_back : (first : Bool) (state left : S) (old now new : View P T) (before later after : Failures) (e : Tracked E) → Answers w m (record { first = first; state = state; left = left; old = old; new = now; before = before; after = later }) (PeekErr e) → (k : Kind) → (k ≡ kinds.Reset) × Moves w.step now new × (later.resets < after.resets) → before.resets ≤ later.resets → (d : E) → w.kind d ≡ k → HasFailed w c m (record { first = first; state = state; left = left; old = old; new = new; before = before; after = after }) t n d
+  not_put_back first state left old now new before later after e p k h i d q =
+      let y = (peeked_refusal w m _ (w.kind e.error) p.is).leaves in
+      let x = h.1 in
+      let a = h.2 in
+      Unreset (q ∙ h.0) (omega arith) (record { count = y.count + x.count; taken = takes_more w.step y.count x.count old now new y.taken x.taken; state = y.state })
 
 -- what a turn of one parser did is what it did of another that means the same
 module _ {P T R A S E : Type 0} (w : World P T S E) (m m' : Meaning P T R A S) (h : MeansSame m m') (r : Run P T S) where

@@ -1,6 +1,6 @@
 -- how a match is answered where it stops
 use Rattle.std.proofs.Common.{ℕ, Option, ◌+◌, ◌≤◌, ◌≡◌, ◌⊎◌, inl, inr, List, [], ◌∷◌, drop, length, length-drop, Bool, true, false, nat_lt, refl, ap, sym, subst, ◌∙◌, arith}
-use Rattle.combine_base.specs.View.{View}
+use Rattle.combine_base.specs.View.{View, Takes, Moves}
 use Rattle.combine_base.specs.Items.{Item, Unexpected, OfToken}
 use Rattle.combine_base.specs.Errors.{Errors, Added, Unstored}
 use Rattle.combine_base.specs.Outcome.{Outcome, Accepted, Refused, Undecided, after}
@@ -8,7 +8,7 @@ use Rattle.combine_base.specs.Meaning.{Meaning, begun}
 use Rattle.combine_base.specs.Refusals.{Told}
 use Rattle.combine_base.specs.Streams.{TakesToken, FindsEnd, no_token}
 use Rattle.combine_base.specs.Answer.{Run, World, Answers, Accepts, Refuses, Asks, Leaves, fails, ends, peeks, answers}
-use Rattle.combine_base.proofs.Progress.{progress_outcome, takes_none, takes_more, takes_open}
+use Rattle.combine_base.proofs.Progress.{progress_outcome, takes_none, takes_more, takes_open, moves_none}
 use Rattle.combine_base.specs.declared.error.Info.{Info}
 use Rattle.combine_base.specs.declared.stream.Kind.{Kind}
 use Rattle.combine_base.specs.declared.stream.Kind.TheVariants as kinds
@@ -57,6 +57,9 @@ module _ {P T R V S E : Type 0} (w : World P T S E) (l : TokenList T) (gives : V
     leaves : r.new ≡ now → Leaves w r
     leaves i = record { count = q.progress.count; taken = rw i q.progress.taken; state = d }
 
+    leaves_on : Moves w.step now r.new → Leaves w r
+    leaves_on x = record { count = q.progress.count + x.count; taken = takes_more w.step q.progress.count x.count r.old now r.new q.progress.taken x.taken; state = d }
+
     leaves_after : (t : T) → TakesToken w.steady w.step now r.new later r.after t → Leaves w r
     leaves_after t k = record { count = q.progress.count + 1; taken = takes_more w.step q.progress.count 1 r.old now r.new q.progress.taken (token_taken w.steady w.step now r.new later r.after t k); state = d }
 
@@ -88,8 +91,14 @@ module _ {P T R V S E : Type 0} (w : World P T S E) (l : TokenList T) (gives : V
       mismatched : Leaves w r → (w.steady → r.after ≡ middle) → Refuses w m r (nat_lt 0 n)
       mismatched y i = refuses s (stops_at_token l gives n now.is_open now.unread mid.unread t k.unread f) y (λ x. i x ∙ k.failures x ∙ q.progress.failures x)
 
+      one_more : Takes w.step (q.progress.count + 1) r.old mid
+      one_more = takes_more w.step q.progress.count 1 r.old now mid q.progress.taken (token_taken w.steady w.step now mid later middle t k)
+
       left_there : r.new ≡ mid → Leaves w r
-      left_there i = record { count = q.progress.count + 1; taken = rw i (takes_more w.step q.progress.count 1 r.old now mid q.progress.taken (token_taken w.steady w.step now mid later middle t k)); state = d }
+      left_there i = record { count = q.progress.count + 1; taken = rw i one_more; state = d }
+
+      left_beyond : Moves w.step mid r.new → Leaves w r
+      left_beyond x = record { count = q.progress.count + 1 + x.count; taken = takes_more w.step (q.progress.count + 1) x.count r.old mid r.new one_more x.taken; state = d }
 
       pub match_refused : (e : E) → true ≡ nat_lt 0 n → Told w.kind w.frugal e → r.new ≡ mid → r.after ≡ middle → Answers w m r (CommitErr e)
       match_refused e b p i j = record { is = by_kind p.is }
@@ -98,13 +107,13 @@ module _ {P T R V S E : Type 0} (w : World P T S E) (l : TokenList T) (gives : V
           by_kind (inl x) = rw x (subst (Refuses w m r) (sym b) (mismatched (left_there i) (λ _. j)))
           by_kind (inr x) = rw x.0 (λ y z. x.1 y, left_there i)
 
-      pub match_put_back : (result : ParseResult V E) → false ≡ nat_lt 0 n → (marked : View P T → Type 0) → marked r.old → r.before.resets ≤ middle.resets → PutBack w.steady w.kind marked mid r.new middle r.after result → Answers w m r result
+      pub match_put_back : (result : ParseResult V E) → false ≡ nat_lt 0 n → (marked : View P T → Type 0) → marked r.old → r.before.resets ≤ middle.resets → PutBack w.steady w.step w.kind marked mid r.new middle r.after result → Answers w m r result
       match_put_back result b marked o j p = record { is = by_result result p.is }
         where
-          by_result : (x : ParseResult V E) → puts_back w.steady w.kind marked mid r.new middle r.after x → answers w m r x
+          by_result : (x : ParseResult V E) → puts_back w.steady w.step w.kind marked mid r.new middle r.after x → answers w m r x
           by_result (CommitOk v) p = absurd p
           by_result (PeekOk v) p = absurd p
-          by_result (CommitErr e) p = let x = p.2 in rw p.0 (omega arith, left_there p.1)
+          by_result (CommitErr e) p = let x = p.2 in rw p.0 (omega arith, left_beyond p.1)
           by_result (PeekErr e) p = rw p.0 (subst (Refuses w m r) (sym b) (mismatched (record { count = 0; taken = rw (p.1 r.old o) (takes_none w.step r.old); state = d }) p.2))
 
     -- no token could be read
@@ -112,13 +121,16 @@ module _ {P T R V S E : Type 0} (w : World P T S E) (l : TokenList T) (gives : V
       ended : FindsEnd w.steady w.step now r.new later r.after → now.is_open ≡ false → Refuses w m r committed
       ended x i = subst (Refuses w m r) (sym b) (refuses s (stops_at_end l gives n now.is_open now.unread x.unread i) (leaves x.same) (λ y. x.failures y ∙ q.progress.failures y))
 
-      unmoved : (why : Kind) → no_token w.steady w.step now r.new later r.after why → r.new ≡ now
-      unmoved kinds.End x = x.same
-      unmoved kinds.Read x = x.0
-      unmoved kinds.Refused x = absurd x
-      unmoved kinds.Memory x = absurd x
-      unmoved kinds.Reset x = absurd x
-      unmoved kinds.Lost x = absurd x
+      moved : (why : Kind) → no_token w.steady w.step now r.new later r.after why → Moves w.step now r.new
+      moved kinds.End x = rw x.same (moves_none w.step now)
+      moved kinds.Read x = x.0
+      moved kinds.Refused x = absurd x
+      moved kinds.Memory x = absurd x
+      moved kinds.Reset x = absurd x
+      moved kinds.Lost x = absurd x
+
+      as_open : (why : Kind) → no_token w.steady w.step now r.new later r.after why → r.new.is_open ≡ now.is_open
+      as_open why x = let y = moved why x in takes_open w.step y.count now r.new y.taken
 
       closed_end : (i : Bool) → i ≡ false → Refuses w m r true → ends w m r i
       closed_end true j x = absurd (cc)
@@ -126,7 +138,7 @@ module _ {P T R V S E : Type 0} (w : World P T S E) (l : TokenList T) (gives : V
 
       failing : (why : Kind) → no_token w.steady w.step now r.new later r.after why → r.before.reads ≤ later.reads → (why ≡ kinds.End → now.is_open ≡ false) → (why ≡ kinds.End → now.is_open ≡ false → committed ≡ true) → fails w m r why
       failing kinds.End x i j k = let o = j refl in closed_end r.old.is_open (sym same_mark ∙ o) (subst (Refuses w m r) (k refl o) (ended x o))
-      failing kinds.Read x i j k = let y = x.1 in (omega arith, leaves x.0)
+      failing kinds.Read x i j k = let y = x.1 in (omega arith, leaves_on x.0)
       failing kinds.Refused x i j k = absurd x
       failing kinds.Memory x i j k = absurd x
       failing kinds.Reset x i j k = absurd x
@@ -145,16 +157,16 @@ module _ {P T R V S E : Type 0} (w : World P T S E) (l : TokenList T) (gives : V
       is_ended why false n e = refl
 
       pub match_unread : (why : Kind) (result : ParseResult V E) → no_token w.steady w.step now r.new later r.after why → r.before.reads ≤ later.reads → ((why ≡ kinds.End) × (r.new.is_open ≡ true) → ⊥) → FindsNone w.kind w.frugal r.new.is_open committed why result → Answers w m r result
-      match_unread why result x i j p = record { is = by_result result (rw (unmoved why x) at p.is) }
+      match_unread why result x i j p = record { is = by_result result (rw (as_open why x) at p.is) }
         where
           closed : why ≡ kinds.End → now.is_open ≡ false
-          closed = is_ended why now.is_open (rw (unmoved why x) at j)
+          closed = is_ended why now.is_open (rw (as_open why x) at j)
 
           by_result : (y : ParseResult V E) → finds_none w.kind w.frugal now.is_open committed why y → answers w m r y
           by_result (CommitOk v) p = absurd p
           by_result (PeekOk v) p = absurd p
           by_result (CommitErr e) (inl p) = rw p.0 (failing why x i closed p.1)
-          by_result (CommitErr e) (inr p) = rw p.0 (λ y z. p.1 y, leaves (unmoved why x))
+          by_result (CommitErr e) (inr p) = rw p.0 (λ y z. p.1 y, leaves_on (moved why x))
           by_result (PeekErr e) p = rw p.0 (peeking why x p.1 p.2 p.3)
 
   -- all that is unread was matched, and more may follow

@@ -1,11 +1,12 @@
 -- one call that reads one token under a test
-use Rattle.std.proofs.Common.{◌<◌, ◌≤◌, ◌≡◌, List, [], ◌∷◌, Bool, true, false, Option, Some, None, Ok, Err, refl, subst, sym, arith}
+use Rattle.std.proofs.Common.{◌<◌, ◌≤◌, ◌≡◌, ◌+◌, List, [], ◌∷◌, Bool, true, false, Option, Some, None, Ok, Err, refl, subst, sym, arith}
 use Rattle.combine_base.specs.View.{View, Takes}
 use Rattle.combine_base.specs.Items.{Item}
 use Rattle.combine_base.specs.Errors.{Nothing}
 use Rattle.combine_base.specs.Outcome.{Outcome, Accepted, Refused, Undecided}
 use Rattle.combine_base.specs.Streams.{Uncons, TakesToken, ResetTo}
 use Rattle.combine_base.specs.Answer.{Run, World, Answers, ends}
+use Rattle.combine_base.proofs.Progress.{takes_more}
 use Rattle.combine_base.specs.declared.stream.Kind.{Kind}
 use Rattle.combine_base.specs.declared.stream.Kind.TheVariants as kinds
 use Rattle.combine_base.specs.declared.stream.Failures.{Failures}
@@ -43,7 +44,7 @@ module _ {P T B S E : Type 0} (w : World P T S E) (f : Option T → Option B →
   not_put_back mid middle marked t k e u n p q =
       let c = one_taken w.steady w.step old mid before middle t u.is in
       let d : before.resets < after.resets = omega (arith, p, n.is.2) in
-      record { answers = λ first state left s. record { is = rw (q, n.is.0) (d, record { count = 1; taken = rw n.is.1 c; state = s }) } }
+      record { answers = λ first state left s. record { is = rw (q, n.is.0) (d, record { count = 1 + n.is.1.count; taken = takes_more w.step 1 n.is.1.count old mid new c n.is.1.taken; state = s }) } }
 
 module _ {T B : Type 0} (f g : Option T → Option B → Type 0) (h : (i : Option T) (o : Option B) → f i o → g i o) where
   allows_at : (is_open : Bool) (us : List T) (o : Outcome B) → one_token_at f is_open us o → one_token_at g is_open us o

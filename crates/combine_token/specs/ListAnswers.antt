@@ -1,6 +1,6 @@
 -- how the match of a list is answered
 use Rattle.std.specs.Prelude.{◌≡◌, ◌<◌, ◌⊎◌, List, [], ◌∷◌, Bool, true, false, Option, Some, None}
-use Rattle.combine_base.specs.View.{View}
+use Rattle.combine_base.specs.View.{View, Moves}
 use Rattle.combine_base.specs.Items.{Item, Unexpected, Expected, OfToken, shown}
 use Rattle.combine_base.specs.Errors.{Errors, New, Says}
 use Rattle.combine_base.specs.declared.error.Info.{Info}
@@ -22,11 +22,11 @@ module _ {V E : Type 0} (kind : E → Kind) (gives : V → Type 0) (infallible :
   pub record Accepted (result : ParseResult V E) : Type 0 where
     pub is : accepts result
 
-module _ {P T V E : Type 0} (steady : Type 0) (kind : E → Kind) (marked : View P T → Type 0) (old new : View P T) (before after : Failures) where
+module _ {P T V E : Type 0} (steady : Type 0) (step : P → T → P) (kind : E → Kind) (marked : View P T → Type 0) (old new : View P T) (before after : Failures) where
   abbrev pub puts_back : ParseResult V E → Type 0
   puts_back (CommitOk v) = ⊥
   puts_back (PeekOk v) = ⊥
-  puts_back (CommitErr e) = (kind e ≡ kinds.Reset) × (new ≡ old) × (before.resets < after.resets)
+  puts_back (CommitErr e) = (kind e ≡ kinds.Reset) × Moves step old new × (before.resets < after.resets)
   puts_back (PeekErr t) = (kind t.error ≡ kinds.Refused) × ((v : View P T) → marked v → new ≡ v) × (steady → after ≡ before)
 
   -- a peeked refusal with the stream put back, unless the reset failed

@@ -72,7 +72,7 @@ pub(super) fn put_back<O, Input: Stream>(
     position: Input::Position,
     input: &mut Input,
 ) -> ParseResult<O, Input::Error>
-    ensures back { PutBack Input.steady Input.Error.seen.kind (Input.stands input.old start) (Input.view input.old) (Input.view input.new) (Input.failures input.old) (Input.failures input.new) result }
+    ensures back { PutBack Input.steady Input.step Input.Error.seen.kind (Input.stands input.old start) (Input.view input.old) (Input.view input.new) (Input.failures input.old) (Input.failures input.new) result }
     ensures passes { Passes (Input.marks input.old) (Input.marks input.new) (Input.failures input.old) (Input.failures input.new) }
 {
     if let Err(kind) = input.reset(start) {

@@ -1,7 +1,7 @@
 use Rattle.std.proofs.Common.{refl, sym, ◌∙◌}
 use Rattle.std.proofs.lemmas.Bool.{false≢true}
 use Rattle.combine_repeat.specs.OneTurn.{InTurn, TakesNothing, Unstored}
-use Rattle.combine_repeat.proofs.Judging.{judged_by, put_back}
+use Rattle.combine_repeat.proofs.Judging.{judged_by, put_back, not_put_back}
 use Rattle.combine_repeat.proofs.repeat.turns.one_turn.Goals as goal
 use Rattle.combine_repeat.proofs.repeat.turns.one_turn.Goals.{in-CommitOk, in-PeekOk}
 
@@ -13,6 +13,9 @@ returns-in-PeekErr-clause-turned g c =
     let n = c.in_default.ensures.to.is in
     let e = n.0 _ (g.met.Input.ResetStream.lasts _ _ _ _ c.parse_turn.ensures.passes.marks c.checkpoint-checkpoint.ensures.stands) in
     record { is = record { later = sym c.is_first.ensures ∙ c.if-is_first.false; refused = put_back _ _ _ _ _ _ _ _ _ _ _ _ c.in-PeekErr.ensures.answers e n.1; view = e; turns = refl } }
+
+pub returns-in-Err-clause-turned : goal.returns-in-Err-clause-turned
+returns-in-Err-clause-turned g c = record { is = not_put_back _ _ _ _ _ _ _ _ _ _ _ _ _ _ _ c.in-PeekErr.ensures.answers _ c.in-Err.ensures.to.is c.parse_turn.ensures.passes.resets _ c.new_error.ensures.kind }
 
 pub returns-then-needs_more-clause-turned : goal.returns-then-needs_more-clause-turned
 returns-then-needs_more-clause-turned g c = record { is = record { needs = c.needs_more.ensures.0 c.if-needs_more.true; answers = c.in-CommitErr.ensures.answers; place = _; cut = λ n t. c.cut-turns.ensures n _ c.position-position.ensures t; turns = refl } }

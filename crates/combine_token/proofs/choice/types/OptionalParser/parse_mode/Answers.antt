@@ -1,3 +1,5 @@
+use Rattle.std.proofs.Common.{refl}
+use Rattle.combine_base.proofs.Calls.{refusal_unreset}
 use Rattle.combine_token.proofs.Optionals.{optional_ok, optional_peek_ok, optional_err, optional_none}
 use Rattle.combine_token.proofs.choice.types.OptionalParser.parse_mode.Goals as goal
 
@@ -15,3 +17,6 @@ returns-in-Ok-clause-answers g c =
     let n = c.in-Ok.ensures.to.is in
     let stands = g.met.Input.ResetStream.lasts _ _ _ _ c.parse_mode.ensures.passes.marks c.checkpoint-start.ensures.stands in
     optional_none _ _ _ _ _ _ (n.0 _ stands) n.1 c.in-PeekErr.ensures.answers
+
+pub returns-clause-answers : goal.returns-clause-answers
+returns-clause-answers g c = refusal_unreset _ _ _ _ _ _ _ c.in-PeekErr.ensures.answers _ c.in-Err.ensures.to.is c.parse_mode.ensures.passes.resets refl refl (λ s. s) _ c.new_error.ensures.kind

@@ -1,4 +1,5 @@
 use Rattle.std.proofs.Common.{false, refl}
+use Rattle.combine_base.proofs.Calls.{refusal_unreset}
 use Rattle.combine_base.proofs.Same.{same_none, same_more, passes_more, answers_same}
 use Rattle.combine_token.specs.Choice.{refused}
 use Rattle.combine_token.specs.Or.{or_means_same}
@@ -40,3 +41,6 @@ returns-in-Ok-clause-answers g c =
     let z = tries_next _ _ _ _ _ _ _ _ refused k _ _ _ _ _ (first_starts _ _ _ _ h _ _ c.requires.fresh _ _) (begun_reads _ _ _ h _ _ c.requires.valid) _ c.in-PeekErr.ensures.answers (λ v o i. i) (λ p. p.1) (λ p. p.1) (λ p. p.1) false _ c.default-fresh.ensures _ _ back n.1 passes in
     let later = answers_same _ _ _ (or_means_same _ _ _ _ c.parse_mode.ensures.same (same_none _)) _ _ c.try_second-later.ensures.answers in
     merged_answers _ _ _ _ _ _ _ _ (no_fault _ _ _ _ c.in-PeekErr.ensures.answers) _ _ (tries_answers _ _ _ _ (second_as_state _ _ _ _ _ _ _ _ _ _ z) refl refl refl _ later) c.after_refusal.ensures
+
+pub returns-clause-answers : goal.returns-clause-answers
+returns-clause-answers g c = refusal_unreset _ _ _ _ _ _ _ c.in-PeekErr.ensures.answers _ c.in-Err.ensures.to.is c.parse_mode.ensures.passes.resets refl refl (λ s. c.requires.state) _ c.new_error.ensures.kind
