@@ -13,4 +13,3 @@ pub mod Sequels
 pub mod Sequences
 pub mod Singles
 pub mod Starting
-pub mod Single

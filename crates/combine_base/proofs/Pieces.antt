@@ -1,14 +1,14 @@
 -- a session that is fed one piece after another, until it decides
-use Rattle.std.proofs.Common.{ℕ, ◌+◌, ◌-◌, ◌<◌, ◌≤◌, ◌≡◌, ◌≢◌, refl, sym, ◌∙◌, ap, subst, List, [], ◌∷◌, ◌++◌, length, take, drop, get_or, Bool, true, false, append_assoc, arith, Result, Ok, Err, ⊎_elim, map, Bor}
+use Rattle.std.proofs.Common.{ℕ, ◌+◌, ◌-◌, ◌<◌, ◌≤◌, ◌≡◌, ◌≢◌, refl, sym, ◌∙◌, ap, subst, List, [], ◌∷◌, ◌++◌, length, take, drop, get_or, Bool, true, false, append_assoc, arith, Result, Ok, Err, ⊎_elim}
 use Rattle.std.proofs.Math.Decide.{dec_lt}
 use Rattle.std.proofs.Math.Nat.{eq-or-lt_of_le}
 use Rattle.std.proofs.Math.Seq.{take-append-add}
-use Rattle.std.proofs.lemmas.List.{append-nil, take_more, take-append-drop, take-append-le, drop-append-le, drop-drop, take_all, length-append, length-drop, length-take-le, length-map, get_or-map}
+use Rattle.std.proofs.lemmas.List.{append-nil, take_more, take-append-drop, take-append-le, drop-append-le, drop-drop, take_all, length-append, length-drop, length-take-le}
 use Rattle.combine_base.specs.View.{View}
 use Rattle.combine_base.specs.Outcome.{Outcome, Accepted, Refused, Undecided, IsDecided}
 use Rattle.combine_base.specs.OutcomeFacts.{decided_shape}
 use Rattle.combine_base.specs.Meaning.{Meaning, Reading, IsReading, IsSingle, MeansSame}
-use Rattle.combine_base.specs.Sessions.{Course, left, Begins, Feeds, Ends, Parses, by_stage}
+use Rattle.combine_base.specs.Sessions.{Course, left, Begins, Feeds, Ends, by_stage}
 use Rattle.combine_base.specs.Sessions as session
 use Rattle.combine_base.specs.Pieces.{joined, on, Decides, decides, undecided_at, Asked, Decided, failed}
 use Rattle.combine_base.proofs.Same.{same_none, same_more}
@@ -255,8 +255,3 @@ module _ {P T R A S : Type 0} (meaning : P → Meaning ℕ T R A S) (m : Meaning
 
     pub fails_last_at : (e : SessionError) → Ends meaning valid c new [] false (Err e) → failed m.lean pieces e
     fails_last_at = fails_last meaning m valid pieces c far_all new
-
--- the piece that a loop over references has come to
-pub piece_at : {T : Type 0} (pieces : List (Bor (List T))) (n : ℕ) (piece : Bor (List T)) → n < length pieces → piece ≡ get_or pieces n piece → (n < length (map (λ x. x.now) pieces)) × (get_or (map (λ x. x.now) pieces) n piece.now ≡ piece.now)
-piece_at pieces n piece h e =
-    (rw length-map h, get_or-map (λ x. x.now) pieces n piece piece.now h ∙ ap (λ x. x.now) (sym e))

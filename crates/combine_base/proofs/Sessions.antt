@@ -22,7 +22,6 @@ use Rattle.combine_base.specs.declared.error.UnexpectedParse.{UnexpectedParse}
 use Rattle.combine_base.specs.declared.parser.session.Stage.{Stage}
 use Rattle.combine_base.specs.declared.parser.session.Stage.TheVariants as stages
 use Rattle.combine_base.specs.declared.parser.answer.Answer.{Answer}
-use Rattle.combine_base.specs.declared.parser.answer.Answer.TheVariants as answers
 use Rattle.combine_base.specs.declared.parser.session.SessionError.{SessionError}
 use Rattle.combine_base.specs.declared.parser.session.SessionError.TheVariants as errors
 
@@ -176,12 +175,6 @@ module _ {P T R A S : Type 0} (meaning : P → Meaning ℕ T R A S) (valid : S �
     is = subst (λ s. session.by_stage meaning valid old new piece true (session.feeds meaning valid old new piece true) s r) (sym running)
         (passed (session.feeds meaning valid old new piece true) parsed r e (λ a i. (fits, subst (session.Parses meaning valid old new piece true) i h)) (λ k i. (fits, subst (session.Parses meaning valid old new piece true) i h)));
   }
-
--- where there is one outcome, more is asked for wherever it is undecided
-pub asks_where_undecided : {P T R A S : Type 0} (meaning : P → Meaning ℕ T R A S) (valid : S → Type 0) (old new : Course P T S) (piece : List T) (more : Bool) (a : Answer A UnexpectedParse) → session.Parses meaning valid old new piece more (Ok a) → MeansOne valid (meaning old.parser) → left meaning old piece more Undecided → a ≡ answers.More
-asks_where_undecided meaning valid old new piece more answers.More h k u = refl
-asks_where_undecided meaning valid old new piece more (answers.Accepted v n c) h k u = absurd (let e = h.is.means.only k Undecided u in cc)
-asks_where_undecided meaning valid old new piece more (answers.Refused d c) h k u = absurd (let e = h.is.means.only k Undecided u in cc)
 
 -- a piece that found room stands behind the unread tokens
 pub fed_ok : {T E : Type 0} (old new : View ℕ T) (piece : List T) (r : Result Unit E) → FeedsPiece old new piece r → is_err r ≡ false → old.is_open ≡ true → new ≡ extended piece true old

@@ -1,5 +1,5 @@
 -- what an error says
-use Rattle.std.specs.Prelude.{codes, ℕ, List, [], ◌∷◌, Bool, true, false}
+use Rattle.std.specs.Prelude.{codes, ℕ, List, [], ◌∷◌}
 use Rattle.std.specs.String.{string_bytes}
 use Rattle.combine_base.specs.declared.error.Info.{Info as Written}
 use Rattle.combine_base.specs.declared.error.Info.TheVariants.{Token, Range, Static, Owned, More}
@@ -23,11 +23,6 @@ shown (Range r) = OfRange r
 shown (Static s) = Fixed s.now
 shown (Owned s) = Text (string_bytes s)
 shown (More n) = Count n
-
-abbrev pub is_expected : {T R : Type 0} → Item T R → Bool
-is_expected (Unexpected a) = false
-is_expected (Expected a) = true
-is_expected (Message a) = false
 
 -- the items but those that say what was expected
 abbrev pub others : {T R : Type 0} → List (Item T R) → List (Item T R)

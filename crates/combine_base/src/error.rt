@@ -11,11 +11,14 @@ use std::string::String;
 /// Whether something was committed to, a token taken or not.
 #[derive(Clone, Copy, Debug, PartialEq, Eq)]
 pub enum Commit<T> {
+    /// Something was committed to.
     Commit(T),
+    /// Nothing was.
     Peek(T),
 }
 
 impl<T> Commit<T> {
+    /// Whether nothing was committed to.
     pub fn is_peek(&self) -> bool
         ensures { result ≡ peeked self.now }
     {
@@ -25,6 +28,7 @@ impl<T> Commit<T> {
         }
     }
 
+    /// The value, whether committed or not.
     pub fn into_inner(self) -> T
         ensures { result ≡ inner self }
     {
@@ -78,13 +82,18 @@ impl<T> Commit<T> {
 /// A fault (an error of kind `Memory`, `Read`, `Reset` or `Lost`) and need of more (`End` on an open stream) are committed errors.
 #[derive(Drop)]
 pub enum ParseResult<O, E> {
+    /// Accepted, committed.
     CommitOk(O),
+    /// Accepted, and nothing was taken or committed to.
     PeekOk(O),
+    /// Refused and committed, or need of more, or a fault.
     CommitErr(E),
+    /// Refused, and nothing was committed to: another parser may be tried.
     PeekErr(Tracked<E>),
 }
 
 impl<O, E> ParseResult<O, E> {
+    /// Whether it is an acceptance, committed or not.
     pub fn is_ok(&self) -> bool
         ensures { result ≡ accepts self.now }
     {
@@ -96,12 +105,14 @@ impl<O, E> ParseResult<O, E> {
         }
     }
 
+    /// Whether it is no acceptance: a refusal, need of more or a fault.
     pub fn is_err(&self) -> bool
         ensures { IsTrue result ↔ (accepts self.now ≡ false) }
     {
         !self.is_ok()
     }
 
+    /// The value of an acceptance changed, its commitment kept. An error stays as it is, and the function is then not called.
     pub fn map<P, F: FnOnce(O) -> P>(self, f: F) -> ParseResult<P, E>
         requires { F.IsAlwaysCallable f }
         ensures { MapsValue (F.post f) self result }
@@ -114,6 +125,7 @@ impl<O, E> ParseResult<O, E> {
         }
     }
 
+    /// The error changed, its commitment and offset kept. An acceptance stays as it is, and the function is then not called.
     pub fn map_err<D, F: FnOnce(E) -> D>(self, f: F) -> ParseResult<O, D>
         requires { F.IsAlwaysCallable f }
         ensures { MapsError (F.post f) self result }
@@ -184,11 +196,15 @@ pub type StdParseResult<O, Input> = Result<
 /// What an item speaks of.
 #[derive(Debug, PartialEq, Drop)]
 pub enum Info<T, R> {
+    /// A token.
     Token(T),
+    /// A range of tokens.
     Range(R),
+    /// A fixed text, which takes no memory.
     Static(&'static str),
+    /// A text of its own.
     Owned(String),
-    /// How many elements are missing.
+    /// How many elements are missing. Our own.
     More(usize),
 }
 
@@ -212,13 +228,18 @@ impl<T, R> From<String> for Info<T, R> {
     }
 }
 
-/// The first part of a parser that is counted by an error; nothing reads it.
+/// A number of parsers, at most 255: what `parser_count` answers.
+///
+/// As the `offset` of an error it is carried along, and no parser decides by it. In the crate it tells a sequence which of its parts has to explain itself.
 #[derive(Clone, Copy, Debug, PartialEq, Eq)]
 pub struct ErrorOffset(pub u8);
 
+/// The error of a peeked refusal, with an offset, which `From` makes 1.
 #[derive(Drop)]
 pub struct Tracked<E> {
+    /// The error.
     pub error: E,
+    /// Carried along; no parser decides by it.
     pub offset: ErrorOffset,
 }
 
@@ -321,7 +342,9 @@ impl<T: Copy, R: Copy, P: Ord + Copy> ParseError<T, R, P> for UnexpectedParse {
     }
 }
 
-/// An item before it is added to an error.
+/// What is to be said, before it is added to an error. A type may keep what it is given, or a kind alone.
+///
+/// The crate's calls take whatever a text can be made of; here what is spoken of is an `Info`, given away.
 pub trait StreamError<T, R>: Drop {
     ghost use Rattle.combine_base.specs.declared.stream.Kind.{Kind};
 
@@ -330,74 +353,96 @@ pub trait StreamError<T, R>: Drop {
     /// The item, where items are kept.
     ghost items: { Self → List (Item T R) };
 
+    /// Whether items are kept.
     ghost keeps: { Bool };
 
+    /// The kind of the item: `Refused`, but for the end of input, of whose kind nothing is promised. Our own.
     fn kind(&self) -> Kind
         ensures { result ≡ kind self.now };
 
+    /// That this token was not expected.
     fn unexpected_token(token: T) -> Self
         ensures kind { kind result ≡ Kind.Refused }
         ensures items { items result ≡ if_kept keeps (Unexpected (OfToken token)) };
 
+    /// That this was not expected.
     fn unexpected(info: Info<T, R>) -> Self
         ensures kind { kind result ≡ Kind.Refused }
         ensures items { items result ≡ if_kept keeps (Unexpected (shown info)) };
 
+    /// That this was expected.
     fn expected(info: Info<T, R>) -> Self
         ensures kind { kind result ≡ Kind.Refused }
         ensures items { items result ≡ if_kept keeps (Expected (shown info)) };
 
+    /// That this is to be said.
     fn message(info: Info<T, R>) -> Self
         ensures kind { kind result ≡ Kind.Refused }
         ensures items { items result ≡ if_kept keeps (Message (shown info)) };
 
+    /// That the end of the input was not expected.
     fn end_of_input() -> Self
         ensures { items result ≡ if_kept keeps end_of_input };
 
+    /// That so many elements are missing: a message of `Info::More`, which takes no memory. Our own.
     fn expected_more(missing: usize) -> Self
         ensures kind { kind result ≡ Kind.Refused }
         ensures items { items result ≡ if_kept keeps (Message (Count missing)) };
 }
 
 /// An error: a kind, and perhaps a position and items.
+///
+/// A stream makes one by `StreamOnce::new_error`; in the crate an error is made without the stream. An item is added at the end of those that are there, unless an equal one is among them; a type that keeps no items drops it. One that finds no memory makes the kind `Memory`, and then nothing is promised of the items; the position stays. An error type that asks for no memory never comes to that.
 pub trait ParseError<T, R, P: Ord>: Drop {
+    /// The items that `add` takes.
     type StreamError: StreamError<T, R>;
 
+    /// What is seen of an error.
     ghost seen: { Errors T R P Self };
 
+    /// Why there is no value: a refusal, the end, or a fault. Our own: the crate tells an unexpected end alone.
     fn kind(&self) -> Kind
         ensures { result ≡ seen.kind self.now };
 
+    /// Where it stands, if a position is kept; the crate's always has one.
     fn position(&self) -> Option<P>
         ensures { result ≡ seen.position self.now };
 
+    /// Sets the position, where one is kept; the kind and the items stay.
     fn set_position(&mut self, position: P)
         ensures { Placed seen position self.old self.new };
 
+    /// Adds the item, if items are kept. The kind and the position stay, but for the kind `Memory` of an item that finds no memory. The item's own kind counts for nothing.
     fn add(&mut self, item: Self::StreamError)
         ensures { Says seen (Unit {0}) (λ is. is ≡ Self.StreamError.items item) self.old self.new };
 
+    /// Adds that this was not expected, as `add` would: of kind `Memory` where it finds no memory. It is copied only if items are kept.
     fn add_unexpected(&mut self, info: &Info<T, R>)
         ensures { Says seen (Unit {0}) (Only (Unexpected (shown info.now))) self.old self.new };
 
+    /// Adds that this was expected, as `add` would: of kind `Memory` where it finds no memory. It is copied only if items are kept.
     fn add_expected(&mut self, info: &Info<T, R>)
         ensures { Says seen (Unit {0}) (Only (Expected (shown info.now))) self.old self.new };
 
+    /// Adds this message, as `add` would: of kind `Memory` where it finds no memory. It is copied only if items are kept.
     fn add_message(&mut self, info: &Info<T, R>)
         ensures { Says seen (Unit {0}) (Only (Message (shown info.now))) self.old self.new };
 
+    /// Drops the items that say what was expected; the others stay in their order, and so do the kind and the position.
     fn clear_expected(&mut self)
         ensures { Cleared seen self.old self.new };
 
-    /// How many items are kept (our own: the crate has no such call).
+    /// How many items are kept. Our own.
     fn count_items(&self) -> usize
         ensures { result ≡ length (seen.items self.now) };
 
-    /// Clears what is expected after that many items (our own).
+    /// As `clear_expected`, but the items before that many all stay. Our own.
     fn clear_expected_after(&mut self, kept: usize)
         ensures { ClearedAfter seen kept self.old self.new };
 
-    /// The error with the later position, or at equal positions both.
+    /// One error of two, neither of which may be a fault (`Memory`, `Read`, `Reset` or `Lost`).
+    ///
+    /// The position and the items are those of the one with the later position. At equal positions, and where a position is not kept, the items of the second are added to the first. The kind is `Refused` if either has it, and else `End`. An item that finds no memory makes it `Memory`, and then nothing else is promised.
     fn merge(self, other: Self) -> Self
         requires first { IsFault (seen.kind self) → ⊥ }
         requires second { IsFault (seen.kind other) → ⊥ }

@@ -14,11 +14,14 @@ pub use session::{Session, SessionError};
 
 /// How a call begins: afresh, or from a kept state.
 pub trait ParseMode: Copy {
+    /// The modes that begin afresh.
     ghost first: { Self → Bool };
 
+    /// Whether the call begins afresh.
     fn is_first(self) -> bool
         ensures { result ≡ first self };
 
+    /// Makes it the mode of a call that begins afresh.
     fn set_first(&mut self)
         ensures { first self.new ≡ true };
 }
@@ -40,6 +43,7 @@ impl ParseMode for FirstMode {
 /// A call that goes on from the kept state, until `first` is set.
 #[derive(Clone, Copy, Default)]
 pub struct PartialMode {
+    /// Whether the call begins afresh after all.
     pub first: bool,
 }
 
@@ -69,6 +73,7 @@ pub trait Parser<Input: Stream> {
     ghost use Rattle.combine_base.specs.Streams.{Passes};
     ghost use Rattle.combine_base.specs.declared.stream.Failures.{Failures};
 
+    /// The value of an acceptance.
     type Output: Drop;
 
     /// What is kept while more input is needed.

@@ -55,6 +55,7 @@ pub fn peeked<O, T: Copy, R: Copy, P: Ord, E: ParseError<T, R, P>>(
     ParseResult::PeekErr(refusal)
 }
 
+/// Has the error say that this token was not expected; of kind `Memory` where the item finds no memory. Our own.
 pub fn add_unexpected_token<T: Copy, R: Copy, P: Ord, E: ParseError<T, R, P>>(
     error: &mut E,
     token: T,

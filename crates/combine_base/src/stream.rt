@@ -12,7 +12,7 @@ mod slices;
 
 pub use slices::Left;
 
-/// Why a read, a reset or a parse didn't succeed.
+/// Why a read, a reset or a parse didn't succeed. Our own; all but `Refused` and `End` are faults.
 #[derive(Clone, Copy, Debug, PartialEq, Eq)]
 pub enum Kind {
     /// The parser refuses.
@@ -29,10 +29,12 @@ pub enum Kind {
     Lost,
 }
 
-/// How often a stream's reads and resets have failed.
+/// How often a stream's reads and resets have failed. Our own.
 #[derive(Clone, Copy, Debug, PartialEq, Eq)]
 pub struct Failures {
+    /// How often a read has failed.
     pub reads: u64,
+    /// How often a reset has failed.
     pub resets: u64,
 }
 
@@ -43,12 +45,16 @@ pub trait StreamOnce: Drop {
     ghost use Rattle.combine_base.specs.View.{advanced};
     ghost use Rattle.std.specs.declared.cmp.Ordering.TheVariants.{Less};
 
+    /// What is read one by one. Tokens, ranges and positions are `Copy`, where the crate asks `Clone`.
     type Token: Copy;
 
+    /// What a run of tokens is read as. No call of this trait gives one; items of errors may speak of them.
     type Range: Copy;
 
+    /// Where the stream stands; each token that is taken makes it later.
     type Position: Ord + Copy;
 
+    /// What parsers of this stream are refused with.
     type Error: ParseError<Self::Token, Self::Range, Self::Position>;
 
     /// The places that a stream can be put back to.
@@ -88,6 +94,7 @@ pub trait StreamOnce: Drop {
 
 /// A stream that can be put back.
 pub trait ResetStream: StreamOnce {
+    /// A place that the stream can be put back to. `Copy`, where the crate asks `Clone`.
     type Checkpoint: Copy;
 
     /// The view that a checkpoint stands for.
@@ -103,6 +110,7 @@ pub trait ResetStream: StreamOnce {
         ensures to { ResetTo Self.steady Self.step (stands self.old checkpoint) (Self.view self.old) (Self.view self.new) (Self.failures self.old) (Self.failures self.new) result }
         ensures passes { Passes (Self.marks self.old) (Self.marks self.new) (Self.failures self.old) (Self.failures self.new) };
 
+    /// How often reads and resets have failed so far; neither count ever falls. Our own.
     fn failures(&self) -> Failures
         ensures { result ≡ Self.failures self.now };
 
@@ -112,6 +120,7 @@ pub trait ResetStream: StreamOnce {
 
 /// A stream that knows its position.
 pub trait Positioned: StreamOnce {
+    /// Where the stream stands now: after what was taken, and before what is unread.
     fn position(&self) -> Self::Position
         ensures { result ≡ (Self.view self.now).position };
 }
