@@ -1,9 +1,8 @@
 -- a list whose items are known
-use Rattle.std.specs.Prelude.{ℕ, ◌<◌, ◌≡◌, List, length, Bool, true, false, Some, slice_get}
-use Rattle.std.proofs.Common.{sym, ◌∙◌, arith}
+use Rattle.std.specs.Prelude.{ℕ, ◌<◌, ◌≡◌, List, length, Bool, Some, slice_get}
 use Rattle.std.proofs.lemmas.Iterator.{YieldsList}
 use Rattle.std.specs.declared.option.Option.{Option}
-use Rattle.combine_token.specs.TokenLists.{TokenList, EndsOnce, ComparesOnce}
+use Rattle.combine_token.specs.TokenLists.{TokenList}
 
 -- the items of a list, each compared with the token at its place
 abbrev pub listed : {A T : Type 0} → (A → T → Bool → Type 0) → List A → TokenList T
@@ -22,10 +21,3 @@ pub record Within {T : Type 0} (l l' : TokenList T) : Type 0 where
   pub fits : (n : ℕ) (t : T) (b : Bool) → l.fits n t b → l'.fits n t b
   pub has : (n : ℕ) → l.has n → l'.has n
   pub ends : (m : ℕ) → l.ends m → l'.ends m
-
-module _ {A T : Type 0} (compares : A → T → Bool → Type 0) (xs : List A) where
-  pub listed_ends_once : EndsOnce (listed compares xs)
-  listed_ends_once = record { before = λ k m h e. omega (arith, e); one = λ m n e f. e ∙ sym f }
-
-  pub listed_compares_once : ((x : A) (t : T) → compares x t true → compares x t false → ⊥) → ComparesOnce (listed compares xs)
-  listed_compares_once h = record { one = λ n t p q. let e = p.1 in let f = q.1 in let i : p.0 ≡ q.0 = cc in h q.0 t (rw i at p.2) q.2 }

@@ -50,11 +50,13 @@ impl<Input: Stream, P: Parser<Input>, B: Drop, F: Fn(P::Output) -> B> Parser<Inp
         }
     }
 
+    /// What the parser adds whose value is changed.
     #[inline]
     fn add_error(&mut self, error: &mut Tracked<Input::Error>) {
         self.0.add_error(error);
     }
 
+    /// As for the parser whose value is changed.
     #[inline]
     fn parser_count(&self) -> ErrorOffset {
         self.0.parser_count()
@@ -127,11 +129,13 @@ impl<Input: Stream, P: Parser<Input>> Parser<Input> for Try<P> {
         }
     }
 
+    /// What the parser adds whose refusals are put back.
     #[inline]
     fn add_error(&mut self, error: &mut Tracked<Input::Error>) {
         self.0.add_error(error);
     }
 
+    /// As for the parser whose refusals are put back.
     #[inline]
     fn parser_count(&self) -> ErrorOffset {
         self.0.parser_count()

@@ -53,11 +53,13 @@ impl<Input: Stream, P: Parser<Input>, F: Append<P::Output>> Parser<Input> for Ma
         take_turns(&mut self.parser, none_yet, mode, input, state)
     }
 
+    /// What the parser of a turn adds.
     #[inline]
     fn add_error(&mut self, error: &mut Tracked<Input::Error>) {
         self.parser.add_error(error);
     }
 
+    /// As for the parser of a turn.
     #[inline]
     fn parser_count(&self) -> ErrorOffset {
         self.parser.parser_count()
@@ -105,11 +107,13 @@ impl<Input: Stream, P: Parser<Input>, F: Append<P::Output>> Parser<Input> for Ma
         take_turns(&mut self.parser, none_yet, mode, input, state)
     }
 
+    /// What the parser adds, as for `many`.
     #[inline]
     fn add_error(&mut self, error: &mut Tracked<Input::Error>) {
         self.parser.add_error(error);
     }
 
+    /// As for `many`.
     #[inline]
     fn parser_count(&self) -> ErrorOffset {
         self.parser.parser_count()
@@ -152,11 +156,13 @@ impl<Input: Stream, P: Parser<Input>> Parser<Input> for SkipMany<P> {
         take_turns(&mut self.0, none_yet, mode, input, state).map(|_sink| ())
     }
 
+    /// What the parser adds, as for `many`.
     #[inline]
     fn add_error(&mut self, error: &mut Tracked<Input::Error>) {
         self.0.add_error(error);
     }
 
+    /// A skipping form counts as one parser.
     #[inline]
     fn parser_count(&self) -> ErrorOffset {
         ErrorOffset(1)
@@ -199,11 +205,13 @@ impl<Input: Stream, P: Parser<Input>> Parser<Input> for SkipMany1<P> {
         take_turns(&mut self.0, none_yet, mode, input, state).map(|_sink| ())
     }
 
+    /// What the parser adds, as for `many`.
     #[inline]
     fn add_error(&mut self, error: &mut Tracked<Input::Error>) {
         self.0.add_error(error);
     }
 
+    /// A skipping form counts as one parser.
     #[inline]
     fn parser_count(&self) -> ErrorOffset {
         ErrorOffset(1)

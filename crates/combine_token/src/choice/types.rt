@@ -141,6 +141,7 @@ impl<Input: Stream, P: Parser<Input>, Q: Parser<Input, Output = P::Output>> Pars
         self.1.add_error(error);
     }
 
+    /// A choice counts as one parser.
     fn parser_count(&self) -> ErrorOffset {
         ErrorOffset(1)
     }
@@ -196,6 +197,7 @@ impl<Input: Stream, P: Parser<Input>> Parser<Input> for Optional<P> {
         self.0.add_error(error)
     }
 
+    /// As for the parser.
     fn parser_count(&self) -> ErrorOffset {
         self.0.parser_count()
     }

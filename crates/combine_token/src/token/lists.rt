@@ -43,11 +43,11 @@ where
     }
 }
 
-/// One call of a parser of a list of tokens, as `tokens` makes one (our own: parsers of fixed lists stand on it).
+/// One call of a parser of a list of tokens, as `tokens` makes one.
 ///
 /// `expected` is what the error of a committed mismatch says was expected, if it says so.
 #[inline(always)]
-pub fn match_list<C, T, Input: Stream, M: ParseMode>(
+pub(super) fn match_list<C, T, Input: Stream, M: ParseMode>(
     cmp: &C,
     list: &T,
     expected: Option<&Info<Input::Token, Input::Range>>,

@@ -27,7 +27,7 @@ pub struct Satisfy<Input, F> {
     pub(super) reads: PhantomData<Input>,
 }
 
-/// The parser of [`token`](crate::token::token). It is `Clone` and, unlike the crate's, not `Copy`.
+/// The parser of [`token`](crate::token::token). It is `Clone` and, unlike the crate's, not `Copy`: a type that holds an associated type can't be.
 #[derive(Drop)]
 #[derive_where(Clone)]
 pub struct Token<Input: StreamOnce>
