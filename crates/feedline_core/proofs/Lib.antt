@@ -1,2 +1,3 @@
 pub mod Sizing
 pub mod Running
+pub mod Sessions

@@ -1,11 +1,14 @@
 -- what is written where an input is fed piece by piece to a parser of messages
-use Rattle.std.specs.Prelude.{ℕ, ◌≡◌, ◌⊎◌, List, [], ◌∷◌, ◌++◌, length, Bool, true, false, Option, Result, Ok, Err}
+use Rattle.std.specs.Prelude.{ℕ, ◌≡◌, ◌+◌, ◌≤◌, ◌⊎◌, List, [], ◌∷◌, ◌++◌, length, Bool, true, false, Option, Result, Ok, Err}
 use Rattle.std.specs.Io.KnownBytes.{Appends}
 use Rattle.combine_base.specs.Outcome.{Outcome, Accepted, Refused, Undecided}
 use Rattle.combine_base.specs.Meaning.{Reading}
 use Rattle.combine_base.specs.Pieces.{joined, Decides, Asked}
 use Rattle.combine_base.specs.declared.parser.answer.Answer.{Answer}
 use Rattle.combine_base.specs.declared.parser.answer.Answer.TheVariants as answers
+use Rattle.combine_base.specs.declared.parser.session.SessionError.{SessionError}
+use Rattle.combine_base.specs.declared.parser.session.SessionError.TheVariants as errors
+use Rattle.combine_base.specs.declared.stream.Kind.TheVariants as kinds
 use Rattle.feedline_core.specs.Lines.{more_line, accepted_line, refused_line, decision_line}
 use Rattle.feedline_core.specs.declared.message.Message.{Message}
 use Rattle.feedline_core.specs.declared.fault.Fault.{Fault}
@@ -32,6 +35,20 @@ abbrev pub more_lines : List ℕ → List ℕ
 more_lines [] = []
 more_lines (u ∷ us) = more_line u ++ more_lines us
 
+-- How many bytes are unread after each of the first pieces: they are an end of those that were unread before and the piece, so there are no more than of these.
+abbrev pub leaves_ends : ℕ → List (List ℕ) → List ℕ → Type 0
+leaves_ends before pieces [] = Unit {0}
+leaves_ends before [] (u ∷ us) = ⊥
+leaves_ends before (p ∷ ps) (u ∷ us) = (u ≤ before + length p) × leaves_ends u ps us
+
+-- a growth was refused, of what is fed or within the parse
+abbrev pub IsWantOfMemory : SessionError → Type 0
+IsWantOfMemory errors.Memory = Unit {0}
+IsWantOfMemory (errors.Fault why) = why ≡ kinds.Memory
+IsWantOfMemory errors.TooLong = ⊥
+IsWantOfMemory errors.Closed = ⊥
+IsWantOfMemory errors.Failed = ⊥
+
 module _ (r : Reading ℕ ℕ Message) (pieces : List (List ℕ)) where
   -- These lines: one for each piece at whose end, more being open, the reading is undecided, with a number of unread bytes; and then that of the outcome on the whole input, ended.
   pub record Prints (text : List ℕ) (accepted : Bool) : Type 0 where
@@ -39,6 +56,7 @@ module _ (r : Reading ℕ ℕ Message) (pieces : List (List ℕ)) where
     pub decides : Decides r (joined pieces) outcome
     pub unread : List ℕ
     pub asked : Asked r pieces (length unread)
+    pub ends : leaves_ends 0 pieces unread
     pub lines : text ≡ more_lines unread ++ decision_line outcome
     pub accepts : accepted ≡ is_accepted outcome
 

@@ -1,19 +1,21 @@
 //! Feeds an input piece by piece, and writes the lines.
-ghost use Rattle.std.specs.Prelude.{◌≡◌, [], true, false, MatchResult, map};
+ghost use Rattle.std.specs.Prelude.{◌≡◌, ◌+◌, ◌^◌, ◌<◌, [], true, false, MatchResult, length, map};
 ghost use Rattle.std.specs.Char.{is_ascii_digit, is_ascii_lowercase};
 ghost use Rattle.feedline_core.specs.Cut.{pieces_of};
 ghost use Rattle.feedline_core.specs.Messages.{message};
+ghost use Rattle.combine_base.specs.Pieces.{joined};
 ghost use Rattle.combine_base.specs.Sessions.{Feeds, Ends};
+ghost use Rattle.combine_base.specs.declared.parser.session.Stage.TheVariants as stages;
 ghost use Rattle.std.specs.Io.KnownBytes.{Appends};
-ghost use Rattle.feedline_core.specs.Runs.{Runs, answer_line, answer_accepts};
+ghost use Rattle.feedline_core.specs.Runs.{Runs, IsWantOfMemory, answer_line, answer_accepts};
 
 use crate::fault::Fault;
 use crate::lines::{write_accepted, write_more, write_refused};
 use crate::message::Message;
 use crate::pieces::cut;
 use combine_base::error::UnexpectedParse;
-use combine_base::parser::{Answer, Parser, Session};
-use combine_base::stream::fed;
+use combine_base::parser::{Answer, Parser, Session, SessionError};
+use combine_base::stream::{Kind, fed};
 use combine_map::combinator::{attempt, map};
 use combine_repeat::repeat::many1;
 use combine_token::choice::or;
@@ -78,7 +80,8 @@ pub(crate) fn drive<P: Parser<fed::Stream<u8>, Output = Message> + Drop, W: Writ
     pieces: &[&[u8]],
     out: &mut W,
 ) -> Result<bool, Fault>
-    requires { P.lawful parser }
+    requires lawful { P.lawful parser }
+    requires fits { length (joined (map (λ p. p.now) pieces.now)) < 2 ^ 64 }
     ensures { Runs (P.meaning parser).whole (map (λ p. p.now) pieces.now) (W.contents out.old) (W.contents out.new) result }
 {
     let mut session = Session::new(alloc, parser);
@@ -92,32 +95,49 @@ pub(crate) fn drive<P: Parser<fed::Stream<u8>, Output = Message> + Drop, W: Writ
     write_decision(out, &answer)
 }
 
-/// Feeds a piece. A session of fewer than 2^64 bytes that is still running gives no answer for want of memory alone.
+/// Feeds a piece to a session that still runs and has room for it.
 fn feed<P: Parser<fed::Stream<u8>>>(
     session: &mut Session<P, u8>,
     piece: &[u8],
 ) -> Result<Answer<P::Output, UnexpectedParse>, Fault>
+    requires running { session.old.stage ≡ stages.Running }
+    requires fits { session.old.seen.position + length session.old.seen.unread + length piece.now < 2 ^ 64 }
     ensures { MatchResult result
         (λ answer. Feeds P.meaning P.valid session.old session.new piece.now true (Ok answer))
         (λ why. why ≡ Fault.Memory) }
 {
     match session.feed(piece) {
         Ok(answer) => Ok(answer),
-        Err(_fault) => Err(Fault::Memory),
+        Err(error) => Err(out_of_memory(error)),
     }
 }
 
-/// Says that the input has ended.
+/// Says to a session that still runs that the input has ended.
 fn end<P: Parser<fed::Stream<u8>>>(
     session: &mut Session<P, u8>,
 ) -> Result<Answer<P::Output, UnexpectedParse>, Fault>
+    requires running { session.old.stage ≡ stages.Running }
     ensures { MatchResult result
         (λ answer. Ends P.meaning P.valid session.old session.new [] false (Ok answer))
         (λ why. why ≡ Fault.Memory) }
 {
     match session.end() {
         Ok(answer) => Ok(answer),
-        Err(_fault) => Err(Fault::Memory),
+        Err(error) => Err(out_of_memory(error)),
+    }
+}
+
+/// The fault for the one error that a session has which runs and has room: a growth was refused.
+fn out_of_memory(error: SessionError) -> Fault
+    requires { IsWantOfMemory error }
+    ensures { result ≡ Fault.Memory }
+{
+    match error {
+        SessionError::Memory | SessionError::Fault(Kind::Memory) => Fault::Memory,
+        SessionError::Fault(_)
+        | SessionError::TooLong
+        | SessionError::Closed
+        | SessionError::Failed => unreachable!(),
     }
 }
 

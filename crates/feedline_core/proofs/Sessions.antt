@@ -1,0 +1,65 @@
+-- a session that still runs: its one error, what it leaves unread, and its room for the next piece
+use Rattle.std.proofs.Common.{ℕ, ◌+◌, ◌^◌, ◌<◌, ◌≤◌, ◌≡◌, refl, sym, ◌∙◌, ap, subst, List, [], ◌∷◌, ◌++◌, length, take, drop, get_or, true, false, arith, Result, Ok, Err}
+use Rattle.std.proofs.lemmas.List.{append-nil, take_more, take-append-drop, length-append, length-drop}
+use Rattle.combine_base.specs.Meaning.{Meaning}
+use Rattle.combine_base.specs.Pieces.{joined}
+use Rattle.combine_base.specs.Sessions.{Course, Feeds, Ends, by_stage}
+use Rattle.combine_base.specs.Sessions as session
+use Rattle.combine_base.proofs.Pieces.{SoFar, joined_append, joined_more}
+use Rattle.combine_base.specs.declared.error.UnexpectedParse.{UnexpectedParse}
+use Rattle.combine_base.specs.declared.parser.answer.Answer.{Answer}
+use Rattle.combine_base.specs.declared.parser.answer.Answer.TheVariants as answers
+use Rattle.combine_base.specs.declared.parser.session.SessionError.{SessionError}
+use Rattle.combine_base.specs.declared.parser.session.SessionError.TheVariants as errors
+use Rattle.combine_base.specs.declared.parser.session.Stage.TheVariants as stages
+use Rattle.feedline_core.specs.Cut.{pieces_of}
+use Rattle.feedline_core.specs.Runs.{IsWantOfMemory}
+
+module _ {P T R A S : Type 0} (meaning : P → Meaning ℕ T R A S) (valid : S → Type 0) (old new : Course P T S) (running : old.stage ≡ stages.Running) where
+  module _ (piece : List T) where
+    fed_now : (r : Result (Answer A UnexpectedParse) SessionError) → Feeds meaning valid old new piece true r → session.feeds meaning valid old new piece true r
+    fed_now r h = subst (λ s. by_stage meaning valid old new piece true (session.feeds meaning valid old new piece true) s r) running h.is
+
+    -- a piece that has room is fed but for want of memory
+    pub feeds_memory : session.total meaning valid old new piece true < 2 ^ 64 → (e : SessionError) → Feeds meaning valid old new piece true (Err e) → IsWantOfMemory e
+    feeds_memory fits errors.Memory h = tt
+    feeds_memory fits (errors.Fault k) h = (fed_now _ h).1.is.memory
+    feeds_memory fits errors.TooLong h = absurd (let long = (fed_now _ h).0 in omega arith)
+    feeds_memory fits errors.Closed h = absurd (fed_now _ h)
+    feeds_memory fits errors.Failed h = absurd (fed_now _ h)
+
+    -- what is unread then is an end of what was and the piece
+    pub feeds_end : Feeds meaning valid old new piece true (Ok answers.More) → length new.seen.unread ≤ length old.seen.unread + length piece
+    feeds_end h =
+        let l = (fed_now _ h).1.is.leaves in
+        let e = ap length l.unread in
+        omega (arith, length-drop l.count (old.seen.unread ++ piece), length-append old.seen.unread piece)
+
+  ended_now : (r : Result (Answer A UnexpectedParse) SessionError) → Ends meaning valid old new [] false r → session.ends meaning valid old new [] false r
+  ended_now r h = subst (λ s. by_stage meaning valid old new [] false (session.ends meaning valid old new [] false) s r) running h.is
+
+  -- the end is said but for want of memory
+  pub ends_memory : (e : SessionError) → Ends meaning valid old new [] false (Err e) → IsWantOfMemory e
+  ends_memory errors.Memory h = tt
+  ends_memory (errors.Fault k) h = (ended_now _ h).is.memory
+  ends_memory errors.TooLong h = absurd (ended_now _ h)
+  ends_memory errors.Closed h = absurd (ended_now _ h)
+  ends_memory errors.Failed h = absurd (ended_now _ h)
+
+-- where all pieces have room, the next one has
+pub has_room : {P T R A S : Type 0} (meaning : P → Meaning ℕ T R A S) (m : Meaning ℕ T R A S) (pieces : List (List T)) (n : ℕ) (c : Course P T S) → SoFar meaning m (take n pieces) c → (piece : List T) → n < length pieces → get_or pieces n piece ≡ piece → length (joined pieces) < 2 ^ 64 → c.seen.position + length c.seen.unread + length piece < 2 ^ 64
+has_room meaning m pieces n c far piece within at fits =
+    let fed = take n pieces in
+    let next : fed ++ piece ∷ [] ≡ take (n + 1) pieces = ap (λ x. fed ++ x ∷ []) (sym at) ∙ sym (take_more pieces n piece within) in
+    let all = ap joined (sym (take-append-drop (n + 1) pieces)) ∙ joined_append (take (n + 1) pieces) (drop (n + 1) pieces) in
+    let long = ap length all ∙ length-append (joined (take (n + 1) pieces)) (joined (drop (n + 1) pieces)) in
+    let now = ap length (ap joined (sym next) ∙ joined_more fed piece) ∙ length-append (joined fed) piece in
+    let unread = ap length far.unread in
+    let taken = far.within in
+    omega (arith, length-drop c.seen.position (joined fed))
+
+-- the pieces of an input are the input
+pub joined_pieces : (sizes input : List ℕ) → joined (pieces_of sizes input) ≡ input
+joined_pieces [] [] = refl
+joined_pieces [] (b ∷ bs) = append-nil (b ∷ bs)
+joined_pieces (n ∷ ns) input = ap (λ z. take n input ++ z) (joined_pieces ns (drop n input)) ∙ take-append-drop n input
