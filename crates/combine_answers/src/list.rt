@@ -1,18 +1,15 @@
 //! The list of parsers.
 
-use crate::answered::Style;
-use crate::calls::sizes::{One, Three, Two, Zero};
-use crate::calls::texts::{A, Aab, Ab, Abc, Ac, B, Bc, Empty, Hello, Let, Lex};
-use crate::calls::{
-    AnyCall, AttemptCall, Call, Many1Call, Many1WithinCall, ManyCall, MapCall, OptionalCall,
-    OrCall, SatisfyAbCall, SkipMany1Call, SkipManyCall, TokenCall, TokensCall, Tuple1Call,
-    Tuple2Call, Tuple3Call, Tuple4Call, ValueCall, Visitor,
+use combine_calls::answered::Style;
+use combine_calls::calls::sizes::{One, Three, Two, Zero};
+use combine_calls::calls::texts::{A, Aab, Ab, Abc, Ac, B, Bc, Empty, Hello, Let, Lex};
+use combine_calls::calls::{
+    AnyCall, AttemptCall, Many1Call, Many1WithinCall, ManyCall, MapCall, OptionalCall, OrCall,
+    SatisfyAbCall, SkipMany1Call, SkipManyCall, TokenCall, TokensCall, Tuple1Call, Tuple2Call,
+    Tuple3Call, Tuple4Call, ValueCall,
 };
-use crate::feeding::{Feeding, read_feeding};
-use crate::run::run;
-use crate::show::Show;
-use combine_base::parser::Parser;
-use combine_base::stream::fed;
+use combine_calls::feeding::{Feeding, read_feeding};
+use combine_calls::run::answer_of;
 use std::alloc::{AllocError, Global};
 
 /// The answer of a parser that was found.
@@ -58,29 +55,6 @@ fn answer_in_style(alloc: Global, case: &str, style: Style) -> Result<Option<Str
 /// Whether a call, but for blanks, is written so.
 fn is_text_of(parser: &str, call: &str) -> bool {
     parser.bytes().eq(call.bytes().filter(|byte| *byte != b' '))
-}
-
-/// Runs a parser on an input.
-#[derive(Drop)]
-struct Runs<'a> {
-    alloc: Global,
-    feeding: &'a Feeding<'a>,
-}
-
-impl<O: Show> Visitor<O> for Runs<'_> {
-    ghost ready = { λ _. Unit {0} };
-
-    fn visit<P: Parser<fed::Stream<u8>, Output = O> + Drop>(
-        self,
-        parser: P,
-    ) -> Result<String, AllocError> {
-        run(self.alloc, parser, self.feeding)?.to_text(self.alloc, self.feeding.style)
-    }
-}
-
-/// What the parser of a call answers.
-fn answer_of<C: Call>(alloc: Global, feeding: &Feeding<'_>) -> Result<String, AllocError> {
-    C::accept(alloc, Runs { alloc, feeding })
 }
 
 /// The call that a text stands for. Names of tokens stand for their bytes.

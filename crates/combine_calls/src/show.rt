@@ -4,14 +4,14 @@ use std::alloc::AllocError;
 use std::str::Chars;
 
 /// A value that can be written.
-pub(crate) trait Show: Drop {
+pub trait Show: Drop {
     /// Writes the value behind the text. A refused growth leaves a part of it.
     fn show(&self, text: &mut String) -> Result<(), AllocError>;
 }
 
 /// What `map` makes of a value.
 #[derive(Drop)]
-pub(crate) struct Mapped<T>(pub(crate) T);
+pub struct Mapped<T>(pub(crate) T);
 
 /// A token.
 impl Show for u8 {

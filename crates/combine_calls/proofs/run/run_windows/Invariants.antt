@@ -1,4 +1,4 @@
-use Rattle.combine_answers.proofs.run.run_windows.Given as goal
+use Rattle.combine_calls.proofs.run.run_windows.Given as goal
 
 -- the parser may be called, from the state that is kept
 abbrev pub invariant-loop-at : goal.invariant-loop-at

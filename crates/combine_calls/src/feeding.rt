@@ -5,7 +5,7 @@ use std::alloc::{AllocError, Global};
 
 /// The pieces of an input, in turn.
 #[derive(Drop)]
-pub(crate) struct Feeding<'a> {
+pub struct Feeding<'a> {
     pub(crate) pieces: Vec<&'a [u8]>,
     /// Whether the input ends with the last piece; else more may follow it.
     pub(crate) ended: bool,
@@ -14,11 +14,7 @@ pub(crate) struct Feeding<'a> {
 }
 
 /// Reads pieces that are written with `/` between them, and `.` behind the last one where the input ends.
-pub(crate) fn read_feeding(
-    alloc: Global,
-    text: &str,
-    style: Style,
-) -> Result<Feeding<'_>, AllocError> {
+pub fn read_feeding(alloc: Global, text: &str, style: Style) -> Result<Feeding<'_>, AllocError> {
     let (text, ended) = match text.strip_suffix('.') {
         Some(text) => (text, true),
         None => (text, false),

@@ -16,7 +16,7 @@ pub(crate) struct Answered<O> {
 
 /// What is written of the pieces at whose end a parser asked for more.
 #[derive(Clone, Copy, Debug, PartialEq, Eq)]
-pub(crate) enum Style {
+pub enum Style {
     /// `asked N `, for N pieces.
     Count,
     /// `more U, ` for each piece, for U unread tokens.

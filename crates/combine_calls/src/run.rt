@@ -1,16 +1,41 @@
 //! Runs a parser on an input that is fed in pieces.
 
 use crate::answered::Answered;
+use crate::calls::{Call, Visitor};
 use crate::feeding::Feeding;
+use crate::show::Show;
 use combine_base::error::UnexpectedParse;
 use combine_base::parser::{Answer, Parser, Session, SessionError, judge};
 use combine_base::stream::{Positioned, fed};
 use std::alloc::{AllocError, Global};
 
+/// Runs a parser on an input.
+#[derive(Drop)]
+struct Runs<'a> {
+    alloc: Global,
+    feeding: &'a Feeding<'a>,
+}
+
+impl<O: Show> Visitor<O> for Runs<'_> {
+    ghost ready = { λ _. Unit {0} };
+
+    fn visit<P: Parser<fed::Stream<u8>, Output = O> + Drop>(
+        self,
+        parser: P,
+    ) -> Result<String, AllocError> {
+        run(self.alloc, parser, self.feeding)?.to_text(self.alloc, self.feeding.style)
+    }
+}
+
+/// What the parser of a call answers to an input, as text.
+pub fn answer_of<C: Call>(alloc: Global, feeding: &Feeding<'_>) -> Result<String, AllocError> {
+    C::accept(alloc, Runs { alloc, feeding })
+}
+
 /// What a parser answers to an input: at the last piece that is fed, or at the first at which it decides.
 ///
 /// A session runs it, but where the end of the input comes with a last piece that isn't empty: that the parser is given over its stream, at once with the end.
-pub(crate) fn run<P: Parser<fed::Stream<u8>> + Drop>(
+fn run<P: Parser<fed::Stream<u8>> + Drop>(
     alloc: Global,
     parser: P,
     feeding: &Feeding<'_>,

@@ -9,7 +9,7 @@ use std::marker::PhantomData;
 
 /// `tuple(A,B,C)`.
 #[derive(Drop)]
-pub(crate) struct Tuple3Call<A, B, C>(PhantomData<(A, B, C)>);
+pub struct Tuple3Call<A, B, C>(PhantomData<(A, B, C)>);
 
 impl<A: Call, B: Call, C: Call> Call for Tuple3Call<A, B, C> {
     type Output = (A::Output, B::Output, C::Output);
@@ -116,7 +116,7 @@ where
 
 /// `tuple(A,B,C,D)`.
 #[derive(Drop)]
-pub(crate) struct Tuple4Call<A, B, C, D>(PhantomData<(A, B, C, D)>);
+pub struct Tuple4Call<A, B, C, D>(PhantomData<(A, B, C, D)>);
 
 impl<A: Call, B: Call, C: Call, D: Call> Call for Tuple4Call<A, B, C, D> {
     type Output = (A::Output, B::Output, C::Output, D::Output);

@@ -13,18 +13,18 @@ use std::str::Chars;
 mod of_more;
 mod of_one;
 mod of_several;
-pub(crate) mod sizes;
-pub(crate) mod texts;
+pub mod sizes;
+pub mod texts;
 
-pub(crate) use of_more::{Tuple3Call, Tuple4Call};
-pub(crate) use of_one::{
+pub use of_more::{Tuple3Call, Tuple4Call};
+pub use of_one::{
     AttemptCall, Many1Call, Many1WithinCall, ManyCall, MapCall, OptionalCall, SkipMany1Call,
     SkipManyCall,
 };
-pub(crate) use of_several::{OrCall, Tuple1Call, Tuple2Call};
+pub use of_several::{OrCall, Tuple1Call, Tuple2Call};
 
 /// A call of a constructor.
-pub(crate) trait Call: Drop {
+pub trait Call: Drop {
     /// The values of its parser.
     type Output: Show;
 
@@ -34,10 +34,11 @@ pub(crate) trait Call: Drop {
 }
 
 /// What is done with a parser of such values.
-pub(crate) trait Visitor<O: Show>: Drop {
+pub trait Visitor<O: Show>: Drop {
     /// Holds where the parsers that it keeps are lawful.
     ghost ready: { Self → Type 0 };
 
+    /// What it answers of the parser, as text.
     fn visit<P: Parser<fed::Stream<u8>, Output = O> + Drop>(
         self,
         parser: P,
@@ -48,7 +49,7 @@ pub(crate) trait Visitor<O: Show>: Drop {
 
 /// `any()`.
 #[derive(Drop)]
-pub(crate) struct AnyCall;
+pub struct AnyCall;
 
 impl Call for AnyCall {
     type Output = u8;
@@ -60,7 +61,7 @@ impl Call for AnyCall {
 
 /// `satisfy(ab)`.
 #[derive(Drop)]
-pub(crate) struct SatisfyAbCall;
+pub struct SatisfyAbCall;
 
 impl Call for SatisfyAbCall {
     type Output = u8;
@@ -72,7 +73,7 @@ impl Call for SatisfyAbCall {
 
 /// `token(T)`.
 #[derive(Drop)]
-pub(crate) struct TokenCall<const T: u8>;
+pub struct TokenCall<const T: u8>;
 
 impl<const T: u8> Call for TokenCall<T> {
     type Output = u8;
@@ -84,7 +85,7 @@ impl<const T: u8> Call for TokenCall<T> {
 
 /// `tokens(T)`.
 #[derive(Drop)]
-pub(crate) struct TokensCall<T>(PhantomData<T>);
+pub struct TokensCall<T>(PhantomData<T>);
 
 impl<T: Text> Call for TokensCall<T> {
     type Output = Chars<'static>;
@@ -96,7 +97,7 @@ impl<T: Text> Call for TokensCall<T> {
 
 /// `value(T)`.
 #[derive(Drop)]
-pub(crate) struct ValueCall<const T: u8>;
+pub struct ValueCall<const T: u8>;
 
 impl<const T: u8> Call for ValueCall<T> {
     type Output = u8;

@@ -14,7 +14,7 @@ use std::marker::PhantomData;
 
 /// `map(C)`.
 #[derive(Drop)]
-pub(crate) struct MapCall<C>(PhantomData<C>);
+pub struct MapCall<C>(PhantomData<C>);
 
 /// Hands `map` of its parser on.
 #[derive(Drop)]
@@ -44,7 +44,7 @@ impl<O: Show, V: Visitor<Mapped<O>>> Visitor<O> for MapNext<V> {
 
 /// `attempt(C)`.
 #[derive(Drop)]
-pub(crate) struct AttemptCall<C>(PhantomData<C>);
+pub struct AttemptCall<C>(PhantomData<C>);
 
 /// Hands `attempt` of its parser on.
 #[derive(Drop)]
@@ -71,7 +71,7 @@ impl<O: Show, V: Visitor<O>> Visitor<O> for AttemptNext<V> {
 
 /// `optional(C)`.
 #[derive(Drop)]
-pub(crate) struct OptionalCall<C>(PhantomData<C>);
+pub struct OptionalCall<C>(PhantomData<C>);
 
 /// Hands `optional` of its parser on.
 #[derive(Drop)]
@@ -101,7 +101,7 @@ impl<O: Show, V: Visitor<Option<O>>> Visitor<O> for OptionalNext<V> {
 
 /// `many(C)`.
 #[derive(Drop)]
-pub(crate) struct ManyCall<C>(PhantomData<C>);
+pub struct ManyCall<C>(PhantomData<C>);
 
 /// Hands `many` of its parser on.
 #[derive(Drop)]
@@ -137,7 +137,7 @@ impl<O: Show, V: Visitor<Vec<O>>> Visitor<O> for ManyNext<V> {
 
 /// `many1(C)`.
 #[derive(Drop)]
-pub(crate) struct Many1Call<C>(PhantomData<C>);
+pub struct Many1Call<C>(PhantomData<C>);
 
 /// Hands `many1` of its parser on.
 #[derive(Drop)]
@@ -173,7 +173,7 @@ impl<O: Show, V: Visitor<Vec<O>>> Visitor<O> for Many1Next<V> {
 
 /// `many1_within(N,C)`: `many1` into a collection with room for N values.
 #[derive(Drop)]
-pub(crate) struct Many1WithinCall<C, N>(PhantomData<(C, N)>);
+pub struct Many1WithinCall<C, N>(PhantomData<(C, N)>);
 
 /// Hands `many1` of its parser on, into a collection with room for N values.
 #[derive(Drop)]
@@ -211,7 +211,7 @@ impl<O: Show, V: Visitor<Room<N>>, N: Size> Visitor<O> for Many1WithinNext<V, N>
 
 /// `skip_many(C)`.
 #[derive(Drop)]
-pub(crate) struct SkipManyCall<C>(PhantomData<C>);
+pub struct SkipManyCall<C>(PhantomData<C>);
 
 /// Hands `skip_many` of its parser on.
 #[derive(Drop)]
@@ -238,7 +238,7 @@ impl<O: Show, V: Visitor<()>> Visitor<O> for SkipManyNext<V> {
 
 /// `skip_many1(C)`.
 #[derive(Drop)]
-pub(crate) struct SkipMany1Call<C>(PhantomData<C>);
+pub struct SkipMany1Call<C>(PhantomData<C>);
 
 /// Hands `skip_many1` of its parser on.
 #[derive(Drop)]

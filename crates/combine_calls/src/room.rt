@@ -9,7 +9,7 @@ use std::marker::PhantomData;
 
 /// Counts values, at most N: it refuses the next growth.
 #[derive(Drop)]
-pub(crate) struct Room<N> {
+pub struct Room<N> {
     taken: usize,
     room: PhantomData<N>,
 }

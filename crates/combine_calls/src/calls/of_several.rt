@@ -10,7 +10,7 @@ use std::marker::PhantomData;
 
 /// `or(A,B)`.
 #[derive(Drop)]
-pub(crate) struct OrCall<A, B>(PhantomData<(A, B)>);
+pub struct OrCall<A, B>(PhantomData<(A, B)>);
 
 impl<A: Call, B: Call<Output = A::Output>> Call for OrCall<A, B> {
     type Output = A::Output;
@@ -69,7 +69,7 @@ impl<O: Show, P: Parser<fed::Stream<u8>, Output = O> + Drop, V: Visitor<O>> Visi
 
 /// `tuple(A)`.
 #[derive(Drop)]
-pub(crate) struct Tuple1Call<A>(PhantomData<(A,)>);
+pub struct Tuple1Call<A>(PhantomData<(A,)>);
 
 impl<A: Call> Call for Tuple1Call<A> {
     type Output = (A::Output,);
@@ -96,7 +96,7 @@ impl<O: Show, V: Visitor<(O,)>> Visitor<O> for Tuple1First<V> {
 
 /// `tuple(A,B)`.
 #[derive(Drop)]
-pub(crate) struct Tuple2Call<A, B>(PhantomData<(A, B)>);
+pub struct Tuple2Call<A, B>(PhantomData<(A, B)>);
 
 impl<A: Call, B: Call> Call for Tuple2Call<A, B> {
     type Output = (A::Output, B::Output);
