@@ -1,2 +1,4 @@
+pub mod OnInput
+pub mod Single
 pub mod Sizing
 pub mod Running
