@@ -1,3 +1,5 @@
+pub mod OnInput
+pub mod Single
 pub mod Sizing
 pub mod Running
 pub mod Sessions

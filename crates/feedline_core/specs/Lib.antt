@@ -2,4 +2,5 @@ pub mod Sizes
 pub mod Cut
 pub mod Lines
 pub mod Runs
+pub mod OnInput
 pub mod Messages

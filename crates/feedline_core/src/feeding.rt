@@ -1,7 +1,7 @@
 //! Feeds an input piece by piece, and writes the lines.
 ghost use Rattle.std.specs.Prelude.{◌≡◌, ◌+◌, ◌^◌, ◌<◌, [], true, false, MatchResult, length, map};
 ghost use Rattle.std.specs.Char.{is_ascii_digit, is_ascii_lowercase};
-ghost use Rattle.feedline_core.specs.Cut.{pieces_of};
+ghost use Rattle.feedline_core.specs.OnInput.{RunsOn};
 ghost use Rattle.feedline_core.specs.Messages.{message};
 ghost use Rattle.combine_base.specs.Pieces.{joined};
 ghost use Rattle.combine_base.specs.Sessions.{Feeds, Ends};
@@ -27,7 +27,7 @@ use std::io::Write;
 ///
 /// It stops at the first decision. It writes a line `more N` for each piece that needs more, with N bytes unread, and then the line of the decision; it answers whether that accepts. It answers `Memory` where a growth was refused and `Write` where a write failed; of what the writer then holds nothing is said.
 pub fn run<W: Write>(alloc: Global, sizes: &[u32], input: &[u8], out: &mut W) -> Result<bool, Fault>
-    ensures { Runs message (pieces_of sizes.now input.now) (W.contents out.old) (W.contents out.new) result }
+    ensures { RunsOn message sizes.now input.now (W.contents out.old) (W.contents out.new) result }
 {
     let pieces = cut(alloc, sizes, input)?;
     let del = attempt((token(b'd'), token(b'e'), token(b'l'), token(b' ')));

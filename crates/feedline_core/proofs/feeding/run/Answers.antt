@@ -1,6 +1,8 @@
 use Rattle.std.proofs.Common.{◌<◌, ◌^◌, rules, map, length, ap, sym, subst, ◌∙◌}
 use Rattle.combine_base.specs.Pieces.{joined}
 use Rattle.combine_repeat.specs.Built.{many1_of}
+use Rattle.feedline_core.proofs.OnInput.{runs_on}
+use Rattle.feedline_core.proofs.Single.{message_is_single}
 use Rattle.feedline_core.specs.Runs.{Runs}
 use Rattle.feedline_core.specs.Messages.{message}
 use Rattle.feedline_core.proofs.Sessions.{joined_pieces}
@@ -24,4 +26,4 @@ returns g c =
     let parser = rw set at rw delete at c.or.ensures in
     let drove = rw parser at c.drive.ensures in
     let pieces = ap (map (λ p. p.now)) c.deref.ensures.value ∙ c.in_ok-pieces.ensures in
-    subst (λ ps. Runs message ps (g.W.Write.contents c.args.out.now) (g.W.Write.contents c.drive.new.out) c.drive.result) pieces drove
+    runs_on message message_is_single _ _ _ _ _ (subst (λ ps. Runs message ps (g.W.Write.contents c.args.out.now) (g.W.Write.contents c.drive.new.out) c.drive.result) pieces drove)

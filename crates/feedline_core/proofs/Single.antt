@@ -1,0 +1,46 @@
+-- a message has one outcome on a view, but for its value
+use Rattle.std.proofs.Common.{ℕ, ◌≡◌, Bool, true, false, [], ◌∷◌, ◌++◌}
+use Rattle.std.specs.Char.{is_ascii_digit, is_ascii_lowercase}
+use Rattle.std.specs.Global.{Vec}
+use Rattle.combine_base.specs.Meaning.{Meaning, IsSingle, MeansOne}
+use Rattle.combine_base.specs.Mapped.{mapped_means_one}
+use Rattle.combine_base.specs.Errors.{Nothing}
+use Rattle.combine_base.specs.Places.{valid_in, valid_1, place_2, place_3, place_4}
+use Rattle.combine_base.specs.Tuples.{push_1, push_2, push_3, tuple_1, tuple_2, tuple_3, tuple_4, tuple_1_means_one, followed_means_one}
+use Rattle.combine_token.specs.Choice.{Either, refused, refused_is_single, either_is_single}
+use Rattle.combine_token.specs.OneToken.{of_function, of_function_is_predicate, satisfied, satisfied_is_test, takes_one_means_one}
+use Rattle.combine_map.specs.Attempt.{attempted_means_one}
+use Rattle.combine_repeat.specs.Repetition.{appended}
+use Rattle.combine_repeat.specs.RepetitionLaws.{turns_means_one}
+use Rattle.combine_repeat.specs.declared.repeat.turns.Place.TheVariants.{First}
+use Rattle.combine_repeat.specs.declared.repeat.turns.TurnsState.{TurnsState}
+use Rattle.feedline_core.specs.Messages.{step, byte_where, byte, bytes_where, word, digits, del, delete, set, message}
+use Rattle.feedline_core.specs.declared.message.Message.{Message}
+use Rattle.feedline_core.specs.declared.message.Message.TheVariants.{Set, Delete}
+
+-- every state
+abbrev all : {S : Type 0} → S → Type 0
+all s = Unit {0}
+
+byte_one : (f : ℕ → Bool) → MeansOne {State = Unit {0}} all (byte_where f)
+byte_one f = takes_one_means_one (satisfied (of_function f)) (Unit {0}) Nothing all (satisfied_is_test (of_function f) (of_function_is_predicate f))
+
+bytes_one : (f : ℕ → Bool) → MeansOne {State = TurnsState (Vec ℕ) (Unit {0})} all (bytes_where f)
+bytes_one f = turns_means_one step (appended (λ v. v.items) [] (λ bs b. bs ++ b ∷ []) ⊥) (record { mark = First; held = []; committed = false }) all (byte_where f) (byte_one f)
+
+-- tuples whose parts have one outcome
+module _ {A B C U V W : Type 0} {f : U → Type 0} {g : V → Type 0} {h : W → Type 0} {m : Meaning ℕ ℕ (Unit {0}) A U} {n : Meaning ℕ ℕ (Unit {0}) B V} {p : Meaning ℕ ℕ (Unit {0}) C W} (one : MeansOne f m) (two : MeansOne g n) (three : MeansOne h p) where
+  three_one : MeansOne (valid_in place_3 (valid_in place_2 (valid_1 f) g) h) (tuple_3 step m n p)
+  three_one = followed_means_one step place_3 push_2 (followed_means_one step place_2 push_1 (tuple_1_means_one one) two) three
+
+  four_one : {D X : Type 0} {k : X → Type 0} {q : Meaning ℕ ℕ (Unit {0}) D X} → MeansOne k q → MeansOne (valid_in place_4 (valid_in place_3 (valid_in place_2 (valid_1 f) g) h) k) (tuple_4 step m n p q)
+  four_one four = followed_means_one step place_4 push_3 three_one four
+
+delete_is_single : IsSingle delete
+delete_is_single = (mapped_means_one _ _ (λ parts m. m ≡ Delete parts.1) (three_one (attempted_means_one step _ _ (four_one (byte_one _) (byte_one _) (byte_one _) (byte_one _))) (bytes_one _) (byte_one _))).whole
+
+set_is_single : IsSingle set
+set_is_single = (mapped_means_one _ _ (λ parts m. m ≡ Set parts.0 parts.2) (four_one (bytes_one _) (byte_one _) (bytes_one _) (byte_one _))).whole
+
+pub message_is_single : IsSingle message
+message_is_single = either_is_single delete (Either set refused) delete_is_single (either_is_single set refused set_is_single refused_is_single)
