@@ -4,10 +4,9 @@ use Rattle.std.proofs.Math.Decide.{dec_lt}
 use Rattle.std.proofs.Math.Nat.{eq-or-lt_of_le}
 use Rattle.std.proofs.Math.Seq.{take-append-add}
 use Rattle.std.proofs.lemmas.List.{append-nil, take_more, take-append-drop, take-append-le, drop-append-le, drop-drop, take_all, length-append, length-drop, length-take-le}
-use Rattle.combine_base.specs.View.{View}
 use Rattle.combine_base.specs.Outcome.{Outcome, Accepted, Refused, Undecided, IsDecided}
 use Rattle.combine_base.specs.OutcomeFacts.{decided_shape}
-use Rattle.combine_base.specs.Meaning.{Meaning, Reading, IsReading, IsSingle, MeansSame}
+use Rattle.combine_base.specs.Meaning.{Meaning, IsReading, IsSingle, MeansSame}
 use Rattle.combine_base.specs.Sessions.{Course, left, Begins, Feeds, Ends, by_stage}
 use Rattle.combine_base.specs.Sessions as session
 use Rattle.combine_base.specs.Pieces.{joined, on, Decides, decides, undecided_at, Asked, Decided}
@@ -175,33 +174,6 @@ at_first meaning valid determined p c h = record {
   kept = λ k. h.unread;
   same = subst (λ q. MeansSame (meaning p) (meaning q)) (sym h.parser) (same_none (meaning p));
 }
-
--- what is asked and decided under one reading is so under another that allows each of its outcomes
-module _ {A T : Type 0} (m m' : Reading ℕ T A) (into : (v : View ℕ T) (o : Outcome A) → m v o → m' v o) where
-  pub decides_into : (x : List T) (o : Outcome A) → Decides m x o → Decides m' x o
-  decides_into x o h = let a = into _ o h.is in record { is = a; only = λ s p q. s.one _ p o q a }
-
-  pub asked_into : IsReading m' → (pieces : List (List T)) (n : ℕ) → Asked m pieces n → Asked m' pieces n
-  asked_into law pieces n h = record {
-    within = h.within;
-    here = λ i k. into _ Undecided (h.here i k);
-    only = later;
-    stopped = λ k. let s = h.stopped k in (s.0, s.1, into _ s.0 s.2);
-  }
-    where
-      later : IsSingle m' → (i : ℕ) → i < length pieces → undecided_at m' pieces i → i < n
-      later s i k u =
-          elim (dec_lt i n) [
-            | yes l ↦ l
-            | no l ↦
-                let stop = h.stopped (omega arith) in
-                let first = take (n + 1) pieces in
-                let rest = drop (n + 1) pieces in
-                let long : length first ≡ n + 1 = length-take-le (n + 1) pieces (omega arith) in
-                let e = ap (λ ps. joined (take (i + 1) ps)) (sym (take-append-drop (n + 1) pieces)) ∙ joined_rest first rest (i + 1) (omega (arith, long)) in
-                let far = law.stays (record { position = 0; unread = joined first; is_open = true }) (joined (take (i + 1 - length first) rest)) true stop.0 refl stop.1 (into _ stop.0 stop.2) in
-                absurd (decided_shape stop.0 stop.1 (s.one _ stop.0 Undecided far (subst (λ z. on m' z true Undecided) e u)))
-          ]
 
 -- in a loop over the pieces, of which the first n were fed
 module _ {P T R A S : Type 0} (meaning : P → Meaning ℕ T R A S) (m : Meaning ℕ T R A S) (valid : S → Type 0) (pieces : List (List T)) (n : ℕ) (c : Course P T S) (far : SoFar meaning m (take n pieces) c) where
