@@ -1,22 +1,20 @@
 -- a session that is fed one piece after another, until it decides
-use Rattle.std.proofs.Common.{ℕ, ◌+◌, ◌-◌, ◌<◌, ◌≤◌, ◌≡◌, ◌≢◌, refl, sym, ◌∙◌, ap, subst, List, [], ◌∷◌, ◌++◌, length, take, drop, get_or, Bool, true, false, append_assoc, arith, Result, Ok, Err, ⊎_elim}
+use Rattle.std.proofs.Common.{ℕ, ◌+◌, ◌-◌, ◌<◌, ◌≤◌, ◌≡◌, ◌≢◌, refl, sym, ◌∙◌, ap, subst, List, [], ◌∷◌, ◌++◌, length, take, drop, get_or, Bool, true, false, append_assoc, arith, Result, Ok, ⊎_elim}
 use Rattle.std.proofs.Math.Decide.{dec_lt}
 use Rattle.std.proofs.Math.Nat.{eq-or-lt_of_le}
 use Rattle.std.proofs.Math.Seq.{take-append-add}
 use Rattle.std.proofs.lemmas.List.{append-nil, take_more, take-append-drop, take-append-le, drop-append-le, drop-drop, take_all, length-append, length-drop, length-take-le}
-use Rattle.combine_base.specs.View.{View}
 use Rattle.combine_base.specs.Outcome.{Outcome, Accepted, Refused, Undecided, IsDecided}
 use Rattle.combine_base.specs.OutcomeFacts.{decided_shape}
-use Rattle.combine_base.specs.Meaning.{Meaning, Reading, IsReading, IsSingle, MeansSame}
+use Rattle.combine_base.specs.Meaning.{Meaning, IsReading, IsSingle, MeansSame}
 use Rattle.combine_base.specs.Sessions.{Course, left, Begins, Feeds, Ends, by_stage}
 use Rattle.combine_base.specs.Sessions as session
-use Rattle.combine_base.specs.Pieces.{joined, on, Decides, decides, undecided_at, Asked, Decided, failed}
+use Rattle.combine_base.specs.Pieces.{joined, on, Decides, decides, undecided_at, Asked, Decided}
 use Rattle.combine_base.proofs.Same.{same_none, same_more}
 use Rattle.combine_base.specs.declared.error.UnexpectedParse.{UnexpectedParse}
 use Rattle.combine_base.specs.declared.parser.answer.Answer.{Answer}
 use Rattle.combine_base.specs.declared.parser.answer.Answer.TheVariants as answers
 use Rattle.combine_base.specs.declared.parser.session.SessionError.{SessionError}
-use Rattle.combine_base.specs.declared.parser.session.SessionError.TheVariants as errors
 use Rattle.combine_base.specs.declared.parser.session.Stage.TheVariants as stages
 
 module _ {T : Type 0} where
@@ -147,19 +145,6 @@ module _ {P T R A S : Type 0} (meaning : P → Meaning ℕ T R A S) (m : Meaning
       stops (answers.Accepted v t k) d h = answered (answers.Accepted v t k) (Accepted v t k) (λ x. x) tt (fed_now _ h).1.is.means.is
       stops (answers.Refused e k) d h = answered (answers.Refused e k) (Refused k) (λ x. x) tt (fed_now _ h).1.is.means.is
 
-    -- the session failed at this piece
-    pub fails : (rest : List (List T)) (e : SessionError) → Feeds meaning valid c new piece true (Err e) → failed m.lean (now ++ rest) e
-    fails rest errors.Memory h = tt
-    fails rest (errors.Fault k) h = let f = (fed_now _ h).1.is in (f.memory, λ l. f.wanted (far.same.lean.0 l))
-    fails rest errors.Closed h = absurd (fed_now _ h)
-    fails rest errors.Failed h = absurd (fed_now _ h)
-    fails rest errors.TooLong h =
-        let long = (fed_now _ h).0 in
-        let a = ap length (joined_append now rest) ∙ length-append (joined now) (joined rest) in
-        let b = ap length (joined_more fed piece) ∙ length-append (joined fed) piece in
-        let d = count in
-        omega arith
-
   module _ (valid : S → Type 0) (fed : List (List T)) (c : Course P T S) (far : SoFar fed c) (new : Course P T S) where
     last : (o : Outcome A) → left meaning c [] false o → Decides m.whole (joined fed) o
     last o h =
@@ -178,14 +163,6 @@ module _ {P T R A S : Type 0} (meaning : P → Meaning ℕ T R A S) (m : Meaning
     ends (answers.Accepted v t k) h = ended (answers.Accepted v t k) (last (Accepted v t k) (ended_now _ h).is.means.is)
     ends (answers.Refused e k) h = ended (answers.Refused e k) (last (Refused k) (ended_now _ h).is.means.is)
 
-    -- the session failed at the end
-    pub fails_last : (e : SessionError) → Ends meaning valid c new [] false (Err e) → failed m.lean fed e
-    fails_last (errors.Fault k) h = let f = (ended_now _ h).is in (f.memory, λ l. f.wanted (far.same.lean.0 l))
-    fails_last errors.Memory h = absurd (ended_now _ h)
-    fails_last errors.Closed h = absurd (ended_now _ h)
-    fails_last errors.Failed h = absurd (ended_now _ h)
-    fails_last errors.TooLong h = absurd (ended_now _ h)
-
 -- nothing is fed yet
 pub at_first : {P T R A S : Type 0} (meaning : P → Meaning ℕ T R A S) (valid : S → Type 0) (determined : P → Type 0) (p : P) (c : Course P T S) → Begins meaning valid determined p c → SoFar meaning (meaning p) [] c
 at_first meaning valid determined p c h = record {
@@ -197,33 +174,6 @@ at_first meaning valid determined p c h = record {
   kept = λ k. h.unread;
   same = subst (λ q. MeansSame (meaning p) (meaning q)) (sym h.parser) (same_none (meaning p));
 }
-
--- what is asked and decided under one reading is so under another that allows each of its outcomes
-module _ {A T : Type 0} (m m' : Reading ℕ T A) (into : (v : View ℕ T) (o : Outcome A) → m v o → m' v o) where
-  pub decides_into : (x : List T) (o : Outcome A) → Decides m x o → Decides m' x o
-  decides_into x o h = let a = into _ o h.is in record { is = a; only = λ s p q. s.one _ p o q a }
-
-  pub asked_into : IsReading m' → (pieces : List (List T)) (n : ℕ) → Asked m pieces n → Asked m' pieces n
-  asked_into law pieces n h = record {
-    within = h.within;
-    here = λ i k. into _ Undecided (h.here i k);
-    only = later;
-    stopped = λ k. let s = h.stopped k in (s.0, s.1, into _ s.0 s.2);
-  }
-    where
-      later : IsSingle m' → (i : ℕ) → i < length pieces → undecided_at m' pieces i → i < n
-      later s i k u =
-          elim (dec_lt i n) [
-            | yes l ↦ l
-            | no l ↦
-                let stop = h.stopped (omega arith) in
-                let first = take (n + 1) pieces in
-                let rest = drop (n + 1) pieces in
-                let long : length first ≡ n + 1 = length-take-le (n + 1) pieces (omega arith) in
-                let e = ap (λ ps. joined (take (i + 1) ps)) (sym (take-append-drop (n + 1) pieces)) ∙ joined_rest first rest (i + 1) (omega (arith, long)) in
-                let far = law.stays (record { position = 0; unread = joined first; is_open = true }) (joined (take (i + 1 - length first) rest)) true stop.0 refl stop.1 (into _ stop.0 stop.2) in
-                absurd (decided_shape stop.0 stop.1 (s.one _ stop.0 Undecided far (subst (λ z. on m' z true Undecided) e u)))
-          ]
 
 -- in a loop over the pieces, of which the first n were fed
 module _ {P T R A S : Type 0} (meaning : P → Meaning ℕ T R A S) (m : Meaning ℕ T R A S) (valid : S → Type 0) (pieces : List (List T)) (n : ℕ) (c : Course P T S) (far : SoFar meaning m (take n pieces) c) where
@@ -243,15 +193,9 @@ module _ {P T R A S : Type 0} (meaning : P → Meaning ℕ T R A S) (m : Meaning
         let e = length-take-le n pieces (omega arith) in
         subst (λ xs. Decided m.whole xs n a) all (subst (λ i. Decided m.whole ((take n pieces ++ piece ∷ []) ++ drop (n + 1) pieces) i a) e s)
 
-    pub fails_at : (e : SessionError) → Feeds meaning valid c new piece true (Err e) → failed m.lean pieces e
-    fails_at e h = subst (λ xs. failed m.lean xs e) all (fails meaning m valid (take n pieces) c far piece new (drop (n + 1) pieces) e h)
-
   module _ (all_fed : n ≡ length pieces) (new : Course P T S) where
     far_all : SoFar meaning m pieces c
     far_all = subst (λ xs. SoFar meaning m xs c) (take_all n pieces (omega arith)) far
 
     pub ends_at : (a : Answer A UnexpectedParse) → Ends meaning valid c new [] false (Ok a) → Decided m.whole pieces n a
     ends_at a h = subst (λ i. Decided m.whole pieces i a) (sym all_fed) (ends meaning m valid pieces c far_all new a h)
-
-    pub fails_last_at : (e : SessionError) → Ends meaning valid c new [] false (Err e) → failed m.lean pieces e
-    fails_last_at = fails_last meaning m valid pieces c far_all new

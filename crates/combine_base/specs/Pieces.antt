@@ -1,12 +1,9 @@
 -- what feeding a list of pieces and then the end promises
-use Rattle.std.specs.Prelude.{ℕ, ◌+◌, ◌^◌, ◌<◌, ◌≤◌, ◌≡◌, List, [], ◌∷◌, ◌++◌, Bool, true, false, length, take}
+use Rattle.std.specs.Prelude.{ℕ, ◌+◌, ◌<◌, ◌≤◌, ◌≡◌, List, [], ◌∷◌, ◌++◌, Bool, true, false, length, take}
 use Rattle.combine_base.specs.Outcome.{Outcome, Accepted, Refused, Undecided, IsDecided, shape}
 use Rattle.combine_base.specs.Meaning.{Reading, IsSingle}
-use Rattle.combine_base.specs.declared.stream.Kind.TheVariants as kinds
 use Rattle.combine_base.specs.declared.parser.answer.Answer.{Answer}
 use Rattle.combine_base.specs.declared.parser.answer.Answer.TheVariants as answers
-use Rattle.combine_base.specs.declared.parser.session.SessionError.{SessionError}
-use Rattle.combine_base.specs.declared.parser.session.SessionError.TheVariants as errors
 
 -- the pieces, one after another
 abbrev pub joined : {Token : Type 0} → List (List Token) → List Token
@@ -44,11 +41,3 @@ module _ {Token Value : Type 0} (r : Reading ℕ Token Value) where
     pub record Decided {E : Type 0} (n : ℕ) (a : Answer Value E) : Type 0 where
       pub answer : decides (joined pieces) a
       pub asked : Asked n
-
--- why there is no answer; no parser that asks for no memory has a fault
-abbrev pub failed : {Token : Type 0} → Type 0 → List (List Token) → SessionError → Type 0
-failed lean pieces errors.Memory = Unit {0}
-failed lean pieces (errors.Fault k) = (k ≡ kinds.Memory) × (lean → ⊥)
-failed lean pieces errors.TooLong = 2 ^ 64 ≤ length (joined pieces)
-failed lean pieces errors.Closed = ⊥
-failed lean pieces errors.Failed = ⊥
