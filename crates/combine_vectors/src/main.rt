@@ -4,6 +4,8 @@
 #[cfg(test)]
 mod drivers;
 #[cfg(test)]
+mod example;
+#[cfg(test)]
 mod messages;
 #[cfg(test)]
 mod rows;
