@@ -1,10 +1,10 @@
 -- bytes that are fed piece by piece: what was fed, and what is left to feed
 use Rattle.std.proofs.Common.{ℕ, ◌≡◌, ◌≢◌, refl, sym, ◌∙◌, ap, subst, List, [], ◌∷◌, ◌++◌, length, append_assoc, Result, Ok, Err, true, false}
 use Rattle.std.proofs.lemmas.List.{append-nil}
-use Rattle.combine_base.specs.Meaning.{Meaning, Reading, IsReading, MeansSame}
+use Rattle.combine_base.specs.Meaning.{Meaning, Reading, IsReading}
 use Rattle.combine_base.specs.Outcome.{Accepted, Refused}
 use Rattle.combine_base.specs.Sessions.{Course, Begins, Feeds, Ends}
-use Rattle.combine_base.specs.Pieces.{joined, decides, Decided}
+use Rattle.combine_base.specs.Pieces.{joined, decides}
 use Rattle.combine_base.proofs.Pieces.{SoFar, at_first, further, stops, ends, joined_more, joined_append}
 use Rattle.combine_base.specs.declared.error.UnexpectedParse.{UnexpectedParse}
 use Rattle.combine_base.specs.declared.parser.answer.Answer.{Answer}

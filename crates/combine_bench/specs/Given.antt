@@ -1,5 +1,5 @@
 -- what a parser gives that is run over bytes
-use Rattle.std.specs.Prelude.{ℕ, ◌≡◌, ◌≤◌, ◌⊎◌, Bool, Result, Ok, Err}
+use Rattle.std.specs.Prelude.{ℕ, ◌≡◌, ◌≤◌, length, Bool, Result, Ok, Err}
 use Rattle.combine_base.specs.View.{View}
 use Rattle.combine_base.specs.Outcome.{Accepted, Refused}
 use Rattle.combine_base.specs.Meaning.{Reading}
@@ -45,11 +45,14 @@ abbrev pub is_within : {V : Type 0} → ℕ → Result (V × ℕ) Failure → Ty
 is_within most (Ok p) = p.1 ≤ most
 is_within most (Err why) = Unit {0}
 
--- the number that stands for what was given
-abbrev pub number : {V : Type 0} → Result (V × ℕ) Failure → ℕ
-number (Ok p) = p.1
-number (Err why) = code why
+-- the number that stands for what was given: of a value and the count of its bytes it is this one
+abbrev pub number : {V : Type 0} → (V → ℕ → ℕ) → Result (V × ℕ) Failure → ℕ
+number f (Ok p) = f p.0 p.1
+number f (Err why) = code why
 
--- at most so many bytes, or a failure
-abbrev pub IsCount : ℕ → ℕ → Type 0
-IsCount most n = (n ≤ most) ⊎ (n ≡ code failures.Refused) ⊎ (n ≡ code failures.Fault)
+-- what is answered for a parser of a reading: the number of an outcome of it
+pub record Answers {P T V : Type 0} (f : V → ℕ → ℕ) (r : Reading P T V) (v : View P T) (n : ℕ) : Type 0 where
+  pub given : Result (V × ℕ) Failure
+  pub within : is_within (length v.unread) given
+  pub gives : Gives r v given
+  pub is : n ≡ number f given

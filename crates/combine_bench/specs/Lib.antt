@@ -1,2 +1,4 @@
 pub mod Given
+pub mod Measures
+pub mod Parsers
 pub mod Tally

@@ -1,24 +1,50 @@
 //! Classes of bytes.
-ghost use Rattle.std.specs.Prelude.{◌≡◌, ◌||◌};
+ghost use Rattle.std.specs.Prelude.{◌≡◌, ◌||◌, Bool};
 ghost use Rattle.std.specs.Char.{is_ascii_digit, is_ascii_lowercase};
 
-#[inline]
-pub(crate) fn is_letter(byte: u8) -> bool
-    ensures { result ≡ is_ascii_lowercase byte }
-{
-    byte.is_ascii_lowercase()
+/// A class of tokens.
+pub(crate) trait Class<T> {
+    ghost holds: { T → Bool };
+
+    fn has(token: T) -> bool
+        ensures { result ≡ holds token };
 }
 
-#[inline]
-pub(crate) fn is_decimal(byte: u8) -> bool
-    ensures { result ≡ is_ascii_digit byte }
-{
-    byte.is_ascii_digit()
+/// The small letters.
+#[derive(Drop)]
+pub(crate) struct Letter;
+
+impl Class<u8> for Letter {
+    ghost holds = { is_ascii_lowercase };
+
+    #[inline(always)]
+    fn has(byte: u8) -> bool {
+        byte.is_ascii_lowercase()
+    }
 }
 
-#[inline]
-pub(crate) fn is_letter_or_decimal(byte: u8) -> bool
-    ensures { result ≡ (is_ascii_lowercase byte || is_ascii_digit byte) }
-{
-    is_letter(byte) || is_decimal(byte)
+/// The digits.
+#[derive(Drop)]
+pub(crate) struct Decimal;
+
+impl Class<u8> for Decimal {
+    ghost holds = { is_ascii_digit };
+
+    #[inline(always)]
+    fn has(byte: u8) -> bool {
+        byte.is_ascii_digit()
+    }
+}
+
+/// The small letters and the digits.
+#[derive(Drop)]
+pub(crate) struct LetterOrDecimal;
+
+impl Class<u8> for LetterOrDecimal {
+    ghost holds = { λ b. is_ascii_lowercase b || is_ascii_digit b };
+
+    #[inline(always)]
+    fn has(byte: u8) -> bool {
+        byte.is_ascii_lowercase() || byte.is_ascii_digit()
+    }
 }

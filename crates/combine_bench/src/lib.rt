@@ -1,9 +1,11 @@
 //! Our side of the measures of `bench/`: for each a function that is called from outside, whose parser takes the bytes whole or in pieces.
 #![tactic(auto)]
 
+mod calls;
 mod classes;
 mod many_in_many;
 mod many_in_many_in_many;
+mod measure;
 mod messages_collect;
 mod messages_skip;
 mod one_token;

@@ -1,40 +1,28 @@
 //! `skip_many` of words, which are `skip_many1` of letters with a `;` behind them.
-ghost use Rattle.std.specs.Prelude.{length};
-ghost use Rattle.combine_bench.specs.Given.{IsCount, is_within};
+ghost use Rattle.combine_bench.specs.Measures.{Measures, many_in_many, taken};
 
-use crate::classes::is_letter;
-use crate::run::{Given, Pieces, Run, Whole, count};
-use combine_base::stream::Stream;
-use combine_repeat::repeat::{skip_many, skip_many1};
-use combine_token::token::{satisfy, token};
+use crate::calls::{SatisfyCall, SkipMany1Call, SkipManyCall, TokenCall, Tuple2Call};
+use crate::classes::Letter;
+use crate::measure::{Taken, measured};
+use crate::run::{Pieces, Whole};
 use std::alloc::Global;
+
+type Word = SkipMany1Call<SatisfyCall<Letter>>;
+
+type Skipped = SkipManyCall<Tuple2Call<Word, TokenCall<b';'>>>;
 
 /// Skips words; answers how many bytes it took.
 #[unsafe(no_mangle)]
 pub extern "C" fn combine_bench_many_in_many(alloc: Global, bytes: &[u8], piece: usize) -> u64
-    ensures { IsCount (length bytes.now) result }
+    ensures { Measures taken many_in_many bytes.now result }
 {
     if piece == 0 {
-        return count(parse(Whole { bytes }, is_letter, b';'));
+        return measured::<_, _, Skipped, Taken>(alloc, Whole { bytes });
     }
     let pieces = Pieces {
         alloc,
         bytes,
         size: piece,
     };
-    count(parse(pieces, is_letter, b';'))
-}
-
-#[inline(always)]
-fn parse<Input: Stream, R: Run<Input>, F: Fn(Input::Token) -> bool>(
-    run: R,
-    letter: F,
-    end: Input::Token,
-) -> Given<()>
-where
-    Input::Token: PartialEq,
-    requires { F.IsAlwaysCallable letter }
-    ensures { is_within (length (R.all run).unread) result }
-{
-    run.run(skip_many((skip_many1(satisfy(letter)), token(end))))
+    measured::<_, _, Skipped, Taken>(alloc, pieces)
 }

@@ -1,14 +1,15 @@
 //! Messages, collected: `del WORD;` or `WORD=DIGITS;`, the word and the digits in vectors.
 ghost use Rattle.std.specs.Prelude.{◌≡◌};
+ghost use Rattle.combine_bench.specs.Measures.{Measures, messages_collect, sum};
 
-use crate::classes::{is_decimal, is_letter};
-use crate::run::{Given, Pieces, Run, Whole};
+use crate::calls::{
+    AttemptCall, Change, Many1Call, ManyCall, MapCall, OrCall, SatisfyCall, TokenCall, Tuple3Call,
+    Tuple4Call,
+};
+use crate::classes::{Decimal, Letter};
+use crate::measure::{Number, measured};
+use crate::run::{Pieces, Whole};
 use combine_base::repeat::Append;
-use combine_base::stream::Stream;
-use combine_map::combinator::{attempt, map};
-use combine_repeat::repeat::{many, many1};
-use combine_token::choice::or;
-use combine_token::token::{satisfy, token};
 use std::alloc::{AllocError, Global};
 
 /// What a message says.
@@ -73,108 +74,83 @@ impl Tally {
     }
 }
 
+type Word = Many1Call<Vec<u8>, SatisfyCall<Letter>>;
+
+type Digits = Many1Call<Vec<u8>, SatisfyCall<Decimal>>;
+/// The tokens before a word that is deleted.
+type Del = AttemptCall<
+    Tuple4Call<TokenCall<b'd'>, TokenCall<b'e'>, TokenCall<b'l'>, TokenCall<b' '>>,
+>;
+
+type Delete = MapCall<Tuple3Call<Del, Word, TokenCall<b';'>>, Deleted>;
+
+type Set = MapCall<Tuple4Call<Word, TokenCall<b'='>, Digits, TokenCall<b';'>>, Made>;
+
+type Collected = ManyCall<Tally, OrCall<Delete, Set>>;
+
 /// Collects messages; answers their tally.
 #[unsafe(no_mangle)]
-pub extern "C" fn combine_bench_messages_collect(alloc: Global, bytes: &[u8], piece: usize) -> u64 {
+pub extern "C" fn combine_bench_messages_collect(alloc: Global, bytes: &[u8], piece: usize) -> u64
+    ensures { Measures sum messages_collect bytes.now result }
+{
     if piece == 0 {
-        return sum(parse(
-            alloc,
-            Whole { bytes },
-            is_letter,
-            is_decimal,
-            deleted,
-            made,
-            *b"del ",
-            *b"=;",
-        ));
+        return measured::<_, _, Collected, Sum>(alloc, Whole { bytes });
     }
     let pieces = Pieces {
         alloc,
         bytes,
         size: piece,
     };
-    sum(parse(
-        alloc, pieces, is_letter, is_decimal, deleted, made, *b"del ", *b"=;",
-    ))
-}
-
-/// The tokens before a word that is deleted.
-type Del<T> = (T, T, T, T);
-
-/// `signs` are the tokens before the digits and at the end.
-#[inline(always)]
-fn parse<
-    Input: Stream,
-    R: Run<Input>,
-    F: Fn(Input::Token) -> bool + Copy,
-    G: Fn(Input::Token) -> bool,
-    D: Fn((Del<Input::Token>, Vec<Input::Token>, Input::Token)) -> Message,
-    S: Fn(
-        (
-            Vec<Input::Token>,
-            Input::Token,
-            Vec<Input::Token>,
-            Input::Token,
-        ),
-    ) -> Message,
->(
-    alloc: Global,
-    run: R,
-    letter: F,
-    decimal: G,
-    deleted: D,
-    made: S,
-    del: [Input::Token; 4],
-    signs: [Input::Token; 2],
-) -> Given<Tally>
-where
-    Input::Token: PartialEq,
-    requires letter { F.IsAlwaysCallable letter }
-    requires decimal { G.IsAlwaysCallable decimal }
-    requires deleted { D.IsAlwaysCallable deleted }
-    requires made { S.IsAlwaysCallable made }
-{
-    let [d, e, l, blank] = del;
-    let [equals, end] = signs;
-    let delete = map(
-        (
-            attempt((token(d), token(e), token(l), token(blank))),
-            many1::<Vec<Input::Token>, _, _>(alloc, satisfy(letter)),
-            token(end),
-        ),
-        deleted,
-    );
-    let set = map(
-        (
-            many1::<Vec<Input::Token>, _, _>(alloc, satisfy(letter)),
-            token(equals),
-            many1::<Vec<Input::Token>, _, _>(alloc, satisfy(decimal)),
-            token(end),
-        ),
-        made,
-    );
-    run.run(many::<Tally, _, _>(alloc, or(delete, set)))
-}
-
-fn deleted(parts: (Del<u8>, Vec<u8>, u8)) -> Message {
-    Message {
-        word: parts.1,
-        digits: None,
-    }
-}
-
-fn made(parts: (Vec<u8>, u8, Vec<u8>, u8)) -> Message {
-    Message {
-        word: parts.0,
-        digits: Some(parts.2),
-    }
+    measured::<_, _, Collected, Sum>(alloc, pieces)
 }
 
 /// The tally, as a number.
-#[inline]
-fn sum(given: Given<Tally>) -> u64 {
-    match given {
-        Ok((tally, _count)) => tally.sum,
-        Err(failure) => failure.code(),
+#[derive(Drop)]
+struct Sum;
+
+impl Number<Tally> for Sum {
+    ghost number_of = { sum };
+
+    #[inline(always)]
+    fn number(tally: Tally, _taken: u64) -> u64 {
+        tally.sum
+    }
+}
+
+/// The message of a word that is deleted.
+#[derive(Drop)]
+struct Deleted;
+
+impl Change<((u8, u8, u8, u8), Vec<u8>, u8)> for Deleted {
+    ghost use Rattle.std.specs.Prelude.{◌≡◌, None};
+
+    type Output = Message;
+
+    ghost makes = { λ parts m. m ≡ record { word = parts.1; digits = None } };
+
+    fn change(parts: ((u8, u8, u8, u8), Vec<u8>, u8)) -> Message {
+        Message {
+            word: parts.1,
+            digits: None,
+        }
+    }
+}
+
+/// The message of a word and digits.
+#[derive(Drop)]
+struct Made;
+
+impl Change<(Vec<u8>, u8, Vec<u8>, u8)> for Made {
+    ghost use Rattle.std.specs.Prelude.{◌≡◌, Some};
+
+    type Output = Message;
+
+    ghost makes = { λ parts m. m ≡ record { word = parts.0; digits = Some parts.2 } };
+
+    fn change(parts: (Vec<u8>, u8, Vec<u8>, u8)) -> Message {
+        Message {
+            word: parts.0,
+            digits: Some(parts.2),
+        }
     }
 }

@@ -1,91 +1,54 @@
 //! Messages, skipped: `del WORD;` or `WORD=DIGITS;`.
-ghost use Rattle.std.specs.Prelude.{length};
-ghost use Rattle.combine_bench.specs.Given.{IsCount, is_within};
+ghost use Rattle.combine_bench.specs.Measures.{Measures, messages_skip, taken};
 
-use crate::classes::{is_decimal, is_letter};
-use crate::run::{Given, Pieces, Run, Whole, count};
-use combine_base::stream::Stream;
-use combine_map::combinator::{attempt, map};
-use combine_repeat::repeat::{skip_many, skip_many1};
-use combine_token::choice::or;
-use combine_token::token::{satisfy, token};
+use crate::calls::{
+    AttemptCall, Change, MapCall, OrCall, SatisfyCall, SkipMany1Call, SkipManyCall, TokenCall,
+    Tuple3Call, Tuple4Call,
+};
+use crate::classes::{Decimal, Letter};
+use crate::measure::{Taken, measured};
+use crate::run::{Pieces, Whole};
 use std::alloc::Global;
+
+type Word = SkipMany1Call<SatisfyCall<Letter>>;
+
+type Digits = SkipMany1Call<SatisfyCall<Decimal>>;
+/// The tokens before a word that is deleted.
+type Del = AttemptCall<
+    Tuple4Call<TokenCall<b'd'>, TokenCall<b'e'>, TokenCall<b'l'>, TokenCall<b' '>>,
+>;
+
+type Delete = MapCall<Tuple3Call<Del, Word, TokenCall<b';'>>, Dropped>;
+
+type Set = MapCall<Tuple4Call<Word, TokenCall<b'='>, Digits, TokenCall<b';'>>, Dropped>;
+
+type Skipped = SkipManyCall<OrCall<Delete, Set>>;
 
 /// Skips messages; answers how many bytes it took.
 #[unsafe(no_mangle)]
 pub extern "C" fn combine_bench_messages_skip(alloc: Global, bytes: &[u8], piece: usize) -> u64
-    ensures { IsCount (length bytes.now) result }
+    ensures { Measures taken messages_skip bytes.now result }
 {
     if piece == 0 {
-        return count(parse(
-            Whole { bytes },
-            is_letter,
-            is_decimal,
-            no_value,
-            no_value,
-            *b"del ",
-            *b"=;",
-        ));
+        return measured::<_, _, Skipped, Taken>(alloc, Whole { bytes });
     }
     let pieces = Pieces {
         alloc,
         bytes,
         size: piece,
     };
-    count(parse(
-        pieces, is_letter, is_decimal, no_value, no_value, *b"del ", *b"=;",
-    ))
+    measured::<_, _, Skipped, Taken>(alloc, pieces)
 }
 
-/// The tokens before a word that is deleted.
-type Del<T> = (T, T, T, T);
+/// Values that are dropped.
+#[derive(Drop)]
+struct Dropped;
 
-/// `signs` are the tokens before the digits and at the end.
-#[inline(always)]
-fn parse<
-    Input: Stream,
-    R: Run<Input>,
-    F: Fn(Input::Token) -> bool + Copy,
-    G: Fn(Input::Token) -> bool,
-    D: Fn((Del<Input::Token>, (), Input::Token)),
-    S: Fn(((), Input::Token, (), Input::Token)),
->(
-    run: R,
-    letter: F,
-    decimal: G,
-    deleted: D,
-    made: S,
-    del: [Input::Token; 4],
-    signs: [Input::Token; 2],
-) -> Given<()>
-where
-    Input::Token: PartialEq,
-    requires letter { F.IsAlwaysCallable letter }
-    requires decimal { G.IsAlwaysCallable decimal }
-    requires deleted { D.IsAlwaysCallable deleted }
-    requires made { S.IsAlwaysCallable made }
-    ensures { is_within (length (R.all run).unread) result }
-{
-    let [d, e, l, blank] = del;
-    let [equals, end] = signs;
-    let delete = map(
-        (
-            attempt((token(d), token(e), token(l), token(blank))),
-            skip_many1(satisfy(letter)),
-            token(end),
-        ),
-        deleted,
-    );
-    let set = map(
-        (
-            skip_many1(satisfy(letter)),
-            token(equals),
-            skip_many1(satisfy(decimal)),
-            token(end),
-        ),
-        made,
-    );
-    run.run(skip_many(or(delete, set)))
+impl<A: Drop> Change<A> for Dropped {
+    type Output = ();
+
+    ghost makes = { λ a b. Unit {0} };
+
+    #[inline(always)]
+    fn change(_value: A) {}
 }
-
-fn no_value<T: Drop>(value: T) {}

@@ -1,7 +1,7 @@
 //! Runs a parser over bytes, whole or in pieces.
 ghost use Rattle.std.specs.Prelude.{◌≡◌, ◌<◌, ◌++◌, ℕ, false, length};
 ghost use Rattle.combine_base.specs.View.{View};
-ghost use Rattle.combine_bench.specs.Given.{Gives, IsCount, given, is_within, failure, code, number};
+ghost use Rattle.combine_bench.specs.Given.{Gives, given, is_within, failure, code};
 
 use combine_base::error::UnexpectedParse;
 use combine_base::parser::{Answer, Parser, Session};
@@ -126,17 +126,5 @@ fn why(kind: Kind) -> Failure
     match kind {
         Kind::Refused | Kind::End => Failure::Refused,
         Kind::Memory | Kind::Read | Kind::Reset | Kind::Lost => Failure::Fault,
-    }
-}
-
-/// How many bytes were taken, or why none were.
-#[inline]
-pub(crate) fn count<O: Drop>(given: Given<O>) -> u64
-    ensures number { result ≡ number given }
-    ensures within { (most : ℕ) → is_within most given → IsCount most result }
-{
-    match given {
-        Ok((_value, count)) => count,
-        Err(failure) => failure.code(),
     }
 }

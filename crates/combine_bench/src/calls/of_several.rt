@@ -1,0 +1,141 @@
+//! Calls of constructors over two parsers: the first is made and kept, and then the second.
+ghost use Rattle.std.specs.Prelude.{◌≡◌};
+ghost use Rattle.combine_bench.specs.Parsers.{either, pair};
+
+use crate::calls::{Call, Visitor};
+use combine_base::parser::Parser;
+use combine_base::stream::Stream;
+use combine_token::choice::or;
+use std::alloc::Global;
+use std::marker::PhantomData;
+
+/// `or(A, B)`.
+#[derive(Drop)]
+pub(crate) struct OrCall<A, B>(PhantomData<(A, B)>);
+
+impl<Input: Stream, A: Call<Input>, B: Call<Input, Output = A::Output>> Call<Input>
+    for OrCall<A, B> {
+    type Output = A::Output;
+
+    ghost reading = { either A.reading B.reading };
+
+    #[inline(always)]
+    fn accept<V: Visitor<Input, A::Output>>(alloc: Global, visitor: V) -> u64 {
+        let first = OrFirst::<B, V> {
+            alloc,
+            next: visitor,
+            calls: PhantomData,
+        };
+        A::accept(alloc, first)
+    }
+}
+
+/// Has the parser behind its first made.
+#[derive(Drop)]
+struct OrFirst<B, V> {
+    alloc: Global,
+    next: V,
+    calls: PhantomData<(B,)>,
+}
+
+impl<Input: Stream, O: Drop, B: Call<Input, Output = O>, V: Visitor<Input, O>> Visitor<Input, O>
+    for OrFirst<B, V> {
+    ghost ready = { λ s. V.ready s.next };
+
+    ghost answers = { λ s r n. V.answers s.next (either r B.reading) n };
+
+    #[inline(always)]
+    fn visit<P: Parser<Input, Output = O> + Drop>(self, parser: P) -> u64 {
+        let second = OrSecond::<P, V> {
+            first: parser,
+            next: self.next,
+        };
+        B::accept(self.alloc, second)
+    }
+}
+
+/// Hands the parser on that both of its parsers make.
+#[derive(Drop)]
+struct OrSecond<P, V> {
+    first: P,
+    next: V,
+}
+
+impl<Input: Stream, O: Drop, P: Parser<Input, Output = O> + Drop, V: Visitor<Input, O>> Visitor<
+    Input,
+    O,
+> for OrSecond<P, V> {
+    ghost ready = { λ s. P.lawful s.first × V.ready s.next };
+
+    ghost answers = { λ s r n. V.answers s.next (either (P.meaning s.first).whole r) n };
+
+    #[inline(always)]
+    fn visit<Q: Parser<Input, Output = O> + Drop>(self, parser: Q) -> u64 {
+        self.next.visit(or(self.first, parser))
+    }
+}
+
+/// `(A, B)`.
+#[derive(Drop)]
+pub(crate) struct Tuple2Call<A, B>(PhantomData<(A, B)>);
+
+impl<Input: Stream, A: Call<Input>, B: Call<Input>> Call<Input> for Tuple2Call<A, B> {
+    type Output = (A::Output, B::Output);
+
+    ghost reading = { pair Input.step A.reading B.reading };
+
+    #[inline(always)]
+    fn accept<V: Visitor<Input, (A::Output, B::Output)>>(alloc: Global, visitor: V) -> u64 {
+        let first = Tuple2First::<B, V> {
+            alloc,
+            next: visitor,
+            calls: PhantomData,
+        };
+        A::accept(alloc, first)
+    }
+}
+
+/// Has the parser behind its first made.
+#[derive(Drop)]
+struct Tuple2First<B, V> {
+    alloc: Global,
+    next: V,
+    calls: PhantomData<(B,)>,
+}
+
+impl<Input: Stream, O: Drop, B: Call<Input>, V: Visitor<Input, (O, B::Output)>> Visitor<Input, O>
+    for Tuple2First<B, V> {
+    ghost ready = { λ s. V.ready s.next };
+
+    ghost answers = { λ s r n. V.answers s.next (pair Input.step r B.reading) n };
+
+    #[inline(always)]
+    fn visit<P: Parser<Input, Output = O> + Drop>(self, parser: P) -> u64 {
+        let second = Tuple2Second::<P, V> {
+            first: parser,
+            next: self.next,
+        };
+        B::accept(self.alloc, second)
+    }
+}
+
+/// Hands the parser on that both of its parsers make.
+#[derive(Drop)]
+struct Tuple2Second<P, V> {
+    first: P,
+    next: V,
+}
+
+impl<Input: Stream, O: Drop, P: Parser<Input> + Drop, V: Visitor<Input, (P::Output, O)>> Visitor<
+    Input,
+    O,
+> for Tuple2Second<P, V> {
+    ghost ready = { λ s. P.lawful s.first × V.ready s.next };
+
+    ghost answers = { λ s r n. V.answers s.next (pair Input.step (P.meaning s.first).whole r) n };
+
+    #[inline(always)]
+    fn visit<Q: Parser<Input, Output = O> + Drop>(self, parser: Q) -> u64 {
+        self.next.visit((self.first, parser))
+    }
+}
