@@ -58,9 +58,6 @@ module _ (r : Reading ℕ ℕ Message) (single : IsSingle r) (sizes input : List
   abbrev pieces : List (List ℕ)
   pieces = pieces_of sizes input
 
-  open_on : List ℕ → Type 0
-  open_on x = on r x true Undecided
-
   at_size : (i : ℕ) → i < length sizes → joined (take (i + 1) pieces) ≡ take (sum (take (i + 1) sizes)) input
   at_size i h = joined_first sizes input (i + 1) (omega arith)
 

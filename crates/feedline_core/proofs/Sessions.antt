@@ -1,6 +1,6 @@
 -- a session that still runs: its one error, what it leaves unread, and its room for the next piece
-use Rattle.std.proofs.Common.{ℕ, ◌+◌, ◌^◌, ◌<◌, ◌≤◌, ◌≡◌, refl, sym, ◌∙◌, ap, subst, List, [], ◌∷◌, ◌++◌, length, take, drop, get_or, true, false, arith, Result, Ok, Err}
-use Rattle.std.proofs.lemmas.List.{append-nil, take_more, take-append-drop, length-append, length-drop}
+use Rattle.std.proofs.Common.{ℕ, ◌+◌, ◌^◌, ◌<◌, ◌≤◌, ◌≡◌, sym, ◌∙◌, ap, subst, List, [], ◌∷◌, ◌++◌, length, take, drop, get_or, true, false, arith, Result, Ok, Err}
+use Rattle.std.proofs.lemmas.List.{take_more, take-append-drop, length-append, length-drop}
 use Rattle.combine_base.specs.Meaning.{Meaning}
 use Rattle.combine_base.specs.Pieces.{joined}
 use Rattle.combine_base.specs.Sessions.{Course, Feeds, Ends, by_stage}
@@ -12,7 +12,6 @@ use Rattle.combine_base.specs.declared.parser.answer.Answer.TheVariants as answe
 use Rattle.combine_base.specs.declared.parser.session.SessionError.{SessionError}
 use Rattle.combine_base.specs.declared.parser.session.SessionError.TheVariants as errors
 use Rattle.combine_base.specs.declared.parser.session.Stage.TheVariants as stages
-use Rattle.feedline_core.specs.Cut.{pieces_of}
 use Rattle.feedline_core.specs.Runs.{IsWantOfMemory}
 
 module _ {P T R A S : Type 0} (meaning : P → Meaning ℕ T R A S) (valid : S → Type 0) (old new : Course P T S) (running : old.stage ≡ stages.Running) where
@@ -57,9 +56,3 @@ has_room meaning m pieces n c far piece within at fits =
     let unread = ap length far.unread in
     let taken = far.within in
     omega (arith, length-drop c.seen.position (joined fed))
-
--- the pieces of an input are the input
-pub joined_pieces : (sizes input : List ℕ) → joined (pieces_of sizes input) ≡ input
-joined_pieces [] [] = refl
-joined_pieces [] (b ∷ bs) = append-nil (b ∷ bs)
-joined_pieces (n ∷ ns) input = ap (λ z. take n input ++ z) (joined_pieces ns (drop n input)) ∙ take-append-drop n input

@@ -1,17 +1,16 @@
 use Rattle.std.proofs.Common.{◌<◌, ◌^◌, rules, map, length, ap, sym, subst, ◌∙◌}
 use Rattle.combine_base.specs.Pieces.{joined}
 use Rattle.combine_repeat.specs.Built.{many1_of}
-use Rattle.feedline_core.proofs.OnInput.{runs_on}
+use Rattle.feedline_core.proofs.OnInput.{joined_whole, runs_on}
 use Rattle.feedline_core.proofs.Single.{message_is_single}
 use Rattle.feedline_core.specs.Runs.{Runs}
 use Rattle.feedline_core.specs.Messages.{message}
-use Rattle.feedline_core.proofs.Sessions.{joined_pieces}
 use Rattle.feedline_core.proofs.feeding.run.Goals as goal
 
 pub drive-requires-clause-fits : goal.drive-requires-clause-fits
 drive-requires-clause-fits g c =
     let pieces = ap (map (λ p. p.now)) c.deref.ensures.value ∙ c.in_ok-pieces.ensures in
-    let whole = ap joined pieces ∙ joined_pieces c.args.sizes.now c.args.input.now in
+    let whole = ap joined pieces ∙ joined_whole c.args.sizes.now c.args.input.now in
     let fits : length c.args.input.now < 2 ^ 64 = search rules in
     subst (λ n. n < 2 ^ 64) (sym (ap length whole)) fits
 
