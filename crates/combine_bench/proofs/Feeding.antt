@@ -2,7 +2,6 @@
 use Rattle.std.proofs.Common.{ℕ, ◌≡◌, ◌≢◌, refl, sym, ◌∙◌, ap, subst, List, [], ◌∷◌, ◌++◌, length, append_assoc, Result, Ok, Err, true, false}
 use Rattle.std.proofs.lemmas.List.{append-nil}
 use Rattle.combine_base.specs.Meaning.{Meaning, Reading, IsReading}
-use Rattle.combine_base.specs.Outcome.{Accepted, Refused}
 use Rattle.combine_base.specs.Sessions.{Course, Begins, Feeds, Ends}
 use Rattle.combine_base.specs.Pieces.{joined, decides}
 use Rattle.combine_base.proofs.Pieces.{SoFar, at_first, further, stops, ends, joined_more, joined_append}

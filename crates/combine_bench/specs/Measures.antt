@@ -1,5 +1,5 @@
 -- what the measures answer
-use Rattle.std.specs.Prelude.{ℕ, ◌+◌, ◌≡◌, ◌⊎◌, ◌||◌, List, [], ◌∷◌, ◌++◌, Option, Some, None, false}
+use Rattle.std.specs.Prelude.{ℕ, ◌+◌, ◌≡◌, ◌⊎◌, ◌||◌, List, [], ◌∷◌, ◌++◌, Some, None, false}
 use Rattle.std.specs.Char.{is_ascii_digit, is_ascii_lowercase}
 use Rattle.std.specs.Global.{Vec}
 use Rattle.combine_base.specs.Mapped.{mapped_reading}
@@ -10,7 +10,6 @@ use Rattle.combine_repeat.specs.Repetition.{appended}
 use Rattle.combine_bench.specs.Given.{Answers}
 use Rattle.combine_bench.specs.Parsers.{one_where, byte, either, put_back, skipping, skipping1, collecting, collecting1, pair, triple, quadruple}
 use Rattle.combine_bench.specs.Tally.{with_message}
-use Rattle.combine_bench.specs.declared.messages_collect.Message.{Message}
 use Rattle.combine_bench.specs.declared.messages_collect.Tally.{Tally}
 
 -- The number of an outcome on all bytes, ended. A slice counts a position by what is left, and a stream that is fed by what was taken.

@@ -1,4 +1,4 @@
-use Rattle.std.proofs.Common.{rules, arith, length, ◌≡◌}
+use Rattle.std.proofs.Common.{rules, length, ◌≡◌}
 use Rattle.std.proofs.lemmas.List.{nil_from_length}
 use Rattle.combine_bench.proofs.Feeding.{none_fed, one_more, stopped, ended, gives_within}
 use Rattle.combine_bench.proofs.run.PiecesRunFedStreamU8.run.Goals as goal
