@@ -2,9 +2,9 @@
 use Rattle.std.proofs.Common.{ℕ, zero, suc, ◌≡◌, ◌+◌, ◌<◌, ◌≤◌, ◌↔◌, List, [], ◌∷◌, ◌++◌, length, take, drop, sum, Bool, true, false, Option, Result, Ok, Err, refl, ap, sym, subst, ◌∙◌, take-add, arith}
 use Rattle.std.proofs.lemmas.List.{append-nil, length-drop, take-append-drop, take_all}
 use Rattle.std.proofs.lemmas.List.Sums.{sum_by-cons}
-use Rattle.combine_base.specs.Outcome.{Outcome, Undecided, shape}
+use Rattle.combine_base.specs.Outcome.{Undecided}
 use Rattle.combine_base.specs.Meaning.{Reading, IsSingle}
-use Rattle.combine_base.specs.Pieces.{joined, on, undecided_at}
+use Rattle.combine_base.specs.Pieces.{joined, on}
 use Rattle.feedline_core.specs.Cut.{pieces_of}
 use Rattle.feedline_core.specs.Runs.{Prints, Runs}
 use Rattle.feedline_core.specs.OnInput.{PrintsOn, RunsOn}

@@ -1,12 +1,11 @@
 -- a message has one outcome on a view, but for its value
-use Rattle.std.proofs.Common.{ℕ, ◌≡◌, Bool, true, false, [], ◌∷◌, ◌++◌}
-use Rattle.std.specs.Char.{is_ascii_digit, is_ascii_lowercase}
+use Rattle.std.proofs.Common.{ℕ, ◌≡◌, Bool, false, [], ◌∷◌, ◌++◌}
 use Rattle.std.specs.Global.{Vec}
 use Rattle.combine_base.specs.Meaning.{Meaning, IsSingle, MeansOne}
 use Rattle.combine_base.specs.Mapped.{mapped_means_one}
 use Rattle.combine_base.specs.Errors.{Nothing}
 use Rattle.combine_base.specs.Places.{valid_in, valid_1, place_2, place_3, place_4}
-use Rattle.combine_base.specs.Tuples.{push_1, push_2, push_3, tuple_1, tuple_2, tuple_3, tuple_4, tuple_1_means_one, followed_means_one}
+use Rattle.combine_base.specs.Tuples.{push_1, push_2, push_3, tuple_3, tuple_4, tuple_1_means_one, followed_means_one}
 use Rattle.combine_token.specs.Choice.{Either, refused, refused_is_single, either_is_single}
 use Rattle.combine_token.specs.OneToken.{of_function, of_function_is_predicate, satisfied, satisfied_is_test, takes_one_means_one}
 use Rattle.combine_map.specs.Attempt.{attempted_means_one}
@@ -14,8 +13,7 @@ use Rattle.combine_repeat.specs.Repetition.{appended}
 use Rattle.combine_repeat.specs.RepetitionLaws.{turns_means_one}
 use Rattle.combine_repeat.specs.declared.repeat.turns.Place.TheVariants.{First}
 use Rattle.combine_repeat.specs.declared.repeat.turns.TurnsState.{TurnsState}
-use Rattle.feedline_core.specs.Messages.{step, byte_where, byte, bytes_where, word, digits, del, delete, set, message}
-use Rattle.feedline_core.specs.declared.message.Message.{Message}
+use Rattle.feedline_core.specs.Messages.{step, byte_where, bytes_where, delete, set, message}
 use Rattle.feedline_core.specs.declared.message.Message.TheVariants.{Set, Delete}
 
 -- every state
