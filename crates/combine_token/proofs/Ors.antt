@@ -72,3 +72,7 @@ module _ {P T R V S S' E : Type 0} (a : Meaning P T R V S) (b : Meaning P T R V 
         lean = λ k. k;
         lost = λ i k. absurd (h.found s v d k);
       }
+
+-- in first mode nothing that is kept counts
+pub first_begins : {S S' : Type 0} (first : Bool) (given : OrState S S') → first ≡ true → Peek ≡ (if first then Peek else given)
+first_begins first given e = rw e refl

@@ -6,7 +6,7 @@ ghost use Rattle.combine_base.specs.Parts.{GoesOn, Runs, RunsFrom, accepted_as, 
 ghost use Rattle.combine_base.specs.Streams.{Passes};
 
 use crate::error::{ParseResult, Tracked};
-use crate::parser::{FirstMode, ParseMode, Parser};
+use crate::parser::{ParseMode, Parser};
 use crate::sequence::{Placed, SequenceState};
 use crate::stream::{Stream, needs_more};
 use std::mem;
@@ -159,17 +159,48 @@ pub(crate) fn parse_last<
     }
 }
 
-/// Goes on with the last part where those before it have accepted. `kept` is the state that they left, and `state` is a default one.
+/// As `parse_last`, for a call that resumes: apart from the code of calls that begin afresh, which holds each part once.
+#[inline(never)]
+pub(crate) fn resume_last<
+    Input: Stream,
+    T: Push<P::Output> + Drop,
+    P: Parser<Input>,
+    S: Placed<Last = SequenceState<T, P::PartialState>> + Default + Drop,
+    M: ParseMode,
+>(
+    part: &mut P,
+    mode: M,
+    input: &mut Input,
+    from: SequenceState<T, P::PartialState>,
+    state: &mut S,
+) -> ParseResult<T::Pushed, Input::Error>
+    requires lawful { P.lawful part.old }
+    requires valid { P.valid from.state }
+    requires starts { M.first mode ≡ true → P.PartialState.is_default from.state }
+    requires fresh { S.is_default state.old }
+    ensures lawful { P.lawful part.new }
+    ensures same { MeansSame (P.meaning part.old) (P.meaning part.new) }
+    ensures passes { Passes (Input.marks input.old) (Input.marks input.new) (Input.failures input.old) (Input.failures input.new) }
+    ensures runs { Runs (world Input.step Input.Error.seen Input.steady P.PartialState.is_default) Input.Error.seen P.valid
+        S.is_default S.place (P.meaning part.old) from.committed (T.pushed from.value) (λ s. record { value = from.value; committed = from.committed; state = s })
+        state.new (Input.view input.old) (Input.view input.new) (Input.failures input.old) (Input.failures input.new) result from.state }
+{
+    parse_last(part, mode, input, from, state)
+}
+
+/// Goes on with the last part, from its start, where those before it have accepted. `kept` is the state that they left, and `state` is a default one.
 #[inline(always)]
 pub(crate) fn parse_rest<
     Input: Stream,
     T: Push<P::Output> + Drop,
     P: Parser<Input>,
     S: Placed<Last = SequenceState<T, P::PartialState>> + Default + Drop,
+    M: ParseMode,
 >(
     answer: ParseResult<T, Input::Error>,
     kept: S::Before,
     part: &mut P,
+    mode: M,
     input: &mut Input,
     state: &mut S,
 ) -> ParseResult<T::Pushed, Input::Error>
@@ -182,27 +213,19 @@ pub(crate) fn parse_rest<
         S.is_default S.place T.pushed (P.meaning part.old) kept
         state.new (Input.view input.old) (Input.view input.new) (Input.failures input.old) (Input.failures input.new) result answer }
 {
-    match answer {
-        ParseResult::CommitOk(value) => {
-            let from = SequenceState {
-                value,
-                committed: true,
-                state: P::PartialState::default(),
-            };
-            parse_last(part, FirstMode, input, from, state)
-        }
-        ParseResult::PeekOk(value) => {
-            let from = SequenceState {
-                value,
-                committed: false,
-                state: P::PartialState::default(),
-            };
-            parse_last(part, FirstMode, input, from, state)
-        }
+    let (value, committed) = match answer {
+        ParseResult::CommitOk(value) => (value, true),
+        ParseResult::PeekOk(value) => (value, false),
         ParseResult::CommitErr(error) => {
             *state = S::before(kept);
-            ParseResult::CommitErr(error)
+            return ParseResult::CommitErr(error);
         }
-        ParseResult::PeekErr(refusal) => ParseResult::PeekErr(refusal),
-    }
+        ParseResult::PeekErr(refusal) => return ParseResult::PeekErr(refusal),
+    };
+    let from = SequenceState {
+        value,
+        committed,
+        state: P::PartialState::default(),
+    };
+    parse_last(part, mode, input, from, state)
 }

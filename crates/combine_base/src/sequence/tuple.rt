@@ -9,7 +9,7 @@ ghost use Rattle.combine_base.specs.Tuples.{followed_is_meaning, followed_means_
 
 use crate::error::{ErrorOffset, ParseResult, Tracked};
 use crate::parser::{ParseMode, Parser};
-use crate::sequence::part::{parse_last, parse_rest, take_state};
+use crate::sequence::part::{parse_rest, resume_last, take_state};
 use crate::sequence::{
     PartialState1, PartialState2, PartialState3, PartialState4, Place, Placed, SequenceState,
 };
@@ -124,9 +124,9 @@ fn parse_2<Input: Stream, A: Parser<Input>, B: Parser<Input>, M: ParseMode>(
         Place::Before(at) => {
             let mut kept = PartialState1::default();
             let answer = parse_1(a, mode, input, at, &mut kept);
-            parse_rest(answer, kept, b, input, state)
+            parse_rest(answer, kept, b, mode, input, state)
         }
-        Place::Last(at) => parse_last(b, mode, input, at, state),
+        Place::Last(at) => resume_last(b, mode, input, at, state),
     }
 }
 
@@ -158,9 +158,9 @@ fn parse_3<Input: Stream, A: Parser<Input>, B: Parser<Input>, C: Parser<Input>, 
         Place::Before(at) => {
             let mut kept = PartialState2::default();
             let answer = parse_2(a, b, mode, input, at, &mut kept);
-            parse_rest(answer, kept, c, input, state)
+            parse_rest(answer, kept, c, mode, input, state)
         }
-        Place::Last(at) => parse_last(c, mode, input, at, state),
+        Place::Last(at) => resume_last(c, mode, input, at, state),
     }
 }
 
@@ -200,9 +200,9 @@ fn parse_4<
         Place::Before(at) => {
             let mut kept = PartialState3::default();
             let answer = parse_3(a, b, c, mode, input, at, &mut kept);
-            parse_rest(answer, kept, d, input, state)
+            parse_rest(answer, kept, d, mode, input, state)
         }
-        Place::Last(at) => parse_last(d, mode, input, at, state),
+        Place::Last(at) => resume_last(d, mode, input, at, state),
     }
 }
 

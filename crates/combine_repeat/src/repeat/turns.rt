@@ -252,6 +252,29 @@ fn one_turn<Input: Stream, P: Parser<Input>, F: Append<P::Output>, M: ParseMode>
     None
 }
 
+/// As `one_turn`, for a call that resumes: apart from the code of calls that begin afresh, which holds the turn once.
+fn resume_turn<Input: Stream, P: Parser<Input>, F: Append<P::Output>, M: ParseMode>(
+    parser: &mut P,
+    mode: M,
+    turns: &mut Turns<F>,
+    input: &mut Input,
+    running: &mut P::PartialState,
+) -> Option<Stop<Input::Error>>
+    requires lawful { P.lawful parser.old }
+    requires valid { P.valid running.old }
+    requires fresh { M.first mode ≡ true → P.PartialState.is_default running.old }
+    ensures lawful { P.lawful parser.new }
+    ensures valid { P.valid running.new }
+    ensures same { MeansSame (P.meaning parser.old) (P.meaning parser.new) }
+    ensures passes { Passes (Input.marks input.old) (Input.marks input.new) (Input.failures input.old) (Input.failures input.new) }
+    ensures turned { OneTurn (world Input.step Input.Error.seen Input.steady P.PartialState.is_default)
+        (appended F.held F.none F.more F.lean) (P.meaning parser.old)
+        (record { first = M.first mode; state = running.old; left = running.new; old = Input.view input.old; new = Input.view input.new; before = Input.failures input.old; after = Input.failures input.new })
+        turns.old turns.new result }
+{
+    one_turn(parser, mode, turns, input, running)
+}
+
 /// What turns answer that stop so; on need of more they are kept.
 #[inline(always)]
 fn stopped<F: Drop, S, E: Drop>(
@@ -296,7 +319,7 @@ pub(crate) fn take_turns<Input: Stream, P: Parser<Input>, F: Append<P::Output>, 
     let mut turns = state.begin(mode.is_first(), start);
     if mode.is_first() {
         state.running = P::PartialState::default();
-    } else if let Some(why) = one_turn(parser, mode, &mut turns, input, &mut state.running) {
+    } else if let Some(why) = resume_turn(parser, mode, &mut turns, input, &mut state.running) {
         return stopped(turns, why, state);
     }
     'turns: loop {

@@ -8,7 +8,7 @@ ghost use Rattle.combine_token.specs.Or.{either_of, or_is_meaning, or_means_one,
 
 use super::{OrState, after_refusal, asks_for_more};
 use combine_base::error::{ErrorOffset, ParseResult, Tracked};
-use combine_base::parser::{FirstMode, ParseMode, Parser};
+use combine_base::parser::{ParseMode, Parser};
 use combine_base::stream::{Stream, needs_more};
 
 /// The choice of two parsers, as `or` makes it.
@@ -90,12 +90,66 @@ impl<P, Q> Or<P, Q> {
             ParseResult::PeekErr(refused) => match input.reset(start) {
                 Ok(()) => {
                     let fresh = Q::PartialState::default();
-                    let later = self.try_second(FirstMode, input, fresh, state);
+                    let later = self.try_second(mode, input, fresh, state);
                     after_refusal(refused, later)
                 }
                 Err(kind) => ParseResult::CommitErr(input.new_error(kind, position)),
             },
         }
+    }
+
+    /// As `try_second`, for a call that resumes: apart from the code of calls that begin afresh, which holds each parser once.
+    fn resume_second<Input: Stream, M: ParseMode>(
+        &mut self,
+        mode: M,
+        input: &mut Input,
+        kept: Q::PartialState,
+        state: &mut OrState<P::PartialState, Q::PartialState>,
+    ) -> ParseResult<P::Output, Input::Error>
+    where
+        P: Parser<Input>,
+        Q: Parser<Input, Output = P::Output>,
+        requires lawful { P.lawful self.old.0 × Q.lawful self.old.1 }
+        requires valid { Q.valid kept }
+        requires fresh { M.first mode ≡ true → Q.PartialState.is_default kept }
+        requires state { state.old ≡ OrState.Peek }
+        ensures lawful { P.lawful self.new.0 × Q.lawful self.new.1 }
+        ensures valid { or_valid P.valid Q.valid state.new }
+        ensures same { MeansSame (either_of (P.meaning self.old.0) (Q.meaning self.old.1)) (either_of (P.meaning self.new.0) (Q.meaning self.new.1)) }
+        ensures passes { Passes (Input.marks input.old) (Input.marks input.new) (Input.failures input.old) (Input.failures input.new) }
+        ensures answers { Answers (world Input.step Input.Error.seen Input.steady (λ s. s ≡ OrState.Peek))
+            (either_of (P.meaning self.old.0) (Q.meaning self.old.1))
+            (record { first = false; state = OrState.B kept; left = state.new; old = Input.view input.old; new = Input.view input.new; before = Input.failures input.old; after = Input.failures input.new })
+            result }
+    {
+        self.try_second(mode, input, kept, state)
+    }
+
+    /// As `try_first`, for a call that resumes.
+    fn resume_first<Input: Stream, M: ParseMode>(
+        &mut self,
+        mode: M,
+        input: &mut Input,
+        kept: P::PartialState,
+        state: &mut OrState<P::PartialState, Q::PartialState>,
+    ) -> ParseResult<P::Output, Input::Error>
+    where
+        P: Parser<Input>,
+        Q: Parser<Input, Output = P::Output>,
+        requires lawful { P.lawful self.old.0 × Q.lawful self.old.1 }
+        requires valid { P.valid kept }
+        requires fresh { M.first mode ≡ true → P.PartialState.is_default kept }
+        requires state { state.old ≡ OrState.Peek }
+        ensures lawful { P.lawful self.new.0 × Q.lawful self.new.1 }
+        ensures valid { or_valid P.valid Q.valid state.new }
+        ensures same { MeansSame (either_of (P.meaning self.old.0) (Q.meaning self.old.1)) (either_of (P.meaning self.new.0) (Q.meaning self.new.1)) }
+        ensures passes { Passes (Input.marks input.old) (Input.marks input.new) (Input.failures input.old) (Input.failures input.new) }
+        ensures answers { Answers (world Input.step Input.Error.seen Input.steady (λ s. s ≡ OrState.Peek))
+            (either_of (P.meaning self.old.0) (Q.meaning self.old.1))
+            (record { first = false; state = OrState.A kept; left = state.new; old = Input.view input.old; new = Input.view input.new; before = Input.failures input.old; after = Input.failures input.new })
+            result }
+    {
+        self.try_first(mode, input, kept, state)
     }
 }
 
@@ -128,10 +182,14 @@ impl<Input: Stream, P: Parser<Input>, Q: Parser<Input, Output = P::Output>> Pars
         input: &mut Input,
         state: &mut Self::PartialState,
     ) -> ParseResult<P::Output, Input::Error> {
-        match state.begin(mode.is_first()) {
-            OrState::B(kept) => self.try_second(mode, input, kept, state),
-            OrState::A(kept) => self.try_first(mode, input, kept, state),
-            OrState::Peek => self.try_first(FirstMode, input, P::PartialState::default(), state),
+        let kept = state.begin(mode.is_first());
+        if mode.is_first() {
+            return self.try_first(mode, input, P::PartialState::default(), state);
+        }
+        match kept {
+            OrState::B(kept) => self.resume_second(mode, input, kept, state),
+            OrState::A(kept) => self.resume_first(mode, input, kept, state),
+            OrState::Peek => self.resume_first(mode, input, P::PartialState::default(), state),
         }
     }
 

@@ -16,10 +16,10 @@ returns-in-Before-clause-answers g c =
     sequence_answers _ _ _ _ _ _ place_3 push_2 _ _ _ (followed_is_meaning _ place_2 push_1 (tuple_1_is_meaning (g.met.A.Parser.laws _ c.requires.lawful.0)) (g.met.B.Parser.laws _ c.requires.lawful.1)) (g.met.C.Parser.laws _ c.requires.lawful.2) _ _ _ _ (sym c.into_place.ensures ∙ c.in-Before.is) _ _ _ _ _ _ c.parse_2-answer.ensures.passes.reads c.parse_2-answer.ensures.passes.resets _ _ c.requires.valid c.parse_2-answer.ensures.answers c.parse_rest.ensures.goes_on
 
 pub returns-in-Last-clause-valid : goal.returns-in-Last-clause-valid
-returns-in-Last-clause-valid g c = last_leaves place_3 (begins_valid place_2 _ (begins_valid_1 g.met.A.Parser.default_valid)) c.parse_last.ensures.runs
+returns-in-Last-clause-valid g c = last_leaves place_3 (begins_valid place_2 _ (begins_valid_1 g.met.A.Parser.default_valid)) c.resume_last.ensures.runs
 
 pub returns-in-Last-clause-same : goal.returns-in-Last-clause-same
-returns-in-Last-clause-same g c = followed_means_same _ place_3 push_2 (same_none (tuple_2 _ (g.A.Parser.meaning c.args.a.now) (g.B.Parser.meaning c.args.b.now))) c.parse_last.ensures.same
+returns-in-Last-clause-same g c = followed_means_same _ place_3 push_2 (same_none (tuple_2 _ (g.A.Parser.meaning c.args.a.now) (g.B.Parser.meaning c.args.b.now))) c.resume_last.ensures.same
 
 pub returns-in-Last-clause-answers : goal.returns-in-Last-clause-answers
-returns-in-Last-clause-answers g c = last_answers _ _ _ _ _ _ place_3 push_2 (tuple_2 _ (g.A.Parser.meaning c.args.a.now) (g.B.Parser.meaning c.args.b.now)) _ _ _ _ _ _ _ _ _ (sym c.into_place.ensures ∙ c.in-Last.is) c.parse_last.ensures.runs
+returns-in-Last-clause-answers g c = last_answers _ _ _ _ _ _ place_3 push_2 (tuple_2 _ (g.A.Parser.meaning c.args.a.now) (g.B.Parser.meaning c.args.b.now)) _ _ _ _ _ _ _ _ _ (sym c.into_place.ensures ∙ c.in-Last.is) c.resume_last.ensures.runs

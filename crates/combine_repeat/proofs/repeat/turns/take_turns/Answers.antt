@@ -30,11 +30,11 @@ turns-init g c =
           let z = comes_first _ _ _ _ _ _ _ _ _ _ _ refl i (λ _. rw l refl) in
           let s = w.in_default.ensures.turned.is in
           record {
-            lawful = rw w.parser-is w.one_turn.ensures.lawful;
-            valid = rw w.state-is w.one_turn.ensures.valid;
+            lawful = rw w.parser-is w.resume_turn.ensures.lawful;
+            valid = rw w.state-is w.resume_turn.ensures.valid;
             fresh = rw w.state-is s.judged.accepts.state;
-            same = rw w.parser-is w.one_turn.ensures.same;
-            passes = rw w.input-is w.one_turn.ensures.passes;
+            same = rw w.parser-is w.resume_turn.ensures.same;
+            passes = rw w.input-is w.resume_turn.ensures.passes;
             cleared = rw (w.state-is, l) refl;
             reaches = rw (w.state-is, w.input-is, w.turns-is) (comes_on _ _ _ _ _ (g.met.P.Parser.laws _ c.requires.lawful) _ _ _ _ _ _ _ z (rw l c.requires.valid) s _);
           }
@@ -56,11 +56,11 @@ turns-preserved g c =
     let t = turned_same _ _ _ i.same _ _ _ _ _ c.in_default-one_turn.ensures.turned in
     let s = t.is in
     record {
-      lawful = c.one_turn-in-turns.ensures.lawful;
-      valid = c.one_turn-in-turns.ensures.valid;
+      lawful = c.one_turn.ensures.lawful;
+      valid = c.one_turn.ensures.valid;
       fresh = s.judged.accepts.state;
-      same = same_more _ _ _ i.same c.one_turn-in-turns.ensures.same;
-      passes = passes_more _ _ _ _ _ _ i.passes c.one_turn-in-turns.ensures.passes;
+      same = same_more _ _ _ i.same c.one_turn.ensures.same;
+      passes = passes_more _ _ _ _ _ _ i.passes c.one_turn.ensures.passes;
       cleared = i.cleared;
       reaches = comes_on _ _ _ _ _ (g.met.P.Parser.laws _ c.requires.lawful) _ _ _ _ _ _ _ i.reaches i.valid s _;
     }
