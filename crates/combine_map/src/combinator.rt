@@ -3,6 +3,7 @@ ghost use Rattle.std.specs.Prelude.{◌≡◌, if◌then◌else◌};
 ghost use Rattle.combine_map.specs.Attempt.{IsFresh};
 ghost use Rattle.combine_map.specs.Parsers.{attempt_of, map_of};
 
+pub mod laws;
 pub mod types;
 
 use combine_base::parser::Parser;

@@ -2,4 +2,3 @@
 #![tactic(auto)]
 
 pub mod combinator;
-pub mod laws;

@@ -1,3 +1,12 @@
+pub use Rattle.combine_base.specs.Answer
+pub use Rattle.combine_base.specs.Errors
+pub use Rattle.combine_base.specs.Items
+pub use Rattle.combine_base.specs.Mapped
+pub use Rattle.combine_base.specs.Meaning
+pub use Rattle.combine_base.specs.Outcome
+pub use Rattle.combine_base.specs.Streams
+pub use Rattle.combine_base.specs.View
+
 pub mod Alternatives
 pub mod Choice
 pub mod Given
