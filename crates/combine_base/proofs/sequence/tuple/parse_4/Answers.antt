@@ -15,6 +15,10 @@ pub returns-in-Before-clause-answers : goal.returns-in-Before-clause-answers
 returns-in-Before-clause-answers g c =
     sequence_answers _ _ _ _ _ _ place_4 push_3 _ _ _ (followed_is_meaning _ place_3 push_2 (followed_is_meaning _ place_2 push_1 (tuple_1_is_meaning (g.met.A.Parser.laws _ c.requires.lawful.0)) (g.met.B.Parser.laws _ c.requires.lawful.1)) (g.met.C.Parser.laws _ c.requires.lawful.2)) (g.met.D.Parser.laws _ c.requires.lawful.3) _ _ _ _ (sym c.into_place.ensures ∙ c.in-Before.is) _ _ _ _ _ _ c.parse_3-answer.ensures.passes.reads c.parse_3-answer.ensures.passes.resets _ _ c.requires.valid c.parse_3-answer.ensures.answers c.parse_rest.ensures.goes_on
 
+-- a state that stands at the last part begins no sequence
+pub resume_last-requires-clause-starts : goal.resume_last-requires-clause-starts
+resume_last-requires-clause-starts g c = λ h. absurd (rw (sym c.into_place.ensures ∙ c.in-Last.is) at c.requires.starts h)
+
 pub returns-in-Last-clause-valid : goal.returns-in-Last-clause-valid
 returns-in-Last-clause-valid g c = last_leaves place_4 (begins_valid place_3 _ (begins_valid place_2 _ (begins_valid_1 g.met.A.Parser.default_valid))) c.resume_last.ensures.runs
 
