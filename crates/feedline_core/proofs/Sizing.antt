@@ -1,7 +1,8 @@
--- words read one after another
-use Rattle.std.proofs.Common.{Bool, true, false, if◌then◌else◌, ℕ, ◌≡◌, ◌+◌, ◌<◌, List, [], ◌∷◌, ◌++◌, length, drop, get_or, Option, Some, None, refl, ap, sym, ◌∙◌, append_assoc, nat_le}
-use Rattle.std.proofs.lemmas.List.{at_drop_more}
-use Rattle.feedline_core.specs.Sizes.{size_of, with_size, each_size, sizes_of}
+-- a word read, and words read one after another
+use Rattle.std.proofs.Common.{Bool, true, false, if◌then◌else◌, ℕ, ◌≡◌, ◌+◌, ◌<◌, ◌≤◌, List, [], ◌∷◌, ◌++◌, length, drop, get_or, Option, Some, None, refl, ap, sym, ◌∙◌, append_assoc, nat_le}
+use Rattle.std.proofs.lemmas.Bool.{le-leb}
+use Rattle.std.proofs.lemmas.List.{at_drop_more, at_drop_all}
+use Rattle.feedline_core.specs.Sizes.{all_digits, number_from, size_of, with_size, each_size, sizes_of}
 
 -- these sizes, and then the rest, if it has any
 abbrev pub behind : List ℕ → Option (List ℕ) → Option (List ℕ)
@@ -32,3 +33,10 @@ no_sizes words e = by_test (nat_le (length words) 64)
     by_test : (b : Bool) → (if b then each_size words else None) ≡ None
     by_test true = e
     by_test false = refl
+
+-- the size that a word of up to seven digits says, once all are read
+pub says_size : (word : List ℕ) (size i : ℕ) → 1 ≤ length word → length word ≤ 7 → length word ≤ i → all_digits word ≡ all_digits (drop i word) → number_from 0 word ≡ number_from size (drop i word) → size ≤ 1000000 → Some size ≡ size_of word
+says_size word size i h k e d v m =
+    let digits = d ∙ at_drop_all all_digits word i e in
+    let value = v ∙ at_drop_all (number_from size) word i e in
+    rw (le-leb 1 (length word) h, le-leb (length word) 7 k, digits, value, le-leb size 1000000 m) refl

@@ -1,5 +1,6 @@
 use Rattle.std.proofs.Common.{ℕ, ◌<◌, ◌≤◌, ◌^◌, arith}
 use Rattle.std.proofs.Math.Nat.{pow-le-pow_right}
+use Rattle.feedline_core.proofs.Sizing.{says_size}
 use Rattle.feedline_core.proofs.args.read_size.Goals as goal
 
 -- up to six digits write a number below a million
@@ -16,3 +17,8 @@ overflow_add-size c =
     let small = below_million _ _ c.loop-digit.invariant.bound (omega arith) in
     let byte = c.type_inv.word c.loop-digit.digit-index in
     omega arith
+
+pub returns-then-size-le-MAX_SIZE : goal.returns-then-size-le-MAX_SIZE
+returns-then-size-le-MAX_SIZE c =
+    let i = c.loop-digit.invariant in
+    says_size _ _ _ (grind arith) c.if-word-gt-MAX_DIGITS.false c.loop-digit-test.false i.digits i.value c.if-size-le-MAX_SIZE.true
