@@ -1,5 +1,6 @@
 use Rattle.std.proofs.Common.{inl, inr, ap, refl}
-use Rattle.combine_base.specs.declared.error.ParseResult.TheVariants.{CommitOk}
+use Rattle.combine_base.specs.Answer.{world}
+use Rattle.combine_base.specs.declared.error.ParseResult.TheVariants.{CommitOk, CommitErr}
 use Rattle.combine_base.proofs.Starting.{at_rest}
 use Rattle.combine_base.proofs.sequence.part.parse_last.Goals as goal
 
@@ -27,10 +28,11 @@ returns-in-PeekOk-clause-runs g c =
 
 pub returns-then-needs_more-clause-runs : goal.returns-then-needs_more-clause-runs
 returns-then-needs_more-clause-runs g c =
+    let around = world g.Input.StreamOnce.step g.Input.Error.ParseError.seen g.Input.StreamOnce.steady g.P.PartialState.Default.is_default in
     record {
       stopped = _;
-      answer = _;
-      answers = at_rest _ _ _ (g.met.P.Parser.laws c.args.part.now c.requires.lawful) _ c.requires.starts _ c.in-CommitErr.ensures.answers;
+      answer = CommitErr c.in-CommitErr.error;
+      answers = at_rest around _ _ (g.met.P.Parser.laws c.args.part.now c.requires.lawful) _ c.requires.starts _ c.in-CommitErr.ensures.answers;
       explained = c.in-CommitErr.ensures.explained;
       is = refl;
       leaves = inl (c.needs_more.ensures.0 c.if-needs_more.true, c.last.ensures, c.in-CommitErr.ensures.valid);
