@@ -1,15 +1,24 @@
 -- a choice of two: it tries the first, then the second
 use Rattle.std.proofs.Common.{◌≡◌, Bool, true, false, if◌then◌else◌, arith, refl}
 use Rattle.combine_base.specs.View.{View}
-use Rattle.combine_base.specs.Meaning.{Meaning, IsMeaning}
+use Rattle.combine_base.specs.Meaning.{Meaning, IsMeaning, MeansSame}
 use Rattle.combine_base.specs.Answer.{World}
 use Rattle.combine_base.proofs.Calls.{around}
+use Rattle.combine_base.proofs.Same.{same_none, same_more}
 use Rattle.combine_base.specs.declared.stream.Failures.{Failures}
 use Rattle.combine_token.specs.Choice.{Either, refused, last_is, firm_or, either_into}
-use Rattle.combine_token.specs.Or.{either_of, or_whole}
+use Rattle.combine_token.specs.Or.{either_of, or_means_same, or_whole}
 use Rattle.combine_token.proofs.Choosing.{Tries, tries_start}
 use Rattle.combine_token.specs.declared.choice.OrState.{OrState}
 use Rattle.combine_token.specs.declared.choice.OrState.TheVariants.{Peek, A, B}
+
+-- a choice means the same after a call of its first, and after one of the choice that follows
+module _ {P T R V S S' : Type 0} (a a' : Meaning P T R V S) (b : Meaning P T R V S') where
+  pub first_same : MeansSame a a' → MeansSame (either_of a b) (either_of a' b)
+  first_same h = or_means_same a a' b b h (same_none b)
+
+  pub first_same_more : (m : Meaning P T R V (OrState S S')) → MeansSame a a' → MeansSame (either_of a' b) m → MeansSame (either_of a b) m
+  first_same_more m h k = same_more (either_of a b) (either_of a' b) m (first_same h) k
 
 module _ {P T R V S S' E : Type 0} (a : Meaning P T R V S) (b : Meaning P T R V S') where
   pub first_starts : (w : World P T S E) (valid : S → Type 0) → IsMeaning w.fresh valid a → (first : Bool) (s : S) → (first ≡ true → w.fresh s) → (v : View P T) (f : Failures) → Tries w (λ (s : OrState S S'). s ≡ Peek) a (Either b.whole refused) (either_of a b) first s v f false (A s) v f
