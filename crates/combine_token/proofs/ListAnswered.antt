@@ -5,7 +5,7 @@ use Rattle.combine_base.specs.Items.{Item, Unexpected, OfToken}
 use Rattle.combine_base.specs.Errors.{Errors, Added, Unstored}
 use Rattle.combine_base.specs.Outcome.{Outcome, Accepted, Refused, Undecided, after}
 use Rattle.combine_base.specs.Meaning.{Meaning, begun}
-use Rattle.combine_base.specs.Refusals.{Told}
+use Rattle.combine_base.specs.Refusals.{NoToken, Told}
 use Rattle.combine_base.specs.Streams.{TakesToken, FindsEnd, no_token}
 use Rattle.combine_base.specs.Answer.{Run, World, Answers, Accepts, Refuses, Asks, Leaves, fails, ends, peeks, answers}
 use Rattle.combine_base.proofs.Progress.{progress_outcome, takes_none, takes_more, takes_open, moves_none}
@@ -13,6 +13,7 @@ use Rattle.combine_base.specs.declared.error.Info.{Info}
 use Rattle.combine_base.specs.declared.stream.Kind.{Kind}
 use Rattle.combine_base.specs.declared.stream.Kind.TheVariants as kinds
 use Rattle.combine_base.specs.declared.stream.Failures.{Failures}
+use Rattle.combine_base.specs.declared.error.Tracked.{Tracked}
 use Rattle.combine_base.specs.declared.error.ParseResult.{ParseResult}
 use Rattle.combine_base.specs.declared.error.ParseResult.TheVariants.{CommitOk, PeekOk, CommitErr, PeekErr}
 use Rattle.combine_token.specs.TokenLists.{TokenList, Matched, stops, matching_at, matching, token_list}
@@ -37,6 +38,10 @@ module _ {T V : Type 0} (l : TokenList T) (gives : V → Type 0) (n : ℕ) where
 
   stops_at_token : (b : Bool) (us vs : List T) (t : T) → us ≡ t ∷ vs → l.fits n t false → stops l n b us
   stops_at_token b us vs t i f = rw i f
+
+-- the end of an ended list, after a token was taken
+pub end_committed : {V V' E : Type 0} (kind : E → Kind) (frugal : Type 0) (is_open committed : Bool) (why : Kind) (t : Tracked E) → NoToken {V = V} kind frugal is_open why (PeekErr t) → committed ≡ true → FindsNone {V = V'} kind frugal is_open committed why (CommitErr t.error)
+end_committed kind frugal is_open committed why t h k = record { is = inl (h.is.0 ∙ sym h.is.1, λ i j. k) }
 
 module _ {P T R V S E : Type 0} (w : World P T S E) (l : TokenList T) (gives : V → Type 0) (matched : S → ℕ) (lean : Type 0) (adds : List (Item T R) → Type 0) (r : Run P T S) where
   abbrev m : Meaning P T R V S

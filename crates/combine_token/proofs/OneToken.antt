@@ -6,19 +6,32 @@ use Rattle.combine_base.specs.Errors.{Nothing}
 use Rattle.combine_base.specs.Outcome.{Outcome, Accepted, Refused, Undecided}
 use Rattle.combine_base.specs.Streams.{Uncons, TakesToken, ResetTo}
 use Rattle.combine_base.specs.Answer.{Run, World, Answers, ends}
-use Rattle.combine_base.proofs.Progress.{takes_more}
+use Rattle.combine_base.proofs.Progress.{takes_more, takes_none}
 use Rattle.combine_base.specs.declared.stream.Kind.{Kind}
 use Rattle.combine_base.specs.declared.stream.Kind.TheVariants as kinds
 use Rattle.combine_base.specs.declared.stream.Failures.{Failures}
 use Rattle.combine_base.specs.declared.error.ParseResult.{ParseResult}
-use Rattle.combine_base.specs.declared.error.ParseResult.TheVariants.{CommitErr}
+use Rattle.combine_base.specs.declared.error.ParseResult.TheVariants.{PeekOk, CommitErr}
 use Rattle.combine_token.specs.OneToken.{one_token, one_token_at, satisfied, takes_one, ReadsToken, ReadsTokenIf}
-use Rattle.combine_token.proofs.Stateless.{Allows, asks, answers_too}
+use Rattle.combine_token.proofs.Stateless.{Allows, into_begun, asks, answers_too}
 
 -- nothing is unread
 undecided_at : {T B : Type 0} (f : Option T → Option B → Type 0) (is_open : Bool) (us : List T) → us ≡ [] → is_open ≡ true → one_token_at f is_open us Undecided
 undecided_at f i [] e d = d
 undecided_at f i (t ∷ ts) e d = absurd (cc)
+
+-- nothing is unread, and nothing will be
+ended_at : {T B : Type 0} (f : Option T → Option B → Type 0) (is_open : Bool) (us : List T) (b : B) → us ≡ [] → is_open ≡ false → f None (Some b) → one_token_at f is_open us (Accepted b 0 false)
+ended_at f i [] b e d p = (d, p, refl, refl)
+ended_at f i (t ∷ ts) b e d p = absurd (cc)
+
+-- a token that the predicate holds of
+pub is_satisfied : {T : Type 0} (p : T → Bool → Type 0) (first : Option T) (t : T) → first ≡ Some t → p t true → satisfied p first (Some t)
+is_satisfied p first t e h = rw e (refl, h)
+
+-- and one that it doesn't hold of
+pub is_unsatisfied : {T : Type 0} (p : T → Bool → Type 0) (first : Option T) (t : T) → first ≡ Some t → p t false → satisfied p first None
+is_unsatisfied p first t e h = rw e h
 
 -- a read takes one token
 pub one_taken : {P T : Type 0} (steady : Type 0) (step : P → T → P) (old new : View P T) (before after : Failures) (t : T) → TakesToken steady step old new before after t → Takes step 1 old new
@@ -38,6 +51,22 @@ module _ {P T B S E : Type 0} (w : World P T S E) (f : Option T → Option B →
           let r : Run P T S = record { first = first; state = state; left = left; old = old; new = new; before = before; after = after } in
           let a = asks w (one_token f) (Unit {0}) (Unit {0}) (Nothing {R = Unit {0}}) r is_open (undecided_at f old.is_open old.unread u.is.unread is_open) (λ x. u.is.unread) u.is.same u.is.failures in
           record { is = rw k (subst (ends w (takes_one f (Unit {0}) Nothing) r) (sym is_open) a) }
+
+  -- the end of an ended list, for which the test answers a value
+  pub accepts_end : (b : B) → Uncons {Token = T} w.steady w.step old new before after (Err kinds.End) → new.is_open ≡ false → f None (Some b) → ReadsToken w f old new before after (PeekOk b)
+  accepts_end b u i p =
+      let is_open : old.is_open ≡ false = subst (λ (v : View P T). v.is_open ≡ false) u.is.same i in
+      record {
+        answers = λ first state left s. record {
+          is = record {
+            count = 0;
+            meant = into_begun (one_token f) (Unit {0}) (Unit {0}) (Nothing {R = Unit {0}}) first state old (Accepted b 0 false) (ended_at f old.is_open old.unread b u.is.unread is_open p);
+            taken = rw u.is.same (takes_none w.step old);
+            state = s;
+            failures = u.is.failures;
+          };
+        };
+      }
 
   -- a token that is refused was not put back
   pub not_put_back : (mid : View P T) (middle : Failures) (marked : View P T → Type 0) (t : T) (k : Kind) (e : E) → Uncons w.steady w.step old mid before middle (Ok t) → ResetTo w.steady w.step marked mid new middle after (Err k) → before.resets ≤ middle.resets → w.kind e ≡ k → ReadsToken w f old new before after (CommitErr e)

@@ -1,15 +1,27 @@
 -- a choice of two: it tries the first, then the second
 use Rattle.std.proofs.Common.{◌≡◌, Bool, true, false, if◌then◌else◌, arith, refl}
 use Rattle.combine_base.specs.View.{View}
-use Rattle.combine_base.specs.Meaning.{Meaning, IsMeaning}
-use Rattle.combine_base.specs.Answer.{World}
+use Rattle.combine_base.specs.Meaning.{Meaning, IsMeaning, MeansSame}
+use Rattle.combine_base.specs.Errors.{Errors}
+use Rattle.combine_base.specs.Answer.{Run, World, Answers, world}
 use Rattle.combine_base.proofs.Calls.{around}
+use Rattle.combine_base.proofs.Same.{same_none, same_more}
+use Rattle.combine_base.specs.declared.stream.Kind.TheVariants as kinds
 use Rattle.combine_base.specs.declared.stream.Failures.{Failures}
+use Rattle.combine_base.specs.declared.error.ParseResult.TheVariants.{CommitOk, CommitErr}
 use Rattle.combine_token.specs.Choice.{Either, refused, last_is, firm_or, either_into}
-use Rattle.combine_token.specs.Or.{either_of, or_whole}
-use Rattle.combine_token.proofs.Choosing.{Tries, tries_start}
+use Rattle.combine_token.specs.Or.{either_of, or_means_same, or_whole}
+use Rattle.combine_token.proofs.Choosing.{Tries, tries_start, tries_commit_ok, tries_fails}
 use Rattle.combine_token.specs.declared.choice.OrState.{OrState}
 use Rattle.combine_token.specs.declared.choice.OrState.TheVariants.{Peek, A, B}
+
+-- a choice means the same after a call of its first, and after one of the choice that follows
+module _ {P T R V S S' : Type 0} (a a' : Meaning P T R V S) (b : Meaning P T R V S') where
+  pub first_same : MeansSame a a' → MeansSame (either_of a b) (either_of a' b)
+  first_same h = or_means_same a a' b b h (same_none b)
+
+  pub first_same_more : (m : Meaning P T R V (OrState S S')) → MeansSame a a' → MeansSame (either_of a' b) m → MeansSame (either_of a b) m
+  first_same_more m h k = same_more (either_of a b) (either_of a' b) m (first_same h) k
 
 module _ {P T R V S S' E : Type 0} (a : Meaning P T R V S) (b : Meaning P T R V S') where
   pub first_starts : (w : World P T S E) (valid : S → Type 0) → IsMeaning w.fresh valid a → (first : Bool) (s : S) → (first ≡ true → w.fresh s) → (v : View P T) (f : Failures) → Tries w (λ (s : OrState S S'). s ≡ Peek) a (Either b.whole refused) (either_of a b) first s v f false (A s) v f
@@ -72,6 +84,20 @@ module _ {P T R V S S' E : Type 0} (a : Meaning P T R V S) (b : Meaning P T R V 
         lean = λ k. k;
         lost = λ i k. absurd (h.found s v d k);
       }
+
+-- what the first accepts committed, and its error that isn't need of more, is the answer of the choice
+module _ {P T R V S S' E : Type 0} (step : P → T → P) (errors : Errors T R P E) (steady : Type 0) (fresh valid : S → Type 0) (a : Meaning P T R V S) (b : Meaning P T R V S') (h : IsMeaning fresh valid a) (r : Run P T S) (d : r.first ≡ true → fresh r.state) (left : OrState S S') (l : left ≡ Peek) where
+  tries : Tries (world step errors steady fresh) (λ (s : OrState S S'). s ≡ Peek) a (Either b.whole refused) (either_of a b) r.first r.state r.old r.before false (A r.state) r.old r.before
+  tries = first_starts a b (world step errors steady fresh) valid h r.first r.state d r.old r.before
+
+  abbrev from_first : Run P T (OrState S S')
+  from_first = record { first = false; state = A r.state; left = left; old = r.old; new = r.new; before = r.before; after = r.after }
+
+  pub first_accepts : (v : V) → Answers (world step errors steady fresh) a r (CommitOk v) → Answers (world step errors steady (λ s. s ≡ Peek)) (either_of a b) from_first (CommitOk v)
+  first_accepts v p = tries_commit_ok (world step errors steady fresh) (λ s. s ≡ Peek) a (Either b.whole refused) (either_of a b) r from_first tries refl refl v l p
+
+  pub first_fails : (e : E) → ((errors.kind e ≡ kinds.End) × (r.new.is_open ≡ true) → ⊥) → Answers (world step errors steady fresh) a r (CommitErr e) → Answers (world step errors steady (λ s. s ≡ Peek)) (either_of a b) from_first (CommitErr e)
+  first_fails e i p = tries_fails (world step errors steady fresh) (λ s. s ≡ Peek) a (Either b.whole refused) (either_of a b) r from_first tries refl refl e i p (λ y. l)
 
 -- in first mode nothing that is kept counts
 pub first_begins : {S S' : Type 0} (first : Bool) (given : OrState S S') → first ≡ true → Peek ≡ (if first then Peek else given)

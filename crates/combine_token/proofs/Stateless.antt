@@ -13,7 +13,7 @@ use Rattle.combine_base.specs.declared.error.ParseResult.TheVariants.{CommitOk, 
 use Rattle.combine_token.specs.Stateless.{stateless}
 
 module _ {P T R A S : Type 0} (read : Reading P T A) (keeps lean : Type 0) (adds : List (Item T R) → Type 0) where
-  into_begun : (first : Bool) (s : S) (v : View P T) (o : Outcome A) → read v o → begun (stateless read keeps lean adds) first s v o
+  pub into_begun : (first : Bool) (s : S) (v : View P T) (o : Outcome A) → read v o → begun (stateless read keeps lean adds) first s v o
   into_begun true s v o p = p
   into_begun false s v o p = p
 

@@ -1,10 +1,14 @@
 use Rattle.std.proofs.Common.{rules, sym, ◌∙◌}
-use Rattle.combine_token.proofs.OneToken.{needs_token, not_put_back}
+use Rattle.combine_token.proofs.OneToken.{accepts_end, needs_token, not_put_back}
 use Rattle.combine_token.proofs.token.reading.one_token.Goals as goal
 
 pub returns-then-is_partial-clause-reads : goal.returns-then-is_partial-clause-reads
 returns-then-is_partial-clause-reads g c =
     needs_token _ _ _ _ _ _ _ (rw c.in-Err-End.field-0-is at c.in-Err-End.ensures.read) (sym c.is_partial.ensures ∙ c.if-is_partial.true) c.new_error-then-is_partial.ensures.kind
+
+pub returns-in-Some-test-clause-reads : goal.returns-in-Some-test-clause-reads
+returns-in-Some-test-clause-reads g c =
+    accepts_end _ _ _ _ _ _ _ (rw c.in-Err-End.field-0-is at c.in-Err-End.ensures.read) (sym c.is_partial.ensures ∙ c.if-is_partial.false) c.in-Some-test.ensures
 
 pub returns-in-Ok-reset-clause-reads : goal.returns-in-Ok-reset-clause-reads
 returns-in-Ok-reset-clause-reads g c =

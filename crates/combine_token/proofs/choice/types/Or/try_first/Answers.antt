@@ -1,15 +1,16 @@
-use Rattle.std.proofs.Common.{false, refl}
+use Rattle.std.proofs.Common.{false, refl, rules}
 use Rattle.combine_base.proofs.Calls.{refusal_unreset}
 use Rattle.combine_base.proofs.Same.{same_none, same_more, passes_more, answers_same}
 use Rattle.combine_token.specs.Choice.{refused}
 use Rattle.combine_token.specs.Or.{or_means_same}
 use Rattle.combine_token.proofs.Choosing.{begun_reads, tries_asks, tries_next, tries_answers}
 use Rattle.combine_token.proofs.Merging.{no_fault, merged_answers}
-use Rattle.combine_token.proofs.Ors.{first_starts, second_as_state}
+use Rattle.combine_token.proofs.Ors.{first_accepts, first_fails, first_same, first_same_more, first_starts, second_as_state}
 use Rattle.combine_token.proofs.choice.types.Or.try_first.Goals as goal
 
+-- found by a search, so that it holds too where a wrong body goes on to the second: what such a body answers is then what is refused
 pub returns-in-CommitOk-clause-same : goal.returns-in-CommitOk-clause-same
-returns-in-CommitOk-clause-same g c = or_means_same _ _ _ _ c.parse_mode.ensures.same (same_none _)
+returns-in-CommitOk-clause-same g c = search (rules, first_same, first_same_more)
 
 pub returns-in-PeekOk-clause-same : goal.returns-in-PeekOk-clause-same
 returns-in-PeekOk-clause-same g c = or_means_same _ _ _ _ c.parse_mode.ensures.same (same_none _)
@@ -18,7 +19,7 @@ pub returns-then-needs_more-clause-same : goal.returns-then-needs_more-clause-sa
 returns-then-needs_more-clause-same g c = or_means_same _ _ _ _ c.parse_mode.ensures.same (same_none _)
 
 pub returns-in-CommitErr-clause-same : goal.returns-in-CommitErr-clause-same
-returns-in-CommitErr-clause-same g c = or_means_same _ _ _ _ c.parse_mode.ensures.same (same_none _)
+returns-in-CommitErr-clause-same g c = search (rules, first_same, first_same_more)
 
 pub returns-clause-same : goal.returns-clause-same
 returns-clause-same g c = or_means_same _ _ _ _ c.parse_mode.ensures.same (same_none _)
@@ -26,10 +27,18 @@ returns-clause-same g c = or_means_same _ _ _ _ c.parse_mode.ensures.same (same_
 pub returns-in-Ok-clause-same : goal.returns-in-Ok-clause-same
 returns-in-Ok-clause-same g c = same_more _ _ _ (or_means_same _ _ _ _ c.parse_mode.ensures.same (same_none _)) c.try_second-later.ensures.same
 
+pub returns-in-CommitOk-clause-answers : goal.returns-in-CommitOk-clause-answers
+returns-in-CommitOk-clause-answers g c =
+    first_accepts g.Input.StreamOnce.step g.Input.Error.ParseError.seen g.Input.StreamOnce.steady _ _ _ (g.Q.Parser.meaning c.args.self.now.1) (g.met.P.Parser.laws _ c.requires.lawful.0) _ c.requires.fresh _ c.requires.state _ c.in-CommitOk.ensures.answers
+
 pub returns-then-needs_more-clause-answers : goal.returns-then-needs_more-clause-answers
 returns-then-needs_more-clause-answers g c =
     let z = first_starts _ _ _ _ (g.met.P.Parser.laws _ c.requires.lawful.0) _ _ c.requires.fresh _ _ in
     tries_asks _ _ _ _ _ _ _ z refl refl _ (c.needs_more.ensures.0 c.if-needs_more.true) c.in-CommitErr.ensures.answers (λ v o i. i) (λ v i. i)
+
+pub returns-in-CommitErr-clause-answers : goal.returns-in-CommitErr-clause-answers
+returns-in-CommitErr-clause-answers g c =
+    first_fails g.Input.StreamOnce.step g.Input.Error.ParseError.seen g.Input.StreamOnce.steady _ _ _ (g.Q.Parser.meaning c.args.self.now.1) (g.met.P.Parser.laws _ c.requires.lawful.0) _ c.requires.fresh _ c.requires.state _ (λ q. let i = c.needs_more.ensures.1 q in let j = c.if-needs_more.false in cc) c.in-CommitErr.ensures.answers
 
 pub returns-in-Ok-clause-answers : goal.returns-in-Ok-clause-answers
 returns-in-Ok-clause-answers g c =
