@@ -4,7 +4,6 @@ pub use Rattle.combine_base.specs.Meaning
 pub use Rattle.combine_base.specs.Outcome
 pub use Rattle.combine_base.specs.OutcomeFacts
 pub use Rattle.combine_base.specs.View
-
 pub mod Attempt
 pub mod Parsers
 pub mod Laws

@@ -7,7 +7,6 @@ pub use Rattle.combine_base.specs.OutcomeFacts
 pub use Rattle.combine_base.specs.Refusals
 pub use Rattle.combine_base.specs.Streams
 pub use Rattle.combine_base.specs.View
-
 pub mod Turns
 pub mod TurnLaws
 pub mod Repetition

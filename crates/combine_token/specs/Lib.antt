@@ -6,7 +6,6 @@ pub use Rattle.combine_base.specs.Meaning
 pub use Rattle.combine_base.specs.Outcome
 pub use Rattle.combine_base.specs.Streams
 pub use Rattle.combine_base.specs.View
-
 pub mod Alternatives
 pub mod Choice
 pub mod Given
