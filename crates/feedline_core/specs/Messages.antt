@@ -42,14 +42,21 @@ digits = bytes_where is_ascii_digit
 abbrev pub del : Meaning ℕ ℕ (Unit {0}) (ℕ × ℕ × ℕ × ℕ) (TryState (PartialState4 (SequenceState (Unit {0}) (Unit {0})) (SequenceState (record { 0 : ℕ }) (Unit {0})) (SequenceState (ℕ × ℕ) (Unit {0})) (SequenceState (ℕ × ℕ × ℕ) (Unit {0}))))
 del = attempted step (tuple_4 step (byte 100) (byte 101) (byte 108) (byte 32))
 
+-- what is read before a word that is deleted, that word, and `;`
+abbrev pub delete_after : {S : Type 0} → Meaning ℕ ℕ (Unit {0}) (ℕ × ℕ × ℕ × ℕ) S → Reading ℕ ℕ Message
+delete_after before = (mapped (tuple_3 step before word (byte 59)) (λ parts m. m ≡ Delete parts.1)).whole
+
 -- `del WORD;`
 abbrev pub delete : Reading ℕ ℕ Message
-delete = (mapped (tuple_3 step del word (byte 59)) (λ parts m. m ≡ Delete parts.1)).whole
+delete = delete_after del
 
 -- `WORD=DIGITS;`
 abbrev pub set : Reading ℕ ℕ Message
 set = (mapped (tuple_4 step word (byte 61) digits (byte 59)) (λ parts m. m ≡ Set parts.0 parts.2)).whole
 
--- the first of the two that isn't refused peeked
+-- the first of these and `set` that isn't refused peeked
+abbrev pub or_set : Reading ℕ ℕ Message → Reading ℕ ℕ Message
+or_set first = Either first (Either set refused)
+
 abbrev pub message : Reading ℕ ℕ Message
-message = Either delete (Either set refused)
+message = or_set delete

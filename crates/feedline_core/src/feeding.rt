@@ -2,7 +2,7 @@
 ghost use Rattle.std.specs.Prelude.{◌≡◌, ◌+◌, ◌^◌, ◌<◌, [], true, false, MatchResult, length, map};
 ghost use Rattle.std.specs.Char.{is_ascii_digit, is_ascii_lowercase};
 ghost use Rattle.feedline_core.specs.OnInput.{RunsOn};
-ghost use Rattle.feedline_core.specs.Messages.{message};
+ghost use Rattle.feedline_core.specs.Messages.{message, delete_after, or_set};
 ghost use Rattle.combine_base.specs.Pieces.{joined};
 ghost use Rattle.combine_base.specs.Sessions.{Feeds, Ends};
 ghost use Rattle.combine_base.specs.declared.parser.session.Stage.TheVariants as stages;
@@ -31,10 +31,40 @@ pub fn run<W: Write>(alloc: Global, sizes: &[u32], input: &[u8], out: &mut W) ->
 {
     let pieces = cut(alloc, sizes, input)?;
     let del = attempt((token(b'd'), token(b'e'), token(b'l'), token(b' ')));
+    drive_after(alloc, del, &pieces, out)
+}
+
+/// Drives the parser of messages in which `del` reads what stands before a word that is deleted.
+///
+/// It stands apart, over any `del`, since a parser that is composed in one function takes the prover minutes; and so does `drive_or_set`.
+fn drive_after<D: Parser<fed::Stream<u8>, Output = (u8, u8, u8, u8)> + Drop, W: Write>(
+    alloc: Global,
+    del: D,
+    pieces: &[&[u8]],
+    out: &mut W,
+) -> Result<bool, Fault>
+    requires lawful { D.lawful del }
+    requires fits { length (joined (map (λ p. p.now) pieces.now)) < 2 ^ 64 }
+    ensures { Runs (or_set (delete_after (D.meaning del))) (map (λ p. p.now) pieces.now) (W.contents out.old) (W.contents out.new) result }
+{
     let delete = map(
         (del, many1(alloc, satisfy(is_letter)), token(b';')),
         made_delete,
     );
+    drive_or_set(alloc, delete, pieces, out)
+}
+
+/// Drives the choice of the messages that `delete` reads and those that set.
+fn drive_or_set<A: Parser<fed::Stream<u8>, Output = Message> + Drop, W: Write>(
+    alloc: Global,
+    delete: A,
+    pieces: &[&[u8]],
+    out: &mut W,
+) -> Result<bool, Fault>
+    requires lawful { A.lawful delete }
+    requires fits { length (joined (map (λ p. p.now) pieces.now)) < 2 ^ 64 }
+    ensures { Runs (or_set (A.meaning delete).whole) (map (λ p. p.now) pieces.now) (W.contents out.old) (W.contents out.new) result }
+{
     let set = map(
         (
             many1(alloc, satisfy(is_letter)),
@@ -44,7 +74,7 @@ pub fn run<W: Write>(alloc: Global, sizes: &[u32], input: &[u8], out: &mut W) ->
         ),
         made_set,
     );
-    drive(alloc, or(delete, set), &pieces, out)
+    drive(alloc, or(delete, set), pieces, out)
 }
 
 fn is_letter(byte: u8) -> bool

@@ -1,14 +1,13 @@
 use Rattle.std.proofs.Common.{◌<◌, ◌^◌, rules, map, length, ap, sym, subst, ◌∙◌}
 use Rattle.combine_base.specs.Pieces.{joined}
-use Rattle.combine_repeat.specs.Built.{many1_of}
 use Rattle.feedline_core.proofs.OnInput.{joined_whole, runs_on}
 use Rattle.feedline_core.proofs.Single.{message_is_single}
 use Rattle.feedline_core.specs.Runs.{Runs}
 use Rattle.feedline_core.specs.Messages.{message}
 use Rattle.feedline_core.proofs.feeding.run.Goals as goal
 
-pub drive-requires-clause-fits : goal.drive-requires-clause-fits
-drive-requires-clause-fits g c =
+pub drive_after-requires-clause-fits : goal.drive_after-requires-clause-fits
+drive_after-requires-clause-fits g c =
     let pieces = ap (map (λ p. p.now)) c.deref.ensures.value ∙ c.in_ok-pieces.ensures in
     let whole = ap joined pieces ∙ joined_whole c.args.sizes.now c.args.input.now in
     let fits : length c.args.input.now < 2 ^ 64 = search rules in
@@ -17,12 +16,6 @@ drive-requires-clause-fits g c =
 pub returns : goal.returns
 returns g c =
     let del = rw c.token-4.ensures at rw c.token-3.ensures at rw c.token-2.ensures at rw c.token.ensures at c.attempt-del.ensures in
-    let word = c.many1.ensures ∙ ap (λ p. many1_of c.args.alloc p) c.satisfy.ensures in
-    let delete = rw c.token-5.ensures at rw word at rw del at c.map-delete.ensures in
-    let key = c.many1-2.ensures ∙ ap (λ p. many1_of c.args.alloc p) c.satisfy-2.ensures in
-    let digits = c.many1-3.ensures ∙ ap (λ p. many1_of c.args.alloc p) c.satisfy-3.ensures in
-    let set = rw c.token-7.ensures at rw digits at rw c.token-6.ensures at rw key at c.map-set.ensures in
-    let parser = rw set at rw delete at c.or.ensures in
-    let drove = rw parser at c.drive.ensures in
+    let drove = rw del at c.drive_after.ensures in
     let pieces = ap (map (λ p. p.now)) c.deref.ensures.value ∙ c.in_ok-pieces.ensures in
-    runs_on message message_is_single _ _ _ _ _ (subst (λ ps. Runs message ps (g.W.Write.contents c.args.out.now) (g.W.Write.contents c.drive.new.out) c.drive.result) pieces drove)
+    runs_on message message_is_single _ _ _ _ _ (subst (λ ps. Runs message ps (g.W.Write.contents c.args.out.now) (g.W.Write.contents c.drive_after.new.out) c.drive_after.result) pieces drove)
