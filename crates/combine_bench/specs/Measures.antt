@@ -10,6 +10,7 @@ use Rattle.combine_repeat.specs.Repetition.{appended}
 use Rattle.combine_bench.specs.Given.{Answers}
 use Rattle.combine_bench.specs.Parsers.{one_where, byte, either, put_back, skipping, skipping1, collecting, collecting1, pair, triple, quadruple}
 use Rattle.combine_bench.specs.Tally.{with_message}
+use Rattle.combine_bench.specs.declared.messages_collect.Message.{Message}
 use Rattle.combine_bench.specs.declared.messages_collect.Tally.{Tally}
 
 -- The number of an outcome on all bytes, ended. A slice counts a position by what is left, and a stream that is fed by what was taken.
@@ -54,18 +55,30 @@ module _ (P : Type 0) (step : P → ℕ → P) where
   abbrev pub del : Reading P ℕ (ℕ × ℕ × ℕ × ℕ)
   del = put_back step (quadruple step (byte 100) (byte 101) (byte 108) (byte 32))
 
+  -- `del WORD;`, skipped
+  abbrev pub skipped_delete : Reading P ℕ (Unit {0})
+  skipped_delete = mapped_reading (triple step del (skipping1 step letter) (byte 59)) (λ parts m. Unit {0})
+
+  -- `WORD=DIGITS;`, skipped
+  abbrev pub skipped_set : Reading P ℕ (Unit {0})
+  skipped_set = mapped_reading (quadruple step (skipping1 step letter) (byte 61) (skipping1 step digit) (byte 59)) (λ parts m. Unit {0})
+
   -- messages, whose words and digits are skipped
   abbrev pub messages_skip : Reading P ℕ (Unit {0})
-  messages_skip = skipping step (either {V = Unit {0}}
-      (mapped_reading (triple step del (skipping1 step letter) (byte 59)) (λ parts m. Unit {0}))
-      (mapped_reading (quadruple step (skipping1 step letter) (byte 61) (skipping1 step digit) (byte 59)) (λ parts m. Unit {0})))
+  messages_skip = skipping step (either skipped_delete skipped_set)
 
   -- one or more such bytes, collected
   abbrev pub bytes_of : Reading P ℕ ℕ → Reading P ℕ (Vec ℕ)
   bytes_of r = collecting1 step (appended (λ v. v.items) [] (λ bs b. bs ++ b ∷ []) ⊥) r
 
+  -- the message of `del WORD;`
+  abbrev pub collected_delete : Reading P ℕ Message
+  collected_delete = mapped_reading (triple step del (bytes_of letter) (byte 59)) (λ parts m. m ≡ record { word = parts.1; digits = None })
+
+  -- the message of `WORD=DIGITS;`
+  abbrev pub collected_set : Reading P ℕ Message
+  collected_set = mapped_reading (quadruple step (bytes_of letter) (byte 61) (bytes_of digit) (byte 59)) (λ parts m. m ≡ record { word = parts.0; digits = Some parts.2 })
+
   -- messages, summed up
   abbrev pub messages_collect : Reading P ℕ Tally
-  messages_collect = collecting step (appended (λ t. t.sum) 0 with_message (Unit {0})) (either
-      (mapped_reading (triple step del (bytes_of letter) (byte 59)) (λ parts m. m ≡ record { word = parts.1; digits = None }))
-      (mapped_reading (quadruple step (bytes_of letter) (byte 61) (bytes_of digit) (byte 59)) (λ parts m. m ≡ record { word = parts.0; digits = Some parts.2 })))
+  messages_collect = collecting step (appended (λ t. t.sum) 0 with_message (Unit {0})) (either collected_delete collected_set)

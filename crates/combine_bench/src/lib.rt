@@ -3,6 +3,7 @@
 
 mod calls;
 mod classes;
+mod del;
 mod many_in_many;
 mod many_in_many_in_many;
 mod measure;

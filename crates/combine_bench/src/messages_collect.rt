@@ -1,15 +1,19 @@
 //! Messages, collected: `del WORD;` or `WORD=DIGITS;`, the word and the digits in vectors.
-ghost use Rattle.std.specs.Prelude.{◌≡◌};
-ghost use Rattle.combine_bench.specs.Measures.{Measures, messages_collect, sum};
+ghost use Rattle.std.specs.Prelude.{◌≡◌, ℕ, ◌+◌};
+ghost use Rattle.combine_base.specs.Slices.{one_less};
+ghost use Rattle.combine_base.specs.declared.stream.slices.Left.{Left};
+ghost use Rattle.combine_bench.specs.Measures.{Measures, bytes_of, collected_delete, collected_set, digit, letter, messages_collect, sum};
 
 use crate::calls::{
-    AttemptCall, Change, Many1Call, ManyCall, MapCall, OrCall, SatisfyCall, TokenCall, Tuple3Call,
-    Tuple4Call,
+    Call, Change, Many1Call, ManyCall, MapCall, OrCall, SatisfyCall, TokenCall, Tuple3Call,
+    Tuple4Call, Visitor,
 };
 use crate::classes::{Decimal, Letter};
+use crate::del::Del;
 use crate::measure::{Number, measured};
 use crate::run::{Pieces, Whole};
 use combine_base::repeat::Append;
+use combine_base::stream::fed;
 use std::alloc::{AllocError, Global};
 
 /// What a message says.
@@ -74,17 +78,13 @@ impl Tally {
     }
 }
 
-type Word = Many1Call<Vec<u8>, SatisfyCall<Letter>>;
+type WordParts = Many1Call<Vec<u8>, SatisfyCall<Letter>>;
 
-type Digits = Many1Call<Vec<u8>, SatisfyCall<Decimal>>;
-/// The tokens before a word that is deleted.
-type Del = AttemptCall<
-    Tuple4Call<TokenCall<b'd'>, TokenCall<b'e'>, TokenCall<b'l'>, TokenCall<b' '>>,
->;
+type DigitsParts = Many1Call<Vec<u8>, SatisfyCall<Decimal>>;
 
-type Delete = MapCall<Tuple3Call<Del, Word, TokenCall<b';'>>, Deleted>;
+type DeleteParts = MapCall<Tuple3Call<Del, Word, TokenCall<b';'>>, Deleted>;
 
-type Set = MapCall<Tuple4Call<Word, TokenCall<b'='>, Digits, TokenCall<b';'>>, Made>;
+type SetParts = MapCall<Tuple4Call<Word, TokenCall<b'='>, Digits, TokenCall<b';'>>, Made>;
 
 type Collected = ManyCall<Tally, OrCall<Delete, Set>>;
 
@@ -152,5 +152,109 @@ impl Change<(Vec<u8>, u8, Vec<u8>, u8)> for Made {
             word: parts.0,
             digits: Some(parts.2),
         }
+    }
+}
+
+/// The letters of a word.
+#[derive(Drop)]
+struct Word;
+
+impl<'a> Call<&'a [u8]> for Word {
+    type Output = Vec<u8>;
+
+    ghost reading = { bytes_of Left one_less letter };
+
+    #[inline(always)]
+    fn accept<V: Visitor<&'a [u8], Vec<u8>>>(alloc: Global, visitor: V) -> u64 {
+        WordParts::accept(alloc, visitor)
+    }
+}
+
+impl Call<fed::Stream<u8>> for Word {
+    type Output = Vec<u8>;
+
+    ghost reading = { bytes_of ℕ (λ p b. p + 1) letter };
+
+    #[inline(always)]
+    fn accept<V: Visitor<fed::Stream<u8>, Vec<u8>>>(alloc: Global, visitor: V) -> u64 {
+        WordParts::accept(alloc, visitor)
+    }
+}
+
+/// The digits that a word is set to.
+#[derive(Drop)]
+struct Digits;
+
+impl<'a> Call<&'a [u8]> for Digits {
+    type Output = Vec<u8>;
+
+    ghost reading = { bytes_of Left one_less digit };
+
+    #[inline(always)]
+    fn accept<V: Visitor<&'a [u8], Vec<u8>>>(alloc: Global, visitor: V) -> u64 {
+        DigitsParts::accept(alloc, visitor)
+    }
+}
+
+impl Call<fed::Stream<u8>> for Digits {
+    type Output = Vec<u8>;
+
+    ghost reading = { bytes_of ℕ (λ p b. p + 1) digit };
+
+    #[inline(always)]
+    fn accept<V: Visitor<fed::Stream<u8>, Vec<u8>>>(alloc: Global, visitor: V) -> u64 {
+        DigitsParts::accept(alloc, visitor)
+    }
+}
+
+/// `del WORD;`
+#[derive(Drop)]
+struct Delete;
+
+impl<'a> Call<&'a [u8]> for Delete {
+    type Output = Message;
+
+    ghost reading = { collected_delete Left one_less };
+
+    #[inline(always)]
+    fn accept<V: Visitor<&'a [u8], Message>>(alloc: Global, visitor: V) -> u64 {
+        DeleteParts::accept(alloc, visitor)
+    }
+}
+
+impl Call<fed::Stream<u8>> for Delete {
+    type Output = Message;
+
+    ghost reading = { collected_delete ℕ (λ p b. p + 1) };
+
+    #[inline(always)]
+    fn accept<V: Visitor<fed::Stream<u8>, Message>>(alloc: Global, visitor: V) -> u64 {
+        DeleteParts::accept(alloc, visitor)
+    }
+}
+
+/// `WORD=DIGITS;`
+#[derive(Drop)]
+struct Set;
+
+impl<'a> Call<&'a [u8]> for Set {
+    type Output = Message;
+
+    ghost reading = { collected_set Left one_less };
+
+    #[inline(always)]
+    fn accept<V: Visitor<&'a [u8], Message>>(alloc: Global, visitor: V) -> u64 {
+        SetParts::accept(alloc, visitor)
+    }
+}
+
+impl Call<fed::Stream<u8>> for Set {
+    type Output = Message;
+
+    ghost reading = { collected_set ℕ (λ p b. p + 1) };
+
+    #[inline(always)]
+    fn accept<V: Visitor<fed::Stream<u8>, Message>>(alloc: Global, visitor: V) -> u64 {
+        SetParts::accept(alloc, visitor)
     }
 }

@@ -1,26 +1,27 @@
 //! Messages, skipped: `del WORD;` or `WORD=DIGITS;`.
-ghost use Rattle.combine_bench.specs.Measures.{Measures, messages_skip, taken};
+ghost use Rattle.std.specs.Prelude.{ℕ, ◌+◌};
+ghost use Rattle.combine_base.specs.Slices.{one_less};
+ghost use Rattle.combine_base.specs.declared.stream.slices.Left.{Left};
+ghost use Rattle.combine_bench.specs.Measures.{Measures, messages_skip, skipped_delete, skipped_set, taken};
 
 use crate::calls::{
-    AttemptCall, Change, MapCall, OrCall, SatisfyCall, SkipMany1Call, SkipManyCall, TokenCall,
-    Tuple3Call, Tuple4Call,
+    Call, Change, MapCall, OrCall, SatisfyCall, SkipMany1Call, SkipManyCall, TokenCall, Tuple3Call,
+    Tuple4Call, Visitor,
 };
 use crate::classes::{Decimal, Letter};
+use crate::del::Del;
 use crate::measure::{Taken, measured};
 use crate::run::{Pieces, Whole};
+use combine_base::stream::fed;
 use std::alloc::Global;
 
 type Word = SkipMany1Call<SatisfyCall<Letter>>;
 
 type Digits = SkipMany1Call<SatisfyCall<Decimal>>;
-/// The tokens before a word that is deleted.
-type Del = AttemptCall<
-    Tuple4Call<TokenCall<b'd'>, TokenCall<b'e'>, TokenCall<b'l'>, TokenCall<b' '>>,
->;
 
-type Delete = MapCall<Tuple3Call<Del, Word, TokenCall<b';'>>, Dropped>;
+type DeleteParts = MapCall<Tuple3Call<Del, Word, TokenCall<b';'>>, Dropped>;
 
-type Set = MapCall<Tuple4Call<Word, TokenCall<b'='>, Digits, TokenCall<b';'>>, Dropped>;
+type SetParts = MapCall<Tuple4Call<Word, TokenCall<b'='>, Digits, TokenCall<b';'>>, Dropped>;
 
 type Skipped = SkipManyCall<OrCall<Delete, Set>>;
 
@@ -51,4 +52,56 @@ impl<A: Drop> Change<A> for Dropped {
 
     #[inline(always)]
     fn change(_value: A) {}
+}
+
+/// `del WORD;`
+#[derive(Drop)]
+struct Delete;
+
+impl<'a> Call<&'a [u8]> for Delete {
+    type Output = ();
+
+    ghost reading = { skipped_delete Left one_less };
+
+    #[inline(always)]
+    fn accept<V: Visitor<&'a [u8], ()>>(alloc: Global, visitor: V) -> u64 {
+        DeleteParts::accept(alloc, visitor)
+    }
+}
+
+impl Call<fed::Stream<u8>> for Delete {
+    type Output = ();
+
+    ghost reading = { skipped_delete ℕ (λ p b. p + 1) };
+
+    #[inline(always)]
+    fn accept<V: Visitor<fed::Stream<u8>, ()>>(alloc: Global, visitor: V) -> u64 {
+        DeleteParts::accept(alloc, visitor)
+    }
+}
+
+/// `WORD=DIGITS;`
+#[derive(Drop)]
+struct Set;
+
+impl<'a> Call<&'a [u8]> for Set {
+    type Output = ();
+
+    ghost reading = { skipped_set Left one_less };
+
+    #[inline(always)]
+    fn accept<V: Visitor<&'a [u8], ()>>(alloc: Global, visitor: V) -> u64 {
+        SetParts::accept(alloc, visitor)
+    }
+}
+
+impl Call<fed::Stream<u8>> for Set {
+    type Output = ();
+
+    ghost reading = { skipped_set ℕ (λ p b. p + 1) };
+
+    #[inline(always)]
+    fn accept<V: Visitor<fed::Stream<u8>, ()>>(alloc: Global, visitor: V) -> u64 {
+        SetParts::accept(alloc, visitor)
+    }
 }
