@@ -25,7 +25,7 @@ pub trait ParserExt<Input: Stream>: Parser<Input> {
     }
 
     /// This parser and then another: the pair of both values.
-    final fn and<Q: Parser<Input>>(self, other: Q) -> (Self, Q)
+    final fn and<Q>(self, other: Q) -> (Self, Q)
     where
         Self: Sized,
         ensures { result ≡ (self, other) }
@@ -34,7 +34,7 @@ pub trait ParserExt<Input: Stream>: Parser<Input> {
     }
 
     /// This parser, or the other where it is refused peeked.
-    final fn or<Q: Parser<Input, Output = Self::Output>>(self, other: Q) -> Or<Self, Q>
+    final fn or<Q>(self, other: Q) -> Or<Self, Q>
     where
         Self: Sized,
         ensures { result ≡ or_parser self other }
@@ -43,7 +43,7 @@ pub trait ParserExt<Input: Stream>: Parser<Input> {
     }
 
     /// This parser with its value changed by the function.
-    final fn map<B: Drop, F: Fn(Self::Output) -> B>(self, f: F) -> Map<Self, F>
+    final fn map<F>(self, f: F) -> Map<Self, F>
     where
         Self: Sized,
         ensures { result ≡ map_of self f }

@@ -1,8 +1,8 @@
 -- what the error of a call says, and how it becomes that of a call around it
 use Rattle.std.proofs.Common.{◌<◌, ◌≤◌, ◌≡◌, ◌+◌, arith, Bool, true, false, sym, subst, refl, ◌∙◌}
-use Rattle.combine_base.specs.View.{Moves}
-use Rattle.combine_base.specs.Meaning.{Meaning}
-use Rattle.combine_base.specs.Answer.{Run, World, Answers, Refuses, Asks, Leaves, fails, peeks, ends, loses}
+use Rattle.combine_base.specs.Stream.View.{Moves}
+use Rattle.combine_base.specs.Parser.Meaning.{Meaning}
+use Rattle.combine_base.specs.Parser.Answer.{Run, World, Answers, Refuses, Asks, Leaves, fails, peeks, ends, loses}
 use Rattle.combine_base.proofs.Progress.{takes_more, takes_open}
 use Rattle.combine_base.specs.declared.stream.Kind.{Kind}
 use Rattle.combine_base.specs.declared.stream.Kind.TheVariants as kinds

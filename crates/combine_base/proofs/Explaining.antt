@@ -1,13 +1,15 @@
 -- a peeked refusal that was put back and explained, or could not be
-use Rattle.std.proofs.Common.{◌≡◌, ◌<◌, ◌≤◌, ◌+◌, ◌⊎◌, inl, inr, List, [], ◌∷◌, false, sym, subst, arith, Err}
-use Rattle.combine_base.specs.View.{View, Takes, Moves}
-use Rattle.combine_base.specs.Items.{Item}
-use Rattle.combine_base.specs.Errors.{Errors, Says, Added, Unstored}
-use Rattle.combine_base.specs.Meaning.{Meaning, MeansSame}
-use Rattle.combine_base.specs.Drivers.{AtToken, Explained, Broke, LooksAt}
-use Rattle.combine_base.specs.Streams.{TakesToken}
-use Rattle.combine_base.specs.Answer.{Run, World, Answers, Refuses, Leaves, fails}
+use Rattle.std.proofs.Common.{◌≡◌, ◌<◌, ◌≤◌, ◌+◌, ◌⊎◌, inl, inr, List, [], ◌∷◌, Bool, true, false, ap, sym, subst, arith, refl, ◌∙◌, Err}
+use Rattle.combine_base.specs.Stream.View.{View, Takes, Moves}
+use Rattle.combine_base.specs.Error.Items.{Item}
+use Rattle.combine_base.specs.Error.Errors.{Errors, Says, Added, Unstored}
+use Rattle.combine_base.specs.Parser.Meaning.{Meaning, MeansSame}
+use Rattle.combine_base.specs.Parser.Drivers.{AtToken, Explained, Broke, LooksAt}
+use Rattle.combine_base.specs.Stream.Calls.{TakesToken}
+use Rattle.combine_base.specs.Parser.Answer.{Run, World, Answers, Refuses, Leaves, fails}
 use Rattle.combine_base.specs.Refusals.{Peeked}
+use Rattle.combine_base.specs.Parser.Judged.{IsRefusal}
+use Rattle.combine_base.specs.Parser.Reasons.{Reasoned, RefusedWith}
 use Rattle.combine_base.proofs.Calls.{peeked_refusal}
 use Rattle.combine_base.proofs.Distances.{takes_token}
 use Rattle.combine_base.proofs.Progress.{takes_more, moves_more}
@@ -30,16 +32,31 @@ at_token_into adds adds' g [] is a = g is a
 at_token_into adds adds' g (t ∷ ts) [] a = a
 at_token_into adds adds' g (t ∷ ts) (i ∷ is) a = (a.0, g is a.1)
 
-module _ {P T R V S E : Type 0} (s : Errors T R P E) (m m' : Meaning P T R V S) (h : MeansSame m m') (old new : View P T) (e own : E) where
+module _ {P T R V S E : Type 0} (s : Errors T R P E) (m m' : Meaning P T R V S) (h : MeansSame m m') (refuses : Bool → E → Type 0) (old new : View P T) (e own : E) where
   -- the parser means the same after its call
   as_before : Says s m'.lean (AtToken m'.adds old.unread) e own → Says s m.lean (AtToken m.adds old.unread) e own
   as_before = says_into s m'.lean m.lean (AtToken m'.adds old.unread) (AtToken m.adds old.unread) e own h.lean.0 (λ is. at_token_into m'.adds m.adds (λ js. (h.adds js).1) old.unread is)
 
-  pub explained_by : (result : ParseResult V E) → new ≡ old → Says s m'.lean (AtToken m'.adds old.unread) e own → Peeked s.kind own result → Explained s m old new result
-  explained_by (CommitOk v) b a p = absurd p.is
-  explained_by (PeekOk v) b a p = absurd p.is
-  explained_by (CommitErr x) b a p = record { is = tt }
-  explained_by (PeekErr t) b a p = record { is = record { own = e; back = b; says = subst (λ x. Says s m.lean (AtToken m.adds old.unread) e x) (sym p.is.0) (as_before a) } }
+  pub explained_by : refuses false e → (result : ParseResult V E) → new ≡ old → Says s m'.lean (AtToken m'.adds old.unread) e own → Peeked s.kind own result → Explained s m refuses old new result
+  explained_by w (CommitOk v) b a p = absurd p.is
+  explained_by w (PeekOk v) b a p = absurd p.is
+  explained_by w (CommitErr x) b a p = record { is = λ i. absurd (subst (IsRefusal new.is_open) (ap s.kind p.is.0 ∙ p.is.1) i) }
+  explained_by w (PeekErr t) b a p = record { is = record { own = e; refused = w; back = b; says = subst (λ x. Says s m.lean (AtToken m.adds old.unread) e x) (sym p.is.0) (as_before a) } }
+
+-- an answer that was explained, whatever its error is
+pub explained_only : {P T R V S E : Type 0} {s : Errors T R P E} {m : Meaning P T R V S} {refuses : Bool → E → Type 0} {old new : View P T} {result : ParseResult V E} → Explained s m refuses old new result → Explained s m (λ committed e. Unit {0}) old new result
+explained_only {result = CommitOk v} h = record { is = tt }
+explained_only {result = PeekOk v} h = record { is = tt }
+explained_only {result = CommitErr e} h = record { is = λ i. tt }
+explained_only {result = PeekErr t} h = record { is = record { own = h.is.own; refused = tt; back = h.is.back; says = h.is.says } }
+
+-- the error of a refusal, by which kind of answer it is
+module _ {V E : Type 0} (kind : E → Kind) (is_open : Bool) (refuses : Bool → E → Type 0) where
+  pub reason_committed : (e : E) → Reasoned {V = V} kind is_open refuses (CommitErr e) → IsRefusal is_open (kind e) → refuses true e
+  reason_committed e h i = h true e (record { is = (refl, i) })
+
+  pub reason_peeked : (t : Tracked E) → Reasoned {V = V} kind is_open refuses (PeekErr t) → refuses false t.error
+  reason_peeked t h = h false t.error (record { is = refl })
 
 -- the stream was put back, the token there was read, and the stream could not be put back again
 pub look_unreset : {P T : Type 0} (steady : Type 0) (step : P → T → P) (marked : View P T → Type 0) (old there read new : View P T) (f0 f1 f2 f3 : Failures) (t : T) (k : Kind) → ((v : View P T) → marked v → there ≡ v) → TakesToken steady step there read f1 f2 t → (k ≡ kinds.Reset) × Moves step read new × (f2.resets < f3.resets) → f0.resets ≤ f2.resets → LooksAt steady step marked old new f0 f3 (Err k)

@@ -1,11 +1,11 @@
 -- a call inside another one, some tokens later: each answer of it is one of the call around
 use Rattle.std.proofs.Common.{ℕ, ◌+◌, ◌-◌, ◌≤◌, ◌≡◌, Bool, true, false, ◌||◌, length, length-drop, arith, sym, subst, refl, ◌∙◌}
-use Rattle.combine_base.specs.View.{View, Takes}
-use Rattle.combine_base.specs.Outcome.{Outcome, Accepted, Refused, Undecided, after}
-use Rattle.combine_base.specs.OutcomeFacts.{or_true, or_false}
-use Rattle.combine_base.specs.Meaning.{Meaning, Reading, begun}
-use Rattle.combine_base.specs.Answer.{Resumes, Run, World, Answers, Accepts, Refuses, Asks, Leaves, answers, fails, peeks, ends, loses}
-use Rattle.combine_base.specs.Parts.{accepted_as, refused_as}
+use Rattle.combine_base.specs.Stream.View.{View, Takes}
+use Rattle.combine_base.specs.Parser.Outcome.{Outcome, Accepted, Refused, Undecided, after}
+use Rattle.combine_base.specs.Parser.OutcomeFacts.{or_true, or_false}
+use Rattle.combine_base.specs.Parser.Meaning.{Meaning, Reading, begun}
+use Rattle.combine_base.specs.Parser.Answer.{Resumes, Run, World, Answers, Accepts, Refuses, Asks, Leaves, answers, fails, peeks, ends, loses}
+use Rattle.combine_base.specs.Sequence.Parts.{accepted_as, refused_as}
 use Rattle.combine_base.proofs.Calls.{around, Settles, settles, needs}
 use Rattle.combine_base.proofs.Progress.{Progress, progress_outcome, takes_more, takes_open, resumes_more}
 use Rattle.combine_base.specs.declared.stream.Kind.{Kind}

@@ -4,12 +4,12 @@ pub mod Explaining
 pub mod Inside
 pub mod Mapped
 pub mod Moved
+pub mod Pieces
 pub mod Progress
 pub mod Same
 pub mod Says
+pub mod SequenceAnswers
+pub mod SequenceResumes
 pub mod Sessions
-pub mod Pieces
-pub mod Sequels
-pub mod Sequences
-pub mod Singles
+pub mod SingleAnswers
 pub mod Starting

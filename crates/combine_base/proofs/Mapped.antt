@@ -1,10 +1,10 @@
 -- a call of a part that refused, failed or asked for more is one of the mapped parser
 use Rattle.std.proofs.Common.{ℕ, ◌<◌, List, Bool, true, false}
-use Rattle.combine_base.specs.View.{View, extended, Follows}
-use Rattle.combine_base.specs.Outcome.{Outcome, Accepted, Refused, Undecided, after, IsCommitted}
-use Rattle.combine_base.specs.Meaning.{Meaning, Reading, begun}
-use Rattle.combine_base.specs.Mapped.{mapped, mapped_reading}
-use Rattle.combine_base.specs.Answer.{Resumes, Run, World, Answers, Accepts, Refuses, Asks, fails, peeks, ends, loses}
+use Rattle.combine_base.specs.Stream.View.{View, extended, Follows}
+use Rattle.combine_base.specs.Parser.Outcome.{Outcome, Accepted, Refused, Undecided, after, IsCommitted}
+use Rattle.combine_base.specs.Parser.Meaning.{Meaning, Reading, begun}
+use Rattle.combine_base.specs.Parser.Mapped.{mapped, mapped_reading}
+use Rattle.combine_base.specs.Parser.Answer.{Resumes, Run, World, Answers, Accepts, Refuses, Asks, fails, peeks, ends, loses}
 use Rattle.combine_base.specs.declared.stream.Kind.{Kind}
 use Rattle.combine_base.specs.declared.stream.Kind.TheVariants as kinds
 use Rattle.combine_base.specs.declared.error.Tracked.{Tracked}

@@ -5,7 +5,7 @@ use Rattle.std.specs.Cmp.{IsTotalOrder}
 use Rattle.std.specs.declared.cmp.Ordering.{Ordering}
 use Rattle.std.specs.declared.cmp.Ordering.TheVariants.{Less, Equal}
 use Rattle.std.specs.Ordering.{is_lt, is_ne}
-use Rattle.combine_base.specs.View.{View, Takes, advanced}
+use Rattle.combine_base.specs.Stream.View.{View, Takes, advanced}
 
 module _ {S P T : Type 0} (cmp : P → P → Ordering) (step : P → T → P) (view : S → View P T) (h : IsTotalOrder cmp) (moves : (s : S) (n : ℕ) → 0 < n → n ≤ length (view s).unread → cmp (view s).position (advanced step n (view s)).position ≡ Less) where
   -- a test that is passed by what is less, and not by what is equal

@@ -1,10 +1,10 @@
 -- what was promised of one meaning holds of another that is the same; what is passed on by one call and then by another
 use Rattle.std.proofs.Common.{Bool, true, false, arith}
-use Rattle.combine_base.specs.View.{View, extended}
-use Rattle.combine_base.specs.Outcome.{Outcome, Accepted, Refused, Undecided, after}
-use Rattle.combine_base.specs.Meaning.{Meaning, Alike, MeansSame, begun}
-use Rattle.combine_base.specs.Answer.{Run, World, Answers, Accepts, Refuses, Asks, fails, peeks, ends, loses}
-use Rattle.combine_base.specs.Streams.{Passes}
+use Rattle.combine_base.specs.Stream.View.{View, extended}
+use Rattle.combine_base.specs.Parser.Outcome.{Outcome, Accepted, Refused, Undecided, after}
+use Rattle.combine_base.specs.Parser.Meaning.{Meaning, Alike, MeansSame, begun}
+use Rattle.combine_base.specs.Parser.Answer.{Run, World, Answers, Accepts, Refuses, Asks, fails, peeks, ends, loses}
+use Rattle.combine_base.specs.Stream.Calls.{Passes}
 use Rattle.combine_base.specs.declared.stream.Kind.{Kind}
 use Rattle.combine_base.specs.declared.stream.Kind.TheVariants as kinds
 use Rattle.combine_base.specs.declared.stream.Failures.{Failures}

@@ -1,16 +1,16 @@
 -- one parse of a session
 use Rattle.std.proofs.Common.{ℕ, ◌+◌, ◌≡◌, refl, sym, ◌∙◌, ap, subst, List, [], ◌++◌, take, Bool, true, false, append_assoc, arith, length-take, Result, Ok, Err, is_err, MatchResult, IsErrAnd, ◌<◌, ◌^◌}
 use Rattle.std.proofs.lemmas.List.{drop_all}
-use Rattle.combine_base.specs.View.{View, Takes, extended}
-use Rattle.combine_base.specs.Outcome.{Outcome, Accepted, Refused, Undecided, after, shape}
-use Rattle.combine_base.specs.OutcomeFacts.{shape_after}
-use Rattle.combine_base.specs.Meaning.{Meaning, Reading, IsSingle, IsMeaning, MeansOne, MeansSame}
-use Rattle.combine_base.specs.Answer.{Run, World, Answers, Accepts, Refuses, Asks, world, fails, ends, peeks}
-use Rattle.combine_base.specs.NoItems.{no_items}
-use Rattle.combine_base.specs.Fed.{next, after_count, FeedsPiece}
-use Rattle.combine_base.specs.Judged.{answer_to, answer_to_error, IsRefusal}
-use Rattle.combine_base.specs.Sessions as session
-use Rattle.combine_base.specs.Sessions.{Course, counted, left, stage_after}
+use Rattle.combine_base.specs.Stream.View.{View, Takes, extended}
+use Rattle.combine_base.specs.Parser.Outcome.{Outcome, Accepted, Refused, Undecided, after, shape}
+use Rattle.combine_base.specs.Parser.OutcomeFacts.{shape_after}
+use Rattle.combine_base.specs.Parser.Meaning.{Meaning, Reading, IsSingle, IsMeaning, MeansOne, MeansSame}
+use Rattle.combine_base.specs.Parser.Answer.{Run, World, Answers, Accepts, Refuses, Asks, world, fails, ends, peeks}
+use Rattle.combine_base.specs.Error.NoItems.{no_items}
+use Rattle.combine_base.specs.Stream.Fed.{one_more, after_count, FeedsPiece}
+use Rattle.combine_base.specs.Parser.Judged.{answer_to, answer_to_error, IsRefusal}
+use Rattle.combine_base.specs.Parser.Sessions as session
+use Rattle.combine_base.specs.Parser.Sessions.{Course, counted_from_start, left, stage_after}
 use Rattle.combine_base.proofs.Calls.{same_mark}
 use Rattle.combine_base.proofs.Progress.{after_none, after_twice}
 use Rattle.combine_base.specs.declared.stream.Kind.{Kind}
@@ -25,7 +25,7 @@ use Rattle.combine_base.specs.declared.parser.answer.Answer.{Answer}
 use Rattle.combine_base.specs.declared.parser.session.SessionError.{SessionError}
 use Rattle.combine_base.specs.declared.parser.session.SessionError.TheVariants as errors
 
-taken_count : {T : Type 0} (n : ℕ) (old new : View ℕ T) → Takes next n old new → new.position ≡ old.position + n
+taken_count : {T : Type 0} (n : ℕ) (old new : View ℕ T) → Takes one_more n old new → new.position ≡ old.position + n
 taken_count n old new t =
     let e = t.enough in
     ap (λ (v : View ℕ _). v.position) t.rest ∙ after_count old.position (take n old.unread) ∙ omega (arith, length-take n old.unread)
@@ -33,8 +33,8 @@ taken_count n old new t =
 pub extended_twice : {T : Type 0} (x y : List T) (m b : Bool) (v : View ℕ T) → extended x m (extended y b v) ≡ extended (y ++ x) m v
 extended_twice x y m b v = ap (λ us. record { position = v.position; unread = us; is_open = m }) (append_assoc v.unread y x)
 
--- the outcomes of a single reading have one shape, the tokens taken before counted in
-counted_shape : {T A : Type 0} (r : Reading ℕ T A) (v : View ℕ T) (o p : Outcome A) → IsSingle r → counted r v o → counted r v p → shape p ≡ shape o
+-- the outcomes of a single reading have one shape, the tokens taken before counted_from_start in
+counted_shape : {T A : Type 0} (r : Reading ℕ T A) (v : View ℕ T) (o p : Outcome A) → IsSingle r → counted_from_start r v o → counted_from_start r v p → shape p ≡ shape o
 counted_shape r v o p h a b =
     let e = h.one v b.0 a.0 b.2 a.2 in
     ap shape b.1 ∙ shape_after v.position false b.0 ∙ ap (after v.position false) e ∙ sym (shape_after v.position false a.0) ∙ ap shape (sym a.1)
@@ -43,7 +43,7 @@ abbrev none : Failures
 none = record { reads = 0; resets = 0 }
 
 abbrev over_fed : {T S : Type 0} → (S → Type 0) → World ℕ T S UnexpectedParse
-over_fed {T} fresh = world next (no_items {T = T} {R = Unit {0}} {P = ℕ}) (Unit {0}) fresh
+over_fed {T} fresh = world one_more (no_items {T = T} {R = Unit {0}} {P = ℕ}) (Unit {0}) fresh
 
 module _ {P T R A S : Type 0} (fresh : S → Type 0) (meaning : P → Meaning ℕ T R A S) (valid : S → Type 0) (old new : Course P T S) where
   abbrev run : View ℕ T → Run ℕ T S
@@ -56,7 +56,7 @@ module _ {P T R A S : Type 0} (fresh : S → Type 0) (meaning : P → Meaning �
     means : (o p : Outcome A) → o ≡ after old.seen.position false p → (meaning old.parser).rest old.state (extended piece more old.seen) p → session.Means meaning valid old new piece more o
     means o p e h = record { is = (p, e, h); only = λ k q. counted_shape ((meaning old.parser).rest old.state) (extended piece more old.seen) o q (k.rest old.state is_valid) (p, e, h) }
 
-    leaves : (n : ℕ) → Takes next n (extended piece more old.seen) new.seen → session.Leaves meaning valid old new piece more
+    leaves : (n : ℕ) → Takes one_more n (extended piece more old.seen) new.seen → session.Leaves meaning valid old new piece more
     leaves n t = record { count = n; within = t.enough; unread = ap (λ (v : View ℕ T). v.unread) t.rest; taken = taken_count n (extended piece more old.seen) new.seen t }
 
     accepts : (a : A) (k : Bool) → Accepts (over_fed fresh) (meaning old.parser) then a k → session.Accepts meaning valid old new piece more a new.seen.position k

@@ -1,10 +1,10 @@
 -- a call that goes on from a later place, and a first-mode call, which is one from a default state
 use Rattle.std.proofs.Common.{◌≡◌, ◌≤◌, ◌⊎◌, inl, inr, Bool, true, false, arith, refl, subst}
-use Rattle.combine_base.specs.View.{View}
-use Rattle.combine_base.specs.Outcome.{Outcome}
-use Rattle.combine_base.specs.Meaning.{Meaning, Reading, IsMeaning, begun}
-use Rattle.combine_base.specs.Answer.{Run, World, Answers}
-use Rattle.combine_base.specs.Parts.{RunsFrom, run_from}
+use Rattle.combine_base.specs.Stream.View.{View}
+use Rattle.combine_base.specs.Parser.Outcome.{Outcome}
+use Rattle.combine_base.specs.Parser.Meaning.{Meaning, Reading, IsMeaning, begun}
+use Rattle.combine_base.specs.Parser.Answer.{Run, World, Answers}
+use Rattle.combine_base.specs.Sequence.Parts.{RunsFrom, run_from}
 use Rattle.combine_base.proofs.Inside.{outer, Inside, Keeps, inside_commits, inside_peeks, inside_asks, inside_fails, inside_refuses}
 use Rattle.combine_base.proofs.Progress.{Progress, takes_none, resumes_none}
 use Rattle.combine_base.specs.declared.stream.Kind.{Kind}

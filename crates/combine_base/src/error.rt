@@ -1,9 +1,9 @@
 //! Answers of parsers, errors, and what they say.
 ghost use Rattle.std.specs.Prelude.{◌≡◌, List, [], Bool, true, false, None, length, IsTrue, ◌↔◌};
-ghost use Rattle.combine_base.specs.Results.{inner, peeked, merged, accepts, standard, from_standard, combined, as_result, MapsValue, MapsError};
-ghost use Rattle.combine_base.specs.NoItems.{no_items};
-ghost use Rattle.combine_base.specs.Items.{Item, Unexpected, Expected, Message, OfToken, Fixed, Count, shown, end_of_input};
-ghost use Rattle.combine_base.specs.Errors.{Errors, Only, Says, Placed, Cleared, ClearedAfter, Merged, IsFault, if_kept, later};
+ghost use Rattle.combine_base.specs.Error.Results.{inner, peeked, merged, accepts, standard, from_standard, combined, as_result, MapsValue, MapsError};
+ghost use Rattle.combine_base.specs.Error.NoItems.{no_items, no_items_apart};
+ghost use Rattle.combine_base.specs.Error.Items.{Item, Unexpected, Expected, Message, OfToken, Fixed, Count, shown, end_of_input};
+ghost use Rattle.combine_base.specs.Error.Errors.{Errors, Only, Says, Placed, Cleared, ClearedAfter, Merged, IsFault, TellsApart, if_kept, later};
 
 use crate::stream::{Kind, StreamOnce};
 use std::string::String;
@@ -340,6 +340,8 @@ impl<T: Copy, R: Copy, P: Ord + Copy> ParseError<T, R, P> for UnexpectedParse {
     fn merge(self, other: Self) -> Self {
         if self.0 == Kind::Refused { self } else { other }
     }
+
+    ghost tells_apart = { no_items_apart };
 }
 
 /// What is to be said, before it is added to an error. A type may keep what it is given, or a kind alone.
@@ -447,4 +449,6 @@ pub trait ParseError<T, R, P: Ord>: Drop {
         requires first { IsFault (seen.kind self) → ⊥ }
         requires second { IsFault (seen.kind other) → ⊥ }
         ensures { Merged seen (later P.cmp (seen.position self) (seen.position other)) self other result };
+
+    ghost tells_apart: { TellsApart seen };
 }

@@ -6,11 +6,13 @@ use crate::refusal::{add_unexpected_token, peeked, token_at};
 use crate::stream::{Kind, Stream};
 
 mod answer;
+mod calls;
 mod references;
 mod session;
 
 pub use answer::{Answer, judge};
-pub use session::{Session, SessionError};
+pub use calls::Calls;
+pub use session::{Session, SessionError, parse_pieces};
 
 /// How a call begins: afresh, or from a kept state.
 pub trait ParseMode: Copy {
@@ -64,13 +66,14 @@ impl ParseMode for PartialMode {
 /// An implementation writes `parse_mode`, `add_error` and `parser_count`; the other calls have bodies over them.
 /// It gives its meaning, the laws of that meaning, and what its calls need.
 pub trait Parser<Input: Stream> {
-    ghost use Rattle.std.specs.Prelude.{◌≡◌, ℕ, true, false, Bool};
-    ghost use Rattle.combine_base.specs.View.{View};
-    ghost use Rattle.combine_base.specs.Meaning.{Meaning, IsMeaning, MeansOne, MeansSame, begun};
-    ghost use Rattle.combine_base.specs.Answer.{Answers, world};
-    ghost use Rattle.combine_base.specs.Errors.{Says};
-    ghost use Rattle.combine_base.specs.Drivers.{Explains, Explained, Starts, Results, StartResults};
-    ghost use Rattle.combine_base.specs.Streams.{Passes};
+    ghost use Rattle.std.specs.Prelude.{◌≡◌, ℕ, true, false, Bool, Option, Some, None};
+    ghost use Rattle.combine_base.specs.Stream.View.{View};
+    ghost use Rattle.combine_base.specs.Parser.Meaning.{Meaning, IsMeaning, IsSingle, MeansOne, MeansSame, begun};
+    ghost use Rattle.combine_base.specs.Parser.Answer.{Answers, world};
+    ghost use Rattle.combine_base.specs.Error.Errors.{Says};
+    ghost use Rattle.combine_base.specs.Parser.Drivers.{Explains, Explained, Starts, Results, StartResults};
+    ghost use Rattle.combine_base.specs.Parser.Reasons.{Reasoned, kept_from};
+    ghost use Rattle.combine_base.specs.Stream.Calls.{Passes};
     ghost use Rattle.combine_base.specs.declared.stream.Failures.{Failures};
 
     /// The value of an acceptance.
@@ -94,6 +97,9 @@ pub trait Parser<Input: Stream> {
     /// How many parsers are run one after another, at most 255.
     ghost parts: { Self → ℕ };
 
+    /// What error a refusal may have, committed or not, of a call that begins afresh (`None`) or from that state, on a view. A parser that doesn't define it promises nothing of it.
+    ghost refuses: { Self → Option Self.PartialState → View Input.Position Input.Token → Bool → Input.Error → Type 0 } = { λ _ _ _ _ _. Unit {0} };
+
     /// Parses, afresh or from the kept state.
     ///
     /// An acceptance has taken exactly its tokens. A refusal leaves an end of the unread tokens. Need of more is `CommitErr` of kind `End` on an open stream, and the state then keeps what goes on. A fault is `CommitErr`. After every answer but need of more the state is a default one.
@@ -112,7 +118,8 @@ pub trait Parser<Input: Stream> {
         ensures answers { Answers (world Input.step Input.Error.seen Input.steady Self.PartialState.is_default)
             (meaning self.old)
             (record { first = M.first mode; state = state.old; left = state.new; old = Input.view input.old; new = Input.view input.new; before = Input.failures input.old; after = Input.failures input.new })
-            result };
+            result }
+        ensures refuses { Reasoned Input.Error.seen.kind (Input.view input.new).is_open (refuses self.old (kept_from (M.first mode) state.old) (Input.view input.old)) result };
 
     /// Says what was expected where the parser began, to an error of its own or of a parser round it. An item that finds no memory makes it an error of kind `Memory`.
     fn add_error(&mut self, error: &mut Tracked<Input::Error>)
@@ -166,7 +173,7 @@ pub trait Parser<Input: Stream> {
             (meaning self.old)
             (record { first = M.first mode; state = state.old; left = state.new; old = Input.view input.old; new = Input.view input.new; before = Input.failures input.old; after = Input.failures input.new })
             result }
-        ensures explained { Explained Input.Error.seen (meaning self.old) (Input.view input.old) (Input.view input.new) result }
+        ensures explained { Explained Input.Error.seen (meaning self.old) (refuses self.old (kept_from (M.first mode) state.old) (Input.view input.old)) (Input.view input.old) (Input.view input.new) result }
     {
         let start = input.checkpoint();
         let position = input.position();
@@ -198,6 +205,7 @@ pub trait Parser<Input: Stream> {
             (meaning self.old)
             (record { first = true; state = state.old; left = state.new; old = Input.view input.old; new = Input.view input.new; before = Input.failures input.old; after = Input.failures input.new })
             result }
+        ensures refuses { Reasoned Input.Error.seen.kind (Input.view input.new).is_open (refuses self.old None (Input.view input.old)) result }
     {
         self.parse_mode(FirstMode, input, state)
     }
@@ -218,6 +226,7 @@ pub trait Parser<Input: Stream> {
             (meaning self.old)
             (record { first = false; state = state.old; left = state.new; old = Input.view input.old; new = Input.view input.new; before = Input.failures input.old; after = Input.failures input.new })
             result }
+        ensures refuses { Reasoned Input.Error.seen.kind (Input.view input.new).is_open (refuses self.old (Some state.old) (Input.view input.old)) result }
     {
         self.parse_mode(PartialMode::default(), input, state)
     }
@@ -230,6 +239,7 @@ pub trait Parser<Input: Stream> {
         ensures passes { Passes (Input.marks input.old) (Input.marks input.new) (Input.failures input.old) (Input.failures input.new) }
         ensures answers { Starts (world Input.step Input.Error.seen Input.steady Self.PartialState.is_default)
             (meaning self.old) (Input.view input.old) (Input.view input.new) (Input.failures input.old) (Input.failures input.new) result }
+        ensures refuses { Reasoned Input.Error.seen.kind (Input.view input.new).is_open (refuses self.old None (Input.view input.old)) result }
     {
         let mut state = Self::PartialState::default();
         self.parse_mode(FirstMode, input, &mut state)
@@ -243,7 +253,7 @@ pub trait Parser<Input: Stream> {
         ensures passes { Passes (Input.marks input.old) (Input.marks input.new) (Input.failures input.old) (Input.failures input.new) }
         ensures answers { Starts (world Input.step Input.Error.seen Input.steady Self.PartialState.is_default)
             (meaning self.old) (Input.view input.old) (Input.view input.new) (Input.failures input.old) (Input.failures input.new) result }
-        ensures explained { Explained Input.Error.seen (meaning self.old) (Input.view input.old) (Input.view input.new) result }
+        ensures explained { Explained Input.Error.seen (meaning self.old) (refuses self.old None (Input.view input.old)) (Input.view input.old) (Input.view input.new) result }
     {
         let mut state = Self::PartialState::default();
         self.parse_explained(FirstMode, input, &mut state)
@@ -262,7 +272,7 @@ pub trait Parser<Input: Stream> {
         ensures same { MeansSame (meaning self.old) (meaning self.new) }
         ensures passes { Passes (Input.marks input.old) (Input.marks input.new) (Input.failures input.old) (Input.failures input.new) }
         ensures results { Results (world Input.step Input.Error.seen Input.steady Self.PartialState.is_default)
-            (meaning self.old) Input.Error.seen
+            (meaning self.old) Input.Error.seen (refuses self.old (Some state.old) (Input.view input.old))
             (record { first = false; state = state.old; left = state.new; old = Input.view input.old; new = Input.view input.new; before = Input.failures input.old; after = Input.failures input.new })
             result }
     {
@@ -271,13 +281,16 @@ pub trait Parser<Input: Stream> {
     }
 
     /// From the start: the value and the input that is left, or the error.
+    ///
+    /// Where the caller's functions answer from their arguments alone (`determined`), the outcome is the only one.
     final fn parse(&mut self, input: Input) -> Result<(Self::Output, Input), Input::Error>
         requires { lawful self.old }
         ensures lawful { lawful self.new }
         ensures same { MeansSame (meaning self.old) (meaning self.new) }
+        ensures single { determined self.old → IsSingle (meaning self.old).whole }
         ensures results { MatchResult result
-            (λ p. StartResults (world Input.step Input.Error.seen Input.steady Self.PartialState.is_default) (meaning self.old) Input.Error.seen (Input.view input) (Input.view p.1) (Input.failures input) (Input.failures p.1) (Ok p.0))
-            (λ e. (new : View Input.Position Input.Token) × (after : Failures) × StartResults (world Input.step Input.Error.seen Input.steady Self.PartialState.is_default) (meaning self.old) Input.Error.seen (Input.view input) new (Input.failures input) after (Err e)) }
+            (λ p. StartResults (world Input.step Input.Error.seen Input.steady Self.PartialState.is_default) (meaning self.old) Input.Error.seen (refuses self.old None (Input.view input)) (Input.view input) (Input.view p.1) (Input.failures input) (Input.failures p.1) (Ok p.0))
+            (λ e. (left : Input) × StartResults (world Input.step Input.Error.seen Input.steady Self.PartialState.is_default) (meaning self.old) Input.Error.seen (refuses self.old None (Input.view input)) (Input.view input) (Input.view left) (Input.failures input) (Input.failures left) (Err e)) }
     {
         let mut input = input;
         let mut state = Self::PartialState::default();

@@ -9,6 +9,7 @@ mod part;
 mod tuple;
 
 pub use part::{accepted_after, refused_after, take_state};
+pub use tuple::parse_2;
 
 /// What is kept while a part runs: the values of the parts before it, whether one of them was committed, and the part's own state.
 ///
@@ -21,7 +22,7 @@ pub struct SequenceState<T, U> {
 }
 
 impl<T: Default, U: Default> Default for SequenceState<T, U> {
-    ghost use Rattle.combine_base.specs.Places.{is_fresh};
+    ghost use Rattle.combine_base.specs.Sequence.Places.{is_fresh};
 
     ghost is_default = { is_fresh T.is_default U.is_default };
 
@@ -66,7 +67,7 @@ pub enum PartialState4<A, B, C, D> {
 }
 
 impl<A: Default> Default for PartialState1<A> {
-    ghost use Rattle.combine_base.specs.Places.{begins_1};
+    ghost use Rattle.combine_base.specs.Sequence.Places.{begins_1};
 
     ghost is_default = { begins_1 A.is_default };
 
@@ -77,7 +78,7 @@ impl<A: Default> Default for PartialState1<A> {
 }
 
 impl<A> PartialState1<A> {
-    ghost use Rattle.combine_base.specs.Places.{only};
+    ghost use Rattle.combine_base.specs.Sequence.Places.{only};
 
     #[inline(always)]
     pub(crate) fn into_only(self) -> A
@@ -89,7 +90,7 @@ impl<A> PartialState1<A> {
 }
 
 impl<A: Default, B> Default for PartialState2<A, B> {
-    ghost use Rattle.combine_base.specs.Places.{begins_2};
+    ghost use Rattle.combine_base.specs.Sequence.Places.{begins_2};
 
     ghost is_default = { begins_2 A.is_default };
 
@@ -100,7 +101,7 @@ impl<A: Default, B> Default for PartialState2<A, B> {
 }
 
 impl<A: Default, B, C> Default for PartialState3<A, B, C> {
-    ghost use Rattle.combine_base.specs.Places.{begins_3};
+    ghost use Rattle.combine_base.specs.Sequence.Places.{begins_3};
 
     ghost is_default = { begins_3 A.is_default };
 
@@ -111,7 +112,7 @@ impl<A: Default, B, C> Default for PartialState3<A, B, C> {
 }
 
 impl<A: Default, B, C, D> Default for PartialState4<A, B, C, D> {
-    ghost use Rattle.combine_base.specs.Places.{begins_4};
+    ghost use Rattle.combine_base.specs.Sequence.Places.{begins_4};
 
     ghost is_default = { begins_4 A.is_default };
 
@@ -123,33 +124,33 @@ impl<A: Default, B, C, D> Default for PartialState4<A, B, C, D> {
 
 /// Where a sequence stands: in the parts before its last one, with their state, or in the last, with what is kept of it.
 #[derive(Drop)]
-pub enum Place<B, L> {
+pub enum SequencePlace<B, L> {
     Before(B),
     Last(L),
 }
 
 /// The state of a sequence, as a place.
 pub(crate) trait Placed {
-    ghost use Rattle.combine_base.specs.declared.sequence.Place.{Place};
+    ghost use Rattle.combine_base.specs.declared.sequence.SequencePlace.{SequencePlace};
 
     type Before: Drop;
 
     type Last;
 
-    ghost place: { Self → Place Self.Before Self.Last };
+    ghost place: { Self → SequencePlace Self.Before Self.Last };
 
-    fn into_place(self) -> Place<Self::Before, Self::Last>
+    fn into_place(self) -> SequencePlace<Self::Before, Self::Last>
         ensures { result ≡ place self };
 
     fn before(state: Self::Before) -> Self
-        ensures { place result ≡ Place.Before state };
+        ensures { place result ≡ SequencePlace.Before state };
 
     fn last(state: Self::Last) -> Self
-        ensures { place result ≡ Place.Last state };
+        ensures { place result ≡ SequencePlace.Last state };
 }
 
 impl<A: Drop, B> Placed for PartialState2<A, B> {
-    ghost use Rattle.combine_base.specs.Places.{place_2};
+    ghost use Rattle.combine_base.specs.Sequence.Places.{place_2};
 
     type Before = PartialState1<A>;
 
@@ -158,10 +159,10 @@ impl<A: Drop, B> Placed for PartialState2<A, B> {
     ghost place = { place_2 };
 
     #[inline(always)]
-    fn into_place(self) -> Place<PartialState1<A>, B> {
+    fn into_place(self) -> SequencePlace<PartialState1<A>, B> {
         match self {
-            PartialState2::A(at) => Place::Before(PartialState1::A(at)),
-            PartialState2::B(at) => Place::Last(at),
+            PartialState2::A(at) => SequencePlace::Before(PartialState1::A(at)),
+            PartialState2::B(at) => SequencePlace::Last(at),
         }
     }
 
@@ -177,7 +178,7 @@ impl<A: Drop, B> Placed for PartialState2<A, B> {
 }
 
 impl<A: Drop, B: Drop, C> Placed for PartialState3<A, B, C> {
-    ghost use Rattle.combine_base.specs.Places.{place_3};
+    ghost use Rattle.combine_base.specs.Sequence.Places.{place_3};
 
     type Before = PartialState2<A, B>;
 
@@ -186,11 +187,11 @@ impl<A: Drop, B: Drop, C> Placed for PartialState3<A, B, C> {
     ghost place = { place_3 };
 
     #[inline(always)]
-    fn into_place(self) -> Place<PartialState2<A, B>, C> {
+    fn into_place(self) -> SequencePlace<PartialState2<A, B>, C> {
         match self {
-            PartialState3::A(at) => Place::Before(PartialState2::A(at)),
-            PartialState3::B(at) => Place::Before(PartialState2::B(at)),
-            PartialState3::C(at) => Place::Last(at),
+            PartialState3::A(at) => SequencePlace::Before(PartialState2::A(at)),
+            PartialState3::B(at) => SequencePlace::Before(PartialState2::B(at)),
+            PartialState3::C(at) => SequencePlace::Last(at),
         }
     }
 
@@ -209,7 +210,7 @@ impl<A: Drop, B: Drop, C> Placed for PartialState3<A, B, C> {
 }
 
 impl<A: Drop, B: Drop, C: Drop, D> Placed for PartialState4<A, B, C, D> {
-    ghost use Rattle.combine_base.specs.Places.{place_4};
+    ghost use Rattle.combine_base.specs.Sequence.Places.{place_4};
 
     type Before = PartialState3<A, B, C>;
 
@@ -218,12 +219,12 @@ impl<A: Drop, B: Drop, C: Drop, D> Placed for PartialState4<A, B, C, D> {
     ghost place = { place_4 };
 
     #[inline(always)]
-    fn into_place(self) -> Place<PartialState3<A, B, C>, D> {
+    fn into_place(self) -> SequencePlace<PartialState3<A, B, C>, D> {
         match self {
-            PartialState4::A(at) => Place::Before(PartialState3::A(at)),
-            PartialState4::B(at) => Place::Before(PartialState3::B(at)),
-            PartialState4::C(at) => Place::Before(PartialState3::C(at)),
-            PartialState4::D(at) => Place::Last(at),
+            PartialState4::A(at) => SequencePlace::Before(PartialState3::A(at)),
+            PartialState4::B(at) => SequencePlace::Before(PartialState3::B(at)),
+            PartialState4::C(at) => SequencePlace::Before(PartialState3::C(at)),
+            PartialState4::D(at) => SequencePlace::Last(at),
         }
     }
 

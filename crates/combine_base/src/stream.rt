@@ -1,11 +1,12 @@
 //! Streams: where parsers take their tokens from.
 ghost use Rattle.std.specs.Prelude.{◌≡◌, ℕ, ◌<◌, ◌≤◌, length};
 ghost use Rattle.std.specs.Prelude.{nat_lt, ◌||◌, ◌↔◌, ◌⊎◌, true, false};
-ghost use Rattle.combine_base.specs.View.{View, Takes};
-ghost use Rattle.combine_base.specs.Errors.{New};
-ghost use Rattle.combine_base.specs.Streams.{Uncons, ResetTo, Passes};
+ghost use Rattle.combine_base.specs.Stream.View.{View, Takes};
+ghost use Rattle.combine_base.specs.Error.Errors.{New};
+ghost use Rattle.combine_base.specs.Parser.Judged.{NeedsMore};
+ghost use Rattle.combine_base.specs.Stream.Calls.{Uncons, ResetTo, Passes};
 
-use crate::error::ParseError;
+use crate::error::{ParseError, ParseResult};
 
 pub mod fed;
 mod slices;
@@ -42,7 +43,7 @@ pub struct Failures {
 pub trait StreamOnce: Drop {
     ghost use Rattle.combine_base.specs.declared.stream.Kind.{Kind};
     ghost use Rattle.combine_base.specs.declared.stream.Failures.{Failures};
-    ghost use Rattle.combine_base.specs.View.{advanced};
+    ghost use Rattle.combine_base.specs.Stream.View.{advanced};
     ghost use Rattle.std.specs.declared.cmp.Ordering.TheVariants.{Less};
 
     /// What is read one by one. Tokens, ranges and positions are `Copy`, where the crate asks `Clone`.
@@ -142,4 +143,20 @@ pub fn needs_more<Input: Stream>(input: &Input, error: &Input::Error) -> bool
     ensures { (result ≡ true) ↔ ((Input.Error.seen.kind error.now ≡ Kind.End) × ((Input.view input.now).is_open ≡ true)) }
 {
     error.kind() == Kind::End && input.is_partial()
+}
+
+/// Whether an answer is need of more.
+#[inline(always)]
+pub fn asks_for_more<O, Input: Stream>(
+    input: &Input,
+    answer: &ParseResult<O, Input::Error>,
+) -> bool
+    ensures { (result ≡ true) ↔ NeedsMore Input.Error.seen.kind (Input.view input.now).is_open answer.now }
+{
+    match answer {
+        ParseResult::CommitErr(error) => needs_more(input, error),
+        ParseResult::CommitOk(_) => false,
+        ParseResult::PeekOk(_) => false,
+        ParseResult::PeekErr(_) => false,
+    }
 }

@@ -1,22 +1,22 @@
 -- bytes that are fed piece by piece: what was fed, and what is left to feed
 use Rattle.std.proofs.Common.{ℕ, ◌≡◌, ◌≢◌, refl, sym, ◌∙◌, ap, subst, List, [], ◌∷◌, ◌++◌, length, append_assoc, Result, Ok, Err, true, false}
 use Rattle.std.proofs.lemmas.List.{append-nil}
-use Rattle.combine_base.specs.Meaning.{Meaning, Reading, IsReading}
-use Rattle.combine_base.specs.Sessions.{Course, Begins, Feeds, Ends}
-use Rattle.combine_base.specs.Pieces.{joined, decides}
-use Rattle.combine_base.proofs.Pieces.{SoFar, at_first, further, stops, ends, joined_more, joined_append}
+use Rattle.combine_base.specs.Parser.Meaning.{Meaning, Reading, IsReading}
+use Rattle.combine_base.specs.Parser.Sessions.{Course, Begins, Feeds, Ends}
+use Rattle.combine_base.specs.Parser.Pieces.{concatenated, decides}
+use Rattle.combine_base.proofs.Pieces.{SoFar, at_first, further, stops, ends, concatenated_more, concatenated_append}
 use Rattle.combine_base.specs.declared.error.UnexpectedParse.{UnexpectedParse}
 use Rattle.combine_base.specs.declared.parser.answer.Answer.{Answer}
 use Rattle.combine_base.specs.declared.parser.answer.Answer.TheVariants as answers
 use Rattle.combine_bench.specs.Given.{Gives, given, is_within}
 use Rattle.combine_bench.specs.declared.run.Failure.{Failure}
-use Rattle.combine_base.specs.View.{View}
+use Rattle.combine_base.specs.Stream.View.{View}
 
 -- more was asked for after each of some pieces, which with the rest are all bytes
 pub record Fed {P R A S : Type 0} (meaning : P → Meaning ℕ ℕ R A S) (m : Meaning ℕ ℕ R A S) (bytes rest : List ℕ) (c : Course P ℕ S) : Type 0 where
   pub fed : List (List ℕ)
   pub far : SoFar meaning m fed c
-  pub all : joined fed ++ rest ≡ bytes
+  pub all : concatenated fed ++ rest ≡ bytes
 
 module _ {P R A S : Type 0} (meaning : P → Meaning ℕ ℕ R A S) (valid : S → Type 0) (p : P) (bytes : List ℕ) where
   pub none_fed : (determined : P → Type 0) (c : Course P ℕ S) → Begins meaning valid determined p c → Fed meaning (meaning p) bytes bytes c
@@ -32,8 +32,8 @@ module _ {P R A S : Type 0} (meaning : P → Meaning ℕ ℕ R A S) (valid : S �
 
   module _ (rest : List ℕ) (c : Course P ℕ S) (h : Fed meaning m bytes rest c) (new : Course P ℕ S) where
     module _ (piece later : List ℕ) (cut : piece ++ later ≡ rest) where
-      joined_all : joined (h.fed ++ piece ∷ []) ++ later ≡ bytes
-      joined_all = ap (λ z. z ++ later) (joined_more h.fed piece) ∙ append_assoc (joined h.fed) piece later ∙ ap (λ z. joined h.fed ++ z) cut ∙ h.all
+      joined_all : concatenated (h.fed ++ piece ∷ []) ++ later ≡ bytes
+      joined_all = ap (λ z. z ++ later) (concatenated_more h.fed piece) ∙ append_assoc (concatenated h.fed) piece later ∙ ap (λ z. concatenated h.fed ++ z) cut ∙ h.all
 
       pub one_more : Feeds meaning valid c new piece true (Ok answers.More) → Fed meaning m bytes later new
       one_more f = record { fed = h.fed ++ piece ∷ []; far = further meaning m valid h.fed c h.far piece new f; all = joined_all }
@@ -41,12 +41,12 @@ module _ {P R A S : Type 0} (meaning : P → Meaning ℕ ℕ R A S) (valid : S �
       pub stopped : IsReading m.whole → (a : Answer A UnexpectedParse) → a ≢ answers.More → Feeds meaning valid c new piece true (Ok a) → Gives m.whole (record { position = 0; unread = bytes; is_open = false }) (given a)
       stopped law a d f =
           let s = stops meaning m valid h.fed c h.far piece new law (later ∷ []) a d f in
-          let e : joined ((h.fed ++ piece ∷ []) ++ later ∷ []) ≡ bytes = joined_append (h.fed ++ piece ∷ []) (later ∷ []) ∙ ap (λ z. joined (h.fed ++ piece ∷ []) ++ z) (append-nil later) ∙ joined_all in
+          let e : concatenated ((h.fed ++ piece ∷ []) ++ later ∷ []) ≡ bytes = concatenated_append (h.fed ++ piece ∷ []) (later ∷ []) ∙ ap (λ z. concatenated (h.fed ++ piece ∷ []) ++ z) (append-nil later) ∙ joined_all in
           decision bytes a (subst (λ x. decides m.whole x a) e s.answer)
 
     pub ended : rest ≡ [] → (a : Answer A UnexpectedParse) → Ends meaning valid c new [] false (Ok a) → Gives m.whole (record { position = 0; unread = bytes; is_open = false }) (given a)
     ended none a f =
-        let e : joined h.fed ≡ bytes = sym (append-nil (joined h.fed)) ∙ ap (λ z. joined h.fed ++ z) (sym none) ∙ h.all in
+        let e : concatenated h.fed ≡ bytes = sym (append-nil (concatenated h.fed)) ∙ ap (λ z. concatenated h.fed ++ z) (sym none) ∙ h.all in
         decision bytes a (subst (λ x. decides m.whole x a) e (ends meaning m valid h.fed c h.far new a f).answer)
 
 -- what a reading gives is within what there is

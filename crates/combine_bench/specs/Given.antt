@@ -1,8 +1,8 @@
 -- what a parser gives that is run over bytes
 use Rattle.std.specs.Prelude.{ℕ, ◌≡◌, ◌≤◌, length, Bool, Result, Ok, Err}
-use Rattle.combine_base.specs.View.{View}
-use Rattle.combine_base.specs.Outcome.{Accepted, Refused}
-use Rattle.combine_base.specs.Meaning.{Reading}
+use Rattle.combine_base.specs.Stream.View.{View}
+use Rattle.combine_base.specs.Parser.Outcome.{Accepted, Refused}
+use Rattle.combine_base.specs.Parser.Meaning.{Reading}
 use Rattle.combine_base.specs.declared.stream.Kind.{Kind}
 use Rattle.combine_base.specs.declared.stream.Kind.TheVariants as kinds
 use Rattle.combine_base.specs.declared.parser.answer.Answer.{Answer}

@@ -2,9 +2,9 @@
 use Rattle.std.specs.Prelude.{ℕ, ◌+◌, ◌≡◌, ◌⊎◌, ◌||◌, List, [], ◌∷◌, ◌++◌, Some, None, false}
 use Rattle.std.specs.Char.{is_ascii_digit, is_ascii_lowercase}
 use Rattle.std.specs.Global.{Vec}
-use Rattle.combine_base.specs.Mapped.{mapped_reading}
-use Rattle.combine_base.specs.Meaning.{Reading}
-use Rattle.combine_base.specs.Slices.{slice_view, one_less}
+use Rattle.combine_base.specs.Parser.Mapped.{mapped_reading}
+use Rattle.combine_base.specs.Parser.Meaning.{Reading}
+use Rattle.combine_base.specs.Stream.Slices.{slice_view, one_less}
 use Rattle.combine_base.specs.declared.stream.slices.Left.{Left}
 use Rattle.combine_repeat.specs.Repetition.{appended}
 use Rattle.combine_bench.specs.Given.{Answers}

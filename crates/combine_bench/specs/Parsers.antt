@@ -1,8 +1,8 @@
 -- what parsers mean from the start, by what their parts do
 use Rattle.std.specs.Prelude.{ℕ, nat_eq, Bool}
-use Rattle.combine_base.specs.Meaning.{Meaning, Reading}
-use Rattle.combine_base.specs.Errors.{Nothing}
-use Rattle.combine_base.specs.Tuples.{tuple_2, tuple_3, tuple_4}
+use Rattle.combine_base.specs.Parser.Meaning.{Meaning, Reading}
+use Rattle.combine_base.specs.Error.Errors.{Nothing}
+use Rattle.combine_base.specs.Sequence.Tuples.{tuple_2, tuple_3, tuple_4}
 use Rattle.combine_token.specs.Choice.{Either, refused}
 use Rattle.combine_token.specs.OneToken.{of_function, one_token, satisfied}
 use Rattle.combine_map.specs.Attempt.{attempted}

@@ -1,6 +1,6 @@
 //! Calls of constructors, as types: each makes its parser and hands it on to a visitor. So each constructor is proved once, over any parser within it, and the type of a whole parser is named nowhere.
 ghost use Rattle.std.specs.Prelude.{ℕ, ◌≡◌};
-ghost use Rattle.combine_base.specs.Meaning.{Reading};
+ghost use Rattle.combine_base.specs.Parser.Meaning.{Reading};
 ghost use Rattle.combine_bench.specs.Parsers.{one_where, byte};
 
 use crate::classes::Class;

@@ -1,6 +1,6 @@
 //! What an export answers: the number of what its parser gives.
 ghost use Rattle.std.specs.Prelude.{◌≡◌, ℕ};
-ghost use Rattle.combine_base.specs.Meaning.{Reading};
+ghost use Rattle.combine_base.specs.Parser.Meaning.{Reading};
 ghost use Rattle.combine_bench.specs.Given.{Answers, number};
 ghost use Rattle.combine_bench.specs.Measures.{taken};
 

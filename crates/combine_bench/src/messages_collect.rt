@@ -1,6 +1,6 @@
 //! Messages, collected: `del WORD;` or `WORD=DIGITS;`, the word and the digits in vectors.
 ghost use Rattle.std.specs.Prelude.{◌≡◌, ℕ, ◌+◌};
-ghost use Rattle.combine_base.specs.Slices.{one_less};
+ghost use Rattle.combine_base.specs.Stream.Slices.{one_less};
 ghost use Rattle.combine_base.specs.declared.stream.slices.Left.{Left};
 ghost use Rattle.combine_bench.specs.Measures.{Measures, bytes_of, collected_delete, collected_set, digit, letter, messages_collect, sum};
 

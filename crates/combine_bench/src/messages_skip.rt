@@ -1,6 +1,6 @@
 //! Messages, skipped: `del WORD;` or `WORD=DIGITS;`.
 ghost use Rattle.std.specs.Prelude.{ℕ, ◌+◌};
-ghost use Rattle.combine_base.specs.Slices.{one_less};
+ghost use Rattle.combine_base.specs.Stream.Slices.{one_less};
 ghost use Rattle.combine_base.specs.declared.stream.slices.Left.{Left};
 ghost use Rattle.combine_bench.specs.Measures.{Measures, messages_skip, skipped_delete, skipped_set, taken};
 

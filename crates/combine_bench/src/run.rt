@@ -1,6 +1,6 @@
 //! Runs a parser over bytes, whole or in pieces.
 ghost use Rattle.std.specs.Prelude.{◌≡◌, ◌<◌, ◌++◌, ℕ, false, length};
-ghost use Rattle.combine_base.specs.View.{View};
+ghost use Rattle.combine_base.specs.Stream.View.{View};
 ghost use Rattle.combine_bench.specs.Given.{Gives, given, is_within, failure, code};
 
 use combine_base::error::UnexpectedParse;
@@ -58,7 +58,7 @@ pub(crate) struct Pieces<'a> {
 }
 
 impl<'a> Run<&'a [u8]> for Whole<'a> {
-    ghost use Rattle.combine_base.specs.Slices.{slice_view};
+    ghost use Rattle.combine_base.specs.Stream.Slices.{slice_view};
 
     ghost all = { λ w. slice_view w.bytes.now };
 

@@ -1,13 +1,13 @@
 -- one call of `attempt`: it has passed over the distance, and each answer of the part there is an answer of it
 use Rattle.std.proofs.Common.{ℕ, ◌+◌, ◌<◌, ◌≤◌, ◌≡◌, Bool, true, false, ◌||◌, if◌then◌else◌, arith, ap, sym, subst, refl, ◌∙◌, length-append, nat_lt, Ok, Err, List, ltb-true, ltb-false}
-use Rattle.combine_base.specs.View.{View, Takes, Moves, advanced, extended, Follows}
-use Rattle.combine_base.specs.Advance.{advanced_extended}
-use Rattle.combine_base.specs.Outcome.{Outcome, Accepted, Refused, Undecided, after, IsCommitted}
-use Rattle.combine_base.specs.OutcomeFacts.{or_true, or_false}
-use Rattle.combine_base.specs.Meaning.{Meaning, begun}
-use Rattle.combine_base.specs.Answer.{Run, World, Answers, Accepts, Refuses, Asks, Leaves, fails, ends, peeks, loses}
-use Rattle.combine_base.specs.Streams.{Passes}
-use Rattle.combine_base.specs.Drivers.{Broke}
+use Rattle.combine_base.specs.Stream.View.{View, Takes, Moves, advanced, extended, Follows}
+use Rattle.combine_base.specs.Stream.Advance.{advanced_extended}
+use Rattle.combine_base.specs.Parser.Outcome.{Outcome, Accepted, Refused, Undecided, after, IsCommitted}
+use Rattle.combine_base.specs.Parser.OutcomeFacts.{or_true, or_false}
+use Rattle.combine_base.specs.Parser.Meaning.{Meaning, begun}
+use Rattle.combine_base.specs.Parser.Answer.{Run, World, Answers, Accepts, Refuses, Asks, Leaves, fails, ends, peeks, loses}
+use Rattle.combine_base.specs.Stream.Calls.{Passes}
+use Rattle.combine_base.specs.Parser.Drivers.{Broke}
 use Rattle.combine_base.specs.Distances.{PassesOver, Measures}
 use Rattle.combine_base.proofs.Calls.{around, needs, need_of_more, same_mark}
 use Rattle.combine_base.proofs.Progress.{after_none, takes_none, takes_more, takes_open}

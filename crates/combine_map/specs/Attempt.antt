@@ -1,11 +1,11 @@
 -- a parser whose refusals are all peeked; its state is the distance read, in tokens, and the part's state
 use Rattle.std.specs.Prelude.{ℕ, ◌+◌, ◌<◌, ◌≤◌, ◌≡◌, Bool, true, false, ◌||◌, nat_lt, List, length, refl, ◌↔◌}
 use Rattle.std.proofs.Common.{arith, ap, sym, subst, ◌∙◌, length-append, length-drop, ltb-false}
-use Rattle.combine_base.specs.View.{View, advanced, extended}
-use Rattle.combine_base.specs.Advance.{advanced_extended}
-use Rattle.combine_base.specs.Outcome.{Outcome, Accepted, Refused, Undecided, after, shape, IsDecided}
-use Rattle.combine_base.specs.OutcomeFacts.{both_false}
-use Rattle.combine_base.specs.Meaning.{Meaning, Reading, IsReading, IsSingle, IsMeaning, MeansOne, MeansSame}
+use Rattle.combine_base.specs.Stream.View.{View, advanced, extended}
+use Rattle.combine_base.specs.Stream.Advance.{advanced_extended}
+use Rattle.combine_base.specs.Parser.Outcome.{Outcome, Accepted, Refused, Undecided, after, shape, IsDecided}
+use Rattle.combine_base.specs.Parser.OutcomeFacts.{both_false}
+use Rattle.combine_base.specs.Parser.Meaning.{Meaning, Reading, IsReading, IsSingle, IsMeaning, MeansOne, MeansSame}
 use Rattle.combine_base.specs.declared.stream.Kind.{Kind}
 use Rattle.combine_base.specs.declared.stream.Kind.TheVariants as kinds
 use Rattle.combine_map.specs.declared.combinator.TryState.{TryState}

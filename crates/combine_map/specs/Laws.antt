@@ -1,8 +1,8 @@
 -- what the laws of `attempt` and `map` say
 use Rattle.std.specs.Prelude.{◌↔◌}
-use Rattle.combine_base.specs.View.{View}
-use Rattle.combine_base.specs.Outcome.{Outcome}
-use Rattle.combine_base.specs.Meaning.{Meaning}
+use Rattle.combine_base.specs.Stream.View.{View}
+use Rattle.combine_base.specs.Parser.Outcome.{Outcome}
+use Rattle.combine_base.specs.Parser.Meaning.{Meaning}
 
 -- two meanings have the same outcomes on every view, from the start; their states may differ
 abbrev pub SameFromTheStart : {P T R V S S' : Type 0} → Meaning P T R V S → Meaning P T R V S' → Type 0

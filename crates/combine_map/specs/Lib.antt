@@ -1,9 +1,9 @@
-pub use Rattle.combine_base.specs.Advance
-pub use Rattle.combine_base.specs.Mapped
-pub use Rattle.combine_base.specs.Meaning
-pub use Rattle.combine_base.specs.Outcome
-pub use Rattle.combine_base.specs.OutcomeFacts
-pub use Rattle.combine_base.specs.View
+pub use Rattle.combine_base.specs.Stream.Advance
+pub use Rattle.combine_base.specs.Parser.Mapped
+pub use Rattle.combine_base.specs.Parser.Meaning
+pub use Rattle.combine_base.specs.Parser.Outcome
+pub use Rattle.combine_base.specs.Parser.OutcomeFacts
+pub use Rattle.combine_base.specs.Stream.View
 pub mod Attempt
 pub mod Parsers
 pub mod Laws

@@ -6,15 +6,13 @@ ghost use Rattle.combine_map.specs.Parsers.{attempt_of, map_of};
 pub mod laws;
 pub mod types;
 
-use combine_base::parser::Parser;
-use combine_base::stream::Stream;
 use types::{Map, Try};
 
 /// As `p`, its value changed by `f`.
 ///
 /// What is taken, refusals, faults and need of more are those of `p`, and so is the state. The crate takes an `FnMut`.
 #[inline]
-pub fn map<Input: Stream, P: Parser<Input>, B: Drop, F: Fn(P::Output) -> B>(p: P, f: F) -> Map<P, F>
+pub fn map<P, F>(p: P, f: F) -> Map<P, F>
     ensures { result ≡ map_of p f }
 {
     Map(p, f)
@@ -24,7 +22,7 @@ pub fn map<Input: Stream, P: Parser<Input>, B: Drop, F: Fn(P::Output) -> B>(p: P
 ///
 /// On need of more the stream is put back too, but `p` does not begin again: the state keeps the distance that was read, in tokens, and the state of `p`; the next call passes over that distance and goes on. (The crate's `attempt` takes the tokens.) Faults are those of `p`, `Reset` where the stream could not be put back, `Read` where the distance could not be read again, and `Lost` where the input is shorter than a kept distance.
 #[inline]
-pub fn attempt<Input: Stream, P: Parser<Input>>(p: P) -> Try<P>
+pub fn attempt<P>(p: P) -> Try<P>
     ensures { result ≡ attempt_of p }
 {
     Try(p)

@@ -1,10 +1,10 @@
 -- repetitions beside one another: the proofs
 use Rattle.std.proofs.Common.{ℕ, ◌+◌, ◌≡◌, List, [], ◌∷◌, Bool, false, ◌||◌, arith, ap, sym, refl, ◌∙◌}
-use Rattle.combine_base.specs.View.{View}
-use Rattle.combine_base.specs.Outcome.{Outcome, Accepted, Refused, Undecided, after, shape}
-use Rattle.combine_base.specs.OutcomeFacts.{or_assoc, shape_after}
-use Rattle.combine_base.specs.Meaning.{Meaning, Reading}
-use Rattle.combine_base.specs.Mapped.{mapped_reading}
+use Rattle.combine_base.specs.Stream.View.{View}
+use Rattle.combine_base.specs.Parser.Outcome.{Outcome, Accepted, Refused, Undecided, after, shape}
+use Rattle.combine_base.specs.Parser.OutcomeFacts.{or_assoc, shape_after}
+use Rattle.combine_base.specs.Parser.Meaning.{Meaning, Reading}
+use Rattle.combine_base.specs.Parser.Mapped.{mapped_reading}
 use Rattle.combine_repeat.specs.Turns.{Block, outcome, taken, values, any_committed, Stops, Collecting, Folds, Divides, Collects, Turned}
 use Rattle.combine_repeat.specs.Repetition.{judged, until_refused, appended, dropped, many1}
 use Rattle.combine_repeat.specs.Compared.{goes_on, FollowedBy, turns_after, OnceThenTurns, ManyOrSkip, Many1OrSkip}

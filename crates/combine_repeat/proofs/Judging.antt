@@ -1,9 +1,9 @@
 -- what one turn answers: whether it is a block, and a peeked refusal that is put back, or could not be
 use Rattle.std.proofs.Common.{ℕ, ◌+◌, ◌<◌, ◌≤◌, ◌≡◌, arith, Bool, true, false, Option, Some, None, sym, ◌∙◌}
-use Rattle.combine_base.specs.View.{View, Takes, Moves}
-use Rattle.combine_base.specs.Outcome.{Outcome, Refused}
-use Rattle.combine_base.specs.Meaning.{Meaning, MeansSame, begun}
-use Rattle.combine_base.specs.Answer.{Run, World, Answers, Accepts, Refuses}
+use Rattle.combine_base.specs.Stream.View.{View, Takes, Moves}
+use Rattle.combine_base.specs.Parser.Outcome.{Outcome, Refused}
+use Rattle.combine_base.specs.Parser.Meaning.{Meaning, MeansSame, begun}
+use Rattle.combine_base.specs.Parser.Answer.{Run, World, Answers, Accepts, Refuses}
 use Rattle.combine_base.proofs.Calls.{peeked_refusal}
 use Rattle.combine_base.proofs.Progress.{takes_none, takes_more}
 use Rattle.combine_base.proofs.Same.{answers_same}

@@ -1,9 +1,9 @@
 -- one call of a repetition: where its turns begin, and each way out of them
 use Rattle.std.proofs.Common.{ℕ, ◌+◌, ◌<◌, ◌≤◌, ◌≡◌, Bool, true, false, ◌&&◌, if◌then◌else◌, nat_lt, Option, Some, None, length, drop, arith, ap, sym, refl, ◌∙◌, length-drop, ltb-true, subst}
-use Rattle.combine_base.specs.View.{View, Takes}
-use Rattle.combine_base.specs.Outcome.{Accepted, Refused}
-use Rattle.combine_base.specs.Meaning.{Meaning, IsReading, IsMeaning, begun}
-use Rattle.combine_base.specs.Answer.{Run, World, Answers, Asks}
+use Rattle.combine_base.specs.Stream.View.{View, Takes}
+use Rattle.combine_base.specs.Parser.Outcome.{Accepted, Refused}
+use Rattle.combine_base.specs.Parser.Meaning.{Meaning, IsReading, IsMeaning, begun}
+use Rattle.combine_base.specs.Parser.Answer.{Run, World, Answers, Asks}
 use Rattle.combine_base.proofs.Progress.{progress_none, takes_open}
 use Rattle.combine_base.proofs.Calls.{around, needs}
 use Rattle.combine_repeat.specs.Turns.{Stops, Collecting, SoFar, Turned}

@@ -1,10 +1,10 @@
 -- the turns of one call: each goes on, and each way out is an answer of what runs them
 use Rattle.std.proofs.Common.{ℕ, ◌+◌, ◌≤◌, ◌<◌, ◌≡◌, ◌⊎◌, inl, inr, Bool, true, false, ◌||◌, if◌then◌else◌, length, drop, arith, ap, sym, refl, ◌∙◌, length-drop}
-use Rattle.combine_base.specs.View.{View, Takes}
-use Rattle.combine_base.specs.Outcome.{Outcome, Accepted, Refused, Undecided, after, shape}
-use Rattle.combine_base.specs.OutcomeFacts.{or_true, or_false}
-use Rattle.combine_base.specs.Meaning.{Meaning, Reading, IsReading, begun}
-use Rattle.combine_base.specs.Answer.{Run, World, Answers, Accepts, Refuses, Asks, Leaves, fails, peeks, ends, loses}
+use Rattle.combine_base.specs.Stream.View.{View, Takes}
+use Rattle.combine_base.specs.Parser.Outcome.{Outcome, Accepted, Refused, Undecided, after, shape}
+use Rattle.combine_base.specs.Parser.OutcomeFacts.{or_true, or_false}
+use Rattle.combine_base.specs.Parser.Meaning.{Meaning, Reading, IsReading, begun}
+use Rattle.combine_base.specs.Parser.Answer.{Run, World, Answers, Accepts, Refuses, Asks, Leaves, fails, peeks, ends, loses}
 use Rattle.combine_base.specs.Refusals.{Told}
 use Rattle.combine_base.proofs.Progress.{Progress, takes_more, takes_open, progress_more, progress_outcome, resumes_more, takes_none}
 use Rattle.combine_base.proofs.Calls.{around, Settles, settles, unreset}

@@ -1,11 +1,11 @@
 -- turns go on: past a turn that is a block, over a cut inside a turn, and to the stop
 use Rattle.std.proofs.Common.{ℕ, ◌+◌, ◌<◌, ◌≡◌, List, [], ◌∷◌, Bool, true, false, ◌||◌, arith, ap, sym, subst, refl, ◌∙◌}
-use Rattle.combine_base.specs.View.{View, Takes, advanced, extended, Follows}
-use Rattle.combine_base.specs.Advance.{advanced_twice, advanced_extended, stands}
-use Rattle.combine_base.specs.Outcome.{Outcome, Accepted, Refused, Undecided, after, shape, IsCommitted}
-use Rattle.combine_base.specs.OutcomeFacts.{after_block, after_first, shape_after, or_true, or_false, or_assoc, committed_after, committed_by, committed_shape}
-use Rattle.combine_base.specs.Meaning.{Reading, IsReading}
-use Rattle.combine_base.specs.Answer.{Resumes}
+use Rattle.combine_base.specs.Stream.View.{View, Takes, advanced, extended, Follows}
+use Rattle.combine_base.specs.Stream.Advance.{advanced_twice, advanced_extended, stands}
+use Rattle.combine_base.specs.Parser.Outcome.{Outcome, Accepted, Refused, Undecided, after, shape, IsCommitted}
+use Rattle.combine_base.specs.Parser.OutcomeFacts.{after_block, after_first, shape_after, or_true, or_false, or_assoc, committed_after, committed_by, committed_shape}
+use Rattle.combine_base.specs.Parser.Meaning.{Reading, IsReading}
+use Rattle.combine_base.specs.Parser.Answer.{Resumes}
 use Rattle.combine_repeat.specs.Turns.{Block, outcome, taken, values, any_committed, Goes, Stops, Rule, IsRule, Collecting, SoFar, Folds, Divides, Collects, Turned}
 
 module _ {A V : Type 0} (c : Collecting A V) where

@@ -1,8 +1,8 @@
 -- repetitions beside one another
 use Rattle.std.specs.Prelude.{◌≡◌, false}
-use Rattle.combine_base.specs.View.{View, advanced}
-use Rattle.combine_base.specs.Outcome.{Outcome, Accepted, Refused, Undecided, after, shape}
-use Rattle.combine_base.specs.Meaning.{Meaning, Reading}
+use Rattle.combine_base.specs.Stream.View.{View, advanced}
+use Rattle.combine_base.specs.Parser.Outcome.{Outcome, Accepted, Refused, Undecided, after, shape}
+use Rattle.combine_base.specs.Parser.Meaning.{Meaning, Reading}
 use Rattle.combine_repeat.specs.Turns.{Collecting, Collects}
 use Rattle.combine_repeat.specs.Repetition.{turns_from, many, many1, skip_many, skip_many1}
 use Rattle.combine_repeat.specs.declared.repeat.turns.Place.TheVariants.{Later}

@@ -1,8 +1,8 @@
 -- what one turn of a call does: it is a block and the next one runs, or it is said why none does
 use Rattle.std.specs.Prelude.{ℕ, ◌<◌, ◌≡◌, Bool, true, false, ◌||◌, Option, Some, None, if◌then◌else◌}
-use Rattle.combine_base.specs.View.{Takes}
-use Rattle.combine_base.specs.Meaning.{Meaning}
-use Rattle.combine_base.specs.Answer.{Run, World, Answers, Accepts, Refuses, Leaves}
+use Rattle.combine_base.specs.Stream.View.{Takes}
+use Rattle.combine_base.specs.Parser.Meaning.{Meaning}
+use Rattle.combine_base.specs.Parser.Answer.{Run, World, Answers, Accepts, Refuses, Leaves}
 use Rattle.combine_base.specs.Refusals.{Told}
 use Rattle.combine_repeat.specs.Turns.{Collecting}
 use Rattle.combine_repeat.specs.Repetition.{asks_first, goes_at, cut_at, so_far}

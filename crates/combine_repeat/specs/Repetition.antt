@@ -1,8 +1,8 @@
 -- repetitions of one parser: turns until one is refused peeked
 use Rattle.std.specs.Prelude.{ℕ, Bool, true, false, ◌||◌, ◌&&◌, nat_lt, Option, Some, None, ◌≡◌}
-use Rattle.combine_base.specs.Outcome.{Outcome, Accepted, Refused, Undecided}
-use Rattle.combine_base.specs.Meaning.{Meaning}
-use Rattle.combine_base.specs.Mapped.{mapped}
+use Rattle.combine_base.specs.Parser.Outcome.{Outcome, Accepted, Refused, Undecided}
+use Rattle.combine_base.specs.Parser.Meaning.{Meaning}
+use Rattle.combine_base.specs.Parser.Mapped.{mapped}
 use Rattle.combine_repeat.specs.Turns.{Turn, Goes, Stops, Rule, Collecting, SoFar, Turned}
 use Rattle.combine_base.specs.declared.repeat.Sink.{Sink}
 use Rattle.combine_repeat.specs.declared.repeat.turns.Place.{Place}

@@ -1,9 +1,9 @@
 -- the laws of repetitions of one parser
 use Rattle.std.specs.Prelude.{ℕ, ◌+◌, ◌<◌, ◌≡◌, ◌⊎◌, Bool, true, false, ◌||◌, ◌&&◌, nat_lt, refl}
 use Rattle.std.proofs.Common.{arith, ap, sym, subst, ◌∙◌, lt-ltb, ltb-true, ltb-false, zero, suc, inl}
-use Rattle.combine_base.specs.View.{View}
-use Rattle.combine_base.specs.Outcome.{Outcome, Accepted, Refused, Undecided, after, shape, IsDecided, IsCommitted}
-use Rattle.combine_base.specs.Meaning.{Meaning, Reading, IsMeaning, IsSingle, MeansOne, MeansSame}
+use Rattle.combine_base.specs.Stream.View.{View}
+use Rattle.combine_base.specs.Parser.Outcome.{Outcome, Accepted, Refused, Undecided, after, shape, IsDecided, IsCommitted}
+use Rattle.combine_base.specs.Parser.Meaning.{Meaning, Reading, IsMeaning, IsSingle, MeansOne, MeansSame}
 use Rattle.combine_repeat.specs.Turns.{Stops, IsRule, IsJudgedOnce, Collecting, SoFar, Turned}
 use Rattle.combine_repeat.specs.TurnLaws.{turned_is_reading, turned_is_single, turned_into}
 use Rattle.combine_repeat.specs.Repetition.{goes_at, goes_if, judged, cut_at, until_refused, so_far_or, fresh_turns, running_turn, turns_from}

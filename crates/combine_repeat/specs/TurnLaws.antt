@@ -1,11 +1,11 @@
 -- the laws of turns: they are a reading again
 use Rattle.std.specs.Prelude.{ℕ, ◌+◌, ◌≤◌, ◌≡◌, ◌⊎◌, List, [], ◌∷◌, length, Bool, false, ◌||◌, refl}
 use Rattle.std.proofs.Common.{arith, sym, subst, inl, inr, ◌∙◌, length-drop}
-use Rattle.combine_base.specs.View.{View, advanced, extended, Follows}
-use Rattle.combine_base.specs.Advance.{advanced_extended, open_follows, stands}
-use Rattle.combine_base.specs.Outcome.{Outcome, Accepted, Refused, Undecided, after, shape, IsDecided}
-use Rattle.combine_base.specs.OutcomeFacts.{undecided_after, decided_after, both_false}
-use Rattle.combine_base.specs.Meaning.{Reading, IsReading, IsSingle}
+use Rattle.combine_base.specs.Stream.View.{View, advanced, extended, Follows}
+use Rattle.combine_base.specs.Stream.Advance.{advanced_extended, open_follows, stands}
+use Rattle.combine_base.specs.Parser.Outcome.{Outcome, Accepted, Refused, Undecided, after, shape, IsDecided}
+use Rattle.combine_base.specs.Parser.OutcomeFacts.{undecided_after, decided_after, both_false}
+use Rattle.combine_base.specs.Parser.Meaning.{Reading, IsReading, IsSingle}
 use Rattle.combine_repeat.specs.Turns.{Block, outcome, taken, any_committed, Goes, Stops, Rule, IsRule, IsJudgedOnce, Collecting, SoFar, Divides, Turned}
 
 module _ {P T A Mark : Type 0} (step : P → T → P) (rule : Rule A Mark) (turn : Mark → Reading P T A) (ht : (g : Mark) → IsJudgedOnce rule g (turn g)) where

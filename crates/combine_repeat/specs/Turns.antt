@@ -1,8 +1,8 @@
 -- turns of a parser: the list is divided into blocks, each exactly what a turn takes at its place, up to the first place where a rule says that the turns stop
 use Rattle.std.specs.Prelude.{ℕ, ◌+◌, ◌<◌, ◌≡◌, ◌⊎◌, List, [], ◌∷◌, Bool, false, ◌||◌}
-use Rattle.combine_base.specs.View.{View, advanced}
-use Rattle.combine_base.specs.Outcome.{Outcome, Accepted, Refused, Undecided, after, shape, IsDecided, IsCommitted}
-use Rattle.combine_base.specs.Meaning.{Reading}
+use Rattle.combine_base.specs.Stream.View.{View, advanced}
+use Rattle.combine_base.specs.Parser.Outcome.{Outcome, Accepted, Refused, Undecided, after, shape, IsDecided, IsCommitted}
+use Rattle.combine_base.specs.Parser.Meaning.{Reading}
 
 -- what one turn took
 pub record Block (A : Type 0) : Type 0 where

@@ -12,9 +12,7 @@ pub mod laws;
 mod turns;
 pub mod types;
 
-use combine_base::parser::Parser;
 pub use combine_base::repeat::{Append, Sink};
-use combine_base::stream::Stream;
 use std::alloc::Global;
 use std::marker::PhantomData;
 pub use turns::TurnsState;
@@ -24,9 +22,7 @@ use types::{Many, Many1, SkipMany, SkipMany1};
 ///
 /// Such a refusal ends the turns: the stream is put back to where that turn began, and the answer is accepted, committed exactly if there was a turn before. A committed refusal of a turn is the answer, and so is need of more.
 #[inline]
-pub fn many<F, Input: Stream, P: Parser<Input>>(alloc: Global, parser: P) -> Many<F, P>
-where
-    F: Append<P::Output>,
+pub fn many<F, P>(alloc: Global, parser: P) -> Many<F, P>
     ensures { result ≡ many_of alloc parser }
 {
     Many {
@@ -40,9 +36,7 @@ where
 ///
 /// The first turn counts also where it takes nothing, and its refusal, committed or peeked, is the answer. From then on as `many`, committed exactly if a turn was.
 #[inline]
-pub fn many1<F, Input: Stream, P: Parser<Input>>(alloc: Global, parser: P) -> Many1<F, P>
-where
-    F: Append<P::Output>,
+pub fn many1<F, P>(alloc: Global, parser: P) -> Many1<F, P>
     ensures { result ≡ many1_of alloc parser }
 {
     Many1 {
@@ -54,7 +48,7 @@ where
 
 /// As `many`, with the values dropped; it takes no memory of its own, but for that of an error's message.
 #[inline]
-pub fn skip_many<Input: Stream, P: Parser<Input>>(parser: P) -> SkipMany<P>
+pub fn skip_many<P>(parser: P) -> SkipMany<P>
     ensures { result ≡ skip_many_of parser }
 {
     SkipMany(parser)
@@ -62,7 +56,7 @@ pub fn skip_many<Input: Stream, P: Parser<Input>>(parser: P) -> SkipMany<P>
 
 /// As `many1`, with the values dropped; it takes no memory of its own, but for that of an error's message.
 #[inline]
-pub fn skip_many1<Input: Stream, P: Parser<Input>>(parser: P) -> SkipMany1<P>
+pub fn skip_many1<P>(parser: P) -> SkipMany1<P>
     ensures { result ≡ skip_many1_of parser }
 {
     SkipMany1(parser)

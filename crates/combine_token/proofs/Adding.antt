@@ -1,7 +1,7 @@
 -- what two parsers add to an error, one after the other
 use Rattle.std.proofs.Common.{◌≡◌, ◌⊎◌, inl, inr, List, [], ◌∷◌, ◌++◌, ap, sym, ◌∙◌, refl}
-use Rattle.combine_base.specs.Items.{Item}
-use Rattle.combine_base.specs.Errors.{Errors, Added, Unstored, Says, with_items, with_item}
+use Rattle.combine_base.specs.Error.Items.{Item}
+use Rattle.combine_base.specs.Error.Errors.{Errors, Added, Unstored, Says, with_items, with_item}
 use Rattle.combine_token.specs.Alternatives.{Together}
 
 module _ {T R P E : Type 0} (s : Errors T R P E) where

@@ -1,11 +1,11 @@
 -- the alternatives of a choice, tried in order: each answer of one is an answer of the choice, or the next is tried
 use Rattle.std.proofs.Common.{ℕ, ◌<◌, ◌≤◌, ◌≡◌, ◌⊎◌, inl, inr, List, [], Bool, true, false, length, arith, ap, sym, subst, refl, ◌∙◌}
-use Rattle.combine_base.specs.View.{View, Takes, extended, Follows}
-use Rattle.combine_base.specs.Advance.{extended_none, follows_none, stands}
-use Rattle.combine_base.specs.Outcome.{Outcome, Accepted, Refused, Undecided, after, IsCommitted}
-use Rattle.combine_base.specs.Meaning.{Meaning, Reading, IsReading, IsMeaning, begun}
-use Rattle.combine_base.specs.Answer.{Run, World, Answers, Accepts, Refuses, Asks, Leaves, peeks, loses}
-use Rattle.combine_base.specs.Streams.{Passes}
+use Rattle.combine_base.specs.Stream.View.{View, Takes, extended, Follows}
+use Rattle.combine_base.specs.Stream.Advance.{extended_none, follows_none, stands}
+use Rattle.combine_base.specs.Parser.Outcome.{Outcome, Accepted, Refused, Undecided, after, IsCommitted}
+use Rattle.combine_base.specs.Parser.Meaning.{Meaning, Reading, IsReading, IsMeaning, begun}
+use Rattle.combine_base.specs.Parser.Answer.{Run, World, Answers, Accepts, Refuses, Asks, Leaves, peeks, loses}
+use Rattle.combine_base.specs.Stream.Calls.{Passes}
 use Rattle.combine_base.proofs.Calls.{around, Settles, settles, needs, peeked_refusal}
 use Rattle.combine_base.proofs.Progress.{after_none, takes_none}
 use Rattle.combine_base.specs.declared.stream.Kind.{Kind}

@@ -1,9 +1,9 @@
 -- what a list must be able to give, where its items are known
 use Rattle.std.proofs.Common.{ℕ, zero, suc, ◌<◌, ◌≡◌, List, [], ◌∷◌, length, Bool, Some, None, Option, refl, sym, ap, subst, arith, slice_get, ◌↔◌}
-use Rattle.combine_base.specs.View.{View}
-use Rattle.combine_base.specs.Items.{Item}
-use Rattle.combine_base.specs.Outcome.{Outcome}
-use Rattle.combine_base.specs.Meaning.{MeansSame}
+use Rattle.combine_base.specs.Stream.View.{View}
+use Rattle.combine_base.specs.Error.Items.{Item}
+use Rattle.combine_base.specs.Parser.Outcome.{Outcome}
+use Rattle.combine_base.specs.Parser.Meaning.{MeansSame}
 use Rattle.combine_token.specs.TokenLists.{TokenList, token_list}
 use Rattle.combine_token.specs.Iterated.{GaveAt, GaveAll, Stands, Ends, iterated}
 use Rattle.combine_token.specs.Listed.{Within, listed}

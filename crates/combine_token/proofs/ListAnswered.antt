@@ -1,13 +1,13 @@
 -- how a match is answered where it stops
 use Rattle.std.proofs.Common.{ℕ, Option, ◌+◌, ◌≤◌, ◌≡◌, ◌⊎◌, inl, inr, List, [], ◌∷◌, drop, length, length-drop, Bool, true, false, nat_lt, refl, ap, sym, subst, ◌∙◌, arith}
-use Rattle.combine_base.specs.View.{View, Takes, Moves}
-use Rattle.combine_base.specs.Items.{Item, Unexpected, OfToken}
-use Rattle.combine_base.specs.Errors.{Errors, Added, Unstored}
-use Rattle.combine_base.specs.Outcome.{Outcome, Accepted, Refused, Undecided, after}
-use Rattle.combine_base.specs.Meaning.{Meaning, begun}
+use Rattle.combine_base.specs.Stream.View.{View, Takes, Moves}
+use Rattle.combine_base.specs.Error.Items.{Item, Unexpected, OfToken}
+use Rattle.combine_base.specs.Error.Errors.{Errors, Added, Unstored}
+use Rattle.combine_base.specs.Parser.Outcome.{Outcome, Accepted, Refused, Undecided, after}
+use Rattle.combine_base.specs.Parser.Meaning.{Meaning, begun}
 use Rattle.combine_base.specs.Refusals.{NoToken, Told}
-use Rattle.combine_base.specs.Streams.{TakesToken, FindsEnd, no_token}
-use Rattle.combine_base.specs.Answer.{Run, World, Answers, Accepts, Refuses, Asks, Leaves, fails, ends, peeks, answers}
+use Rattle.combine_base.specs.Stream.Calls.{TakesToken, FindsEnd, no_token}
+use Rattle.combine_base.specs.Parser.Answer.{Run, World, Answers, Accepts, Refuses, Asks, Leaves, fails, ends, peeks, answers}
 use Rattle.combine_base.proofs.Progress.{progress_outcome, takes_none, takes_more, takes_open, moves_none}
 use Rattle.combine_base.specs.declared.error.Info.{Info}
 use Rattle.combine_base.specs.declared.stream.Kind.{Kind}

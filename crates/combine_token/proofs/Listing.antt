@@ -2,7 +2,7 @@
 use Rattle.std.proofs.Common.{ℕ, suc, ◌+◌, ◌<◌, ◌≡◌, ◌^◌, List, [], ◌∷◌, take, drop, length, Bool, true, false, Some, None, Option, refl, sym, ◌∙◌, ap, subst, arith, slice_get}
 use Rattle.std.proofs.lemmas.Option.{slice_get_within}
 use Rattle.std.specs.Iterator.{Yields, AlwaysYields, Count, IsFinite, size}
-use Rattle.combine_base.specs.Outcome.{Outcome, Accepted, Refused, Undecided}
+use Rattle.combine_base.specs.Parser.Outcome.{Outcome, Accepted, Refused, Undecided}
 use Rattle.combine_token.specs.TokenLists.{TokenList, ComparesOnce, Matched, all_fit, stops, matching_at}
 use Rattle.combine_token.specs.Iterated.{Stands, Ends, IsIterated, iterated}
 use Rattle.combine_token.specs.Listed.{Lists, Within, listed}

@@ -1,11 +1,11 @@
 -- a token that fits, and then what is left of the match
 use Rattle.std.proofs.Common.{ℕ, suc, ◌+◌, ◌≡◌, List, ◌∷◌, ◌++◌, drop, length, Bool, true, false, not, nat_lt, if◌then◌else◌, refl, sym, subst, ◌∙◌, arith, lt-ltb}
-use Rattle.combine_base.specs.View.{View, Takes}
-use Rattle.combine_base.specs.Items.{Item}
-use Rattle.combine_base.specs.Outcome.{Outcome, Accepted, Refused, Undecided, after, IsCommitted}
-use Rattle.combine_base.specs.Meaning.{begun}
-use Rattle.combine_base.specs.Streams.{TakesToken}
-use Rattle.combine_base.specs.Answer.{Resumes, World}
+use Rattle.combine_base.specs.Stream.View.{View, Takes}
+use Rattle.combine_base.specs.Error.Items.{Item}
+use Rattle.combine_base.specs.Parser.Outcome.{Outcome, Accepted, Refused, Undecided, after, IsCommitted}
+use Rattle.combine_base.specs.Parser.Meaning.{begun}
+use Rattle.combine_base.specs.Stream.Calls.{TakesToken}
+use Rattle.combine_base.specs.Parser.Answer.{Resumes, World}
 use Rattle.combine_base.proofs.Progress.{Progress, progress_none, progress_more}
 use Rattle.combine_base.specs.declared.stream.Failures.{Failures}
 use Rattle.combine_token.specs.TokenLists.{TokenList, EndsOnce, Matched, stops, matching_at, matching, token_list}

@@ -1,8 +1,8 @@
 -- a choice whose alternatives were refused peeked one after the other, with their errors merged
 use Rattle.std.specs.declared.cmp.Ordering.{Ordering}
-use Rattle.combine_base.specs.Errors.{Errors, IsFault, joined_kind}
-use Rattle.combine_base.specs.Meaning.{Meaning}
-use Rattle.combine_base.specs.Answer.{Run, World, Answers, world, peeks}
+use Rattle.combine_base.specs.Error.Errors.{Errors, IsFault, joined_kind}
+use Rattle.combine_base.specs.Parser.Meaning.{Meaning}
+use Rattle.combine_base.specs.Parser.Answer.{Run, World, Answers, world, peeks}
 use Rattle.combine_base.proofs.Calls.{peeked_refusal}
 use Rattle.combine_base.specs.declared.stream.Kind.{Kind}
 use Rattle.combine_base.specs.declared.stream.Kind.TheVariants as kinds

@@ -1,11 +1,11 @@
 -- one call that reads one token under a test
 use Rattle.std.proofs.Common.{◌<◌, ◌≤◌, ◌≡◌, ◌+◌, List, [], ◌∷◌, Bool, true, false, Option, Some, None, Ok, Err, refl, subst, sym, arith}
-use Rattle.combine_base.specs.View.{View, Takes}
-use Rattle.combine_base.specs.Items.{Item}
-use Rattle.combine_base.specs.Errors.{Nothing}
-use Rattle.combine_base.specs.Outcome.{Outcome, Accepted, Refused, Undecided}
-use Rattle.combine_base.specs.Streams.{Uncons, TakesToken, ResetTo}
-use Rattle.combine_base.specs.Answer.{Run, World, Answers, ends}
+use Rattle.combine_base.specs.Stream.View.{View, Takes}
+use Rattle.combine_base.specs.Error.Items.{Item}
+use Rattle.combine_base.specs.Error.Errors.{Nothing}
+use Rattle.combine_base.specs.Parser.Outcome.{Outcome, Accepted, Refused, Undecided}
+use Rattle.combine_base.specs.Stream.Calls.{Uncons, TakesToken, ResetTo}
+use Rattle.combine_base.specs.Parser.Answer.{Run, World, Answers, ends}
 use Rattle.combine_base.proofs.Progress.{takes_more, takes_none}
 use Rattle.combine_base.specs.declared.stream.Kind.{Kind}
 use Rattle.combine_base.specs.declared.stream.Kind.TheVariants as kinds

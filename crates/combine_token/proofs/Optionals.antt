@@ -1,9 +1,9 @@
 -- the answers of an optional parser, from those of its parser
 use Rattle.std.proofs.Common.{◌≡◌, Bool, true, false, Some, None, refl, arith}
-use Rattle.combine_base.specs.View.{View}
-use Rattle.combine_base.specs.Mapped.{mapped}
-use Rattle.combine_base.specs.Meaning.{Meaning, Reading}
-use Rattle.combine_base.specs.Answer.{Run, World, Answers}
+use Rattle.combine_base.specs.Stream.View.{View}
+use Rattle.combine_base.specs.Parser.Mapped.{mapped}
+use Rattle.combine_base.specs.Parser.Meaning.{Meaning, Reading}
+use Rattle.combine_base.specs.Parser.Answer.{Run, World, Answers}
 use Rattle.combine_base.proofs.Calls.{peeked_refusal}
 use Rattle.combine_base.proofs.Mapped.{mapped_err, mapped_peek_err, mapped_ok, mapped_peek_ok}
 use Rattle.combine_base.specs.declared.stream.Failures.{Failures}

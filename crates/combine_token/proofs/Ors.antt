@@ -1,9 +1,9 @@
 -- a choice of two: it tries the first, then the second
 use Rattle.std.proofs.Common.{◌≡◌, Bool, true, false, if◌then◌else◌, arith, refl}
-use Rattle.combine_base.specs.View.{View}
-use Rattle.combine_base.specs.Meaning.{Meaning, IsMeaning, MeansSame}
-use Rattle.combine_base.specs.Errors.{Errors}
-use Rattle.combine_base.specs.Answer.{Run, World, Answers, world}
+use Rattle.combine_base.specs.Stream.View.{View}
+use Rattle.combine_base.specs.Parser.Meaning.{Meaning, IsMeaning, MeansSame}
+use Rattle.combine_base.specs.Error.Errors.{Errors}
+use Rattle.combine_base.specs.Parser.Answer.{Run, World, Answers, world}
 use Rattle.combine_base.proofs.Calls.{around}
 use Rattle.combine_base.proofs.Same.{same_none, same_more}
 use Rattle.combine_base.specs.declared.stream.Kind.TheVariants as kinds

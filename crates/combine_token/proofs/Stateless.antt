@@ -1,10 +1,10 @@
 -- one call of a parser that keeps no state
 use Rattle.std.proofs.Common.{ℕ, ◌≡◌, List, [], Bool, true, false, length, ap, refl, sym, ◌∙◌}
-use Rattle.combine_base.specs.View.{View, advanced}
-use Rattle.combine_base.specs.Items.{Item}
-use Rattle.combine_base.specs.Outcome.{Outcome, Accepted, Refused, Undecided}
-use Rattle.combine_base.specs.Meaning.{Reading, begun}
-use Rattle.combine_base.specs.Answer.{Resumes, Run, World, Answers, Accepts, Refuses, Asks, ends, fails, peeks, loses}
+use Rattle.combine_base.specs.Stream.View.{View, advanced}
+use Rattle.combine_base.specs.Error.Items.{Item}
+use Rattle.combine_base.specs.Parser.Outcome.{Outcome, Accepted, Refused, Undecided}
+use Rattle.combine_base.specs.Parser.Meaning.{Reading, begun}
+use Rattle.combine_base.specs.Parser.Answer.{Resumes, Run, World, Answers, Accepts, Refuses, Asks, ends, fails, peeks, loses}
 use Rattle.combine_base.proofs.Progress.{takes_none, resumes_none}
 use Rattle.combine_base.specs.declared.stream.Kind.{Kind}
 use Rattle.combine_base.specs.declared.stream.Kind.TheVariants as kinds

@@ -1,10 +1,10 @@
 -- a value for which no token is read; it is known by its relation to the position
 use Rattle.std.specs.Prelude.{◌≡◌, List, Bool, false}
 use Rattle.std.proofs.Common.{arith}
-use Rattle.combine_base.specs.View.{View, extended}
-use Rattle.combine_base.specs.Items.{Item}
-use Rattle.combine_base.specs.Outcome.{Outcome, Accepted, Refused, Undecided, shape}
-use Rattle.combine_base.specs.Meaning.{Meaning, Reading, IsReading, IsSingle, IsMeaning, MeansOne}
+use Rattle.combine_base.specs.Stream.View.{View, extended}
+use Rattle.combine_base.specs.Error.Items.{Item}
+use Rattle.combine_base.specs.Parser.Outcome.{Outcome, Accepted, Refused, Undecided, shape}
+use Rattle.combine_base.specs.Parser.Meaning.{Meaning, Reading, IsReading, IsSingle, IsMeaning, MeansOne}
 use Rattle.combine_token.specs.Stateless.{stateless, stateless_is_meaning, stateless_means_one}
 
 module _ {P T B : Type 0} (f : P → B → Type 0) where

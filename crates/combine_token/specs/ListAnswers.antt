@@ -1,8 +1,8 @@
 -- how the match of a list is answered
 use Rattle.std.specs.Prelude.{◌≡◌, ◌<◌, ◌⊎◌, List, [], ◌∷◌, Bool, true, false, Option, Some, None}
-use Rattle.combine_base.specs.View.{View, Moves}
-use Rattle.combine_base.specs.Items.{Item, Unexpected, Expected, OfToken, shown}
-use Rattle.combine_base.specs.Errors.{Errors, New, Says}
+use Rattle.combine_base.specs.Stream.View.{View, Moves}
+use Rattle.combine_base.specs.Error.Items.{Item, Unexpected, Expected, OfToken, shown}
+use Rattle.combine_base.specs.Error.Errors.{Errors, New, Says}
 use Rattle.combine_base.specs.declared.error.Info.{Info}
 use Rattle.combine_base.specs.declared.error.Info.TheVariants as written
 use Rattle.combine_base.specs.declared.stream.Kind.{Kind}

@@ -1,12 +1,12 @@
 -- what comes first, a token or the end of an ended list, under a test that answers a value or none; the test is known by its relation
 use Rattle.std.specs.Prelude.{ℕ, ◌≡◌, ◌≤◌, List, [], ◌∷◌, ◌++◌, length, Bool, true, false, Option, Some, None, refl}
 use Rattle.std.proofs.Common.{arith}
-use Rattle.combine_base.specs.View.{View}
-use Rattle.combine_base.specs.Items.{Item}
-use Rattle.combine_base.specs.Errors.{Nothing}
-use Rattle.combine_base.specs.Outcome.{Outcome, Accepted, Refused, Undecided, IsDecided, shape}
-use Rattle.combine_base.specs.Meaning.{Meaning, Reading, IsReading, IsSingle, IsMeaning, MeansOne}
-use Rattle.combine_base.specs.Answer.{World, Answers}
+use Rattle.combine_base.specs.Stream.View.{View}
+use Rattle.combine_base.specs.Error.Items.{Item}
+use Rattle.combine_base.specs.Error.Errors.{Nothing}
+use Rattle.combine_base.specs.Parser.Outcome.{Outcome, Accepted, Refused, Undecided, IsDecided, shape}
+use Rattle.combine_base.specs.Parser.Meaning.{Meaning, Reading, IsReading, IsSingle, IsMeaning, MeansOne}
+use Rattle.combine_base.specs.Parser.Answer.{World, Answers}
 use Rattle.combine_base.specs.declared.stream.Failures.{Failures}
 use Rattle.combine_base.specs.declared.error.ParseResult.{ParseResult}
 use Rattle.combine_base.specs.declared.error.ParseResult.TheVariants.{CommitOk, PeekOk, CommitErr, PeekErr}

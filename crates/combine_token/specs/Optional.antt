@@ -1,9 +1,9 @@
 -- a parser, or else what a reading says
 use Rattle.std.specs.Prelude.{◌≡◌, false, Option, Some, None}
 use Rattle.std.proofs.Common.{arith}
-use Rattle.combine_base.specs.Outcome.{Accepted}
-use Rattle.combine_base.specs.Meaning.{Meaning, Reading, IsReading, IsSingle, IsMeaning, MeansOne, MeansSame}
-use Rattle.combine_base.specs.Mapped.{mapped, mapped_is_meaning, mapped_means_one, mapped_means_same}
+use Rattle.combine_base.specs.Parser.Outcome.{Accepted}
+use Rattle.combine_base.specs.Parser.Meaning.{Meaning, Reading, IsReading, IsSingle, IsMeaning, MeansOne, MeansSame}
+use Rattle.combine_base.specs.Parser.Mapped.{mapped, mapped_is_meaning, mapped_means_one, mapped_means_same}
 use Rattle.combine_token.specs.Choice.{Either, either_is_reading, either_is_single, either_both, agree_self}
 use Rattle.combine_token.specs.declared.choice.types.Optional.{Optional}
 

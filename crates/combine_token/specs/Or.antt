@@ -1,8 +1,8 @@
 -- a choice of two parsers, whose state is the running alternative and its state
 use Rattle.std.specs.Prelude.{◌≡◌, List, ◌↔◌}
-use Rattle.combine_base.specs.View.{View}
-use Rattle.combine_base.specs.Items.{Item}
-use Rattle.combine_base.specs.Meaning.{Meaning, Reading, IsReading, IsSingle, IsMeaning, MeansOne, MeansSame}
+use Rattle.combine_base.specs.Stream.View.{View}
+use Rattle.combine_base.specs.Error.Items.{Item}
+use Rattle.combine_base.specs.Parser.Meaning.{Meaning, Reading, IsReading, IsSingle, IsMeaning, MeansOne, MeansSame}
 use Rattle.combine_token.specs.Alternatives.{Together, together_both, together_assoc}
 use Rattle.combine_token.specs.Choice.{Agree, Either, refused, refused_is_reading, refused_is_single, either_is_reading, either_is_single, either_both, agree_self, either_lists_assoc}
 use Rattle.combine_token.specs.declared.choice.OrState.{OrState}

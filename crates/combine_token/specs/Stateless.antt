@@ -1,7 +1,7 @@
 -- parsers that keep no state: on need of more they have taken nothing, and the next call begins again
 use Rattle.std.specs.Prelude.{List}
-use Rattle.combine_base.specs.Items.{Item}
-use Rattle.combine_base.specs.Meaning.{Meaning, Reading, IsReading, IsSingle, IsMeaning, MeansOne}
+use Rattle.combine_base.specs.Error.Items.{Item}
+use Rattle.combine_base.specs.Parser.Meaning.{Meaning, Reading, IsReading, IsSingle, IsMeaning, MeansOne}
 
 module _ {P T R A S : Type 0} where
   -- one reading, for every call; keeps says whether it asks for more only where nothing is unread

@@ -4,9 +4,9 @@ use Rattle.std.proofs.Common.{arith, sym, ltb-false, length-append, inl, inr}
 use Rattle.std.proofs.lemmas.List.{take-append-le, drop-append-le}
 use Rattle.std.proofs.lemmas.Bool.{cases_lt, cases_order}
 use Rattle.std.proofs.Math.ListN.{drop_of_length-le}
-use Rattle.combine_base.specs.Items.{Item}
-use Rattle.combine_base.specs.Outcome.{Outcome, Accepted, Refused, Undecided, IsDecided, shape}
-use Rattle.combine_base.specs.Meaning.{IsReading, IsSingle, IsMeaning, MeansOne}
+use Rattle.combine_base.specs.Error.Items.{Item}
+use Rattle.combine_base.specs.Parser.Outcome.{Outcome, Accepted, Refused, Undecided, IsDecided, shape}
+use Rattle.combine_base.specs.Parser.Meaning.{IsReading, IsSingle, IsMeaning, MeansOne}
 use Rattle.combine_token.specs.TokenLists.{TokenList, EndsOnce, ComparesOnce, Matched, all_fit, stops, matching_at, matching, token_list}
 
 module _ {T : Type 0} (l : TokenList T) where

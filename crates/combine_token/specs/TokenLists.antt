@@ -1,8 +1,8 @@
 -- a list of tokens that is matched one by one: the list is known by what its items answer, and by where it ends
 use Rattle.std.specs.Prelude.{ℕ, ◌+◌, ◌-◌, ◌<◌, ◌≤◌, ◌≡◌, List, [], ◌∷◌, take, drop, length, Bool, true, false, nat_lt}
-use Rattle.combine_base.specs.Items.{Item}
-use Rattle.combine_base.specs.Outcome.{Outcome, Accepted, Refused, Undecided}
-use Rattle.combine_base.specs.Meaning.{Meaning, Reading}
+use Rattle.combine_base.specs.Error.Items.{Item}
+use Rattle.combine_base.specs.Parser.Outcome.{Outcome, Accepted, Refused, Undecided}
+use Rattle.combine_base.specs.Parser.Meaning.{Meaning, Reading}
 
 -- what is known of a list, and of how its items compare with tokens
 pub record TokenList (T : Type 0) : Type 1 where

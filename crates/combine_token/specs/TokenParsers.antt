@@ -1,5 +1,4 @@
 -- the parsers of tokens, by their parts
-use Rattle.combine_base.specs.declared.error.Info.{Info}
 use Rattle.std.specs.Prelude.{ℕ}
 use Rattle.combine_token.specs.declared.token.lists.types.Tokens.{Tokens}
 use Rattle.combine_token.specs.declared.token.lists.types.TokensState.{TokensState}
@@ -14,14 +13,14 @@ any_parser = record { reads = record {} }
 abbrev pub satisfy_parser : {Input F : Type 0} → F → Satisfy Input F
 satisfy_parser f = record { predicate = f; reads = record {} }
 
-abbrev pub token_parser : {Input T R P E I : Type 0} → T → Token Input T R P E I
+abbrev pub token_parser : {Input T : Type 0} → T → Token Input T
 token_parser t = record { token = t; reads = record {} }
 
 abbrev pub value_parser : {Input T : Type 0} → T → Value Input T
 value_parser v = record { value = v; reads = record {} }
 
 -- the parser of a list of tokens, with how they compare and what its errors say was expected
-abbrev pub tokens_of : {C T Input Checkpoint Token Range Position Error Item : Type 0} → C → Info Token Range → T → Tokens C T Input Checkpoint Token Range Position Error Item
+abbrev pub tokens_of : {C E T Input : Type 0} → C → E → T → Tokens C E T Input
 tokens_of cmp expected list = record { cmp = cmp; expected = expected; tokens = list; reads = record {} }
 
 -- how many items were matched before

@@ -1,6 +1,6 @@
 //! Choices: the first parser that isn't refused peeked.
 ghost use Rattle.std.specs.Prelude.{◌≡◌, ◌↔◌, true, false, if◌then◌else◌};
-ghost use Rattle.combine_base.specs.Errors.{IsFault};
+ghost use Rattle.combine_base.specs.Error.Errors.{IsFault};
 ghost use Rattle.combine_token.specs.Alternatives.{AfterRefusal, AsksForMore, PeeksNoFault};
 ghost use Rattle.combine_token.specs.Optional.{optional_parser};
 ghost use Rattle.combine_token.specs.Or.{StartsSame, or_parser};
@@ -54,10 +54,7 @@ impl<S: Drop, T: Drop> OrState<S, T> {
 ///
 /// The second begins where the first did. A committed refusal ends the choice, and so does a fault. On need of more the running alternative is kept; where it is then refused peeked, the second is still tried, which the crate's choice doesn't do. Two faults are the choice's own: `Reset`, where the stream can't be put back, and `Memory`, where an item of the merged error finds none.
 #[inline]
-pub fn or<Input: Stream, P: Parser<Input>, Q: Parser<Input, Output = P::Output>>(
-    p: P,
-    q: Q,
-) -> Or<P, Q>
+pub fn or<P, Q>(p: P, q: Q) -> Or<P, Q>
     ensures { result ≡ or_parser p q }
 {
     Or(p, q)
@@ -67,7 +64,7 @@ pub fn or<Input: Stream, P: Parser<Input>, Q: Parser<Input, Output = P::Output>>
 ///
 /// A committed refusal, a fault and need of more are answered as they are, and the parser's own state is kept. Where the stream can't be put back the answer is the committed fault `Reset`.
 #[inline]
-pub fn optional<Input: Stream, P: Parser<Input>>(parser: P) -> Optional<P>
+pub fn optional<P>(parser: P) -> Optional<P>
     ensures { result ≡ optional_parser parser }
 {
     Optional(parser)

@@ -4,7 +4,6 @@
 ghost use Rattle.std.specs.Prelude.{◌≡◌};
 ghost use Rattle.combine_token.specs.TokenParsers.{any_parser, satisfy_parser, token_parser, value_parser};
 
-use combine_base::stream::{Stream, StreamOnce};
 use std::marker::PhantomData;
 use types::{Any, Satisfy, Token, Value};
 
@@ -19,7 +18,7 @@ pub use lists::types::TokensState;
 ///
 /// The end of an ended list is refused peeked, and nothing is said to be expected.
 #[inline]
-pub fn any<Input: Stream>() -> Any<Input>
+pub fn any<Input>() -> Any<Input>
     ensures { result ≡ any_parser }
 {
     Any { reads: PhantomData }
@@ -29,7 +28,7 @@ pub fn any<Input: Stream>() -> Any<Input>
 ///
 /// Another token is put back and refused peeked, as is the end of an ended list; nothing is said to be expected. The predicate is an `Fn`, where the crate takes an `FnMut`.
 #[inline]
-pub fn satisfy<Input: Stream, F: Fn(Input::Token) -> bool>(predicate: F) -> Satisfy<Input, F>
+pub fn satisfy<Input, F>(predicate: F) -> Satisfy<Input, F>
     ensures { result ≡ satisfy_parser predicate }
 {
     Satisfy {
@@ -42,9 +41,7 @@ pub fn satisfy<Input: Stream, F: Fn(Input::Token) -> bool>(predicate: F) -> Sati
 ///
 /// Another token is put back and refused peeked, as is the end of an ended list; this token is said to be expected.
 #[inline]
-pub fn token<Input: StreamOnce>(token: Input::Token) -> Token<Input>
-where
-    Input::Token: PartialEq,
+pub fn token<Input, T>(token: T) -> Token<Input, T>
     ensures { result ≡ token_parser token }
 {
     Token {
@@ -57,7 +54,7 @@ where
 ///
 /// A clone that finds no memory is the fault `Memory`; the crate's can't fail.
 #[inline]
-pub fn value<Input: Stream, T: Clone>(value: T) -> Value<Input, T>
+pub fn value<Input, T>(value: T) -> Value<Input, T>
     ensures { result ≡ value_parser value }
 {
     Value {

@@ -10,9 +10,9 @@ type Setting = (Vec<u8>, u8, Vec<u8>, u8);
 
 fn setting(alloc: Global, pieces: &[&[u8]]) -> Result<Option<Setting>, SessionError> {
     let setting = (
-        many1::<Vec<u8>, _, _>(alloc, satisfy(is_letter)),
+        many1::<Vec<u8>, _>(alloc, satisfy(is_letter)),
         token(b'='),
-        many1::<Vec<u8>, _, _>(alloc, satisfy(is_digit)),
+        many1::<Vec<u8>, _>(alloc, satisfy(is_digit)),
         token(b';'),
     );
     accepted(alloc, setting, pieces)

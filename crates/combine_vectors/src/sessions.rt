@@ -126,7 +126,7 @@ impl Append<u8> for Full {
 
 #[test]
 fn a_session_after_a_refused_growth(rt: HostRuntime) {
-    let mut session = Session::new(rt.alloc(), many1::<Full, _, _>(rt.alloc(), token(b'a')));
+    let mut session = Session::new(rt.alloc(), many1::<Full, _>(rt.alloc(), token(b'a')));
     assert_eq!(rt; session.feed(b""), Ok(Answer::More));
     assert_eq!(rt; session.feed(b"a"), Err(SessionError::Fault(Kind::Memory)));
     assert_eq!(rt; session.feed(b"a"), Err(SessionError::Failed));
@@ -170,7 +170,7 @@ fn assert_all_accepted(rt: &impl Abort, answer: Answer<Vec<u8>, UnexpectedParse>
 /// With ample memory: where this fails, `trials/run` sees that a growth of the next test was refused.
 #[test]
 fn a_session_with_ample_memory(rt: HostRuntime) {
-    let mut session = Session::new(rt.alloc(), many1::<Vec<u8>, _, _>(rt.alloc(), token(b'a')));
+    let mut session = Session::new(rt.alloc(), many1::<Vec<u8>, _>(rt.alloc(), token(b'a')));
     for piece in PIECES {
         assert_eq!(rt; session.feed(piece.as_bytes()), Ok(Answer::More));
     }
@@ -183,7 +183,7 @@ fn a_session_with_ample_memory(rt: HostRuntime) {
 /// The answers are those of ample memory, or want of memory within the parse: also where `trials/run` has the allocator refuse.
 #[test]
 fn a_session_with_any_growth_refused(rt: HostRuntime) {
-    let mut session = Session::new(rt.alloc(), many1::<Vec<u8>, _, _>(rt.alloc(), token(b'a')));
+    let mut session = Session::new(rt.alloc(), many1::<Vec<u8>, _>(rt.alloc(), token(b'a')));
     for piece in PIECES {
         match feed_again(&rt, &mut session, piece.as_bytes()) {
             Ok(answer) => assert_eq!(rt; answer, Answer::More),

@@ -2,9 +2,9 @@
 use Rattle.std.proofs.Common.{ℕ, zero, suc, ◌≡◌, ◌+◌, ◌<◌, ◌≤◌, ◌↔◌, List, [], ◌∷◌, ◌++◌, length, take, drop, sum, Bool, true, false, Option, Result, Ok, Err, refl, ap, sym, subst, ◌∙◌, take-add, arith}
 use Rattle.std.proofs.lemmas.List.{append-nil, length-drop, take-append-drop, take_all}
 use Rattle.std.proofs.lemmas.List.Sums.{sum_by-cons}
-use Rattle.combine_base.specs.Outcome.{Undecided}
-use Rattle.combine_base.specs.Meaning.{Reading, IsSingle}
-use Rattle.combine_base.specs.Pieces.{joined, on}
+use Rattle.combine_base.specs.Parser.Outcome.{Undecided}
+use Rattle.combine_base.specs.Parser.Meaning.{Reading, IsSingle}
+use Rattle.combine_base.specs.Parser.Pieces.{concatenated, on}
 use Rattle.feedline_core.specs.Cut.{pieces_of}
 use Rattle.feedline_core.specs.Runs.{Prints, Runs}
 use Rattle.feedline_core.specs.OnInput.{PrintsOn, RunsOn}
@@ -12,13 +12,13 @@ use Rattle.feedline_core.specs.declared.message.Message.{Message}
 use Rattle.feedline_core.specs.declared.fault.Fault.{Fault}
 
 -- the pieces are the whole input
-pub joined_whole : (sizes input : List ℕ) → joined (pieces_of sizes input) ≡ input
+pub joined_whole : (sizes input : List ℕ) → concatenated (pieces_of sizes input) ≡ input
 joined_whole [] [] = refl
 joined_whole [] (b ∷ bs) = append-nil (b ∷ bs)
 joined_whole (n ∷ ns) input = ap (λ z. take n input ++ z) (joined_whole ns (drop n input)) ∙ take-append-drop n input
 
 -- the first pieces are as many bytes as their sizes say, where there are as many
-joined_first : (sizes input : List ℕ) (k : ℕ) → k ≤ length sizes → joined (take k (pieces_of sizes input)) ≡ take (sum (take k sizes)) input
+joined_first : (sizes input : List ℕ) (k : ℕ) → k ≤ length sizes → concatenated (take k (pieces_of sizes input)) ≡ take (sum (take k sizes)) input
 joined_first sizes input zero h = refl
 joined_first [] input (suc k) h = absurd (omega arith)
 joined_first (n ∷ ns) input (suc k) h =
@@ -58,11 +58,11 @@ module _ (r : Reading ℕ ℕ Message) (single : IsSingle r) (sizes input : List
   abbrev pieces : List (List ℕ)
   pieces = pieces_of sizes input
 
-  at_size : (i : ℕ) → i < length sizes → joined (take (i + 1) pieces) ≡ take (sum (take (i + 1) sizes)) input
+  at_size : (i : ℕ) → i < length sizes → concatenated (take (i + 1) pieces) ≡ take (sum (take (i + 1) sizes)) input
   at_size i h = joined_first sizes input (i + 1) (omega arith)
 
-  at_rest : joined (take (length sizes + 1) pieces) ≡ input
-  at_rest = ap joined (take_all (length sizes + 1) pieces (one_is_left sizes input)) ∙ joined_whole sizes input
+  at_rest : concatenated (take (length sizes + 1) pieces) ≡ input
+  at_rest = ap concatenated (take_all (length sizes + 1) pieces (one_is_left sizes input)) ∙ joined_whole sizes input
 
   module _ (text : List ℕ) (accepted : Bool) (p : Prints r pieces text accepted) where
     each : (i : ℕ) → i < length sizes → on r (take (sum (take (i + 1) sizes)) input) true Undecided ↔ i < length p.unread

@@ -3,9 +3,9 @@ use Rattle.std.proofs.Common.{ℕ, ◌≡◌, ◌+◌, ◌<◌, ◌≤◌, inr, 
 use Rattle.std.proofs.lemmas.List.{append-nil, length-append, length-take-le, take_more, take-append-drop}
 use Rattle.std.proofs.KnownBytes.{Appends-nil, Appends-trans}
 use Rattle.std.specs.Io.KnownBytes.{Appends}
-use Rattle.combine_base.specs.Outcome.{Accepted, Refused}
-use Rattle.combine_base.specs.Meaning.{Reading}
-use Rattle.combine_base.specs.Pieces.{Asked, Decided}
+use Rattle.combine_base.specs.Parser.Outcome.{Accepted, Refused}
+use Rattle.combine_base.specs.Parser.Meaning.{Reading}
+use Rattle.combine_base.specs.Parser.Pieces.{Asked, Decided}
 use Rattle.combine_base.specs.declared.error.UnexpectedParse.{UnexpectedParse}
 use Rattle.combine_base.specs.declared.parser.answer.Answer.{Answer}
 use Rattle.combine_base.specs.declared.parser.answer.Answer.TheVariants as answers

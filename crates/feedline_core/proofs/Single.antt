@@ -1,11 +1,11 @@
 -- a message has one outcome on a view, but for its value
 use Rattle.std.proofs.Common.{ℕ, ◌≡◌, Bool, false, [], ◌∷◌, ◌++◌}
 use Rattle.std.specs.Global.{Vec}
-use Rattle.combine_base.specs.Meaning.{Meaning, IsSingle, MeansOne}
-use Rattle.combine_base.specs.Mapped.{mapped_means_one}
-use Rattle.combine_base.specs.Errors.{Nothing}
-use Rattle.combine_base.specs.Places.{valid_in, valid_1, place_2, place_3, place_4}
-use Rattle.combine_base.specs.Tuples.{push_1, push_2, push_3, tuple_3, tuple_4, tuple_1_means_one, followed_means_one}
+use Rattle.combine_base.specs.Parser.Meaning.{Meaning, IsSingle, MeansOne}
+use Rattle.combine_base.specs.Parser.Mapped.{mapped_means_one}
+use Rattle.combine_base.specs.Error.Errors.{Nothing}
+use Rattle.combine_base.specs.Sequence.Places.{valid_in, valid_1, place_2, place_3, place_4}
+use Rattle.combine_base.specs.Sequence.Tuples.{push_1, push_2, push_3, tuple_3, tuple_4, tuple_1_means_one, followed_means_one}
 use Rattle.combine_token.specs.Choice.{Either, refused, refused_is_single, either_is_single}
 use Rattle.combine_token.specs.OneToken.{of_function, of_function_is_predicate, satisfied, satisfied_is_test, takes_one_means_one}
 use Rattle.combine_map.specs.Attempt.{attempted_means_one}

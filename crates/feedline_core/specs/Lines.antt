@@ -1,6 +1,6 @@
 -- the lines that are written
 use Rattle.std.specs.Prelude.{ℕ, List, [], ◌++◌, Bool, true, false, codes, decimal}
-use Rattle.combine_base.specs.Outcome.{Outcome, Accepted, Refused, Undecided}
+use Rattle.combine_base.specs.Parser.Outcome.{Outcome, Accepted, Refused, Undecided}
 use Rattle.feedline_core.specs.declared.message.Message.{Message}
 use Rattle.feedline_core.specs.declared.message.Message.TheVariants.{Set, Delete}
 

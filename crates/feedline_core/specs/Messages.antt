@@ -2,10 +2,10 @@
 use Rattle.std.specs.Prelude.{ℕ, ◌≡◌, ◌+◌, nat_eq, [], ◌∷◌, ◌++◌, Bool}
 use Rattle.std.specs.Char.{is_ascii_digit, is_ascii_lowercase}
 use Rattle.std.specs.Global.{Vec}
-use Rattle.combine_base.specs.Meaning.{Meaning, Reading}
-use Rattle.combine_base.specs.Mapped.{mapped}
-use Rattle.combine_base.specs.Errors.{Nothing}
-use Rattle.combine_base.specs.Tuples.{tuple_3, tuple_4}
+use Rattle.combine_base.specs.Parser.Meaning.{Meaning, Reading}
+use Rattle.combine_base.specs.Parser.Mapped.{mapped}
+use Rattle.combine_base.specs.Error.Errors.{Nothing}
+use Rattle.combine_base.specs.Sequence.Tuples.{tuple_3, tuple_4}
 use Rattle.combine_token.specs.Choice.{Either, refused}
 use Rattle.combine_token.specs.OneToken.{of_function, satisfied, takes_one}
 use Rattle.combine_base.specs.declared.sequence.SequenceState.{SequenceState}

@@ -1,9 +1,9 @@
 -- what a run says of the input itself: in place of its pieces, the sizes that they are cut to
 use Rattle.std.specs.Prelude.{ℕ, ◌≡◌, ◌+◌, ◌<◌, ◌≤◌, ◌⊎◌, List, length, take, sum, Bool, true, false, Option, Result, Ok, Err, ◌↔◌}
 use Rattle.std.specs.Io.KnownBytes.{Appends}
-use Rattle.combine_base.specs.Outcome.{Outcome, Undecided, shape}
-use Rattle.combine_base.specs.Meaning.{Reading}
-use Rattle.combine_base.specs.Pieces.{on}
+use Rattle.combine_base.specs.Parser.Outcome.{Outcome, Undecided, shape}
+use Rattle.combine_base.specs.Parser.Meaning.{Reading}
+use Rattle.combine_base.specs.Parser.Pieces.{on}
 use Rattle.feedline_core.specs.Cut.{pieces_of}
 use Rattle.feedline_core.specs.Runs.{Prints}
 use Rattle.feedline_core.specs.declared.message.Message.{Message}

@@ -1,9 +1,9 @@
 -- what is written where an input is fed piece by piece to a parser of messages
 use Rattle.std.specs.Prelude.{ℕ, ◌≡◌, ◌+◌, ◌≤◌, ◌⊎◌, List, [], ◌∷◌, ◌++◌, length, Bool, true, false, Option, Result, Ok, Err}
 use Rattle.std.specs.Io.KnownBytes.{Appends}
-use Rattle.combine_base.specs.Outcome.{Outcome, Accepted, Refused, Undecided}
-use Rattle.combine_base.specs.Meaning.{Reading}
-use Rattle.combine_base.specs.Pieces.{joined, Decides, Asked}
+use Rattle.combine_base.specs.Parser.Outcome.{Outcome, Accepted, Refused, Undecided}
+use Rattle.combine_base.specs.Parser.Meaning.{Reading}
+use Rattle.combine_base.specs.Parser.Pieces.{concatenated, Decides, Asked}
 use Rattle.combine_base.specs.declared.parser.answer.Answer.{Answer}
 use Rattle.combine_base.specs.declared.parser.answer.Answer.TheVariants as answers
 use Rattle.combine_base.specs.declared.parser.session.SessionError.{SessionError}
@@ -53,7 +53,7 @@ module _ (r : Reading ℕ ℕ Message) (pieces : List (List ℕ)) where
   -- These lines: one for each piece at whose end, more being open, the reading is undecided, with a number of unread bytes; and then that of the outcome on the whole input, ended.
   pub record Prints (text : List ℕ) (accepted : Bool) : Type 0 where
     pub outcome : Outcome Message
-    pub decides : Decides r (joined pieces) outcome
+    pub decides : Decides r (concatenated pieces) outcome
     pub unread : List ℕ
     pub asked : Asked r pieces (length unread)
     pub ends : leaves_ends 0 pieces unread

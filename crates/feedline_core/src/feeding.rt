@@ -3,8 +3,8 @@ ghost use Rattle.std.specs.Prelude.{◌≡◌, ◌+◌, ◌^◌, ◌<◌, [], tr
 ghost use Rattle.std.specs.Char.{is_ascii_digit, is_ascii_lowercase};
 ghost use Rattle.feedline_core.specs.OnInput.{RunsOn};
 ghost use Rattle.feedline_core.specs.Messages.{message, delete_after, or_set};
-ghost use Rattle.combine_base.specs.Pieces.{joined};
-ghost use Rattle.combine_base.specs.Sessions.{Feeds, Ends};
+ghost use Rattle.combine_base.specs.Parser.Pieces.{concatenated};
+ghost use Rattle.combine_base.specs.Parser.Sessions.{Feeds, Ends};
 ghost use Rattle.combine_base.specs.declared.parser.session.Stage.TheVariants as stages;
 ghost use Rattle.std.specs.Io.KnownBytes.{Appends};
 ghost use Rattle.feedline_core.specs.Runs.{Runs, IsWantOfMemory, answer_line, answer_accepts};
@@ -44,7 +44,7 @@ fn drive_after<D: Parser<fed::Stream<u8>, Output = (u8, u8, u8, u8)> + Drop, W: 
     out: &mut W,
 ) -> Result<bool, Fault>
     requires lawful { D.lawful del }
-    requires fits { length (joined (map (λ p. p.now) pieces.now)) < 2 ^ 64 }
+    requires fits { length (concatenated (map (λ p. p.now) pieces.now)) < 2 ^ 64 }
     ensures { Runs (or_set (delete_after (D.meaning del))) (map (λ p. p.now) pieces.now) (W.contents out.old) (W.contents out.new) result }
 {
     let delete = map(
@@ -62,7 +62,7 @@ fn drive_or_set<A: Parser<fed::Stream<u8>, Output = Message> + Drop, W: Write>(
     out: &mut W,
 ) -> Result<bool, Fault>
     requires lawful { A.lawful delete }
-    requires fits { length (joined (map (λ p. p.now) pieces.now)) < 2 ^ 64 }
+    requires fits { length (concatenated (map (λ p. p.now) pieces.now)) < 2 ^ 64 }
     ensures { Runs (or_set (A.meaning delete).whole) (map (λ p. p.now) pieces.now) (W.contents out.old) (W.contents out.new) result }
 {
     let set = map(
@@ -111,7 +111,7 @@ pub(crate) fn drive<P: Parser<fed::Stream<u8>, Output = Message> + Drop, W: Writ
     out: &mut W,
 ) -> Result<bool, Fault>
     requires lawful { P.lawful parser }
-    requires fits { length (joined (map (λ p. p.now) pieces.now)) < 2 ^ 64 }
+    requires fits { length (concatenated (map (λ p. p.now) pieces.now)) < 2 ^ 64 }
     ensures { Runs (P.meaning parser).whole (map (λ p. p.now) pieces.now) (W.contents out.old) (W.contents out.new) result }
 {
     let mut session = Session::new(alloc, parser);

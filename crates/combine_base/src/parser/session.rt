@@ -1,5 +1,6 @@
 //! A parser that is fed piece by piece.
-ghost use Rattle.std.specs.Prelude.{◌≡◌, [], true, false};
+ghost use Rattle.std.specs.Prelude.{◌≡◌, [], map, true, false};
+ghost use Rattle.combine_base.specs.Parser.Pieces.{ParsesPieces};
 
 use crate::error::UnexpectedParse;
 use crate::parser::{Answer, Parser, judge};
@@ -42,7 +43,7 @@ pub struct Session<P: Parser<fed::Stream<T>>, T: Copy + 'static> {
 }
 
 impl<P: Parser<fed::Stream<T>>, T: Copy + 'static> Model for Session<P, T> {
-    ghost use Rattle.combine_base.specs.Sessions.{Course, IsSound, course_of};
+    ghost use Rattle.combine_base.specs.Parser.Sessions.{Course, IsSound, course_of};
 
     ghost Value = { Course P T P.PartialState };
 
@@ -52,7 +53,7 @@ impl<P: Parser<fed::Stream<T>>, T: Copy + 'static> Model for Session<P, T> {
 }
 
 impl<P: Parser<fed::Stream<T>>, T: Copy + 'static> Session<P, T> {
-    ghost use Rattle.combine_base.specs.Sessions.{Begins, Feeds, Ends};
+    ghost use Rattle.combine_base.specs.Parser.Sessions.{Begins, Feeds, Ends};
 
     /// A session of the parser that was fed nothing yet. It takes no memory.
     pub fn new(alloc: Global, parser: P) -> Self
@@ -105,8 +106,33 @@ impl<P: Parser<fed::Stream<T>>, T: Copy + 'static> Session<P, T> {
     }
 }
 
+/// Parses the pieces as one input, which then ends; those behind a decision are not looked at. Our own.
+///
+/// However the input is cut, the answer is what the parser means on all of it: an acceptance counts the tokens from its beginning.
+/// A fault is of kind `Memory`, and a parser that asks for no memory has none. Neither `Closed` nor `Failed` is answered.
+pub fn parse_pieces<P: Parser<fed::Stream<T>> + Drop, T: Copy + 'static>(
+    alloc: Global,
+    parser: P,
+    pieces: &[&[T]],
+) -> Result<Answer<P::Output, UnexpectedParse>, SessionError>
+    requires { P.lawful parser }
+    ensures { ParsesPieces (P.meaning parser).whole (P.meaning parser).lean (map (λ p. p.now) pieces.now) result }
+{
+    let mut session = Session::new(alloc, parser);
+    'pieces: for piece in pieces {
+        match session.feed(piece) {
+            Ok(answer) => match answer {
+                Answer::More => {}
+                answer => return Ok(answer),
+            },
+            Err(error) => return Err(error),
+        }
+    }
+    session.end()
+}
+
 impl Stage {
-    ghost use Rattle.combine_base.specs.Sessions.{checked};
+    ghost use Rattle.combine_base.specs.Parser.Sessions.{checked};
 
     /// Whether a session may go on.
     fn check(self) -> Result<(), SessionError>
@@ -123,9 +149,9 @@ impl Stage {
 // The steps of a session, over its parts.
 impl<P: Parser<fed::Stream<T>>, T: Copy + 'static> Session<P, T> {
     ghost use Rattle.std.specs.Prelude.{ℕ, List, Bool};
-    ghost use Rattle.combine_base.specs.View.{View, extended};
-    ghost use Rattle.combine_base.specs.Fed.{fed_view};
-    ghost use Rattle.combine_base.specs.Sessions.{Parses, stage_after};
+    ghost use Rattle.combine_base.specs.Stream.View.{View, extended};
+    ghost use Rattle.combine_base.specs.Stream.Fed.{fed_view};
+    ghost use Rattle.combine_base.specs.Parser.Sessions.{Parses, stage_after};
     ghost use Rattle.combine_base.specs.declared.parser.session.Stage.{Stage};
     ghost use Rattle.combine_base.specs.declared.parser.session.Stage.TheVariants as stages;
 

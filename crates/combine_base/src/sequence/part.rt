@@ -1,9 +1,9 @@
 //! The last part of a sequence, after those before it.
 ghost use Rattle.std.specs.Prelude.{◌≡◌, true};
-ghost use Rattle.combine_base.specs.Answer.{world};
-ghost use Rattle.combine_base.specs.Meaning.{MeansSame};
-ghost use Rattle.combine_base.specs.Parts.{GoesOn, Runs, RunsFrom, accepted_as, refused_as};
-ghost use Rattle.combine_base.specs.Streams.{Passes};
+ghost use Rattle.combine_base.specs.Parser.Answer.{world};
+ghost use Rattle.combine_base.specs.Parser.Meaning.{MeansSame};
+ghost use Rattle.combine_base.specs.Sequence.Parts.{GoesOn, Runs, RunsFrom, accepted_as, refused_as};
+ghost use Rattle.combine_base.specs.Stream.Calls.{Passes};
 
 use crate::error::{ParseResult, Tracked};
 use crate::parser::{ParseMode, Parser};
@@ -22,7 +22,7 @@ pub(crate) trait Push<A> {
 }
 
 impl<A> Push<A> for () {
-    ghost use Rattle.combine_base.specs.Tuples.{push_0};
+    ghost use Rattle.combine_base.specs.Sequence.Tuples.{push_0};
 
     type Pushed = (A,);
 
@@ -35,7 +35,7 @@ impl<A> Push<A> for () {
 }
 
 impl<A, B> Push<B> for (A,) {
-    ghost use Rattle.combine_base.specs.Tuples.{push_1};
+    ghost use Rattle.combine_base.specs.Sequence.Tuples.{push_1};
 
     type Pushed = (A, B);
 
@@ -49,7 +49,7 @@ impl<A, B> Push<B> for (A,) {
 }
 
 impl<A, B, C> Push<C> for (A, B) {
-    ghost use Rattle.combine_base.specs.Tuples.{push_2};
+    ghost use Rattle.combine_base.specs.Sequence.Tuples.{push_2};
 
     type Pushed = (A, B, C);
 
@@ -63,7 +63,7 @@ impl<A, B, C> Push<C> for (A, B) {
 }
 
 impl<A, B, C, D> Push<D> for (A, B, C) {
-    ghost use Rattle.combine_base.specs.Tuples.{push_3};
+    ghost use Rattle.combine_base.specs.Sequence.Tuples.{push_3};
 
     type Pushed = (A, B, C, D);
 

@@ -1,23 +1,20 @@
 //! Tuples as parsers.
-ghost use Rattle.std.specs.Prelude.{◌≡◌, ◌+◌, min, true};
-ghost use Rattle.combine_base.specs.Answer.{Answers, world};
-ghost use Rattle.combine_base.specs.Meaning.{MeansSame};
-ghost use Rattle.combine_base.specs.Parts.{run_from};
-ghost use Rattle.combine_base.specs.Places.{begins_1, begins_2, begins_3, begins_4, begins_valid, begins_valid_1, first_fresh, place_2, place_3, place_4, valid_1, valid_2, valid_3, valid_4};
-ghost use Rattle.combine_base.specs.Streams.{Passes};
-ghost use Rattle.combine_base.specs.Tuples.{followed_is_meaning, followed_means_one, push_1, push_2, push_3, tuple_1, tuple_1_is_meaning, tuple_1_means_one, tuple_2, tuple_3, tuple_4};
+ghost use Rattle.std.specs.Prelude.{◌≡◌, ◌+◌, false, min, true};
+ghost use Rattle.combine_base.specs.Parser.Meaning.{MeansSame};
+ghost use Rattle.combine_base.specs.Sequence.Places.{begins_valid, begins_valid_1, place_2, place_3, place_4, valid_1, valid_2, valid_3, valid_4};
+ghost use Rattle.combine_base.specs.Sequence.Tuples.{followed_is_meaning, followed_means_one, push_1, push_2, push_3, tuple_1, tuple_1_is_meaning, tuple_1_means_one, tuple_2, tuple_3, tuple_4};
 
 use crate::error::{ErrorOffset, ParseResult, Tracked};
-use crate::parser::{ParseMode, Parser};
+use crate::parser::{Calls, ParseMode, Parser};
 use crate::sequence::part::{parse_rest, resume_last, take_state};
 use crate::sequence::{
-    PartialState1, PartialState2, PartialState3, PartialState4, Place, Placed, SequenceState,
+    PartialState1, PartialState2, PartialState3, PartialState4, SequencePlace, Placed, SequenceState,
 };
 use crate::stream::Stream;
 
 type State1<Input, A> = PartialState1<SequenceState<(), <A as Parser<Input>>::PartialState>>;
 
-type State2<Input, A, B> = PartialState2<
+pub type State2<Input, A, B> = PartialState2<
     SequenceState<(), <A as Parser<Input>>::PartialState>,
     SequenceState<(<A as Parser<Input>>::Output,), <B as Parser<Input>>::PartialState>,
 >;
@@ -64,18 +61,11 @@ fn parse_1<Input: Stream, A: Parser<Input>, M: ParseMode>(
     from: State1<Input, A>,
     state: &mut State1<Input, A>,
 ) -> ParseResult<(A::Output,), Input::Error>
-    requires lawful { A.lawful a.old }
-    requires valid { valid_1 A.valid from }
-    requires starts { M.first mode ≡ true → begins_1 (first_fresh A.PartialState.is_default) from }
-    requires fresh { begins_1 (first_fresh A.PartialState.is_default) state.old }
-    ensures lawful { A.lawful a.new }
-    ensures valid { valid_1 A.valid state.new }
-    ensures same { MeansSame (tuple_1 (A.meaning a.old)) (tuple_1 (A.meaning a.new)) }
-    ensures passes { Passes (Input.marks input.old) (Input.marks input.new) (Input.failures input.old) (Input.failures input.new) }
-    ensures answers { Answers (world Input.step Input.Error.seen Input.steady (begins_1 (first_fresh A.PartialState.is_default)))
-        (tuple_1 (A.meaning a.old))
-        (run_from from state.new (Input.view input.old) (Input.view input.new) (Input.failures input.old) (Input.failures input.new))
-        result }
+    requires ready { ⟦<(A,) as Calls<Input>>⟧.ready (record { 0 = a.old }) from }
+    requires starts { M.first mode ≡ true → ⟦<State1<Input, A> as Default>⟧.is_default from }
+    requires fresh { ⟦<State1<Input, A> as Default>⟧.is_default state.old }
+    ensures called { ⟦<(A,) as Calls<Input>>⟧.called (record { 0 = a.old }) (record { 0 = a.new }) input.old input.new false from state.new result }
+    ensures part { MeansSame (A.meaning a.old) (A.meaning a.new) }
 {
     let SequenceState {
         value: (),
@@ -99,7 +89,7 @@ fn parse_1<Input: Stream, A: Parser<Input>, M: ParseMode>(
 
 /// Runs two parts, from what is kept of them. `state` is a default one, and keeps what goes on where more is needed.
 #[inline(always)]
-fn parse_2<Input: Stream, A: Parser<Input>, B: Parser<Input>, M: ParseMode>(
+pub fn parse_2<Input: Stream, A: Parser<Input>, B: Parser<Input>, M: ParseMode>(
     a: &mut A,
     b: &mut B,
     mode: M,
@@ -107,26 +97,19 @@ fn parse_2<Input: Stream, A: Parser<Input>, B: Parser<Input>, M: ParseMode>(
     from: State2<Input, A, B>,
     state: &mut State2<Input, A, B>,
 ) -> ParseResult<(A::Output, B::Output), Input::Error>
-    requires lawful { A.lawful a.old × B.lawful b.old }
-    requires valid { valid_2 A.valid B.valid from }
-    requires starts { M.first mode ≡ true → begins_2 (first_fresh A.PartialState.is_default) from }
-    requires fresh { begins_2 (first_fresh A.PartialState.is_default) state.old }
-    ensures lawful { A.lawful a.new × B.lawful b.new }
-    ensures valid { valid_2 A.valid B.valid state.new }
-    ensures same { MeansSame (tuple_2 Input.step (A.meaning a.old) (B.meaning b.old)) (tuple_2 Input.step (A.meaning a.new) (B.meaning b.new)) }
-    ensures passes { Passes (Input.marks input.old) (Input.marks input.new) (Input.failures input.old) (Input.failures input.new) }
-    ensures answers { Answers (world Input.step Input.Error.seen Input.steady (begins_2 (first_fresh A.PartialState.is_default)))
-        (tuple_2 Input.step (A.meaning a.old) (B.meaning b.old))
-        (run_from from state.new (Input.view input.old) (Input.view input.new) (Input.failures input.old) (Input.failures input.new))
-        result }
+    requires ready { ⟦<(A, B) as Calls<Input>>⟧.ready (a.old, b.old) from }
+    requires starts { M.first mode ≡ true → ⟦<State2<Input, A, B> as Default>⟧.is_default from }
+    requires fresh { ⟦<State2<Input, A, B> as Default>⟧.is_default state.old }
+    ensures called { ⟦<(A, B) as Calls<Input>>⟧.called (a.old, b.old) (a.new, b.new) input.old input.new false from state.new result }
+    ensures parts { MeansSame (A.meaning a.old) (A.meaning a.new) × MeansSame (B.meaning b.old) (B.meaning b.new) }
 {
     match from.into_place() {
-        Place::Before(at) => {
+        SequencePlace::Before(at) => {
             let mut kept = PartialState1::default();
             let answer = parse_1(a, mode, input, at, &mut kept);
             parse_rest(answer, kept, b, mode, input, state)
         }
-        Place::Last(at) => resume_last(b, mode, input, at, state),
+        SequencePlace::Last(at) => resume_last(b, mode, input, at, state),
     }
 }
 
@@ -141,26 +124,18 @@ fn parse_3<Input: Stream, A: Parser<Input>, B: Parser<Input>, C: Parser<Input>, 
     from: State3<Input, A, B, C>,
     state: &mut State3<Input, A, B, C>,
 ) -> ParseResult<(A::Output, B::Output, C::Output), Input::Error>
-    requires lawful { A.lawful a.old × B.lawful b.old × C.lawful c.old }
-    requires valid { valid_3 A.valid B.valid C.valid from }
-    requires starts { M.first mode ≡ true → begins_3 (first_fresh A.PartialState.is_default) from }
-    requires fresh { begins_3 (first_fresh A.PartialState.is_default) state.old }
-    ensures lawful { A.lawful a.new × B.lawful b.new × C.lawful c.new }
-    ensures valid { valid_3 A.valid B.valid C.valid state.new }
-    ensures same { MeansSame (tuple_3 Input.step (A.meaning a.old) (B.meaning b.old) (C.meaning c.old)) (tuple_3 Input.step (A.meaning a.new) (B.meaning b.new) (C.meaning c.new)) }
-    ensures passes { Passes (Input.marks input.old) (Input.marks input.new) (Input.failures input.old) (Input.failures input.new) }
-    ensures answers { Answers (world Input.step Input.Error.seen Input.steady (begins_3 (first_fresh A.PartialState.is_default)))
-        (tuple_3 Input.step (A.meaning a.old) (B.meaning b.old) (C.meaning c.old))
-        (run_from from state.new (Input.view input.old) (Input.view input.new) (Input.failures input.old) (Input.failures input.new))
-        result }
+    requires ready { ⟦<(A, B, C) as Calls<Input>>⟧.ready (a.old, b.old, c.old) from }
+    requires starts { M.first mode ≡ true → ⟦<State3<Input, A, B, C> as Default>⟧.is_default from }
+    requires fresh { ⟦<State3<Input, A, B, C> as Default>⟧.is_default state.old }
+    ensures { ⟦<(A, B, C) as Calls<Input>>⟧.called (a.old, b.old, c.old) (a.new, b.new, c.new) input.old input.new false from state.new result }
 {
     match from.into_place() {
-        Place::Before(at) => {
+        SequencePlace::Before(at) => {
             let mut kept = PartialState2::default();
             let answer = parse_2(a, b, mode, input, at, &mut kept);
             parse_rest(answer, kept, c, mode, input, state)
         }
-        Place::Last(at) => resume_last(c, mode, input, at, state),
+        SequencePlace::Last(at) => resume_last(c, mode, input, at, state),
     }
 }
 
@@ -183,26 +158,18 @@ fn parse_4<
     from: State4<Input, A, B, C, D>,
     state: &mut State4<Input, A, B, C, D>,
 ) -> ParseResult<(A::Output, B::Output, C::Output, D::Output), Input::Error>
-    requires lawful { A.lawful a.old × B.lawful b.old × C.lawful c.old × D.lawful d.old }
-    requires valid { valid_4 A.valid B.valid C.valid D.valid from }
-    requires starts { M.first mode ≡ true → begins_4 (first_fresh A.PartialState.is_default) from }
-    requires fresh { begins_4 (first_fresh A.PartialState.is_default) state.old }
-    ensures lawful { A.lawful a.new × B.lawful b.new × C.lawful c.new × D.lawful d.new }
-    ensures valid { valid_4 A.valid B.valid C.valid D.valid state.new }
-    ensures same { MeansSame (tuple_4 Input.step (A.meaning a.old) (B.meaning b.old) (C.meaning c.old) (D.meaning d.old)) (tuple_4 Input.step (A.meaning a.new) (B.meaning b.new) (C.meaning c.new) (D.meaning d.new)) }
-    ensures passes { Passes (Input.marks input.old) (Input.marks input.new) (Input.failures input.old) (Input.failures input.new) }
-    ensures answers { Answers (world Input.step Input.Error.seen Input.steady (begins_4 (first_fresh A.PartialState.is_default)))
-        (tuple_4 Input.step (A.meaning a.old) (B.meaning b.old) (C.meaning c.old) (D.meaning d.old))
-        (run_from from state.new (Input.view input.old) (Input.view input.new) (Input.failures input.old) (Input.failures input.new))
-        result }
+    requires ready { ⟦<(A, B, C, D) as Calls<Input>>⟧.ready (a.old, b.old, c.old, d.old) from }
+    requires starts { M.first mode ≡ true → ⟦<State4<Input, A, B, C, D> as Default>⟧.is_default from }
+    requires fresh { ⟦<State4<Input, A, B, C, D> as Default>⟧.is_default state.old }
+    ensures { ⟦<(A, B, C, D) as Calls<Input>>⟧.called (a.old, b.old, c.old, d.old) (a.new, b.new, c.new, d.new) input.old input.new false from state.new result }
 {
     match from.into_place() {
-        Place::Before(at) => {
+        SequencePlace::Before(at) => {
             let mut kept = PartialState3::default();
             let answer = parse_3(a, b, c, mode, input, at, &mut kept);
             parse_rest(answer, kept, d, mode, input, state)
         }
-        Place::Last(at) => resume_last(d, mode, input, at, state),
+        SequencePlace::Last(at) => resume_last(d, mode, input, at, state),
     }
 }
 

@@ -22,8 +22,8 @@ pub struct Stream<T: Copy + 'static> {
 }
 
 impl<T: Copy + 'static> Stream<T> {
-    ghost use Rattle.combine_base.specs.View.{extended};
-    ghost use Rattle.combine_base.specs.Fed.{fed_view, FeedsPiece};
+    ghost use Rattle.combine_base.specs.Stream.View.{extended};
+    ghost use Rattle.combine_base.specs.Stream.Fed.{fed_view, FeedsPiece};
 
     /// A stream that was fed nothing yet, open. It takes no memory.
     #[inline]
@@ -125,7 +125,7 @@ impl<T: Copy + 'static> Stream<T> {
 
 impl<T: Copy + 'static> StreamOnce for Stream<T> {
     ghost use Rattle.std.specs.Prelude.{◌+◌};
-    ghost use Rattle.combine_base.specs.Fed.{fed_view, Stands, fed_moves};
+    ghost use Rattle.combine_base.specs.Stream.Fed.{fed_view, Stands, fed_moves};
 
     type Token = T;
 
@@ -172,7 +172,7 @@ impl<T: Copy + 'static> StreamOnce for Stream<T> {
 }
 
 impl<T: Copy + 'static> ResetStream for Stream<T> {
-    ghost use Rattle.combine_base.specs.Fed.{Stands};
+    ghost use Rattle.combine_base.specs.Stream.Fed.{Stands};
 
     type Checkpoint = usize;
 

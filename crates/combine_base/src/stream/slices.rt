@@ -40,7 +40,7 @@ impl PartialOrd for Left {
 }
 
 impl<'a, T: Copy> StreamOnce for &'a [T] {
-    ghost use Rattle.combine_base.specs.Slices.{slice_view, one_less, slice_moves};
+    ghost use Rattle.combine_base.specs.Stream.Slices.{slice_view, one_less, slice_moves};
 
     type Token = T;
 
@@ -88,7 +88,7 @@ impl<'a, T: Copy> StreamOnce for &'a [T] {
 }
 
 impl<'a, T: Copy> ResetStream for &'a [T] {
-    ghost use Rattle.combine_base.specs.Slices.{slice_view};
+    ghost use Rattle.combine_base.specs.Stream.Slices.{slice_view};
 
     type Checkpoint = &'a [T];
 

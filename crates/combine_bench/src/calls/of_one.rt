@@ -1,6 +1,6 @@
 //! Calls of constructors over one parser.
 ghost use Rattle.std.specs.Prelude.{◌≡◌};
-ghost use Rattle.combine_base.specs.Mapped.{mapped_reading};
+ghost use Rattle.combine_base.specs.Parser.Mapped.{mapped_reading};
 ghost use Rattle.combine_repeat.specs.Repetition.{appended};
 ghost use Rattle.combine_bench.specs.Parsers.{collecting, collecting1, put_back, skipping, skipping1};
 
@@ -139,7 +139,7 @@ impl<Input: Stream, O: Drop, F: Append<O>, V: Visitor<Input, F>> Visitor<Input, 
 
     #[inline(always)]
     fn visit<P: Parser<Input, Output = O> + Drop>(self, parser: P) -> u64 {
-        self.next.visit(many::<F, _, _>(self.alloc, parser))
+        self.next.visit(many::<F, _>(self.alloc, parser))
     }
 }
 
@@ -179,7 +179,7 @@ impl<Input: Stream, O: Drop, F: Append<O>, V: Visitor<Input, F>> Visitor<Input, 
 
     #[inline(always)]
     fn visit<P: Parser<Input, Output = O> + Drop>(self, parser: P) -> u64 {
-        self.next.visit(many1::<F, _, _>(self.alloc, parser))
+        self.next.visit(many1::<F, _>(self.alloc, parser))
     }
 }
 

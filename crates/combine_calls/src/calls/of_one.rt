@@ -131,7 +131,7 @@ impl<O: Show, V: Visitor<Vec<O>>> Visitor<O> for ManyNext<V> {
         self,
         parser: P,
     ) -> Result<String, AllocError> {
-        self.next.visit(many::<Vec<O>, _, _>(self.alloc, parser))
+        self.next.visit(many::<Vec<O>, _>(self.alloc, parser))
     }
 }
 
@@ -167,7 +167,7 @@ impl<O: Show, V: Visitor<Vec<O>>> Visitor<O> for Many1Next<V> {
         self,
         parser: P,
     ) -> Result<String, AllocError> {
-        self.next.visit(many1::<Vec<O>, _, _>(self.alloc, parser))
+        self.next.visit(many1::<Vec<O>, _>(self.alloc, parser))
     }
 }
 
@@ -205,7 +205,7 @@ impl<O: Show, V: Visitor<Room<N>>, N: Size> Visitor<O> for Many1WithinNext<V, N>
         self,
         parser: P,
     ) -> Result<String, AllocError> {
-        self.next.visit(many1::<Room<N>, _, _>(self.alloc, parser))
+        self.next.visit(many1::<Room<N>, _>(self.alloc, parser))
     }
 }
 

@@ -1,5 +1,5 @@
 //! Laws of the parsers of `combinator`, each stated by a function that does nothing.
-ghost use Rattle.combine_base.specs.Meaning.{MeansSame};
+ghost use Rattle.combine_base.specs.Parser.Meaning.{MeansSame};
 ghost use Rattle.combine_map.specs.Laws.{IsComposition, SameFromTheStart};
 ghost use Rattle.combine_map.specs.Parsers.{attempt_of, map_of};
 

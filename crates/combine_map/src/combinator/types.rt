@@ -2,7 +2,7 @@
 ghost use Rattle.std.specs.Prelude.{◌≡◌, if◌then◌else◌, nat_lt};
 ghost use Rattle.combine_map.specs.Attempt.{HasValid, attempted, attempted_is_meaning, attempted_means_one, losing, refusing};
 ghost use Rattle.combine_map.specs.Parsers.{attempt_part, map_function, map_part};
-ghost use Rattle.combine_base.specs.Mapped.{mapped, mapped_is_meaning, mapped_means_one};
+ghost use Rattle.combine_base.specs.Parser.Mapped.{mapped, mapped_is_meaning, mapped_means_one};
 
 use super::TryState;
 use combine_base::distance::{measure, pass_over};

@@ -1,9 +1,9 @@
 //! The loop that all repetitions of one parser run, and what it keeps.
 ghost use Rattle.std.specs.Prelude.{◌≡◌, ◌||◌, ℕ, false, true, None, MatchResult, if◌then◌else◌};
-ghost use Rattle.combine_base.specs.Meaning.{MeansSame};
-ghost use Rattle.combine_base.specs.View.{Takes};
-ghost use Rattle.combine_base.specs.Answer.{Answers, world};
-ghost use Rattle.combine_base.specs.Streams.{Passes};
+ghost use Rattle.combine_base.specs.Parser.Meaning.{MeansSame};
+ghost use Rattle.combine_base.specs.Stream.View.{Takes};
+ghost use Rattle.combine_base.specs.Parser.Answer.{Answers, world};
+ghost use Rattle.combine_base.specs.Stream.Calls.{Passes};
 ghost use Rattle.combine_repeat.specs.OneTurn.{OneTurn, stopped_answer, stopped_state};
 ghost use Rattle.combine_repeat.specs.Repetition.{appended, asks_first, cut_at, fresh_turns, goes_at, kept_or, so_far, turns_from};
 

@@ -1,5 +1,5 @@
 //! The parsers that the functions of this module answer.
-ghost use Rattle.combine_base.specs.Mapped.{mapped_is_meaning, mapped_means_one};
+ghost use Rattle.combine_base.specs.Parser.Mapped.{mapped_is_meaning, mapped_means_one};
 ghost use Rattle.combine_repeat.specs.Built.{repeated_by_many, repeated_by_many1, repeated_by_skip_many, repeated_by_skip_many1};
 ghost use Rattle.combine_repeat.specs.Repetition.{appended, many, many1, running_turn, skip_many, skip_many1};
 ghost use Rattle.combine_repeat.specs.RepetitionLaws.{turns_is_meaning, turns_means_one};

@@ -1,8 +1,8 @@
 //! The parsers that the functions of `choice` answer.
 ghost use Rattle.std.specs.Prelude.{◌≡◌, false, true};
-ghost use Rattle.combine_base.specs.Answer.{Answers, world};
-ghost use Rattle.combine_base.specs.Meaning.{MeansSame};
-ghost use Rattle.combine_base.specs.Streams.{Passes};
+ghost use Rattle.combine_base.specs.Parser.Answer.{Answers, world};
+ghost use Rattle.combine_base.specs.Parser.Meaning.{MeansSame};
+ghost use Rattle.combine_base.specs.Stream.Calls.{Passes};
 ghost use Rattle.combine_token.specs.Optional.{optional, optional_is_meaning, optional_means_one};
 ghost use Rattle.combine_token.specs.Or.{either_of, or_is_meaning, or_means_one, or_valid};
 

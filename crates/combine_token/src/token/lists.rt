@@ -1,8 +1,8 @@
 //! Lists of tokens, matched one by one.
 ghost use Rattle.std.specs.Prelude.{◌≡◌};
 ghost use Rattle.std.specs.Option.{option_copied};
-ghost use Rattle.combine_base.specs.Answer.{Answers, world};
-ghost use Rattle.combine_base.specs.Streams.{Passes};
+ghost use Rattle.combine_base.specs.Parser.Answer.{Answers, world};
+ghost use Rattle.combine_base.specs.Stream.Calls.{Passes};
 ghost use Rattle.combine_token.specs.Iterated.{IsIterated, iterated};
 ghost use Rattle.combine_token.specs.ListAnswers.{expecting};
 ghost use Rattle.combine_token.specs.TokenLists.{token_list};
@@ -14,7 +14,7 @@ pub mod types;
 use answers::{accepted, asks_for_more, mismatch, no_more, pass_over, put_back};
 use combine_base::error::{Info, ParseResult};
 use combine_base::parser::ParseMode;
-use combine_base::stream::{Kind, Stream};
+use combine_base::stream::{Kind, Stream, StreamOnce};
 use std::marker::PhantomData;
 use types::{Tokens, TokensState};
 
@@ -28,11 +28,13 @@ use types::{Tokens, TokensState};
 /// An iterator of each clone of the list gives equally many items, fewer than 2^64.
 ///
 /// Unlike the crate's, `cmp` is an `Fn`, and `expected` is owned and turned into an `Info` here.
-pub fn tokens<C, E, T, Input: Stream>(cmp: C, expected: E, tokens: T) -> Tokens<C, T, Input>
+pub fn tokens<C, E, T, Input: StreamOnce>(
+    cmp: C,
+    expected: E,
+    tokens: T,
+) -> Tokens<C, Info<Input::Token, Input::Range>, T, Input>
 where
-    C: Fn(T::Item, Input::Token) -> bool,
     E: Into<Info<Input::Token, Input::Range>>,
-    T: Clone + IntoIterator,
     ensures { (e : _) × E.converts expected e × (result ≡ tokens_of cmp e tokens) }
 {
     Tokens {

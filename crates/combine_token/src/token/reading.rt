@@ -1,6 +1,6 @@
 //! The reading of one token, of which the parsers of single tokens are made.
-ghost use Rattle.combine_base.specs.Answer.{world};
-ghost use Rattle.combine_base.specs.Streams.{Passes};
+ghost use Rattle.combine_base.specs.Parser.Answer.{world};
+ghost use Rattle.combine_base.specs.Stream.Calls.{Passes};
 ghost use Rattle.combine_token.specs.OneToken.{satisfied, PutBack, ReadsToken, ReadsTokenIf};
 
 use combine_base::error::{ParseResult, Tracked};

@@ -1,7 +1,7 @@
 //! The parsers that the functions of `token` answer.
 ghost use Rattle.std.specs.Prelude.{◌≡◌, true};
-ghost use Rattle.combine_base.specs.Errors.{Nothing, Only};
-ghost use Rattle.combine_base.specs.Items.{Expected, OfToken};
+ghost use Rattle.combine_base.specs.Error.Errors.{Nothing, Only};
+ghost use Rattle.combine_base.specs.Error.Items.{Expected, OfToken};
 ghost use Rattle.combine_token.specs.OneToken.{IsPredicate, of_function, of_function_is_predicate, satisfied, satisfied_is_test, takes_one, takes_one_is_meaning, takes_one_means_one};
 ghost use Rattle.combine_token.specs.Given.{gives, gives_is_meaning, gives_means_one};
 
@@ -9,7 +9,7 @@ pub use crate::token::lists::types::Tokens;
 use crate::token::reading::token_if;
 use combine_base::error::{ErrorOffset, Info, ParseError, ParseResult, Tracked};
 use combine_base::parser::{ParseMode, Parser};
-use combine_base::stream::{Kind, Stream, StreamOnce};
+use combine_base::stream::{Kind, Stream};
 use std::marker::PhantomData;
 
 /// The parser of [`any`](crate::token::any).
@@ -27,14 +27,11 @@ pub struct Satisfy<Input, F> {
     pub(super) reads: PhantomData<Input>,
 }
 
-/// The parser of [`token`](crate::token::token). It is `Clone` and, unlike the crate's, not `Copy`: a type that holds an associated type can't be.
+/// The parser of [`token`](crate::token::token), with the stream's tokens as `T`. The crate's has no such parameter; a type that holds an associated type could be neither `Copy` nor used over a borrowed slice.
 #[derive(Drop)]
-#[derive_where(Clone)]
-pub struct Token<Input: StreamOnce>
-where
-    Input::Token: PartialEq,
-{
-    pub(super) token: Input::Token,
+#[derive_where(Clone, Copy; T)]
+pub struct Token<Input, T> {
+    pub(super) token: T,
     pub(super) reads: PhantomData<Input>,
 }
 
@@ -131,7 +128,7 @@ impl<Input: Stream, F: Fn(Input::Token) -> bool> Parser<Input> for Satisfy<Input
     ghost single = { λ p l d. takes_one_means_one (satisfied (F.post p.predicate)) _ _ _ (satisfied_is_test _ d) };
 }
 
-impl<Input: Stream> Parser<Input> for Token<Input>
+impl<Input: Stream> Parser<Input> for Token<Input, Input::Token>
 where
     Input::Token: PartialEq,
 {

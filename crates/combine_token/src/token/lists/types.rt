@@ -1,7 +1,7 @@
 //! The parsers of lists of tokens, and their states.
 ghost use Rattle.std.specs.Prelude.{◌≡◌, not, if◌then◌else◌, MatchResult};
-ghost use Rattle.combine_base.specs.Errors.{Only};
-ghost use Rattle.combine_base.specs.Items.{Expected, shown};
+ghost use Rattle.combine_base.specs.Error.Errors.{Only};
+ghost use Rattle.combine_base.specs.Error.Items.{Expected, shown};
 ghost use Rattle.combine_token.specs.ListAnswers.{NoText};
 ghost use Rattle.combine_token.specs.TokenLists.{ComparesOnce, token_list};
 ghost use Rattle.combine_token.specs.TokenListLaws.{token_list_is_meaning, token_list_means_one};
@@ -18,16 +18,16 @@ use std::marker::PhantomData;
 ///
 /// Its errors at a committed mismatch say which token stands there and what was expected, at the position where the call began.
 /// On need of more nothing is left unread: the state keeps how many tokens were matched.
-/// It has no parameter for what is expected, unlike the crate's.
+/// `E` is an `Info`, in the crate what is turned into one.
 #[derive(Drop)]
-pub struct Tokens<C, T, Input: Stream> {
+pub struct Tokens<C, E, T, Input> {
     pub(super) cmp: C,
-    pub(super) expected: Info<Input::Token, Input::Range>,
+    pub(super) expected: E,
     pub(super) tokens: T,
     pub(super) reads: PhantomData<Input>,
 }
 
-impl<C: Clone, T: Clone, Input: Stream> Clone for Tokens<C, T, Input> {
+impl<C: Clone, A: Copy, R: Copy, T: Clone, Input> Clone for Tokens<C, Info<A, R>, T, Input> {
     ghost is_clone = { λ p q. C.is_clone p.cmp q.cmp × T.is_clone p.tokens q.tokens × (shown q.expected ≡ shown p.expected) };
 
     ghost is_infallible = { λ p. C.is_infallible p.cmp × T.is_infallible p.tokens × NoText p.expected };
@@ -74,7 +74,7 @@ impl TokensState {
 }
 
 impl<Input: Stream, C: Fn(T::Item, Input::Token) -> bool, T: Clone + IntoIterator> Parser<Input>
-    for Tokens<C, T, Input>
+    for Tokens<C, Info<Input::Token, Input::Range>, T, Input>
 where
     T::Item: Drop,
 {

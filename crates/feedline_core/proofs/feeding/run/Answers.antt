@@ -1,5 +1,5 @@
 use Rattle.std.proofs.Common.{◌<◌, ◌^◌, rules, map, length, ap, sym, subst, ◌∙◌}
-use Rattle.combine_base.specs.Pieces.{joined}
+use Rattle.combine_base.specs.Parser.Pieces.{concatenated}
 use Rattle.feedline_core.proofs.OnInput.{joined_whole, runs_on}
 use Rattle.feedline_core.proofs.Single.{message_is_single}
 use Rattle.feedline_core.specs.Runs.{Runs}
@@ -9,7 +9,7 @@ use Rattle.feedline_core.proofs.feeding.run.Goals as goal
 pub drive_after-requires-clause-fits : goal.drive_after-requires-clause-fits
 drive_after-requires-clause-fits g c =
     let pieces = ap (map (λ p. p.now)) c.deref.ensures.value ∙ c.in_ok-pieces.ensures in
-    let whole = ap joined pieces ∙ joined_whole c.args.sizes.now c.args.input.now in
+    let whole = ap concatenated pieces ∙ joined_whole c.args.sizes.now c.args.input.now in
     let fits : length c.args.input.now < 2 ^ 64 = search rules in
     subst (λ n. n < 2 ^ 64) (sym (ap length whole)) fits
 

@@ -11,8 +11,7 @@ returns-in-Ok-clause-results g c =
 
 pub returns-in-Err-clause-results : goal.returns-in-Err-clause-results
 returns-in-Err-clause-results g c = (
-  _,
-  _,
+  c.parse_explained.new.input,
   record {
     state = c.default-state.result;
     left = c.parse_explained.new.state;

@@ -1,6 +1,7 @@
 use Rattle.std.proofs.Common.{inl, inr, ap, refl}
-use Rattle.combine_base.specs.Answer.{world}
+use Rattle.combine_base.specs.Parser.Answer.{world}
 use Rattle.combine_base.specs.declared.error.ParseResult.TheVariants.{CommitOk, CommitErr}
+use Rattle.combine_base.proofs.Explaining.{explained_only}
 use Rattle.combine_base.proofs.Starting.{at_rest}
 use Rattle.combine_base.proofs.sequence.part.parse_last.Goals as goal
 
@@ -10,7 +11,7 @@ returns-in-CommitOk-clause-runs g c =
       stopped = _;
       answer = _;
       answers = at_rest _ _ _ (g.met.P.Parser.laws c.args.part.now c.requires.lawful) _ c.requires.starts _ c.in-CommitOk.ensures.answers;
-      explained = c.in-CommitOk.ensures.explained;
+      explained = explained_only c.in-CommitOk.ensures.explained;
       is = ap CommitOk c.push.ensures;
       leaves = inr (λ q. q, c.requires.fresh);
     }
@@ -21,7 +22,7 @@ returns-in-PeekOk-clause-runs g c =
       stopped = _;
       answer = _;
       answers = at_rest _ _ _ (g.met.P.Parser.laws c.args.part.now c.requires.lawful) _ c.requires.starts _ c.in-PeekOk.ensures.answers;
-      explained = c.in-PeekOk.ensures.explained;
+      explained = explained_only c.in-PeekOk.ensures.explained;
       is = rw (c.accepted_after.ensures, c.push-in-PeekOk.ensures);
       leaves = inr (λ q. q, c.requires.fresh);
     }
@@ -33,7 +34,7 @@ returns-then-needs_more-clause-runs g c =
       stopped = _;
       answer = CommitErr c.in-CommitErr.error;
       answers = at_rest around _ _ (g.met.P.Parser.laws c.args.part.now c.requires.lawful) _ c.requires.starts _ c.in-CommitErr.ensures.answers;
-      explained = c.in-CommitErr.ensures.explained;
+      explained = explained_only c.in-CommitErr.ensures.explained;
       is = refl;
       leaves = inl (c.needs_more.ensures.0 c.if-needs_more.true, c.last.ensures, c.in-CommitErr.ensures.valid);
     }
@@ -44,7 +45,7 @@ returns-else-needs_more-clause-runs g c =
       stopped = _;
       answer = _;
       answers = at_rest _ _ _ (g.met.P.Parser.laws c.args.part.now c.requires.lawful) _ c.requires.starts _ c.in-CommitErr.ensures.answers;
-      explained = c.in-CommitErr.ensures.explained;
+      explained = explained_only c.in-CommitErr.ensures.explained;
       is = refl;
       leaves = inr (λ q. let e = c.needs_more.ensures.1 q in let f = c.if-needs_more.false in cc, c.requires.fresh);
     }
@@ -55,7 +56,7 @@ returns-in-PeekErr-clause-runs g c =
       stopped = _;
       answer = _;
       answers = at_rest _ _ _ (g.met.P.Parser.laws c.args.part.now c.requires.lawful) _ c.requires.starts _ c.in-PeekErr.ensures.answers;
-      explained = c.in-PeekErr.ensures.explained;
+      explained = explained_only c.in-PeekErr.ensures.explained;
       is = c.refused_after.ensures;
       leaves = inr (λ q. q, c.requires.fresh);
     }

@@ -1,25 +1,29 @@
 use Rattle.std.proofs.Common.{sym, ◌∙◌}
-use Rattle.combine_base.specs.Places.{begins_valid_1, place_2}
-use Rattle.combine_base.specs.Tuples.{followed_means_same, push_1, tuple_1, tuple_1_is_meaning}
-use Rattle.combine_base.proofs.Same.{same_none}
-use Rattle.combine_base.proofs.Sequences.{last_answers, last_leaves, sequence_answers, sequence_leaves}
+use Rattle.combine_base.specs.Sequence.Places.{begins_valid_1, place_2}
+use Rattle.combine_base.specs.Sequence.Tuples.{followed_means_same, push_1, tuple_1, tuple_1_is_meaning}
+use Rattle.combine_base.proofs.Same.{passes_more, same_none}
+use Rattle.combine_base.proofs.SequenceAnswers.{last_answers, last_leaves, sequence_answers, sequence_leaves}
 use Rattle.combine_base.proofs.sequence.tuple.parse_2.Goals as goal
 
-pub returns-in-Before-clause-valid : goal.returns-in-Before-clause-valid
-returns-in-Before-clause-valid g c = sequence_leaves place_2 (begins_valid_1 g.met.A.Parser.default_valid) c.parse_1-answer.ensures.valid c.parse_rest.ensures.goes_on
+pub returns-in-Before-clause-called : goal.returns-in-Before-clause-called
+returns-in-Before-clause-called g c =
+    let first = c.parse_1-answer.ensures.called in
+    let last = c.parse_rest.ensures in
+    record {
+      lawful = (first.lawful, last.lawful);
+      valid = sequence_leaves place_2 (begins_valid_1 g.met.A.Parser.default_valid) first.valid last.goes_on;
+      same = followed_means_same _ place_2 push_1 first.same last.same;
+      passes = passes_more _ _ _ _ _ _ first.passes last.passes;
+      answers = sequence_answers _ _ _ _ _ _ place_2 push_1 _ _ _ (tuple_1_is_meaning (g.met.A.Parser.laws _ c.requires.ready.lawful.0)) (g.met.B.Parser.laws _ c.requires.ready.lawful.1) _ _ _ _ (sym c.into_place.ensures ∙ c.in-Before.is) _ _ _ _ _ _ first.passes.reads first.passes.resets _ _ c.requires.ready.valid first.answers last.goes_on;
+    }
 
-pub returns-in-Before-clause-same : goal.returns-in-Before-clause-same
-returns-in-Before-clause-same g c = followed_means_same _ place_2 push_1 c.parse_1-answer.ensures.same c.parse_rest.ensures.same
-
-pub returns-in-Before-clause-answers : goal.returns-in-Before-clause-answers
-returns-in-Before-clause-answers g c =
-    sequence_answers _ _ _ _ _ _ place_2 push_1 _ _ _ (tuple_1_is_meaning (g.met.A.Parser.laws _ c.requires.lawful.0)) (g.met.B.Parser.laws _ c.requires.lawful.1) _ _ _ _ (sym c.into_place.ensures ∙ c.in-Before.is) _ _ _ _ _ _ c.parse_1-answer.ensures.passes.reads c.parse_1-answer.ensures.passes.resets _ _ c.requires.valid c.parse_1-answer.ensures.answers c.parse_rest.ensures.goes_on
-
-pub returns-in-Last-clause-valid : goal.returns-in-Last-clause-valid
-returns-in-Last-clause-valid g c = last_leaves place_2 (begins_valid_1 g.met.A.Parser.default_valid) c.resume_last.ensures.runs
-
-pub returns-in-Last-clause-same : goal.returns-in-Last-clause-same
-returns-in-Last-clause-same g c = followed_means_same _ place_2 push_1 (same_none (tuple_1 (g.A.Parser.meaning c.args.a.now))) c.resume_last.ensures.same
-
-pub returns-in-Last-clause-answers : goal.returns-in-Last-clause-answers
-returns-in-Last-clause-answers g c = last_answers _ _ _ _ _ _ place_2 push_1 (tuple_1 (g.A.Parser.meaning c.args.a.now)) _ _ _ _ _ _ _ _ _ (sym c.into_place.ensures ∙ c.in-Last.is) c.resume_last.ensures.runs
+pub returns-in-Last-clause-called : goal.returns-in-Last-clause-called
+returns-in-Last-clause-called g c =
+    let last = c.resume_last.ensures in
+    record {
+      lawful = (c.requires.ready.lawful.0, last.lawful);
+      valid = last_leaves place_2 (begins_valid_1 g.met.A.Parser.default_valid) last.runs;
+      same = followed_means_same _ place_2 push_1 (same_none (tuple_1 (g.A.Parser.meaning c.args.a.now))) last.same;
+      passes = last.passes;
+      answers = last_answers _ _ _ _ _ _ place_2 push_1 (tuple_1 (g.A.Parser.meaning c.args.a.now)) _ _ _ _ _ _ _ _ _ (sym c.into_place.ensures ∙ c.in-Last.is) last.runs;
+    }

@@ -1,7 +1,7 @@
 use Rattle.std.proofs.Common.{◌≡◌, ◌+◌, length, true, None}
-use Rattle.combine_base.specs.Answer.{world}
-use Rattle.combine_base.specs.Meaning.{MeansSame}
-use Rattle.combine_base.specs.Streams.{Passes}
+use Rattle.combine_base.specs.Parser.Answer.{world}
+use Rattle.combine_base.specs.Parser.Meaning.{MeansSame}
+use Rattle.combine_base.specs.Stream.Calls.{Passes}
 use Rattle.combine_repeat.specs.Repetition.{appended, fresh_turns, so_far, turns_from, until_refused}
 use Rattle.combine_repeat.specs.RepetitionLaws.{until_refused_is_rule}
 use Rattle.combine_repeat.proofs.TurnCalls.{Reaches}

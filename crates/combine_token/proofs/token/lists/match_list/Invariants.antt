@@ -1,7 +1,7 @@
 use Rattle.std.proofs.Common.{◌+◌, ◌<◌, ◌≡◌, ◌^◌}
 use Rattle.std.specs.Option.{option_copied}
-use Rattle.combine_base.specs.Answer.{world}
-use Rattle.combine_base.specs.Streams.{Passes}
+use Rattle.combine_base.specs.Parser.Answer.{world}
+use Rattle.combine_base.specs.Stream.Calls.{Passes}
 use Rattle.combine_token.proofs.Matches.{Arrived}
 use Rattle.combine_token.specs.Iterated.{Reached, iterated}
 use Rattle.combine_token.specs.ListAnswers.{expecting}

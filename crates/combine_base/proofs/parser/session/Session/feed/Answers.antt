@@ -1,6 +1,6 @@
 use Rattle.std.proofs.Common.{true, sym, arith, ◌∙◌}
-use Rattle.combine_base.specs.Fed.{fed_view}
-use Rattle.combine_base.specs.Sessions.{course_of, stage_after}
+use Rattle.combine_base.specs.Stream.Fed.{fed_view}
+use Rattle.combine_base.specs.Parser.Sessions.{course_of, stage_after}
 use Rattle.combine_base.proofs.Sessions.{answers_feed, fed_ok, is_running}
 use Rattle.combine_base.proofs.parser.session.Session.feed.Goals as goal
 

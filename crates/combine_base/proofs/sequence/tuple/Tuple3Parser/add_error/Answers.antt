@@ -1,5 +1,5 @@
-use Rattle.combine_base.specs.Places.{place_2, place_3}
-use Rattle.combine_base.specs.Tuples.{followed_means_same, push_1, push_2, tuple_1_means_same}
+use Rattle.combine_base.specs.Sequence.Places.{place_2, place_3}
+use Rattle.combine_base.specs.Sequence.Tuples.{followed_means_same, push_1, push_2, tuple_1_means_same}
 use Rattle.combine_base.proofs.Same.{same_none}
 use Rattle.combine_base.proofs.sequence.tuple.Tuple3Parser.add_error.Goals as goal
 

@@ -1,5 +1,5 @@
-use Rattle.combine_base.specs.Places.{place_2, place_3}
-use Rattle.combine_base.specs.Tuples.{followed_is_meaning, push_1, push_2, tuple_1_is_meaning}
+use Rattle.combine_base.specs.Sequence.Places.{place_2, place_3}
+use Rattle.combine_base.specs.Sequence.Tuples.{followed_is_meaning, push_1, push_2, tuple_1_is_meaning}
 use Rattle.combine_base.proofs.Starting.{in_mode}
 use Rattle.combine_base.proofs.sequence.tuple.Tuple3Parser.parse_mode.Goals as goal
 

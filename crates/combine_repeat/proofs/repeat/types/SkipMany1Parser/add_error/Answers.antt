@@ -1,4 +1,4 @@
-use Rattle.combine_base.specs.Mapped.{mapped_means_same}
+use Rattle.combine_base.specs.Parser.Mapped.{mapped_means_same}
 use Rattle.combine_repeat.specs.RepetitionLaws.{turns_means_same}
 use Rattle.combine_repeat.proofs.repeat.types.SkipMany1Parser.add_error.Goals as goal
 

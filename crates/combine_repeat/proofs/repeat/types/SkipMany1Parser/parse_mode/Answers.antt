@@ -1,4 +1,4 @@
-use Rattle.combine_base.specs.Mapped.{mapped_means_same}
+use Rattle.combine_base.specs.Parser.Mapped.{mapped_means_same}
 use Rattle.combine_repeat.specs.RepetitionLaws.{turns_means_same}
 use Rattle.combine_repeat.proofs.Mapping.{mapped_answer}
 use Rattle.combine_repeat.proofs.repeat.types.SkipMany1Parser.parse_mode.Goals as goal

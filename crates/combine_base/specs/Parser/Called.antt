@@ -1,0 +1,23 @@
+-- what a call of a parser needs and promises, each as one fact about the records of the parser and of its stream
+use Rattle.std.specs.Prelude.{Bool, true, false, ◌≡◌}
+use Rattle.combine_base.specs.Parser.Answer.{Answers, world}
+use Rattle.combine_base.specs.Error.Errors.{Errors}
+use Rattle.combine_base.specs.Parser.Meaning.{MeansSame}
+use Rattle.combine_base.specs.Stream.Calls.{Passes}
+use Rattle.combine_base.specs.declared.error.ParseResult.{ParseResult}
+use Rattle.combine_base.specs.declared.parser.Parser as parser
+use Rattle.combine_base.specs.declared.stream.StreamOnce as stream
+
+module _ {Self Input Output State Checkpoint Token Range Position Error StreamError : Type 0} (p : parser.Ghosts Self Input Output State Checkpoint Token Range Position Error StreamError) where
+  -- what a call from a state needs
+  pub record Ready (self : Self) (state : State) : Type 0 where
+    pub lawful : p.lawful self
+    pub valid : p.valid state
+
+  -- what a call promises, of what was before and after it
+  pub record Called (i : stream.Ghosts Input Token Range Position Error StreamError) (seen : Errors Token Range Position Error) (fresh : State → Type 0) (old new : Self) (input left : Input) (first : Bool) (from state : State) (result : ParseResult Output Error) : Type 0 where
+    pub lawful : p.lawful new
+    pub valid : p.valid state
+    pub same : MeansSame (p.meaning old) (p.meaning new)
+    pub passes : Passes (i.marks input) (i.marks left) (i.failures input) (i.failures left)
+    pub answers : Answers (world i.step seen i.steady fresh) (p.meaning old) (record { first = first; state = from; left = state; old = i.view input; new = i.view left; before = i.failures input; after = i.failures left }) result

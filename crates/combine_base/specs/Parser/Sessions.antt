@@ -1,0 +1,152 @@
+-- what a session is seen as, and what its calls promise
+use Rattle.std.specs.Prelude.{ℕ, ◌+◌, ◌^◌, ◌<◌, ◌≤◌, ◌≡◌, ◌↔◌, List, [], ◌++◌, Bool, true, false, length, drop, Result, Ok, Err}
+use Rattle.combine_base.specs.Stream.View.{View, extended}
+use Rattle.combine_base.specs.Parser.Outcome.{Outcome, Accepted, Refused, Undecided, after, shape}
+use Rattle.combine_base.specs.Parser.Meaning.{Meaning, Reading, MeansOne, MeansSame}
+use Rattle.combine_base.specs.Stream.Fed.{fed_view}
+use Rattle.combine_base.specs.Parser.Judged.{IsRefusal}
+use Rattle.combine_base.specs.declared.stream.fed.Stream.{Stream}
+use Rattle.combine_base.specs.declared.stream.Kind.{Kind}
+use Rattle.combine_base.specs.declared.stream.Kind.TheVariants as kinds
+use Rattle.combine_base.specs.declared.error.UnexpectedParse.{UnexpectedParse}
+use Rattle.combine_base.specs.declared.parser.answer.Answer.{Answer}
+use Rattle.combine_base.specs.declared.parser.answer.Answer.TheVariants as answers
+use Rattle.combine_base.specs.declared.parser.session.SessionError.{SessionError}
+use Rattle.combine_base.specs.declared.parser.session.SessionError.TheVariants as errors
+use Rattle.combine_base.specs.declared.parser.session.Stage.{Stage}
+use Rattle.combine_base.specs.declared.parser.session.Stage.TheVariants as stages
+
+-- how far a session has come
+pub record Course (Parser Token State : Type 0) : Type 0 where
+  pub parser : Parser
+  pub state : State
+  pub seen : View ℕ Token
+  pub stage : Stage
+
+abbrev pub course_of : {Parser Token State : Type 0} → Parser → State → Stream Token → Stage → Course Parser Token State
+course_of parser state stream stage = record { parser = parser; state = state; seen = fed_view stream; stage = stage }
+
+-- the stage after a parse
+abbrev pub stage_after : {Value E : Type 0} → Result (Answer Value E) Kind → Stage
+stage_after (Ok answers.More) = stages.Running
+stage_after (Ok (answers.Accepted value taken committed)) = stages.Decided
+stage_after (Ok (answers.Refused error committed)) = stages.Decided
+stage_after (Err k) = stages.Failed
+
+-- what a call answers that comes after a decision or a fault
+abbrev pub checked : Stage → Result Unit SessionError
+checked stages.Running = Ok tt
+checked stages.Decided = Err errors.Closed
+checked stages.Failed = Err errors.Failed
+
+-- the reading, with the tokens that were taken before the view counted_from_start in
+abbrev pub counted_from_start : {Token Value : Type 0} → Reading ℕ Token Value → Reading ℕ Token Value
+counted_from_start {Token} {Value} r v o = (p : Outcome Value) × (o ≡ after v.position false p) × r v p
+
+module _ {Parser Token Range Value State : Type 0} (meaning : Parser → Meaning ℕ Token Range Value State) where
+  -- what is left of a session: the outcomes after these further tokens, open or ended
+  abbrev pub left : Course Parser Token State → List Token → Bool → Outcome Value → Type 0
+  left c x m = counted_from_start ((meaning c.parser).rest c.state) (extended x m c.seen)
+
+  -- what is true of every session
+  pub record IsSound (IsLawful : Parser → Type 0) (IsValid : State → Type 0) (c : Course Parser Token State) : Type 0 where
+    pub lawful : IsLawful c.parser
+    pub valid : IsValid c.state
+    pub is_open : c.stage ≡ stages.Running → c.seen.is_open ≡ true
+    pub found : c.stage ≡ stages.Running → (x : List Token) (m : Bool) → (meaning c.parser).lost c.state (extended x m c.seen) → ⊥
+
+  module _ (valid : State → Type 0) where
+    -- a session of this parser that was fed nothing yet
+    pub record Begins (determined : Parser → Type 0) (p : Parser) (c : Course Parser Token State) : Type 0 where
+      pub parser : c.parser ≡ p
+      -- what is left is exactly what the parser means
+      pub left : (x : List Token) (m : Bool) (o : Outcome Value) → left c x m o ↔ (meaning p).whole (record { position = 0; unread = x; is_open = m }) o
+      pub single : determined p → MeansOne valid (meaning c.parser)
+      pub unread : c.seen.unread ≡ []
+      pub taken : c.seen.position ≡ 0
+      pub stage : c.stage ≡ stages.Running
+
+    module _ (old new : Course Parser Token State) (piece : List Token) (more : Bool) where
+      -- with the piece this is an outcome, and where there is only one, none has another shape
+      pub record Means (o : Outcome Value) : Type 0 where
+        pub is : left old piece more o
+        pub only : MeansOne valid (meaning old.parser) → (p : Outcome Value) → left old piece more p → shape p ≡ shape o
+
+      -- what is unread is an end of the old unread tokens and the piece, behind exactly those that were taken
+      pub record Leaves : Type 0 where
+        pub count : ℕ
+        pub within : count ≤ length (old.seen.unread ++ piece)
+        pub unread : new.seen.unread ≡ drop count (old.seen.unread ++ piece)
+        pub taken : new.seen.position ≡ old.seen.position + count
+
+      pub record Asks : Type 0 where
+        pub is_open : more ≡ true
+        pub means : Means Undecided
+        -- whatever follows, each outcome of what is left now is one of what was left before
+        pub left : (x : List Token) (m : Bool) (o : Outcome Value) → left new x m o → left old (piece ++ x) m o
+        pub leaves : Leaves
+        pub all : (meaning old.parser).keeps → new.seen.unread ≡ []
+        pub none : (meaning old.parser).puts_back → new.seen.position ≡ old.seen.position
+
+      pub record Accepts (value : Value) (taken : ℕ) (committed : Bool) : Type 0 where
+        pub means : Means (Accepted value taken committed)
+        pub leaves : Leaves
+        pub all : new.seen.position ≡ taken
+
+      pub record Refuses (error : UnexpectedParse) (committed : Bool) : Type 0 where
+        pub means : Means (Refused committed)
+        pub leaves : Leaves
+        pub kind : IsRefusal more error.0
+
+      pub record Fails (why : Kind) : Type 0 where
+        pub memory : why ≡ kinds.Memory
+        pub wanted : (meaning old.parser).lean → ⊥
+        pub leaves : Leaves
+
+      abbrev pub parsed : Result (Answer Value UnexpectedParse) Kind → Type 0
+      parsed (Ok answers.More) = Asks
+      parsed (Ok (answers.Accepted value taken committed)) = Accepts value taken committed
+      parsed (Ok (answers.Refused error committed)) = Refuses error committed
+      parsed (Err k) = Fails k
+
+      -- a parse of the piece behind the unread tokens
+      pub record Parses (result : Result (Answer Value UnexpectedParse) Kind) : Type 0 where
+        pub is : parsed result
+        pub stage : new.stage ≡ stage_after result
+        pub same : MeansSame (meaning old.parser) (meaning new.parser)
+
+      -- how many tokens are fed in all, with the piece
+      abbrev pub total : ℕ
+      total = old.seen.position + length old.seen.unread + length piece
+
+      -- the piece is fed and parsed, but for one that is too long or finds no room
+      abbrev pub feeds : Result (Answer Value UnexpectedParse) SessionError → Type 0
+      feeds (Ok a) = (total < 2 ^ 64) × Parses (Ok a)
+      feeds (Err (errors.Fault k)) = (total < 2 ^ 64) × Parses (Err k)
+      feeds (Err errors.TooLong) = (2 ^ 64 ≤ total) × (new ≡ old)
+      feeds (Err errors.Memory) = (total < 2 ^ 64) × (new ≡ old)
+      feeds (Err errors.Closed) = ⊥
+      feeds (Err errors.Failed) = ⊥
+
+      -- the end is said, and what is unread is parsed
+      abbrev pub ends : Result (Answer Value UnexpectedParse) SessionError → Type 0
+      ends (Ok a) = Parses (Ok a)
+      ends (Err (errors.Fault k)) = Parses (Err k)
+      ends (Err errors.TooLong) = ⊥
+      ends (Err errors.Memory) = ⊥
+      ends (Err errors.Closed) = ⊥
+      ends (Err errors.Failed) = ⊥
+
+      -- after a decision or a fault nothing changes any more
+      abbrev pub by_stage : (Result (Answer Value UnexpectedParse) SessionError → Type 0) → Stage → Result (Answer Value UnexpectedParse) SessionError → Type 0
+      by_stage running stages.Running result = running result
+      by_stage running stages.Decided result = (result ≡ Err errors.Closed) × (new ≡ old)
+      by_stage running stages.Failed result = (result ≡ Err errors.Failed) × (new ≡ old)
+
+      -- what a call that feeds a piece promises
+      pub record Feeds (result : Result (Answer Value UnexpectedParse) SessionError) : Type 0 where
+        pub is : by_stage feeds old.stage result
+
+      -- what the call that says the end promises
+      pub record Ends (result : Result (Answer Value UnexpectedParse) SessionError) : Type 0 where
+        pub is : by_stage ends old.stage result

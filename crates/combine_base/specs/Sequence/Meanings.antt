@@ -1,0 +1,145 @@
+-- the meaning of one parser and then another, with a state that stands in either
+use Rattle.std.specs.Prelude.{◌≡◌, ◌↔◌, refl}
+use Rattle.std.proofs.Common.{sym, subst}
+use Rattle.combine_base.specs.Stream.View.{View}
+use Rattle.combine_base.specs.Parser.Outcome.{Outcome}
+use Rattle.combine_base.specs.Parser.Meaning.{Meaning, Reading, IsReading, IsSingle, IsMeaning, MeansOne, MeansSame}
+use Rattle.combine_base.specs.Sequence.Readings.{following, sequel, following_is_reading, following_is_single, following_same, FollowsOne, sequel_is_reading, sequel_is_single, sequel_same}
+use Rattle.combine_base.specs.Sequence.Places.{in_place, begins, begins_before}
+use Rattle.combine_base.specs.declared.sequence.SequenceState.{SequenceState}
+use Rattle.combine_base.specs.declared.sequence.SequencePlace.{SequencePlace}
+use Rattle.combine_base.specs.declared.sequence.SequencePlace.TheVariants.{Before, Last}
+
+-- a second part: what it means after a value of the first, and from what is kept of both
+pub record Second (P T A B C L : Type 0) : Type 1 where
+  -- how its value is joined to that of the first
+  pub join : A → B → C
+  pub whole : A → Reading P T B
+  pub rest : L → Reading P T C
+  pub lost : L → View P T → Type 0
+  pub keeps : Type 0
+  pub lean : Type 0
+
+-- its laws; valid are the kept states that a call may be given
+pub record IsSecond {P T A B C L : Type 0} (valid : L → Type 0) (q : Second P T A B C L) : Type 0 where
+  pub whole : (a : A) → IsReading (q.whole a)
+  pub rest : (l : L) → valid l → IsReading (q.rest l)
+
+pub record SecondSame {P T A B C L : Type 0} (q q' : Second P T A B C L) : Type 0 where
+  pub join : q.join ≡ q'.join
+  pub whole : (a : A) (v : View P T) (o : Outcome B) → q.whole a v o ↔ q'.whole a v o
+  pub rest : (l : L) (v : View P T) (o : Outcome C) → q.rest l v o ↔ q'.rest l v o
+  pub lost : (l : L) (v : View P T) → q.lost l v ↔ q'.lost l v
+  pub keeps : q.keeps ↔ q'.keeps
+  pub lean : q.lean ↔ q'.lean
+
+-- the second has one outcome, whichever of its values the first has
+pub record SecondOne {P T R A B C S L : Type 0} (step : P → T → P) (m : Meaning P T R A S) (q : Second P T A B C L) (valid : S → Type 0) (valid_last : L → Type 0) : Type 0 where
+  pub whole : FollowsOne step q.join m.whole q.whole
+  pub rest : (s : S) → valid s → FollowsOne step q.join (m.rest s) q.whole
+  pub last : (l : L) → valid_last l → IsSingle (q.rest l)
+
+-- a parser that doesn't depend on the value before it
+module _ {P T R A B C U : Type 0} (f : A → B → C) where
+  abbrev pub independent : Meaning P T R B U → Second P T A B C (SequenceState A U)
+  independent m = record {
+    join = f;
+    whole = λ a. m.whole;
+    rest = λ l. following l.committed (f l.value) (m.rest l.state);
+    lost = λ l. m.lost l.state;
+    keeps = m.keeps;
+    lean = m.lean;
+  }
+
+  pub independent_is_second : (fresh valid : U → Type 0) (m : Meaning P T R B U) → IsMeaning fresh valid m → IsSecond (λ l. valid l.state) (independent m)
+  independent_is_second fresh valid m h = record { whole = λ a. h.whole; rest = λ l k. following_is_reading l.committed (f l.value) (m.rest l.state) (h.rest l.state k) }
+
+  pub independent_same : (m m' : Meaning P T R B U) → MeansSame m m' → SecondSame (independent m) (independent m')
+  independent_same m m' h = record {
+    join = refl;
+    whole = λ a. h.whole;
+    rest = λ l. following_same l.committed (f l.value) (m.rest l.state) (m'.rest l.state) (h.rest l.state);
+    lost = λ l. h.lost l.state;
+    keeps = h.keeps;
+    lean = h.lean;
+  }
+
+  pub independent_one : {S : Type 0} (step : P → T → P) (before : S → Type 0) (valid : U → Type 0) (m : Meaning P T R A S) (n : Meaning P T R B U) → MeansOne valid n → SecondOne step m (independent n) before (λ l. valid l.state)
+  independent_one step before valid m n h = record {
+    whole = record { one = λ v a a' i c w w' u o o'. h.whole.one u o o' };
+    rest = λ s d. record { one = λ v a a' i c w w' u o o'. h.whole.one u o o' };
+    last = λ l d. following_is_single l.committed (f l.value) (n.rest l.state) (h.rest l.state d);
+  }
+
+module _ {P T R A B C S L Z : Type 0} (step : P → T → P) (place : Z → SequencePlace S L) where
+  module _ (m : Meaning P T R A S) (q : Second P T A B C L) where
+    abbrev pub rest_at : SequencePlace S L → Reading P T C
+    rest_at (Before s) = sequel step q.join (m.rest s) q.whole
+    rest_at (Last l) = q.rest l
+
+    abbrev pub lost_at : SequencePlace S L → View P T → Type 0
+    lost_at (Before s) = m.lost s
+    lost_at (Last l) = q.lost l
+
+    -- the first, and then the second where it is accepted
+    abbrev pub sequence : Meaning P T R C Z
+    sequence = record {
+      whole = sequel step q.join m.whole q.whole;
+      rest = λ z. rest_at (place z);
+      lost = λ z. lost_at (place z);
+      keeps = m.keeps × q.keeps;
+      puts_back = ⊥;
+      lean = m.lean × q.lean;
+      adds = m.adds;
+    }
+
+    module _ (fresh valid : S → Type 0) (valid_last : L → Type 0) (h : IsMeaning fresh valid m) (k : IsSecond valid_last q) where
+      rest_is_reading : (p : SequencePlace S L) → in_place valid valid_last p → IsReading (rest_at p)
+      rest_is_reading (Before s) d = sequel_is_reading step q.join (m.rest s) q.whole (h.rest s d) k.whole
+      rest_is_reading (Last l) d = k.rest l d
+
+      starts_at : (p : SequencePlace S L) (s : S) → p ≡ Before s → fresh s → (v : View P T) (o : Outcome C) → rest_at p v o ↔ sequel step q.join m.whole q.whole v o
+      starts_at p s e d v o =
+          subst (λ x. rest_at x v o ↔ sequel step q.join m.whole q.whole v o) (sym e) (sequel_same step q.join q.whole q.whole (m.rest s) m.whole (λ v o. h.start s v o d) (λ a v o. (λ w. w, λ w. w)) v o)
+
+      pub sequence_is_meaning : IsMeaning (begins place fresh) (λ z. in_place valid valid_last (place z)) sequence
+      sequence_is_meaning = record {
+        whole = sequel_is_reading step q.join m.whole q.whole h.whole k.whole;
+        rest = λ z d. rest_is_reading (place z) d;
+        start = λ z v o d. let s = begins_before place fresh z d in starts_at (place z) s.0 s.1 s.2 v o;
+        found = λ z v d w. let s = begins_before place fresh z d in h.found s.0 v s.2 (subst (λ x. lost_at x v) s.1 w);
+      }
+
+    module _ (valid : S → Type 0) (valid_last : L → Type 0) (h : MeansOne valid m) (k : SecondOne step m q valid valid_last) where
+      rest_is_single : (p : SequencePlace S L) → in_place valid valid_last p → IsSingle (rest_at p)
+      rest_is_single (Before s) d = sequel_is_single step q.join (m.rest s) q.whole (h.rest s d) (k.rest s d)
+      rest_is_single (Last l) d = k.last l d
+
+      pub sequence_means_one : MeansOne (λ z. in_place valid valid_last (place z)) sequence
+      sequence_means_one = record {
+        whole = sequel_is_single step q.join m.whole q.whole h.whole k.whole;
+        rest = λ z d. rest_is_single (place z) d;
+      }
+
+  module _ (m m' : Meaning P T R A S) (q q' : Second P T A B C L) (h : MeansSame m m') (k : SecondSame q q') where
+    same_sequel : (r r' : Reading P T A) → ((v : View P T) (o : Outcome A) → r v o ↔ r' v o) → (v : View P T) (o : Outcome C) → sequel step q.join r q.whole v o ↔ sequel step q'.join r' q'.whole v o
+    same_sequel r r' e v o = subst (λ f. sequel step q.join r q.whole v o ↔ sequel step f r' q'.whole v o) k.join (sequel_same step q.join q.whole q'.whole r r' e k.whole v o)
+
+    same_at : (p : SequencePlace S L) (v : View P T) (o : Outcome C) → rest_at m q p v o ↔ rest_at m' q' p v o
+    same_at (Before s) = same_sequel (m.rest s) (m'.rest s) (h.rest s)
+    same_at (Last l) = k.rest l
+
+    same_lost : (p : SequencePlace S L) (v : View P T) → lost_at m q p v ↔ lost_at m' q' p v
+    same_lost (Before s) = h.lost s
+    same_lost (Last l) = k.lost l
+
+    pub sequence_means_same : MeansSame (sequence m q) (sequence m' q')
+    sequence_means_same = record {
+      whole = same_sequel m.whole m'.whole h.whole;
+      rest = λ z. same_at (place z);
+      lost = λ z. same_lost (place z);
+      keeps = (λ x. (h.keeps.0 x.0, k.keeps.0 x.1), λ x. (h.keeps.1 x.0, k.keeps.1 x.1));
+      puts_back = (λ x. x, λ x. x);
+      lean = (λ x. (h.lean.0 x.0, k.lean.0 x.1), λ x. (h.lean.1 x.0, k.lean.1 x.1));
+      adds = h.adds;
+    }

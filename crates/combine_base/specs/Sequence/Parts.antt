@@ -1,0 +1,82 @@
+-- what runs of the parts of a sequence promise
+use Rattle.std.specs.Prelude.{◌≡◌, ◌⊎◌, Bool, true, false}
+use Rattle.combine_base.specs.Stream.View.{View}
+use Rattle.combine_base.specs.Error.Errors.{Errors}
+use Rattle.combine_base.specs.Parser.Meaning.{Meaning}
+use Rattle.combine_base.specs.Parser.Answer.{World, Run, Answers}
+use Rattle.combine_base.specs.Parser.Drivers.{Explained}
+use Rattle.combine_base.specs.Parser.Judged.{NeedsMore}
+use Rattle.combine_base.specs.declared.stream.Kind.{Kind}
+use Rattle.combine_base.specs.declared.stream.Kind.TheVariants as kinds
+use Rattle.combine_base.specs.declared.stream.Failures.{Failures}
+use Rattle.combine_base.specs.declared.error.Tracked.{Tracked}
+use Rattle.combine_base.specs.declared.error.ParseResult.{ParseResult}
+use Rattle.combine_base.specs.declared.error.ParseResult.TheVariants.{CommitOk, PeekOk, CommitErr, PeekErr}
+use Rattle.combine_base.specs.declared.sequence.SequenceState.{SequenceState}
+use Rattle.combine_base.specs.declared.sequence.SequencePlace.{SequencePlace}
+use Rattle.combine_base.specs.declared.sequence.SequencePlace.TheVariants.{Before, Last}
+
+-- the state that a call runs from: a default one where it begins afresh, and else the one that it was given
+pub record RunsFrom {S : Type 0} (fresh : S → Type 0) (first : Bool) (given s : S) : Type 0 where
+  pub afresh : first ≡ true → fresh s
+  pub kept : first ≡ false → s ≡ given
+
+-- a call from a state, whatever the mode
+abbrev pub run_from : {P T S : Type 0} → S → S → View P T → View P T → Failures → Failures → Run P T S
+run_from s left old new before after = record { first = false; state = s; left = left; old = old; new = new; before = before; after = after }
+
+-- an acceptance after parts of which one was committed, or none
+abbrev pub accepted_as : {V E : Type 0} → Bool → V → ParseResult V E
+accepted_as true v = CommitOk v
+accepted_as false v = PeekOk v
+
+-- and a peeked refusal
+abbrev pub refused_as : {V E : Type 0} → Bool → Tracked E → ParseResult V E
+refused_as true t = CommitErr t.error
+refused_as false t = PeekErr t
+
+-- the answer of a part, joined to those before it
+abbrev pub joined_answer : {A B E : Type 0} → Bool → (A → B) → ParseResult A E → ParseResult B E
+joined_answer c f (CommitOk a) = CommitOk (f a)
+joined_answer c f (PeekOk a) = accepted_as c (f a)
+joined_answer c f (CommitErr e) = CommitErr e
+joined_answer c f (PeekErr t) = refused_as c t
+
+-- the last part and the states of the sequence
+module _ {P T R B C S L U Z E : Type 0} (w : World P T U E) (errors : Errors T R P E) (valid : U → Type 0) (fresh : Z → Type 0) (place : Z → SequencePlace S L) (m : Meaning P T R B U) (c : Bool) (f : B → C) (kept : U → L) (left : Z) (old new : View P T) (before after : Failures) (result : ParseResult C E) where
+  -- The last part was run from a state, with c and f for what was before it: the sequence answers what it answered, joined. A peeked refusal was explained.
+  pub record Runs (state : U) : Type 0 where
+    pub stopped : U
+    pub answer : ParseResult B E
+    pub answers : Answers w m (run_from state stopped old new before after) answer
+    pub explained : Explained errors m (λ committed e. Unit {0}) old new answer
+    pub is : result ≡ joined_answer c f answer
+    -- need of more keeps the state in which it stopped; every other answer leaves one that begins the sequence
+    pub leaves : (NeedsMore w.kind new.is_open answer × (place left ≡ Last (kept stopped)) × valid stopped) ⊎ ((NeedsMore w.kind new.is_open answer → ⊥) × fresh left)
+
+  -- from the beginning
+  pub record RunsAfresh : Type 0 where
+    pub state : U
+    pub afresh : w.fresh state
+    pub runs : Runs state
+
+module _ {P T R A B C S U Z E : Type 0} (w : World P T U E) (errors : Errors T R P E) (valid : U → Type 0) (fresh : Z → Type 0) (place : Z → SequencePlace S (SequenceState A U)) (f : A → B → C) (m : Meaning P T R B U) (kept : S) (left : Z) (old new : View P T) (before after : Failures) (result : ParseResult C E) where
+  -- the last part was not run
+  pub record Stops (same : ParseResult C E) (leaves : Type 0) : Type 0 where
+    pub answer : result ≡ same
+    pub state : leaves
+    pub view : new ≡ old
+    pub failures : after ≡ before
+
+  abbrev pub runs_afresh : A → Bool → Type 0
+  runs_afresh a c = RunsAfresh w errors valid fresh place m c (f a) (λ s. record { value = a; committed = c; state = s }) left old new before after result
+
+  abbrev pub goes_on : ParseResult A E → Type 0
+  goes_on (CommitOk a) = runs_afresh a true
+  goes_on (PeekOk a) = runs_afresh a false
+  goes_on (CommitErr e) = Stops (CommitErr e) (place left ≡ Before kept)
+  goes_on (PeekErr t) = Stops (PeekErr t) (fresh left)
+
+  -- what a sequence does after the parts before its last one have answered so, and left the state kept
+  pub record GoesOn (answer : ParseResult A E) : Type 0 where
+    pub is : goes_on answer
