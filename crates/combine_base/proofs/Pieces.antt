@@ -9,7 +9,10 @@ use Rattle.combine_base.specs.Parser.OutcomeFacts.{decided_shape}
 use Rattle.combine_base.specs.Parser.Meaning.{Meaning, IsReading, IsSingle, MeansSame}
 use Rattle.combine_base.specs.Parser.Sessions.{Course, left, Begins, Feeds, Ends, by_stage}
 use Rattle.combine_base.specs.Parser.Sessions as session
-use Rattle.combine_base.specs.Parser.Pieces.{concatenated, on, Decides, decides, undecided_at, Asked, Decided, ParsesPieces}
+use Rattle.combine_base.specs.Parser.Pieces.{concatenated, on, Decides, decides, undecided_at, Asked, Decided, ParsesPieces, refusal_kind}
+use Rattle.combine_base.specs.Parser.Judged.{IsRefusal}
+use Rattle.combine_base.specs.declared.stream.Kind.{Kind}
+use Rattle.combine_base.specs.declared.stream.Kind.TheVariants as kinds
 use Rattle.combine_base.proofs.Same.{same_none, same_more}
 use Rattle.combine_base.specs.declared.error.UnexpectedParse.{UnexpectedParse}
 use Rattle.combine_base.specs.declared.parser.answer.Answer.{Answer}
@@ -176,6 +179,15 @@ at_first meaning valid determined p c h = record {
   same = subst (λ q. MeansSame (meaning p) (meaning q)) (sym h.parser) (same_none (meaning p));
 }
 
+-- the kind of a refusal on an open list is one on an ended list
+open_kind : (k : Kind) → IsRefusal true k → IsRefusal false k
+open_kind kinds.Refused h = tt
+open_kind kinds.End h = absurd h
+open_kind kinds.Memory h = h
+open_kind kinds.Read h = h
+open_kind kinds.Reset h = h
+open_kind kinds.Lost h = h
+
 -- in a loop over the pieces, of which the first n were fed
 module _ {P T R A S : Type 0} (meaning : P → Meaning ℕ T R A S) (m : Meaning ℕ T R A S) (valid : S → Type 0) (pieces : List (List T)) (n : ℕ) (c : Course P T S) (far : SoFar meaning m (take n pieces) c) where
   module _ (piece : List T) (within : n < length pieces) (at : get_or pieces n piece ≡ piece) (new : Course P T S) where
@@ -205,9 +217,15 @@ module _ {P T R A S : Type 0} (meaning : P → Meaning ℕ T R A S) (m : Meaning
         let taken = far.within in
         omega (arith, length-drop c.seen.position (concatenated fed))
 
+    -- what is refused on an open list is of kind `Refused`
+    kind_at : (a : Answer A UnexpectedParse) → Feeds meaning valid c new piece true (Ok a) → refusal_kind a
+    kind_at answers.More h = tt
+    kind_at (answers.Accepted v t k) h = tt
+    kind_at (answers.Refused e k) h = open_kind e.0 (fed_now meaning m valid (take n pieces) c far piece new _ h).1.is.kind
+
     -- the answer to all pieces, where the session decided at this one
     pub decides_at : IsReading m.whole → (a : Answer A UnexpectedParse) → a ≢ answers.More → Feeds meaning valid c new piece true (Ok a) → ParsesPieces m.whole m.lean pieces (Ok a)
-    decides_at law a d h = record { is = (stops_at law a d h).answer }
+    decides_at law a d h = record { is = ((stops_at law a d h).answer, kind_at a h) }
 
     -- why there is none, where it failed at this one
     pub fails_at : (e : SessionError) → Feeds meaning valid c new piece true (Err e) → ParsesPieces m.whole m.lean pieces (Err e)
@@ -224,9 +242,14 @@ module _ {P T R A S : Type 0} (meaning : P → Meaning ℕ T R A S) (m : Meaning
     pub ends_at : (a : Answer A UnexpectedParse) → Ends meaning valid c new [] false (Ok a) → Decided m.whole pieces n a
     ends_at a h = subst (λ i. Decided m.whole pieces i a) (sym all_fed) (ends meaning m valid pieces c far_all new a h)
 
+    kind_at_end : (a : Answer A UnexpectedParse) → Ends meaning valid c new [] false (Ok a) → refusal_kind a
+    kind_at_end answers.More h = tt
+    kind_at_end (answers.Accepted v t k) h = tt
+    kind_at_end (answers.Refused e k) h = (ended_now meaning m valid (take n pieces) c far new _ h).is.kind
+
     -- the answer at the end
     pub answers_at_end : (r : Result (Answer A UnexpectedParse) SessionError) → Ends meaning valid c new [] false r → ParsesPieces m.whole m.lean pieces r
-    answers_at_end (Ok a) h = record { is = (ends_at a h).answer }
+    answers_at_end (Ok a) h = record { is = ((ends_at a h).answer, kind_at_end a h) }
     answers_at_end (Err errors.Memory) h = record { is = tt }
     answers_at_end (Err (errors.Fault k)) h = let f = (ended_now meaning m valid (take n pieces) c far new _ h).is in record { is = (f.memory, λ l. f.wanted (far.same.lean.0 l)) }
     answers_at_end (Err errors.TooLong) h = absurd (ended_now meaning m valid (take n pieces) c far new _ h)

@@ -1,6 +1,6 @@
 -- streams whose reads and resets never fail
-use Rattle.std.specs.Prelude.{◌<◌, ◌≤◌, ◌≡◌, Bool, true, false, Result, Ok, Err, refl}
-use Rattle.std.proofs.Common.{arith, subst, ap, sym}
+use Rattle.std.specs.Prelude.{◌<◌, ◌≡◌, Bool, true, MatchResult, Result, Ok, Err}
+use Rattle.std.proofs.Common.{arith, refl, subst}
 use Rattle.combine_base.specs.Stream.View.{View}
 use Rattle.combine_base.specs.Error.Errors.{Errors}
 use Rattle.combine_base.specs.Error.Results.{as_result}
@@ -75,3 +75,8 @@ module _ {P T R V S E : Type 0} (w : World P T S E) (m : Meaning P T R V S) wher
 
   pub start_results_without_fault : (s : Errors T R P E) (refuses : Bool → E → Type 0) (old new : View P T) (before after : Failures) → after ≡ before → (result : Result V E) → StartResults w m s refuses old new before after result → NoStreamFaultIn w.kind result
   start_results_without_fault s refuses old new before after e result h = results_without_fault s refuses (record { first = true; state = h.state; left = h.left; old = old; new = new; before = before; after = after }) e result h.results
+
+  -- nor `parse`
+  pub parse_without_fault : {I X : Type 0} (s : Errors T R P E) (refuses : Bool → E → Type 0) (view : I → View P T) (old : View P T) (counts : Failures) (accepts : X → Type 0) (result : Result X E) → MatchResult result accepts (λ e. (left : I) × StartResults w m s refuses old (view left) counts counts (Err e)) → NoStreamFaultIn w.kind result
+  parse_without_fault s refuses view old counts accepts (Ok p) h = tt
+  parse_without_fault s refuses view old counts accepts (Err e) h = start_results_without_fault s refuses old (view h.0) counts counts refl (Err e) h.1

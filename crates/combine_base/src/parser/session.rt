@@ -108,7 +108,7 @@ impl<P: Parser<fed::Stream<T>>, T: Copy + 'static> Session<P, T> {
 
 /// Parses the pieces as one input, which then ends; those behind a decision are not looked at. Our own.
 ///
-/// However the input is cut, the answer is what the parser means on all of it: an acceptance counts the tokens from its beginning.
+/// However the input is cut, the answer is what the parser means on all of it: an acceptance counts the tokens from its beginning, and the error of a refusal is of kind `Refused`, or `End` where the input ended too soon.
 /// A fault is of kind `Memory`, and a parser that asks for no memory has none. Neither `Closed` nor `Failed` is answered.
 pub fn parse_pieces<P: Parser<fed::Stream<T>> + Drop, T: Copy + 'static>(
     alloc: Global,

@@ -1,0 +1,48 @@
+//! A session in a loop, for input that comes bit by bit.
+
+use combine::parser::{Answer, Parser, Session, SessionError};
+use combine::stream::fed;
+use std::alloc::Global;
+
+/// The value that is accepted of these pieces, if one is; those behind a decision are not asked for.
+pub fn accepted<P: Parser<fed::Stream<u8>> + Drop>(
+    alloc: Global,
+    parser: P,
+    pieces: &[&[u8]],
+) -> Result<Option<P::Output>, SessionError>
+    requires { P.lawful parser }
+{
+    let mut session = Session::new(alloc, parser);
+    for piece in pieces {
+        match session.feed(piece)? {
+            Answer::More => {}
+            Answer::Accepted { value, .. } => return Ok(Some(value)),
+            Answer::Refused { .. } => return Ok(None),
+        }
+    }
+    match session.end()? {
+        Answer::Accepted { value, .. } => Ok(Some(value)),
+        Answer::More | Answer::Refused { .. } => Ok(None),
+    }
+}
+
+#[cfg(test)]
+mod tests {
+    use super::*;
+    use combine::parser::token::token;
+
+    #[test]
+    fn two_tokens_over_a_cut(rt: HostRuntime) {
+        let pair = (token(b'a'), token(b'b'));
+        assert_eq!(rt;
+            accepted(rt.alloc(), pair, &[b"a", b"bc"]),
+            Ok(Some((b'a', b'b')))
+        );
+    }
+
+    #[test]
+    fn two_tokens_of_which_one_is_missing(rt: HostRuntime) {
+        let pair = (token(b'a'), token(b'b'));
+        assert_eq!(rt; accepted(rt.alloc(), pair, &[b"a"]), Ok(None));
+    }
+}
