@@ -1,11 +1,11 @@
 -- a session that still runs: its one error, what it leaves unread, and its room for the next piece
-use Rattle.std.proofs.Common.{ℕ, ◌+◌, ◌^◌, ◌<◌, ◌≤◌, ◌≡◌, sym, ◌∙◌, ap, subst, List, [], ◌∷◌, ◌++◌, length, take, drop, get_or, true, false, arith, Result, Ok, Err}
-use Rattle.std.proofs.lemmas.List.{take_more, take-append-drop, length-append, length-drop}
+use Rattle.std.proofs.Common.{ℕ, ◌+◌, ◌^◌, ◌<◌, ◌≤◌, ◌≡◌, ap, subst, List, [], ◌++◌, length, take, get_or, true, false, arith, Result, Ok, Err}
+use Rattle.std.proofs.lemmas.List.{length-append, length-drop}
 use Rattle.combine_base.specs.Parser.Meaning.{Meaning}
 use Rattle.combine_base.specs.Parser.Pieces.{concatenated}
 use Rattle.combine_base.specs.Parser.Sessions.{Course, Feeds, Ends, by_stage}
 use Rattle.combine_base.specs.Parser.Sessions as session
-use Rattle.combine_base.proofs.Pieces.{SoFar, concatenated_append, concatenated_more}
+use Rattle.combine_base.proofs.Pieces.{SoFar, no_longer}
 use Rattle.combine_base.specs.declared.error.UnexpectedParse.{UnexpectedParse}
 use Rattle.combine_base.specs.declared.parser.answer.Answer.{Answer}
 use Rattle.combine_base.specs.declared.parser.answer.Answer.TheVariants as answers
@@ -46,13 +46,7 @@ module _ {P T R A S : Type 0} (meaning : P → Meaning ℕ T R A S) (valid : S �
   ends_memory errors.Failed h = absurd (ended_now _ h)
 
 -- where all pieces have room, the next one has
-pub has_room : {P T R A S : Type 0} (meaning : P → Meaning ℕ T R A S) (m : Meaning ℕ T R A S) (pieces : List (List T)) (n : ℕ) (c : Course P T S) → SoFar meaning m (take n pieces) c → (piece : List T) → n < length pieces → get_or pieces n piece ≡ piece → length (concatenated pieces) < 2 ^ 64 → c.seen.position + length c.seen.unread + length piece < 2 ^ 64
-has_room meaning m pieces n c far piece within at fits =
-    let fed = take n pieces in
-    let next : fed ++ piece ∷ [] ≡ take (n + 1) pieces = ap (λ x. fed ++ x ∷ []) (sym at) ∙ sym (take_more pieces n piece within) in
-    let all = ap concatenated (sym (take-append-drop (n + 1) pieces)) ∙ concatenated_append (take (n + 1) pieces) (drop (n + 1) pieces) in
-    let long = ap length all ∙ length-append (concatenated (take (n + 1) pieces)) (concatenated (drop (n + 1) pieces)) in
-    let now = ap length (ap concatenated (sym next) ∙ concatenated_more fed piece) ∙ length-append (concatenated fed) piece in
-    let unread = ap length far.unread in
-    let taken = far.within in
-    omega (arith, length-drop c.seen.position (concatenated fed))
+pub has_room : {P T R A S : Type 0} (meaning : P → Meaning ℕ T R A S) (m : Meaning ℕ T R A S) (valid : S → Type 0) (pieces : List (List T)) (n : ℕ) (c : Course P T S) → SoFar meaning m (take n pieces) c → (piece : List T) → n < length pieces → get_or pieces n piece ≡ piece → length (concatenated pieces) < 2 ^ 64 → c.seen.position + length c.seen.unread + length piece < 2 ^ 64
+has_room meaning m valid pieces n c far piece within at fits =
+    let most = no_longer meaning m valid pieces n c far piece within at c in
+    omega arith

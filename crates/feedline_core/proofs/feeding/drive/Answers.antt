@@ -10,7 +10,7 @@ feed-requires-clause-fits g c =
     let pieces = map (λ p. p.now) c.args.pieces.now in
     let within : c.pieces.piece-index < length pieces = rw length-map c.pieces-test.true in
     let at = get_or-map (λ p. p.now) c.args.pieces.now c.pieces.piece-index _ _ c.pieces-test.true in
-    has_room _ _ pieces _ _ c.pieces.invariant.far _ within at c.requires.fits
+    has_room _ _ g.P.Parser.valid pieces _ _ c.pieces.invariant.far _ within at c.requires.fits
 
 pub returns-in_default : goal.returns-in_default
 returns-in_default g c =
