@@ -1,5 +1,5 @@
 -- one call of `attempt`: it has passed over the distance, and each answer of the part there is an answer of it
-use Rattle.std.proofs.Common.{ℕ, ◌+◌, ◌<◌, ◌≤◌, ◌≡◌, Bool, true, false, ◌||◌, if◌then◌else◌, arith, ap, sym, subst, refl, ◌∙◌, length-append, nat_lt, Ok, Err, List, ltb-true, ltb-false}
+use Rattle.std.proofs.Common.{ℕ, ◌+◌, ◌<◌, ◌≤◌, ◌≡◌, Bool, true, false, ◌||◌, if◌then◌else◌, arith, ap, sym, subst, refl, ◌∙◌, length-append, nat_lt, Ok, Err, List, Result, length, ltb-true, ltb-false}
 use Rattle.combine_base.specs.Stream.View.{View, Takes, Moves, advanced, extended, Follows}
 use Rattle.combine_base.specs.Stream.Advance.{advanced_extended}
 use Rattle.combine_base.specs.Parser.Outcome.{Outcome, Accepted, Refused, Undecided, after, IsCommitted}
@@ -8,8 +8,9 @@ use Rattle.combine_base.specs.Parser.Meaning.{Meaning, begun}
 use Rattle.combine_base.specs.Parser.Answer.{Run, World, Answers, Accepts, Refuses, Asks, Leaves, fails, ends, peeks, loses}
 use Rattle.combine_base.specs.Stream.Calls.{Passes}
 use Rattle.combine_base.specs.Parser.Drivers.{Broke}
-use Rattle.combine_base.specs.Distances.{PassesOver, Measures}
-use Rattle.combine_base.proofs.Calls.{around, needs, need_of_more, same_mark}
+use Rattle.combine_base.specs.Distances.{PassesOver, Measures, stops}
+use Rattle.combine_base.specs.Sequence.Parts.{accepted_as}
+use Rattle.combine_base.proofs.Calls.{around, left_settled, needs, need_of_more, peeked_refusal, same_mark}
 use Rattle.combine_base.proofs.Progress.{after_none, takes_none, takes_more, takes_open}
 use Rattle.combine_base.specs.declared.stream.Kind.{Kind}
 use Rattle.combine_base.specs.declared.stream.Kind.TheVariants as kinds
@@ -17,7 +18,8 @@ use Rattle.combine_base.specs.declared.stream.Failures.{Failures}
 use Rattle.combine_base.specs.declared.error.Tracked.{Tracked}
 use Rattle.combine_base.specs.declared.error.ParseResult.{ParseResult}
 use Rattle.combine_base.specs.declared.error.ParseResult.TheVariants.{CommitOk, PeekOk, CommitErr, PeekErr}
-use Rattle.combine_map.specs.Attempt.{IsFresh, refused_peeked, refusing, Attempts, Loses, Short, Within, attempted}
+use Rattle.combine_map.specs.Attempt.{IsFresh, refused_peeked, refusing, losing, Attempts, Loses, Short, Within, attempted}
+use Rattle.combine_map.specs.PutBack.{KeepsDistance, PutsBack, keeps_distance}
 use Rattle.combine_map.specs.declared.combinator.TryState.{TryState}
 
 -- what was read in an earlier call and what in this one
@@ -94,10 +96,10 @@ module _ {P T R V S E : Type 0} (w : World P T S E) (m : Meaning P T R V S) wher
     try_commit_ok v n a l p = record { is = subst (Accepts (around w (IsFresh w.fresh)) (attempted w.step m) u v) (or_true (nat_lt 0 d)) (accepts v true n a l p.is) }
 
     -- committed where tokens were read in an earlier call
-    pub try_peek_ok : (v : V) (result : ParseResult V E) → result ≡ (if nat_lt 0 d then CommitOk v else PeekOk v) → u.new ≡ r.new → u.after ≡ r.after → u.left ≡ record { distance = held; part = r.left } → Answers w m r (PeekOk v) → Answers (around w (IsFresh w.fresh)) (attempted w.step m) u result
+    pub try_peek_ok : (v : V) (result : ParseResult V E) → result ≡ accepted_as (nat_lt 0 d) v → u.new ≡ r.new → u.after ≡ r.after → u.left ≡ record { distance = held; part = r.left } → Answers w m r (PeekOk v) → Answers (around w (IsFresh w.fresh)) (attempted w.step m) u result
     try_peek_ok v result e n a l p = rw e (by_test (nat_lt 0 d) (subst (Accepts (around w (IsFresh w.fresh)) (attempted w.step m) u v) (or_false (nat_lt 0 d)) (accepts v false n a l p.is)))
       where
-        by_test : (b : Bool) → Accepts (around w (IsFresh w.fresh)) (attempted w.step m) u v b → Answers (around w (IsFresh w.fresh)) (attempted w.step m) u (if b then CommitOk v else PeekOk v)
+        by_test : (b : Bool) → Accepts (around w (IsFresh w.fresh)) (attempted w.step m) u v b → Answers (around w (IsFresh w.fresh)) (attempted w.step m) u (accepted_as b v)
         by_test true q = record { is = q }
         by_test false q = record { is = q }
 
@@ -112,7 +114,7 @@ module _ {P T R V S E : Type 0} (w : World P T S E) (m : Meaning P T R V S) wher
     closed : (b : Bool) → r.old.is_open ≡ b → u.old.is_open ≡ b
     closed b e = sym (takes_open w.step d u.old r.old z.taken) ∙ e
 
-    pub try_peeks : (t : Tracked E) → Answers w m r (PeekErr t) → u.new ≡ u.old → (w.steady → u.after ≡ r.after) → u.left ≡ record { distance = held; part = r.left } → Answers (around w (IsFresh w.fresh)) (attempted w.step m) u (PeekErr t)
+    try_peeks : (t : Tracked E) → Answers w m r (PeekErr t) → u.new ≡ u.old → (w.steady → u.after ≡ r.after) → u.left ≡ record { distance = held; part = r.left } → Answers (around w (IsFresh w.fresh)) (attempted w.step m) u (PeekErr t)
     try_peeks t p n a l = record { is = by_kind (w.kind t.error) p.is }
       where
         by_kind : (k : Kind) → peeks w m r k → peeks (around w (IsFresh w.fresh)) (attempted w.step m) u k
@@ -124,7 +126,7 @@ module _ {P T R V S E : Type 0} (w : World P T S E) (m : Meaning P T R V S) wher
         by_kind kinds.Lost y = y
 
     -- a committed refusal becomes peeked
-    pub try_refuses : (e : E) (t : Tracked E) → t.error ≡ e → refusing (w.kind e) ≡ true → ((w.kind e ≡ kinds.End) × (r.new.is_open ≡ true) → ⊥) → Answers w m r (CommitErr e) → u.new ≡ u.old → (w.steady → u.after ≡ r.after) → u.left ≡ record { distance = held; part = r.left } → Answers (around w (IsFresh w.fresh)) (attempted w.step m) u (PeekErr t)
+    try_refuses : (e : E) (t : Tracked E) → t.error ≡ e → refusing (w.kind e) ≡ true → ((w.kind e ≡ kinds.End) × (r.new.is_open ≡ true) → ⊥) → Answers w m r (CommitErr e) → u.new ≡ u.old → (w.steady → u.after ≡ r.after) → u.left ≡ record { distance = held; part = r.left } → Answers (around w (IsFresh w.fresh)) (attempted w.step m) u (PeekErr t)
     try_refuses e t j i q p n a l = record { is = rw j (by_kind (w.kind e) refl i p.is) }
       where
         at_end : (b : Bool) → r.old.is_open ≡ b → w.kind e ≡ kinds.End → ends w m r b → peeks (around w (IsFresh w.fresh)) (attempted w.step m) u kinds.End
@@ -174,14 +176,32 @@ module _ {P T R V S E : Type 0} (w : World P T S E) (m : Meaning P T R V S) wher
         by_kind kinds.Lost h = absurd h
 
     -- the stream could not be put back
-    pub try_unreset : (k : Kind) (result : ParseResult V E) → (e : E) × (result ≡ CommitErr e) × (w.kind e ≡ k) → (k ≡ kinds.Reset) × Moves w.step r.new u.new × (r.after.resets < u.after.resets) → r.before.reads ≤ r.after.reads → r.before.resets ≤ r.after.resets → u.left.distance ≡ held → w.fresh u.left.part → Leaves w r → Answers (around w (IsFresh w.fresh)) (attempted w.step m) u result
+    try_unreset : (k : Kind) (result : ParseResult V E) → (e : E) × (result ≡ CommitErr e) × (w.kind e ≡ k) → (k ≡ kinds.Reset) × Moves w.step r.new u.new × (r.after.resets < u.after.resets) → r.before.reads ≤ r.after.reads → r.before.resets ≤ r.after.resets → u.left.distance ≡ held → w.fresh u.left.part → Leaves w r → Answers (around w (IsFresh w.fresh)) (attempted w.step m) u result
     try_unreset k result i h x y n l p =
         let s = h.1 in
         let t = takes_more w.step d p.count u.old r.old r.new z.taken p.taken in
         broken k result i (rw h.0 h.2) x y (record { count = d + p.count + s.count; taken = takes_more w.step (d + p.count) s.count u.old r.new u.new t s.taken; state = (n ∙ z.none, l) })
 
+    -- a refusal that is put back, or could not be
+    try_put_back : (marked : View P T → Type 0) (t : Tracked E) (result : ParseResult V E) → (u.new ≡ u.old → (w.steady → u.after ≡ r.after) → u.left ≡ record { distance = held; part = r.left } → Answers (around w (IsFresh w.fresh)) (attempted w.step m) u (PeekErr t)) → marked u.old → PutsBack w.steady w.step marked r.new u.new r.after u.after w.kind w.fresh r.left u.left.part t result → r.before.reads ≤ r.after.reads → r.before.resets ≤ r.after.resets → u.left.distance ≡ held → Leaves w r → Answers (around w (IsFresh w.fresh)) (attempted w.step m) u result
+    try_put_back marked t (CommitOk v) back i h x y n p = absurd h.is
+    try_put_back marked t (PeekOk v) back i h x y n p = absurd h.is
+    try_put_back marked t (PeekErr o) back i h x y n p =
+        let to = h.is.1.is in
+        let e = h.is.2 in
+        rw h.is.0 (back (to.0 u.old i) to.1 (ap (λ k. record { distance = k; part = u.left.part }) n ∙ ap (λ s. record { distance = held; part = s }) e))
+    try_put_back marked t (CommitErr e) back i h x y n p = try_unreset (w.kind e) (CommitErr e) (e, refl, refl) h.is.0.is x y n h.is.1 p
+
+    -- a peeked refusal of the part
+    pub try_peeks_back : (marked : View P T → Type 0) (t : Tracked E) (result : ParseResult V E) → Answers w m r (PeekErr t) → marked u.old → PutsBack w.steady w.step marked r.new u.new r.after u.after w.kind w.fresh r.left u.left.part t result → r.before.reads ≤ r.after.reads → r.before.resets ≤ r.after.resets → u.left.distance ≡ held → Answers (around w (IsFresh w.fresh)) (attempted w.step m) u result
+    try_peeks_back marked t result p i h x y n = try_put_back marked t result (try_peeks t p) i h x y n (peeked_refusal w m r (w.kind t.error) p.is).leaves
+
+    -- a committed one
+    pub try_refuses_back : (marked : View P T → Type 0) (e : E) (t : Tracked E) (result : ParseResult V E) → t.error ≡ e → refusing (w.kind e) ≡ true → ((w.kind e ≡ kinds.End) × (r.new.is_open ≡ true) → ⊥) → Answers w m r (CommitErr e) → marked u.old → PutsBack w.steady w.step marked r.new u.new r.after u.after w.kind w.fresh r.left u.left.part t result → r.before.reads ≤ r.after.reads → r.before.resets ≤ r.after.resets → u.left.distance ≡ held → Answers (around w (IsFresh w.fresh)) (attempted w.step m) u result
+    try_refuses_back marked e t result j f q p i h x y n = try_put_back marked t result (try_refuses e t j f q p) i h x y n (left_settled w m r e q p)
+
     -- the tokens read could not be counted
-    pub try_unmeasured : (k : Kind) (result : ParseResult V E) → (e : E) × (result ≡ CommitErr e) × (w.kind e ≡ k) → (g : E) → (w.kind g ≡ kinds.End) × (r.new.is_open ≡ true) → Answers w m r (CommitErr g) → ((n : ℕ) → Takes w.step n u.old r.new → Measures w.steady w.step r.new u.new r.after u.after u.old n (Err k)) → r.before.reads ≤ r.after.reads → r.before.resets ≤ r.after.resets → u.left.distance ≡ held → w.fresh u.left.part → Answers (around w (IsFresh w.fresh)) (attempted w.step m) u result
+    try_unmeasured : (k : Kind) (result : ParseResult V E) → (e : E) × (result ≡ CommitErr e) × (w.kind e ≡ k) → (g : E) → (w.kind g ≡ kinds.End) × (r.new.is_open ≡ true) → Answers w m r (CommitErr g) → ((n : ℕ) → Takes w.step n u.old r.new → Measures w.steady w.step r.new u.new r.after u.after u.old n (Err k)) → r.before.reads ≤ r.after.reads → r.before.resets ≤ r.after.resets → u.left.distance ≡ held → w.fresh u.left.part → Answers (around w (IsFresh w.fresh)) (attempted w.step m) u result
     try_unmeasured k result i g q p h x y n l =
         let a = need_of_more w m r g q.0 (sym (same_mark w m r g p) ∙ q.1) p in
         let b = (h (d + a.count) (takes_more w.step d a.count u.old r.old r.new z.taken a.taken)).is in
@@ -228,10 +248,38 @@ module _ {P T R V S E : Type 0} (w : World P T S E) (m : Meaning P T R V S) wher
         losing_none x b (Short h) = let t = all_read.enough in omega (arith, length-append u.old.unread x)
         losing_none x b (Within h) = p.found x b (subst (m.lost r.left) (there x b) h)
 
-    pub try_asks : (e : E) → (w.kind e ≡ kinds.End) × (r.new.is_open ≡ true) → Answers w m r (CommitErr e) → (count : ℕ) → ((n : ℕ) → Takes w.step n u.old r.new → Measures w.steady w.step r.new u.new r.after u.after u.old n (Ok count)) → u.left ≡ record { distance = count; part = r.left } → Answers (around w (IsFresh w.fresh)) (attempted w.step m) u (CommitErr e)
+    try_asks : (e : E) → (w.kind e ≡ kinds.End) × (r.new.is_open ≡ true) → Answers w m r (CommitErr e) → (count : ℕ) → ((n : ℕ) → Takes w.step n u.old r.new → Measures w.steady w.step r.new u.new r.after u.after u.old n (Ok count)) → u.left ≡ record { distance = count; part = r.left } → Answers (around w (IsFresh w.fresh)) (attempted w.step m) u (CommitErr e)
     try_asks e q p count g l = needs w (IsFresh w.fresh) m (attempted w.step m) r u e q p (takes_open w.step d u.old r.old z.taken) asking
       where
         asking : Asks w m r → Asks (around w (IsFresh w.fresh)) (attempted w.step m) u
         asking y =
             let h = (g (d + y.count) (takes_more w.step d y.count u.old r.old r.new z.taken y.taken)).is in
             asks y h.1 (l ∙ ap (λ c. record { distance = c; part = r.left }) h.0) h.2
+
+    -- need of more, whose distance is kept, or could not be measured
+    pub try_keeps_distance : (marked : View P T → Type 0) (e : E) (result : ParseResult V E) → (w.kind e ≡ kinds.End) × (r.new.is_open ≡ true) → Answers w m r (CommitErr e) → marked u.old → KeepsDistance w.steady w.step marked r.new u.new r.after u.after w.kind w.fresh (record { distance = held; part = r.left }) u.left e result → r.before.reads ≤ r.after.reads → r.before.resets ≤ r.after.resets → Answers (around w (IsFresh w.fresh)) (attempted w.step m) u result
+    try_keeps_distance marked e result q p i h x y = by_measured h.distance h.measures h.keeps
+      where
+        by_measured : (k : Result ℕ Kind) → ((n : ℕ) (v : View P T) → marked v → Takes w.step n v r.new → Measures w.steady w.step r.new u.new r.after u.after v n k) → keeps_distance w.steady w.step marked r.new u.new r.after u.after w.kind w.fresh (record { distance = held; part = r.left }) u.left e result k → Answers (around w (IsFresh w.fresh)) (attempted w.step m) u result
+        by_measured (Ok count) g j = rw j.0 (try_asks e q p count (λ n t. g n u.old i t) j.1)
+        by_measured (Err k) g j = try_unmeasured k result j.0 e q p (λ n t. g n u.old i t) x y j.1 j.2
+
+  module _ (d : ℕ) (u : Run P T (TryState S)) (e : d ≡ (if u.first then 0 else u.state.distance)) where
+    -- the kept distance could not be passed over
+    pub try_lost : (k j : Kind) (result : ParseResult V E) → j ≡ losing k → (x : E) × (result ≡ CommitErr x) × (w.kind x ≡ j) → PassesOver w.steady w.step u.old u.new u.before u.after d (Err k) → IsFresh w.fresh u.left → Answers (around w (IsFresh w.fresh)) (attempted w.step m) u result
+    try_lost k j result q i h l = rw i.1 (record { is = rw (i.2, q) (by_kind k h.is.0) })
+      where
+        left : Leaves (around w (IsFresh w.fresh)) u
+        left = record { count = h.is.1.count; taken = h.is.1.taken; state = l }
+
+        short : (b : Bool) → d ≡ (if b then 0 else u.state.distance) → length u.old.unread < d → loses (around w (IsFresh w.fresh)) (attempted w.step m) u b
+        short true j y = absurd (omega arith)
+        short false j y = (Short (subst (λ n. length u.old.unread < n) j y), left)
+
+        by_kind : (k : Kind) → stops w.steady w.step u.old u.new u.before u.after d k → fails (around w (IsFresh w.fresh)) (attempted w.step m) u (losing k)
+        by_kind kinds.End y = short u.first e y
+        by_kind kinds.Read y = (y, left)
+        by_kind kinds.Refused y = absurd y
+        by_kind kinds.Memory y = absurd y
+        by_kind kinds.Reset y = absurd y
+        by_kind kinds.Lost y = absurd y

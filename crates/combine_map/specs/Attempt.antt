@@ -1,5 +1,5 @@
 -- a parser whose refusals are all peeked; its state is the distance read, in tokens, and the part's state
-use Rattle.std.specs.Prelude.{ℕ, ◌+◌, ◌<◌, ◌≤◌, ◌≡◌, Bool, true, false, ◌||◌, nat_lt, List, length, refl, ◌↔◌}
+use Rattle.std.specs.Prelude.{ℕ, ◌+◌, ◌<◌, ◌≤◌, ◌≡◌, Bool, true, false, ◌||◌, nat_lt, Option, Some, None, List, length, refl, ◌↔◌}
 use Rattle.std.proofs.Common.{arith, ap, sym, subst, ◌∙◌, length-append, length-drop, ltb-false}
 use Rattle.combine_base.specs.Stream.View.{View, advanced, extended}
 use Rattle.combine_base.specs.Stream.Advance.{advanced_extended}
@@ -41,6 +41,17 @@ IsFresh fresh s = (s.distance ≡ 0) × fresh s.part
 -- the part's state is valid
 abbrev pub HasValid : {S : Type 0} → (S → Type 0) → TryState S → Type 0
 HasValid valid s = valid s.part
+
+module _ {P T S E : Type 0} (step : P → T → P) (part : Option S → View P T → Bool → E → Type 0) where
+  -- the errors of the part where it is called: afresh at the view, or from its kept state after the distance that was read
+  abbrev pub part_refuses : Option (TryState S) → View P T → Bool → E → Type 0
+  part_refuses None v = part None v
+  part_refuses (Some s) v = part (Some s.part) (advanced step s.distance v)
+
+  -- every refusal is peeked, and its error is one that the part may have refused with there, committed or peeked
+  abbrev pub attempt_refuses : Option (TryState S) → View P T → Bool → E → Type 0
+  attempt_refuses from v true e = ⊥
+  attempt_refuses from v false e = (committed : Bool) × part_refuses from v committed e
 
 module _ {P T : Type 0} (step : P → T → P) where
   -- the kept distance is longer than the input, or the part's own is

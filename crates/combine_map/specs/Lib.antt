@@ -5,5 +5,6 @@ pub use Rattle.combine_base.specs.Parser.Outcome
 pub use Rattle.combine_base.specs.Parser.OutcomeFacts
 pub use Rattle.combine_base.specs.Stream.View
 pub mod Attempt
+pub mod PutBack
 pub mod Parsers
 pub mod Laws

@@ -1,11 +1,12 @@
 -- the turns of one call: each goes on, and each way out is an answer of what runs them
-use Rattle.std.proofs.Common.{ℕ, ◌+◌, ◌≤◌, ◌<◌, ◌≡◌, ◌⊎◌, inl, inr, Bool, true, false, ◌||◌, if◌then◌else◌, length, drop, arith, ap, sym, refl, ◌∙◌, length-drop}
+use Rattle.std.proofs.Common.{ℕ, ◌+◌, ◌≤◌, ◌<◌, ◌≡◌, ◌⊎◌, inl, inr, Bool, true, false, ◌||◌, length, drop, arith, ap, sym, refl, ◌∙◌, length-drop}
 use Rattle.combine_base.specs.Stream.View.{View, Takes}
 use Rattle.combine_base.specs.Parser.Outcome.{Outcome, Accepted, Refused, Undecided, after, shape}
 use Rattle.combine_base.specs.Parser.OutcomeFacts.{or_true, or_false}
 use Rattle.combine_base.specs.Parser.Meaning.{Meaning, Reading, IsReading, begun}
 use Rattle.combine_base.specs.Parser.Answer.{Run, World, Answers, Accepts, Refuses, Asks, Leaves, fails, peeks, ends, loses}
 use Rattle.combine_base.specs.Refusals.{Told}
+use Rattle.combine_base.specs.Sequence.Parts.{accepted_as, refused_as}
 use Rattle.combine_base.proofs.Progress.{Progress, takes_more, takes_open, progress_more, progress_outcome, resumes_more, takes_none}
 use Rattle.combine_base.proofs.Calls.{around, Settles, settles, unreset}
 use Rattle.combine_repeat.specs.Turns.{Goes, Stops, Rule, IsRule, Collecting, SoFar, Collects, Turned}
@@ -15,7 +16,7 @@ use Rattle.combine_base.specs.declared.stream.Kind.TheVariants as kinds
 use Rattle.combine_base.specs.declared.stream.Failures.{Failures}
 use Rattle.combine_base.specs.declared.error.Tracked.{Tracked}
 use Rattle.combine_base.specs.declared.error.ParseResult.{ParseResult}
-use Rattle.combine_base.specs.declared.error.ParseResult.TheVariants.{CommitOk, PeekOk, CommitErr, PeekErr}
+use Rattle.combine_base.specs.declared.error.ParseResult.TheVariants.{CommitErr, PeekErr}
 
 -- a call that takes all that is left has taken all
 every_token : {P T : Type 0} {step : P → T → P} (n m : ℕ) (u v : View P T) → Takes step n u v → m ≡ length v.unread → n + m ≡ length u.unread
@@ -65,18 +66,18 @@ module _ {P T R A V S U E Mark : Type 0} (w : World P T S E) (fresh : U → Type
     turn_refuses i k d j e y a = record { meant = stops i (Refused k) (Refused (s.committed || k)) d j refl tt; leaves = leaves e y; failures = unchanged e.failures a }
 
     -- a peeked refusal that ends the turns, put back
-    pub turn_ends : (v : V) (result : ParseResult V E) → rule.judge s.mark (Refused false) ≡ Stops (Accepted tt 0 false) → c.held v ≡ s.held → result ≡ (if s.committed then CommitOk v else PeekOk v) → Refuses w m r false → u.new ≡ r.old → (w.fresh r.left → fresh u.left) → (w.steady → u.after ≡ r.after) → Answers (around w fresh) whole u result
+    pub turn_ends : (v : V) (result : ParseResult V E) → rule.judge s.mark (Refused false) ≡ Stops (Accepted tt 0 false) → c.held v ≡ s.held → result ≡ accepted_as s.committed v → Refuses w m r false → u.new ≡ r.old → (w.fresh r.left → fresh u.left) → (w.steady → u.after ≡ r.after) → Answers (around w fresh) whole u result
     turn_ends v result j h i y n l a = rw i (by_commitment s.committed (rw (or_false s.committed) at accepted))
       where
         accepted : Accepts (around w fresh) whole u v (s.committed || false)
         accepted = turn_accepts (Refused false) 0 false v y.meant j h (rw n (takes_none w.step r.old)) (l y.leaves.state) a y.failures
 
-        by_commitment : (b : Bool) → Accepts (around w fresh) whole u v b → Answers (around w fresh) whole u (if b then CommitOk v else PeekOk v)
+        by_commitment : (b : Bool) → Accepts (around w fresh) whole u v b → Answers (around w fresh) whole u (accepted_as b v)
         by_commitment true x = record { is = x }
         by_commitment false x = record { is = x }
 
     -- a peeked refusal that is that of the whole, committed if a block was
-    pub turn_peeks : (e : Tracked E) (result : ParseResult V E) → rule.judge s.mark (Refused false) ≡ Stops (Refused false) → result ≡ (if s.committed then CommitErr e.error else PeekErr e) → Answers w m r (PeekErr e) → Ends → Answers (around w fresh) whole u result
+    pub turn_peeks : (e : Tracked E) (result : ParseResult V E) → rule.judge s.mark (Refused false) ≡ Stops (Refused false) → result ≡ refused_as s.committed e → Answers w m r (PeekErr e) → Ends → Answers (around w fresh) whole u result
     turn_peeks e result j i p k = rw i (by_commitment s.committed refused)
       where
         refused : Refuses w m r false → Refuses (around w fresh) whole u s.committed
@@ -102,7 +103,7 @@ module _ {P T R A V S U E Mark : Type 0} (w : World P T S E) (fresh : U → Type
         peeked kinds.Reset f y = y
         peeked kinds.Lost f y = y
 
-        by_commitment : (b : Bool) → (Refuses w m r false → Refuses (around w fresh) whole u b) → Answers (around w fresh) whole u (if b then CommitErr e.error else PeekErr e)
+        by_commitment : (b : Bool) → (Refuses w m r false → Refuses (around w fresh) whole u b) → Answers (around w fresh) whole u (refused_as b e)
         by_commitment true f = record { is = committed (w.kind e.error) f p.is }
         by_commitment false f = record { is = peeked (w.kind e.error) f p.is }
 

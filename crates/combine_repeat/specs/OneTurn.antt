@@ -1,15 +1,20 @@
 -- what one turn of a call does: it is a block and the next one runs, or it is said why none does
-use Rattle.std.specs.Prelude.{ℕ, ◌<◌, ◌≡◌, Bool, true, false, ◌||◌, Option, Some, None, if◌then◌else◌}
+use Rattle.std.specs.Prelude.{ℕ, ◌<◌, ◌≡◌, Bool, true, false, ◌||◌, Option, Some, None}
 use Rattle.combine_base.specs.Stream.View.{Takes}
-use Rattle.combine_base.specs.Parser.Meaning.{Meaning}
-use Rattle.combine_base.specs.Parser.Answer.{Run, World, Answers, Accepts, Refuses, Leaves}
+use Rattle.combine_base.specs.Error.Errors.{Errors}
+use Rattle.combine_base.specs.Parser.Meaning.{Meaning, MeansSame}
+use Rattle.combine_base.specs.Parser.Answer.{Run, World, Answers, Accepts, Refuses, Leaves, world}
 use Rattle.combine_base.specs.Refusals.{Told}
+use Rattle.combine_base.specs.Sequence.Parts.{accepted_as, refused_as}
+use Rattle.combine_base.specs.Stream.Calls.{Passes}
 use Rattle.combine_repeat.specs.Turns.{Collecting}
 use Rattle.combine_repeat.specs.Repetition.{asks_first, goes_at, cut_at, so_far}
+use Rattle.combine_base.specs.declared.parser.Parser as parser
+use Rattle.combine_base.specs.declared.stream.StreamOnce as stream
 use Rattle.combine_base.specs.declared.stream.Kind.TheVariants as kinds
 use Rattle.combine_base.specs.declared.error.Tracked.{Tracked}
 use Rattle.combine_base.specs.declared.error.ParseResult.{ParseResult}
-use Rattle.combine_base.specs.declared.error.ParseResult.TheVariants.{CommitOk, PeekOk, CommitErr, PeekErr}
+use Rattle.combine_base.specs.declared.error.ParseResult.TheVariants.{CommitErr, PeekErr}
 use Rattle.combine_repeat.specs.declared.repeat.turns.Place.{Place}
 use Rattle.combine_repeat.specs.declared.repeat.turns.Place.TheVariants.{Later}
 use Rattle.combine_repeat.specs.declared.repeat.turns.Stop.{Stop}
@@ -73,10 +78,19 @@ module _ {P T R A V S E : Type 0} (w : World P T S E) (c : Collecting A V) (m : 
   pub record OneTurn (result : Option (Stop E)) : Type 0 where
     pub is : turned result
 
+module _ {Self Input Output State Checkpoint Token Range Position Error StreamError : Type 0} (p : parser.Ghosts Self Input Output State Checkpoint Token Range Position Error StreamError) where
+  -- what one turn promises, of what was before and after it
+  pub record TurnCalled {V : Type 0} (i : stream.Ghosts Input Token Range Position Error StreamError) (seen : Errors Token Range Position Error) (fresh : State → Type 0) (c : Collecting Output V) (old new : Self) (input left : Input) (first : Bool) (from state : State) (turns after : Kept V) (result : Option (Stop Error)) : Type 0 where
+    pub lawful : p.lawful new
+    pub valid : p.valid state
+    pub same : MeansSame (p.meaning old) (p.meaning new)
+    pub passes : Passes (i.marks input) (i.marks left) (i.failures input) (i.failures left)
+    pub turned : OneTurn (world i.step seen i.steady fresh) c (p.meaning old) (record { first = first; state = from; left = state; old = i.view input; new = i.view left; before = i.failures input; after = i.failures left }) turns after result
+
 -- what turns answer that stop so
 abbrev pub stopped_answer : {V E : Type 0} → Kept V → Stop E → ParseResult V E
-stopped_answer t Over = if t.committed then CommitOk t.collection else PeekOk t.collection
-stopped_answer t (Refused r) = if t.committed then CommitErr r.error else PeekErr r
+stopped_answer t Over = accepted_as t.committed t.collection
+stopped_answer t (Refused r) = refused_as t.committed r
 stopped_answer t (More e) = CommitErr e
 stopped_answer t (Failed e) = CommitErr e
 

@@ -1,13 +1,16 @@
 //! The parsers that `map` and `attempt` answer.
-ghost use Rattle.std.specs.Prelude.{◌≡◌, if◌then◌else◌, nat_lt};
-ghost use Rattle.combine_map.specs.Attempt.{HasValid, attempted, attempted_is_meaning, attempted_means_one, losing, refusing};
+ghost use Rattle.std.specs.Prelude.{◌≡◌};
+ghost use Rattle.combine_map.specs.Attempt.{HasValid, attempt_refuses, attempted, attempted_is_meaning, attempted_means_one, losing, refusing};
 ghost use Rattle.combine_map.specs.Parsers.{attempt_part, map_function, map_part};
+ghost use Rattle.combine_map.specs.PutBack.{KeepsDistance, PutsBack};
 ghost use Rattle.combine_base.specs.Parser.Mapped.{mapped, mapped_is_meaning, mapped_means_one};
+ghost use Rattle.combine_base.specs.Stream.Calls.{Passes};
 
 use super::TryState;
 use combine_base::distance::{measure, pass_over};
 use combine_base::error::{ErrorOffset, ParseError, ParseResult, Tracked};
 use combine_base::parser::{ParseMode, Parser};
+use combine_base::sequence::accepted_after;
 use combine_base::stream::{Kind, Positioned, ResetStream, Stream, StreamOnce, needs_more};
 
 /// As its part, the value changed by its function; the state is that of the part.
@@ -28,6 +31,8 @@ impl<Input: Stream, P: Parser<Input>, B: Drop, F: Fn(P::Output) -> B> Parser<Inp
     ghost meaning = { λ p. mapped (P.meaning (map_part p)) (F.post (map_function p)) };
 
     ghost parts = { λ p. P.parts (map_part p) };
+
+    ghost refuses = { λ p. P.refuses (map_part p) };
 
     ghost default_valid = { P.default_valid };
 
@@ -82,6 +87,8 @@ impl<Input: Stream, P: Parser<Input>> Parser<Input> for Try<P> {
 
     ghost parts = { λ p. P.parts (attempt_part p) };
 
+    ghost refuses = { λ p. attempt_refuses Input.step (P.refuses (attempt_part p)) };
+
     ghost default_valid = { λ s d. P.default_valid _ d.1 };
 
     ghost laws = { λ p l. attempted_is_meaning _ P.PartialState.is_default _ (P.meaning (attempt_part p)) (P.laws (attempt_part p) l) };
@@ -103,28 +110,19 @@ impl<Input: Stream, P: Parser<Input>> Parser<Input> for Try<P> {
         }
         match self.0.parse_mode(mode, input, &mut state.part) {
             ParseResult::CommitOk(value) => ParseResult::CommitOk(value),
-            ParseResult::PeekOk(value) => accepted(distance, value),
-            ParseResult::PeekErr(refusal) => match input.reset(start) {
-                Ok(()) => ParseResult::PeekErr(refusal),
-                Err(kind) => fault(input, kind, position, &mut state.part),
-            },
+            ParseResult::PeekOk(value) => accepted_after(distance > 0, value),
+            ParseResult::PeekErr(refusal) => {
+                put_back(input, start, position, refusal, &mut state.part)
+            }
             ParseResult::CommitErr(error) => {
                 if needs_more(input, &error) {
-                    return match measure(input, start) {
-                        Ok(distance) => {
-                            state.distance = distance;
-                            ParseResult::CommitErr(error)
-                        }
-                        Err(kind) => fault(input, kind, position, &mut state.part),
-                    };
+                    return keep_distance(input, start, position, error, state);
                 }
                 if !refuses(error.kind()) {
                     return ParseResult::CommitErr(error);
                 }
-                match input.reset(start) {
-                    Ok(()) => ParseResult::PeekErr(Tracked::from(error)),
-                    Err(kind) => fault(input, kind, position, &mut state.part),
-                }
+                let refusal = Tracked::from(error);
+                put_back(input, start, position, refusal, &mut state.part)
             }
         }
     }
@@ -161,15 +159,41 @@ fn refuses(kind: Kind) -> bool
     matches!(kind, Kind::Refused | Kind::End)
 }
 
-/// A peeked acceptance, made committed where tokens were read before.
-#[inline]
-fn accepted<O, E>(distance: u64, value: O) -> ParseResult<O, E>
-    ensures { result ≡ (if nat_lt 0 distance then ParseResult.CommitOk value else ParseResult.PeekOk value) }
+/// Puts the stream back to where the part began, refused peeked.
+#[inline(always)]
+fn put_back<O, Input: Stream, S: Default + Drop>(
+    input: &mut Input,
+    start: Input::Checkpoint,
+    position: Input::Position,
+    refusal: Tracked<Input::Error>,
+    state: &mut S,
+) -> ParseResult<O, Input::Error>
+    ensures passes { Passes (Input.marks input.old) (Input.marks input.new) (Input.failures input.old) (Input.failures input.new) }
+    ensures back { PutsBack Input.steady Input.step (Input.stands input.old start) (Input.view input.old) (Input.view input.new) (Input.failures input.old) (Input.failures input.new) Input.Error.seen.kind S.is_default state.old state.new refusal result }
 {
-    if distance > 0 {
-        ParseResult::CommitOk(value)
-    } else {
-        ParseResult::PeekOk(value)
+    match input.reset(start) {
+        Ok(()) => ParseResult::PeekErr(refusal),
+        Err(kind) => fault(input, kind, position, state),
+    }
+}
+
+/// Puts the stream back on need of more, and keeps the distance that was read.
+fn keep_distance<O, Input: Stream, S: Default + Drop>(
+    input: &mut Input,
+    start: Input::Checkpoint,
+    position: Input::Position,
+    need: Input::Error,
+    state: &mut TryState<S>,
+) -> ParseResult<O, Input::Error>
+    ensures passes { Passes (Input.marks input.old) (Input.marks input.new) (Input.failures input.old) (Input.failures input.new) }
+    ensures keeps { KeepsDistance Input.steady Input.step (Input.stands input.old start) (Input.view input.old) (Input.view input.new) (Input.failures input.old) (Input.failures input.new) Input.Error.seen.kind S.is_default state.old state.new need result }
+{
+    match measure(input, start) {
+        Ok(distance) => {
+            state.distance = distance;
+            ParseResult::CommitErr(need)
+        }
+        Err(kind) => fault(input, kind, position, &mut state.part),
     }
 }
 

@@ -3,14 +3,16 @@ ghost use Rattle.std.specs.Prelude.{◌≡◌, ◌||◌, ℕ, false, true, None,
 ghost use Rattle.combine_base.specs.Parser.Meaning.{MeansSame};
 ghost use Rattle.combine_base.specs.Stream.View.{Takes};
 ghost use Rattle.combine_base.specs.Parser.Answer.{Answers, world};
+ghost use Rattle.combine_base.specs.Sequence.Parts.{accepted_as, refused_as};
 ghost use Rattle.combine_base.specs.Stream.Calls.{Passes};
-ghost use Rattle.combine_repeat.specs.OneTurn.{OneTurn, stopped_answer, stopped_state};
+ghost use Rattle.combine_repeat.specs.OneTurn.{TurnCalled, stopped_answer, stopped_state};
 ghost use Rattle.combine_repeat.specs.Repetition.{appended, asks_first, cut_at, fresh_turns, goes_at, kept_or, so_far, turns_from};
 
 use combine_base::error::{ParseResult, Tracked};
-use combine_base::parser::{FirstMode, ParseMode, Parser};
+use combine_base::parser::{Calls, FirstMode, ParseMode, Parser};
 use combine_base::refusal::refusal_saying;
 use combine_base::repeat::Append;
+use combine_base::sequence::{accepted_after, refused_after};
 use combine_base::stream::{Kind, Stream, has_taken, needs_more};
 use std::alloc::AllocError;
 
@@ -94,17 +96,14 @@ impl<F> Turns<F> {
     /// The turns end, accepted.
     #[inline(always)]
     fn end<E>(self) -> ParseResult<F, E>
-        ensures { result ≡ (if self.committed then ParseResult.CommitOk self.collection else ParseResult.PeekOk self.collection) }
+        ensures { result ≡ accepted_as self.committed self.collection }
     {
         let Turns {
             collection,
             committed,
             place: _,
         } = self;
-        if committed {
-            return ParseResult::CommitOk(collection);
-        }
-        ParseResult::PeekOk(collection)
+        accepted_after(committed, collection)
     }
 
     /// The turn that was asked for is refused peeked, which is committed if a turn before it was.
@@ -112,13 +111,9 @@ impl<F> Turns<F> {
     fn refused<E: Drop>(self, refusal: Tracked<E>) -> ParseResult<F, E>
     where
         F: Drop,
-        ensures { result ≡ (if self.committed then ParseResult.CommitErr refusal.error else ParseResult.PeekErr refusal) }
+        ensures { result ≡ refused_as self.committed refusal }
     {
-        if self.committed {
-            let Tracked { error, offset: _ } = refusal;
-            return ParseResult::CommitErr(error);
-        }
-        ParseResult::PeekErr(refusal)
+        refused_after(self.committed, refusal)
     }
 }
 
@@ -163,17 +158,9 @@ fn parse_turn<Input: Stream, P: Parser<Input>, M: ParseMode>(
     input: &mut Input,
     state: &mut P::PartialState,
 ) -> ParseResult<P::Output, Input::Error>
-    requires lawful { P.lawful parser.old }
-    requires valid { P.valid state.old }
+    requires ready { ⟦<P as Calls<Input>>⟧.ready parser.old state.old }
     requires fresh { M.first mode ≡ true → P.PartialState.is_default state.old }
-    ensures lawful { P.lawful parser.new }
-    ensures valid { P.valid state.new }
-    ensures same { MeansSame (P.meaning parser.old) (P.meaning parser.new) }
-    ensures passes { Passes (Input.marks input.old) (Input.marks input.new) (Input.failures input.old) (Input.failures input.new) }
-    ensures answers { Answers (world Input.step Input.Error.seen Input.steady P.PartialState.is_default)
-        (P.meaning parser.old)
-        (record { first = M.first mode; state = state.old; left = state.new; old = Input.view input.old; new = Input.view input.new; before = Input.failures input.old; after = Input.failures input.new })
-        result }
+    ensures { ⟦<P as Calls<Input>>⟧.called parser.old parser.new input.old input.new (M.first mode) state.old state.new result }
 {
     if mode.is_first() {
         let mut own = P::PartialState::default();
@@ -208,17 +195,10 @@ fn one_turn<Input: Stream, P: Parser<Input>, F: Append<P::Output>, M: ParseMode>
     input: &mut Input,
     running: &mut P::PartialState,
 ) -> Option<Stop<Input::Error>>
-    requires lawful { P.lawful parser.old }
-    requires valid { P.valid running.old }
+    requires ready { ⟦<P as Calls<Input>>⟧.ready parser.old running.old }
     requires fresh { M.first mode ≡ true → P.PartialState.is_default running.old }
-    ensures lawful { P.lawful parser.new }
-    ensures valid { P.valid running.new }
-    ensures same { MeansSame (P.meaning parser.old) (P.meaning parser.new) }
-    ensures passes { Passes (Input.marks input.old) (Input.marks input.new) (Input.failures input.old) (Input.failures input.new) }
-    ensures turned { OneTurn (world Input.step Input.Error.seen Input.steady P.PartialState.is_default)
-        (appended F.held F.none F.more F.lean) (P.meaning parser.old)
-        (record { first = M.first mode; state = running.old; left = running.new; old = Input.view input.old; new = Input.view input.new; before = Input.failures input.old; after = Input.failures input.new })
-        turns.old turns.new result }
+    ensures { TurnCalled P.Parser Input.StreamOnce Input.Error.seen P.PartialState.is_default (appended F.held F.none F.more F.lean)
+        parser.old parser.new input.old input.new (M.first mode) running.old running.new turns.old turns.new result }
 {
     let checkpoint = input.checkpoint();
     let position = input.position();
@@ -260,17 +240,10 @@ fn resume_turn<Input: Stream, P: Parser<Input>, F: Append<P::Output>, M: ParseMo
     input: &mut Input,
     running: &mut P::PartialState,
 ) -> Option<Stop<Input::Error>>
-    requires lawful { P.lawful parser.old }
-    requires valid { P.valid running.old }
+    requires ready { ⟦<P as Calls<Input>>⟧.ready parser.old running.old }
     requires fresh { M.first mode ≡ true → P.PartialState.is_default running.old }
-    ensures lawful { P.lawful parser.new }
-    ensures valid { P.valid running.new }
-    ensures same { MeansSame (P.meaning parser.old) (P.meaning parser.new) }
-    ensures passes { Passes (Input.marks input.old) (Input.marks input.new) (Input.failures input.old) (Input.failures input.new) }
-    ensures turned { OneTurn (world Input.step Input.Error.seen Input.steady P.PartialState.is_default)
-        (appended F.held F.none F.more F.lean) (P.meaning parser.old)
-        (record { first = M.first mode; state = running.old; left = running.new; old = Input.view input.old; new = Input.view input.new; before = Input.failures input.old; after = Input.failures input.new })
-        turns.old turns.new result }
+    ensures { TurnCalled P.Parser Input.StreamOnce Input.Error.seen P.PartialState.is_default (appended F.held F.none F.more F.lean)
+        parser.old parser.new input.old input.new (M.first mode) running.old running.new turns.old turns.new result }
 {
     one_turn(parser, mode, turns, input, running)
 }
@@ -305,8 +278,7 @@ pub(crate) fn take_turns<Input: Stream, P: Parser<Input>, F: Append<P::Output>, 
     input: &mut Input,
     state: &mut TurnsState<F, P::PartialState>,
 ) -> ParseResult<F, Input::Error>
-    requires lawful { P.lawful parser.old }
-    requires valid { P.valid state.old.running }
+    requires { ⟦<P as Calls<Input>>⟧.ready parser.old state.old.running }
     ensures lawful { P.lawful parser.new }
     ensures valid { P.valid state.new.running }
     ensures same { MeansSame (P.meaning parser.old) (P.meaning parser.new) }
