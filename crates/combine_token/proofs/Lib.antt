@@ -4,6 +4,9 @@ pub mod Merging
 pub mod Optionals
 pub mod Ors
 pub mod OneToken
+pub mod Reasons
+pub mod ListReasons
+pub mod TokenReasons
 pub mod Stateless
 pub mod Matches
 pub mod ListAnswered

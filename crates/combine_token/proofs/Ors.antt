@@ -8,10 +8,10 @@ use Rattle.combine_base.proofs.Calls.{around}
 use Rattle.combine_base.proofs.Same.{same_none, same_more}
 use Rattle.combine_base.specs.declared.stream.Kind.TheVariants as kinds
 use Rattle.combine_base.specs.declared.stream.Failures.{Failures}
-use Rattle.combine_base.specs.declared.error.ParseResult.TheVariants.{CommitOk, CommitErr}
+use Rattle.combine_base.specs.declared.error.ParseResult.TheVariants.{CommitOk, PeekOk, CommitErr}
 use Rattle.combine_token.specs.Choice.{Either, refused, last_is, firm_or, either_into}
 use Rattle.combine_token.specs.Or.{either_of, or_means_same, or_whole}
-use Rattle.combine_token.proofs.Choosing.{Tries, tries_start, tries_commit_ok, tries_fails}
+use Rattle.combine_token.proofs.Choosing.{Tries, tries_start, tries_commit_ok, tries_peek_ok, tries_fails}
 use Rattle.combine_token.specs.declared.choice.OrState.{OrState}
 use Rattle.combine_token.specs.declared.choice.OrState.TheVariants.{Peek, A, B}
 
@@ -95,6 +95,9 @@ module _ {P T R V S S' E : Type 0} (step : P → T → P) (errors : Errors T R P
 
   pub first_accepts : (v : V) → Answers (world step errors steady fresh) a r (CommitOk v) → Answers (world step errors steady (λ s. s ≡ Peek)) (either_of a b) from_first (CommitOk v)
   first_accepts v p = tries_commit_ok (world step errors steady fresh) (λ s. s ≡ Peek) a (Either b.whole refused) (either_of a b) r from_first tries refl refl v l p
+
+  pub first_peeks : (v : V) → Answers (world step errors steady fresh) a r (PeekOk v) → Answers (world step errors steady (λ s. s ≡ Peek)) (either_of a b) from_first (PeekOk v)
+  first_peeks v p = tries_peek_ok (world step errors steady fresh) (λ s. s ≡ Peek) a (Either b.whole refused) (either_of a b) r from_first tries refl refl v l p
 
   pub first_fails : (e : E) → ((errors.kind e ≡ kinds.End) × (r.new.is_open ≡ true) → ⊥) → Answers (world step errors steady fresh) a r (CommitErr e) → Answers (world step errors steady (λ s. s ≡ Peek)) (either_of a b) from_first (CommitErr e)
   first_fails e i p = tries_fails (world step errors steady fresh) (λ s. s ≡ Peek) a (Either b.whole refused) (either_of a b) r from_first tries refl refl e i p (λ y. l)
