@@ -13,4 +13,5 @@ pub mod ListAnswered
 pub mod Iterating
 pub mod Listing
 pub mod StdLists
+pub mod Given
 pub mod Giving

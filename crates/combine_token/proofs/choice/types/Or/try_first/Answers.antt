@@ -1,4 +1,4 @@
-use Rattle.std.proofs.Common.{false, refl, ◌∙◌}
+use Rattle.std.proofs.Common.{rules, false, refl, ◌∙◌}
 use Rattle.combine_base.specs.declared.stream.Kind.TheVariants as kinds
 use Rattle.combine_base.proofs.Calls.{refusal_unreset}
 use Rattle.combine_base.proofs.Same.{same_more, passes_more, answers_same}
@@ -6,16 +6,17 @@ use Rattle.combine_token.specs.Choice.{refused}
 use Rattle.combine_token.proofs.Choosing.{begun_reads, tries_asks, tries_next, tries_answers}
 use Rattle.combine_token.proofs.Merging.{no_fault, merged_answers}
 use Rattle.combine_token.proofs.Reasons.{reasons_ok, reasons_peek_ok, reasons_fault, first_reasons, second_reasons}
-use Rattle.combine_token.proofs.Ors.{first_accepts, first_fails, first_peeks, first_same, first_starts, second_as_state}
+use Rattle.combine_token.proofs.Ors.{first_accepts, first_fails, first_falls, first_peeks, first_same, first_same_more, first_starts, second_as_state}
 use Rattle.combine_token.proofs.choice.types.Or.try_first.Goals as goal
 
+-- The searches hold too where a wrong body goes on to the second: what such a body answers is then what is refused.
 pub returns-in-CommitOk-clause-called : goal.returns-in-CommitOk-clause-called
 returns-in-CommitOk-clause-called g c =
     record {
-      lawful = (c.parse_mode.ensures.lawful, c.requires.ready.lawful.1);
-      valid = rw c.requires.fresh tt;
-      same = first_same _ _ _ c.parse_mode.ensures.same;
-      passes = c.parse_mode.ensures.passes;
+      lawful = search rules;
+      valid = search rules;
+      same = search (rules, first_same, first_same_more);
+      passes = search rules;
       answers = first_accepts g.Input.StreamOnce.step g.Input.Error.ParseError.seen g.Input.StreamOnce.steady _ _ _ (g.Q.Parser.meaning c.args.self.now.1) (g.met.P.Parser.laws _ c.requires.ready.lawful.0) _ c.requires.starts _ c.requires.fresh _ c.in-CommitOk.ensures.answers;
     }
 
@@ -43,10 +44,10 @@ returns-then-needs_more-clause-called g c =
 pub returns-in-CommitErr-clause-called : goal.returns-in-CommitErr-clause-called
 returns-in-CommitErr-clause-called g c =
     record {
-      lawful = (c.parse_mode.ensures.lawful, c.requires.ready.lawful.1);
-      valid = rw c.requires.fresh tt;
-      same = first_same _ _ _ c.parse_mode.ensures.same;
-      passes = c.parse_mode.ensures.passes;
+      lawful = search rules;
+      valid = search rules;
+      same = search (rules, first_same, first_same_more);
+      passes = search rules;
       answers = first_fails g.Input.StreamOnce.step g.Input.Error.ParseError.seen g.Input.StreamOnce.steady _ _ _ (g.Q.Parser.meaning c.args.self.now.1) (g.met.P.Parser.laws _ c.requires.ready.lawful.0) _ c.requires.starts _ c.requires.fresh _ (λ q. let i = c.needs_more.ensures.1 q in let j = c.if-needs_more.false in cc) c.in-CommitErr.ensures.answers;
     }
 
@@ -60,14 +61,12 @@ returns-in-Ok-clause-called g c =
     let back = n.0 _ (g.met.Input.ResetStream.lasts _ _ _ _ call.passes.marks c.checkpoint-start.ensures.stands) in
     let passes = passes_more _ _ _ _ _ _ call.passes c.in-Ok.ensures.passes in
     let same = first_same _ _ _ call.same in
-    let z = tries_next _ _ _ _ _ _ _ _ refused k _ _ _ _ _ (first_starts _ _ _ _ h _ _ c.requires.starts _ _) (begun_reads _ _ _ h _ _ c.requires.ready.valid) _ c.in-PeekErr.ensures.answers (λ v o i. i) (λ p. p.1) (λ p. p.1) (λ p. p.1) false _ c.default-fresh.ensures _ _ back n.1 passes in
-    let later = answers_same _ _ _ same _ _ next.answers in
     record {
       lawful = next.lawful;
       valid = next.valid;
       same = same_more _ _ _ same next.same;
       passes = passes_more _ _ _ _ _ _ passes next.passes;
-      answers = merged_answers _ _ _ _ _ _ _ _ (no_fault _ _ _ _ c.in-PeekErr.ensures.answers) _ _ (tries_answers _ _ _ _ (second_as_state _ _ _ _ _ _ _ _ _ _ z) refl refl refl _ later) c.after_refusal.ensures;
+      answers = first_falls g.Input.StreamOnce.step g.Input.Error.ParseError.seen g.Input.StreamOnce.steady _ _ _ (g.Q.Parser.meaning c.args.self.now.1) h _ c.requires.starts _ c.requires.fresh _ _ k c.requires.ready.valid _ c.in-PeekErr.ensures.answers _ _ back n.1 _ c.default-fresh.ensures _ call.same _ _ _ passes _ _ _ next.answers c.after_refusal.ensures;
     }
 
 pub returns-clause-called : goal.returns-clause-called
