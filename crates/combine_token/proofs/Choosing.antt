@@ -1,20 +1,21 @@
 -- the alternatives of a choice, tried in order: each answer of one is an answer of the choice, or the next is tried
-use Rattle.std.proofs.Common.{ℕ, ◌<◌, ◌≤◌, ◌≡◌, ◌⊎◌, inl, inr, List, [], Bool, true, false, length, arith, ap, sym, subst, refl, ◌∙◌}
+use Rattle.std.proofs.Common.{ℕ, ◌<◌, ◌≤◌, ◌≡◌, inl, inr, List, [], Bool, true, false, length, arith, ap, sym, subst, refl, ◌∙◌}
 use Rattle.combine_base.specs.Stream.View.{View, Takes, extended, Follows}
 use Rattle.combine_base.specs.Stream.Advance.{extended_none, follows_none, stands}
 use Rattle.combine_base.specs.Parser.Outcome.{Outcome, Accepted, Refused, Undecided, after, IsCommitted}
+use Rattle.combine_base.specs.Parser.Judged.{NeedsMore}
 use Rattle.combine_base.specs.Parser.Meaning.{Meaning, Reading, IsReading, IsMeaning, begun}
 use Rattle.combine_base.specs.Parser.Answer.{Run, World, Answers, Accepts, Refuses, Asks, Leaves, peeks, loses}
 use Rattle.combine_base.specs.Stream.Calls.{Passes}
 use Rattle.combine_base.proofs.Calls.{around, Settles, settles, needs, peeked_refusal}
 use Rattle.combine_base.proofs.Progress.{after_none, takes_none}
+use Rattle.combine_base.proofs.Starting.{need_or_not}
 use Rattle.combine_base.specs.declared.stream.Kind.{Kind}
 use Rattle.combine_base.specs.declared.stream.Kind.TheVariants as kinds
 use Rattle.combine_base.specs.declared.stream.Failures.{Failures}
 use Rattle.combine_base.specs.declared.error.Tracked.{Tracked}
 use Rattle.combine_base.specs.declared.error.ParseResult.{ParseResult}
 use Rattle.combine_base.specs.declared.error.ParseResult.TheVariants.{CommitOk, PeekOk, CommitErr, PeekErr}
-use Rattle.combine_token.specs.Alternatives.{AsksForMore}
 use Rattle.combine_token.specs.Choice.{Either, Here, Later, IsFirm, refused, either_into, firm_or}
 
 firm_after : {V : Type 0} (n : ℕ) (o : Outcome V) → IsFirm o → IsFirm (after n false o)
@@ -37,16 +38,6 @@ module _ {P T R V S : Type 0} (fresh valid : S → Type 0) (m : Meaning P T R V 
   pub begun_reads : (first : Bool) (s : S) → valid s → IsReading (begun m first s)
   begun_reads true s k = h.whole
   begun_reads false s k = h.rest s k
-
--- an error is need of more or it isn't
-need_or_not : (k : Kind) (b : Bool) → ((k ≡ kinds.End) × (b ≡ true)) ⊎ ((k ≡ kinds.End) × (b ≡ true) → ⊥)
-need_or_not kinds.End true = inl (refl, refl)
-need_or_not kinds.End false = inr (λ q. let i = q.1 in cc)
-need_or_not kinds.Refused b = inr (λ q. let i = q.0 in cc)
-need_or_not kinds.Memory b = inr (λ q. let i = q.0 in cc)
-need_or_not kinds.Read b = inr (λ q. let i = q.0 in cc)
-need_or_not kinds.Reset b = inr (λ q. let i = q.0 in cc)
-need_or_not kinds.Lost b = inr (λ q. let i = q.0 in cc)
 
 module _ {P T R V S S' E : Type 0} (w : World P T S E) (fresh : S' → Type 0) (m : Meaning P T R V S) (q : Reading P T V) (m' : Meaning P T R V S') where
   -- a choice that began so tries an alternative so, with the stream where the choice began; q is what the later alternatives mean
@@ -179,14 +170,14 @@ module _ {P T R V S S' E : Type 0} (w : World P T S E) (fresh : S' → Type 0) (
           by_kind kinds.Lost y = absurd y
 
       -- every answer of the last alternative but need of more
-      pub tries_ends : (answer : ParseResult V E) → (AsksForMore w.kind r.new.is_open answer → ⊥) → ((v : View P T) → q v (Refused false)) → fresh u.left → Answers w m r answer → Answers (around w fresh) m' u answer
+      pub tries_ends : (answer : ParseResult V E) → (NeedsMore w.kind r.new.is_open answer → ⊥) → ((v : View P T) → q v (Refused false)) → fresh u.left → Answers w m r answer → Answers (around w fresh) m' u answer
       tries_ends (CommitOk v) i g l p = tries_commit_ok v l p
       tries_ends (PeekOk v) i g l p = tries_peek_ok v l p
       tries_ends (CommitErr e) i g l p = tries_fails e i p (λ y. l)
       tries_ends (PeekErr e) i g l p = tries_peeks e g p (λ y. l)
 
       -- need of more of it
-      pub tries_needs : (answer : ParseResult V E) → AsksForMore w.kind r.new.is_open answer → Answers w m r answer → ((v : View P T) (o : Outcome V) → m'.rest u.left v o → Either (m.rest r.left) q v o) → ((v : View P T) → m'.lost u.left v → m.lost r.left v) → Answers (around w fresh) m' u answer
+      pub tries_needs : (answer : ParseResult V E) → NeedsMore w.kind r.new.is_open answer → Answers w m r answer → ((v : View P T) (o : Outcome V) → m'.rest u.left v o → Either (m.rest r.left) q v o) → ((v : View P T) → m'.lost u.left v → m.lost r.left v) → Answers (around w fresh) m' u answer
       tries_needs (CommitOk v) i p g l = absurd i
       tries_needs (PeekOk v) i p g l = absurd i
       tries_needs (CommitErr e) i p g l = tries_asks e i p g l

@@ -4,10 +4,14 @@ pub mod Merging
 pub mod Optionals
 pub mod Ors
 pub mod OneToken
+pub mod Reasons
+pub mod ListReasons
+pub mod TokenReasons
 pub mod Stateless
 pub mod Matches
 pub mod ListAnswered
 pub mod Iterating
 pub mod Listing
 pub mod StdLists
+pub mod Given
 pub mod Giving

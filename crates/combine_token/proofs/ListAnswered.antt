@@ -16,13 +16,10 @@ use Rattle.combine_base.specs.declared.stream.Failures.{Failures}
 use Rattle.combine_base.specs.declared.error.Tracked.{Tracked}
 use Rattle.combine_base.specs.declared.error.ParseResult.{ParseResult}
 use Rattle.combine_base.specs.declared.error.ParseResult.TheVariants.{CommitOk, PeekOk, CommitErr, PeekErr}
-use Rattle.combine_token.specs.TokenLists.{TokenList, Matched, stops, matching_at, matching, token_list}
-use Rattle.combine_token.specs.ListAnswers.{expecting, FindsNone, finds_none, Mismatch, PutBack, puts_back}
+use Rattle.combine_token.specs.TokenLists.{TokenList, stops, matching_at, matching, token_list}
+use Rattle.combine_token.specs.ListAnswers.{expecting, FindsNone, finds_none, Mismatch, PutBack, is_put_back}
 use Rattle.combine_token.specs.ListAnswers as given
-use Rattle.combine_token.proofs.Matches.{Arrived, token_taken}
-
-none_matched : {T : Type 0} (l : TokenList T) (n : ℕ) (us : List T) → Matched l n 0 us
-none_matched l n us = record { enough = omega arith; each = tt }
+use Rattle.combine_token.proofs.Matches.{Arrived, none_matched, token_taken}
 
 module _ {T V : Type 0} (l : TokenList T) (gives : V → Type 0) (n : ℕ) where
   stops_at : (b : Bool) (us : List T) → l.has n → stops l n b us → matching_at l gives n b us (Refused (nat_lt 0 n))
@@ -32,11 +29,11 @@ module _ {T V : Type 0} (l : TokenList T) (gives : V → Type 0) (n : ℕ) where
   nothing_left b [] i j s = let e : n + 0 ≡ n = omega arith in (j, rw e s, none_matched l n [])
   nothing_left b (t ∷ ts) i j s = absurd (cc)
 
-  stops_at_end : (b : Bool) (us : List T) → us ≡ [] → b ≡ false → stops l n b us
+  pub stops_at_end : (b : Bool) (us : List T) → us ≡ [] → b ≡ false → stops l n b us
   stops_at_end b [] i j = j
   stops_at_end b (t ∷ ts) i j = absurd (cc)
 
-  stops_at_token : (b : Bool) (us vs : List T) (t : T) → us ≡ t ∷ vs → l.fits n t false → stops l n b us
+  pub stops_at_token : (b : Bool) (us vs : List T) (t : T) → us ≡ t ∷ vs → l.fits n t false → stops l n b us
   stops_at_token b us vs t i f = rw i f
 
 -- the end of an ended list, after a token was taken
@@ -115,7 +112,7 @@ module _ {P T R V S E : Type 0} (w : World P T S E) (l : TokenList T) (gives : V
       pub match_put_back : (result : ParseResult V E) → false ≡ nat_lt 0 n → (marked : View P T → Type 0) → marked r.old → r.before.resets ≤ middle.resets → PutBack w.steady w.step w.kind marked mid r.new middle r.after result → Answers w m r result
       match_put_back result b marked o j p = record { is = by_result result p.is }
         where
-          by_result : (x : ParseResult V E) → puts_back w.steady w.step w.kind marked mid r.new middle r.after x → answers w m r x
+          by_result : (x : ParseResult V E) → is_put_back w.steady w.step w.kind marked mid r.new middle r.after x → answers w m r x
           by_result (CommitOk v) p = absurd p
           by_result (PeekOk v) p = absurd p
           by_result (CommitErr e) p = let x = p.2 in rw p.0 (omega arith, left_beyond p.1)

@@ -1,14 +1,17 @@
 -- a token that fits, and then what is left of the match
-use Rattle.std.proofs.Common.{ℕ, suc, ◌+◌, ◌≡◌, List, ◌∷◌, ◌++◌, drop, length, Bool, true, false, not, nat_lt, if◌then◌else◌, refl, sym, subst, ◌∙◌, arith, lt-ltb}
+use Rattle.std.proofs.Common.{ℕ, zero, suc, ◌+◌, ◌≡◌, List, [], ◌∷◌, ◌++◌, take, drop, length, length-drop, ap, Bool, true, false, not, nat_lt, if◌then◌else◌, refl, sym, subst, ◌∙◌, arith, lt-ltb}
 use Rattle.combine_base.specs.Stream.View.{View, Takes}
 use Rattle.combine_base.specs.Error.Items.{Item}
 use Rattle.combine_base.specs.Parser.Outcome.{Outcome, Accepted, Refused, Undecided, after, IsCommitted}
 use Rattle.combine_base.specs.Parser.Meaning.{begun}
 use Rattle.combine_base.specs.Stream.Calls.{TakesToken}
 use Rattle.combine_base.specs.Parser.Answer.{Resumes, World}
-use Rattle.combine_base.proofs.Progress.{Progress, progress_none, progress_more}
+use Rattle.combine_base.proofs.Progress.{Progress, takes_more, takes_open, resumes_more}
+use Rattle.combine_base.proofs.Starting.{progress_here}
 use Rattle.combine_base.specs.declared.stream.Failures.{Failures}
-use Rattle.combine_token.specs.TokenLists.{TokenList, EndsOnce, Matched, stops, matching_at, matching, token_list}
+use Rattle.combine_base.specs.Parser.Reasons.{kept_from}
+use Rattle.combine_token.specs.Reasons.{begins_at}
+use Rattle.combine_token.specs.TokenLists.{TokenList, EndsOnce, Matched, all_fit, stops, matching_at, matching, token_list}
 
 -- the first token is taken
 pub token_taken : {P T : Type 0} (steady : Type 0) (step : P → T → P) (old new : View P T) (before later : Failures) (t : T) → TakesToken steady step old new before later t → Takes step 1 old new
@@ -43,24 +46,46 @@ module _ {T V : Type 0} (l : TokenList T) (h : EndsOnce l) (gives : V → Type 0
     committed = λ x m o e d p. then_committed m (v.unread ++ x) o p;
   }
 
+-- the tokens that fit one after another
+module _ {T : Type 0} (l : TokenList T) where
+  pub none_matched : (n : ℕ) (us : List T) → Matched l n 0 us
+  none_matched n us = record { enough = omega arith; each = tt }
+
+  next_fits : (n c : ℕ) (us vs : List T) (t : T) → all_fit l n (take c us) → drop c us ≡ t ∷ vs → l.fits (n + c) t true → all_fit l n (take (suc c) us)
+  next_fits n zero [] vs t f e a = absurd (cc)
+  next_fits n (suc c) [] vs t f e a = absurd (cc)
+  next_fits n zero (u ∷ us) vs t f e a = let z : n + 0 ≡ n = omega arith in let i : u ≡ t = cc in (rw (i, ← z) a, tt)
+  next_fits n (suc c) (u ∷ us) vs t f e a = let z : n + suc c ≡ n + 1 + c = omega arith in (f.0, next_fits (n + 1) c us vs t f.1 e (rw z at a))
+
+  pub one_more_fits : (n c : ℕ) (us vs : List T) (t : T) → Matched l n c us → drop c us ≡ t ∷ vs → l.fits (n + c) t true → Matched l n (c + 1) us
+  one_more_fits n c us vs t m e a =
+      let i = m.enough in
+      let d : length (drop c us) ≡ suc (length vs) = ap length e in
+      let j : c + 1 ≡ suc c = omega arith in
+      record { enough = omega (arith, length-drop c us); each = rw j (next_fits n c us vs t m.each e a) }
+
 module _ {P T R V S E : Type 0} (w : World P T S E) (l : TokenList T) (gives : V → Type 0) (matched : S → ℕ) (lean : Type 0) (adds : List (Item T R) → Type 0) (first : Bool) (state : S) where
-  -- a call has come to the item at place n
+  -- a call has come to the item at place n, and each token that it took fits its item
   pub record Arrived (n : ℕ) (old now : View P T) (before later : Failures) : Type 0 where
     pub progress : Progress w (begun (token_list l gives matched lean adds) first state) (matching l gives n) old now before later
+    pub place : n ≡ begins_at matched (kept_from first state) + progress.count
+    pub fit : Matched l (begins_at matched (kept_from first state)) progress.count old.unread
 
 module _ {P T R V S E : Type 0} (w : World P T S E) (l : TokenList T) (gives : V → Type 0) (matched : S → ℕ) (lean : Type 0) (adds : List (Item T R) → Type 0) where
   -- it begins after as many items as were matched before
   pub arrived_first : (first : Bool) (state : S) (n : ℕ) (v : View P T) (f : Failures) → n ≡ (if not first then matched state else 0) → Arrived w l gives matched lean adds first state n v v f f
-  arrived_first true state n v f e = record { progress = rw e (progress_none w (matching l gives 0) v f) }
-  arrived_first false state n v f e = record { progress = rw e (progress_none w (matching l gives (matched state)) v f) }
+  arrived_first true state n v f e = rw e (record { progress = progress_here w (matching l gives 0) (matching l gives 0) v f (λ v o p. p); place = omega arith; fit = none_matched l 0 v.unread })
+  arrived_first false state n v f e = rw e (record { progress = progress_here w (matching l gives (matched state)) (matching l gives (matched state)) v f (λ v o p. p); place = omega arith; fit = none_matched l (matched state) v.unread })
 
   -- and goes on at a token that fits
   pub arrived_next : (h : EndsOnce l) (first : Bool) (state : S) (n : ℕ) (u v x : View P T) (f g i : Failures) → Arrived w l gives matched lean adds first state n u v f g → (t : T) → l.fits n t true → l.has n → TakesToken w.steady w.step v x g i t → Arrived w l gives matched lean adds first state (n + 1) u x f i
   arrived_next h first state n u v x f g i p t a b k = record {
-    progress = progress_more w (begun (token_list l gives matched lean adds) first state) (matching l gives n) (matching l gives (n + 1)) u v x f g i p.progress (record {
-      count = 1;
-      taken = token_taken w.steady w.step v x g i t k;
-      resumes = one_matched l h gives n t a b w.steady w.step v x g i k;
-      failures = k.failures;
-    });
+    place = let e = p.place in omega arith;
+    fit = one_more_fits l (begins_at matched (kept_from first state)) p.progress.count u.unread x.unread t p.fit (sym (ap (λ (y : View P T). y.unread) p.progress.taken.rest) ∙ k.unread) (subst (λ j. l.fits j t true) p.place a);
+    progress = record {
+      count = p.progress.count + 1;
+      taken = takes_more w.step p.progress.count 1 u v x p.progress.taken (token_taken w.steady w.step v x g i t k);
+      resumes = resumes_more (begun (token_list l gives matched lean adds) first state) (matching l gives n) (matching l gives (n + 1)) p.progress.count 1 u v x (takes_open w.step p.progress.count u v p.progress.taken) p.progress.resumes (one_matched l h gives n t a b w.steady w.step v x g i k);
+      failures = λ s. k.failures s ∙ p.progress.failures s;
+    };
   }

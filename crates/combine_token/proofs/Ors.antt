@@ -5,13 +5,19 @@ use Rattle.combine_base.specs.Parser.Meaning.{Meaning, IsMeaning, MeansSame}
 use Rattle.combine_base.specs.Error.Errors.{Errors}
 use Rattle.combine_base.specs.Parser.Answer.{Run, World, Answers, world}
 use Rattle.combine_base.proofs.Calls.{around}
-use Rattle.combine_base.proofs.Same.{same_none, same_more}
+use Rattle.combine_base.specs.Stream.Calls.{Passes}
+use Rattle.combine_base.proofs.Same.{same_none, same_more, answers_same}
+use Rattle.combine_base.specs.declared.error.Tracked.{Tracked}
+use Rattle.combine_base.specs.declared.error.ParseResult.{ParseResult}
+use Rattle.std.specs.declared.cmp.Ordering.{Ordering}
+use Rattle.combine_token.specs.Alternatives.{AfterRefusal}
+use Rattle.combine_token.proofs.Merging.{no_fault, merged_answers}
 use Rattle.combine_base.specs.declared.stream.Kind.TheVariants as kinds
 use Rattle.combine_base.specs.declared.stream.Failures.{Failures}
-use Rattle.combine_base.specs.declared.error.ParseResult.TheVariants.{CommitOk, CommitErr}
+use Rattle.combine_base.specs.declared.error.ParseResult.TheVariants.{CommitOk, PeekOk, CommitErr, PeekErr}
 use Rattle.combine_token.specs.Choice.{Either, refused, last_is, firm_or, either_into}
 use Rattle.combine_token.specs.Or.{either_of, or_means_same, or_whole}
-use Rattle.combine_token.proofs.Choosing.{Tries, tries_start, tries_commit_ok, tries_fails}
+use Rattle.combine_token.proofs.Choosing.{Tries, begun_reads, tries_answers, tries_next, tries_start, tries_commit_ok, tries_peek_ok, tries_fails}
 use Rattle.combine_token.specs.declared.choice.OrState.{OrState}
 use Rattle.combine_token.specs.declared.choice.OrState.TheVariants.{Peek, A, B}
 
@@ -96,8 +102,28 @@ module _ {P T R V S S' E : Type 0} (step : P → T → P) (errors : Errors T R P
   pub first_accepts : (v : V) → Answers (world step errors steady fresh) a r (CommitOk v) → Answers (world step errors steady (λ s. s ≡ Peek)) (either_of a b) from_first (CommitOk v)
   first_accepts v p = tries_commit_ok (world step errors steady fresh) (λ s. s ≡ Peek) a (Either b.whole refused) (either_of a b) r from_first tries refl refl v l p
 
+  pub first_peeks : (v : V) → Answers (world step errors steady fresh) a r (PeekOk v) → Answers (world step errors steady (λ s. s ≡ Peek)) (either_of a b) from_first (PeekOk v)
+  first_peeks v p = tries_peek_ok (world step errors steady fresh) (λ s. s ≡ Peek) a (Either b.whole refused) (either_of a b) r from_first tries refl refl v l p
+
   pub first_fails : (e : E) → ((errors.kind e ≡ kinds.End) × (r.new.is_open ≡ true) → ⊥) → Answers (world step errors steady fresh) a r (CommitErr e) → Answers (world step errors steady (λ s. s ≡ Peek)) (either_of a b) from_first (CommitErr e)
   first_fails e i p = tries_fails (world step errors steady fresh) (λ s. s ≡ Peek) a (Either b.whole refused) (either_of a b) r from_first tries refl refl e i p (λ y. l)
+
+  -- the first was refused peeked and the stream put back: the answer of the second, which began in a default state, with the errors merged, is that of the choice
+  module _ (fresh' valid' : S' → Type 0) (k : IsMeaning fresh' valid' b) (y : valid r.state) (t : Tracked E) (p : Answers (world step errors steady fresh) a r (PeekErr t)) (mid : View P T) (middle : Failures) (n : mid ≡ r.old) (f : steady → middle ≡ r.after) (next : S') (e : fresh' next) (a' : Meaning P T R V S) (i : MeansSame a a') (now : View P T) (later : Failures) (kept : OrState S S') where
+    abbrev w : World P T (OrState S S') E
+    w = world step errors steady (λ s. s ≡ Peek)
+
+    abbrev from_second : Run P T (OrState S S')
+    from_second = record { first = false; state = B next; left = kept; old = mid; new = now; before = middle; after = later }
+
+    abbrev falls_to_second : Run P T (OrState S S')
+    falls_to_second = record { first = false; state = A r.state; left = kept; old = r.old; new = now; before = r.before; after = later }
+
+    pub first_falls : {C : Type 0} {c d : C → View P T → Type 0} → Passes c d r.before middle → (cmp : P → P → Ordering) (answer result : ParseResult V E) → Answers w (either_of a' b) from_second answer → AfterRefusal errors cmp t.error answer result → Answers w (either_of a b) falls_to_second result
+    first_falls passes cmp answer result q m =
+        let z = tries_next (world step errors steady fresh) (λ s. s ≡ Peek) a (Either b.whole refused) (either_of a b) fresh' valid' b refused k r false (A r.state) r.old r.before tries (begun_reads fresh valid a h r.first r.state y) t p (λ v o i. i) (λ x. x.1) (λ x. x.1) (λ x. x.1) false next e mid middle n f passes in
+        let x = answers_same w (either_of a b) (either_of a' b) (first_same a a' b i) from_second answer q in
+        merged_answers step errors steady (λ s. s ≡ Peek) (either_of a b) falls_to_second cmp t.error (no_fault (world step errors steady fresh) a r t p) answer result (tries_answers w (either_of a b) from_second falls_to_second (second_as_state a b w fresh' next mid middle (A r.state) r.old r.before z) refl refl refl answer x) m
 
 -- in first mode nothing that is kept counts
 pub first_begins : {S S' : Type 0} (first : Bool) (given : OrState S S') → first ≡ true → Peek ≡ (if first then Peek else given)

@@ -15,6 +15,7 @@ pub mod Listed
 pub mod OneToken
 pub mod Optional
 pub mod Or
+pub mod Reasons
 pub mod Stateless
 pub mod TokenListLaws
 pub mod TokenLists

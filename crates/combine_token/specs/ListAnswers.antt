@@ -23,15 +23,15 @@ module _ {V E : Type 0} (kind : E → Kind) (gives : V → Type 0) (infallible :
     pub is : accepts result
 
 module _ {P T V E : Type 0} (steady : Type 0) (step : P → T → P) (kind : E → Kind) (marked : View P T → Type 0) (old new : View P T) (before after : Failures) where
-  abbrev pub puts_back : ParseResult V E → Type 0
-  puts_back (CommitOk v) = ⊥
-  puts_back (PeekOk v) = ⊥
-  puts_back (CommitErr e) = (kind e ≡ kinds.Reset) × Moves step old new × (before.resets < after.resets)
-  puts_back (PeekErr t) = (kind t.error ≡ kinds.Refused) × ((v : View P T) → marked v → new ≡ v) × (steady → after ≡ before)
+  abbrev pub is_put_back : ParseResult V E → Type 0
+  is_put_back (CommitOk v) = ⊥
+  is_put_back (PeekOk v) = ⊥
+  is_put_back (CommitErr e) = (kind e ≡ kinds.Reset) × Moves step old new × (before.resets < after.resets)
+  is_put_back (PeekErr t) = (kind t.error ≡ kinds.Refused) × ((v : View P T) → marked v → new ≡ v) × (steady → after ≡ before)
 
   -- a peeked refusal with the stream put back, unless the reset failed
   pub record PutBack (result : ParseResult V E) : Type 0 where
-    pub is : puts_back result
+    pub is : is_put_back result
 
 -- what copies without memory
 abbrev pub NoText : {T R : Type 0} → Info T R → Type 0

@@ -1,14 +1,14 @@
 //! Choices: the first parser that isn't refused peeked.
-ghost use Rattle.std.specs.Prelude.{◌≡◌, ◌↔◌, true, false, if◌then◌else◌};
+ghost use Rattle.std.specs.Prelude.{◌≡◌, if◌then◌else◌};
 ghost use Rattle.combine_base.specs.Error.Errors.{IsFault};
-ghost use Rattle.combine_token.specs.Alternatives.{AfterRefusal, AsksForMore, PeeksNoFault};
+ghost use Rattle.combine_token.specs.Alternatives.{AfterRefusal, PeeksNoFault};
 ghost use Rattle.combine_token.specs.Optional.{optional_parser};
 ghost use Rattle.combine_token.specs.Or.{StartsSame, or_parser};
 
 use combine_base::error::{ParseError, ParseResult, Tracked};
 use combine_base::parser::Parser;
 use combine_base::refusal::peeked;
-use combine_base::stream::{Stream, needs_more};
+use combine_base::stream::Stream;
 use std::mem::replace;
 
 pub mod types;
@@ -83,22 +83,6 @@ pub fn or_is_associative<
         (⟦<Or<Or<A, B>, C> as Parser<Input>>⟧.meaning (or_parser (or_parser a.now b.now) c.now))
         (⟦<Or<A, Or<B, C>> as Parser<Input>>⟧.meaning (or_parser a.now (or_parser b.now c.now))) }
 {}
-
-/// Whether an answer is need of more.
-#[inline(always)]
-pub(crate) fn asks_for_more<O, Input: Stream>(
-    input: &Input,
-    answer: &ParseResult<O, Input::Error>,
-) -> bool
-    ensures { (result ≡ true) ↔ AsksForMore Input.Error.seen.kind (Input.view input.now).is_open answer.now }
-{
-    match answer {
-        ParseResult::CommitErr(error) => needs_more(input, error),
-        ParseResult::CommitOk(_) => false,
-        ParseResult::PeekOk(_) => false,
-        ParseResult::PeekErr(_) => false,
-    }
-}
 
 /// The answer of the later alternatives, after one that was refused peeked: where they are refused peeked too, the errors are merged in order.
 #[inline(always)]

@@ -1,15 +1,14 @@
 //! The parsers that the functions of `choice` answer.
-ghost use Rattle.std.specs.Prelude.{◌≡◌, false, true};
-ghost use Rattle.combine_base.specs.Parser.Answer.{Answers, world};
-ghost use Rattle.combine_base.specs.Parser.Meaning.{MeansSame};
-ghost use Rattle.combine_base.specs.Stream.Calls.{Passes};
+ghost use Rattle.std.specs.Prelude.{◌≡◌, false, true, Some};
+ghost use Rattle.combine_base.specs.Parser.Reasons.{Reasoned, kept_from};
+ghost use Rattle.combine_token.specs.Reasons.{RefusesOr, committed_only};
 ghost use Rattle.combine_token.specs.Optional.{optional, optional_is_meaning, optional_means_one};
 ghost use Rattle.combine_token.specs.Or.{either_of, or_is_meaning, or_means_one, or_valid};
 
-use super::{OrState, after_refusal, asks_for_more};
+use super::{OrState, after_refusal};
 use combine_base::error::{ErrorOffset, ParseResult, Tracked};
-use combine_base::parser::{ParseMode, Parser};
-use combine_base::stream::{Stream, needs_more};
+use combine_base::parser::{Calls, ParseMode, Parser};
+use combine_base::stream::{Stream, asks_for_more, needs_more};
 
 /// The choice of two parsers, as `or` makes it.
 #[derive(Clone, Copy, Drop)]
@@ -28,18 +27,11 @@ impl<P, Q> Or<P, Q> {
     where
         P: Parser<Input>,
         Q: Parser<Input, Output = P::Output>,
-        requires lawful { P.lawful self.old.0 × Q.lawful self.old.1 }
-        requires valid { Q.valid kept }
-        requires fresh { M.first mode ≡ true → Q.PartialState.is_default kept }
-        requires state { state.old ≡ OrState.Peek }
-        ensures lawful { P.lawful self.new.0 × Q.lawful self.new.1 }
-        ensures valid { or_valid P.valid Q.valid state.new }
-        ensures same { MeansSame (either_of (P.meaning self.old.0) (Q.meaning self.old.1)) (either_of (P.meaning self.new.0) (Q.meaning self.new.1)) }
-        ensures passes { Passes (Input.marks input.old) (Input.marks input.new) (Input.failures input.old) (Input.failures input.new) }
-        ensures answers { Answers (world Input.step Input.Error.seen Input.steady (λ s. s ≡ OrState.Peek))
-            (either_of (P.meaning self.old.0) (Q.meaning self.old.1))
-            (record { first = false; state = OrState.B kept; left = state.new; old = Input.view input.old; new = Input.view input.new; before = Input.failures input.old; after = Input.failures input.new })
-            result }
+        requires ready { ⟦<Or<P, Q> as Calls<Input>>⟧.ready self.old (OrState.B kept) }
+        requires starts { M.first mode ≡ true → Q.PartialState.is_default kept }
+        requires fresh { state.old ≡ OrState.Peek }
+        ensures called { ⟦<Or<P, Q> as Calls<Input>>⟧.called self.old self.new input.old input.new false (OrState.B kept) state.new result }
+        ensures refuses { Reasoned Input.Error.seen.kind (Input.view input.new).is_open (Q.refuses self.old.1 (kept_from (M.first mode) kept) (Input.view input.old)) result }
     {
         let mut kept = kept;
         let answer = self.1.parse_mode(mode, input, &mut kept);
@@ -61,18 +53,11 @@ impl<P, Q> Or<P, Q> {
     where
         P: Parser<Input>,
         Q: Parser<Input, Output = P::Output>,
-        requires lawful { P.lawful self.old.0 × Q.lawful self.old.1 }
-        requires valid { P.valid kept }
-        requires fresh { M.first mode ≡ true → P.PartialState.is_default kept }
-        requires state { state.old ≡ OrState.Peek }
-        ensures lawful { P.lawful self.new.0 × Q.lawful self.new.1 }
-        ensures valid { or_valid P.valid Q.valid state.new }
-        ensures same { MeansSame (either_of (P.meaning self.old.0) (Q.meaning self.old.1)) (either_of (P.meaning self.new.0) (Q.meaning self.new.1)) }
-        ensures passes { Passes (Input.marks input.old) (Input.marks input.new) (Input.failures input.old) (Input.failures input.new) }
-        ensures answers { Answers (world Input.step Input.Error.seen Input.steady (λ s. s ≡ OrState.Peek))
-            (either_of (P.meaning self.old.0) (Q.meaning self.old.1))
-            (record { first = false; state = OrState.A kept; left = state.new; old = Input.view input.old; new = Input.view input.new; before = Input.failures input.old; after = Input.failures input.new })
-            result }
+        requires ready { ⟦<Or<P, Q> as Calls<Input>>⟧.ready self.old (OrState.A kept) }
+        requires starts { M.first mode ≡ true → P.PartialState.is_default kept }
+        requires fresh { state.old ≡ OrState.Peek }
+        ensures called { ⟦<Or<P, Q> as Calls<Input>>⟧.called self.old self.new input.old input.new false (OrState.A kept) state.new result }
+        ensures refuses { Reasoned Input.Error.seen.kind (Input.view input.new).is_open (RefusesOr Input.Error.seen Input.Position.cmp P.PartialState.is_default Q.PartialState.is_default (P.refuses self.old.0) (Q.refuses self.old.1) (kept_from (M.first mode) (OrState.A kept)) (Input.view input.old)) result }
     {
         let start = input.checkpoint();
         let position = input.position();
@@ -98,57 +83,28 @@ impl<P, Q> Or<P, Q> {
         }
     }
 
-    /// As `try_second`, for a call that resumes: apart from the code of calls that begin afresh, which holds each parser once.
-    fn resume_second<Input: Stream, M: ParseMode>(
+    /// A call that resumes: apart from the code of calls that begin afresh, which holds each parser once.
+    fn resume<Input: Stream, M: ParseMode>(
         &mut self,
         mode: M,
         input: &mut Input,
-        kept: Q::PartialState,
+        kept: OrState<P::PartialState, Q::PartialState>,
         state: &mut OrState<P::PartialState, Q::PartialState>,
     ) -> ParseResult<P::Output, Input::Error>
     where
         P: Parser<Input>,
         Q: Parser<Input, Output = P::Output>,
-        requires lawful { P.lawful self.old.0 × Q.lawful self.old.1 }
-        requires valid { Q.valid kept }
-        requires fresh { M.first mode ≡ true → Q.PartialState.is_default kept }
-        requires state { state.old ≡ OrState.Peek }
-        ensures lawful { P.lawful self.new.0 × Q.lawful self.new.1 }
-        ensures valid { or_valid P.valid Q.valid state.new }
-        ensures same { MeansSame (either_of (P.meaning self.old.0) (Q.meaning self.old.1)) (either_of (P.meaning self.new.0) (Q.meaning self.new.1)) }
-        ensures passes { Passes (Input.marks input.old) (Input.marks input.new) (Input.failures input.old) (Input.failures input.new) }
-        ensures answers { Answers (world Input.step Input.Error.seen Input.steady (λ s. s ≡ OrState.Peek))
-            (either_of (P.meaning self.old.0) (Q.meaning self.old.1))
-            (record { first = false; state = OrState.B kept; left = state.new; old = Input.view input.old; new = Input.view input.new; before = Input.failures input.old; after = Input.failures input.new })
-            result }
+        requires ready { ⟦<Or<P, Q> as Calls<Input>>⟧.ready self.old kept }
+        requires resumes { M.first mode ≡ false }
+        requires fresh { state.old ≡ OrState.Peek }
+        ensures called { ⟦<Or<P, Q> as Calls<Input>>⟧.called self.old self.new input.old input.new false kept state.new result }
+        ensures refuses { Reasoned Input.Error.seen.kind (Input.view input.new).is_open (RefusesOr Input.Error.seen Input.Position.cmp P.PartialState.is_default Q.PartialState.is_default (P.refuses self.old.0) (Q.refuses self.old.1) (Some kept) (Input.view input.old)) result }
     {
-        self.try_second(mode, input, kept, state)
-    }
-
-    /// As `try_first`, for a call that resumes.
-    fn resume_first<Input: Stream, M: ParseMode>(
-        &mut self,
-        mode: M,
-        input: &mut Input,
-        kept: P::PartialState,
-        state: &mut OrState<P::PartialState, Q::PartialState>,
-    ) -> ParseResult<P::Output, Input::Error>
-    where
-        P: Parser<Input>,
-        Q: Parser<Input, Output = P::Output>,
-        requires lawful { P.lawful self.old.0 × Q.lawful self.old.1 }
-        requires valid { P.valid kept }
-        requires fresh { M.first mode ≡ true → P.PartialState.is_default kept }
-        requires state { state.old ≡ OrState.Peek }
-        ensures lawful { P.lawful self.new.0 × Q.lawful self.new.1 }
-        ensures valid { or_valid P.valid Q.valid state.new }
-        ensures same { MeansSame (either_of (P.meaning self.old.0) (Q.meaning self.old.1)) (either_of (P.meaning self.new.0) (Q.meaning self.new.1)) }
-        ensures passes { Passes (Input.marks input.old) (Input.marks input.new) (Input.failures input.old) (Input.failures input.new) }
-        ensures answers { Answers (world Input.step Input.Error.seen Input.steady (λ s. s ≡ OrState.Peek))
-            (either_of (P.meaning self.old.0) (Q.meaning self.old.1))
-            (record { first = false; state = OrState.A kept; left = state.new; old = Input.view input.old; new = Input.view input.new; before = Input.failures input.old; after = Input.failures input.new })
-            result }
-    {
+        let kept = match kept {
+            OrState::B(kept) => return self.try_second(mode, input, kept, state),
+            OrState::A(kept) => kept,
+            OrState::Peek => P::PartialState::default(),
+        };
         self.try_first(mode, input, kept, state)
     }
 }
@@ -166,6 +122,8 @@ impl<Input: Stream, P: Parser<Input>, Q: Parser<Input, Output = P::Output>> Pars
     ghost valid = { or_valid P.valid Q.valid };
 
     ghost meaning = { λ p. either_of (P.meaning p.0) (Q.meaning p.1) };
+
+    ghost refuses = { λ p. RefusesOr Input.Error.seen Input.Position.cmp P.PartialState.is_default Q.PartialState.is_default (P.refuses p.0) (Q.refuses p.1) };
 
     ghost parts = { λ _. 1 };
 
@@ -186,11 +144,7 @@ impl<Input: Stream, P: Parser<Input>, Q: Parser<Input, Output = P::Output>> Pars
         if mode.is_first() {
             return self.try_first(mode, input, P::PartialState::default(), state);
         }
-        match kept {
-            OrState::B(kept) => self.resume_second(mode, input, kept, state),
-            OrState::A(kept) => self.resume_first(mode, input, kept, state),
-            OrState::Peek => self.resume_first(mode, input, P::PartialState::default(), state),
-        }
+        self.resume(mode, input, kept, state)
     }
 
     /// What the first adds, and then what the second does.
@@ -221,6 +175,8 @@ impl<Input: Stream, P: Parser<Input>> Parser<Input> for Optional<P> {
     ghost valid = { P.valid };
 
     ghost meaning = { λ p. optional (P.meaning p.0) };
+
+    ghost refuses = { λ p k v. committed_only (P.refuses p.0 k v) };
 
     ghost parts = { λ p. P.parts p.0 };
 

@@ -1,7 +1,9 @@
 //! The reading of one token, of which the parsers of single tokens are made.
 ghost use Rattle.combine_base.specs.Parser.Answer.{world};
+ghost use Rattle.combine_base.specs.Parser.Reasons.{Reasoned};
 ghost use Rattle.combine_base.specs.Stream.Calls.{Passes};
 ghost use Rattle.combine_token.specs.OneToken.{satisfied, PutBack, ReadsToken, ReadsTokenIf};
+ghost use Rattle.combine_token.specs.Reasons.{RefusesToken};
 
 use combine_base::error::{ParseResult, Tracked};
 use combine_base::refusal::no_token;
@@ -21,6 +23,7 @@ pub fn one_token<B, Input: Stream, F: FnOnce(Option<Input::Token>) -> Option<B>>
     ensures passes { Passes (Input.marks input.old) (Input.marks input.new) (Input.failures input.old) (Input.failures input.new) }
     ensures reads { ReadsToken (world Input.step Input.Error.seen Input.steady ⟦<() as Default>⟧.is_default) (F.post test) (Input.view input.old) (Input.view input.new) (Input.failures input.old) (Input.failures input.new) result }
     ensures back { PutBack (Input.view input.old) (Input.view input.new) result }
+    ensures refuses { Reasoned Input.Error.seen.kind (Input.view input.new).is_open (RefusesToken Input.Error.seen (Input.view input.old)) result }
 {
     let start = input.checkpoint();
     let position = input.position();
@@ -58,6 +61,7 @@ pub fn token_if<Input: Stream, F: FnOnce(Input::Token) -> bool>(
     ensures passes { Passes (Input.marks input.old) (Input.marks input.new) (Input.failures input.old) (Input.failures input.new) }
     ensures reads { ReadsTokenIf (world Input.step Input.Error.seen Input.steady ⟦<() as Default>⟧.is_default) (F.post predicate) (Input.view input.old) (Input.view input.new) (Input.failures input.old) (Input.failures input.new) result }
     ensures back { PutBack (Input.view input.old) (Input.view input.new) result }
+    ensures refuses { Reasoned Input.Error.seen.kind (Input.view input.new).is_open (RefusesToken Input.Error.seen (Input.view input.old)) result }
 {
     one_token(
         |first: Option<Input::Token>| -> Option<Input::Token>

@@ -3,6 +3,7 @@ ghost use Rattle.std.specs.Prelude.{◌≡◌, true};
 ghost use Rattle.combine_base.specs.Error.Errors.{Nothing, Only};
 ghost use Rattle.combine_base.specs.Error.Items.{Expected, OfToken};
 ghost use Rattle.combine_token.specs.OneToken.{IsPredicate, of_function, of_function_is_predicate, satisfied, satisfied_is_test, takes_one, takes_one_is_meaning, takes_one_means_one};
+ghost use Rattle.combine_token.specs.Reasons.{RefusesToken};
 ghost use Rattle.combine_token.specs.Given.{gives, gives_is_meaning, gives_means_one};
 
 pub use crate::token::lists::types::Tokens;
@@ -56,6 +57,8 @@ impl<Input: Stream> Parser<Input> for Any<Input> {
 
     ghost meaning = { λ p. takes_one (satisfied (of_function (λ t. true))) (Unit {0}) Nothing };
 
+    ghost refuses = { λ p k. RefusesToken Input.Error.seen };
+
     ghost parts = { λ p. 1 };
 
     #[inline(always)]
@@ -101,6 +104,8 @@ impl<Input: Stream, F: Fn(Input::Token) -> bool> Parser<Input> for Satisfy<Input
 
     ghost meaning = { λ p. takes_one (satisfied (F.post p.predicate)) (Unit {0}) Nothing };
 
+    ghost refuses = { λ p k. RefusesToken Input.Error.seen };
+
     ghost parts = { λ p. 1 };
 
     #[inline(always)]
@@ -143,6 +148,8 @@ where
     ghost valid = { λ s. Unit {0} };
 
     ghost meaning = { λ p. takes_one (satisfied (of_function (λ t. Input.Token.eq t p.token))) (Unit {0}) (Only (Expected (OfToken p.token))) };
+
+    ghost refuses = { λ p k. RefusesToken Input.Error.seen };
 
     ghost parts = { λ p. 1 };
 
@@ -191,6 +198,8 @@ impl<Input: Stream, T: Clone> Parser<Input> for Value<Input, T> {
     ghost valid = { λ s. Unit {0} };
 
     ghost meaning = { λ p. gives (λ at v. T.is_clone p.value v) (T.is_infallible p.value) Nothing };
+
+    ghost refuses = { λ p k v committed e. ⊥ };
 
     ghost parts = { λ p. 1 };
 

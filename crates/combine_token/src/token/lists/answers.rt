@@ -2,9 +2,12 @@
 ghost use Rattle.std.specs.Prelude.{◌≡◌, ◌↔◌, ◌+◌, ◌<◌, ◌≤◌, MatchResult, true};
 ghost use Rattle.std.specs.Iterator.{IsFinite, size};
 ghost use Rattle.std.specs.Option.{option_copied};
+ghost use Rattle.combine_base.specs.Error.Errors.{New};
+ghost use Rattle.combine_base.specs.Parser.Reasons.{Reasoned};
 ghost use Rattle.combine_base.specs.Stream.Calls.{Passes};
 ghost use Rattle.combine_token.specs.Iterated.{Gave, GaveAll};
 ghost use Rattle.combine_token.specs.ListAnswers.{Accepted, FindsNone, Mismatch, PutBack};
+ghost use Rattle.combine_token.specs.Reasons.{SaysEnded, peeked_only};
 
 use combine_base::error::{Info, ParseError, ParseResult, Tracked};
 use combine_base::refusal::{add_unexpected_token, no_token};
@@ -73,6 +76,7 @@ pub(super) fn put_back<O, Input: Stream>(
     input: &mut Input,
 ) -> ParseResult<O, Input::Error>
     ensures back { PutBack Input.steady Input.step Input.Error.seen.kind (Input.stands input.old start) (Input.view input.old) (Input.view input.new) (Input.failures input.old) (Input.failures input.new) result }
+    ensures refuses { Reasoned Input.Error.seen.kind (Input.view input.new).is_open (peeked_only (New Input.Error.seen Kind.Refused position)) result }
     ensures passes { Passes (Input.marks input.old) (Input.marks input.new) (Input.failures input.old) (Input.failures input.new) }
 {
     if let Err(kind) = input.reset(start) {
@@ -96,7 +100,8 @@ pub(super) fn no_more<O, Input: Stream>(
     position: Input::Position,
     input: &Input,
 ) -> ParseResult<O, Input::Error>
-    ensures { FindsNone Input.Error.seen.kind Input.Error.seen.frugal (Input.view input.now).is_open committed why result }
+    ensures finds { FindsNone Input.Error.seen.kind Input.Error.seen.frugal (Input.view input.now).is_open committed why result }
+    ensures refuses { why ≡ Kind.End → Reasoned Input.Error.seen.kind (Input.view input.now).is_open (SaysEnded Input.Error.seen position committed) result }
 {
     match no_token::<O, Input>(input, why, position) {
         ParseResult::PeekErr(refusal) => {

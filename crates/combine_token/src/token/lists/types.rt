@@ -1,8 +1,9 @@
 //! The parsers of lists of tokens, and their states.
-ghost use Rattle.std.specs.Prelude.{◌≡◌, not, if◌then◌else◌, MatchResult};
+ghost use Rattle.std.specs.Prelude.{◌≡◌, not, if◌then◌else◌, MatchResult, Some};
 ghost use Rattle.combine_base.specs.Error.Errors.{Only};
 ghost use Rattle.combine_base.specs.Error.Items.{Expected, shown};
 ghost use Rattle.combine_token.specs.ListAnswers.{NoText};
+ghost use Rattle.combine_token.specs.Reasons.{RefusesList, begins_at};
 ghost use Rattle.combine_token.specs.TokenLists.{ComparesOnce, token_list};
 ghost use Rattle.combine_token.specs.TokenListLaws.{token_list_is_meaning, token_list_means_one};
 ghost use Rattle.combine_token.specs.Iterated.{IsIterated, iterated, iterated_ends_once};
@@ -89,6 +90,8 @@ where
     ghost valid = { λ s. Unit {0} };
 
     ghost meaning = { λ p. token_list (iterated T.is_clone T.into_iter_gives T.IntoIter.next_gives p.tokens (λ x t b. C.post p.cmp x t b)) (T.is_clone p.tokens) (λ s. s.matched) (T.is_infallible p.tokens) (Only (Expected (shown p.expected))) };
+
+    ghost refuses = { λ p k. RefusesList Input.Error.seen (iterated T.is_clone T.into_iter_gives T.IntoIter.next_gives p.tokens (λ x t b. C.post p.cmp x t b)) (Some p.expected) (begins_at (λ s. s.matched) k) };
 
     ghost parts = { λ _. 1 };
 

@@ -5,6 +5,9 @@ use Rattle.combine_token.specs.Iterated.{iterated_ends_once}
 use Rattle.combine_token.proofs.Iterating.{reached, reached_more, stands_there, ends, ends_early}
 use Rattle.combine_token.proofs.Matches.{arrived_first, arrived_next}
 use Rattle.combine_token.proofs.ListAnswered.{match_accepted, match_refused, match_put_back, match_unread, match_asks, mismatch_told}
+use Rattle.combine_token.proofs.Reasons.{reasons_fault, reasons_need}
+use Rattle.combine_token.proofs.ListReasons.{accepted_reasons, mismatch_reasons, put_back_reasons, unread_reasons}
+use Rattle.combine_base.specs.declared.stream.Kind.TheVariants as kinds
 use Rattle.combine_token.proofs.token.lists.match_list.Goals as goal
 
 pub items-init : goal.items-init
@@ -63,7 +66,7 @@ returns-in-Err-uncons-clause-passes g c = passes_more _ _ _ _ _ _ c.items.invari
 pub returns-in-Err-uncons-clause-answers : goal.returns-in-Err-uncons-clause-answers
 returns-in-Err-uncons-clause-answers g c =
     let i = c.items.invariant in
-    match_unread _ _ _ _ _ _ _ _ _ _ i.arrived i.cleared (_, stands_there _ _ _ _ _ _ _ _ i.reached c.in-Some.ensures.steps) _ refl _ _ c.in-Err-uncons.ensures.read.is i.passes.reads (λ z. false≢true (sym c.if-asks_for_more.false ∙ c.asks_for_more.ensures.1 z)) c.no_more.ensures
+    match_unread _ _ _ _ _ _ _ _ _ _ i.arrived i.cleared (_, stands_there _ _ _ _ _ _ _ _ i.reached c.in-Some.ensures.steps) _ refl _ _ c.in-Err-uncons.ensures.read.is i.passes.reads (λ z. false≢true (sym c.if-asks_for_more.false ∙ c.asks_for_more.ensures.1 z)) c.no_more.ensures.finds
 
 pub items-preserved : goal.items-preserved
 items-preserved g c =
@@ -82,3 +85,34 @@ pub returns-clause-answers : goal.returns-clause-answers
 returns-clause-answers g c =
     let i = c.items.invariant in
     match_accepted _ _ _ _ _ _ _ _ _ _ i.arrived i.cleared _ (omega arith) (ends _ _ _ _ _ _ _ i.reached c.in-None.ensures.steps) refl refl _ refl _ c.accepted-2.ensures
+
+pub returns-in-Err-clause-refuses : goal.returns-in-Err-clause-refuses
+returns-in-Err-clause-refuses g c = reasons_fault _ _ _ _ kinds.Memory c.new_error.ensures.kind tt
+
+pub returns-in-Err-pass_over-clause-refuses : goal.returns-in-Err-pass_over-clause-refuses
+returns-in-Err-pass_over-clause-refuses g c = accepted_reasons _ _ _ _ _ _ _ c.accepted.ensures
+
+pub returns-then-matched-gt0-clause-refuses : goal.returns-then-matched-gt0-clause-refuses
+returns-then-matched-gt0-clause-refuses g c =
+    let i = c.items.invariant in
+    let n = c.if-not-cmp.ensures in
+    mismatch_reasons _ _ _ _ _ _ _ _ _ _ _ _ _ i.arrived _ _ (_, stands_there _ _ _ _ _ _ _ _ i.reached c.in-Some.ensures.steps) _ _ _ _ (_, stands_there _ _ _ _ _ _ _ _ i.reached c.in-Some.ensures.steps, n) c.in-Ok-uncons.ensures.read.is _ (sym (lt-ltb 0 _ c.if-matched-gt0.true)) (rw c.position-position.ensures at c.mismatch-error.ensures)
+
+pub returns-then-not-cmp-clause-refuses : goal.returns-then-not-cmp-clause-refuses
+returns-then-not-cmp-clause-refuses g c =
+    let i = c.items.invariant in
+    let n = c.if-not-cmp.ensures in
+    put_back_reasons _ _ _ _ _ _ _ _ _ _ _ _ _ i.arrived _ _ (_, stands_there _ _ _ _ _ _ _ _ i.reached c.in-Some.ensures.steps) _ _ _ _ (_, stands_there _ _ _ _ _ _ _ _ i.reached c.in-Some.ensures.steps, n) c.in-Ok-uncons.ensures.read.is _ (sym (le-ltb _ _ c.if-matched-gt0.false)) (rw c.position-position.ensures at c.put_back.ensures.refuses)
+
+pub returns-then-asks_for_more-clause-refuses : goal.returns-then-asks_for_more-clause-refuses
+returns-then-asks_for_more-clause-refuses g c =
+    let k = c.asks_for_more.ensures.0 c.if-asks_for_more.true in
+    reasons_need _ _ _ _ (c.new_error-then-asks_for_more.ensures.kind ∙ k.0) k.1
+
+pub returns-in-Err-uncons-clause-refuses : goal.returns-in-Err-uncons-clause-refuses
+returns-in-Err-uncons-clause-refuses g c =
+    let i = c.items.invariant in
+    unread_reasons _ _ _ _ _ _ _ _ _ _ _ _ _ i.arrived _ _ (_, stands_there _ _ _ _ _ _ _ _ i.reached c.in-Some.ensures.steps) _ _ _ refl _ _ c.in-Err-uncons.ensures.read.is (λ z. false≢true (sym c.if-asks_for_more.false ∙ c.asks_for_more.ensures.1 z)) c.no_more.ensures.finds (rw c.position-position.ensures at c.no_more.ensures.refuses)
+
+pub returns-clause-refuses : goal.returns-clause-refuses
+returns-clause-refuses g c = accepted_reasons _ _ _ _ _ _ _ c.accepted-2.ensures

@@ -1,0 +1,122 @@
+-- the error that a refusal has, by how a call is answered
+use Rattle.std.proofs.Common.{◌≡◌, ◌∙◌, ◌⊎◌, inl, inr, Option, Some, Bool, true, false, subst, sym}
+use Rattle.std.specs.declared.cmp.Ordering.{Ordering}
+use Rattle.combine_base.specs.Stream.View.{View}
+use Rattle.combine_base.specs.Error.Errors.{Errors, IsFault, Joined, later}
+use Rattle.combine_base.specs.Refusals.{NoToken}
+use Rattle.combine_base.specs.Parser.Judged.{IsRefusal}
+use Rattle.combine_base.specs.Parser.Reasons.{Reasoned, kept_from}
+use Rattle.combine_base.proofs.Explaining.{reason_peeked}
+use Rattle.combine_base.specs.declared.stream.Kind.{Kind}
+use Rattle.combine_base.specs.declared.stream.Kind.TheVariants as kinds
+use Rattle.combine_base.specs.declared.error.Tracked.{Tracked}
+use Rattle.combine_base.specs.declared.error.ParseResult.{ParseResult}
+use Rattle.combine_base.specs.declared.error.ParseResult.TheVariants.{CommitOk, PeekOk, CommitErr, PeekErr}
+use Rattle.combine_token.specs.Alternatives.{AfterRefusal, refuses_both}
+use Rattle.combine_token.specs.Reasons.{RefusesOr, or_refuses}
+use Rattle.combine_token.specs.declared.choice.OrState.TheVariants.{Peek, A, B}
+
+fault_or_refusal : (is_open : Bool) (k : Kind) → IsFault k → IsRefusal is_open k → ⊥
+fault_or_refusal is_open kinds.Refused f r = f
+fault_or_refusal is_open kinds.End f r = f
+fault_or_refusal is_open kinds.Memory f r = r
+fault_or_refusal is_open kinds.Read f r = r
+fault_or_refusal is_open kinds.Reset f r = r
+fault_or_refusal is_open kinds.Lost f r = r
+
+open_end : (b : Bool) → b ≡ true → IsRefusal b kinds.End → ⊥
+open_end true i r = r
+open_end false i r = absurd (cc)
+
+module _ {V E : Type 0} (kind : E → Kind) (is_open : Bool) (says : Bool → E → Type 0) where
+  -- an acceptance is no refusal
+  pub reasons_ok : (v : V) → Reasoned kind is_open says (CommitOk v)
+  reasons_ok v committed x h = absurd h.is
+
+  pub reasons_peek_ok : (v : V) → Reasoned kind is_open says (PeekOk v)
+  reasons_peek_ok v committed x h = absurd h.is
+
+  pub reasons_peeked : (t : Tracked E) → says false t.error → Reasoned {V = V} kind is_open says (PeekErr t)
+  reasons_peeked t p true x h = absurd h.is
+  reasons_peeked t p false x h = subst (says false) (sym h.is) p
+
+  pub reasons_committed : (e : E) → (IsRefusal is_open (kind e) → says true e) → Reasoned {V = V} kind is_open says (CommitErr e)
+  reasons_committed e p true x h = let i = h.is in subst (says true) (sym i.0) (p i.1)
+  reasons_committed e p false x h = absurd h.is
+
+  -- nor is a fault
+  pub reasons_fault : (e : E) → (k : Kind) → kind e ≡ k → IsFault k → Reasoned {V = V} kind is_open says (CommitErr e)
+  reasons_fault e k i f = reasons_committed e (λ r. absurd (fault_or_refusal is_open k f (rw i at r)))
+
+  -- nor is need of more
+  pub reasons_need : (e : E) → kind e ≡ kinds.End → is_open ≡ true → Reasoned {V = V} kind is_open says (CommitErr e)
+  reasons_need e i j = reasons_committed e (λ r. absurd (open_end is_open j (rw i at r)))
+
+module _ {V E : Type 0} (kind : E → Kind) (is_open : Bool) (f g : Bool → E → Type 0) where
+  -- the same answer's, where the errors that are allowed include those
+  pub reasons_into : (result : ParseResult V E) → ((k : Bool) (e : E) → f k e → g k e) → Reasoned kind is_open f result → Reasoned kind is_open g result
+  reasons_into result i r committed x h = i committed x (r committed x h)
+
+-- a committed error, handed on as it is
+pub reasons_hand_on : {V V' E : Type 0} (kind : E → Kind) (is_open : Bool) (f g : Bool → E → Type 0) (e : E) → ((x : E) → f true x → g true x) → Reasoned {V = V} kind is_open f (CommitErr e) → Reasoned {V = V'} kind is_open g (CommitErr e)
+reasons_hand_on kind is_open f g e i r true x h = i x (r true x (record { is = h.is }))
+reasons_hand_on kind is_open f g e i r false x h = absurd h.is
+
+-- where the end was looked for, a committed error is need of more, or a fault
+pub reasons_unended : {V V' E : Type 0} (kind : E → Kind) (frugal : Type 0) (is_open : Bool) (says : Bool → E → Type 0) (why : Kind) (e : E) → NoToken {V = V} kind frugal is_open why (CommitErr e) → why ≡ kinds.End → Reasoned {V = V'} kind is_open says (CommitErr e)
+reasons_unended {V} {V'} kind frugal is_open says why e h i = by_case h.is
+  where
+    by_case : ((kind e ≡ why) × (why ≡ kinds.End → is_open ≡ true)) ⊎ ((kind e ≡ kinds.Memory) × (frugal → ⊥)) → Reasoned {V = V'} kind is_open says (CommitErr e)
+    by_case (inl p) = reasons_need kind is_open says e (p.0 ∙ i) (p.1 i)
+    by_case (inr p) = reasons_fault kind is_open says e kinds.Memory p.0 tt
+
+module _ {T R P S S' E : Type 0} (s : Errors T R P E) (cmp : P → P → Ordering) (fresh : S → Type 0) (fresh' : S' → Type 0) (first : Option S → View P T → Bool → E → Type 0) (second : Option S' → View P T → Bool → E → Type 0) where
+  abbrev either : Bool → S → View P T → Bool → E → Type 0
+  either mode k = RefusesOr s cmp fresh fresh' first second (kept_from mode (A k))
+
+  -- a call from the beginning is one of the first from a default state
+  pub from_peek : (k : S) → fresh k → (v : View P T) (committed : Bool) (e : E) → RefusesOr s cmp fresh fresh' first second (Some (A k)) v committed e → RefusesOr s cmp fresh fresh' first second (Some Peek) v committed e
+  from_peek k d v committed e p = record { is = by_case committed p.is }
+    where
+      by_case : (c : Bool) → or_refuses s cmp fresh fresh' first second (Some (A k)) v c e → or_refuses s cmp fresh fresh' first second (Some Peek) v c e
+      by_case true (inl q) = inl (k, d, q)
+      by_case true (inr q) = inr q
+      by_case false q = record { own = q.own; other = q.other; refused_first = (k, d, q.refused_first); refused_second = q.refused_second; joined = q.joined }
+
+  first_commits : (mode : Bool) (k : S) (v : View P T) (e : E) → first (kept_from mode k) v true e → either mode k v true e
+  first_commits true k v e p = record { is = inl p }
+  first_commits false k v e p = record { is = inl p }
+
+  second_commits : (mode : Bool) (k : S) (l : S') (v : View P T) (e : E) → fresh' l → second (kept_from mode l) v true e → either mode k v true e
+  second_commits true k l v e d p = record { is = inr p }
+  second_commits false k l v e d p = record { is = inr (l, d, p) }
+
+  both_peek : (mode : Bool) (k : S) (l : S') (v : View P T) (a b e : E) → fresh' l → first (kept_from mode k) v false a → second (kept_from mode l) v false b → Joined s (later cmp (s.position a) (s.position b)) a b e → either mode k v false e
+  both_peek true k l v a b e d p q j = record { is = record { own = a; other = b; refused_first = p; refused_second = q; joined = j } }
+  both_peek false k l v a b e d p q j = record { is = record { own = a; other = b; refused_first = p; refused_second = (l, d, q); joined = j } }
+
+  module _ {V : Type 0} (mode : Bool) (k : S) (v : View P T) (is_open : Bool) where
+    -- a committed error of the first's is the choice's
+    pub first_reasons : (e : E) → Reasoned {V = V} s.kind is_open (first (kept_from mode k) v) (CommitErr e) → Reasoned {V = V} s.kind is_open (either mode k v) (CommitErr e)
+    first_reasons e r = reasons_hand_on s.kind is_open (first (kept_from mode k) v) (either mode k v) e (first_commits mode k v) r
+
+    -- the first was refused peeked, and the second began in a default state
+    module _ (l : S') (d : fresh' l) (was_open : Bool) (t : Tracked E) (i : Reasoned {V = V} s.kind was_open (first (kept_from mode k) v) (PeekErr t)) where
+      p : first (kept_from mode k) v false t.error
+      p = reason_peeked s.kind was_open (first (kept_from mode k) v) t i
+
+      merging : (u : Tracked E) (result : ParseResult V E) → second (kept_from mode l) v false u.error → refuses_both s cmp t.error u.error result → Reasoned s.kind is_open (either mode k v) result
+      merging u (CommitOk x) q h = absurd h
+      merging u (PeekOk x) q h = absurd h
+      merging u (CommitErr e) q h = reasons_fault s.kind is_open (either mode k v) e kinds.Memory h.0 tt
+      merging u (PeekErr e) q h = reasons_peeked s.kind is_open (either mode k v) e (both_peek mode k l v t.error u.error e.error d p q h)
+
+      pub second_reasons : (answer result : ParseResult V E) → Reasoned s.kind is_open (second (kept_from mode l) v) answer → AfterRefusal s cmp t.error answer result → Reasoned s.kind is_open (either mode k v) result
+      second_reasons (CommitOk x) result r h = rw h.is (reasons_ok s.kind is_open (either mode k v) x)
+      second_reasons (PeekOk x) result r h = rw h.is (reasons_peek_ok s.kind is_open (either mode k v) x)
+      second_reasons (CommitErr e) result r h = rw h.is (reasons_hand_on s.kind is_open (second (kept_from mode l) v) (either mode k v) e (λ x q. second_commits mode k l v x d q) r)
+      second_reasons (PeekErr u) result r h = merging u result (reason_peeked s.kind is_open (second (kept_from mode l) v) u r) h.is
+
+  -- from a state of the second's it is the second's alone
+  pub from_second : {V : Type 0} (k : S') (v : View P T) (is_open : Bool) (result : ParseResult V E) → Reasoned s.kind is_open (second (Some k) v) result → Reasoned s.kind is_open (RefusesOr s cmp fresh fresh' first second (Some (B k)) v) result
+  from_second k v is_open result r = reasons_into s.kind is_open (second (Some k) v) (RefusesOr s cmp fresh fresh' first second (Some (B k)) v) result (λ c e p. record { is = p }) r
