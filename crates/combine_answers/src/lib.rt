@@ -1,8 +1,16 @@
 //! What the parsers of a list answer to cases, as text: for a comparison with the answers of others.
 //!
-//! A case is a parser, written as the call, and the pieces that it is fed. Every parser of the list is built of the constructors, with a type of its own.
+//! A case is a parser, written as the call, and the pieces that it is fed. Every parser of the list is built of the constructors, with a type of its own. It is run by a session or over a stream that is fed.
 #![tactic(auto)]
 
+mod answer;
+mod answered;
+mod feeding;
+mod letters;
 mod list;
+mod room;
+mod run;
+mod show;
+mod text;
 
-pub use list::{answer, answer_with_unread};
+pub use answer::{answer, answer_with_unread};

@@ -1,4 +1,3 @@
 pub mod Given
 pub mod Measures
-pub mod Parsers
 pub mod Tally

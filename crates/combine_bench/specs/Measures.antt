@@ -8,7 +8,7 @@ use Rattle.combine_base.specs.Stream.Slices.{slice_view, one_less}
 use Rattle.combine_base.specs.declared.stream.slices.Left.{Left}
 use Rattle.combine_repeat.specs.Repetition.{appended}
 use Rattle.combine_bench.specs.Given.{Answers}
-use Rattle.combine_bench.specs.Parsers.{one_where, byte, either, put_back, skipping, skipping1, collecting, collecting1, pair, triple, quadruple}
+use Rattle.combine_calls.specs.Parsers.{one_where, byte, either, put_back, skipping, skipping1, collecting, collecting1, pair, triple, quadruple}
 use Rattle.combine_bench.specs.Tally.{with_message}
 use Rattle.combine_bench.specs.declared.messages_collect.Message.{Message}
 use Rattle.combine_bench.specs.declared.messages_collect.Tally.{Tally}

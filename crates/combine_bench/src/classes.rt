@@ -1,14 +1,8 @@
 //! Classes of bytes.
-ghost use Rattle.std.specs.Prelude.{◌≡◌, ◌||◌, Bool};
+ghost use Rattle.std.specs.Prelude.{◌≡◌, ◌||◌};
 ghost use Rattle.std.specs.Char.{is_ascii_digit, is_ascii_lowercase};
 
-/// A class of tokens.
-pub(crate) trait Class<T> {
-    ghost holds: { T → Bool };
-
-    fn has(token: T) -> bool
-        ensures { result ≡ holds token };
-}
+use combine_calls::Class;
 
 /// The small letters.
 #[derive(Drop)]

@@ -1,11 +1,9 @@
 //! The tokens `del `, put back where they aren't all there.
-ghost use Rattle.std.specs.Prelude.{ℕ, ◌+◌};
-ghost use Rattle.combine_base.specs.Stream.Slices.{one_less};
-ghost use Rattle.combine_base.specs.declared.stream.slices.Left.{Left};
 ghost use Rattle.combine_bench.specs.Measures.{del};
 
-use crate::calls::{AttemptCall, Call, TokenCall, Tuple4Call, Visitor};
-use combine_base::stream::fed;
+use combine_base::error::ParseError;
+use combine_base::stream::Stream;
+use combine_calls::{AttemptCall, Call, TokenCall, Tuple4Call, Visitor};
 use std::alloc::Global;
 
 type Parts = AttemptCall<
@@ -16,24 +14,16 @@ type Parts = AttemptCall<
 #[derive(Drop)]
 pub(crate) struct Del;
 
-impl<'a> Call<&'a [u8]> for Del {
+impl<Input: Stream<Token = u8>> Call<Input> for Del
+where
+    Input::Error: ParseError<u8, Input::Range, Input::Position>,
+{
     type Output = (u8, u8, u8, u8);
 
-    ghost reading = { del Left one_less };
+    ghost reading = { del Input.Position Input.step };
 
     #[inline(always)]
-    fn accept<V: Visitor<&'a [u8], (u8, u8, u8, u8)>>(alloc: Global, visitor: V) -> u64 {
-        Parts::accept(alloc, visitor)
-    }
-}
-
-impl Call<fed::Stream<u8>> for Del {
-    type Output = (u8, u8, u8, u8);
-
-    ghost reading = { del ℕ (λ p b. p + 1) };
-
-    #[inline(always)]
-    fn accept<V: Visitor<fed::Stream<u8>, (u8, u8, u8, u8)>>(alloc: Global, visitor: V) -> u64 {
+    fn accept<V: Visitor<Input, (u8, u8, u8, u8)>>(alloc: Global, visitor: V) -> V::Answer {
         Parts::accept(alloc, visitor)
     }
 }

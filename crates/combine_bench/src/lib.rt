@@ -1,7 +1,6 @@
 //! Our side of the measures of `bench/`: for each a function that is called from outside, whose parser takes the bytes whole or in pieces.
 #![tactic(auto)]
 
-mod calls;
 mod classes;
 mod del;
 mod many_in_many;

@@ -1,10 +1,10 @@
 //! `skip_many` of words, which are `skip_many1` of letters with a `;` behind them.
 ghost use Rattle.combine_bench.specs.Measures.{Measures, many_in_many, taken};
 
-use crate::calls::{SatisfyCall, SkipMany1Call, SkipManyCall, TokenCall, Tuple2Call};
 use crate::classes::Letter;
 use crate::measure::{Taken, measured};
 use crate::run::{Pieces, Whole};
+use combine_calls::{SatisfyCall, SkipMany1Call, SkipManyCall, TokenCall, Tuple2Call};
 use std::alloc::Global;
 
 type Word = SkipMany1Call<SatisfyCall<Letter>>;

@@ -4,10 +4,10 @@ ghost use Rattle.combine_base.specs.Parser.Meaning.{Reading};
 ghost use Rattle.combine_bench.specs.Given.{Answers, number};
 ghost use Rattle.combine_bench.specs.Measures.{taken};
 
-use crate::calls::{Call, Visitor};
 use crate::run::{Given, Run};
 use combine_base::parser::Parser;
 use combine_base::stream::Stream;
+use combine_calls::{Call, Visitor};
 use std::alloc::Global;
 use std::marker::PhantomData;
 
@@ -40,6 +40,8 @@ struct Runs<R, N> {
 }
 
 impl<Input: Stream, O: Drop, R: Run<Input> + Drop, N: Number<O>> Visitor<Input, O> for Runs<R, N> {
+    type Answer = u64;
+
     ghost ready = { λ s. Unit {0} };
 
     ghost answers = { λ s r n. Answers N.number_of r (R.all s.run) n };

@@ -1,19 +1,18 @@
 //! Messages, collected: `del WORD;` or `WORD=DIGITS;`, the word and the digits in vectors.
 ghost use Rattle.std.specs.Prelude.{◌≡◌, ℕ, ◌+◌};
-ghost use Rattle.combine_base.specs.Stream.Slices.{one_less};
-ghost use Rattle.combine_base.specs.declared.stream.slices.Left.{Left};
 ghost use Rattle.combine_bench.specs.Measures.{Measures, bytes_of, collected_delete, collected_set, digit, letter, messages_collect, sum};
 
-use crate::calls::{
-    Call, Change, Many1Call, ManyCall, MapCall, OrCall, SatisfyCall, TokenCall, Tuple3Call,
-    Tuple4Call, Visitor,
-};
 use crate::classes::{Decimal, Letter};
 use crate::del::Del;
 use crate::measure::{Number, measured};
 use crate::run::{Pieces, Whole};
+use combine_base::error::ParseError;
 use combine_base::repeat::Append;
-use combine_base::stream::fed;
+use combine_base::stream::Stream;
+use combine_calls::{
+    Call, Change, Collect, InVec, Many1Call, ManyCall, MapCall, OrCall, SatisfyCall, TokenCall,
+    Tuple3Call, Tuple4Call, Visitor,
+};
 use std::alloc::{AllocError, Global};
 
 /// What a message says.
@@ -59,6 +58,10 @@ impl Append<Message> for Tally {
     }
 }
 
+impl Collect<Message> for Tally {
+    type Into = Tally;
+}
+
 impl Tally {
     ghost use Rattle.combine_bench.specs.Tally.{with_kept};
 
@@ -78,9 +81,9 @@ impl Tally {
     }
 }
 
-type WordParts = Many1Call<Vec<u8>, SatisfyCall<Letter>>;
+type WordParts = Many1Call<InVec, SatisfyCall<Letter>>;
 
-type DigitsParts = Many1Call<Vec<u8>, SatisfyCall<Decimal>>;
+type DigitsParts = Many1Call<InVec, SatisfyCall<Decimal>>;
 
 type DeleteParts = MapCall<Tuple3Call<Del, Word, TokenCall<b';'>>, Deleted>;
 
@@ -159,24 +162,16 @@ impl Change<(Vec<u8>, u8, Vec<u8>, u8)> for Made {
 #[derive(Drop)]
 struct Word;
 
-impl<'a> Call<&'a [u8]> for Word {
+impl<Input: Stream<Token = u8>> Call<Input> for Word
+where
+    Input::Error: ParseError<u8, Input::Range, Input::Position>,
+{
     type Output = Vec<u8>;
 
-    ghost reading = { bytes_of Left one_less letter };
+    ghost reading = { bytes_of Input.Position Input.step letter };
 
     #[inline(always)]
-    fn accept<V: Visitor<&'a [u8], Vec<u8>>>(alloc: Global, visitor: V) -> u64 {
-        WordParts::accept(alloc, visitor)
-    }
-}
-
-impl Call<fed::Stream<u8>> for Word {
-    type Output = Vec<u8>;
-
-    ghost reading = { bytes_of ℕ (λ p b. p + 1) letter };
-
-    #[inline(always)]
-    fn accept<V: Visitor<fed::Stream<u8>, Vec<u8>>>(alloc: Global, visitor: V) -> u64 {
+    fn accept<V: Visitor<Input, Vec<u8>>>(alloc: Global, visitor: V) -> V::Answer {
         WordParts::accept(alloc, visitor)
     }
 }
@@ -185,24 +180,16 @@ impl Call<fed::Stream<u8>> for Word {
 #[derive(Drop)]
 struct Digits;
 
-impl<'a> Call<&'a [u8]> for Digits {
+impl<Input: Stream<Token = u8>> Call<Input> for Digits
+where
+    Input::Error: ParseError<u8, Input::Range, Input::Position>,
+{
     type Output = Vec<u8>;
 
-    ghost reading = { bytes_of Left one_less digit };
+    ghost reading = { bytes_of Input.Position Input.step digit };
 
     #[inline(always)]
-    fn accept<V: Visitor<&'a [u8], Vec<u8>>>(alloc: Global, visitor: V) -> u64 {
-        DigitsParts::accept(alloc, visitor)
-    }
-}
-
-impl Call<fed::Stream<u8>> for Digits {
-    type Output = Vec<u8>;
-
-    ghost reading = { bytes_of ℕ (λ p b. p + 1) digit };
-
-    #[inline(always)]
-    fn accept<V: Visitor<fed::Stream<u8>, Vec<u8>>>(alloc: Global, visitor: V) -> u64 {
+    fn accept<V: Visitor<Input, Vec<u8>>>(alloc: Global, visitor: V) -> V::Answer {
         DigitsParts::accept(alloc, visitor)
     }
 }
@@ -211,24 +198,16 @@ impl Call<fed::Stream<u8>> for Digits {
 #[derive(Drop)]
 struct Delete;
 
-impl<'a> Call<&'a [u8]> for Delete {
+impl<Input: Stream<Token = u8>> Call<Input> for Delete
+where
+    Input::Error: ParseError<u8, Input::Range, Input::Position>,
+{
     type Output = Message;
 
-    ghost reading = { collected_delete Left one_less };
+    ghost reading = { collected_delete Input.Position Input.step };
 
     #[inline(always)]
-    fn accept<V: Visitor<&'a [u8], Message>>(alloc: Global, visitor: V) -> u64 {
-        DeleteParts::accept(alloc, visitor)
-    }
-}
-
-impl Call<fed::Stream<u8>> for Delete {
-    type Output = Message;
-
-    ghost reading = { collected_delete ℕ (λ p b. p + 1) };
-
-    #[inline(always)]
-    fn accept<V: Visitor<fed::Stream<u8>, Message>>(alloc: Global, visitor: V) -> u64 {
+    fn accept<V: Visitor<Input, Message>>(alloc: Global, visitor: V) -> V::Answer {
         DeleteParts::accept(alloc, visitor)
     }
 }
@@ -237,24 +216,16 @@ impl Call<fed::Stream<u8>> for Delete {
 #[derive(Drop)]
 struct Set;
 
-impl<'a> Call<&'a [u8]> for Set {
+impl<Input: Stream<Token = u8>> Call<Input> for Set
+where
+    Input::Error: ParseError<u8, Input::Range, Input::Position>,
+{
     type Output = Message;
 
-    ghost reading = { collected_set Left one_less };
+    ghost reading = { collected_set Input.Position Input.step };
 
     #[inline(always)]
-    fn accept<V: Visitor<&'a [u8], Message>>(alloc: Global, visitor: V) -> u64 {
-        SetParts::accept(alloc, visitor)
-    }
-}
-
-impl Call<fed::Stream<u8>> for Set {
-    type Output = Message;
-
-    ghost reading = { collected_set ℕ (λ p b. p + 1) };
-
-    #[inline(always)]
-    fn accept<V: Visitor<fed::Stream<u8>, Message>>(alloc: Global, visitor: V) -> u64 {
+    fn accept<V: Visitor<Input, Message>>(alloc: Global, visitor: V) -> V::Answer {
         SetParts::accept(alloc, visitor)
     }
 }

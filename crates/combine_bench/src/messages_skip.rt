@@ -1,18 +1,16 @@
 //! Messages, skipped: `del WORD;` or `WORD=DIGITS;`.
-ghost use Rattle.std.specs.Prelude.{ℕ, ◌+◌};
-ghost use Rattle.combine_base.specs.Stream.Slices.{one_less};
-ghost use Rattle.combine_base.specs.declared.stream.slices.Left.{Left};
 ghost use Rattle.combine_bench.specs.Measures.{Measures, messages_skip, skipped_delete, skipped_set, taken};
 
-use crate::calls::{
-    Call, Change, MapCall, OrCall, SatisfyCall, SkipMany1Call, SkipManyCall, TokenCall, Tuple3Call,
-    Tuple4Call, Visitor,
-};
 use crate::classes::{Decimal, Letter};
 use crate::del::Del;
 use crate::measure::{Taken, measured};
 use crate::run::{Pieces, Whole};
-use combine_base::stream::fed;
+use combine_base::error::ParseError;
+use combine_base::stream::Stream;
+use combine_calls::{
+    Call, Change, MapCall, OrCall, SatisfyCall, SkipMany1Call, SkipManyCall, TokenCall, Tuple3Call,
+    Tuple4Call, Visitor,
+};
 use std::alloc::Global;
 
 type Word = SkipMany1Call<SatisfyCall<Letter>>;
@@ -58,24 +56,16 @@ impl<A: Drop> Change<A> for Dropped {
 #[derive(Drop)]
 struct Delete;
 
-impl<'a> Call<&'a [u8]> for Delete {
+impl<Input: Stream<Token = u8>> Call<Input> for Delete
+where
+    Input::Error: ParseError<u8, Input::Range, Input::Position>,
+{
     type Output = ();
 
-    ghost reading = { skipped_delete Left one_less };
+    ghost reading = { skipped_delete Input.Position Input.step };
 
     #[inline(always)]
-    fn accept<V: Visitor<&'a [u8], ()>>(alloc: Global, visitor: V) -> u64 {
-        DeleteParts::accept(alloc, visitor)
-    }
-}
-
-impl Call<fed::Stream<u8>> for Delete {
-    type Output = ();
-
-    ghost reading = { skipped_delete ℕ (λ p b. p + 1) };
-
-    #[inline(always)]
-    fn accept<V: Visitor<fed::Stream<u8>, ()>>(alloc: Global, visitor: V) -> u64 {
+    fn accept<V: Visitor<Input, ()>>(alloc: Global, visitor: V) -> V::Answer {
         DeleteParts::accept(alloc, visitor)
     }
 }
@@ -84,24 +74,16 @@ impl Call<fed::Stream<u8>> for Delete {
 #[derive(Drop)]
 struct Set;
 
-impl<'a> Call<&'a [u8]> for Set {
+impl<Input: Stream<Token = u8>> Call<Input> for Set
+where
+    Input::Error: ParseError<u8, Input::Range, Input::Position>,
+{
     type Output = ();
 
-    ghost reading = { skipped_set Left one_less };
+    ghost reading = { skipped_set Input.Position Input.step };
 
     #[inline(always)]
-    fn accept<V: Visitor<&'a [u8], ()>>(alloc: Global, visitor: V) -> u64 {
-        SetParts::accept(alloc, visitor)
-    }
-}
-
-impl Call<fed::Stream<u8>> for Set {
-    type Output = ();
-
-    ghost reading = { skipped_set ℕ (λ p b. p + 1) };
-
-    #[inline(always)]
-    fn accept<V: Visitor<fed::Stream<u8>, ()>>(alloc: Global, visitor: V) -> u64 {
+    fn accept<V: Visitor<Input, ()>>(alloc: Global, visitor: V) -> V::Answer {
         SetParts::accept(alloc, visitor)
     }
 }

@@ -1,10 +1,10 @@
 //! `skip_many` of one token.
 ghost use Rattle.combine_bench.specs.Measures.{Measures, one_token, taken};
 
-use crate::calls::{SatisfyCall, SkipManyCall};
 use crate::classes::LetterOrDecimal;
 use crate::measure::{Taken, measured};
 use crate::run::{Pieces, Whole};
+use combine_calls::{SatisfyCall, SkipManyCall};
 use std::alloc::Global;
 
 type Skipped = SkipManyCall<SatisfyCall<LetterOrDecimal>>;

@@ -1,10 +1,10 @@
 //! `skip_many` of a tuple of 2.
 ghost use Rattle.combine_bench.specs.Measures.{Measures, tuple_of_2, taken};
 
-use crate::calls::{SatisfyCall, SkipManyCall, Tuple2Call};
 use crate::classes::{Decimal, Letter};
 use crate::measure::{Taken, measured};
 use crate::run::{Pieces, Whole};
+use combine_calls::{SatisfyCall, SkipManyCall, Tuple2Call};
 use std::alloc::Global;
 
 type Skipped = SkipManyCall<Tuple2Call<SatisfyCall<Letter>, SatisfyCall<Decimal>>>;

@@ -1,10 +1,10 @@
 //! `skip_many` of a tuple of 4.
 ghost use Rattle.combine_bench.specs.Measures.{Measures, tuple_of_4, taken};
 
-use crate::calls::{SatisfyCall, SkipManyCall, Tuple4Call};
 use crate::classes::{Decimal, Letter};
 use crate::measure::{Taken, measured};
 use crate::run::{Pieces, Whole};
+use combine_calls::{SatisfyCall, SkipManyCall, Tuple4Call};
 use std::alloc::Global;
 
 type Skipped = SkipManyCall<

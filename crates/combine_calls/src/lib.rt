@@ -1,12 +1,50 @@
-//! Calls of constructors as types, and what a parser answers to an input, as text.
-//!
-//! A call makes its parser and hands it to a visitor. One visitor runs the parser, by a session or over a stream that is fed, and writes what it answers.
+//! Calls of constructors, as types: each makes its parser and hands it on to a visitor. So each constructor is proved once, over any parser within it, and the type of a whole parser is named nowhere.
 #![tactic(auto)]
 
-pub mod answered;
-pub mod calls;
-pub mod feeding;
+ghost use Rattle.std.specs.Prelude.{◌≡◌};
+ghost use Rattle.combine_base.specs.Parser.Meaning.{Reading};
+
 mod leaves;
-pub mod room;
-pub mod run;
-pub mod show;
+mod of_more;
+mod of_one;
+mod of_several;
+mod repeats;
+
+use combine_base::parser::Parser;
+use combine_base::stream::Stream;
+pub use leaves::{AnyCall, Class, SatisfyCall, TokenCall, ValueCall};
+pub use of_more::{Tuple3Call, Tuple4Call};
+pub use of_one::{AttemptCall, Change, MapCall, OptionalCall};
+pub use of_several::{OrCall, Tuple1Call, Tuple2Call};
+pub use repeats::{Collect, InVec, Many1Call, ManyCall, SkipMany1Call, SkipManyCall};
+use std::alloc::Global;
+
+/// A call of a constructor, over that stream.
+pub trait Call<Input: Stream> {
+    /// The values of its parser.
+    type Output: Drop;
+
+    /// What its parser means from the start.
+    ghost reading: { Reading Input.Position Input.Token Self.Output };
+
+    /// Makes the parser and hands it to that visitor, whose answer it gives.
+    fn accept<V: Visitor<Input, Self::Output>>(alloc: Global, visitor: V) -> V::Answer
+        requires { V.ready visitor }
+        ensures { V.answers visitor reading result };
+}
+
+/// What is done with a parser of such values.
+pub trait Visitor<Input: Stream, O: Drop>: Drop {
+    type Answer;
+
+    /// Holds where the parsers that it keeps are lawful.
+    ghost ready: { Self → Type 0 };
+
+    /// What it answers for a parser that means this from the start.
+    ghost answers: { Self → Reading Input.Position Input.Token O → Self.Answer → Type 0 };
+
+    fn visit<P: Parser<Input, Output = O> + Drop>(self, parser: P) -> Self::Answer
+        requires ready { ready self }
+        requires lawful { P.lawful parser }
+        ensures { answers self (P.meaning parser).whole result };
+}

@@ -11,9 +11,15 @@ use combine::stream::{Kind, Stream, fed};
 use std::alloc::{AllocError, Global};
 use std::process::Abort;
 
-#[test]
-fn a_session_of_one_token(rt: HostRuntime) {
-    let mut session = Session::new(rt.alloc(), token(b'a'));
+/// A session of `token(b'a')`.
+fn feed_one_token<P: Parser<fed::Stream<u8>, Output = u8> + Drop>(
+    rt: &impl Abort,
+    alloc: Global,
+    parser: P,
+)
+    requires { P.lawful parser }
+{
+    let mut session = Session::new(alloc, parser);
     assert_eq!(rt; session.feed(b""), Ok(Answer::More));
     let accepted = Answer::Accepted {
         value: b'a',
@@ -25,6 +31,11 @@ fn a_session_of_one_token(rt: HostRuntime) {
     assert_eq!(rt; session.feed(b"c"), Err(SessionError::Closed));
     assert_eq!(rt; session.end(), Err(SessionError::Closed));
     assert_eq!(rt; session.unread(), b"b".as_slice());
+}
+
+#[test]
+fn a_session_of_one_token(rt: HostRuntime) {
+    feed_one_token(&rt, rt.alloc(), token(b'a'));
 }
 
 /// What a parser answers to an input that is fed as one piece, and then the end.
@@ -46,15 +57,66 @@ fn second(pair: (u8, u8)) -> u8 {
     pair.1
 }
 
+/// The method form of `or`.
+fn answer_to_or<
+    P: Parser<fed::Stream<u8>, Output = u8> + Drop,
+    Q: Parser<fed::Stream<u8>, Output = u8> + Drop,
+>(
+    alloc: Global,
+    parser: P,
+    other: Q,
+    input: &[u8],
+) -> Result<Answer<u8, UnexpectedParse>, SessionError>
+    requires parser { P.lawful parser }
+    requires other { Q.lawful other }
+{
+    answer_to(alloc, parser.or(other), input)
+}
+
+/// The method form of `map`, and then of `or`.
+fn answer_to_map<
+    P: Parser<fed::Stream<u8>, Output = (u8, u8)> + Drop,
+    Q: Parser<fed::Stream<u8>, Output = u8> + Drop,
+>(
+    alloc: Global,
+    parser: P,
+    other: Q,
+    input: &[u8],
+) -> Result<Answer<u8, UnexpectedParse>, SessionError>
+    requires parser { P.lawful parser }
+    requires other { Q.lawful other }
+{
+    answer_to_or(alloc, parser.map(second), other, input)
+}
+
+/// The method form of `and`, and then of `map` and `or`.
+fn answer_to_and<
+    P: Parser<fed::Stream<u8>, Output = u8> + Drop,
+    Q: Parser<fed::Stream<u8>, Output = u8> + Drop,
+    R: Parser<fed::Stream<u8>, Output = u8> + Drop,
+>(
+    alloc: Global,
+    parser: P,
+    next: Q,
+    other: R,
+    input: &[u8],
+) -> Result<Answer<u8, UnexpectedParse>, SessionError>
+    requires parser { P.lawful parser }
+    requires next { Q.lawful next }
+    requires other { R.lawful other }
+{
+    answer_to_map(alloc, parser.and(next), other, input)
+}
+
 #[test]
 fn method_forms(rt: HostRuntime) {
-    let parser = token(b'a').and(token(b'b')).map(second).or(token(b'c'));
     let accepted = Answer::Accepted {
         value: b'b',
         taken: 2,
         committed: true,
     };
-    assert_eq!(rt; answer_to(rt.alloc(), parser, b"ab"), Ok(accepted));
+    let answer = answer_to_and(rt.alloc(), token(b'a'), token(b'b'), token(b'c'), b"ab");
+    assert_eq!(rt; answer, Ok(accepted));
 }
 
 /// What a parser answers to a whole input, and what is left of it.
@@ -88,16 +150,27 @@ fn slices(rt: HostRuntime) {
     assert_eq!(rt; pair_of(b'a', b'b', b"cab".as_slice()), refused);
 }
 
-#[test]
-fn a_session_of_a_reference(rt: HostRuntime) {
-    let mut parser = token(b'a');
-    let mut session = Session::new(rt.alloc(), parser.by_ref());
+/// A session of `token(b'a')` by reference.
+fn feed_by_reference<P: Parser<fed::Stream<u8>, Output = u8> + Drop>(
+    rt: &impl Abort,
+    alloc: Global,
+    parser: P,
+)
+    requires { P.lawful parser }
+{
+    let mut parser = parser;
+    let mut session = Session::new(alloc, parser.by_ref());
     let accepted = Answer::Accepted {
         value: b'a',
         taken: 1,
         committed: true,
     };
     assert_eq!(rt; session.feed(b"a"), Ok(accepted));
+}
+
+#[test]
+fn a_session_of_a_reference(rt: HostRuntime) {
+    feed_by_reference(&rt, rt.alloc(), token(b'a'));
 }
 
 /// A collection with no room.
@@ -124,13 +197,24 @@ impl Append<u8> for Full {
     }
 }
 
-#[test]
-fn a_session_after_a_refused_growth(rt: HostRuntime) {
-    let mut session = Session::new(rt.alloc(), many1::<Full, _>(rt.alloc(), token(b'a')));
+/// A session of `many1` into a collection with no room.
+fn feed_without_room<P: Parser<fed::Stream<u8>, Output = Full> + Drop>(
+    rt: &impl Abort,
+    alloc: Global,
+    parser: P,
+)
+    requires { P.lawful parser }
+{
+    let mut session = Session::new(alloc, parser);
     assert_eq!(rt; session.feed(b""), Ok(Answer::More));
     assert_eq!(rt; session.feed(b"a"), Err(SessionError::Fault(Kind::Memory)));
     assert_eq!(rt; session.feed(b"a"), Err(SessionError::Failed));
     assert_eq!(rt; session.end(), Err(SessionError::Failed));
+}
+
+#[test]
+fn a_session_after_a_refused_growth(rt: HostRuntime) {
+    feed_without_room(&rt, rt.alloc(), many1::<Full, _>(rt.alloc(), token(b'a')));
 }
 
 /// Feeds a piece, and once more where it found no room: what is unread is then as before.
@@ -167,25 +251,35 @@ fn assert_all_accepted(rt: &impl Abort, answer: Answer<Vec<u8>, UnexpectedParse>
     assert_eq!(rt; (taken, committed), (23, true));
 }
 
-/// With ample memory: where this fails, `trials/run` sees that a growth of the next test was refused.
-#[test]
-fn a_session_with_ample_memory(rt: HostRuntime) {
-    let mut session = Session::new(rt.alloc(), many1::<Vec<u8>, _>(rt.alloc(), token(b'a')));
+/// A session of `many1(token(b'a'))`, fed all pieces.
+fn feed_all<P: Parser<fed::Stream<u8>, Output = Vec<u8>> + Drop>(
+    rt: &impl Abort,
+    alloc: Global,
+    parser: P,
+)
+    requires { P.lawful parser }
+{
+    let mut session = Session::new(alloc, parser);
     for piece in PIECES {
         assert_eq!(rt; session.feed(piece.as_bytes()), Ok(Answer::More));
     }
     match session.end() {
-        Ok(answer) => assert_all_accepted(&rt, answer),
+        Ok(answer) => assert_all_accepted(rt, answer),
         Err(_why) => assert!(rt; false, "accepted where memory is ample"),
     }
 }
 
-/// The answers are those of ample memory, or want of memory within the parse: also where `trials/run` has the allocator refuse.
-#[test]
-fn a_session_with_any_growth_refused(rt: HostRuntime) {
-    let mut session = Session::new(rt.alloc(), many1::<Vec<u8>, _>(rt.alloc(), token(b'a')));
+/// The same where growths may be refused.
+fn feed_all_or_fail<P: Parser<fed::Stream<u8>, Output = Vec<u8>> + Drop>(
+    rt: &impl Abort,
+    alloc: Global,
+    parser: P,
+)
+    requires { P.lawful parser }
+{
+    let mut session = Session::new(alloc, parser);
     for piece in PIECES {
-        match feed_again(&rt, &mut session, piece.as_bytes()) {
+        match feed_again(rt, &mut session, piece.as_bytes()) {
             Ok(answer) => assert_eq!(rt; answer, Answer::More),
             Err(why) => {
                 assert_eq!(rt; why, SessionError::Fault(Kind::Memory));
@@ -195,27 +289,61 @@ fn a_session_with_any_growth_refused(rt: HostRuntime) {
         }
     }
     match session.end() {
-        Ok(answer) => assert_all_accepted(&rt, answer),
+        Ok(answer) => assert_all_accepted(rt, answer),
         Err(why) => assert_eq!(rt; why, SessionError::Fault(Kind::Memory)),
     }
 }
 
 /// With ample memory: where this fails, `trials/run` sees that a growth of the next test was refused.
 #[test]
-fn a_skipping_session_with_ample_memory(rt: HostRuntime) {
-    let mut session = Session::new(rt.alloc(), skip_many(token(b'a')));
+fn a_session_with_ample_memory(rt: HostRuntime) {
+    feed_all(&rt, rt.alloc(), many1::<Vec<u8>, _>(rt.alloc(), token(b'a')));
+}
+
+/// The answers are those of ample memory, or want of memory within the parse: also where `trials/run` has the allocator refuse.
+#[test]
+fn a_session_with_any_growth_refused(rt: HostRuntime) {
+    feed_all_or_fail(&rt, rt.alloc(), many1::<Vec<u8>, _>(rt.alloc(), token(b'a')));
+}
+
+/// A session of `skip_many(token(b'a'))`.
+fn feed_skipping<P: Parser<fed::Stream<u8>, Output = ()> + Drop>(
+    rt: &impl Abort,
+    alloc: Global,
+    parser: P,
+)
+    requires { P.lawful parser }
+{
+    let mut session = Session::new(alloc, parser);
     assert_eq!(rt; session.feed(b"aa"), Ok(Answer::More));
 }
 
-/// A parser that takes no memory answers as ever; only `feed` may be refused.
-#[test]
-fn a_skipping_session_with_any_growth_refused(rt: HostRuntime) {
-    let mut session = Session::new(rt.alloc(), skip_many(token(b'a')));
-    assert_eq!(rt; feed_again(&rt, &mut session, b"aa"), Ok(Answer::More));
+/// The same where growths may be refused.
+fn feed_skipping_again<P: Parser<fed::Stream<u8>, Output = ()> + Drop>(
+    rt: &impl Abort,
+    alloc: Global,
+    parser: P,
+)
+    requires { P.lawful parser }
+{
+    let mut session = Session::new(alloc, parser);
+    assert_eq!(rt; feed_again(rt, &mut session, b"aa"), Ok(Answer::More));
     let accepted = Answer::Accepted {
         value: (),
         taken: 2,
         committed: true,
     };
     assert_eq!(rt; session.end(), Ok(accepted));
+}
+
+/// With ample memory: where this fails, `trials/run` sees that a growth of the next test was refused.
+#[test]
+fn a_skipping_session_with_ample_memory(rt: HostRuntime) {
+    feed_skipping(&rt, rt.alloc(), skip_many(token(b'a')));
+}
+
+/// A parser that takes no memory answers as ever; only `feed` may be refused.
+#[test]
+fn a_skipping_session_with_any_growth_refused(rt: HostRuntime) {
+    feed_skipping_again(&rt, rt.alloc(), skip_many(token(b'a')));
 }

@@ -1,0 +1,286 @@
+//! Calls of tuples of three and four parsers: the parsers are made in turn, and those that were made are kept.
+ghost use Rattle.std.specs.Prelude.{◌≡◌};
+ghost use Rattle.combine_calls.specs.Parsers.{quadruple, triple};
+
+use crate::{Call, Visitor};
+use combine_base::parser::Parser;
+use combine_base::stream::Stream;
+use std::alloc::Global;
+use std::marker::PhantomData;
+
+/// `(A, B, C)`.
+#[derive(Drop)]
+pub struct Tuple3Call<A, B, C>(PhantomData<(A, B, C)>);
+
+impl<Input: Stream, A: Call<Input>, B: Call<Input>, C: Call<Input>> Call<Input>
+    for Tuple3Call<A, B, C> {
+    type Output = (A::Output, B::Output, C::Output);
+
+    ghost reading = { triple Input.step A.reading B.reading C.reading };
+
+    #[inline(always)]
+    fn accept<V: Visitor<Input, (A::Output, B::Output, C::Output)>>(
+        alloc: Global,
+        visitor: V,
+    ) -> V::Answer {
+        let first = Tuple3First::<B, C, V> {
+            alloc,
+            next: visitor,
+            calls: PhantomData,
+        };
+        A::accept(alloc, first)
+    }
+}
+
+/// Has the parser behind its first made.
+#[derive(Drop)]
+struct Tuple3First<B, C, V> {
+    alloc: Global,
+    next: V,
+    calls: PhantomData<(B, C)>,
+}
+
+impl<
+    Input: Stream,
+    O: Drop,
+    B: Call<Input>,
+    C: Call<Input>,
+    V: Visitor<Input, (O, B::Output, C::Output)>,
+> Visitor<Input, O> for Tuple3First<B, C, V> {
+    type Answer = V::Answer;
+
+    ghost ready = { λ s. V.ready s.next };
+
+    ghost answers = { λ s r n. V.answers s.next (triple Input.step r B.reading C.reading) n };
+
+    #[inline(always)]
+    fn visit<P: Parser<Input, Output = O> + Drop>(self, parser: P) -> V::Answer {
+        let second = Tuple3Second::<P, C, V> {
+            alloc: self.alloc,
+            first: parser,
+            next: self.next,
+            calls: PhantomData,
+        };
+        B::accept(self.alloc, second)
+    }
+}
+
+/// Has the parser behind its second made.
+#[derive(Drop)]
+struct Tuple3Second<P, C, V> {
+    alloc: Global,
+    first: P,
+    next: V,
+    calls: PhantomData<(C,)>,
+}
+
+impl<
+    Input: Stream,
+    O: Drop,
+    P: Parser<Input> + Drop,
+    C: Call<Input>,
+    V: Visitor<Input, (P::Output, O, C::Output)>,
+> Visitor<Input, O> for Tuple3Second<P, C, V> {
+    type Answer = V::Answer;
+
+    ghost ready = { λ s. P.lawful s.first × V.ready s.next };
+
+    ghost answers = { λ s r n. V.answers s.next (triple Input.step (P.meaning s.first).whole r C.reading) n };
+
+    #[inline(always)]
+    fn visit<Q: Parser<Input, Output = O> + Drop>(self, parser: Q) -> V::Answer {
+        let third = Tuple3Third::<P, Q, V> {
+            first: self.first,
+            second: parser,
+            next: self.next,
+        };
+        C::accept(self.alloc, third)
+    }
+}
+
+/// Hands the parser on that all of its parsers make.
+#[derive(Drop)]
+struct Tuple3Third<P, Q, V> {
+    first: P,
+    second: Q,
+    next: V,
+}
+
+impl<
+    Input: Stream,
+    O: Drop,
+    P: Parser<Input> + Drop,
+    Q: Parser<Input> + Drop,
+    V: Visitor<Input, (P::Output, Q::Output, O)>,
+> Visitor<Input, O> for Tuple3Third<P, Q, V> {
+    type Answer = V::Answer;
+
+    ghost ready = { λ s. P.lawful s.first × Q.lawful s.second × V.ready s.next };
+
+    ghost answers = { λ s r n. V.answers s.next (triple Input.step (P.meaning s.first).whole (Q.meaning s.second).whole r) n };
+
+    #[inline(always)]
+    fn visit<R: Parser<Input, Output = O> + Drop>(self, parser: R) -> V::Answer {
+        self.next.visit((self.first, self.second, parser))
+    }
+}
+
+/// `(A, B, C, D)`.
+#[derive(Drop)]
+pub struct Tuple4Call<A, B, C, D>(PhantomData<(A, B, C, D)>);
+
+impl<Input: Stream, A: Call<Input>, B: Call<Input>, C: Call<Input>, D: Call<Input>> Call<Input>
+    for Tuple4Call<A, B, C, D> {
+    type Output = (A::Output, B::Output, C::Output, D::Output);
+
+    ghost reading = { quadruple Input.step A.reading B.reading C.reading D.reading };
+
+    #[inline(always)]
+    fn accept<V: Visitor<Input, (A::Output, B::Output, C::Output, D::Output)>>(
+        alloc: Global,
+        visitor: V,
+    ) -> V::Answer {
+        let first = Tuple4First::<B, C, D, V> {
+            alloc,
+            next: visitor,
+            calls: PhantomData,
+        };
+        A::accept(alloc, first)
+    }
+}
+
+/// Has the parser behind its first made.
+#[derive(Drop)]
+struct Tuple4First<B, C, D, V> {
+    alloc: Global,
+    next: V,
+    calls: PhantomData<(B, C, D)>,
+}
+
+impl<
+    Input: Stream,
+    O: Drop,
+    B: Call<Input>,
+    C: Call<Input>,
+    D: Call<Input>,
+    V: Visitor<Input, (O, B::Output, C::Output, D::Output)>,
+> Visitor<Input, O> for Tuple4First<B, C, D, V> {
+    type Answer = V::Answer;
+
+    ghost ready = { λ s. V.ready s.next };
+
+    ghost answers = { λ s r n. V.answers s.next (quadruple Input.step r B.reading C.reading D.reading) n };
+
+    #[inline(always)]
+    fn visit<P: Parser<Input, Output = O> + Drop>(self, parser: P) -> V::Answer {
+        let second = Tuple4Second::<P, C, D, V> {
+            alloc: self.alloc,
+            first: parser,
+            next: self.next,
+            calls: PhantomData,
+        };
+        B::accept(self.alloc, second)
+    }
+}
+
+/// Has the parser behind its second made.
+#[derive(Drop)]
+struct Tuple4Second<P, C, D, V> {
+    alloc: Global,
+    first: P,
+    next: V,
+    calls: PhantomData<(C, D)>,
+}
+
+impl<
+    Input: Stream,
+    O: Drop,
+    P: Parser<Input> + Drop,
+    C: Call<Input>,
+    D: Call<Input>,
+    V: Visitor<Input, (P::Output, O, C::Output, D::Output)>,
+> Visitor<Input, O> for Tuple4Second<P, C, D, V> {
+    type Answer = V::Answer;
+
+    ghost ready = { λ s. P.lawful s.first × V.ready s.next };
+
+    ghost answers = { λ s r n. V.answers s.next (quadruple Input.step (P.meaning s.first).whole r C.reading D.reading) n };
+
+    #[inline(always)]
+    fn visit<Q: Parser<Input, Output = O> + Drop>(self, parser: Q) -> V::Answer {
+        let third = Tuple4Third::<P, Q, D, V> {
+            alloc: self.alloc,
+            first: self.first,
+            second: parser,
+            next: self.next,
+            calls: PhantomData,
+        };
+        C::accept(self.alloc, third)
+    }
+}
+
+/// Has the parser behind its third made.
+#[derive(Drop)]
+struct Tuple4Third<P, Q, D, V> {
+    alloc: Global,
+    first: P,
+    second: Q,
+    next: V,
+    calls: PhantomData<(D,)>,
+}
+
+impl<
+    Input: Stream,
+    O: Drop,
+    P: Parser<Input> + Drop,
+    Q: Parser<Input> + Drop,
+    D: Call<Input>,
+    V: Visitor<Input, (P::Output, Q::Output, O, D::Output)>,
+> Visitor<Input, O> for Tuple4Third<P, Q, D, V> {
+    type Answer = V::Answer;
+
+    ghost ready = { λ s. P.lawful s.first × Q.lawful s.second × V.ready s.next };
+
+    ghost answers = { λ s r n. V.answers s.next (quadruple Input.step (P.meaning s.first).whole (Q.meaning s.second).whole r D.reading) n };
+
+    #[inline(always)]
+    fn visit<R: Parser<Input, Output = O> + Drop>(self, parser: R) -> V::Answer {
+        let fourth = Tuple4Fourth::<P, Q, R, V> {
+            first: self.first,
+            second: self.second,
+            third: parser,
+            next: self.next,
+        };
+        D::accept(self.alloc, fourth)
+    }
+}
+
+/// Hands the parser on that all of its parsers make.
+#[derive(Drop)]
+struct Tuple4Fourth<P, Q, R, V> {
+    first: P,
+    second: Q,
+    third: R,
+    next: V,
+}
+
+impl<
+    Input: Stream,
+    O: Drop,
+    P: Parser<Input> + Drop,
+    Q: Parser<Input> + Drop,
+    R: Parser<Input> + Drop,
+    V: Visitor<Input, (P::Output, Q::Output, R::Output, O)>,
+> Visitor<Input, O> for Tuple4Fourth<P, Q, R, V> {
+    type Answer = V::Answer;
+
+    ghost ready = { λ s. P.lawful s.first × Q.lawful s.second × R.lawful s.third × V.ready s.next };
+
+    ghost answers = { λ s r n. V.answers s.next (quadruple Input.step (P.meaning s.first).whole (Q.meaning s.second).whole (R.meaning s.third).whole r) n };
+
+    #[inline(always)]
+    fn visit<S: Parser<Input, Output = O> + Drop>(self, parser: S) -> V::Answer {
+        self.next
+            .visit((self.first, self.second, self.third, parser))
+    }
+}
