@@ -1,6 +1,7 @@
 pub mod Calls
 pub mod Distances
 pub mod Explaining
+pub mod Following
 pub mod Inside
 pub mod Mapped
 pub mod Moved

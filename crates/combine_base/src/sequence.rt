@@ -5,11 +5,13 @@
 //! `add_error` is that of the first part, and `parser_count` is the sum of the parts', at most 255.
 ghost use Rattle.std.specs.Prelude.{◌≡◌};
 
+use crate::parser::ParseMode;
+
 mod part;
 mod tuple;
 
 pub use part::{accepted_after, refused_after, take_state};
-pub use tuple::parse_2;
+pub use tuple::{State1, State2, parse_1, parse_2};
 
 /// What is kept while a part runs: the values of the parts before it, whether one of them was committed, and the part's own state.
 ///
@@ -129,37 +131,52 @@ pub enum SequencePlace<B, L> {
     Last(L),
 }
 
-/// The state of a sequence, as a place.
-pub(crate) trait Placed {
+/// The state of a sequence, as a place. It takes, keeps and lets go itself what stands there, so that a call around it names no state that is to be dropped.
+pub(crate) trait Placed: Default {
+    ghost use Rattle.std.specs.Prelude.{◌≡◌};
+    ghost use Rattle.combine_base.specs.Sequence.Parts.{RunsFrom};
     ghost use Rattle.combine_base.specs.declared.sequence.SequencePlace.{SequencePlace};
 
-    type Before: Drop;
+    type Before;
 
     type Last;
 
     ghost place: { Self → SequencePlace Self.Before Self.Last };
 
+    /// As `take_state`.
+    fn take<M: ParseMode>(&mut self, mode: M) -> Self
+        ensures from { RunsFrom Self.is_default (M.first mode) self.old result }
+        ensures left { Self.is_default self.new };
+
     fn into_place(self) -> SequencePlace<Self::Before, Self::Last>
         ensures { result ≡ place self };
 
-    fn before(state: Self::Before) -> Self
-        ensures { place result ≡ SequencePlace.Before state };
+    fn keep_before(&mut self, before: Self::Before)
+        ensures { place self.new ≡ SequencePlace.Before before };
 
-    fn last(state: Self::Last) -> Self
-        ensures { place result ≡ SequencePlace.Last state };
+    fn keep_last(&mut self, last: Self::Last)
+        ensures { place self.new ≡ SequencePlace.Last last };
+
+    fn let_go(before: Self::Before);
 }
 
-impl<A: Drop, B> Placed for PartialState2<A, B> {
+impl<A: Drop, S: Default + Drop, T: Drop> Placed
+    for PartialState2<SequenceState<(), S>, SequenceState<(A,), T>> {
     ghost use Rattle.combine_base.specs.Sequence.Places.{place_2};
 
-    type Before = PartialState1<A>;
+    type Before = PartialState1<SequenceState<(), S>>;
 
-    type Last = B;
+    type Last = SequenceState<(A,), T>;
 
     ghost place = { place_2 };
 
     #[inline(always)]
-    fn into_place(self) -> SequencePlace<PartialState1<A>, B> {
+    fn take<M: ParseMode>(&mut self, mode: M) -> Self {
+        take_state(mode, self)
+    }
+
+    #[inline(always)]
+    fn into_place(self) -> SequencePlace<Self::Before, Self::Last> {
         match self {
             PartialState2::A(at) => SequencePlace::Before(PartialState1::A(at)),
             PartialState2::B(at) => SequencePlace::Last(at),
@@ -167,27 +184,38 @@ impl<A: Drop, B> Placed for PartialState2<A, B> {
     }
 
     #[inline(always)]
-    fn before(state: PartialState1<A>) -> Self {
-        PartialState2::A(state.into_only())
+    fn keep_before(&mut self, before: Self::Before) {
+        *self = PartialState2::A(before.into_only());
     }
 
     #[inline(always)]
-    fn last(state: B) -> Self {
-        PartialState2::B(state)
+    fn keep_last(&mut self, last: Self::Last) {
+        *self = PartialState2::B(last);
+    }
+
+    #[inline(always)]
+    fn let_go(before: Self::Before) {
+        drop(before);
     }
 }
 
-impl<A: Drop, B: Drop, C> Placed for PartialState3<A, B, C> {
+impl<A: Drop, B: Drop, S: Default + Drop, T: Drop, U: Drop> Placed
+    for PartialState3<SequenceState<(), S>, SequenceState<(A,), T>, SequenceState<(A, B), U>> {
     ghost use Rattle.combine_base.specs.Sequence.Places.{place_3};
 
-    type Before = PartialState2<A, B>;
+    type Before = PartialState2<SequenceState<(), S>, SequenceState<(A,), T>>;
 
-    type Last = C;
+    type Last = SequenceState<(A, B), U>;
 
     ghost place = { place_3 };
 
     #[inline(always)]
-    fn into_place(self) -> SequencePlace<PartialState2<A, B>, C> {
+    fn take<M: ParseMode>(&mut self, mode: M) -> Self {
+        take_state(mode, self)
+    }
+
+    #[inline(always)]
+    fn into_place(self) -> SequencePlace<Self::Before, Self::Last> {
         match self {
             PartialState3::A(at) => SequencePlace::Before(PartialState2::A(at)),
             PartialState3::B(at) => SequencePlace::Before(PartialState2::B(at)),
@@ -196,30 +224,50 @@ impl<A: Drop, B: Drop, C> Placed for PartialState3<A, B, C> {
     }
 
     #[inline(always)]
-    fn before(state: PartialState2<A, B>) -> Self {
-        match state {
-            PartialState2::A(at) => PartialState3::A(at),
-            PartialState2::B(at) => PartialState3::B(at),
+    fn keep_before(&mut self, before: Self::Before) {
+        match before {
+            PartialState2::A(at) => *self = PartialState3::A(at),
+            PartialState2::B(at) => *self = PartialState3::B(at),
         }
     }
 
     #[inline(always)]
-    fn last(state: C) -> Self {
-        PartialState3::C(state)
+    fn keep_last(&mut self, last: Self::Last) {
+        *self = PartialState3::C(last);
+    }
+
+    #[inline(always)]
+    fn let_go(before: Self::Before) {
+        drop(before);
     }
 }
 
-impl<A: Drop, B: Drop, C: Drop, D> Placed for PartialState4<A, B, C, D> {
+impl<A: Drop, B: Drop, C: Drop, S: Default + Drop, T: Drop, U: Drop, V: Drop> Placed
+    for PartialState4<
+        SequenceState<(), S>,
+        SequenceState<(A,), T>,
+        SequenceState<(A, B), U>,
+        SequenceState<(A, B, C), V>,
+    > {
     ghost use Rattle.combine_base.specs.Sequence.Places.{place_4};
 
-    type Before = PartialState3<A, B, C>;
+    type Before = PartialState3<
+        SequenceState<(), S>,
+        SequenceState<(A,), T>,
+        SequenceState<(A, B), U>,
+    >;
 
-    type Last = D;
+    type Last = SequenceState<(A, B, C), V>;
 
     ghost place = { place_4 };
 
     #[inline(always)]
-    fn into_place(self) -> SequencePlace<PartialState3<A, B, C>, D> {
+    fn take<M: ParseMode>(&mut self, mode: M) -> Self {
+        take_state(mode, self)
+    }
+
+    #[inline(always)]
+    fn into_place(self) -> SequencePlace<Self::Before, Self::Last> {
         match self {
             PartialState4::A(at) => SequencePlace::Before(PartialState3::A(at)),
             PartialState4::B(at) => SequencePlace::Before(PartialState3::B(at)),
@@ -229,16 +277,21 @@ impl<A: Drop, B: Drop, C: Drop, D> Placed for PartialState4<A, B, C, D> {
     }
 
     #[inline(always)]
-    fn before(state: PartialState3<A, B, C>) -> Self {
-        match state {
-            PartialState3::A(at) => PartialState4::A(at),
-            PartialState3::B(at) => PartialState4::B(at),
-            PartialState3::C(at) => PartialState4::C(at),
+    fn keep_before(&mut self, before: Self::Before) {
+        match before {
+            PartialState3::A(at) => *self = PartialState4::A(at),
+            PartialState3::B(at) => *self = PartialState4::B(at),
+            PartialState3::C(at) => *self = PartialState4::C(at),
         }
     }
 
     #[inline(always)]
-    fn last(state: D) -> Self {
-        PartialState4::D(state)
+    fn keep_last(&mut self, last: Self::Last) {
+        *self = PartialState4::D(last);
+    }
+
+    #[inline(always)]
+    fn let_go(before: Self::Before) {
+        drop(before);
     }
 }

@@ -147,10 +147,7 @@ pub fn needs_more<Input: Stream>(input: &Input, error: &Input::Error) -> bool
 
 /// Whether an answer is need of more.
 #[inline(always)]
-pub fn asks_for_more<O, Input: Stream>(
-    input: &Input,
-    answer: &ParseResult<O, Input::Error>,
-) -> bool
+pub fn asks_for_more<O, Input: Stream>(input: &Input, answer: &ParseResult<O, Input::Error>) -> bool
     ensures { (result ≡ true) ↔ NeedsMore Input.Error.seen.kind (Input.view input.now).is_open answer.now }
 {
     match answer {

@@ -1,14 +1,17 @@
--- what runs of the parts of a sequence promise
+-- what runs of the parts of a sequence need and promise
 use Rattle.std.specs.Prelude.{◌≡◌, ◌⊎◌, Bool, true, false}
 use Rattle.combine_base.specs.Stream.View.{View}
+use Rattle.combine_base.specs.Stream.Calls.{Passes}
 use Rattle.combine_base.specs.Error.Errors.{Errors}
-use Rattle.combine_base.specs.Parser.Meaning.{Meaning}
-use Rattle.combine_base.specs.Parser.Answer.{World, Run, Answers}
+use Rattle.combine_base.specs.Parser.Meaning.{Meaning, MeansSame}
+use Rattle.combine_base.specs.Parser.Answer.{World, Run, Answers, world}
 use Rattle.combine_base.specs.Parser.Drivers.{Explained}
 use Rattle.combine_base.specs.Parser.Judged.{NeedsMore}
 use Rattle.combine_base.specs.declared.stream.Kind.{Kind}
 use Rattle.combine_base.specs.declared.stream.Kind.TheVariants as kinds
 use Rattle.combine_base.specs.declared.stream.Failures.{Failures}
+use Rattle.combine_base.specs.declared.parser.Parser as parser
+use Rattle.combine_base.specs.declared.stream.StreamOnce as stream
 use Rattle.combine_base.specs.declared.error.Tracked.{Tracked}
 use Rattle.combine_base.specs.declared.error.ParseResult.{ParseResult}
 use Rattle.combine_base.specs.declared.error.ParseResult.TheVariants.{CommitOk, PeekOk, CommitErr, PeekErr}
@@ -80,3 +83,19 @@ module _ {P T R A B C S U Z E : Type 0} (w : World P T U E) (errors : Errors T R
   -- what a sequence does after the parts before its last one have answered so, and left the state kept
   pub record GoesOn (answer : ParseResult A E) : Type 0 where
     pub is : goes_on answer
+
+-- the parser that is the last part, by its record: what its runs promise, each as one fact
+module _ {Self Input A B C S U Z Checkpoint T R P E X : Type 0} (p : parser.Ghosts Self Input B U Checkpoint T R P E X) (i : stream.Ghosts Input T R P E X) (seen : Errors T R P E) (part_fresh : U → Type 0) (fresh : Z → Type 0) (place : Z → SequencePlace S (SequenceState A U)) (f : A → B → C) (old new : Self) (input left : Input) where
+  -- what a run of the last part promises
+  pub record CalledLast (from : SequenceState A U) (state : Z) (result : ParseResult C E) : Type 0 where
+    pub lawful : p.lawful new
+    pub same : MeansSame (p.meaning old) (p.meaning new)
+    pub passes : Passes (i.marks input) (i.marks left) (i.failures input) (i.failures left)
+    pub runs : Runs (world i.step seen i.steady part_fresh) seen p.valid fresh place (p.meaning old) from.committed (f from.value) (λ s. record { value = from.value; committed = from.committed; state = s }) state (i.view input) (i.view left) (i.failures input) (i.failures left) result from.state
+
+  -- and the rest of a sequence, after the parts before it have answered so and left the state kept
+  pub record CalledRest (kept : S) (state : Z) (result : ParseResult C E) (answer : ParseResult A E) : Type 0 where
+    pub lawful : p.lawful new
+    pub same : MeansSame (p.meaning old) (p.meaning new)
+    pub passes : Passes (i.marks input) (i.marks left) (i.failures input) (i.failures left)
+    pub goes_on : GoesOn (world i.step seen i.steady part_fresh) seen p.valid fresh place f (p.meaning old) kept state (i.view input) (i.view left) (i.failures input) (i.failures left) result answer

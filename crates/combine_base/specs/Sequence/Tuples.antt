@@ -3,7 +3,7 @@ use Rattle.std.specs.Prelude.{false}
 use Rattle.combine_base.specs.Parser.Meaning.{Meaning, IsMeaning, MeansOne, MeansSame}
 use Rattle.combine_base.specs.Sequence.Readings.{following, following_is_reading, following_is_single, following_same}
 use Rattle.combine_base.specs.Sequence.Meanings.{sequence, independent, independent_is_second, independent_same, independent_one, sequence_is_meaning, sequence_means_one, sequence_means_same}
-use Rattle.combine_base.specs.Sequence.Places.{begins, valid_in, only, first_fresh, begins_1, valid_1, place_2, place_3, place_4}
+use Rattle.combine_base.specs.Sequence.Places.{begins, valid_in, only, first_fresh, begins_1, begins_2, begins_3, begins_4, valid_1, valid_2, valid_3, valid_4, place_2, place_3, place_4}
 use Rattle.combine_base.specs.declared.sequence.SequenceState.{SequenceState}
 use Rattle.combine_base.specs.declared.sequence.SequencePlace.{SequencePlace}
 use Rattle.combine_base.specs.declared.sequence.PartialState1.{PartialState1}
@@ -84,3 +84,30 @@ tuple_3 step m n p = followed step place_3 push_2 (tuple_2 step m n) p
 
 abbrev pub tuple_4 : {P T R A B C D U V W X : Type 0} → (P → T → P) → Meaning P T R A U → Meaning P T R B V → Meaning P T R C W → Meaning P T R D X → Meaning P T R (A × B × C × D) (PartialState4 (SequenceState (Unit {0}) U) (SequenceState (record { 0 : A }) V) (SequenceState (A × B) W) (SequenceState (A × B × C) X))
 tuple_4 step m n p q = followed step place_4 push_3 (tuple_3 step m n p) q
+
+pub tuple_2_is_meaning : {P T R A B U V : Type 0} (step : P → T → P) {fu vu : U → Type 0} {fv vv : V → Type 0} {m : Meaning P T R A U} {n : Meaning P T R B V} → IsMeaning fu vu m → IsMeaning fv vv n → IsMeaning (begins_2 (first_fresh fu)) (valid_2 vu vv) (tuple_2 step m n)
+tuple_2_is_meaning step h0 h1 = followed_is_meaning step place_2 push_1 (tuple_1_is_meaning h0) h1
+
+pub tuple_2_means_one : {P T R A B U V : Type 0} (step : P → T → P) {vu : U → Type 0} {vv : V → Type 0} {m : Meaning P T R A U} {n : Meaning P T R B V} → MeansOne vu m → MeansOne vv n → MeansOne (valid_2 vu vv) (tuple_2 step m n)
+tuple_2_means_one step h0 h1 = followed_means_one step place_2 push_1 (tuple_1_means_one h0) h1
+
+pub tuple_2_means_same : {P T R A B U V : Type 0} (step : P → T → P) {m m' : Meaning P T R A U} {n n' : Meaning P T R B V} → MeansSame m m' → MeansSame n n' → MeansSame (tuple_2 step m n) (tuple_2 step m' n')
+tuple_2_means_same step h0 h1 = followed_means_same step place_2 push_1 (tuple_1_means_same h0) h1
+
+pub tuple_3_is_meaning : {P T R A B C U V W : Type 0} (step : P → T → P) {fu vu : U → Type 0} {fv vv : V → Type 0} {fw vw : W → Type 0} {m : Meaning P T R A U} {n : Meaning P T R B V} {p : Meaning P T R C W} → IsMeaning fu vu m → IsMeaning fv vv n → IsMeaning fw vw p → IsMeaning (begins_3 (first_fresh fu)) (valid_3 vu vv vw) (tuple_3 step m n p)
+tuple_3_is_meaning step h0 h1 h2 = followed_is_meaning step place_3 push_2 (tuple_2_is_meaning step h0 h1) h2
+
+pub tuple_3_means_one : {P T R A B C U V W : Type 0} (step : P → T → P) {vu : U → Type 0} {vv : V → Type 0} {vw : W → Type 0} {m : Meaning P T R A U} {n : Meaning P T R B V} {p : Meaning P T R C W} → MeansOne vu m → MeansOne vv n → MeansOne vw p → MeansOne (valid_3 vu vv vw) (tuple_3 step m n p)
+tuple_3_means_one step h0 h1 h2 = followed_means_one step place_3 push_2 (tuple_2_means_one step h0 h1) h2
+
+pub tuple_3_means_same : {P T R A B C U V W : Type 0} (step : P → T → P) {m m' : Meaning P T R A U} {n n' : Meaning P T R B V} {p p' : Meaning P T R C W} → MeansSame m m' → MeansSame n n' → MeansSame p p' → MeansSame (tuple_3 step m n p) (tuple_3 step m' n' p')
+tuple_3_means_same step h0 h1 h2 = followed_means_same step place_3 push_2 (tuple_2_means_same step h0 h1) h2
+
+pub tuple_4_is_meaning : {P T R A B C D U V W X : Type 0} (step : P → T → P) {fu vu : U → Type 0} {fv vv : V → Type 0} {fw vw : W → Type 0} {fx vx : X → Type 0} {m : Meaning P T R A U} {n : Meaning P T R B V} {p : Meaning P T R C W} {q : Meaning P T R D X} → IsMeaning fu vu m → IsMeaning fv vv n → IsMeaning fw vw p → IsMeaning fx vx q → IsMeaning (begins_4 (first_fresh fu)) (valid_4 vu vv vw vx) (tuple_4 step m n p q)
+tuple_4_is_meaning step h0 h1 h2 h3 = followed_is_meaning step place_4 push_3 (tuple_3_is_meaning step h0 h1 h2) h3
+
+pub tuple_4_means_one : {P T R A B C D U V W X : Type 0} (step : P → T → P) {vu : U → Type 0} {vv : V → Type 0} {vw : W → Type 0} {vx : X → Type 0} {m : Meaning P T R A U} {n : Meaning P T R B V} {p : Meaning P T R C W} {q : Meaning P T R D X} → MeansOne vu m → MeansOne vv n → MeansOne vw p → MeansOne vx q → MeansOne (valid_4 vu vv vw vx) (tuple_4 step m n p q)
+tuple_4_means_one step h0 h1 h2 h3 = followed_means_one step place_4 push_3 (tuple_3_means_one step h0 h1 h2) h3
+
+pub tuple_4_means_same : {P T R A B C D U V W X : Type 0} (step : P → T → P) {m m' : Meaning P T R A U} {n n' : Meaning P T R B V} {p p' : Meaning P T R C W} {q q' : Meaning P T R D X} → MeansSame m m' → MeansSame n n' → MeansSame p p' → MeansSame q q' → MeansSame (tuple_4 step m n p q) (tuple_4 step m' n' p' q')
+tuple_4_means_same step h0 h1 h2 h3 = followed_means_same step place_4 push_3 (tuple_3_means_same step h0 h1 h2) h3

@@ -1,12 +1,9 @@
 //! The last part of a sequence, after those before it.
 ghost use Rattle.std.specs.Prelude.{◌≡◌, true};
-ghost use Rattle.combine_base.specs.Parser.Answer.{world};
-ghost use Rattle.combine_base.specs.Parser.Meaning.{MeansSame};
-ghost use Rattle.combine_base.specs.Sequence.Parts.{GoesOn, Runs, RunsFrom, accepted_as, refused_as};
-ghost use Rattle.combine_base.specs.Stream.Calls.{Passes};
+ghost use Rattle.combine_base.specs.Sequence.Parts.{CalledLast, CalledRest, RunsFrom, accepted_as, refused_as};
 
 use crate::error::{ParseResult, Tracked};
-use crate::parser::{ParseMode, Parser};
+use crate::parser::{Calls, ParseMode, Parser};
 use crate::sequence::{Placed, SequenceState};
 use crate::stream::{Stream, needs_more};
 use std::mem;
@@ -116,7 +113,7 @@ pub(crate) fn parse_last<
     Input: Stream,
     T: Push<P::Output> + Drop,
     P: Parser<Input>,
-    S: Placed<Last = SequenceState<T, P::PartialState>> + Default + Drop,
+    S: Placed<Last = SequenceState<T, P::PartialState>>,
     M: ParseMode,
 >(
     part: &mut P,
@@ -125,16 +122,10 @@ pub(crate) fn parse_last<
     from: SequenceState<T, P::PartialState>,
     state: &mut S,
 ) -> ParseResult<T::Pushed, Input::Error>
-    requires lawful { P.lawful part.old }
-    requires valid { P.valid from.state }
+    requires ready { ⟦<P as Calls<Input>>⟧.ready part.old from.state }
     requires starts { M.first mode ≡ true → P.PartialState.is_default from.state }
     requires fresh { S.is_default state.old }
-    ensures lawful { P.lawful part.new }
-    ensures same { MeansSame (P.meaning part.old) (P.meaning part.new) }
-    ensures passes { Passes (Input.marks input.old) (Input.marks input.new) (Input.failures input.old) (Input.failures input.new) }
-    ensures runs { Runs (world Input.step Input.Error.seen Input.steady P.PartialState.is_default) Input.Error.seen P.valid
-        S.is_default S.place (P.meaning part.old) from.committed (T.pushed from.value) (λ s. record { value = from.value; committed = from.committed; state = s })
-        state.new (Input.view input.old) (Input.view input.new) (Input.failures input.old) (Input.failures input.new) result from.state }
+    ensures { CalledLast P.Parser Input.StreamOnce Input.Error.seen P.PartialState.is_default S.is_default S.place T.pushed part.old part.new input.old input.new from state.new result }
 {
     let SequenceState {
         value,
@@ -146,7 +137,7 @@ pub(crate) fn parse_last<
         ParseResult::PeekOk(last) => accepted_after(committed, value.push(last)),
         ParseResult::CommitErr(error) => {
             if needs_more(input, &error) {
-                *state = S::last(SequenceState {
+                state.keep_last(SequenceState {
                     value,
                     committed,
                     state: kept,
@@ -165,7 +156,7 @@ pub(crate) fn resume_last<
     Input: Stream,
     T: Push<P::Output> + Drop,
     P: Parser<Input>,
-    S: Placed<Last = SequenceState<T, P::PartialState>> + Default + Drop,
+    S: Placed<Last = SequenceState<T, P::PartialState>>,
     M: ParseMode,
 >(
     part: &mut P,
@@ -174,16 +165,10 @@ pub(crate) fn resume_last<
     from: SequenceState<T, P::PartialState>,
     state: &mut S,
 ) -> ParseResult<T::Pushed, Input::Error>
-    requires lawful { P.lawful part.old }
-    requires valid { P.valid from.state }
+    requires ready { ⟦<P as Calls<Input>>⟧.ready part.old from.state }
     requires starts { M.first mode ≡ true → P.PartialState.is_default from.state }
     requires fresh { S.is_default state.old }
-    ensures lawful { P.lawful part.new }
-    ensures same { MeansSame (P.meaning part.old) (P.meaning part.new) }
-    ensures passes { Passes (Input.marks input.old) (Input.marks input.new) (Input.failures input.old) (Input.failures input.new) }
-    ensures runs { Runs (world Input.step Input.Error.seen Input.steady P.PartialState.is_default) Input.Error.seen P.valid
-        S.is_default S.place (P.meaning part.old) from.committed (T.pushed from.value) (λ s. record { value = from.value; committed = from.committed; state = s })
-        state.new (Input.view input.old) (Input.view input.new) (Input.failures input.old) (Input.failures input.new) result from.state }
+    ensures { CalledLast P.Parser Input.StreamOnce Input.Error.seen P.PartialState.is_default S.is_default S.place T.pushed part.old part.new input.old input.new from state.new result }
 {
     parse_last(part, mode, input, from, state)
 }
@@ -194,7 +179,7 @@ pub(crate) fn parse_rest<
     Input: Stream,
     T: Push<P::Output> + Drop,
     P: Parser<Input>,
-    S: Placed<Last = SequenceState<T, P::PartialState>> + Default + Drop,
+    S: Placed<Last = SequenceState<T, P::PartialState>>,
     M: ParseMode,
 >(
     answer: ParseResult<T, Input::Error>,
@@ -206,22 +191,21 @@ pub(crate) fn parse_rest<
 ) -> ParseResult<T::Pushed, Input::Error>
     requires lawful { P.lawful part.old }
     requires fresh { S.is_default state.old }
-    ensures lawful { P.lawful part.new }
-    ensures same { MeansSame (P.meaning part.old) (P.meaning part.new) }
-    ensures passes { Passes (Input.marks input.old) (Input.marks input.new) (Input.failures input.old) (Input.failures input.new) }
-    ensures goes_on { GoesOn (world Input.step Input.Error.seen Input.steady P.PartialState.is_default) Input.Error.seen P.valid
-        S.is_default S.place T.pushed (P.meaning part.old) kept
-        state.new (Input.view input.old) (Input.view input.new) (Input.failures input.old) (Input.failures input.new) result answer }
+    ensures { CalledRest P.Parser Input.StreamOnce Input.Error.seen P.PartialState.is_default S.is_default S.place T.pushed part.old part.new input.old input.new kept state.new result answer }
 {
     let (value, committed) = match answer {
         ParseResult::CommitOk(value) => (value, true),
         ParseResult::PeekOk(value) => (value, false),
         ParseResult::CommitErr(error) => {
-            *state = S::before(kept);
+            state.keep_before(kept);
             return ParseResult::CommitErr(error);
         }
-        ParseResult::PeekErr(refusal) => return ParseResult::PeekErr(refusal),
+        ParseResult::PeekErr(refusal) => {
+            S::let_go(kept);
+            return ParseResult::PeekErr(refusal);
+        }
     };
+    S::let_go(kept);
     let from = SequenceState {
         value,
         committed,

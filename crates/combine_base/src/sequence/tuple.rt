@@ -1,18 +1,19 @@
 //! Tuples as parsers.
 ghost use Rattle.std.specs.Prelude.{◌≡◌, ◌+◌, false, min, true};
 ghost use Rattle.combine_base.specs.Parser.Meaning.{MeansSame};
-ghost use Rattle.combine_base.specs.Sequence.Places.{begins_valid, begins_valid_1, place_2, place_3, place_4, valid_1, valid_2, valid_3, valid_4};
-ghost use Rattle.combine_base.specs.Sequence.Tuples.{followed_is_meaning, followed_means_one, push_1, push_2, push_3, tuple_1, tuple_1_is_meaning, tuple_1_means_one, tuple_2, tuple_3, tuple_4};
+ghost use Rattle.combine_base.specs.Sequence.Places.{begins_valid_1, begins_valid_2, begins_valid_3, begins_valid_4, valid_1, valid_2, valid_3, valid_4};
+ghost use Rattle.combine_base.specs.Sequence.Tuples.{tuple_1, tuple_1_is_meaning, tuple_1_means_one, tuple_2, tuple_2_is_meaning, tuple_2_means_one, tuple_3, tuple_3_is_meaning, tuple_3_means_one, tuple_4, tuple_4_is_meaning, tuple_4_means_one};
 
 use crate::error::{ErrorOffset, ParseResult, Tracked};
 use crate::parser::{Calls, ParseMode, Parser};
 use crate::sequence::part::{parse_rest, resume_last, take_state};
 use crate::sequence::{
-    PartialState1, PartialState2, PartialState3, PartialState4, SequencePlace, Placed, SequenceState,
+    PartialState1, PartialState2, PartialState3, PartialState4, Placed, SequencePlace,
+    SequenceState,
 };
 use crate::stream::Stream;
 
-type State1<Input, A> = PartialState1<SequenceState<(), <A as Parser<Input>>::PartialState>>;
+pub type State1<Input, A> = PartialState1<SequenceState<(), <A as Parser<Input>>::PartialState>>;
 
 pub type State2<Input, A, B> = PartialState2<
     SequenceState<(), <A as Parser<Input>>::PartialState>,
@@ -54,7 +55,7 @@ fn add_counts(before: ErrorOffset, last: ErrorOffset) -> ErrorOffset
 
 /// Runs one part, from what is kept of it. `state` is a default one, and keeps what goes on where more is needed.
 #[inline(always)]
-fn parse_1<Input: Stream, A: Parser<Input>, M: ParseMode>(
+pub fn parse_1<Input: Stream, A: Parser<Input>, M: ParseMode>(
     a: &mut A,
     mode: M,
     input: &mut Input,
@@ -238,7 +239,7 @@ impl<Input: Stream, A: Parser<Input>, B: Parser<Input>> Parser<Input> for (A, B)
         input: &mut Input,
         state: &mut Self::PartialState,
     ) -> ParseResult<(A::Output, B::Output), Input::Error> {
-        let from = take_state(mode, state);
+        let from = state.take(mode);
         parse_2(&mut self.0, &mut self.1, mode, input, from, state)
     }
 
@@ -252,11 +253,11 @@ impl<Input: Stream, A: Parser<Input>, B: Parser<Input>> Parser<Input> for (A, B)
         add_counts(self.0.parser_count(), self.1.parser_count())
     }
 
-    ghost default_valid = { begins_valid place_2 B.valid (begins_valid_1 A.default_valid) };
+    ghost default_valid = { begins_valid_2 B.valid A.default_valid };
 
-    ghost laws = { λ p l. followed_is_meaning Input.step place_2 push_1 (tuple_1_is_meaning (A.laws p.0 l.0)) (B.laws p.1 l.1) };
+    ghost laws = { λ p l. tuple_2_is_meaning Input.step (A.laws p.0 l.0) (B.laws p.1 l.1) };
 
-    ghost single = { λ p l d. followed_means_one Input.step place_2 push_1 (tuple_1_means_one (A.single p.0 l.0 d.0)) (B.single p.1 l.1 d.1) };
+    ghost single = { λ p l d. tuple_2_means_one Input.step (A.single p.0 l.0 d.0) (B.single p.1 l.1 d.1) };
 }
 
 impl<Input: Stream, A: Parser<Input>, B: Parser<Input>, C: Parser<Input>> Parser<Input>
@@ -282,7 +283,7 @@ impl<Input: Stream, A: Parser<Input>, B: Parser<Input>, C: Parser<Input>> Parser
         input: &mut Input,
         state: &mut Self::PartialState,
     ) -> ParseResult<(A::Output, B::Output, C::Output), Input::Error> {
-        let from = take_state(mode, state);
+        let from = state.take(mode);
         parse_3(
             &mut self.0,
             &mut self.1,
@@ -307,11 +308,11 @@ impl<Input: Stream, A: Parser<Input>, B: Parser<Input>, C: Parser<Input>> Parser
         )
     }
 
-    ghost default_valid = { begins_valid place_3 C.valid (begins_valid place_2 B.valid (begins_valid_1 A.default_valid)) };
+    ghost default_valid = { begins_valid_3 B.valid C.valid A.default_valid };
 
-    ghost laws = { λ p l. followed_is_meaning Input.step place_3 push_2 (followed_is_meaning Input.step place_2 push_1 (tuple_1_is_meaning (A.laws p.0 l.0)) (B.laws p.1 l.1)) (C.laws p.2 l.2) };
+    ghost laws = { λ p l. tuple_3_is_meaning Input.step (A.laws p.0 l.0) (B.laws p.1 l.1) (C.laws p.2 l.2) };
 
-    ghost single = { λ p l d. followed_means_one Input.step place_3 push_2 (followed_means_one Input.step place_2 push_1 (tuple_1_means_one (A.single p.0 l.0 d.0)) (B.single p.1 l.1 d.1)) (C.single p.2 l.2 d.2) };
+    ghost single = { λ p l d. tuple_3_means_one Input.step (A.single p.0 l.0 d.0) (B.single p.1 l.1 d.1) (C.single p.2 l.2 d.2) };
 }
 
 impl<Input: Stream, A: Parser<Input>, B: Parser<Input>, C: Parser<Input>, D: Parser<Input>> Parser<
@@ -338,7 +339,7 @@ impl<Input: Stream, A: Parser<Input>, B: Parser<Input>, C: Parser<Input>, D: Par
         input: &mut Input,
         state: &mut Self::PartialState,
     ) -> ParseResult<(A::Output, B::Output, C::Output, D::Output), Input::Error> {
-        let from = take_state(mode, state);
+        let from = state.take(mode);
         parse_4(
             &mut self.0,
             &mut self.1,
@@ -367,9 +368,9 @@ impl<Input: Stream, A: Parser<Input>, B: Parser<Input>, C: Parser<Input>, D: Par
         )
     }
 
-    ghost default_valid = { begins_valid place_4 D.valid (begins_valid place_3 C.valid (begins_valid place_2 B.valid (begins_valid_1 A.default_valid))) };
+    ghost default_valid = { begins_valid_4 B.valid C.valid D.valid A.default_valid };
 
-    ghost laws = { λ p l. followed_is_meaning Input.step place_4 push_3 (followed_is_meaning Input.step place_3 push_2 (followed_is_meaning Input.step place_2 push_1 (tuple_1_is_meaning (A.laws p.0 l.0)) (B.laws p.1 l.1)) (C.laws p.2 l.2)) (D.laws p.3 l.3) };
+    ghost laws = { λ p l. tuple_4_is_meaning Input.step (A.laws p.0 l.0) (B.laws p.1 l.1) (C.laws p.2 l.2) (D.laws p.3 l.3) };
 
-    ghost single = { λ p l d. followed_means_one Input.step place_4 push_3 (followed_means_one Input.step place_3 push_2 (followed_means_one Input.step place_2 push_1 (tuple_1_means_one (A.single p.0 l.0 d.0)) (B.single p.1 l.1 d.1)) (C.single p.2 l.2 d.2)) (D.single p.3 l.3 d.3) };
+    ghost single = { λ p l d. tuple_4_means_one Input.step (A.single p.0 l.0 d.0) (B.single p.1 l.1 d.1) (C.single p.2 l.2 d.2) (D.single p.3 l.3 d.3) };
 }

@@ -1,22 +1,23 @@
 use Rattle.std.proofs.Common.{sym, ◌∙◌}
-use Rattle.combine_base.specs.Sequence.Places.{begins_valid_1, begins_valid, place_2, place_3, place_4}
-use Rattle.combine_base.specs.Sequence.Tuples.{followed_is_meaning, followed_means_same, push_1, push_2, push_3, tuple_3, tuple_1_is_meaning}
-use Rattle.combine_base.proofs.Same.{passes_more, same_none}
-use Rattle.combine_base.proofs.SequenceAnswers.{last_answers, last_leaves, sequence_answers, sequence_leaves}
+use Rattle.combine_base.specs.Sequence.Places.{begins_valid_3, place_4}
+use Rattle.combine_base.specs.Sequence.Tuples.{push_3, tuple_3, tuple_3_is_meaning}
+use Rattle.combine_base.proofs.Following.{last_called, sequence_called}
 use Rattle.combine_base.proofs.sequence.tuple.parse_4.Goals as goal
+
+pub parse_3-answer-requires-clause-ready : goal.parse_3-answer-requires-clause-ready
+parse_3-answer-requires-clause-ready g c = record { lawful = (c.requires.ready.lawful.0, c.requires.ready.lawful.1, c.requires.ready.lawful.2); valid = rw (sym c.into_place.ensures ∙ c.in-Before.is) at c.requires.ready.valid }
+
+pub parse_3-answer-requires-clause-starts : goal.parse_3-answer-requires-clause-starts
+parse_3-answer-requires-clause-starts g c = λ h. rw (sym c.into_place.ensures ∙ c.in-Before.is) at c.requires.starts h
 
 pub returns-in-Before : goal.returns-in-Before
 returns-in-Before g c =
     let first = c.parse_3-answer.ensures in
-    let last = c.parse_rest.ensures in
-    record {
-      lawful = (first.lawful.0, first.lawful.1, first.lawful.2, last.lawful);
-      valid = sequence_leaves place_4 (begins_valid place_3 _ (begins_valid place_2 _ (begins_valid_1 g.met.A.Parser.default_valid))) first.valid last.goes_on;
-      same = followed_means_same _ place_4 push_3 first.same last.same;
-      passes = passes_more _ _ _ _ _ _ first.passes last.passes;
-      answers = sequence_answers _ _ _ _ _ _ place_4 push_3 _ _ _ (followed_is_meaning _ place_3 push_2 (followed_is_meaning _ place_2 push_1 (tuple_1_is_meaning (g.met.A.Parser.laws _ c.requires.ready.lawful.0)) (g.met.B.Parser.laws _ c.requires.ready.lawful.1)) (g.met.C.Parser.laws _ c.requires.ready.lawful.2)) (g.met.D.Parser.laws _ c.requires.ready.lawful.3) _ _ _ _ (sym c.into_place.ensures ∙ c.in-Before.is) _ _ _ _ _ _ first.passes.reads first.passes.resets _ _ c.requires.ready.valid first.answers last.goes_on;
-    }
+    let all = sequence_called place_4 push_3 (begins_valid_3 _ _ g.met.A.Parser.default_valid) (tuple_3_is_meaning _ (g.met.A.Parser.laws _ c.requires.ready.lawful.0) (g.met.B.Parser.laws _ c.requires.ready.lawful.1) (g.met.C.Parser.laws _ c.requires.ready.lawful.2)) (g.met.D.Parser.laws _ c.requires.ready.lawful.3) (sym c.into_place.ensures ∙ c.in-Before.is) c.requires.ready.valid first c.parse_rest.ensures in
+    record { lawful = (first.lawful.0, first.lawful.1, first.lawful.2, c.parse_rest.ensures.lawful); valid = all.valid; same = all.same; passes = all.passes; answers = all.answers }
 
+pub resume_last-requires-clause-ready : goal.resume_last-requires-clause-ready
+resume_last-requires-clause-ready g c = record { lawful = c.requires.ready.lawful.3; valid = rw (sym c.into_place.ensures ∙ c.in-Last.is) at c.requires.ready.valid }
 
 -- a state that stands at the last part begins no sequence
 pub resume_last-requires-clause-starts : goal.resume_last-requires-clause-starts
@@ -24,11 +25,5 @@ resume_last-requires-clause-starts g c = λ h. absurd (rw (sym c.into_place.ensu
 
 pub returns-in-Last : goal.returns-in-Last
 returns-in-Last g c =
-    let last = c.resume_last.ensures in
-    record {
-      lawful = (c.requires.ready.lawful.0, c.requires.ready.lawful.1, c.requires.ready.lawful.2, last.lawful);
-      valid = last_leaves place_4 (begins_valid place_3 _ (begins_valid place_2 _ (begins_valid_1 g.met.A.Parser.default_valid))) last.runs;
-      same = followed_means_same _ place_4 push_3 (same_none (tuple_3 _ (g.A.Parser.meaning c.args.a.now) (g.B.Parser.meaning c.args.b.now) (g.C.Parser.meaning c.args.c.now))) last.same;
-      passes = last.passes;
-      answers = last_answers _ _ _ _ _ _ place_4 push_3 (tuple_3 _ (g.A.Parser.meaning c.args.a.now) (g.B.Parser.meaning c.args.b.now) (g.C.Parser.meaning c.args.c.now)) _ _ _ _ _ _ _ _ _ (sym c.into_place.ensures ∙ c.in-Last.is) last.runs;
-    }
+    let all = last_called place_4 push_3 (tuple_3 _ (g.A.Parser.meaning c.args.a.now) (g.B.Parser.meaning c.args.b.now) (g.C.Parser.meaning c.args.c.now)) (begins_valid_3 _ _ g.met.A.Parser.default_valid) (sym c.into_place.ensures ∙ c.in-Last.is) c.resume_last.ensures in
+    record { lawful = (c.requires.ready.lawful.0, c.requires.ready.lawful.1, c.requires.ready.lawful.2, c.resume_last.ensures.lawful); valid = all.valid; same = all.same; passes = all.passes; answers = all.answers }
