@@ -1,23 +1,37 @@
 //! Why the program gives up.
 
-use thiserror::Error;
+use std::fmt;
 
 /// Why the program gives up: it then writes this text on standard error and ends with status 2.
-#[derive(Clone, Copy, Debug, PartialEq, Eq, Error)]
+#[derive(Clone, Copy, Debug, PartialEq, Eq)]
 pub enum Fault {
     /// The arguments aren't up to 64 piece sizes.
-    #[error("feedline: bad argument")]
     Argument,
     /// The input can't be read.
-    #[error("feedline: cannot read")]
     Read,
     /// The input is longer than `MAX_INPUT` bytes.
-    #[error("feedline: input too long")]
     Input,
     /// A growth was refused.
-    #[error("feedline: out of memory")]
     Memory,
     /// The output can't be written.
-    #[error("feedline: cannot write")]
     Write,
+}
+
+impl Fault {
+    /// The line that the program writes, without its end.
+    fn text(self) -> &'static str {
+        match self {
+            Fault::Argument => "feedline: bad argument",
+            Fault::Read => "feedline: cannot read",
+            Fault::Input => "feedline: input too long",
+            Fault::Memory => "feedline: out of memory",
+            Fault::Write => "feedline: cannot write",
+        }
+    }
+}
+
+impl fmt::Display for Fault {
+    fn fmt<W: fmt::Write>(&self, f: &mut fmt::Formatter<W>) -> fmt::Result {
+        f.write_str(self.text())
+    }
 }
