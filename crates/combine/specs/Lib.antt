@@ -1,10 +1,13 @@
 -- The words of the contracts, under this crate's name.
 pub use Rattle.combine_base.specs.Parser.Answer
+pub use Rattle.combine_base.specs.Parser.Called
 pub use Rattle.combine_base.specs.Parser.Drivers
 pub use Rattle.combine_base.specs.Error.Errors
+pub use Rattle.combine_base.specs.Parser.Faults
 pub use Rattle.combine_base.specs.Stream.Fed
 pub use Rattle.combine_base.specs.Error.Items
 pub use Rattle.combine_base.specs.Sequence.Joined
+pub use Rattle.combine_base.specs.Parser.Judged
 pub use Rattle.combine_base.specs.Stream.Lefts
 pub use Rattle.combine_base.specs.Parser.Mapped
 pub use Rattle.combine_base.specs.Parser.Meaning
@@ -15,6 +18,7 @@ pub use Rattle.combine_base.specs.Sequence.Places
 pub use Rattle.combine_base.specs.Refusals
 pub use Rattle.combine_base.specs.Error.Results
 pub use Rattle.combine_base.specs.Sequence.Readings
+pub use Rattle.combine_base.specs.Parser.Reasons
 pub use Rattle.combine_base.specs.Sequence.Meanings
 pub use Rattle.combine_base.specs.Parser.Sessions
 pub use Rattle.combine_base.specs.Stream.Slices

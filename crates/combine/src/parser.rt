@@ -1,7 +1,8 @@
 //! The protocol of parsers, and their constructors by module.
 
 pub use combine_base::parser::{
-    Answer, Calls, FirstMode, ParseMode, Parser, PartialMode, Session, SessionError, judge, parse_pieces,
+    Answer, Calls, FirstMode, ParseMode, Parser, PartialMode, Session, SessionError, judge,
+    parse_pieces,
 };
 pub use combine_base::sequence;
 pub use combine_map::combinator;
