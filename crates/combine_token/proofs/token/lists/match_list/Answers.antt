@@ -1,4 +1,4 @@
-use Rattle.std.proofs.Common.{arith, refl, sym, ◌∙◌, lt-ltb, le-ltb}
+use Rattle.std.proofs.Common.{rules, arith, refl, sym, ◌∙◌, lt-ltb, le-ltb}
 use Rattle.std.proofs.lemmas.Bool.{false≢true}
 use Rattle.combine_base.proofs.Same.{passes_none, passes_more}
 use Rattle.combine_token.specs.Iterated.{iterated_ends_once}
@@ -36,8 +36,9 @@ returns-then-matched-gt0-clause-passes g c = passes_more _ _ _ _ _ _ c.items.inv
 pub returns-then-matched-gt0-clause-answers : goal.returns-then-matched-gt0-clause-answers
 returns-then-matched-gt0-clause-answers g c =
     let i = c.items.invariant in
+    let there = stands_there _ _ _ _ _ _ _ _ i.reached c.in-Some.ensures.steps in
     let n = c.if-not-cmp.ensures in
-    match_refused _ _ _ _ _ _ _ _ _ _ i.arrived i.cleared (_, stands_there _ _ _ _ _ _ _ _ i.reached c.in-Some.ensures.steps) _ _ _ (_, stands_there _ _ _ _ _ _ _ _ i.reached c.in-Some.ensures.steps, n) c.in-Ok-uncons.ensures.read.is _ (sym (lt-ltb 0 _ c.if-matched-gt0.true)) (mismatch_told _ _ _ _ _ c.mismatch-error.ensures) refl refl
+    match_refused _ _ _ _ _ _ _ _ _ _ i.arrived i.cleared (_, there) _ _ _ (_, there, n) c.in-Ok-uncons.ensures.read.is _ (sym (lt-ltb 0 _ c.if-matched-gt0.true)) (mismatch_told _ _ _ _ _ c.mismatch-error.ensures) refl refl
 
 pub returns-then-not-cmp-clause-passes : goal.returns-then-not-cmp-clause-passes
 returns-then-not-cmp-clause-passes g c = passes_more _ _ _ _ _ _ c.items.invariant.passes (passes_more _ _ _ _ _ _ c.uncons.ensures.passes c.put_back.ensures.passes)
@@ -45,20 +46,25 @@ returns-then-not-cmp-clause-passes g c = passes_more _ _ _ _ _ _ c.items.invaria
 pub returns-then-not-cmp-clause-answers : goal.returns-then-not-cmp-clause-answers
 returns-then-not-cmp-clause-answers g c =
     let i = c.items.invariant in
+    let there = stands_there _ _ _ _ _ _ _ _ i.reached c.in-Some.ensures.steps in
     let n = c.if-not-cmp.ensures in
     let a = i.passes.resets in
     let b = c.uncons.ensures.passes.resets in
     let o = g.met.Input.ResetStream.lasts _ _ _ _ c.uncons.ensures.passes.marks (g.met.Input.ResetStream.lasts _ _ _ _ i.passes.marks c.checkpoint-start.ensures.stands) in
-    match_put_back _ _ _ _ _ _ _ _ _ _ i.arrived i.cleared (_, stands_there _ _ _ _ _ _ _ _ i.reached c.in-Some.ensures.steps) _ _ _ (_, stands_there _ _ _ _ _ _ _ _ i.reached c.in-Some.ensures.steps, n) c.in-Ok-uncons.ensures.read.is _ (sym (le-ltb _ _ c.if-matched-gt0.false)) _ o (omega arith) c.put_back.ensures.back
+    match_put_back _ _ _ _ _ _ _ _ _ _ i.arrived i.cleared (_, there) _ _ _ (_, there, n) c.in-Ok-uncons.ensures.read.is _ (sym (le-ltb _ _ c.if-matched-gt0.false)) _ o (omega arith) c.put_back.ensures.back
 
+-- found by a search, so that it holds too where a wrong body puts the stream back
 pub returns-then-asks_for_more-clause-passes : goal.returns-then-asks_for_more-clause-passes
-returns-then-asks_for_more-clause-passes g c = passes_more _ _ _ _ _ _ c.items.invariant.passes c.uncons.ensures.passes
+returns-then-asks_for_more-clause-passes g c =
+    let p = c.items.invariant.passes in
+    search (rules, passes_more)
 
 pub returns-then-asks_for_more-clause-answers : goal.returns-then-asks_for_more-clause-answers
 returns-then-asks_for_more-clause-answers g c =
     let i = c.items.invariant in
+    let there = stands_there _ _ _ _ _ _ _ _ i.reached c.in-Some.ensures.steps in
     let k = c.asks_for_more.ensures.0 c.if-asks_for_more.true in
-    match_asks _ _ _ _ _ _ _ _ _ _ i.arrived (_, stands_there _ _ _ _ _ _ _ _ i.reached c.in-Some.ensures.steps) refl (rw k.0 at c.in-Err-uncons.ensures.read.is) k.1 _ (c.new_error-then-asks_for_more.ensures.kind ∙ k.0)
+    match_asks _ _ _ _ _ _ _ _ _ _ i.arrived (_, there) refl (rw k.0 at c.in-Err-uncons.ensures.read.is) k.1 _ (c.new_error-then-asks_for_more.ensures.kind ∙ k.0)
 
 pub returns-in-Err-uncons-clause-passes : goal.returns-in-Err-uncons-clause-passes
 returns-in-Err-uncons-clause-passes g c = passes_more _ _ _ _ _ _ c.items.invariant.passes c.uncons.ensures.passes
@@ -66,19 +72,21 @@ returns-in-Err-uncons-clause-passes g c = passes_more _ _ _ _ _ _ c.items.invari
 pub returns-in-Err-uncons-clause-answers : goal.returns-in-Err-uncons-clause-answers
 returns-in-Err-uncons-clause-answers g c =
     let i = c.items.invariant in
-    match_unread _ _ _ _ _ _ _ _ _ _ i.arrived i.cleared (_, stands_there _ _ _ _ _ _ _ _ i.reached c.in-Some.ensures.steps) _ refl _ _ c.in-Err-uncons.ensures.read.is i.passes.reads (λ z. false≢true (sym c.if-asks_for_more.false ∙ c.asks_for_more.ensures.1 z)) c.no_more.ensures.finds
+    let there = stands_there _ _ _ _ _ _ _ _ i.reached c.in-Some.ensures.steps in
+    match_unread _ _ _ _ _ _ _ _ _ _ i.arrived i.cleared (_, there) _ refl _ _ c.in-Err-uncons.ensures.read.is i.passes.reads (λ z. false≢true (sym c.if-asks_for_more.false ∙ c.asks_for_more.ensures.1 z)) c.no_more.ensures.finds
 
 pub items-preserved : goal.items-preserved
 items-preserved g c =
     let i = c.items.invariant in
     let n = c.if-not-cmp.ensures in
     let s = c.in-Some.ensures.steps in
+    let there = stands_there _ _ _ _ _ _ _ _ i.reached s in
     record {
       passes = passes_more _ _ _ _ _ _ i.passes c.uncons.ensures.passes;
       cleared = i.cleared;
       reached = reached_more _ _ _ _ _ _ _ _ i.reached s;
       few = let o = c.in-Some.ensures.goes.on c.items.iterator.1 in let f = i.few in omega (arith, o.2);
-      arrived = arrived_next _ _ _ _ _ _ (iterated_ends_once _ _ _ _ _ _ _ c.requires.list) _ _ _ _ _ _ _ _ _ i.arrived _ (_, stands_there _ _ _ _ _ _ _ _ i.reached s, n) (_, stands_there _ _ _ _ _ _ _ _ i.reached s) c.in-Ok-uncons.ensures.read.is;
+      arrived = arrived_next _ _ _ _ _ _ (iterated_ends_once _ _ _ _ _ _ _ c.requires.list) _ _ _ _ _ _ _ _ _ i.arrived _ (_, there, n) (_, there) c.in-Ok-uncons.ensures.read.is;
     }
 
 pub returns-clause-answers : goal.returns-clause-answers
@@ -95,14 +103,16 @@ returns-in-Err-pass_over-clause-refuses g c = accepted_reasons _ _ _ _ _ _ _ c.a
 pub returns-then-matched-gt0-clause-refuses : goal.returns-then-matched-gt0-clause-refuses
 returns-then-matched-gt0-clause-refuses g c =
     let i = c.items.invariant in
+    let there = stands_there _ _ _ _ _ _ _ _ i.reached c.in-Some.ensures.steps in
     let n = c.if-not-cmp.ensures in
-    mismatch_reasons _ _ _ _ _ _ _ _ _ _ _ _ _ i.arrived _ _ (_, stands_there _ _ _ _ _ _ _ _ i.reached c.in-Some.ensures.steps) _ _ _ _ (_, stands_there _ _ _ _ _ _ _ _ i.reached c.in-Some.ensures.steps, n) c.in-Ok-uncons.ensures.read.is _ (sym (lt-ltb 0 _ c.if-matched-gt0.true)) (rw c.position-position.ensures at c.mismatch-error.ensures)
+    mismatch_reasons _ _ _ _ _ _ _ _ _ _ _ _ _ i.arrived _ _ (_, there) _ _ _ _ (_, there, n) c.in-Ok-uncons.ensures.read.is _ (sym (lt-ltb 0 _ c.if-matched-gt0.true)) (rw c.position-position.ensures at c.mismatch-error.ensures)
 
 pub returns-then-not-cmp-clause-refuses : goal.returns-then-not-cmp-clause-refuses
 returns-then-not-cmp-clause-refuses g c =
     let i = c.items.invariant in
+    let there = stands_there _ _ _ _ _ _ _ _ i.reached c.in-Some.ensures.steps in
     let n = c.if-not-cmp.ensures in
-    put_back_reasons _ _ _ _ _ _ _ _ _ _ _ _ _ i.arrived _ _ (_, stands_there _ _ _ _ _ _ _ _ i.reached c.in-Some.ensures.steps) _ _ _ _ (_, stands_there _ _ _ _ _ _ _ _ i.reached c.in-Some.ensures.steps, n) c.in-Ok-uncons.ensures.read.is _ (sym (le-ltb _ _ c.if-matched-gt0.false)) (rw c.position-position.ensures at c.put_back.ensures.refuses)
+    put_back_reasons _ _ _ _ _ _ _ _ _ _ _ _ _ i.arrived _ _ (_, there) _ _ _ _ (_, there, n) c.in-Ok-uncons.ensures.read.is _ (sym (le-ltb _ _ c.if-matched-gt0.false)) (rw c.position-position.ensures at c.put_back.ensures.refuses)
 
 pub returns-then-asks_for_more-clause-refuses : goal.returns-then-asks_for_more-clause-refuses
 returns-then-asks_for_more-clause-refuses g c =
@@ -112,7 +122,8 @@ returns-then-asks_for_more-clause-refuses g c =
 pub returns-in-Err-uncons-clause-refuses : goal.returns-in-Err-uncons-clause-refuses
 returns-in-Err-uncons-clause-refuses g c =
     let i = c.items.invariant in
-    unread_reasons _ _ _ _ _ _ _ _ _ _ _ _ _ i.arrived _ _ (_, stands_there _ _ _ _ _ _ _ _ i.reached c.in-Some.ensures.steps) _ _ _ refl _ _ c.in-Err-uncons.ensures.read.is (λ z. false≢true (sym c.if-asks_for_more.false ∙ c.asks_for_more.ensures.1 z)) c.no_more.ensures.finds (rw c.position-position.ensures at c.no_more.ensures.refuses)
+    let there = stands_there _ _ _ _ _ _ _ _ i.reached c.in-Some.ensures.steps in
+    unread_reasons _ _ _ _ _ _ _ _ _ _ _ _ _ i.arrived _ _ (_, there) _ _ _ refl _ _ c.in-Err-uncons.ensures.read.is (λ z. false≢true (sym c.if-asks_for_more.false ∙ c.asks_for_more.ensures.1 z)) c.no_more.ensures.finds (rw c.position-position.ensures at c.no_more.ensures.refuses)
 
 pub returns-clause-refuses : goal.returns-clause-refuses
 returns-clause-refuses g c = accepted_reasons _ _ _ _ _ _ _ c.accepted-2.ensures

@@ -1,5 +1,8 @@
 use Rattle.std.proofs.Common.{rules, sym, ◌∙◌}
 use Rattle.combine_token.proofs.OneToken.{accepts_end, needs_token, not_put_back}
+use Rattle.combine_base.specs.declared.stream.Kind.TheVariants as kinds
+use Rattle.combine_token.proofs.Reasons.{reasons_ok, reasons_peek_ok, reasons_fault, reasons_need}
+use Rattle.combine_token.proofs.TokenReasons.{refused_token, refused_end}
 use Rattle.combine_token.proofs.token.reading.one_token.Goals as goal
 
 pub returns-then-is_partial-clause-reads : goal.returns-then-is_partial-clause-reads
@@ -23,3 +26,21 @@ returns-in-Ok-reset-clause-back g c =
 pub returns-in-Err-reset-clause-reads : goal.returns-in-Err-reset-clause-reads
 returns-in-Err-reset-clause-reads g c =
     not_put_back _ _ _ _ _ _ _ _ _ _ _ _ c.in-Ok.ensures.read c.in-Err-reset.ensures.to c.in-Ok.ensures.passes.resets c.new_error-in-Err-reset.ensures.kind
+
+pub returns-in-Some-clause-refuses : goal.returns-in-Some-clause-refuses
+returns-in-Some-clause-refuses g c = reasons_ok _ _ _ _
+
+pub returns-in-Ok-reset-clause-refuses : goal.returns-in-Ok-reset-clause-refuses
+returns-in-Ok-reset-clause-refuses g c = refused_token _ _ _ _ _ c.in-Ok.ensures.read.is.unread _ (rw (c.from.ensures, ← c.position-position.ensures) c.new_error.ensures)
+
+pub returns-in-Err-reset-clause-refuses : goal.returns-in-Err-reset-clause-refuses
+returns-in-Err-reset-clause-refuses g c = reasons_fault _ _ _ _ kinds.Reset (c.new_error-in-Err-reset.ensures.kind ∙ c.in-Err-reset.ensures.to.is.0) tt
+
+pub returns-then-is_partial-clause-refuses : goal.returns-then-is_partial-clause-refuses
+returns-then-is_partial-clause-refuses g c = reasons_need _ _ _ _ c.new_error-then-is_partial.ensures.kind (sym c.is_partial.ensures ∙ c.if-is_partial.true)
+
+pub returns-in-Some-test-clause-refuses : goal.returns-in-Some-test-clause-refuses
+returns-in-Some-test-clause-refuses g c = reasons_peek_ok _ _ _ _
+
+pub returns-in-None-test-clause-refuses : goal.returns-in-None-test-clause-refuses
+returns-in-None-test-clause-refuses g c = refused_end _ _ _ (rw c.in-Err-End.field-0-is at c.in-Err-End.ensures.read).is.unread _ c.no_token.ensures.refuses (rw c.position-position.ensures at c.no_token.ensures.says)

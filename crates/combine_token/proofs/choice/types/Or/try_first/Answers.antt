@@ -1,12 +1,10 @@
-use Rattle.std.proofs.Common.{rules, false, refl, ◌∙◌}
+use Rattle.std.proofs.Common.{rules, refl, ◌∙◌}
 use Rattle.combine_base.specs.declared.stream.Kind.TheVariants as kinds
 use Rattle.combine_base.proofs.Calls.{refusal_unreset}
-use Rattle.combine_base.proofs.Same.{same_more, passes_more, answers_same}
-use Rattle.combine_token.specs.Choice.{refused}
-use Rattle.combine_token.proofs.Choosing.{begun_reads, tries_asks, tries_next, tries_answers}
-use Rattle.combine_token.proofs.Merging.{no_fault, merged_answers}
+use Rattle.combine_base.proofs.Same.{same_more, passes_more}
+use Rattle.combine_token.proofs.Choosing.{tries_asks}
 use Rattle.combine_token.proofs.Reasons.{reasons_ok, reasons_peek_ok, reasons_fault, first_reasons, second_reasons}
-use Rattle.combine_token.proofs.Ors.{first_accepts, first_fails, first_falls, first_peeks, first_same, first_same_more, first_starts, second_as_state}
+use Rattle.combine_token.proofs.Ors.{first_accepts, first_fails, first_falls, first_peeks, first_same, first_same_more, first_starts}
 use Rattle.combine_token.proofs.choice.types.Or.try_first.Goals as goal
 
 -- The searches hold too where a wrong body goes on to the second: what such a body answers is then what is refused.
@@ -35,7 +33,7 @@ returns-then-needs_more-clause-called g c =
     let z = first_starts _ _ _ _ (g.met.P.Parser.laws _ c.requires.ready.lawful.0) _ _ c.requires.starts _ _ in
     record {
       lawful = (c.parse_mode.ensures.lawful, c.requires.ready.lawful.1);
-      valid = c.parse_mode.ensures.valid;
+      valid = search rules;
       same = first_same _ _ _ c.parse_mode.ensures.same;
       passes = c.parse_mode.ensures.passes;
       answers = tries_asks _ _ _ _ _ _ _ z refl refl _ (c.needs_more.ensures.0 c.if-needs_more.true) c.in-CommitErr.ensures.answers (λ v o i. i) (λ v i. i);
