@@ -4,7 +4,8 @@ ghost use Rattle.std.specs.Iterator.{at_most};
 ghost use Rattle.combine_answers.specs.Letters.{copied, last, left, steps, these};
 
 use crate::show::Show;
-use combine_base::stream::fed;
+use combine_base::error::ParseError;
+use combine_base::stream::Stream;
 use combine_calls::{Call, Visitor};
 use combine_token::token::tokens;
 use std::alloc::{AllocError, Global};
@@ -55,7 +56,12 @@ impl Show for Letters {
 }
 
 /// Hands on `tokens` of these.
-fn visit_tokens<V: Visitor<fed::Stream<u8>, Letters>>(letters: Letters, visitor: V) -> V::Answer
+fn visit_tokens<Input: Stream<Token = u8>, V: Visitor<Input, Letters>>(
+    letters: Letters,
+    visitor: V,
+) -> V::Answer
+where
+    Input::Error: ParseError<u8, Input::Range, Input::Position>,
     requires ready { V.ready visitor }
     requires five { length letters.bytes ≡ 5 }
     ensures { V.answers visitor (these letters) result }
@@ -73,12 +79,18 @@ fn visit_tokens<V: Visitor<fed::Stream<u8>, Letters>>(letters: Letters, visitor:
 #[derive(Drop)]
 pub(crate) struct Tokens0Call;
 
-impl Call<fed::Stream<u8>> for Tokens0Call {
+impl Call for Tokens0Call {
     type Output = Letters;
 
-    ghost reading = { these (last 5 (0 ∷ 0 ∷ 0 ∷ 0 ∷ 0 ∷ [])) };
+    ghost reading = { λ P step. these (last 5 (0 ∷ 0 ∷ 0 ∷ 0 ∷ 0 ∷ [])) };
 
-    fn accept<V: Visitor<fed::Stream<u8>, Letters>>(alloc: Global, visitor: V) -> V::Answer {
+    fn accept<Input: Stream<Token = u8>, V: Visitor<Input, Letters>>(
+        alloc: Global,
+        visitor: V,
+    ) -> V::Answer
+    where
+        Input::Error: ParseError<u8, Input::Range, Input::Position>,
+    {
         let letters = Letters {
             bytes: [0, 0, 0, 0, 0],
             passed: 5,
@@ -91,12 +103,18 @@ impl Call<fed::Stream<u8>> for Tokens0Call {
 #[derive(Drop)]
 pub(crate) struct Tokens1Call<const A: u8>;
 
-impl<const A: u8> Call<fed::Stream<u8>> for Tokens1Call<A> {
+impl<const A: u8> Call for Tokens1Call<A> {
     type Output = Letters;
 
-    ghost reading = { these (last 4 (0 ∷ 0 ∷ 0 ∷ 0 ∷ A ∷ [])) };
+    ghost reading = { λ P step. these (last 4 (0 ∷ 0 ∷ 0 ∷ 0 ∷ A ∷ [])) };
 
-    fn accept<V: Visitor<fed::Stream<u8>, Letters>>(alloc: Global, visitor: V) -> V::Answer {
+    fn accept<Input: Stream<Token = u8>, V: Visitor<Input, Letters>>(
+        alloc: Global,
+        visitor: V,
+    ) -> V::Answer
+    where
+        Input::Error: ParseError<u8, Input::Range, Input::Position>,
+    {
         let letters = Letters {
             bytes: [0, 0, 0, 0, A],
             passed: 4,
@@ -109,12 +127,18 @@ impl<const A: u8> Call<fed::Stream<u8>> for Tokens1Call<A> {
 #[derive(Drop)]
 pub(crate) struct Tokens2Call<const A: u8, const B: u8>;
 
-impl<const A: u8, const B: u8> Call<fed::Stream<u8>> for Tokens2Call<A, B> {
+impl<const A: u8, const B: u8> Call for Tokens2Call<A, B> {
     type Output = Letters;
 
-    ghost reading = { these (last 3 (0 ∷ 0 ∷ 0 ∷ A ∷ B ∷ [])) };
+    ghost reading = { λ P step. these (last 3 (0 ∷ 0 ∷ 0 ∷ A ∷ B ∷ [])) };
 
-    fn accept<V: Visitor<fed::Stream<u8>, Letters>>(alloc: Global, visitor: V) -> V::Answer {
+    fn accept<Input: Stream<Token = u8>, V: Visitor<Input, Letters>>(
+        alloc: Global,
+        visitor: V,
+    ) -> V::Answer
+    where
+        Input::Error: ParseError<u8, Input::Range, Input::Position>,
+    {
         let letters = Letters {
             bytes: [0, 0, 0, A, B],
             passed: 3,
@@ -127,12 +151,18 @@ impl<const A: u8, const B: u8> Call<fed::Stream<u8>> for Tokens2Call<A, B> {
 #[derive(Drop)]
 pub(crate) struct Tokens3Call<const A: u8, const B: u8, const C: u8>;
 
-impl<const A: u8, const B: u8, const C: u8> Call<fed::Stream<u8>> for Tokens3Call<A, B, C> {
+impl<const A: u8, const B: u8, const C: u8> Call for Tokens3Call<A, B, C> {
     type Output = Letters;
 
-    ghost reading = { these (last 2 (0 ∷ 0 ∷ A ∷ B ∷ C ∷ [])) };
+    ghost reading = { λ P step. these (last 2 (0 ∷ 0 ∷ A ∷ B ∷ C ∷ [])) };
 
-    fn accept<V: Visitor<fed::Stream<u8>, Letters>>(alloc: Global, visitor: V) -> V::Answer {
+    fn accept<Input: Stream<Token = u8>, V: Visitor<Input, Letters>>(
+        alloc: Global,
+        visitor: V,
+    ) -> V::Answer
+    where
+        Input::Error: ParseError<u8, Input::Range, Input::Position>,
+    {
         let letters = Letters {
             bytes: [0, 0, A, B, C],
             passed: 2,
@@ -149,9 +179,15 @@ impl<const A: u8, const B: u8, const C: u8, const D: u8, const E: u8> Call<fed::
     for Tokens5Call<A, B, C, D, E> {
     type Output = Letters;
 
-    ghost reading = { these (last 0 (A ∷ B ∷ C ∷ D ∷ E ∷ [])) };
+    ghost reading = { λ P step. these (last 0 (A ∷ B ∷ C ∷ D ∷ E ∷ [])) };
 
-    fn accept<V: Visitor<fed::Stream<u8>, Letters>>(alloc: Global, visitor: V) -> V::Answer {
+    fn accept<Input: Stream<Token = u8>, V: Visitor<Input, Letters>>(
+        alloc: Global,
+        visitor: V,
+    ) -> V::Answer
+    where
+        Input::Error: ParseError<u8, Input::Range, Input::Position>,
+    {
         let letters = Letters {
             bytes: [A, B, C, D, E],
             passed: 0,
