@@ -175,7 +175,7 @@ impl<const A: u8, const B: u8, const C: u8> Call for Tokens3Call<A, B, C> {
 #[derive(Drop)]
 pub(crate) struct Tokens5Call<const A: u8, const B: u8, const C: u8, const D: u8, const E: u8>;
 
-impl<const A: u8, const B: u8, const C: u8, const D: u8, const E: u8> Call<fed::Stream<u8>>
+impl<const A: u8, const B: u8, const C: u8, const D: u8, const E: u8> Call
     for Tokens5Call<A, B, C, D, E> {
     type Output = Letters;
 
