@@ -1,19 +1,25 @@
--- the tokens of a list that a parser matches
-use Rattle.std.specs.Prelude.{ℕ, ◌≡◌, nat_eq, List}
-use Rattle.std.specs.Array.Iter.{array_into_iter_items, array_steps}
-use Rattle.std.specs.declared.array.IntoIter.{IntoIter}
+-- the tokens that a list has, and what a parser of the list means
+use Rattle.std.specs.Prelude.{ℕ, ◌≡◌, nat_eq, List, [], ◌∷◌, drop, Option, Some, None}
 use Rattle.combine_base.specs.Parser.Meaning.{Reading}
 use Rattle.combine_token.specs.Iterated.{iterated}
 use Rattle.combine_token.specs.TokenLists.{matching}
 use Rattle.combine_answers.specs.declared.letters.Letters.{Letters}
 
-module _ {N : ℕ} where
-  abbrev pub copied : Letters N → Letters N → Type 0
-  copied a b = b ≡ a
+-- those that weren't passed yet
+abbrev pub left : Letters → List ℕ
+left letters = drop letters.passed letters.bytes
 
-  abbrev pub gone_through : Letters N → IntoIter ℕ N → Type 0
-  gone_through letters items = array_into_iter_items items ≡ letters.0
+abbrev pub steps : Letters → Option ℕ → Letters → Type 0
+steps old None new = left old ≡ []
+steps old (Some byte) new = left old ≡ byte ∷ left new
 
-  -- these tokens, one after another; the value is the list
-  abbrev pub these : {P : Type 0} → List ℕ → Reading P ℕ (Letters N)
-  these bytes = matching (iterated copied gone_through array_steps (record { 0 = bytes }) (λ x t b. b ≡ nat_eq x t)) (copied (record { 0 = bytes })) 0
+-- the same
+abbrev pub copied : Letters → Letters → Type 0
+copied a b = b ≡ a
+
+-- these tokens, one after another; the value is the list
+abbrev pub these : {P : Type 0} → Letters → Reading P ℕ Letters
+these letters = matching (iterated copied copied steps letters (λ x t b. b ≡ nat_eq x t)) (copied letters) 0
+
+abbrev pub last : ℕ → List ℕ → Letters
+last passed bytes = record { bytes = bytes; passed = passed }

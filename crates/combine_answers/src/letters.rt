@@ -1,42 +1,54 @@
 //! Calls of `tokens`, by how many tokens they list.
-ghost use Rattle.std.specs.Prelude.{◌≡◌, nat_eq, [], ◌∷◌};
-ghost use Rattle.combine_answers.specs.Letters.{copied, gone_through, these};
+ghost use Rattle.std.specs.Prelude.{◌≡◌, ◌∷◌, [], length, nat_eq};
+ghost use Rattle.std.specs.Iterator.{at_most};
+ghost use Rattle.combine_answers.specs.Letters.{copied, last, left, steps, these};
 
 use crate::show::Show;
-use combine_base::stream::fed;
+use combine_base::error::ParseError;
+use combine_base::stream::Stream;
 use combine_calls::{Call, Visitor};
 use combine_token::token::tokens;
 use std::alloc::{AllocError, Global};
-use std::array::IntoIter;
 
-/// Tokens, one after another.
+/// The last of these tokens, behind as many as are passed.
 #[derive(Drop)]
-pub(crate) struct Letters<const N: usize>([u8; N]);
+pub(crate) struct Letters {
+    bytes: [u8; 5],
+    passed: usize,
+}
 
-impl<const N: usize> Clone for Letters<N> {
+impl Clone for Letters {
     ghost is_clone = { copied };
 
     fn clone(&self) -> Result<Self, AllocError> {
-        Ok(Letters(self.0))
+        Ok(Letters {
+            bytes: self.bytes,
+            passed: self.passed,
+        })
     }
 }
 
-impl<const N: usize> IntoIterator for Letters<N> {
+impl Iterator for Letters {
     type Item = u8;
 
-    type IntoIter = IntoIter<u8, N>;
+    ghost next_gives = { steps };
 
-    ghost into_iter_gives = { gone_through };
+    ghost remaining = { λ s. at_most (length (left s)) };
 
-    fn into_iter(self) -> IntoIter<u8, N> {
-        self.0.into_iter()
+    fn next(&mut self) -> Option<u8> {
+        if self.passed >= 5 {
+            return None;
+        }
+        let letter = self.bytes[self.passed];
+        self.passed += 1;
+        Some(letter)
     }
 }
 
-impl<const N: usize> Show for Letters<N> {
+impl Show for Letters {
     fn show(&self, text: &mut String) -> Result<(), AllocError> {
         text.push('"')?;
-        for letter in self.0.iter() {
+        for letter in self.bytes.iter().skip(self.passed) {
             text.push(char::from(*letter))?;
         }
         text.push('"')
@@ -44,11 +56,14 @@ impl<const N: usize> Show for Letters<N> {
 }
 
 /// Hands on `tokens` of these.
-fn visit_tokens<const N: usize, V: Visitor<fed::Stream<u8>, Letters<N>>>(
-    letters: [u8; N],
+fn visit_tokens<Input: Stream<Token = u8>, V: Visitor<Input, Letters>>(
+    letters: Letters,
     visitor: V,
 ) -> V::Answer
-    requires { V.ready visitor }
+where
+    Input::Error: ParseError<u8, Input::Range, Input::Position>,
+    requires ready { V.ready visitor }
+    requires five { length letters.bytes ≡ 5 }
     ensures { V.answers visitor (these letters) result }
 {
     visitor.visit(tokens(
@@ -56,7 +71,7 @@ fn visit_tokens<const N: usize, V: Visitor<fed::Stream<u8>, Letters<N>>>(
             ensures { result ≡ nat_eq wanted token }
         { wanted == token },
         "these tokens",
-        Letters(letters),
+        letters,
     ))
 }
 
@@ -64,13 +79,23 @@ fn visit_tokens<const N: usize, V: Visitor<fed::Stream<u8>, Letters<N>>>(
 #[derive(Drop)]
 pub(crate) struct Tokens0Call;
 
-impl Call<fed::Stream<u8>> for Tokens0Call {
-    type Output = Letters<0>;
+impl Call for Tokens0Call {
+    type Output = Letters;
 
-    ghost reading = { these ([]) };
+    ghost reading = { λ P step. these (last 5 (0 ∷ 0 ∷ 0 ∷ 0 ∷ 0 ∷ [])) };
 
-    fn accept<V: Visitor<fed::Stream<u8>, Letters<0>>>(alloc: Global, visitor: V) -> V::Answer {
-        visit_tokens([], visitor)
+    fn accept<Input: Stream<Token = u8>, V: Visitor<Input, Letters>>(
+        alloc: Global,
+        visitor: V,
+    ) -> V::Answer
+    where
+        Input::Error: ParseError<u8, Input::Range, Input::Position>,
+    {
+        let letters = Letters {
+            bytes: [0, 0, 0, 0, 0],
+            passed: 5,
+        };
+        visit_tokens(letters, visitor)
     }
 }
 
@@ -78,13 +103,23 @@ impl Call<fed::Stream<u8>> for Tokens0Call {
 #[derive(Drop)]
 pub(crate) struct Tokens1Call<const A: u8>;
 
-impl<const A: u8> Call<fed::Stream<u8>> for Tokens1Call<A> {
-    type Output = Letters<1>;
+impl<const A: u8> Call for Tokens1Call<A> {
+    type Output = Letters;
 
-    ghost reading = { these (A ∷ []) };
+    ghost reading = { λ P step. these (last 4 (0 ∷ 0 ∷ 0 ∷ 0 ∷ A ∷ [])) };
 
-    fn accept<V: Visitor<fed::Stream<u8>, Letters<1>>>(alloc: Global, visitor: V) -> V::Answer {
-        visit_tokens([A], visitor)
+    fn accept<Input: Stream<Token = u8>, V: Visitor<Input, Letters>>(
+        alloc: Global,
+        visitor: V,
+    ) -> V::Answer
+    where
+        Input::Error: ParseError<u8, Input::Range, Input::Position>,
+    {
+        let letters = Letters {
+            bytes: [0, 0, 0, 0, A],
+            passed: 4,
+        };
+        visit_tokens(letters, visitor)
     }
 }
 
@@ -92,13 +127,23 @@ impl<const A: u8> Call<fed::Stream<u8>> for Tokens1Call<A> {
 #[derive(Drop)]
 pub(crate) struct Tokens2Call<const A: u8, const B: u8>;
 
-impl<const A: u8, const B: u8> Call<fed::Stream<u8>> for Tokens2Call<A, B> {
-    type Output = Letters<2>;
+impl<const A: u8, const B: u8> Call for Tokens2Call<A, B> {
+    type Output = Letters;
 
-    ghost reading = { these (A ∷ B ∷ []) };
+    ghost reading = { λ P step. these (last 3 (0 ∷ 0 ∷ 0 ∷ A ∷ B ∷ [])) };
 
-    fn accept<V: Visitor<fed::Stream<u8>, Letters<2>>>(alloc: Global, visitor: V) -> V::Answer {
-        visit_tokens([A, B], visitor)
+    fn accept<Input: Stream<Token = u8>, V: Visitor<Input, Letters>>(
+        alloc: Global,
+        visitor: V,
+    ) -> V::Answer
+    where
+        Input::Error: ParseError<u8, Input::Range, Input::Position>,
+    {
+        let letters = Letters {
+            bytes: [0, 0, 0, A, B],
+            passed: 3,
+        };
+        visit_tokens(letters, visitor)
     }
 }
 
@@ -106,13 +151,23 @@ impl<const A: u8, const B: u8> Call<fed::Stream<u8>> for Tokens2Call<A, B> {
 #[derive(Drop)]
 pub(crate) struct Tokens3Call<const A: u8, const B: u8, const C: u8>;
 
-impl<const A: u8, const B: u8, const C: u8> Call<fed::Stream<u8>> for Tokens3Call<A, B, C> {
-    type Output = Letters<3>;
+impl<const A: u8, const B: u8, const C: u8> Call for Tokens3Call<A, B, C> {
+    type Output = Letters;
 
-    ghost reading = { these (A ∷ B ∷ C ∷ []) };
+    ghost reading = { λ P step. these (last 2 (0 ∷ 0 ∷ A ∷ B ∷ C ∷ [])) };
 
-    fn accept<V: Visitor<fed::Stream<u8>, Letters<3>>>(alloc: Global, visitor: V) -> V::Answer {
-        visit_tokens([A, B, C], visitor)
+    fn accept<Input: Stream<Token = u8>, V: Visitor<Input, Letters>>(
+        alloc: Global,
+        visitor: V,
+    ) -> V::Answer
+    where
+        Input::Error: ParseError<u8, Input::Range, Input::Position>,
+    {
+        let letters = Letters {
+            bytes: [0, 0, A, B, C],
+            passed: 2,
+        };
+        visit_tokens(letters, visitor)
     }
 }
 
@@ -120,13 +175,23 @@ impl<const A: u8, const B: u8, const C: u8> Call<fed::Stream<u8>> for Tokens3Cal
 #[derive(Drop)]
 pub(crate) struct Tokens5Call<const A: u8, const B: u8, const C: u8, const D: u8, const E: u8>;
 
-impl<const A: u8, const B: u8, const C: u8, const D: u8, const E: u8> Call<fed::Stream<u8>>
+impl<const A: u8, const B: u8, const C: u8, const D: u8, const E: u8> Call
     for Tokens5Call<A, B, C, D, E> {
-    type Output = Letters<5>;
+    type Output = Letters;
 
-    ghost reading = { these (A ∷ B ∷ C ∷ D ∷ E ∷ []) };
+    ghost reading = { λ P step. these (last 0 (A ∷ B ∷ C ∷ D ∷ E ∷ [])) };
 
-    fn accept<V: Visitor<fed::Stream<u8>, Letters<5>>>(alloc: Global, visitor: V) -> V::Answer {
-        visit_tokens([A, B, C, D, E], visitor)
+    fn accept<Input: Stream<Token = u8>, V: Visitor<Input, Letters>>(
+        alloc: Global,
+        visitor: V,
+    ) -> V::Answer
+    where
+        Input::Error: ParseError<u8, Input::Range, Input::Position>,
+    {
+        let letters = Letters {
+            bytes: [A, B, C, D, E],
+            passed: 0,
+        };
+        visit_tokens(letters, visitor)
     }
 }

@@ -3,8 +3,8 @@
 //! A case is a parser, written as the call, and the pieces that it is fed. Every parser of the list is built of the constructors, with a type of its own. It is run by a session or over a stream that is fed.
 #![tactic(auto)]
 
-mod answer;
 mod answered;
+mod cases;
 mod feeding;
 mod letters;
 mod list;
@@ -13,4 +13,4 @@ mod run;
 mod show;
 mod text;
 
-pub use answer::{answer, answer_with_unread};
+pub use cases::{answer, answer_with_unread};

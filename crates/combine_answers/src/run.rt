@@ -32,10 +32,7 @@ impl<O: Show> Visitor<fed::Stream<u8>, O> for Runs<'_> {
 }
 
 /// What the parser of a call answers to an input, as text.
-pub(crate) fn answer_of<C: Call<fed::Stream<u8>>>(
-    alloc: Global,
-    feeding: &Feeding<'_>,
-) -> Result<String, AllocError>
+pub(crate) fn answer_of<C: Call>(alloc: Global, feeding: &Feeding<'_>) -> Result<String, AllocError>
 where
     C::Output: Show,
 {

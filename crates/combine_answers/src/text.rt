@@ -64,13 +64,13 @@ pub(crate) use call;
 #[derive(Drop)]
 pub(crate) struct AOrB;
 
-impl Class<u8> for AOrB {
+impl Class for AOrB {
     ghost use Rattle.std.specs.Prelude.{nat_eq};
 
     ghost holds = { λ b. nat_eq b 97 || nat_eq b 98 };
 
-    fn has(token: u8) -> bool {
-        token == b'a' || token == b'b'
+    fn has(byte: u8) -> bool {
+        byte == b'a' || byte == b'b'
     }
 }
 

@@ -8,7 +8,7 @@ use combine_calls::Class;
 #[derive(Drop)]
 pub(crate) struct Letter;
 
-impl Class<u8> for Letter {
+impl Class for Letter {
     ghost holds = { is_ascii_lowercase };
 
     #[inline(always)]
@@ -21,7 +21,7 @@ impl Class<u8> for Letter {
 #[derive(Drop)]
 pub(crate) struct Decimal;
 
-impl Class<u8> for Decimal {
+impl Class for Decimal {
     ghost holds = { is_ascii_digit };
 
     #[inline(always)]
@@ -34,7 +34,7 @@ impl Class<u8> for Decimal {
 #[derive(Drop)]
 pub(crate) struct LetterOrDecimal;
 
-impl Class<u8> for LetterOrDecimal {
+impl Class for LetterOrDecimal {
     ghost holds = { λ b. is_ascii_lowercase b || is_ascii_digit b };
 
     #[inline(always)]

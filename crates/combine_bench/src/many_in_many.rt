@@ -3,7 +3,6 @@ ghost use Rattle.combine_bench.specs.Measures.{Measures, many_in_many, taken};
 
 use crate::classes::Letter;
 use crate::measure::{Taken, measured};
-use crate::run::{Pieces, Whole};
 use combine_calls::{SatisfyCall, SkipMany1Call, SkipManyCall, TokenCall, Tuple2Call};
 use std::alloc::Global;
 
@@ -16,13 +15,5 @@ type Skipped = SkipManyCall<Tuple2Call<Word, TokenCall<b';'>>>;
 pub extern "C" fn combine_bench_many_in_many(alloc: Global, bytes: &[u8], piece: usize) -> u64
     ensures { Measures taken many_in_many bytes.now result }
 {
-    if piece == 0 {
-        return measured::<_, _, Skipped, Taken>(alloc, Whole { bytes });
-    }
-    let pieces = Pieces {
-        alloc,
-        bytes,
-        size: piece,
-    };
-    measured::<_, _, Skipped, Taken>(alloc, pieces)
+    measured::<Skipped, Taken>(alloc, bytes, piece)
 }

@@ -2,9 +2,10 @@
 ghost use Rattle.std.specs.Prelude.{◌≡◌, ℕ};
 ghost use Rattle.combine_base.specs.Parser.Meaning.{Reading};
 ghost use Rattle.combine_bench.specs.Given.{Answers, number};
-ghost use Rattle.combine_bench.specs.Measures.{taken};
+ghost use Rattle.combine_bench.specs.Measures.{Measures, taken};
 
-use crate::run::{Given, Run};
+use crate::run::{Given, Pieces, Run, Whole};
+use combine_base::error::ParseError;
 use combine_base::parser::Parser;
 use combine_base::stream::Stream;
 use combine_calls::{Call, Visitor};
@@ -63,17 +64,39 @@ fn number_of<O: Drop, N: Number<O>>(given: Given<O>) -> u64
     }
 }
 
-/// The number of what the parser of a call gives. Each export has it of one call over both runs.
+/// The number of what the parser of a call gives, by that run.
 #[inline(always)]
-pub(crate) fn measured<Input: Stream, R: Run<Input> + Drop, C: Call<Input>, N: Number<C::Output>>(
+fn measured_by<Input: Stream<Token = u8>, R: Run<Input> + Drop, C: Call, N: Number<C::Output>>(
     alloc: Global,
     run: R,
 ) -> u64
-    ensures { Answers N.number_of C.reading (R.all run) result }
+where
+    Input::Error: ParseError<u8, Input::Range, Input::Position>,
+    ensures { Answers N.number_of (C.reading Input.Position Input.step) (R.all run) result }
 {
     let runs = Runs::<R, N> {
         run,
         numbers: PhantomData,
     };
     C::accept(alloc, runs)
+}
+
+/// The number of what the parser of a call gives, over all bytes where `piece` is 0, else over pieces of that size.
+#[inline(always)]
+pub(crate) fn measured<C: Call, N: Number<C::Output>>(
+    alloc: Global,
+    bytes: &[u8],
+    piece: usize,
+) -> u64
+    ensures { Measures N.number_of C.reading bytes.now result }
+{
+    if piece == 0 {
+        return measured_by::<_, _, C, N>(alloc, Whole { bytes });
+    }
+    let pieces = Pieces {
+        alloc,
+        bytes,
+        size: piece,
+    };
+    measured_by::<_, _, C, N>(alloc, pieces)
 }

@@ -1,17 +1,14 @@
 //! Messages, collected: `del WORD;` or `WORD=DIGITS;`, the word and the digits in vectors.
 ghost use Rattle.std.specs.Prelude.{◌≡◌, ℕ, ◌+◌};
-ghost use Rattle.combine_bench.specs.Measures.{Measures, bytes_of, collected_delete, collected_set, digit, letter, messages_collect, sum};
+ghost use Rattle.combine_bench.specs.Measures.{Measures, messages_collect, sum};
 
 use crate::classes::{Decimal, Letter};
 use crate::del::Del;
 use crate::measure::{Number, measured};
-use crate::run::{Pieces, Whole};
-use combine_base::error::ParseError;
 use combine_base::repeat::Append;
-use combine_base::stream::Stream;
 use combine_calls::{
-    Call, Change, Collect, InVec, Many1Call, ManyCall, MapCall, OrCall, SatisfyCall, TokenCall,
-    Tuple3Call, Tuple4Call, Visitor,
+    Change, Collect, InVec, Many1Call, ManyCall, MapCall, OrCall, SatisfyCall, TokenCall,
+    Tuple3Call, Tuple4Call,
 };
 use std::alloc::{AllocError, Global};
 
@@ -81,13 +78,17 @@ impl Tally {
     }
 }
 
-type WordParts = Many1Call<InVec, SatisfyCall<Letter>>;
+/// The letters of a word.
+type Word = Many1Call<InVec, SatisfyCall<Letter>>;
 
-type DigitsParts = Many1Call<InVec, SatisfyCall<Decimal>>;
+/// The digits that a word is set to.
+type Digits = Many1Call<InVec, SatisfyCall<Decimal>>;
 
-type DeleteParts = MapCall<Tuple3Call<Del, Word, TokenCall<b';'>>, Deleted>;
+/// `del WORD;`
+type Delete = MapCall<Tuple3Call<Del, Word, TokenCall<b';'>>, Deleted>;
 
-type SetParts = MapCall<Tuple4Call<Word, TokenCall<b'='>, Digits, TokenCall<b';'>>, Made>;
+/// `WORD=DIGITS;`
+type Set = MapCall<Tuple4Call<Word, TokenCall<b'='>, Digits, TokenCall<b';'>>, Made>;
 
 type Collected = ManyCall<Tally, OrCall<Delete, Set>>;
 
@@ -96,15 +97,7 @@ type Collected = ManyCall<Tally, OrCall<Delete, Set>>;
 pub extern "C" fn combine_bench_messages_collect(alloc: Global, bytes: &[u8], piece: usize) -> u64
     ensures { Measures sum messages_collect bytes.now result }
 {
-    if piece == 0 {
-        return measured::<_, _, Collected, Sum>(alloc, Whole { bytes });
-    }
-    let pieces = Pieces {
-        alloc,
-        bytes,
-        size: piece,
-    };
-    measured::<_, _, Collected, Sum>(alloc, pieces)
+    measured::<Collected, Sum>(alloc, bytes, piece)
 }
 
 /// The tally, as a number.
@@ -155,77 +148,5 @@ impl Change<(Vec<u8>, u8, Vec<u8>, u8)> for Made {
             word: parts.0,
             digits: Some(parts.2),
         }
-    }
-}
-
-/// The letters of a word.
-#[derive(Drop)]
-struct Word;
-
-impl<Input: Stream<Token = u8>> Call<Input> for Word
-where
-    Input::Error: ParseError<u8, Input::Range, Input::Position>,
-{
-    type Output = Vec<u8>;
-
-    ghost reading = { bytes_of Input.Position Input.step letter };
-
-    #[inline(always)]
-    fn accept<V: Visitor<Input, Vec<u8>>>(alloc: Global, visitor: V) -> V::Answer {
-        WordParts::accept(alloc, visitor)
-    }
-}
-
-/// The digits that a word is set to.
-#[derive(Drop)]
-struct Digits;
-
-impl<Input: Stream<Token = u8>> Call<Input> for Digits
-where
-    Input::Error: ParseError<u8, Input::Range, Input::Position>,
-{
-    type Output = Vec<u8>;
-
-    ghost reading = { bytes_of Input.Position Input.step digit };
-
-    #[inline(always)]
-    fn accept<V: Visitor<Input, Vec<u8>>>(alloc: Global, visitor: V) -> V::Answer {
-        DigitsParts::accept(alloc, visitor)
-    }
-}
-
-/// `del WORD;`
-#[derive(Drop)]
-struct Delete;
-
-impl<Input: Stream<Token = u8>> Call<Input> for Delete
-where
-    Input::Error: ParseError<u8, Input::Range, Input::Position>,
-{
-    type Output = Message;
-
-    ghost reading = { collected_delete Input.Position Input.step };
-
-    #[inline(always)]
-    fn accept<V: Visitor<Input, Message>>(alloc: Global, visitor: V) -> V::Answer {
-        DeleteParts::accept(alloc, visitor)
-    }
-}
-
-/// `WORD=DIGITS;`
-#[derive(Drop)]
-struct Set;
-
-impl<Input: Stream<Token = u8>> Call<Input> for Set
-where
-    Input::Error: ParseError<u8, Input::Range, Input::Position>,
-{
-    type Output = Message;
-
-    ghost reading = { collected_set Input.Position Input.step };
-
-    #[inline(always)]
-    fn accept<V: Visitor<Input, Message>>(alloc: Global, visitor: V) -> V::Answer {
-        SetParts::accept(alloc, visitor)
     }
 }

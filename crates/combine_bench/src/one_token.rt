@@ -3,7 +3,6 @@ ghost use Rattle.combine_bench.specs.Measures.{Measures, one_token, taken};
 
 use crate::classes::LetterOrDecimal;
 use crate::measure::{Taken, measured};
-use crate::run::{Pieces, Whole};
 use combine_calls::{SatisfyCall, SkipManyCall};
 use std::alloc::Global;
 
@@ -14,13 +13,5 @@ type Skipped = SkipManyCall<SatisfyCall<LetterOrDecimal>>;
 pub extern "C" fn combine_bench_one_token(alloc: Global, bytes: &[u8], piece: usize) -> u64
     ensures { Measures taken one_token bytes.now result }
 {
-    if piece == 0 {
-        return measured::<_, _, Skipped, Taken>(alloc, Whole { bytes });
-    }
-    let pieces = Pieces {
-        alloc,
-        bytes,
-        size: piece,
-    };
-    measured::<_, _, Skipped, Taken>(alloc, pieces)
+    measured::<Skipped, Taken>(alloc, bytes, piece)
 }

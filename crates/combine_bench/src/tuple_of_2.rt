@@ -3,7 +3,6 @@ ghost use Rattle.combine_bench.specs.Measures.{Measures, tuple_of_2, taken};
 
 use crate::classes::{Decimal, Letter};
 use crate::measure::{Taken, measured};
-use crate::run::{Pieces, Whole};
 use combine_calls::{SatisfyCall, SkipManyCall, Tuple2Call};
 use std::alloc::Global;
 
@@ -14,13 +13,5 @@ type Skipped = SkipManyCall<Tuple2Call<SatisfyCall<Letter>, SatisfyCall<Decimal>
 pub extern "C" fn combine_bench_tuple_of_2(alloc: Global, bytes: &[u8], piece: usize) -> u64
     ensures { Measures taken tuple_of_2 bytes.now result }
 {
-    if piece == 0 {
-        return measured::<_, _, Skipped, Taken>(alloc, Whole { bytes });
-    }
-    let pieces = Pieces {
-        alloc,
-        bytes,
-        size: piece,
-    };
-    measured::<_, _, Skipped, Taken>(alloc, pieces)
+    measured::<Skipped, Taken>(alloc, bytes, piece)
 }

@@ -1,5 +1,5 @@
 //! Calls of the constructors of single tokens and of values.
-ghost use Rattle.std.specs.Prelude.{◌≡◌, Bool, true};
+ghost use Rattle.std.specs.Prelude.{ℕ, ◌≡◌, Bool, true};
 ghost use Rattle.combine_calls.specs.Parsers.{byte, byte_given, one_where};
 
 use crate::{Call, Visitor};
@@ -13,38 +13,50 @@ use std::marker::PhantomData;
 #[derive(Drop)]
 pub struct AnyCall;
 
-impl<Input: Stream> Call<Input> for AnyCall {
-    type Output = Input::Token;
+impl Call for AnyCall {
+    type Output = u8;
 
-    ghost reading = { one_where (λ t. true) };
+    ghost reading = { λ P step. one_where (λ t. true) };
 
     #[inline(always)]
-    fn accept<V: Visitor<Input, Input::Token>>(alloc: Global, visitor: V) -> V::Answer {
+    fn accept<Input: Stream<Token = u8>, V: Visitor<Input, u8>>(
+        alloc: Global,
+        visitor: V,
+    ) -> V::Answer
+    where
+        Input::Error: ParseError<u8, Input::Range, Input::Position>,
+    {
         visitor.visit(any())
     }
 }
 
-/// A class of tokens.
-pub trait Class<T> {
-    ghost holds: { T → Bool };
+/// A class of bytes.
+pub trait Class {
+    ghost holds: { ℕ → Bool };
 
-    fn has(token: T) -> bool
-        ensures { result ≡ holds token };
+    fn has(byte: u8) -> bool
+        ensures { result ≡ holds byte };
 }
 
 /// `satisfy(C::has)`.
 #[derive(Drop)]
 pub struct SatisfyCall<C>(PhantomData<(C,)>);
 
-impl<Input: Stream, C: Class<Input::Token>> Call<Input> for SatisfyCall<C> {
-    type Output = Input::Token;
+impl<C: Class> Call for SatisfyCall<C> {
+    type Output = u8;
 
-    ghost reading = { one_where C.holds };
+    ghost reading = { λ P step. one_where C.holds };
 
     #[inline(always)]
-    fn accept<V: Visitor<Input, Input::Token>>(alloc: Global, visitor: V) -> V::Answer {
+    fn accept<Input: Stream<Token = u8>, V: Visitor<Input, u8>>(
+        alloc: Global,
+        visitor: V,
+    ) -> V::Answer
+    where
+        Input::Error: ParseError<u8, Input::Range, Input::Position>,
+    {
         visitor.visit(satisfy(
-            |token: Input::Token| -> bool
+            |token: u8| -> bool
                 ensures { result ≡ C.holds token }
             { C::has(token) },
         ))
@@ -55,16 +67,19 @@ impl<Input: Stream, C: Class<Input::Token>> Call<Input> for SatisfyCall<C> {
 #[derive(Drop)]
 pub struct TokenCall<const T: u8>;
 
-impl<Input: Stream<Token = u8>, const T: u8> Call<Input> for TokenCall<T>
-where
-    Input::Error: ParseError<u8, Input::Range, Input::Position>,
-{
+impl<const T: u8> Call for TokenCall<T> {
     type Output = u8;
 
-    ghost reading = { byte T };
+    ghost reading = { λ P step. byte T };
 
     #[inline(always)]
-    fn accept<V: Visitor<Input, u8>>(alloc: Global, visitor: V) -> V::Answer {
+    fn accept<Input: Stream<Token = u8>, V: Visitor<Input, u8>>(
+        alloc: Global,
+        visitor: V,
+    ) -> V::Answer
+    where
+        Input::Error: ParseError<u8, Input::Range, Input::Position>,
+    {
         visitor.visit(token(T))
     }
 }
@@ -73,13 +88,19 @@ where
 #[derive(Drop)]
 pub struct ValueCall<const T: u8>;
 
-impl<Input: Stream, const T: u8> Call<Input> for ValueCall<T> {
+impl<const T: u8> Call for ValueCall<T> {
     type Output = u8;
 
-    ghost reading = { byte_given T };
+    ghost reading = { λ P step. byte_given T };
 
     #[inline(always)]
-    fn accept<V: Visitor<Input, u8>>(alloc: Global, visitor: V) -> V::Answer {
+    fn accept<Input: Stream<Token = u8>, V: Visitor<Input, u8>>(
+        alloc: Global,
+        visitor: V,
+    ) -> V::Answer
+    where
+        Input::Error: ParseError<u8, Input::Range, Input::Position>,
+    {
         visitor.visit(value(T))
     }
 }

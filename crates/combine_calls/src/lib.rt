@@ -1,7 +1,7 @@
 //! Calls of constructors, as types: each makes its parser and hands it on to a visitor. So each constructor is proved once, over any parser within it, and the type of a whole parser is named nowhere.
 #![tactic(auto)]
 
-ghost use Rattle.std.specs.Prelude.{◌≡◌};
+ghost use Rattle.std.specs.Prelude.{ℕ};
 ghost use Rattle.combine_base.specs.Parser.Meaning.{Reading};
 
 mod leaves;
@@ -10,6 +10,7 @@ mod of_one;
 mod of_several;
 mod repeats;
 
+use combine_base::error::ParseError;
 use combine_base::parser::Parser;
 use combine_base::stream::Stream;
 pub use leaves::{AnyCall, Class, SatisfyCall, TokenCall, ValueCall};
@@ -19,18 +20,23 @@ pub use of_several::{OrCall, Tuple1Call, Tuple2Call};
 pub use repeats::{Collect, InVec, Many1Call, ManyCall, SkipMany1Call, SkipManyCall};
 use std::alloc::Global;
 
-/// A call of a constructor, over that stream.
-pub trait Call<Input: Stream> {
+/// A call of a constructor, over any stream of bytes.
+pub trait Call {
     /// The values of its parser.
     type Output: Drop;
 
-    /// What its parser means from the start.
-    ghost reading: { Reading Input.Position Input.Token Self.Output };
+    /// What its parser means from the start, over a stream of such positions and steps.
+    ghost reading: { (P : Type 0) → (P → ℕ → P) → Reading P ℕ Self.Output };
 
     /// Makes the parser and hands it to that visitor, whose answer it gives.
-    fn accept<V: Visitor<Input, Self::Output>>(alloc: Global, visitor: V) -> V::Answer
+    fn accept<Input: Stream<Token = u8>, V: Visitor<Input, Self::Output>>(
+        alloc: Global,
+        visitor: V,
+    ) -> V::Answer
+    where
+        Input::Error: ParseError<u8, Input::Range, Input::Position>,
         requires { V.ready visitor }
-        ensures { V.answers visitor reading result };
+        ensures { V.answers visitor (reading Input.Position Input.step) result };
 }
 
 /// What is done with a parser of such values.

@@ -3,6 +3,7 @@ ghost use Rattle.std.specs.Prelude.{◌≡◌};
 ghost use Rattle.combine_calls.specs.Parsers.{quadruple, triple};
 
 use crate::{Call, Visitor};
+use combine_base::error::ParseError;
 use combine_base::parser::Parser;
 use combine_base::stream::Stream;
 use std::alloc::Global;
@@ -12,17 +13,19 @@ use std::marker::PhantomData;
 #[derive(Drop)]
 pub struct Tuple3Call<A, B, C>(PhantomData<(A, B, C)>);
 
-impl<Input: Stream, A: Call<Input>, B: Call<Input>, C: Call<Input>> Call<Input>
-    for Tuple3Call<A, B, C> {
+impl<A: Call, B: Call, C: Call> Call for Tuple3Call<A, B, C> {
     type Output = (A::Output, B::Output, C::Output);
 
-    ghost reading = { triple Input.step A.reading B.reading C.reading };
+    ghost reading = { λ P step. triple step (A.reading P step) (B.reading P step) (C.reading P step) };
 
     #[inline(always)]
-    fn accept<V: Visitor<Input, (A::Output, B::Output, C::Output)>>(
+    fn accept<Input: Stream<Token = u8>, V: Visitor<Input, (A::Output, B::Output, C::Output)>>(
         alloc: Global,
         visitor: V,
-    ) -> V::Answer {
+    ) -> V::Answer
+    where
+        Input::Error: ParseError<u8, Input::Range, Input::Position>,
+    {
         let first = Tuple3First::<B, C, V> {
             alloc,
             next: visitor,
@@ -41,17 +44,20 @@ struct Tuple3First<B, C, V> {
 }
 
 impl<
-    Input: Stream,
+    Input: Stream<Token = u8>,
     O: Drop,
-    B: Call<Input>,
-    C: Call<Input>,
+    B: Call,
+    C: Call,
     V: Visitor<Input, (O, B::Output, C::Output)>,
-> Visitor<Input, O> for Tuple3First<B, C, V> {
+> Visitor<Input, O> for Tuple3First<B, C, V>
+where
+    Input::Error: ParseError<u8, Input::Range, Input::Position>,
+{
     type Answer = V::Answer;
 
     ghost ready = { λ s. V.ready s.next };
 
-    ghost answers = { λ s r n. V.answers s.next (triple Input.step r B.reading C.reading) n };
+    ghost answers = { λ s r n. V.answers s.next (triple Input.step r (B.reading Input.Position Input.step) (C.reading Input.Position Input.step)) n };
 
     #[inline(always)]
     fn visit<P: Parser<Input, Output = O> + Drop>(self, parser: P) -> V::Answer {
@@ -75,17 +81,20 @@ struct Tuple3Second<P, C, V> {
 }
 
 impl<
-    Input: Stream,
+    Input: Stream<Token = u8>,
     O: Drop,
     P: Parser<Input> + Drop,
-    C: Call<Input>,
+    C: Call,
     V: Visitor<Input, (P::Output, O, C::Output)>,
-> Visitor<Input, O> for Tuple3Second<P, C, V> {
+> Visitor<Input, O> for Tuple3Second<P, C, V>
+where
+    Input::Error: ParseError<u8, Input::Range, Input::Position>,
+{
     type Answer = V::Answer;
 
     ghost ready = { λ s. P.lawful s.first × V.ready s.next };
 
-    ghost answers = { λ s r n. V.answers s.next (triple Input.step (P.meaning s.first).whole r C.reading) n };
+    ghost answers = { λ s r n. V.answers s.next (triple Input.step (P.meaning s.first).whole r (C.reading Input.Position Input.step)) n };
 
     #[inline(always)]
     fn visit<Q: Parser<Input, Output = O> + Drop>(self, parser: Q) -> V::Answer {
@@ -129,17 +138,19 @@ impl<
 #[derive(Drop)]
 pub struct Tuple4Call<A, B, C, D>(PhantomData<(A, B, C, D)>);
 
-impl<Input: Stream, A: Call<Input>, B: Call<Input>, C: Call<Input>, D: Call<Input>> Call<Input>
-    for Tuple4Call<A, B, C, D> {
+impl<A: Call, B: Call, C: Call, D: Call> Call for Tuple4Call<A, B, C, D> {
     type Output = (A::Output, B::Output, C::Output, D::Output);
 
-    ghost reading = { quadruple Input.step A.reading B.reading C.reading D.reading };
+    ghost reading = { λ P step. quadruple step (A.reading P step) (B.reading P step) (C.reading P step) (D.reading P step) };
 
     #[inline(always)]
-    fn accept<V: Visitor<Input, (A::Output, B::Output, C::Output, D::Output)>>(
-        alloc: Global,
-        visitor: V,
-    ) -> V::Answer {
+    fn accept<
+        Input: Stream<Token = u8>,
+        V: Visitor<Input, (A::Output, B::Output, C::Output, D::Output)>,
+    >(alloc: Global, visitor: V) -> V::Answer
+    where
+        Input::Error: ParseError<u8, Input::Range, Input::Position>,
+    {
         let first = Tuple4First::<B, C, D, V> {
             alloc,
             next: visitor,
@@ -158,18 +169,21 @@ struct Tuple4First<B, C, D, V> {
 }
 
 impl<
-    Input: Stream,
+    Input: Stream<Token = u8>,
     O: Drop,
-    B: Call<Input>,
-    C: Call<Input>,
-    D: Call<Input>,
+    B: Call,
+    C: Call,
+    D: Call,
     V: Visitor<Input, (O, B::Output, C::Output, D::Output)>,
-> Visitor<Input, O> for Tuple4First<B, C, D, V> {
+> Visitor<Input, O> for Tuple4First<B, C, D, V>
+where
+    Input::Error: ParseError<u8, Input::Range, Input::Position>,
+{
     type Answer = V::Answer;
 
     ghost ready = { λ s. V.ready s.next };
 
-    ghost answers = { λ s r n. V.answers s.next (quadruple Input.step r B.reading C.reading D.reading) n };
+    ghost answers = { λ s r n. V.answers s.next (quadruple Input.step r (B.reading Input.Position Input.step) (C.reading Input.Position Input.step) (D.reading Input.Position Input.step)) n };
 
     #[inline(always)]
     fn visit<P: Parser<Input, Output = O> + Drop>(self, parser: P) -> V::Answer {
@@ -193,18 +207,21 @@ struct Tuple4Second<P, C, D, V> {
 }
 
 impl<
-    Input: Stream,
+    Input: Stream<Token = u8>,
     O: Drop,
     P: Parser<Input> + Drop,
-    C: Call<Input>,
-    D: Call<Input>,
+    C: Call,
+    D: Call,
     V: Visitor<Input, (P::Output, O, C::Output, D::Output)>,
-> Visitor<Input, O> for Tuple4Second<P, C, D, V> {
+> Visitor<Input, O> for Tuple4Second<P, C, D, V>
+where
+    Input::Error: ParseError<u8, Input::Range, Input::Position>,
+{
     type Answer = V::Answer;
 
     ghost ready = { λ s. P.lawful s.first × V.ready s.next };
 
-    ghost answers = { λ s r n. V.answers s.next (quadruple Input.step (P.meaning s.first).whole r C.reading D.reading) n };
+    ghost answers = { λ s r n. V.answers s.next (quadruple Input.step (P.meaning s.first).whole r (C.reading Input.Position Input.step) (D.reading Input.Position Input.step)) n };
 
     #[inline(always)]
     fn visit<Q: Parser<Input, Output = O> + Drop>(self, parser: Q) -> V::Answer {
@@ -230,18 +247,21 @@ struct Tuple4Third<P, Q, D, V> {
 }
 
 impl<
-    Input: Stream,
+    Input: Stream<Token = u8>,
     O: Drop,
     P: Parser<Input> + Drop,
     Q: Parser<Input> + Drop,
-    D: Call<Input>,
+    D: Call,
     V: Visitor<Input, (P::Output, Q::Output, O, D::Output)>,
-> Visitor<Input, O> for Tuple4Third<P, Q, D, V> {
+> Visitor<Input, O> for Tuple4Third<P, Q, D, V>
+where
+    Input::Error: ParseError<u8, Input::Range, Input::Position>,
+{
     type Answer = V::Answer;
 
     ghost ready = { λ s. P.lawful s.first × Q.lawful s.second × V.ready s.next };
 
-    ghost answers = { λ s r n. V.answers s.next (quadruple Input.step (P.meaning s.first).whole (Q.meaning s.second).whole r D.reading) n };
+    ghost answers = { λ s r n. V.answers s.next (quadruple Input.step (P.meaning s.first).whole (Q.meaning s.second).whole r (D.reading Input.Position Input.step)) n };
 
     #[inline(always)]
     fn visit<R: Parser<Input, Output = O> + Drop>(self, parser: R) -> V::Answer {

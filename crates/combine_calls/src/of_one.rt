@@ -4,6 +4,7 @@ ghost use Rattle.combine_base.specs.Parser.Mapped.{mapped_reading};
 ghost use Rattle.combine_calls.specs.Parsers.{maybe, put_back};
 
 use crate::{Call, Visitor};
+use combine_base::error::ParseError;
 use combine_base::parser::Parser;
 use combine_base::stream::Stream;
 use combine_map::combinator::{attempt, map};
@@ -19,13 +20,19 @@ pub struct AttemptCall<C>(PhantomData<C>);
 #[derive(Drop)]
 struct AttemptNext<V>(V);
 
-impl<Input: Stream, C: Call<Input>> Call<Input> for AttemptCall<C> {
+impl<C: Call> Call for AttemptCall<C> {
     type Output = C::Output;
 
-    ghost reading = { put_back Input.step C.reading };
+    ghost reading = { λ P step. put_back step (C.reading P step) };
 
     #[inline(always)]
-    fn accept<V: Visitor<Input, C::Output>>(alloc: Global, visitor: V) -> V::Answer {
+    fn accept<Input: Stream<Token = u8>, V: Visitor<Input, C::Output>>(
+        alloc: Global,
+        visitor: V,
+    ) -> V::Answer
+    where
+        Input::Error: ParseError<u8, Input::Range, Input::Position>,
+    {
         C::accept(alloc, AttemptNext(visitor))
     }
 }
@@ -51,13 +58,19 @@ pub struct OptionalCall<C>(PhantomData<C>);
 #[derive(Drop)]
 struct OptionalNext<V>(V);
 
-impl<Input: Stream, C: Call<Input>> Call<Input> for OptionalCall<C> {
+impl<C: Call> Call for OptionalCall<C> {
     type Output = Option<C::Output>;
 
-    ghost reading = { maybe C.reading };
+    ghost reading = { λ P step. maybe (C.reading P step) };
 
     #[inline(always)]
-    fn accept<V: Visitor<Input, Option<C::Output>>>(alloc: Global, visitor: V) -> V::Answer {
+    fn accept<Input: Stream<Token = u8>, V: Visitor<Input, Option<C::Output>>>(
+        alloc: Global,
+        visitor: V,
+    ) -> V::Answer
+    where
+        Input::Error: ParseError<u8, Input::Range, Input::Position>,
+    {
         C::accept(alloc, OptionalNext(visitor))
     }
 }
@@ -97,13 +110,19 @@ struct MapNext<M, V> {
     changes: PhantomData<(M,)>,
 }
 
-impl<Input: Stream, C: Call<Input>, M: Change<C::Output>> Call<Input> for MapCall<C, M> {
+impl<C: Call, M: Change<C::Output>> Call for MapCall<C, M> {
     type Output = M::Output;
 
-    ghost reading = { mapped_reading C.reading M.makes };
+    ghost reading = { λ P step. mapped_reading (C.reading P step) M.makes };
 
     #[inline(always)]
-    fn accept<V: Visitor<Input, M::Output>>(alloc: Global, visitor: V) -> V::Answer {
+    fn accept<Input: Stream<Token = u8>, V: Visitor<Input, M::Output>>(
+        alloc: Global,
+        visitor: V,
+    ) -> V::Answer
+    where
+        Input::Error: ParseError<u8, Input::Range, Input::Position>,
+    {
         let next = MapNext::<M, V> {
             next: visitor,
             changes: PhantomData,

@@ -3,6 +3,7 @@ ghost use Rattle.std.specs.Prelude.{◌≡◌};
 ghost use Rattle.combine_calls.specs.Parsers.{either, pair, single};
 
 use crate::{Call, Visitor};
+use combine_base::error::ParseError;
 use combine_base::parser::Parser;
 use combine_base::stream::Stream;
 use combine_token::choice::or;
@@ -13,14 +14,19 @@ use std::marker::PhantomData;
 #[derive(Drop)]
 pub struct OrCall<A, B>(PhantomData<(A, B)>);
 
-impl<Input: Stream, A: Call<Input>, B: Call<Input, Output = A::Output>> Call<Input>
-    for OrCall<A, B> {
+impl<A: Call, B: Call<Output = A::Output>> Call for OrCall<A, B> {
     type Output = A::Output;
 
-    ghost reading = { either A.reading B.reading };
+    ghost reading = { λ P step. either (A.reading P step) (B.reading P step) };
 
     #[inline(always)]
-    fn accept<V: Visitor<Input, A::Output>>(alloc: Global, visitor: V) -> V::Answer {
+    fn accept<Input: Stream<Token = u8>, V: Visitor<Input, A::Output>>(
+        alloc: Global,
+        visitor: V,
+    ) -> V::Answer
+    where
+        Input::Error: ParseError<u8, Input::Range, Input::Position>,
+    {
         let first = OrFirst::<B, V> {
             alloc,
             next: visitor,
@@ -38,13 +44,18 @@ struct OrFirst<B, V> {
     calls: PhantomData<(B,)>,
 }
 
-impl<Input: Stream, O: Drop, B: Call<Input, Output = O>, V: Visitor<Input, O>> Visitor<Input, O>
-    for OrFirst<B, V> {
+impl<Input: Stream<Token = u8>, O: Drop, B: Call<Output = O>, V: Visitor<Input, O>> Visitor<
+    Input,
+    O,
+> for OrFirst<B, V>
+where
+    Input::Error: ParseError<u8, Input::Range, Input::Position>,
+{
     type Answer = V::Answer;
 
     ghost ready = { λ s. V.ready s.next };
 
-    ghost answers = { λ s r n. V.answers s.next (either r B.reading) n };
+    ghost answers = { λ s r n. V.answers s.next (either r (B.reading Input.Position Input.step)) n };
 
     #[inline(always)]
     fn visit<P: Parser<Input, Output = O> + Drop>(self, parser: P) -> V::Answer {
@@ -87,13 +98,19 @@ pub struct Tuple1Call<A>(PhantomData<(A,)>);
 #[derive(Drop)]
 struct Tuple1Next<V>(V);
 
-impl<Input: Stream, A: Call<Input>> Call<Input> for Tuple1Call<A> {
+impl<A: Call> Call for Tuple1Call<A> {
     type Output = (A::Output,);
 
-    ghost reading = { single A.reading };
+    ghost reading = { λ P step. single (A.reading P step) };
 
     #[inline(always)]
-    fn accept<V: Visitor<Input, (A::Output,)>>(alloc: Global, visitor: V) -> V::Answer {
+    fn accept<Input: Stream<Token = u8>, V: Visitor<Input, (A::Output,)>>(
+        alloc: Global,
+        visitor: V,
+    ) -> V::Answer
+    where
+        Input::Error: ParseError<u8, Input::Range, Input::Position>,
+    {
         A::accept(alloc, Tuple1Next(visitor))
     }
 }
@@ -115,13 +132,19 @@ impl<Input: Stream, O: Drop, V: Visitor<Input, (O,)>> Visitor<Input, O> for Tupl
 #[derive(Drop)]
 pub struct Tuple2Call<A, B>(PhantomData<(A, B)>);
 
-impl<Input: Stream, A: Call<Input>, B: Call<Input>> Call<Input> for Tuple2Call<A, B> {
+impl<A: Call, B: Call> Call for Tuple2Call<A, B> {
     type Output = (A::Output, B::Output);
 
-    ghost reading = { pair Input.step A.reading B.reading };
+    ghost reading = { λ P step. pair step (A.reading P step) (B.reading P step) };
 
     #[inline(always)]
-    fn accept<V: Visitor<Input, (A::Output, B::Output)>>(alloc: Global, visitor: V) -> V::Answer {
+    fn accept<Input: Stream<Token = u8>, V: Visitor<Input, (A::Output, B::Output)>>(
+        alloc: Global,
+        visitor: V,
+    ) -> V::Answer
+    where
+        Input::Error: ParseError<u8, Input::Range, Input::Position>,
+    {
         let first = Tuple2First::<B, V> {
             alloc,
             next: visitor,
@@ -139,13 +162,18 @@ struct Tuple2First<B, V> {
     calls: PhantomData<(B,)>,
 }
 
-impl<Input: Stream, O: Drop, B: Call<Input>, V: Visitor<Input, (O, B::Output)>> Visitor<Input, O>
-    for Tuple2First<B, V> {
+impl<Input: Stream<Token = u8>, O: Drop, B: Call, V: Visitor<Input, (O, B::Output)>> Visitor<
+    Input,
+    O,
+> for Tuple2First<B, V>
+where
+    Input::Error: ParseError<u8, Input::Range, Input::Position>,
+{
     type Answer = V::Answer;
 
     ghost ready = { λ s. V.ready s.next };
 
-    ghost answers = { λ s r n. V.answers s.next (pair Input.step r B.reading) n };
+    ghost answers = { λ s r n. V.answers s.next (pair Input.step r (B.reading Input.Position Input.step)) n };
 
     #[inline(always)]
     fn visit<P: Parser<Input, Output = O> + Drop>(self, parser: P) -> V::Answer {

@@ -4,6 +4,7 @@ ghost use Rattle.combine_repeat.specs.Repetition.{appended};
 ghost use Rattle.combine_calls.specs.Parsers.{collecting, collecting1, skipping, skipping1};
 
 use crate::{Call, Visitor};
+use combine_base::error::ParseError;
 use combine_base::parser::Parser;
 use combine_base::repeat::Append;
 use combine_base::stream::Stream;
@@ -19,13 +20,19 @@ pub struct SkipManyCall<C>(PhantomData<C>);
 #[derive(Drop)]
 struct SkipManyNext<V>(V);
 
-impl<Input: Stream, C: Call<Input>> Call<Input> for SkipManyCall<C> {
+impl<C: Call> Call for SkipManyCall<C> {
     type Output = ();
 
-    ghost reading = { skipping Input.step C.reading };
+    ghost reading = { λ P step. skipping step (C.reading P step) };
 
     #[inline(always)]
-    fn accept<V: Visitor<Input, ()>>(alloc: Global, visitor: V) -> V::Answer {
+    fn accept<Input: Stream<Token = u8>, V: Visitor<Input, ()>>(
+        alloc: Global,
+        visitor: V,
+    ) -> V::Answer
+    where
+        Input::Error: ParseError<u8, Input::Range, Input::Position>,
+    {
         C::accept(alloc, SkipManyNext(visitor))
     }
 }
@@ -51,13 +58,19 @@ pub struct SkipMany1Call<C>(PhantomData<C>);
 #[derive(Drop)]
 struct SkipMany1Next<V>(V);
 
-impl<Input: Stream, C: Call<Input>> Call<Input> for SkipMany1Call<C> {
+impl<C: Call> Call for SkipMany1Call<C> {
     type Output = ();
 
-    ghost reading = { skipping1 Input.step C.reading };
+    ghost reading = { λ P step. skipping1 step (C.reading P step) };
 
     #[inline(always)]
-    fn accept<V: Visitor<Input, ()>>(alloc: Global, visitor: V) -> V::Answer {
+    fn accept<Input: Stream<Token = u8>, V: Visitor<Input, ()>>(
+        alloc: Global,
+        visitor: V,
+    ) -> V::Answer
+    where
+        Input::Error: ParseError<u8, Input::Range, Input::Position>,
+    {
         C::accept(alloc, SkipMany1Next(visitor))
     }
 }
@@ -100,13 +113,19 @@ struct ManyNext<K, V> {
     collects: PhantomData<(K,)>,
 }
 
-impl<Input: Stream, C: Call<Input>, K: Collect<C::Output>> Call<Input> for ManyCall<K, C> {
+impl<C: Call, K: Collect<C::Output>> Call for ManyCall<K, C> {
     type Output = K::Into;
 
-    ghost reading = { collecting Input.step (appended K.Into.held K.Into.none K.Into.more K.Into.lean) C.reading };
+    ghost reading = { λ P step. collecting step (appended K.Into.held K.Into.none K.Into.more K.Into.lean) (C.reading P step) };
 
     #[inline(always)]
-    fn accept<V: Visitor<Input, K::Into>>(alloc: Global, visitor: V) -> V::Answer {
+    fn accept<Input: Stream<Token = u8>, V: Visitor<Input, K::Into>>(
+        alloc: Global,
+        visitor: V,
+    ) -> V::Answer
+    where
+        Input::Error: ParseError<u8, Input::Range, Input::Position>,
+    {
         let next = ManyNext::<K, V> {
             alloc,
             next: visitor,
@@ -142,13 +161,19 @@ struct Many1Next<K, V> {
     collects: PhantomData<(K,)>,
 }
 
-impl<Input: Stream, C: Call<Input>, K: Collect<C::Output>> Call<Input> for Many1Call<K, C> {
+impl<C: Call, K: Collect<C::Output>> Call for Many1Call<K, C> {
     type Output = K::Into;
 
-    ghost reading = { collecting1 Input.step (appended K.Into.held K.Into.none K.Into.more K.Into.lean) C.reading };
+    ghost reading = { λ P step. collecting1 step (appended K.Into.held K.Into.none K.Into.more K.Into.lean) (C.reading P step) };
 
     #[inline(always)]
-    fn accept<V: Visitor<Input, K::Into>>(alloc: Global, visitor: V) -> V::Answer {
+    fn accept<Input: Stream<Token = u8>, V: Visitor<Input, K::Into>>(
+        alloc: Global,
+        visitor: V,
+    ) -> V::Answer
+    where
+        Input::Error: ParseError<u8, Input::Range, Input::Position>,
+    {
         let next = Many1Next::<K, V> {
             alloc,
             next: visitor,

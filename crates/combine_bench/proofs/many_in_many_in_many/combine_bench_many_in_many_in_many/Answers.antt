@@ -1,8 +1,0 @@
-use Rattle.std.proofs.Common.{inl, inr}
-use Rattle.combine_bench.proofs.many_in_many_in_many.combine_bench_many_in_many_in_many.Goals as goal
-
-pub returns-then-piece-eq0 : goal.returns-then-piece-eq0
-returns-then-piece-eq0 c = inl c.measured.ensures
-
-pub returns : goal.returns
-returns c = inr c.measured-2.ensures
