@@ -9,7 +9,7 @@ use Rattle.combine_base.specs.Stream.Calls.{TakesToken}
 use Rattle.combine_base.specs.Parser.Answer.{Run, World, Answers, Refuses, Leaves, fails, peeks, world}
 use Rattle.combine_base.specs.Refusals.{Peeked}
 use Rattle.combine_base.specs.Parser.Judged.{IsRefusal}
-use Rattle.combine_base.specs.Parser.Reasons.{Reasoned, RefusedWith}
+use Rattle.combine_base.specs.Parser.Reasons.{Reasoned}
 use Rattle.combine_base.proofs.Calls.{peeked_refusal}
 use Rattle.combine_base.proofs.Distances.{takes_token}
 use Rattle.combine_base.proofs.Progress.{takes_more, takes_none, moves_more}

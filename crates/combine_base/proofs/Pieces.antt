@@ -1,5 +1,5 @@
 -- a session that is fed one piece after another, until it decides
-use Rattle.std.proofs.Common.{ℕ, ◌+◌, ◌-◌, ◌^◌, ◌<◌, ◌≤◌, ◌≡◌, ◌≢◌, refl, sym, ◌∙◌, ap, subst, List, [], ◌∷◌, ◌++◌, length, take, drop, get_or, Bool, true, false, append_assoc, arith, Result, Ok, Err, ⊎_elim}
+use Rattle.std.proofs.Common.{ℕ, ◌+◌, ◌-◌, ◌<◌, ◌≤◌, ◌≡◌, ◌≢◌, refl, sym, ◌∙◌, ap, subst, List, [], ◌∷◌, ◌++◌, length, take, drop, get_or, Bool, true, false, append_assoc, arith, Result, Ok, Err, ⊎_elim}
 use Rattle.std.proofs.Math.Decide.{dec_lt}
 use Rattle.std.proofs.Math.Nat.{eq-or-lt_of_le}
 use Rattle.std.proofs.Math.Seq.{take-append-add}

@@ -1,6 +1,6 @@
 -- streams whose reads and resets never fail
-use Rattle.std.specs.Prelude.{◌<◌, ◌≤◌, ◌≡◌, Bool, true, false, Result, Ok, Err, refl}
-use Rattle.std.proofs.Common.{arith, subst, ap, sym}
+use Rattle.std.specs.Prelude.{◌<◌, ◌≡◌, Bool, true, Result, Ok, Err}
+use Rattle.std.proofs.Common.{arith, subst}
 use Rattle.combine_base.specs.Stream.View.{View}
 use Rattle.combine_base.specs.Error.Errors.{Errors}
 use Rattle.combine_base.specs.Error.Results.{as_result}
