@@ -6,13 +6,13 @@ use Rattle.combine_base.specs.Error.Errors.{Errors, Says, Added, Unstored}
 use Rattle.combine_base.specs.Parser.Meaning.{Meaning, MeansSame}
 use Rattle.combine_base.specs.Parser.Drivers.{AtToken, Explained, Broke, LooksAt}
 use Rattle.combine_base.specs.Stream.Calls.{TakesToken}
-use Rattle.combine_base.specs.Parser.Answer.{Run, World, Answers, Refuses, Leaves, fails}
+use Rattle.combine_base.specs.Parser.Answer.{Run, World, Answers, Refuses, Leaves, fails, peeks, world}
 use Rattle.combine_base.specs.Refusals.{Peeked}
 use Rattle.combine_base.specs.Parser.Judged.{IsRefusal}
-use Rattle.combine_base.specs.Parser.Reasons.{Reasoned, RefusedWith}
+use Rattle.combine_base.specs.Parser.Reasons.{Reasoned}
 use Rattle.combine_base.proofs.Calls.{peeked_refusal}
 use Rattle.combine_base.proofs.Distances.{takes_token}
-use Rattle.combine_base.proofs.Progress.{takes_more, moves_more}
+use Rattle.combine_base.proofs.Progress.{takes_more, takes_none, moves_more}
 use Rattle.combine_base.specs.declared.stream.Kind.{Kind}
 use Rattle.combine_base.specs.declared.stream.Kind.TheVariants as kinds
 use Rattle.combine_base.specs.declared.stream.Failures.{Failures}
@@ -87,3 +87,36 @@ module _ {P T R V S E : Type 0} (w : World P T S E) (m : Meaning P T R V S) (r :
       by_kind kinds.End h = absurd h
       by_kind kinds.Memory h = absurd h
       by_kind kinds.Lost h = absurd h
+
+-- the stream was put back, and the error was made to say what was expected
+module _ {P T R V S E : Type 0} (step : P → T → P) (s : Errors T R P E) (steady : Type 0) (fresh : S → Type 0) (m : Meaning P T R V S) (r : Run P T S) (new : View P T) (after : Failures) (back : new ≡ r.old) (unbroken : steady → after ≡ r.after) where
+  abbrev explained_world : World P T S E
+  explained_world = world step s steady fresh
+
+  abbrev explained_run : Run P T S
+  explained_run = then explained_world m r new after
+
+  refuses_back : Refuses explained_world m r false → Refuses explained_world m explained_run false
+  refuses_back p = record { meant = p.meant; leaves = record { count = 0; taken = rw back (takes_none step r.old); state = p.leaves.state }; failures = λ i. unbroken i ∙ p.failures i }
+
+  peeks_back : (k : Kind) → peeks explained_world m r k → peeks explained_world m explained_run k
+  peeks_back kinds.Refused p = refuses_back p
+  peeks_back kinds.End p = (p.0, refuses_back p.1)
+  peeks_back kinds.Memory p = p
+  peeks_back kinds.Read p = p
+  peeks_back kinds.Reset p = p
+  peeks_back kinds.Lost p = p
+
+  pub explained_answers : (t : Tracked E) (own : E) (lean : Type 0) (adds : List (Item T R) → Type 0) → (m.lean → lean) → Answers explained_world m r (PeekErr t) → Says s lean adds t.error own → (result : ParseResult V E) → Peeked s.kind own result → Answers explained_world m explained_run result
+  explained_answers t own lean adds g p a (CommitOk v) q = absurd q.is
+  explained_answers t own lean adds g p a (PeekOk v) q = absurd q.is
+  explained_answers t own lean adds g p a (CommitErr e) q = record { is = rw (q.is.0, q.is.1) (λ f l. by_case a.is f l, (refuses_back (peeked_refusal explained_world m r (s.kind t.error) p.is)).leaves) }
+    where
+      by_case : ((is : List (Item T R)) × adds is × Added s is t.error own) ⊎ Unstored s lean t.error own → s.frugal → m.lean → ⊥
+      by_case (inl k) f l = subst (λ x. peeks explained_world m r x) (sym k.2.kind ∙ q.is.1) p.is
+      by_case (inr u) f l = u.memory f (g l)
+  explained_answers t own lean adds g p a (PeekErr u) q = record { is = rw q.is.0 (by_case a.is) }
+    where
+      by_case : ((is : List (Item T R)) × adds is × Added s is t.error own) ⊎ Unstored s lean t.error own → peeks explained_world m explained_run (s.kind own)
+      by_case (inl k) = rw k.2.kind (peeks_back (s.kind t.error) p.is)
+      by_case (inr x) = absurd (q.is.1 x.kind)
