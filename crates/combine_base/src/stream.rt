@@ -138,11 +138,18 @@ pub fn has_taken<Input: Stream>(begun: bool, since: Input::Position, input: &Inp
     begun || since.cmp(&input.position()).is_ne()
 }
 
+/// Whether a read that gave no token, for that reason, found the end of an open stream.
+pub fn ends_open<Input: Stream>(why: Kind, input: &Input) -> bool
+    ensures { (result ≡ true) ↔ ((why ≡ Kind.End) × ((Input.view input.now).is_open ≡ true)) }
+{
+    why == Kind::End && input.is_partial()
+}
+
 /// Whether a committed error means need of more.
 pub fn needs_more<Input: Stream>(input: &Input, error: &Input::Error) -> bool
     ensures { (result ≡ true) ↔ ((Input.Error.seen.kind error.now ≡ Kind.End) × ((Input.view input.now).is_open ≡ true)) }
 {
-    error.kind() == Kind::End && input.is_partial()
+    ends_open(error.kind(), input)
 }
 
 /// Whether an answer is need of more.

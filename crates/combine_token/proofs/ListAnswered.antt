@@ -6,6 +6,7 @@ use Rattle.combine_base.specs.Error.Errors.{Errors, Added, Unstored}
 use Rattle.combine_base.specs.Parser.Outcome.{Outcome, Accepted, Refused, Undecided, after}
 use Rattle.combine_base.specs.Parser.Meaning.{Meaning, begun}
 use Rattle.combine_base.specs.Refusals.{NoToken, Told}
+use Rattle.combine_base.specs.Sequence.Parts.{accepted_as, refused_as}
 use Rattle.combine_base.specs.Stream.Calls.{TakesToken, FindsEnd, no_token}
 use Rattle.combine_base.specs.Parser.Answer.{Run, World, Answers, Accepts, Refuses, Asks, Leaves, fails, ends, peeks, answers}
 use Rattle.combine_base.proofs.Progress.{progress_outcome, takes_none, takes_more, takes_open, moves_none}
@@ -36,9 +37,15 @@ module _ {T V : Type 0} (l : TokenList T) (gives : V → Type 0) (n : ℕ) where
   pub stops_at_token : (b : Bool) (us vs : List T) (t : T) → us ≡ t ∷ vs → l.fits n t false → stops l n b us
   stops_at_token b us vs t i f = rw i f
 
--- the end of an ended list, after a token was taken
-pub end_committed : {V V' E : Type 0} (kind : E → Kind) (frugal : Type 0) (is_open committed : Bool) (why : Kind) (t : Tracked E) → NoToken {V = V} kind frugal is_open why (PeekErr t) → committed ≡ true → FindsNone {V = V'} kind frugal is_open committed why (CommitErr t.error)
-end_committed kind frugal is_open committed why t h k = record { is = inl (h.is.0 ∙ sym h.is.1, λ i j. k) }
+-- an acceptance with a clone of the list, committed or not
+pub accepts_as : {V E : Type 0} (kind : E → Kind) (gives : V → Type 0) (infallible : Type 0) (committed : Bool) (v : V) → gives v → given.Accepted kind gives infallible committed (accepted_as committed v)
+accepts_as kind gives infallible true v p = record { is = (p, refl) }
+accepts_as kind gives infallible false v p = record { is = (p, refl) }
+
+-- the refusal at the end of an ended list, committed or not
+pub end_refused : {V V' E : Type 0} (kind : E → Kind) (frugal : Type 0) (is_open committed : Bool) (why : Kind) (t : Tracked E) → NoToken {V = V} kind frugal is_open why (PeekErr t) → FindsNone {V = V'} kind frugal is_open committed why (refused_as committed t)
+end_refused kind frugal is_open true why t h = record { is = inl (h.is.0 ∙ sym h.is.1, λ i j. refl) }
+end_refused kind frugal is_open false why t h = record { is = (h.is.0, h.is.1, h.is.2, refl) }
 
 module _ {P T R V S E : Type 0} (w : World P T S E) (l : TokenList T) (gives : V → Type 0) (matched : S → ℕ) (lean : Type 0) (adds : List (Item T R) → Type 0) (r : Run P T S) where
   abbrev m : Meaning P T R V S

@@ -5,6 +5,7 @@ use Rattle.combine_base.specs.Stream.View.{View}
 use Rattle.combine_base.specs.Error.Errors.{Errors, IsFault, Joined, later}
 use Rattle.combine_base.specs.Refusals.{NoToken}
 use Rattle.combine_base.specs.Parser.Judged.{IsRefusal}
+use Rattle.combine_base.specs.Sequence.Parts.{refused_as}
 use Rattle.combine_base.specs.Parser.Reasons.{Reasoned, kept_from}
 use Rattle.combine_base.proofs.Explaining.{reason_peeked}
 use Rattle.combine_base.specs.declared.stream.Kind.{Kind}
@@ -43,6 +44,11 @@ module _ {V E : Type 0} (kind : E → Kind) (is_open : Bool) (says : Bool → E 
   pub reasons_committed : (e : E) → (IsRefusal is_open (kind e) → says true e) → Reasoned {V = V} kind is_open says (CommitErr e)
   reasons_committed e p true x h = let i = h.is in subst (says true) (sym i.0) (p i.1)
   reasons_committed e p false x h = absurd h.is
+
+  -- a refusal after other tokens
+  pub reasons_after : (committed : Bool) (t : Tracked E) → says committed t.error → Reasoned {V = V} kind is_open says (refused_as committed t)
+  reasons_after true t p = reasons_committed t.error (λ r. p)
+  reasons_after false t p = reasons_peeked t p
 
   -- nor is a fault
   pub reasons_fault : (e : E) → (k : Kind) → kind e ≡ k → IsFault k → Reasoned {V = V} kind is_open says (CommitErr e)

@@ -13,10 +13,10 @@ ghost use Rattle.combine_token.specs.TokenParsers.{matched_before, tokens_of};
 mod answers;
 pub mod types;
 
-use answers::{accepted, asks_for_more, mismatch, no_more, pass_over, put_back};
+use answers::{accepted, mismatch, no_more, pass_over, put_back};
 use combine_base::error::{Info, ParseResult};
 use combine_base::parser::ParseMode;
-use combine_base::stream::{Kind, Stream, StreamOnce};
+use combine_base::stream::{Kind, Stream, StreamOnce, ends_open};
 use std::marker::PhantomData;
 use types::{Tokens, TokensState};
 
@@ -97,7 +97,7 @@ where
                 }
             }
             Err(kind) => {
-                if asks_for_more(kind, input) {
+                if ends_open(kind, input) {
                     state.matched = matched;
                     return ParseResult::CommitErr(input.new_error(kind, position));
                 }

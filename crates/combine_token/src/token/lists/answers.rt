@@ -11,6 +11,7 @@ ghost use Rattle.combine_token.specs.Reasons.{SaysEnded, peeked_only};
 
 use combine_base::error::{Info, ParseError, ParseResult, Tracked};
 use combine_base::refusal::{add_unexpected_token, no_token};
+use combine_base::sequence::{accepted_after, refused_after};
 use combine_base::stream::{Kind, Stream};
 
 /// Takes the first `n` items, or answers how many there were, if there were fewer.
@@ -42,12 +43,7 @@ pub(super) fn accepted<T: Clone, Input: Stream>(
     ensures { Accepted Input.Error.seen.kind (T.is_clone tokens.now) (T.is_infallible tokens.now) committed result }
 {
     match tokens.clone() {
-        Ok(value) => {
-            if committed {
-                return ParseResult::CommitOk(value);
-            }
-            ParseResult::PeekOk(value)
-        }
+        Ok(value) => accepted_after(committed, value),
         Err(_refused) => ParseResult::CommitErr(input.new_error(Kind::Memory, position)),
     }
 }
@@ -85,14 +81,6 @@ pub(super) fn put_back<O, Input: Stream>(
     ParseResult::PeekErr(Tracked::from(input.new_error(Kind::Refused, position)))
 }
 
-/// Whether a read found the end of open input.
-#[inline]
-pub(super) fn asks_for_more<Input: Stream>(why: Kind, input: &Input) -> bool
-    ensures { (result ≡ true) ↔ ((why ≡ Kind.End) × ((Input.view input.now).is_open ≡ true)) }
-{
-    why == Kind::End && input.is_partial()
-}
-
 /// What is answered where a read gave no token: at the end of ended input a refusal.
 pub(super) fn no_more<O, Input: Stream>(
     committed: bool,
@@ -104,13 +92,7 @@ pub(super) fn no_more<O, Input: Stream>(
     ensures refuses { why ≡ Kind.End → Reasoned Input.Error.seen.kind (Input.view input.now).is_open (SaysEnded Input.Error.seen position committed) result }
 {
     match no_token::<O, Input>(input, why, position) {
-        ParseResult::PeekErr(refusal) => {
-            if committed {
-                let Tracked { error, offset: _ } = refusal;
-                return ParseResult::CommitErr(error);
-            }
-            ParseResult::PeekErr(refusal)
-        }
+        ParseResult::PeekErr(refusal) => refused_after(committed, refusal),
         ParseResult::CommitErr(error) => ParseResult::CommitErr(error),
         ParseResult::CommitOk(_) => unreachable!(),
         ParseResult::PeekOk(_) => unreachable!(),

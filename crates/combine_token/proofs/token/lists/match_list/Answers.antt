@@ -54,17 +54,17 @@ returns-then-not-cmp-clause-answers g c =
     match_put_back _ _ _ _ _ _ _ _ _ _ i.arrived i.cleared (_, there) _ _ _ (_, there, n) c.in-Ok-uncons.ensures.read.is _ (sym (le-ltb _ _ c.if-matched-gt0.false)) _ o (omega arith) c.put_back.ensures.back
 
 -- found by a search, so that it holds too where a wrong body puts the stream back
-pub returns-then-asks_for_more-clause-passes : goal.returns-then-asks_for_more-clause-passes
-returns-then-asks_for_more-clause-passes g c =
+pub returns-then-ends_open-clause-passes : goal.returns-then-ends_open-clause-passes
+returns-then-ends_open-clause-passes g c =
     let p = c.items.invariant.passes in
     search (rules, passes_more)
 
-pub returns-then-asks_for_more-clause-answers : goal.returns-then-asks_for_more-clause-answers
-returns-then-asks_for_more-clause-answers g c =
+pub returns-then-ends_open-clause-answers : goal.returns-then-ends_open-clause-answers
+returns-then-ends_open-clause-answers g c =
     let i = c.items.invariant in
     let there = stands_there _ _ _ _ _ _ _ _ i.reached c.in-Some.ensures.steps in
-    let k = c.asks_for_more.ensures.0 c.if-asks_for_more.true in
-    match_asks _ _ _ _ _ _ _ _ _ _ i.arrived (_, there) refl (rw k.0 at c.in-Err-uncons.ensures.read.is) k.1 _ (c.new_error-then-asks_for_more.ensures.kind ∙ k.0)
+    let k = c.ends_open.ensures.0 c.if-ends_open.true in
+    match_asks _ _ _ _ _ _ _ _ _ _ i.arrived (_, there) refl (rw k.0 at c.in-Err-uncons.ensures.read.is) k.1 _ (c.new_error-then-ends_open.ensures.kind ∙ k.0)
 
 pub returns-in-Err-uncons-clause-passes : goal.returns-in-Err-uncons-clause-passes
 returns-in-Err-uncons-clause-passes g c = passes_more _ _ _ _ _ _ c.items.invariant.passes c.uncons.ensures.passes
@@ -73,7 +73,7 @@ pub returns-in-Err-uncons-clause-answers : goal.returns-in-Err-uncons-clause-ans
 returns-in-Err-uncons-clause-answers g c =
     let i = c.items.invariant in
     let there = stands_there _ _ _ _ _ _ _ _ i.reached c.in-Some.ensures.steps in
-    match_unread _ _ _ _ _ _ _ _ _ _ i.arrived i.cleared (_, there) _ refl _ _ c.in-Err-uncons.ensures.read.is i.passes.reads (λ z. false≢true (sym c.if-asks_for_more.false ∙ c.asks_for_more.ensures.1 z)) c.no_more.ensures.finds
+    match_unread _ _ _ _ _ _ _ _ _ _ i.arrived i.cleared (_, there) _ refl _ _ c.in-Err-uncons.ensures.read.is i.passes.reads (λ z. false≢true (sym c.if-ends_open.false ∙ c.ends_open.ensures.1 z)) c.no_more.ensures.finds
 
 pub items-preserved : goal.items-preserved
 items-preserved g c =
@@ -114,16 +114,16 @@ returns-then-not-cmp-clause-refuses g c =
     let n = c.if-not-cmp.ensures in
     put_back_reasons _ _ _ _ _ _ _ _ _ _ _ _ _ i.arrived _ _ (_, there) _ _ _ _ (_, there, n) c.in-Ok-uncons.ensures.read.is _ (sym (le-ltb _ _ c.if-matched-gt0.false)) (rw c.position-position.ensures at c.put_back.ensures.refuses)
 
-pub returns-then-asks_for_more-clause-refuses : goal.returns-then-asks_for_more-clause-refuses
-returns-then-asks_for_more-clause-refuses g c =
-    let k = c.asks_for_more.ensures.0 c.if-asks_for_more.true in
-    reasons_need _ _ _ _ (c.new_error-then-asks_for_more.ensures.kind ∙ k.0) k.1
+pub returns-then-ends_open-clause-refuses : goal.returns-then-ends_open-clause-refuses
+returns-then-ends_open-clause-refuses g c =
+    let k = c.ends_open.ensures.0 c.if-ends_open.true in
+    reasons_need _ _ _ _ (c.new_error-then-ends_open.ensures.kind ∙ k.0) k.1
 
 pub returns-in-Err-uncons-clause-refuses : goal.returns-in-Err-uncons-clause-refuses
 returns-in-Err-uncons-clause-refuses g c =
     let i = c.items.invariant in
     let there = stands_there _ _ _ _ _ _ _ _ i.reached c.in-Some.ensures.steps in
-    unread_reasons _ _ _ _ _ _ _ _ _ _ _ _ _ i.arrived _ _ (_, there) _ _ _ refl _ _ c.in-Err-uncons.ensures.read.is (λ z. false≢true (sym c.if-asks_for_more.false ∙ c.asks_for_more.ensures.1 z)) c.no_more.ensures.finds (rw c.position-position.ensures at c.no_more.ensures.refuses)
+    unread_reasons _ _ _ _ _ _ _ _ _ _ _ _ _ i.arrived _ _ (_, there) _ _ _ refl _ _ c.in-Err-uncons.ensures.read.is (λ z. false≢true (sym c.if-ends_open.false ∙ c.ends_open.ensures.1 z)) c.no_more.ensures.finds (rw c.position-position.ensures at c.no_more.ensures.refuses)
 
 pub returns-clause-refuses : goal.returns-clause-refuses
 returns-clause-refuses g c = accepted_reasons _ _ _ _ _ _ _ c.accepted-2.ensures
