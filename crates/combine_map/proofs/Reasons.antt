@@ -6,6 +6,7 @@ use Rattle.combine_base.specs.Parser.Outcome.{Outcome, Accepted, Refused, Undeci
 use Rattle.combine_base.specs.Parser.Meaning.{Meaning, begun}
 use Rattle.combine_base.specs.Parser.Answer.{Run, World, Answers, ends, fails}
 use Rattle.combine_base.specs.Parser.Judged.{IsRefusal}
+use Rattle.combine_base.specs.Sequence.Parts.{accepted_as}
 use Rattle.combine_base.specs.Parser.Reasons.{Reasoned, kept_from}
 use Rattle.combine_base.proofs.Calls.{around}
 use Rattle.combine_base.proofs.Explaining.{reason_committed, reason_peeked}
@@ -29,6 +30,12 @@ module _ {A B E : Type 0} (kind : E → Kind) (is_open : Bool) (says : Bool → 
   pub reasons_peek_err : (t : Tracked E) → Reasoned {V = A} kind is_open says (PeekErr t) → Reasoned {V = B} kind is_open says (PeekErr t)
   reasons_peek_err t h true x i = absurd i.is
   reasons_peek_err t h false x i = h false x (record { is = i.is })
+
+module _ {V E : Type 0} (kind : E → Kind) (is_open : Bool) (says : Bool → E → Type 0) where
+  -- an acceptance is no refusal
+  pub reasons_accepted : (committed : Bool) (v : V) (result : ParseResult V E) → result ≡ accepted_as committed v → Reasoned kind is_open says result
+  reasons_accepted true v result e k x i = absurd (rw e at i).is
+  reasons_accepted false v result e k x i = absurd (rw e at i).is
 
 module _ {P T S V E : Type 0} (steady : Type 0) (step : P → T → P) (marked : View P T → Type 0) (old new : View P T) (before after : Failures) (kind : E → Kind) (fresh : S → Type 0) (state left : S) (refusal : Tracked E) where
   -- a refusal that is put back has its own error

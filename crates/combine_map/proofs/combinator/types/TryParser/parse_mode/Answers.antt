@@ -1,10 +1,10 @@
 use Rattle.std.proofs.Common.{◌≡◌, ap, refl, sym, ◌∙◌}
 use Rattle.std.proofs.lemmas.Bool.{false≢true}
-use Rattle.combine_base.proofs.Same.{same_none}
+use Rattle.combine_base.proofs.Same.{passes_more, same_none}
 use Rattle.combine_map.specs.Attempt.{attempt_refuses, attempted_means_same, refusing}
 use Rattle.combine_base.specs.Parser.Reasons.{kept_from}
 use Rattle.combine_map.proofs.Attempts.{comes, try_commit_ok, try_peek_ok, try_peeks_back, try_refuses_back, try_faults, try_lost, try_keeps_distance}
-use Rattle.combine_map.proofs.Reasons.{attempt_fails, from_committed, from_peeked, kept_fails, reasons_put_back}
+use Rattle.combine_map.proofs.Reasons.{attempt_fails, from_committed, from_peeked, kept_fails, reasons_accepted, reasons_put_back}
 use Rattle.combine_map.proofs.combinator.types.TryParser.parse_mode.Goals as goal
 
 pub returns-in-Err-clause-same : goal.returns-in-Err-clause-same
@@ -87,3 +87,36 @@ returns-else-not-refuses-clause-refuses g c =
     let k = sym (c.refuses.ensures ∙ ap refusing c.kind.ensures) ∙ c.if-not-refuses.false in
     let e : c.from-refusal.result.error ≡ c.in-CommitErr.error = rw c.from-refusal.ensures refl in
     reasons_put_back _ _ (g.Input.ResetStream.stands c.parse_mode.new.input c.checkpoint-start.result) _ (g.Input.StreamOnce.view c.put_back-in-CommitErr.new.input) _ (g.Input.StreamOnce.failures c.put_back-in-CommitErr.new.input) _ _ _ c.put_back-in-CommitErr.new.state _ (g.Input.StreamOnce.view c.put_back-in-CommitErr.new.input).is_open (attempt_refuses g.Input.StreamOnce.step (g.P.Parser.refuses c.args.self.now.0) (kept_from (g.M.ParseMode.first c.args.mode) c.args.state.now) (g.Input.StreamOnce.view c.args.input.now)) _ c.put_back-in-CommitErr.ensures.back (from_committed _ (g.P.Parser.refuses c.args.self.now.0) _ _ _ _ _ _ (rw c.is_first.ensures at b.begun) (ap (λ s. s.part) b.left) c.in_default.ensures.over.is.0 _ _ _ c.from-refusal.result e k (λ i. false≢true (sym c.if-needs_more.false ∙ c.needs_more.ensures.1 i)) c.in-CommitErr.ensures.refuses)
+
+pub returns-in-Err-clause-refuses : goal.returns-in-Err-clause-refuses
+returns-in-Err-clause-refuses g c =
+    let e = c.fault.ensures.error in
+    attempt_fails _ (g.P.Parser.meaning c.args.self.now.0) (record { first = g.M.ParseMode.first c.args.mode; state = c.args.state.now; left = record { distance = c.begin-distance.new.self.distance; part = c.fault.new.state }; old = g.Input.StreamOnce.view c.args.input.now; new = g.Input.StreamOnce.view c.pass_over.new.input; before = g.Input.StreamOnce.failures c.args.input.now; after = g.Input.StreamOnce.failures c.pass_over.new.input }) _ _ (e.0, e.1) (returns-in-Err-clause-answers g c)
+
+pub returns-in-CommitOk-clause-refuses : goal.returns-in-CommitOk-clause-refuses
+returns-in-CommitOk-clause-refuses g c = λ committed e h. absurd h.is
+
+pub returns-in-PeekOk-clause-refuses : goal.returns-in-PeekOk-clause-refuses
+returns-in-PeekOk-clause-refuses g c = reasons_accepted _ _ _ _ _ _ c.accepted_after.ensures
+
+pub returns-then-not-refuses-clause-refuses : goal.returns-then-not-refuses-clause-refuses
+returns-then-not-refuses-clause-refuses g c =
+    attempt_fails _ (g.P.Parser.meaning c.args.self.now.0) (record { first = g.M.ParseMode.first c.args.mode; state = c.args.state.now; left = record { distance = c.begin-distance.new.self.distance; part = c.parse_mode.new.state }; old = g.Input.StreamOnce.view c.args.input.now; new = g.Input.StreamOnce.view c.parse_mode.new.input; before = g.Input.StreamOnce.failures c.args.input.now; after = g.Input.StreamOnce.failures c.parse_mode.new.input }) _ _ (c.in-CommitErr.error, refl) (returns-then-not-refuses-clause-answers g c)
+
+pub returns-in-CommitOk-clause-passes : goal.returns-in-CommitOk-clause-passes
+returns-in-CommitOk-clause-passes g c = passes_more _ _ _ _ _ _ c.pass_over.ensures.passes c.parse_mode.ensures.passes
+
+pub returns-in-PeekOk-clause-passes : goal.returns-in-PeekOk-clause-passes
+returns-in-PeekOk-clause-passes g c = passes_more _ _ _ _ _ _ c.pass_over.ensures.passes c.parse_mode.ensures.passes
+
+pub returns-then-not-refuses-clause-passes : goal.returns-then-not-refuses-clause-passes
+returns-then-not-refuses-clause-passes g c = passes_more _ _ _ _ _ _ c.pass_over.ensures.passes c.parse_mode.ensures.passes
+
+pub returns-in-PeekErr-clause-passes : goal.returns-in-PeekErr-clause-passes
+returns-in-PeekErr-clause-passes g c = passes_more _ _ _ _ _ _ (passes_more _ _ _ _ _ _ c.pass_over.ensures.passes c.parse_mode.ensures.passes) c.put_back.ensures.passes
+
+pub returns-then-needs_more-clause-passes : goal.returns-then-needs_more-clause-passes
+returns-then-needs_more-clause-passes g c = passes_more _ _ _ _ _ _ (passes_more _ _ _ _ _ _ c.pass_over.ensures.passes c.parse_mode.ensures.passes) c.keep_distance.ensures.passes
+
+pub returns-else-not-refuses-clause-passes : goal.returns-else-not-refuses-clause-passes
+returns-else-not-refuses-clause-passes g c = passes_more _ _ _ _ _ _ (passes_more _ _ _ _ _ _ c.pass_over.ensures.passes c.parse_mode.ensures.passes) c.put_back-in-CommitErr.ensures.passes
