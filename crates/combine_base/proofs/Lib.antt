@@ -7,6 +7,7 @@ pub mod Mapped
 pub mod Moved
 pub mod Pieces
 pub mod Progress
+pub mod Reasoning
 pub mod Same
 pub mod Says
 pub mod SequenceAnswers

@@ -21,22 +21,6 @@ use Rattle.combine_map.specs.Attempt.{IsFresh, attempt_refuses, attempted, part_
 use Rattle.combine_map.specs.PutBack.{KeepsDistance, PutsBack, keeps_distance}
 use Rattle.combine_map.specs.declared.combinator.TryState.{TryState}
 
-module _ {A B E : Type 0} (kind : E → Kind) (is_open : Bool) (says : Bool → E → Type 0) where
-  -- an error is handed on as it is, whatever the value would be
-  pub reasons_err : (e : E) → Reasoned {V = A} kind is_open says (CommitErr e) → Reasoned {V = B} kind is_open says (CommitErr e)
-  reasons_err e h true x i = h true x (record { is = i.is })
-  reasons_err e h false x i = absurd i.is
-
-  pub reasons_peek_err : (t : Tracked E) → Reasoned {V = A} kind is_open says (PeekErr t) → Reasoned {V = B} kind is_open says (PeekErr t)
-  reasons_peek_err t h true x i = absurd i.is
-  reasons_peek_err t h false x i = h false x (record { is = i.is })
-
-module _ {V E : Type 0} (kind : E → Kind) (is_open : Bool) (says : Bool → E → Type 0) where
-  -- an acceptance is no refusal
-  pub reasons_accepted : (committed : Bool) (v : V) (result : ParseResult V E) → result ≡ accepted_as committed v → Reasoned kind is_open says result
-  reasons_accepted true v result e k x i = absurd (rw e at i).is
-  reasons_accepted false v result e k x i = absurd (rw e at i).is
-
 module _ {P T S V E : Type 0} (steady : Type 0) (step : P → T → P) (marked : View P T → Type 0) (old new : View P T) (before after : Failures) (kind : E → Kind) (fresh : S → Type 0) (state left : S) (refusal : Tracked E) where
   -- a refusal that is put back has its own error
   pub reasons_put_back : (is_open : Bool) (says : Bool → E → Type 0) (result : ParseResult V E) → PutsBack steady step marked old new before after kind fresh state left refusal result → says false refusal.error → Reasoned kind is_open says result

@@ -18,7 +18,7 @@ use Rattle.combine_token.specs.Reasons.{RefusesList, SaysEnded, begins_at, peeke
 use Rattle.combine_token.specs.TokenLists.{TokenList, stops}
 use Rattle.combine_token.proofs.ListAnswered.{stops_at_end, stops_at_token}
 use Rattle.combine_token.proofs.Matches.{Arrived}
-use Rattle.combine_token.proofs.Reasons.{reasons_ok, reasons_peek_ok, reasons_committed, reasons_fault, reasons_into}
+use Rattle.combine_base.proofs.Reasoning.{reasons_ok, reasons_peek_ok, reasons_committed, reasons_fault, reasons_into}
 
 -- a clone that finds no memory is no refusal
 pub accepted_reasons : {V E : Type 0} (kind : E → Kind) (is_open : Bool) (says : Bool → E → Type 0) (gives : V → Type 0) (infallible : Type 0) (committed : Bool) (result : ParseResult V E) → Accepted kind gives infallible committed result → Reasoned kind is_open says result

@@ -12,7 +12,7 @@ use Rattle.combine_base.specs.declared.error.Tracked.{Tracked}
 use Rattle.combine_base.specs.declared.error.ParseResult.{ParseResult}
 use Rattle.combine_base.specs.declared.error.ParseResult.TheVariants.{CommitOk, PeekOk, CommitErr, PeekErr}
 use Rattle.combine_token.specs.Reasons.{RefusesToken}
-use Rattle.combine_token.proofs.Reasons.{reasons_fault, reasons_peeked, reasons_unended}
+use Rattle.combine_base.proofs.Reasoning.{reasons_fault, reasons_peeked, reasons_unended}
 
 module _ {P T R B E : Type 0} (s : Errors T R P E) (old : View P T) (is_open : Bool) where
   -- a token was read and put back

@@ -1,7 +1,7 @@
 use Rattle.std.proofs.Common.{rules, sym, ◌∙◌}
 use Rattle.combine_token.proofs.OneToken.{accepts_end, needs_token, not_put_back}
 use Rattle.combine_base.specs.declared.stream.Kind.TheVariants as kinds
-use Rattle.combine_token.proofs.Reasons.{reasons_ok, reasons_peek_ok, reasons_fault, reasons_need}
+use Rattle.combine_base.proofs.Reasoning.{reasons_ok, reasons_peek_ok, reasons_fault, reasons_need}
 use Rattle.combine_token.proofs.TokenReasons.{refused_token, refused_end}
 use Rattle.combine_token.proofs.token.reading.one_token.Goals as goal
 

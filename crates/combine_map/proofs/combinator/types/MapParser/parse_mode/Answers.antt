@@ -1,6 +1,6 @@
 use Rattle.combine_base.proofs.Mapped.{mapped_err, mapped_ok, mapped_peek_err, mapped_peek_ok}
 use Rattle.combine_base.specs.Parser.Mapped.{mapped_means_same}
-use Rattle.combine_map.proofs.Reasons.{reasons_err, reasons_peek_err}
+use Rattle.combine_base.proofs.Reasoning.{reasons_err, reasons_peek_err}
 use Rattle.combine_map.proofs.combinator.types.MapParser.parse_mode.Goals as goal
 
 pub returns-in-CommitOk-clause-same : goal.returns-in-CommitOk-clause-same

@@ -4,7 +4,8 @@ use Rattle.combine_base.proofs.Same.{passes_more, same_none}
 use Rattle.combine_map.specs.Attempt.{attempt_refuses, attempted_means_same, refusing}
 use Rattle.combine_base.specs.Parser.Reasons.{kept_from}
 use Rattle.combine_map.proofs.Attempts.{comes, try_commit_ok, try_peek_ok, try_peeks_back, try_refuses_back, try_faults, try_lost, try_keeps_distance}
-use Rattle.combine_map.proofs.Reasons.{attempt_fails, from_committed, from_peeked, kept_fails, reasons_accepted, reasons_put_back}
+use Rattle.combine_base.proofs.Reasoning.{reasons_accepted}
+use Rattle.combine_map.proofs.Reasons.{attempt_fails, from_committed, from_peeked, kept_fails, reasons_put_back}
 use Rattle.combine_map.proofs.combinator.types.TryParser.parse_mode.Goals as goal
 
 pub returns-in-Err-clause-same : goal.returns-in-Err-clause-same

@@ -1,7 +1,8 @@
 use Rattle.std.proofs.Common.{refl, sym, false}
 use Rattle.combine_token.proofs.Choosing.{tries_answers}
 use Rattle.combine_token.proofs.Ors.{or_begins_afresh}
-use Rattle.combine_token.proofs.Reasons.{from_peek, from_second, reasons_into}
+use Rattle.combine_base.proofs.Reasoning.{reasons_into}
+use Rattle.combine_token.proofs.Reasons.{from_peek, from_second}
 use Rattle.combine_token.proofs.choice.types.Or.resume.Goals as goal
 use Rattle.combine_token.proofs.choice.types.Or.resume.Goals.{in-A, in-Peek}
 

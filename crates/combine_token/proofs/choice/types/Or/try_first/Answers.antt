@@ -3,7 +3,8 @@ use Rattle.combine_base.specs.declared.stream.Kind.TheVariants as kinds
 use Rattle.combine_base.proofs.Calls.{refusal_unreset}
 use Rattle.combine_base.proofs.Same.{same_more, passes_more}
 use Rattle.combine_token.proofs.Choosing.{tries_asks}
-use Rattle.combine_token.proofs.Reasons.{reasons_ok, reasons_peek_ok, reasons_fault, first_reasons, second_reasons}
+use Rattle.combine_base.proofs.Reasoning.{reasons_ok, reasons_peek_ok, reasons_fault}
+use Rattle.combine_token.proofs.Reasons.{first_reasons, second_reasons}
 use Rattle.combine_token.proofs.Ors.{first_accepts, first_fails, first_falls, first_peeks, first_same, first_same_more, first_starts}
 use Rattle.combine_token.proofs.choice.types.Or.try_first.Goals as goal
 
