@@ -297,13 +297,21 @@ fn feed_all_or_fail<P: Parser<fed::Stream<u8>, Output = Vec<u8>> + Drop>(
 /// With ample memory: where this fails, `trials/run` sees that a growth of the next test was refused.
 #[test]
 fn a_session_with_ample_memory(rt: HostRuntime) {
-    feed_all(&rt, rt.alloc(), many1::<Vec<u8>, _>(rt.alloc(), token(b'a')));
+    feed_all(
+        &rt,
+        rt.alloc(),
+        many1::<Vec<u8>, _>(rt.alloc(), token(b'a')),
+    );
 }
 
 /// The answers are those of ample memory, or want of memory within the parse: also where `trials/run` has the allocator refuse.
 #[test]
 fn a_session_with_any_growth_refused(rt: HostRuntime) {
-    feed_all_or_fail(&rt, rt.alloc(), many1::<Vec<u8>, _>(rt.alloc(), token(b'a')));
+    feed_all_or_fail(
+        &rt,
+        rt.alloc(),
+        many1::<Vec<u8>, _>(rt.alloc(), token(b'a')),
+    );
 }
 
 /// A session of `skip_many(token(b'a'))`.
