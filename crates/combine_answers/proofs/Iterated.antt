@@ -1,5 +1,5 @@
 -- a parser of letters may be called
-use Rattle.std.proofs.Common.{ℕ, ◌^◌, ◌<◌, List, length, ◌≡◌, arith, ap}
+use Rattle.std.proofs.Common.{◌^◌, ◌<◌, length, ◌≡◌, ap}
 use Rattle.std.specs.Iterator.{at_most}
 use Rattle.combine_token.specs.Iterated.{IsIterated}
 use Rattle.combine_token.proofs.Listing.{is_iterated}
