@@ -6,3 +6,4 @@ pub mod faults;
 pub mod pieces;
 pub mod sessions;
 pub mod slices;
+pub mod streams;

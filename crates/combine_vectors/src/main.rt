@@ -4,8 +4,6 @@
 #[cfg(test)]
 mod drivers;
 #[cfg(test)]
-mod example;
-#[cfg(test)]
 mod messages;
 #[cfg(test)]
 mod rows;
