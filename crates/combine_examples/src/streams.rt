@@ -23,6 +23,9 @@ mod tests {
     #[test]
     fn of_a_slice(rt: HostRuntime) {
         let rest = b"1".as_slice();
-        assert_eq!(rt; signed_zero(b"-01".as_slice()), Ok(((Some(b'-'), b'0'), rest)));
+        assert_eq!(rt;
+            signed_zero(b"-01".as_slice()),
+            Ok(((Some(b'-'), b'0'), rest))
+        );
     }
 }

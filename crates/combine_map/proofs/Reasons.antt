@@ -6,7 +6,6 @@ use Rattle.combine_base.specs.Parser.Outcome.{Outcome, Accepted, Refused, Undeci
 use Rattle.combine_base.specs.Parser.Meaning.{Meaning, begun}
 use Rattle.combine_base.specs.Parser.Answer.{Run, World, Answers, ends, fails}
 use Rattle.combine_base.specs.Parser.Judged.{IsRefusal}
-use Rattle.combine_base.specs.Sequence.Parts.{accepted_as}
 use Rattle.combine_base.specs.Parser.Reasons.{Reasoned, kept_from}
 use Rattle.combine_base.proofs.Calls.{around}
 use Rattle.combine_base.proofs.Explaining.{reason_committed, reason_peeked}

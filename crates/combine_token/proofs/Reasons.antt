@@ -1,15 +1,11 @@
 -- the error that a refusal has, by how a call is answered
-use Rattle.std.proofs.Common.{◌≡◌, ◌∙◌, ◌⊎◌, inl, inr, Option, Some, Bool, true, false, subst, sym}
+use Rattle.std.proofs.Common.{inl, inr, Option, Some, Bool, true, false}
 use Rattle.std.specs.declared.cmp.Ordering.{Ordering}
 use Rattle.combine_base.specs.Stream.View.{View}
-use Rattle.combine_base.specs.Error.Errors.{Errors, IsFault, Joined, later}
-use Rattle.combine_base.specs.Refusals.{NoToken}
-use Rattle.combine_base.specs.Parser.Judged.{IsRefusal}
-use Rattle.combine_base.specs.Sequence.Parts.{refused_as}
+use Rattle.combine_base.specs.Error.Errors.{Errors, Joined, later}
 use Rattle.combine_base.specs.Parser.Reasons.{Reasoned, kept_from}
 use Rattle.combine_base.proofs.Reasoning.{reasons_fault, reasons_hand_on, reasons_into, reasons_ok, reasons_peek_ok, reasons_peeked}
 use Rattle.combine_base.proofs.Explaining.{reason_peeked}
-use Rattle.combine_base.specs.declared.stream.Kind.{Kind}
 use Rattle.combine_base.specs.declared.stream.Kind.TheVariants as kinds
 use Rattle.combine_base.specs.declared.error.Tracked.{Tracked}
 use Rattle.combine_base.specs.declared.error.ParseResult.{ParseResult}
