@@ -1,4 +1,4 @@
-"""The cases: each parser of parsers.list on each short input over each cut."""
+"""The cases: each parser of parsers.list on each short input over each cut; and how they are written."""
 
 import itertools
 import pathlib
@@ -40,3 +40,21 @@ def windows(pieces):
     ended = pieces.endswith(".")
     parts = pieces.removesuffix(".").split("/")
     return [(part, not (ended and at == len(parts) - 1)) for at, part in enumerate(parts)]
+
+
+def is_whole(feeding):
+    """Whether the input is one window, with the end: not cut."""
+    return len(feeding) == 1 and not feeding[0][1]
+
+
+def split(parser):
+    """The name of a constructor and the texts of its arguments."""
+    name, rest = parser.removesuffix(")").split("(", 1)
+    parts, depth = [""], 0
+    for letter in rest:
+        if letter == "," and depth == 0:
+            parts.append("")
+            continue
+        depth += {"(": 1, ")": -1}.get(letter, 0)
+        parts[-1] += letter
+    return name, [] if parts == [""] and name == "any" else parts

@@ -1,54 +1,136 @@
-"""Compares answers: the crate's, ours and the meaning's, and names each difference."""
+"""Compares answers, the crate's and ours, and names each difference by its causes."""
 
 import collections
 import dataclasses
+import itertools
 import re
+
+import cases
+import crate
+
+FAILURES = ("endless", "panic")
 
 
 @dataclasses.dataclass
-class Difference:
+class Compared:
+    """The answers to a case: the crate's, as Debian has it and by the rule of 4.6.9, and ours."""
+
     case: str
-    crate: str
+    debian: str
+    latest: str
     ours: str
-    slug: str | None
+    # The slugs of the entries that explain together why they differ; none where nothing does.
+    causes: tuple | None
+
+    def parser(self):
+        return self.case.split(" ")[0]
+
+    def differs(self):
+        return not self.debian == self.latest == self.ours
+
+    def name(self):
+        return "NO ENTRY" if self.causes is None else "+".join(self.causes)
 
     def line(self):
-        return f"{self.case} = {self.crate} ~ {self.ours}"
+        """The answer, or both with the entries; that of 4.6.9 where it is another than Debian's."""
+        if not self.differs():
+            return f"{self.case} = {self.ours}"
+        latest = "" if self.latest == self.debian else f", 4.6.9: {self.latest}"
+        return f"{self.case} = {self.debian} ~ {self.ours} # {self.name()}{latest}"
 
 
-def read_rules(path):
-    """The list of slugs and patterns, in order."""
-    rules = []
-    for line in path.read_text().splitlines():
-        if line and not line.startswith("#"):
-            slug, pattern = line.split(" ", 1)
-            rules.append((slug, re.compile(pattern)))
-    return rules
+def compare(case, debian, ours):
+    compared = Compared(case, debian, crate.answer(case, crate.LATEST), ours, ())
+    if compared.differs():
+        compared.causes = causes(compared)
+    return compared
 
 
-def read_entries(paths):
-    """The slugs that the headings `### slug` of documents name."""
-    entries = set()
-    for path in paths:
-        entries |= set(re.findall(r"^### ([a-z0-9-]+)$", path.read_text(), re.MULTILINE))
-    return entries
+def causes(compared):
+    """The fewest switches that turn the answer of 4.6.9 into ours; that between the versions, where none is needed."""
+    if crate.answer(compared.case, crate.DEBIAN) != compared.debian:
+        return None
+    if compared.latest == compared.ours:
+        return (crate.TOKENS,)
+    slugs = [switch.slug for switch in crate.SWITCHES]
+    for number in range(1, len(slugs) + 1):
+        for chosen in itertools.combinations(slugs, number):
+            if crate.answer(compared.case, crate.LATEST.union(chosen)) == compared.ours:
+                return chosen
+    return None
 
 
-def differences(cases, crate, ours, rules):
-    found = []
-    used = set()
-    for case in cases:
-        if crate[case] == ours[case]:
+# ---- what is to be complained of
+
+
+def unmodelled(debian):
+    """Answers of the crate that its model does not give."""
+    for case, answer in debian.items():
+        modelled = crate.answer(case, crate.DEBIAN)
+        if modelled != answer:
+            yield f"diff/crate.py does not answer as the crate does: {case} = {answer} and not {modelled}"
+
+
+def unexplained(found):
+    """Differences that no switches explain, or that theirs may not excuse."""
+    switches = {switch.slug: switch for switch in [*crate.SWITCHES, crate.BETWEEN_VERSIONS]}
+    for difference in found:
+        if difference.causes is None:
+            yield f"no entries explain: {difference.line()}"
             continue
-        difference = Difference(case, crate[case], ours[case], None)
-        for at, (slug, pattern) in enumerate(rules):
-            if pattern.search(difference.line()):
-                difference.slug = slug
-                used.add(at)
-                break
-        found.append(difference)
-    unused = [f"{slug} {pattern.pattern}" for at, (slug, pattern) in enumerate(rules) if at not in used]
-    return found, unused
+        named = [switches[slug] for slug in difference.causes]
+        if is_whole(difference.case) and not all(switch.whole for switch in named):
+            yield f"not every entry excuses a whole input: {difference.line()}"
+        for answer in {difference.debian, difference.latest}.intersection(FAILURES):
+            if not any(answer in switch.failures for switch in named):
+                yield f"no entry excuses {answer}: {difference.line()}"
+
+
+def is_whole(case):
+    return cases.is_whole(cases.windows(case.split(" ")[1]))
+
+
+def unlisted(found, document, title):
+    """Where the entries under a title of the document, the switches and the entries that are used are not the same."""
+    listed = entries(document.read_text(), title)
+    known = {switch.slug for switch in [*crate.SWITCHES, crate.BETWEEN_VERSIONS]}
+    used = {slug for difference in found for slug in difference.causes or ()}
+    yield from (f"{document.name} has no heading under '{title}': ### {slug}" for slug in sorted(known - listed))
+    yield from (f"diff/crate.py has no switch for the entry {slug}" for slug in sorted(listed - known))
+    yield from (f"no difference needs the entry {slug}" for slug in sorted(known - used))
+
+
+def entries(text, title):
+    """The slugs of the headings `### slug` under a title."""
+    _, _, rest = text.partition(f"## {title}\n")
+    return set(re.findall(r"^### (\S+)$", rest.partition("\n## ")[0], re.MULTILINE))
+
+
+def changed(stored, counted):
+    """Numbers that are not what is stored."""
+    for name in sorted(stored.keys() | counted.keys()):
+        before, now = stored.get(name, 0), counted.get(name, 0)
+        if before != now:
+            yield f"{name}: {now} now, and {before} in diff/counts.list"
+
+
+# ---- numbers
+
+
+def counts(wanted, found):
+    """How many cases there are, and how many differences of each name."""
+    numbers = collections.Counter(difference.name() for difference in found)
+    return {"cases": len(wanted)} | dict(sorted(numbers.items()))
+
+
+def read_counts(path):
+    if not path.is_file():
+        return {}
+    lines = [line for line in path.read_text().splitlines() if line and not line.startswith("#")]
+    return {name: int(number) for number, name in (line.split() for line in lines)}
+
+
+# ---- what is shown
 
 
 def shortness(case):
@@ -57,18 +139,24 @@ def shortness(case):
     return (len(pieces.replace("/", "")), len(pieces), case)
 
 
-def by_slug(found):
-    """The differences of each entry, for each parser, the shortest first."""
+def by_name(found):
+    """The differences of each name, for each parser, the shortest first."""
     groups = collections.defaultdict(lambda: collections.defaultdict(list))
     for difference in found:
-        groups[difference.slug][difference.case.split(" ")[0]].append(difference)
+        groups[difference.name()][difference.parser()].append(difference)
     for parsers in groups.values():
         for list_ in parsers.values():
             list_.sort(key=lambda difference: shortness(difference.case))
     return groups
 
 
-def side_by_side(rows):
-    """Lines of three columns: the case, the crate's answer, ours."""
-    widths = [max(len(row[at]) for row in rows) for at in range(2)]
-    return [f"  {row[0]:{widths[0]}}  {row[1]:{widths[1]}}  {row[2]}" for row in rows]
+def table(shown, with_names=False):
+    """Lines of columns: the case, the answers, the entries."""
+    rows = [("case", "4.6.6", "4.6.9", "ours", "entries")]
+    rows += [(it.case, it.debian, it.latest, it.ours, it.name()) for it in shown]
+    return columns(rows if with_names else [row[:-1] for row in rows])
+
+
+def columns(rows):
+    widths = [max(len(row[at]) for row in rows) for at in range(len(rows[0]))]
+    return ["  " + "  ".join(f"{cell:{width}}" for cell, width in zip(row, widths)).rstrip() for row in rows]

@@ -35,23 +35,10 @@ def show(outcome):
 
 @functools.cache
 def meaning(parser):
-    name, parts = split(parser)
+    name, parts = cases.split(parser)
     if name in ("satisfy", "token", "tokens", "value"):
         return LEAVES[name](*parts)
     return CONSTRUCTORS[name](*[meaning(part) for part in parts])
-
-
-def split(parser):
-    """The name of a constructor and the texts of its arguments."""
-    name, rest = parser.removesuffix(")").split("(", 1)
-    parts, depth = [""], 0
-    for letter in rest:
-        if letter == "," and depth == 0:
-            parts.append("")
-            continue
-        depth += {"(": 1, ")": -1}.get(letter, 0)
-        parts[-1] += letter
-    return name, [] if parts == [""] and name == "any" else parts
 
 
 def one(fits):

@@ -1,0 +1,431 @@
+"""What combine answers: its parsers written down as they are resumed, and what is otherwise in ours as switches.
+
+With no switch on, the answers are those of combine 4.6.6; with `TOKENS` on, those of 4.6.9; with all on, ours. Each
+switch is an entry of docs/DIFFERENCES.md, by its slug. A difference is named by the switches that turn the one answer
+into the other.
+"""
+
+import dataclasses
+import functools
+import typing
+
+import cases
+
+NOTHING = "repetition-takes-nothing"
+TUPLE = "tuple-keeps-commitment"
+MANY = "many-keeps-commitment"
+ATTEMPT = "attempt-puts-back"
+CHOICE = "choice-goes-on-after-a-cut"
+REFUSAL = "refusal-clears-the-state"
+TOKENS = "tokens-in-4-6-6"
+
+
+@dataclasses.dataclass(frozen=True)
+class Switch:
+    """An entry, and what it excuses besides answers over a cut."""
+
+    slug: str
+    # Answers on whole inputs.
+    whole: bool = False
+    # Which of the answers `endless` and `panic`.
+    failures: tuple = ()
+
+
+# In this order: where several sets of as few switches explain a difference, the earlier ones name it.
+SWITCHES = [
+    Switch(NOTHING, whole=True, failures=("endless",)),
+    Switch(TUPLE),
+    Switch(MANY),
+    Switch(ATTEMPT),
+    Switch(CHOICE),
+    Switch(REFUSAL, whole=True),
+]
+BETWEEN_VERSIONS = Switch(TOKENS)
+# The switches that are on in 4.6.6, and in 4.6.9.
+DEBIAN = frozenset()
+LATEST = frozenset([TOKENS])
+# More turns than any repetition takes on a few tokens.
+MOST_TURNS = 100
+
+
+class Endless(Exception):
+    """A repetition goes round for ever."""
+
+
+class Result(typing.NamedTuple):
+    """What a call of a parser answers. A refusal at the end says that the error speaks of the end of input."""
+
+    accepted: bool
+    committed: bool
+    value: str = ""
+    at_end: bool = False
+
+
+def accepted(value, committed):
+    return Result(True, committed, value)
+
+
+def refused(committed, at_end=False):
+    return Result(False, committed, at_end=at_end)
+
+
+class Window:
+    """What is unread of the earlier pieces, and the next piece; whether more may follow."""
+
+    def __init__(self, tokens, open_):
+        self.tokens = tokens
+        self.open = open_
+        self.at = 0
+
+    def read(self):
+        """The next token. Where there is none the refusal is committed if more may follow."""
+        if self.at == len(self.tokens):
+            return refused(self.open, at_end=True)
+        self.at += 1
+        return accepted(self.tokens[self.at - 1], True)
+
+    def asks(self, result):
+        """Whether this result asks for more."""
+        return self.open and not result.accepted and result.committed and result.at_end
+
+
+def answer(case, switches):
+    """The answer to a case, as the programs write it."""
+    text, pieces = case.split(" ")
+    try:
+        return feed(make(text, switches), cases.windows(pieces))
+    except Endless:
+        return "endless"
+
+
+def feed(parser, pieces):
+    whole = cases.is_whole(pieces)
+    unread, fed = "", 0
+    for asked, (piece, open_) in enumerate(pieces):
+        window = Window(unread + piece, open_)
+        result = parser.run(whole, window)
+        unread, fed = window.tokens[window.at :], fed + len(piece)
+        if not window.asks(result):
+            return f"asked {asked} {shown(result, fed - len(unread))}"
+    return f"asked {len(pieces)} undecided"
+
+
+def shown(result, taken):
+    kind = "committed" if result.committed else "peeked"
+    return f"accepted {result.value} taken {taken} {kind}" if result.accepted else f"refused {kind}"
+
+
+def make(text, switches):
+    """A parser with nothing kept."""
+    constructor, parts = plan(text)
+    return constructor(switches, parts)
+
+
+@functools.cache
+def plan(text):
+    name, parts = cases.split(text)
+    return CONSTRUCTORS[name], parts
+
+
+# ---- the parsers
+
+
+class Parser:
+    """A parser and the state that it keeps.
+
+    `parse` answers a call: in first mode, or to go on from what is kept; `forget` leaves nothing kept.
+    """
+
+    def __init__(self, switches, parts):
+        self.switches = switches
+        self.parts = [make(part, switches) for part in parts]
+        self.forget()
+
+    def forget(self):
+        pass
+
+    def run(self, first, window):
+        """A call. With `REFUSAL`, first mode begins from nothing, and all but need of more leaves nothing."""
+        if REFUSAL not in self.switches:
+            return self.parse(first, window)
+        if first:
+            self.clear()
+        result = self.parse(first, window)
+        if not window.asks(result):
+            self.clear()
+        return result
+
+    def clear(self):
+        self.forget()
+        for part in self.parts:
+            part.clear()
+
+
+class OneToken(Parser):
+    """`any`, `satisfy`, `token`: none wanted stands for all tokens."""
+
+    def __init__(self, switches, parts):
+        super().__init__(switches, [])
+        self.wanted = parts[0] if parts else None
+
+    def parse(self, first, window):
+        result = window.read()
+        fits = not result.accepted or self.wanted is None or result.value in self.wanted
+        return result if fits else refused(False)
+
+
+class Value(Parser):
+    def __init__(self, switches, parts):
+        super().__init__(switches, [])
+        self.value = parts[0]
+
+    def parse(self, first, window):
+        return accepted(self.value, False)
+
+
+class Tokens(Parser):
+    """A list of tokens. With `TOKENS` it keeps how many matched."""
+
+    def __init__(self, switches, parts):
+        super().__init__(switches, [])
+        self.wanted = parts[0]
+
+    def forget(self):
+        self.matched = 0
+
+    def parse(self, first, window):
+        if first or TOKENS not in self.switches:
+            self.matched = 0
+        for wanted in self.wanted[self.matched :]:
+            result = window.read()
+            if not result.accepted:
+                return refused(result.committed or self.matched > 0, at_end=True)
+            if result.value != wanted:
+                return self.ended(refused(self.matched > 0))
+            self.matched += 1
+        return self.ended(accepted(f'"{self.wanted}"', self.matched > 0))
+
+    def ended(self, result):
+        self.matched = 0
+        return result
+
+
+class Map(Parser):
+    def parse(self, first, window):
+        result = self.parts[0].run(first, window)
+        return accepted(f"<{result.value}>", result.committed) if result.accepted else result
+
+
+class Optional(Parser):
+    def parse(self, first, window):
+        start = window.at
+        result = self.parts[0].run(first, window)
+        if result.accepted:
+            return accepted(f"some({result.value})", result.committed)
+        if result.committed:
+            return result
+        window.at = start
+        return accepted("none", False)
+
+
+class Attempt(Parser):
+    """With `ATTEMPT`, need of more puts all tokens back, and how far the part had read is kept with its state."""
+
+    def forget(self):
+        self.distance = 0
+
+    def parse(self, first, window):
+        start = window.at
+        if not first:
+            window.at += self.distance
+        result = self.parts[0].run(first, window)
+        self.distance = 0
+        if window.asks(result):
+            if ATTEMPT in self.switches:
+                self.distance = window.at - start
+                window.at = start
+            return result
+        if result.accepted:
+            return result
+        window.at = start
+        return refused(False)
+
+
+class Or(Parser):
+    """A choice, which stays with an alternative that asked for more. With `CHOICE` it goes on to the later ones."""
+
+    def __init__(self, switches, parts):
+        super().__init__(switches, [])
+        self.alternatives = parts
+
+    def forget(self):
+        self.running = None
+
+    def parse(self, first, window):
+        if first or self.running is None:
+            return self.choose(0, window)
+        start = window.at
+        at, alternative = self.running
+        result = alternative.run(first, window)
+        if result.accepted:
+            self.running = None
+        if CHOICE in self.switches and not result.accepted and not result.committed:
+            self.running = None
+            window.at = start
+            return self.choose(at + 1, window)
+        return result
+
+    def choose(self, begin, window):
+        """The alternatives from this one on, in first mode."""
+        start = window.at
+        for at in range(begin, len(self.alternatives)):
+            alternative = make(self.alternatives[at], self.switches)
+            result = alternative.run(True, window)
+            if result.accepted:
+                return result
+            if result.committed:
+                self.keep(at, alternative, window.at != start)
+                return result
+            window.at = start
+        return refused(False)
+
+    def keep(self, at, alternative, has_taken):
+        """The crate keeps an alternative that has taken tokens; with `ATTEMPT`, one that has put them back too."""
+        if has_taken or ATTEMPT in self.switches:
+            self.running = at, alternative
+
+
+class Tuple(Parser):
+    """The values of parts are kept. With `TUPLE`, whether one of those parts committed is looked at."""
+
+    def forget(self):
+        self.kept = [None] * len(self.parts)
+
+    def parse(self, first, window):
+        committed = False
+        for at, part in enumerate(self.parts):
+            if not first and self.kept[at] is not None:
+                committed |= TUPLE in self.switches and self.kept[at].committed
+                continue
+            start = window.at
+            result = part.run(first, window)
+            if not result.accepted:
+                return self.refusal(at, start, committed, result, window)
+            committed |= result.committed
+            self.kept[at] = result
+            first = True
+        value = f"({','.join(result.value for result in self.kept)})"
+        self.forget()
+        return accepted(value, committed)
+
+    def refusal(self, at, start, committed, result, window):
+        """What it answers where a part is refused, or asks for more."""
+        if at == 0 or result.committed:
+            return result
+        window.at = start
+        if committed:
+            # The next token is read for the message.
+            window.read()
+        return refused(committed)
+
+
+class Many(Parser):
+    """Turns until a peeked refusal. With `MANY`, whether an earlier turn committed is kept.
+
+    Kept besides: whether the running turn took tokens before the cut, for `NOTHING`.
+    """
+
+    def forget(self):
+        self.elements = []
+        self.committed = False
+        self.begun = False
+
+    def parse(self, first, window):
+        committed = not first and MANY in self.switches and self.committed
+        return self.turns(first, committed, window)
+
+    def turns(self, first, committed, window):
+        begun = not first and self.begun
+        while True:
+            start = window.at
+            turn = self.parts[0].run(first, window)
+            has_taken = begun or window.at != start
+            if not turn.accepted:
+                return self.last(turn, start, has_taken, committed, window)
+            if NOTHING in self.switches and not has_taken:
+                return refused(True)
+            self.add(turn.value)
+            committed |= turn.committed
+            first, begun = True, False
+
+    def last(self, turn, start, has_taken, committed, window):
+        """What it answers where a turn is refused, or asks for more."""
+        if turn.committed:
+            self.committed, self.begun = committed, has_taken
+            return turn
+        window.at = start
+        value = self.show(self.elements)
+        self.forget()
+        return accepted(value, committed)
+
+    def add(self, value):
+        self.elements.append(value)
+        if len(self.elements) > MOST_TURNS:
+            raise Endless
+
+    def show(self, elements):
+        return f"[{','.join(elements)}]"
+
+
+class Many1(Many):
+    """A first turn that has to be accepted, whose commitment the crate keeps."""
+
+    def forget(self):
+        super().forget()
+        self.parsed_one = False
+        self.first_committed = False
+
+    def parse(self, first, window):
+        if first or not self.parsed_one:
+            turn = self.parts[0].run(first, window)
+            if not turn.accepted:
+                return turn
+            self.add(turn.value)
+            self.parsed_one = True
+            self.committed = self.first_committed = turn.committed
+            first = True
+        committed = self.first_committed or MANY in self.switches and self.committed
+        return self.turns(first, committed, window)
+
+
+class Skipping:
+    """Values are dropped."""
+
+    def show(self, elements):
+        return "()"
+
+
+class SkipMany(Skipping, Many):
+    pass
+
+
+class SkipMany1(Skipping, Many1):
+    pass
+
+
+CONSTRUCTORS = {
+    "any": OneToken,
+    "satisfy": OneToken,
+    "token": OneToken,
+    "tokens": Tokens,
+    "value": Value,
+    "map": Map,
+    "attempt": Attempt,
+    "or": Or,
+    "optional": Optional,
+    "tuple": Tuple,
+    "many": Many,
+    "many1": Many1,
+    "skip_many": SkipMany,
+    "skip_many1": SkipMany1,
+}
