@@ -84,6 +84,7 @@ impl<P, Q> Or<P, Q> {
     }
 
     /// A call that resumes: apart from the code of calls that begin afresh, which holds each parser once.
+    #[inline(never)]
     fn resume<Input: Stream, M: ParseMode>(
         &mut self,
         mode: M,
