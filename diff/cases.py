@@ -10,6 +10,14 @@ LONGEST = 4
 LONGEST_WITH_EMPTY = 3
 
 
+CLASSES = ["digit", "oct_digit", "hex_digit", "space", "newline", "tab", "upper", "lower", "letter", "alpha_num"]
+
+
+def classes():
+    """The classes of bytes and of characters, which are compared token by token."""
+    return [f"class {module}::{name}" for module in ("byte", "char") for name in CLASSES]
+
+
 def parsers(path=HERE / "parsers.list"):
     lines = path.read_text().splitlines()
     return [line for line in lines if line and not line.startswith("#")]
@@ -57,4 +65,4 @@ def split(parser):
             continue
         depth += {"(": 1, ")": -1}.get(letter, 0)
         parts[-1] += letter
-    return name, [] if parts == [""] and name == "any" else parts
+    return name, [] if parts == [""] and name in ("any", "eof") else parts

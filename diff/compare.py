@@ -90,11 +90,11 @@ def is_whole(case):
     return cases.is_whole(cases.windows(case.split(" ")[1]))
 
 
-def unlisted(found, document, title):
+def unlisted(found, apart, document, title):
     """Where the entries under a title of the document, the switches and the entries that are used are not the same."""
     listed = entries(document.read_text(), title)
-    known = {switch.slug for switch in [*crate.SWITCHES, crate.BETWEEN_VERSIONS]}
-    used = {slug for difference in found for slug in difference.causes or ()}
+    known = {switch.slug for switch in [*crate.SWITCHES, crate.BETWEEN_VERSIONS]} | {TABLES}
+    used = {slug for difference in found for slug in difference.causes or ()} | ({TABLES} if any(apart.values()) else set())
     yield from (f"{document.name} has no heading under '{title}': ### {slug}" for slug in sorted(known - listed))
     yield from (f"diff/crate.py has no switch for the entry {slug}" for slug in sorted(listed - known))
     yield from (f"no difference needs the entry {slug}" for slug in sorted(known - used))
@@ -114,12 +114,38 @@ def changed(stored, counted):
             yield f"{name}: {now} now, and {before} in diff/counts.list"
 
 
+# ---- classes
+
+# The entry that excuses what other tables of Unicode say of these classes.
+TABLES = "letters-of-the-kits-tables"
+BY_TABLES = ["char::upper", "char::lower", "char::letter", "char::alpha_num"]
+
+
+def numbers(ranges):
+    """The tokens of `9-d,20`."""
+    ends = [part.split("-") for part in ranges.split(",") if part]
+    return {number for first, *last in ends for number in range(int(first, 16), int((last or [first])[0], 16) + 1)}
+
+
+def of_other_tables(debian, ours):
+    """The classes with the tokens that one side alone has."""
+    return {case: numbers(debian[case]) ^ numbers(ours[case]) for case in debian}
+
+
+def misclassified(apart):
+    """Tokens that one side alone has of a class that no tables decide."""
+    for case, tokens in apart.items():
+        if tokens and case.removeprefix("class ") not in BY_TABLES:
+            yield f"not the crate's: {case} in {', '.join(f'{token:x}' for token in sorted(tokens)[:8])}"
+
+
 # ---- numbers
 
 
-def counts(wanted, found):
-    """How many cases there are, and how many differences of each name."""
+def counts(wanted, found, apart):
+    """How many cases there are, and how many differences of each name; of classes, how many tokens."""
     numbers = collections.Counter(difference.name() for difference in found)
+    numbers[TABLES] = sum(len(tokens) for tokens in apart.values())
     return {"cases": len(wanted)} | dict(sorted(numbers.items()))
 
 

@@ -17,6 +17,7 @@ MANY = "many-keeps-commitment"
 ATTEMPT = "attempt-puts-back"
 CHOICE = "choice-goes-on-after-a-cut"
 REFUSAL = "refusal-clears-the-state"
+EOF = "eof-asks-for-more"
 TOKENS = "tokens-in-4-6-6"
 
 
@@ -39,6 +40,7 @@ SWITCHES = [
     Switch(ATTEMPT),
     Switch(CHOICE),
     Switch(REFUSAL, whole=True),
+    Switch(EOF),
 ]
 BETWEEN_VERSIONS = Switch(TOKENS)
 # The switches that are on in 4.6.6, and in 4.6.9.
@@ -162,7 +164,7 @@ class Parser:
 
 
 class OneToken(Parser):
-    """`any`, `satisfy`, `token`: none wanted stands for all tokens."""
+    """`any`, `satisfy`, `one_of`, `token`: none wanted stands for all tokens."""
 
     def __init__(self, switches, parts):
         super().__init__(switches, [])
@@ -170,8 +172,33 @@ class OneToken(Parser):
 
     def parse(self, first, window):
         result = window.read()
-        fits = not result.accepted or self.wanted is None or result.value in self.wanted
+        fits = not result.accepted or self.wanted is None or self.fits(result.value)
         return result if fits else refused(False)
+
+    def fits(self, token):
+        return token in self.wanted
+
+
+class NoneOf(OneToken):
+    def fits(self, token):
+        return token not in self.wanted
+
+
+class SatisfyMap(OneToken):
+    def parse(self, first, window):
+        return wrapped(super().parse(first, window))
+
+
+class Eof(Parser):
+    """The end. With `EOF`, that of an open piece asks for more."""
+
+    def parse(self, first, window):
+        start = window.at
+        result = window.read()
+        window.at = start
+        if result.accepted:
+            return refused(False)
+        return result if EOF in self.switches and window.open else accepted("()", False)
 
 
 class Value(Parser):
@@ -210,10 +237,13 @@ class Tokens(Parser):
         return result
 
 
+def wrapped(result):
+    return accepted(f"<{result.value}>", result.committed) if result.accepted else result
+
+
 class Map(Parser):
     def parse(self, first, window):
-        result = self.parts[0].run(first, window)
-        return accepted(f"<{result.value}>", result.committed) if result.accepted else result
+        return wrapped(self.parts[0].run(first, window))
 
 
 class Optional(Parser):
@@ -295,6 +325,68 @@ class Or(Parser):
             self.running = at, alternative
 
 
+class SliceChoice(Or):
+    """A choice over parsers of one type: that which asked for more is kept, whether it has taken tokens or not.
+
+    In the crate they share a state. Those of the cases begin afresh in first mode whatever it holds, so here each has its own.
+    """
+
+    def keep(self, at, alternative, has_taken):
+        self.running = at, alternative
+
+
+class Left(Parser):
+    def parse(self, first, window):
+        return self.parts[0].run(first, window)
+
+
+class Right(Parser):
+    def parse(self, first, window):
+        return self.parts[1].run(first, window)
+
+
+class Then(Parser):
+    """The parser that a function answers is kept, with whether the first one committed."""
+
+    def forget(self):
+        self.answered = None
+
+    def parse(self, first, window):
+        if first or self.answered is None:
+            result = self.parts[0].run(first, window)
+            if not result.accepted:
+                return result
+            self.answered = result, make(self.answer(result.value), self.switches)
+            first = True
+        before, second = self.answered
+        start = window.at
+        result = second.run(first, window)
+        if result.accepted:
+            self.answered = None
+            return accepted(self.collect(before.value, result.value), before.committed or result.committed)
+        if result.committed:
+            return result
+        window.at = start
+        self.answered = None
+        return refused(before.committed, result.at_end)
+
+    def answer(self, token):
+        return f"token({token})"
+
+    def collect(self, before, value):
+        return value
+
+
+class ThenRef(Then):
+    def collect(self, before, value):
+        return f"({before},{value})"
+
+
+class Dispatch(Then):
+    def answer(self, token):
+        return {"a": "token(a)", "b": "satisfy(ab)"}.get(token, "any()")
+
+
 class Tuple(Parser):
     """The values of parts are kept. With `TUPLE`, whether one of those parts committed is looked at."""
 
@@ -314,9 +406,12 @@ class Tuple(Parser):
             committed |= result.committed
             self.kept[at] = result
             first = True
-        value = f"({','.join(result.value for result in self.kept)})"
+        value = self.collect([result.value for result in self.kept])
         self.forget()
         return accepted(value, committed)
+
+    def collect(self, values):
+        return f"({','.join(values)})"
 
     def refusal(self, at, start, committed, result, window):
         """What it answers where a part is refused, or asks for more."""
@@ -327,6 +422,23 @@ class Tuple(Parser):
             # The next token is read for the message.
             window.read()
         return refused(committed)
+
+
+class With(Tuple):
+    def collect(self, values):
+        return values[1]
+
+
+class Skip(Tuple):
+    def collect(self, values):
+        return values[0]
+
+
+class Between(With):
+    """`between(open, close, parser)`."""
+
+    def __init__(self, switches, parts):
+        super().__init__(switches, [parts[0], parts[2], parts[1]])
 
 
 class Many(Parser):
@@ -416,14 +528,32 @@ class SkipMany1(Skipping, Many1):
 CONSTRUCTORS = {
     "any": OneToken,
     "satisfy": OneToken,
+    "satisfy_map": SatisfyMap,
+    "one_of": OneToken,
+    "none_of": NoneOf,
+    "eof": Eof,
+    "string": Tokens,
     "token": OneToken,
     "tokens": Tokens,
+    "tokens_cmp": Tokens,
     "value": Value,
     "map": Map,
     "attempt": Attempt,
     "or": Or,
+    "choice": Or,
+    "array": SliceChoice,
+    "slice": SliceChoice,
+    "left": Left,
+    "right": Right,
+    "dispatch": Dispatch,
     "optional": Optional,
     "tuple": Tuple,
+    "with": With,
+    "skip": Skip,
+    "between": Between,
+    "then": Then,
+    "then_partial": Then,
+    "then_ref": ThenRef,
     "many": Many,
     "many1": Many1,
     "skip_many": SkipMany,

@@ -25,6 +25,28 @@ def answer(case):
     return f"asked {len(feeding)} undecided"
 
 
+# The tokens of each class, in ranges; of those that the tables of Unicode decide, nothing is said.
+CLASSES = {
+    "digit": "30-39",
+    "oct_digit": "30-37",
+    "hex_digit": "30-39,41-46,61-66",
+    "newline": "a",
+    "tab": "9",
+    "byte::space": "9-a,c-d,20",
+    "char::space": "9-d,20,85,a0,1680,2000-200a,2028-2029,202f,205f,3000",
+    "byte::upper": "41-5a",
+    "byte::lower": "61-7a",
+    "byte::letter": "41-5a,61-7a",
+    "byte::alpha_num": "30-39,41-5a,61-7a",
+}
+
+
+def tokens_of(case):
+    """What is meant of a class; none where Unicode decides."""
+    name = case.removeprefix("class ")
+    return CLASSES.get(name, CLASSES.get(name.split("::")[1]))
+
+
 def show(outcome):
     kind = "committed" if outcome[-1] else "peeked"
     if outcome[0] == "refused":
@@ -36,7 +58,7 @@ def show(outcome):
 @functools.cache
 def meaning(parser):
     name, parts = cases.split(parser)
-    if name in ("satisfy", "token", "tokens", "value"):
+    if name in LEAVES:
         return LEAVES[name](*parts)
     return CONSTRUCTORS[name](*[meaning(part) for part in parts])
 
@@ -64,6 +86,12 @@ def token_list(wanted):
 
 def value(token):
     return lambda tokens, open_: ("accepted", token, 0, False)
+
+
+def end_of_input(tokens, open_):
+    if tokens:
+        return ("refused", False)
+    return UNDECIDED if open_ else ("accepted", "()", 0, False)
 
 
 def with_value(function, parse):
@@ -102,6 +130,31 @@ def sequence(parsers, collect):
         return ("accepted", collect(values), count, committed)
 
     return parse
+
+
+def and_then(parse, answer, collect):
+    """The parser that a function answers for the value of the first comes behind it."""
+
+    def parse_both(tokens, open_):
+        first = parse(tokens, open_)
+        if first[0] != "accepted":
+            return first
+        _, value, count, committed = first
+        outcome = after(count, committed, answer(value)(tokens[count:], open_))
+        if outcome[0] != "accepted":
+            return outcome
+        return ("accepted", collect(value, outcome[1]), *outcome[2:])
+
+    return parse_both
+
+
+def same_token(letter):
+    return one(lambda token: token == letter)
+
+
+def dispatched(letter):
+    """What the cases dispatch to: `token(a)`, `satisfy(ab)`, `any()` behind an `a`, a `b`, another token."""
+    return one(lambda token: token in {"a": "a", "b": "ab"}.get(letter, "abc"))
 
 
 def choice(*parsers):
@@ -158,19 +211,49 @@ def nothing(values):
     return "()"
 
 
+def wrapped(value):
+    return f"<{value}>"
+
+
+def both(first, second):
+    return f"({first},{second})"
+
+
+def last(first, second):
+    return second
+
+
 LEAVES = {
     "satisfy": lambda letters: one(lambda token: token in letters),
-    "token": lambda letter: one(lambda token: token == letter),
+    "satisfy_map": lambda letters: with_value(wrapped, one(lambda token: token in letters)),
+    "one_of": lambda letters: one(lambda token: token in letters),
+    "none_of": lambda letters: one(lambda token: token not in letters),
+    "string": token_list,
+    "token": same_token,
     "tokens": token_list,
+    "tokens_cmp": token_list,
     "value": value,
 }
 
 CONSTRUCTORS = {
     "any": lambda: one(lambda token: True),
-    "map": lambda parse: with_value(lambda it: f"<{it}>", parse),
+    "eof": lambda: end_of_input,
+    "map": lambda parse: with_value(wrapped, parse),
     "attempt": attempt,
     "or": choice,
+    "choice": choice,
+    "array": choice,
+    "slice": choice,
+    "left": lambda left, right: left,
+    "right": lambda left, right: right,
+    "dispatch": lambda parse: and_then(parse, dispatched, last),
     "optional": optional,
+    "with": lambda *parsers: sequence(parsers, lambda values: values[1]),
+    "skip": lambda *parsers: sequence(parsers, lambda values: values[0]),
+    "between": lambda open_, close, parse: sequence([open_, parse, close], lambda values: values[1]),
+    "then": lambda parse: and_then(parse, same_token, last),
+    "then_partial": lambda parse: and_then(parse, same_token, last),
+    "then_ref": lambda parse: and_then(parse, same_token, both),
     "tuple": lambda *parsers: sequence(parsers, lambda values: f"({','.join(values)})"),
     "many": lambda parse: turns(parse, listed, 0),
     "many1": lambda parse: turns(parse, listed, 1),

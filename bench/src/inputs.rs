@@ -80,3 +80,70 @@ pub fn lines(size: usize) -> Vec<u8> {
         all.push(b';');
     })
 }
+
+/// A letter and a digit, four times: `a1b2c3d4`.
+pub fn pairs_of_8(size: usize) -> Vec<u8> {
+    repeated(size, |dice, all| {
+        for _ in 0..4 {
+            dice.push(all, 1, b'a', b'z');
+            dice.push(all, 1, b'0', b'9');
+        }
+    })
+}
+
+/// `a` and a letter, `1` and a digit, or `;` and any visible byte.
+pub fn tagged(size: usize) -> Vec<u8> {
+    repeated(size, |dice, all| match dice.between(0, 2) {
+        0 => {
+            all.push(b'a');
+            dice.push(all, 1, b'a', b'z');
+        }
+        1 => {
+            all.push(b'1');
+            dice.push(all, 1, b'0', b'9');
+        }
+        _ => {
+            all.push(b';');
+            dice.push(all, 1, b'!', b'~');
+        }
+    })
+}
+
+/// Eight keywords, as they come.
+pub fn keywords(size: usize) -> Vec<u8> {
+    repeated(size, |dice, all| {
+        all.extend_from_slice(crate::keywords::KEYWORDS[dice.between(0, 7) as usize]);
+    })
+}
+
+/// Letters of ASCII, small and large.
+pub fn letters(size: usize) -> Vec<u8> {
+    repeated(size, |dice, all| {
+        let first = if dice.between(0, 1) == 0 { b'a' } else { b'A' };
+        dice.push(all, 1, first, first + 25);
+    })
+}
+
+/// Small Greek letters, two bytes each.
+pub fn greek(size: usize) -> Vec<u8> {
+    repeated(size, |dice, all| {
+        let letter = char::from_u32(dice.between(0x3b1, 0x3c9) as u32).unwrap();
+        all.extend_from_slice(letter.encode_utf8(&mut [0; 2]).as_bytes());
+    })
+}
+
+/// Digits, one at least.
+pub fn digits(size: usize) -> Vec<u8> {
+    repeated(size.max(1), |dice, all| dice.push(all, 1, b'0', b'9'))
+}
+
+/// Text in lines of 20 to 100 letters and blanks.
+pub fn text(size: usize) -> Vec<u8> {
+    repeated(size, |dice, all| {
+        for _ in 0..dice.between(20, 100) {
+            let blank = dice.between(0, 5) == 0;
+            dice.push(all, 1, if blank { b' ' } else { b'a' }, if blank { b' ' } else { b'z' });
+        }
+        all.push(b'\n');
+    })
+}

@@ -10,9 +10,11 @@ mod by_hand;
 mod by_nom;
 mod classes;
 mod inputs;
+mod keywords;
 mod measure;
 mod measures;
 mod ours;
+mod texts;
 
 use measure::{Call, Measure, FAULT, REFUSED};
 use std::hint::black_box;

@@ -8,7 +8,8 @@ fn main() {
     let lines = std::fs::read_to_string(list).expect("diff/parsers.list");
     let mut text = String::from("match parser {\n");
     for line in lines.lines().filter(|line| !line.is_empty() && !line.starts_with('#')) {
-        writeln!(text, "    {line:?} => Some(run(parser!({line}), tokens, ends)),").unwrap();
+        let letter = if line.contains("string(") { "char" } else { "u8" };
+        writeln!(text, "    {line:?} => Some(run::<{letter}, _>(parser!({line}), tokens, ends)),").unwrap();
     }
     text += "    _ => None,\n}\n";
     let out = std::env::var("OUT_DIR").unwrap();

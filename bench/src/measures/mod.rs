@@ -15,7 +15,16 @@ measures! {
     one_token
     tuple_of_2
     tuple_of_4
+    tuple_of_8
     tuple_of_tuples
     many_in_many
     many_in_many_in_many
+    letters_ascii
+    letters_greek
+    digits_collect
+    lines_and_columns
+    then_of_3
+    keywords_tuple
+    keywords_array
+    keywords_slice
 }

@@ -1,10 +1,13 @@
 //! Parser combinators that are proved: the parser layer of combine, for Rattle.
 //!
-//! Everything stands under the crate's module names: streams in `stream`, answers and errors in `error`, the protocol, its drivers and sessions in `parser`, and the constructors in `parser::{token, choice, sequence, combinator, repeat}`. `ParserExt` has the method forms.
+//! Everything stands under the crate's module names: streams in `stream`, answers and errors in `error`, the protocol, its drivers and sessions in `parser`, and the constructors in `parser::{token, char, byte, choice, sequence, combinator, repeat}`. `ParserExt` has the method forms. `struct_parser!` makes a struct of the values of several parsers, and `choice!` is the choice of as many as are wanted.
 #![tactic(auto)]
 
 mod methods;
 pub mod parser;
+pub mod stream;
 
-pub use combine_base::{error, stream};
+pub use combine_base::error;
+pub use combine_choice::choice;
+pub use combine_sequence::struct_parser;
 pub use methods::ParserExt;

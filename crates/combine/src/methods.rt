@@ -1,14 +1,18 @@
 //! The method forms of the constructors.
 ghost use Rattle.std.specs.Prelude.{◌≡◌};
 ghost use Rattle.combine_token.specs.Or.{or_parser};
-ghost use Rattle.combine_map.specs.Parsers.{map_of};
+ghost use Rattle.combine_map.specs.Parsers.{map_of, picked_of};
+ghost use Rattle.combine_sequence.specs.Answered.{then_of, then_partial_of, then_ref_of};
 
 use combine_base::parser::Parser;
 use combine_base::stream::Stream;
 use combine_map::combinator;
 use combine_map::combinator::types::Map;
+use combine_sequence::sequence;
+use combine_sequence::sequence::types::{Skip, Then, ThenPartial, ThenRef, With};
 use combine_token::choice;
 use combine_token::choice::types::Or;
+use combine_variants::variants::Either;
 
 /// The method forms of the constructors, which every parser has. Each means the constructor of the same name.
 ///
@@ -33,6 +37,51 @@ pub trait ParserExt<Input: Stream>: Parser<Input> {
         (self, other)
     }
 
+    /// This parser and then another: the value of the other.
+    final fn with<Q>(self, other: Q) -> With<Self, Q>
+    where
+        Self: Sized,
+        ensures { result ≡ picked_of (self, other) }
+    {
+        sequence::with(self, other)
+    }
+
+    /// This parser and then another: the value of this one.
+    final fn skip<Q>(self, other: Q) -> Skip<Self, Q>
+    where
+        Self: Sized,
+        ensures { result ≡ picked_of (self, other) }
+    {
+        sequence::skip(self, other)
+    }
+
+    /// This parser and then the one that the function answers for its value.
+    final fn then<F>(self, f: F) -> Then<Self, F>
+    where
+        Self: Sized,
+        ensures { result ≡ then_of self f }
+    {
+        sequence::then(self, f)
+    }
+
+    /// This parser and then the one that the function answers for a mutable reference to its value.
+    final fn then_partial<F>(self, f: F) -> ThenPartial<Self, F>
+    where
+        Self: Sized,
+        ensures { result ≡ then_partial_of self f }
+    {
+        sequence::then_partial(self, f)
+    }
+
+    /// This parser and then the one that the function answers for a reference to its value: the pair of both values.
+    final fn then_ref<F>(self, f: F) -> ThenRef<Self, F>
+    where
+        Self: Sized,
+        ensures { result ≡ then_ref_of self f }
+    {
+        sequence::then_ref(self, f)
+    }
+
     /// This parser, or the other where it is refused peeked.
     final fn or<Q>(self, other: Q) -> Or<Self, Q>
     where
@@ -40,6 +89,24 @@ pub trait ParserExt<Input: Stream>: Parser<Input> {
         ensures { result ≡ or_parser self other }
     {
         choice::or(self, other)
+    }
+
+    /// This parser as the left one of two.
+    final fn left<R>(self) -> Either<Self, R>
+    where
+        Self: Sized,
+        ensures { result ≡ Either.Left self }
+    {
+        Either::Left(self)
+    }
+
+    /// This parser as the right one of two.
+    final fn right<L>(self) -> Either<L, Self>
+    where
+        Self: Sized,
+        ensures { result ≡ Either.Right self }
+    {
+        Either::Right(self)
     }
 
     /// This parser with its value changed by the function.

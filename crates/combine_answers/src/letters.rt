@@ -13,8 +13,8 @@ use std::alloc::{AllocError, Global};
 /// The last of these tokens, behind as many as are passed.
 #[derive(Drop)]
 pub(crate) struct Letters {
-    bytes: [u8; 5],
-    passed: usize,
+    pub(crate) bytes: [u8; 5],
+    pub(crate) passed: usize,
 }
 
 impl Clone for Letters {

@@ -5,9 +5,12 @@
 
 mod answered;
 mod cases;
+mod classes;
+mod composed;
 mod feeding;
 mod letters;
 mod list;
+mod lists;
 mod room;
 mod run;
 mod show;

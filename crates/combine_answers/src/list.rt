@@ -1,5 +1,6 @@
 //! The list of parsers.
 
+use crate::composed::{answer_composed, answer_of_characters};
 use crate::feeding::Feeding;
 use crate::text::answer_among;
 use std::alloc::{AllocError, Global};
@@ -10,10 +11,14 @@ type Found = Option<Result<String, AllocError>>;
 /// The answer of the parser of the list that has this text.
 pub(crate) fn find(alloc: Global, parser: &str, feeding: &Feeding<'_>) -> Found {
     single_tokens(alloc, parser, feeding)
+        .or_else(|| among_tokens(alloc, parser, feeding))
         .or_else(|| choices(alloc, parser, feeding))
         .or_else(|| sequences(alloc, parser, feeding))
+        .or_else(|| kept_values(alloc, parser, feeding))
         .or_else(|| repetitions(alloc, parser, feeding))
         .or_else(|| without_room(alloc, parser, feeding))
+        .or_else(|| answered(alloc, parser, feeding))
+        .or_else(|| of_characters(alloc, parser, feeding))
 }
 
 /// Single tokens, lists of tokens, and values.
@@ -26,6 +31,21 @@ fn single_tokens(alloc: Global, parser: &str, feeding: &Feeding<'_>) -> Found {
         tokens(),
         tokens(ab),
         value(x),
+    )
+}
+
+/// Tokens by a function or among others, and the end.
+fn among_tokens(alloc: Global, parser: &str, feeding: &Feeding<'_>) -> Found {
+    answer_among!(
+        alloc, parser, feeding;
+        satisfy_map(small),
+        one_of(),
+        one_of(abc),
+        many1(none_of(abc)),
+        tokens_cmp(),
+        tokens_cmp(abc),
+        tuple(produce(x), eof()),
+        eof(),
     )
 }
 
@@ -50,6 +70,18 @@ fn sequences(alloc: Global, parser: &str, feeding: &Feeding<'_>) -> Found {
         tuple(token(a)),
         tuple(token(a), optional(token(b)), token(c)),
         tuple(token(a), token(b), token(a), token(c)),
+        tuple(value(x), token(a)),
+    )
+}
+
+/// Sequences of whose values one is kept, or none.
+fn kept_values(alloc: Global, parser: &str, feeding: &Feeding<'_>) -> Found {
+    answer_among!(
+        alloc, parser, feeding;
+        with(token(a), token(b)),
+        skip(token(a), token(b)),
+        between(token(a), token(c), tokens(let)),
+        ignore(token(a)),
     )
 }
 
@@ -81,4 +113,14 @@ fn without_room(alloc: Global, parser: &str, feeding: &Feeding<'_>) -> Found {
         many(many1_within(1, token(a))),
         skip_many(many1_within(1, token(a))),
     )
+}
+
+/// Parsers that functions answer.
+fn answered(alloc: Global, parser: &str, feeding: &Feeding<'_>) -> Found {
+    answer_composed!(alloc, parser, feeding; then(any()), many(then(any())))
+}
+
+/// Parsers that read characters.
+fn of_characters(alloc: Global, parser: &str, feeding: &Feeding<'_>) -> Found {
+    answer_of_characters!(alloc, parser, feeding; or(attempt(string(ab)), string(ac)))
 }

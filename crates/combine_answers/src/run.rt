@@ -27,7 +27,8 @@ impl<O: Show> Visitor<fed::Stream<u8>, O> for Runs<'_> {
         self,
         parser: P,
     ) -> Result<String, AllocError> {
-        run(self.alloc, parser, self.feeding)?.to_text(self.alloc, self.feeding.style)
+        let feeding = self.feeding;
+        run(self.alloc, parser, &feeding.pieces, feeding.ended)?.to_text(self.alloc, feeding.style)
     }
 }
 
@@ -42,26 +43,27 @@ where
 /// What a parser answers to an input: at the last piece that is fed, or at the first at which it decides.
 ///
 /// A session runs it, but where the end of the input comes with a last piece that isn't empty: that the parser is given over its stream, at once with the end.
-fn run<P: Parser<fed::Stream<u8>> + Drop>(
+pub(crate) fn run<T: Copy + 'static, P: Parser<fed::Stream<T>> + Drop>(
     alloc: Global,
     parser: P,
-    feeding: &Feeding<'_>,
+    pieces: &[&[T]],
+    ended: bool,
 ) -> Result<Answered<P::Output>, AllocError>
     requires { P.lawful parser }
 {
-    match feeding.pieces.as_slice() {
-        [only] if feeding.ended => Ok(run_at_once(alloc, parser, only)),
-        [first @ .., []] if feeding.ended => run_session(alloc, parser, first, true),
-        pieces if feeding.ended => run_windows(alloc, parser, pieces),
+    match pieces {
+        [only] if ended => Ok(run_at_once(alloc, parser, only)),
+        [first @ .., []] if ended => run_session(alloc, parser, first, true),
+        pieces if ended => run_windows(alloc, parser, pieces),
         pieces => run_session(alloc, parser, pieces, false),
     }
 }
 
 /// Gives the whole input at once.
-fn run_at_once<P: Parser<fed::Stream<u8>> + Drop>(
+fn run_at_once<T: Copy + 'static, P: Parser<fed::Stream<T>> + Drop>(
     alloc: Global,
     parser: P,
-    input: &[u8],
+    input: &[T],
 ) -> Answered<P::Output>
     requires { P.lawful parser }
 {
@@ -83,10 +85,10 @@ fn run_at_once<P: Parser<fed::Stream<u8>> + Drop>(
 }
 
 /// Feeds the pieces to a session, and then the end where the input ends.
-fn run_session<P: Parser<fed::Stream<u8>> + Drop>(
+fn run_session<T: Copy + 'static, P: Parser<fed::Stream<T>> + Drop>(
     alloc: Global,
     parser: P,
-    pieces: &[&[u8]],
+    pieces: &[&[T]],
     ended: bool,
 ) -> Result<Answered<P::Output>, AllocError>
     requires { P.lawful parser }
@@ -108,10 +110,10 @@ fn run_session<P: Parser<fed::Stream<u8>> + Drop>(
 }
 
 /// Feeds the pieces over a stream, the last one with the end.
-fn run_windows<P: Parser<fed::Stream<u8>> + Drop>(
+fn run_windows<T: Copy + 'static, P: Parser<fed::Stream<T>> + Drop>(
     alloc: Global,
     parser: P,
-    pieces: &[&[u8]],
+    pieces: &[&[T]],
 ) -> Result<Answered<P::Output>, AllocError>
     requires { P.lawful parser }
 {
@@ -133,11 +135,11 @@ fn run_windows<P: Parser<fed::Stream<u8>> + Drop>(
 }
 
 /// Feeds a piece, with the end where it is the last, and parses on from the state.
-fn go_on<P: Parser<fed::Stream<u8>>>(
+fn go_on<T: Copy + 'static, P: Parser<fed::Stream<T>>>(
     parser: &mut P,
-    stream: &mut fed::Stream<u8>,
+    stream: &mut fed::Stream<T>,
     state: &mut P::PartialState,
-    piece: &[u8],
+    piece: &[T],
     last: bool,
 ) -> Result<Answer<P::Output, UnexpectedParse>, SessionError>
     requires lawful { P.lawful parser.old }
@@ -151,7 +153,11 @@ fn go_on<P: Parser<fed::Stream<u8>>>(
 }
 
 /// Feeds a piece, with the end where it is the last. Answers `TooLong` or `Memory` where it finds no room.
-fn feed(stream: &mut fed::Stream<u8>, piece: &[u8], last: bool) -> Result<(), SessionError> {
+fn feed<T: Copy + 'static>(
+    stream: &mut fed::Stream<T>,
+    piece: &[T],
+    last: bool,
+) -> Result<(), SessionError> {
     if stream.room() < piece.len() as u64 {
         return Err(SessionError::TooLong);
     }

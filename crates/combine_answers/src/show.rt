@@ -16,6 +16,15 @@ impl Show for u8 {
     }
 }
 
+/// What `string` answers.
+impl Show for &'static str {
+    fn show(&self, text: &mut String) -> Result<(), AllocError> {
+        text.push('"')?;
+        text.push_str(self)?;
+        text.push('"')
+    }
+}
+
 /// What a parser answers that skips.
 impl Show for () {
     fn show(&self, text: &mut String) -> Result<(), AllocError> {
@@ -91,6 +100,34 @@ impl<A: Show, B: Show, C: Show, D: Show> Show for (A, B, C, D) {
         show_next(&self.1, text)?;
         show_next(&self.2, text)?;
         show_next(&self.3, text)?;
+        text.push(')')
+    }
+}
+
+impl<A: Show, B: Show, C: Show, D: Show, E: Show> Show for (A, B, C, D, E) {
+    fn show(&self, text: &mut String) -> Result<(), AllocError> {
+        text.push('(')?;
+        self.0.show(text)?;
+        show_next(&self.1, text)?;
+        show_next(&self.2, text)?;
+        show_next(&self.3, text)?;
+        show_next(&self.4, text)?;
+        text.push(')')
+    }
+}
+
+impl<A: Show, B: Show, C: Show, D: Show, E: Show, F: Show, G: Show, H: Show> Show
+    for (A, B, C, D, E, F, G, H) {
+    fn show(&self, text: &mut String) -> Result<(), AllocError> {
+        text.push('(')?;
+        self.0.show(text)?;
+        show_next(&self.1, text)?;
+        show_next(&self.2, text)?;
+        show_next(&self.3, text)?;
+        show_next(&self.4, text)?;
+        show_next(&self.5, text)?;
+        show_next(&self.6, text)?;
+        show_next(&self.7, text)?;
         text.push(')')
     }
 }

@@ -1,4 +1,5 @@
 pub mod Calls
+pub mod Characters
 pub mod Distances
 pub mod Explaining
 pub mod Following

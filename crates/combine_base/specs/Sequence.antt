@@ -1,5 +1,7 @@
 -- tuples: one parser and then another
+pub mod Followed
 pub mod Joined
+pub mod Longer
 pub mod Meanings
 pub mod Parts
 pub mod Places

@@ -10,8 +10,10 @@ use crate::error::{ParseError, ParseResult};
 
 pub mod fed;
 mod slices;
+mod texts;
 
 pub use slices::Left;
+pub use texts::split_first;
 
 /// Why a read, a reset or a parse didn't succeed. Our own; all but `Refused` and `End` are faults.
 #[derive(Clone, Copy, Debug, PartialEq, Eq)]

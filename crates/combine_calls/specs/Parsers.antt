@@ -3,10 +3,13 @@ use Rattle.std.specs.Prelude.{ℕ, ◌≡◌, nat_eq, Bool, Option}
 use Rattle.combine_base.specs.Parser.Meaning.{Meaning, Reading}
 use Rattle.combine_base.specs.Error.Errors.{Nothing}
 use Rattle.combine_base.specs.Sequence.Tuples.{tuple_1, tuple_2, tuple_3, tuple_4}
+use Rattle.combine_token.specs.Among.{among, beside}
 use Rattle.combine_token.specs.Choice.{Either, refused}
 use Rattle.combine_token.specs.Given.{given}
 use Rattle.combine_token.specs.Optional.{optional}
-use Rattle.combine_token.specs.OneToken.{of_function, one_token, satisfied}
+use Rattle.combine_token.specs.Iterated.{iterated}
+use Rattle.combine_token.specs.OneToken.{ends_there, of_function, of_token, one_token, satisfied}
+use Rattle.combine_token.specs.TokenLists.{matching}
 use Rattle.combine_map.specs.Attempt.{attempted}
 use Rattle.combine_repeat.specs.Repetition.{many, many1, skip_many, skip_many1}
 use Rattle.combine_repeat.specs.Turns.{Collecting}
@@ -14,6 +17,27 @@ use Rattle.combine_repeat.specs.Turns.{Collecting}
 -- one token of which this holds
 abbrev pub one_where : {P T : Type 0} → (T → Bool) → Reading P T T
 one_where f = one_token (satisfied (of_function f))
+
+-- one token, for which the relation has a value
+abbrev pub one_for : {P T V : Type 0} → (T → Option V → Type 0) → Reading P T V
+one_for f = one_token (of_token f)
+
+-- the end, and no token
+abbrev pub ended : {P T : Type 0} → Reading P T (Unit {0})
+ended = one_token ends_there
+
+module _ {L I A : Type 0} (clones : L → L → Type 0) (makes : L → I → Type 0) (steps : I → Option A → I → Type 0) (list : L) {T : Type 0} (same : A → T → Bool) where
+  -- one token that is the same as an item of the list
+  abbrev pub one_among : {P : Type 0} → Reading P T T
+  one_among = one_token (satisfied (among clones makes steps list same))
+
+  -- one that isn't
+  abbrev pub one_beside : {P : Type 0} → Reading P T T
+  one_beside = one_token (satisfied (beside clones makes steps list same))
+
+  -- tokens that are the same as the items, one after another; the value is a clone of the list
+  abbrev pub matches : {P : Type 0} → Reading P T L
+  matches = matching (iterated clones makes steps list (λ x t b. b ≡ same x t)) (clones list) 0
 
 abbrev pub byte : {P : Type 0} → ℕ → Reading P ℕ ℕ
 byte b = one_where (λ t. nat_eq t b)

@@ -1,11 +1,11 @@
 //! Calls of the constructors of single tokens and of values.
 ghost use Rattle.std.specs.Prelude.{ℕ, ◌≡◌, Bool, true};
-ghost use Rattle.combine_calls.specs.Parsers.{byte, byte_given, one_where};
+ghost use Rattle.combine_calls.specs.Parsers.{byte, byte_given, ended, one_for, one_where};
 
 use crate::{Call, Visitor};
 use combine_base::error::ParseError;
 use combine_base::stream::Stream;
-use combine_token::token::{any, satisfy, token, value};
+use combine_token::token::{any, eof, produce, satisfy, satisfy_map, token, value};
 use std::alloc::Global;
 use std::marker::PhantomData;
 
@@ -63,6 +63,43 @@ impl<C: Class> Call for SatisfyCall<C> {
     }
 }
 
+/// A function of bytes that has a value for some.
+pub trait Picks {
+    ghost use Rattle.std.specs.Prelude.{Option};
+
+    type Output: Drop;
+
+    ghost picks: { ℕ → Option Self.Output → Type 0 };
+
+    fn pick(byte: u8) -> Option<Self::Output>
+        ensures { picks byte result };
+}
+
+/// `satisfy_map(F::pick)`.
+#[derive(Drop)]
+pub struct SatisfyMapCall<F>(PhantomData<(F,)>);
+
+impl<F: Picks> Call for SatisfyMapCall<F> {
+    type Output = F::Output;
+
+    ghost reading = { λ P step. one_for F.picks };
+
+    #[inline(always)]
+    fn accept<Input: Stream<Token = u8>, V: Visitor<Input, F::Output>>(
+        alloc: Global,
+        visitor: V,
+    ) -> V::Answer
+    where
+        Input::Error: ParseError<u8, Input::Range, Input::Position>,
+    {
+        visitor.visit(satisfy_map(
+            |token: u8| -> Option<F::Output>
+                ensures { F.picks token result }
+            { F::pick(token) },
+        ))
+    }
+}
+
 /// `token(T)`.
 #[derive(Drop)]
 pub struct TokenCall<const T: u8>;
@@ -102,5 +139,51 @@ impl<const T: u8> Call for ValueCall<T> {
         Input::Error: ParseError<u8, Input::Range, Input::Position>,
     {
         visitor.visit(value(T))
+    }
+}
+
+/// `produce(|| T)`.
+#[derive(Drop)]
+pub struct ProduceCall<const T: u8>;
+
+impl<const T: u8> Call for ProduceCall<T> {
+    type Output = u8;
+
+    ghost reading = { λ P step. byte_given T };
+
+    #[inline(always)]
+    fn accept<Input: Stream<Token = u8>, V: Visitor<Input, u8>>(
+        alloc: Global,
+        visitor: V,
+    ) -> V::Answer
+    where
+        Input::Error: ParseError<u8, Input::Range, Input::Position>,
+    {
+        visitor.visit(produce(
+            || -> u8
+                ensures { result ≡ T }
+            { T },
+        ))
+    }
+}
+
+/// `eof()`.
+#[derive(Drop)]
+pub struct EofCall;
+
+impl Call for EofCall {
+    type Output = ();
+
+    ghost reading = { λ P step. ended };
+
+    #[inline(always)]
+    fn accept<Input: Stream<Token = u8>, V: Visitor<Input, ()>>(
+        alloc: Global,
+        visitor: V,
+    ) -> V::Answer
+    where
+        Input::Error: ParseError<u8, Input::Range, Input::Position>,
+    {
+        visitor.visit(eof())
     }
 }

@@ -5,19 +5,25 @@ ghost use Rattle.std.specs.Prelude.{ℕ};
 ghost use Rattle.combine_base.specs.Parser.Meaning.{Reading};
 
 mod leaves;
+mod lists;
 mod of_more;
 mod of_one;
 mod of_several;
 mod repeats;
+mod sequences;
 
 use combine_base::error::ParseError;
 use combine_base::parser::Parser;
 use combine_base::stream::Stream;
-pub use leaves::{AnyCall, Class, SatisfyCall, TokenCall, ValueCall};
+pub use leaves::{
+    AnyCall, Class, EofCall, Picks, ProduceCall, SatisfyCall, SatisfyMapCall, TokenCall, ValueCall,
+};
+pub use lists::{Compare, Listed, NoneOfCall, OneOfCall, TokensCmpCall};
 pub use of_more::{Tuple3Call, Tuple4Call};
 pub use of_one::{AttemptCall, Change, MapCall, OptionalCall};
 pub use of_several::{OrCall, Tuple1Call, Tuple2Call};
 pub use repeats::{Collect, InVec, Many1Call, ManyCall, SkipMany1Call, SkipManyCall};
+pub use sequences::{BetweenCall, IgnoreCall, PickCall, SkipCall, WithCall};
 use std::alloc::Global;
 
 /// A call of a constructor, over any stream of bytes.

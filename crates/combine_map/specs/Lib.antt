@@ -5,6 +5,9 @@ pub use Rattle.combine_base.specs.Parser.Outcome
 pub use Rattle.combine_base.specs.Parser.OutcomeFacts
 pub use Rattle.combine_base.specs.Stream.View
 pub mod Attempt
+pub mod Backs
 pub mod PutBack
 pub mod Parsers
 pub mod Laws
+pub mod Picks
+pub mod Tables

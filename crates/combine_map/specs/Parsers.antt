@@ -1,6 +1,10 @@
 -- the parsers of this crate, of their parts
+use Rattle.combine_map.specs.declared.combinator.look.LookAhead.{LookAhead}
+use Rattle.combine_map.specs.declared.combinator.look.NoPartial.{NoPartial}
+use Rattle.combine_map.specs.declared.combinator.look.NotFollowedBy.{NotFollowedBy}
 use Rattle.combine_map.specs.declared.combinator.types.Map.{Map}
 use Rattle.combine_map.specs.declared.combinator.types.Try.{Try}
+use Rattle.combine_map.specs.declared.combinator.values.Picked.{Picked}
 
 -- `map` of a parser and a function
 abbrev pub map_of : {P F : Type 0} → P → F → Map P F
@@ -18,3 +22,29 @@ attempt_of p = record { 0 = p }
 
 abbrev pub attempt_part : {P : Type 0} → Try P → P
 attempt_part t = t.0
+
+-- the parser of this part, of whose value W says what is kept
+abbrev pub picked_of : {P W : Type 0} → P → Picked P W
+picked_of p = record { part = p; pick = record {} }
+
+abbrev pub picked_part : {P W : Type 0} → Picked P W → P
+picked_part t = t.part
+
+-- `look_ahead`, `not_followed_by` and `no_partial` of a parser
+abbrev pub look_ahead_of : {P : Type 0} → P → LookAhead P
+look_ahead_of p = record { 0 = p }
+
+abbrev pub look_part : {P : Type 0} → LookAhead P → P
+look_part t = t.0
+
+abbrev pub not_followed_by_of : {P : Type 0} → P → NotFollowedBy P
+not_followed_by_of p = record { 0 = p }
+
+abbrev pub denied_part : {P : Type 0} → NotFollowedBy P → P
+denied_part t = t.0
+
+abbrev pub no_partial_of : {P : Type 0} → P → NoPartial P
+no_partial_of p = record { 0 = p }
+
+abbrev pub whole_part : {P : Type 0} → NoPartial P → P
+whole_part t = t.0

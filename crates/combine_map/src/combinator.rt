@@ -1,12 +1,14 @@
-//! Parsers that change the value of another parser, or put its refusals back.
+//! Parsers that change the value of another parser, or keep a part of it, put its refusals back, or look ahead.
 ghost use Rattle.std.specs.Prelude.{◌≡◌, if◌then◌else◌};
 ghost use Rattle.combine_map.specs.Attempt.{IsFresh};
-ghost use Rattle.combine_map.specs.Parsers.{attempt_of, map_of};
+ghost use Rattle.combine_map.specs.Parsers.{attempt_of, look_ahead_of, map_of, no_partial_of, not_followed_by_of, picked_of};
 
 pub mod laws;
+mod look;
 pub mod types;
+mod values;
 
-use types::{Map, Try};
+use types::{Ignore, LookAhead, Map, NoPartial, NotFollowedBy, Try};
 
 /// As `p`, its value changed by `f`.
 ///
@@ -26,6 +28,46 @@ pub fn attempt<P>(p: P) -> Try<P>
     ensures { result ≡ attempt_of p }
 {
     Try(p)
+}
+
+/// As `p`, with the value `()`.
+///
+/// What is taken, refusals, faults, need of more and the state are those of `p`.
+#[inline]
+pub fn ignore<P>(p: P) -> Ignore<P>
+    ensures { result ≡ picked_of p }
+{
+    Ignore::new(p)
+}
+
+/// The value of `p`, accepted peeked, with the stream put back to where the parser began. What `p` refuses is refused alike.
+///
+/// On need of more the stream is put back too, and the next call begins again. Faults are those of `p`, and `Reset` where the stream could not be put back.
+#[inline]
+pub fn look_ahead<P>(p: P) -> LookAhead<P>
+    ensures { result ≡ look_ahead_of p }
+{
+    LookAhead(p)
+}
+
+/// Accepted peeked where `p` is refused, and refused peeked where `p` is accepted; the stream is put back to where the parser began.
+///
+/// At the end of an open piece it is accepted only where `p` is refused there: else more is asked for, with the stream put back, and the next call begins again. A fault of `p` stays one; `Reset` where the stream could not be put back. The error of its refusal says nothing. The crate asks that the values of `p` can be shown.
+#[inline]
+pub fn not_followed_by<P>(p: P) -> NotFollowedBy<P>
+    ensures { result ≡ not_followed_by_of p }
+{
+    NotFollowedBy(p)
+}
+
+/// As `p`, but that no state is kept: on need of more the stream is put back to where the parser began, and the next call begins again.
+///
+/// `Reset` where the stream could not be put back.
+#[inline]
+pub fn no_partial<P>(p: P) -> NoPartial<P>
+    ensures { result ≡ no_partial_of p }
+{
+    NoPartial(p)
 }
 
 /// What `attempt` keeps while more input is needed: the distance that was read, in tokens, and the state of its part.

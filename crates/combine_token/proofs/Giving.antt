@@ -3,8 +3,11 @@ use Rattle.std.proofs.Common.{ℕ, zero, suc, ◌<◌, ◌≡◌, List, [], ◌�
 use Rattle.combine_base.specs.Stream.View.{View}
 use Rattle.combine_base.specs.Error.Items.{Item}
 use Rattle.combine_base.specs.Parser.Outcome.{Outcome}
-use Rattle.combine_base.specs.Parser.Meaning.{MeansSame}
-use Rattle.combine_token.specs.TokenLists.{TokenList, token_list}
+use Rattle.combine_base.specs.Parser.Meaning.{Alike, MeansSame}
+use Rattle.combine_base.specs.Parser.Answer.{Answers, Run, World}
+use Rattle.combine_base.proofs.Same.{answers_alike}
+use Rattle.combine_base.specs.declared.error.ParseResult.{ParseResult}
+use Rattle.combine_token.specs.TokenLists.{TokenList, matching, token_list}
 use Rattle.combine_token.specs.Iterated.{GaveAt, GaveAll, Stands, Ends, iterated}
 use Rattle.combine_token.specs.Listed.{Within, listed}
 use Rattle.combine_token.proofs.Iterating.{gave_none}
@@ -58,18 +61,32 @@ module _ {L I A B T : Type 0} (clones : L → L → Type 0) (makes : L → I →
     ends = λ m e. subst (Ends clones makes steps list) (sym e) h.end;
   }
 
--- lists of which the same is known mean the same
-module _ {P T R V S : Type 0} (l l' : TokenList T) (h : Within l l') (k : Within l' l) (gives : V → Type 0) (matched : S → ℕ) (lean : Type 0) (adds : List (Item T R) → Type 0) where
-  both_ways : (n : ℕ) (v : View P T) (o : Outcome V) → (token_list l {P = P} {R = R} gives (λ (m : ℕ). m) lean adds).rest n v o ↔ (token_list l' {P = P} {R = R} gives (λ (m : ℕ). m) lean adds).rest n v o
-  both_ways n v o = (matching_within l l' h gives n v.is_open v.unread o, matching_within l' l k gives n v.is_open v.unread o)
+pub within_same : {T : Type 0} (l : TokenList T) → Within l l
+within_same l = record { fits = λ n t b p. p; has = λ n p. p; ends = λ m p. p }
 
-  pub token_list_means_same : MeansSame (token_list l {P = P} gives matched lean adds) (token_list l' gives matched lean adds)
-  token_list_means_same = record {
-    whole = both_ways 0;
-    rest = λ s. both_ways (matched s);
-    lost = λ s v. (λ p. p, λ p. p);
-    keeps = (λ p. p, λ p. p);
-    puts_back = (λ p. p, λ p. p);
-    lean = (λ p. p, λ p. p);
-    adds = λ is. (λ p. p, λ p. p);
-  }
+-- lists of which the same is known mean the same
+module _ {P T V : Type 0} (l l' : TokenList T) (h : Within l l') (k : Within l' l) (gives gives' : V → Type 0) (g : (v : V) → gives v ↔ gives' v) where
+  both_ways : (n : ℕ) (v : View P T) (o : Outcome V) → matching l {P = P} gives n v o ↔ matching l' gives' n v o
+  both_ways n v o = (matching_within l l' h gives gives' (λ x. (g x).0) n v.is_open v.unread o, matching_within l' l k gives' gives (λ x. (g x).1) n v.is_open v.unread o)
+
+  module _ {R S : Type 0} (matched : S → ℕ) (lean lean' : Type 0) (f : lean ↔ lean') (adds adds' : List (Item T R) → Type 0) where
+    -- whatever they add to errors
+    pub token_list_alike : Alike (token_list l {P = P} gives matched lean adds) (token_list l' gives' matched lean' adds')
+    token_list_alike = record {
+      whole = both_ways 0;
+      rest = λ s. both_ways (matched s);
+      lost = λ s v. (λ p. p, λ p. p);
+      keeps = (λ p. p, λ p. p);
+      puts_back = (λ p. p, λ p. p);
+      lean = f;
+    }
+
+    pub token_list_means_same : ((is : List (Item T R)) → adds is ↔ adds' is) → MeansSame (token_list l {P = P} gives matched lean adds) (token_list l' gives' matched lean' adds')
+    token_list_means_same j =
+        let a = token_list_alike in
+        record { whole = a.whole; rest = a.rest; lost = a.lost; keeps = a.keeps; puts_back = a.puts_back; lean = a.lean; adds = j }
+
+-- the same list, whose value is a clone of it: such a parser asks for memory where a clone does
+module _ {P T R V S E : Type 0} (w : World P T S E) (l : TokenList T) (gives : V → Type 0) (matched : S → ℕ) (lean : Type 0) (adds : List (Item T R) → Type 0) (r : Run P T S) where
+  pub answers_cloned : (result : ParseResult V E) → Answers w (token_list l gives matched (lean × lean) adds) r result → Answers w (token_list l gives matched lean adds) r result
+  answers_cloned = answers_alike w (token_list l gives matched lean adds) (token_list l gives matched (lean × lean) adds) (token_list_alike l l (within_same l) (within_same l) gives gives (λ v. (λ p. p, λ p. p)) matched lean (lean × lean) (λ p. (p, p), λ p. p.0) adds adds) r

@@ -4,7 +4,7 @@ use Rattle.std.specs.Iterator.{Yields}
 use Rattle.combine_token.specs.Iterated.{Gave, GaveAll, Reached, Stands, Ends}
 
 module _ {I A : Type 0} (steps : I → Option A → I → Type 0) where
-  yields_more : (xs : List A) (s t u : I) (x : A) → Yields steps s xs t → steps t (Some x) u → Yields steps s (xs ++ x ∷ []) u
+  pub yields_more : (xs : List A) (s t u : I) (x : A) → Yields steps s xs t → steps t (Some x) u → Yields steps s (xs ++ x ∷ []) u
   yields_more [] s t u x y k = (u, subst (λ i. steps i (Some x) u) (sym y) k, refl)
   yields_more (z ∷ xs) s t u x y k = (y.0, y.1, yields_more xs y.0 t u x y.2 k)
 

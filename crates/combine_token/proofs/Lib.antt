@@ -1,5 +1,6 @@
 pub mod Adding
 pub mod Choosing
+pub mod Leading
 pub mod Merging
 pub mod Optionals
 pub mod Ors
@@ -7,10 +8,12 @@ pub mod OneToken
 pub mod Reasons
 pub mod ListReasons
 pub mod TokenReasons
+pub mod Seeking
 pub mod Stateless
 pub mod Matches
 pub mod ListAnswered
 pub mod Iterating
+pub mod KnownItems
 pub mod Listing
 pub mod StdLists
 pub mod Given

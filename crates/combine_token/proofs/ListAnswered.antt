@@ -86,13 +86,13 @@ module _ {P T R V S E : Type 0} (w : World P T S E) (l : TokenList T) (gives : V
         failures = λ s. f ∙ q.progress.failures s;
       }
 
-      pub match_accepted : (committed : Bool) → committed ≡ nat_lt 0 e → (result : ParseResult V E) → given.Accepted w.kind gives lean committed result → Answers w m r result
-      match_accepted committed b result p = record { is = by_result result p.is }
+      pub match_accepted : (infallible : Type 0) → (lean → infallible) → (committed : Bool) → committed ≡ nat_lt 0 e → (result : ParseResult V E) → given.Accepted w.kind gives infallible committed result → Answers w m r result
+      match_accepted infallible lend committed b result p = record { is = by_result result p.is }
         where
-          by_result : (x : ParseResult V E) → given.accepts w.kind gives lean committed x → answers w m r x
+          by_result : (x : ParseResult V E) → given.accepts w.kind gives infallible committed x → answers w m r x
           by_result (CommitOk v) p = subst (Accepts w m r v) (sym b ∙ p.1) (accepts v p.0)
           by_result (PeekOk v) p = subst (Accepts w m r v) (sym b ∙ p.1) (accepts v p.0)
-          by_result (CommitErr e) p = rw p.0 (λ f x. p.1 x, leaves same)
+          by_result (CommitErr e) p = rw p.0 (λ f x. p.1 (lend x), leaves same)
           by_result (PeekErr t) p = absurd p
 
     -- a token doesn't fit

@@ -2,10 +2,14 @@
 use Rattle.std.proofs.Common.{ℕ, suc, ◌+◌, ◌<◌, ◌≡◌, ◌^◌, List, [], ◌∷◌, take, drop, length, Bool, true, false, Some, None, Option, refl, sym, ◌∙◌, ap, subst, arith, slice_get}
 use Rattle.std.proofs.lemmas.Option.{slice_get_within}
 use Rattle.std.specs.Iterator.{Yields, AlwaysYields, Count, IsFinite, size}
+use Rattle.combine_base.specs.Stream.View.{View}
+use Rattle.combine_base.specs.Error.Errors.{Errors}
 use Rattle.combine_base.specs.Parser.Outcome.{Outcome, Accepted, Refused, Undecided}
+use Rattle.combine_base.specs.declared.error.Info.{Info}
 use Rattle.combine_token.specs.TokenLists.{TokenList, ComparesOnce, Matched, all_fit, stops, matching_at}
 use Rattle.combine_token.specs.Iterated.{Stands, Ends, IsIterated, iterated}
 use Rattle.combine_token.specs.Listed.{Lists, Within, listed}
+use Rattle.combine_token.specs.Reasons.{RefusesList}
 
 module _ {I A B : Type 0} (steps : I → Option A → I → Type 0) (v : A → B) where
   item_at : (xs : List A) (ys : List B) (s t u : I) (x : A) → AlwaysYields steps v s ys → Yields steps s xs t → steps t (Some x) u → slice_get ys (length xs) ≡ Some (v x)
@@ -72,7 +76,18 @@ module _ {T : Type 0} (l l' : TokenList T) (h : Within l l') where
   stops_within n b [] p = p
   stops_within n b (u ∷ us) p = h.fits n u false p
 
-  pub matching_within : {V : Type 0} (gives : V → Type 0) (n : ℕ) (b : Bool) (us : List T) (o : Outcome V) → matching_at l gives n b us o → matching_at l' gives n b us o
-  matching_within gives n b us (Accepted v c k) p = (p.0, h.ends p.0 p.1, p.2, matched_within n c us p.3, p.4, p.5)
-  matching_within gives n b us (Refused k) p = (p.0, h.has (n + p.0) p.1, matched_within n p.0 us p.2, stops_within (n + p.0) b (drop p.0 us) p.3, p.4)
-  matching_within gives n b us Undecided p = (p.0, h.has (n + length us) p.1, matched_within n (length us) us p.2)
+  pub matching_within : {V : Type 0} (gives gives' : V → Type 0) → ((v : V) → gives v → gives' v) → (n : ℕ) (b : Bool) (us : List T) (o : Outcome V) → matching_at l gives n b us o → matching_at l' gives' n b us o
+  matching_within gives gives' g n b us (Accepted v c k) p = (p.0, h.ends p.0 p.1, p.2, matched_within n c us p.3, p.4, g v p.5)
+  matching_within gives gives' g n b us (Refused k) p = (p.0, h.has (n + p.0) p.1, matched_within n p.0 us p.2, stops_within (n + p.0) b (drop p.0 us) p.3, p.4)
+  matching_within gives gives' g n b us Undecided p = (p.0, h.has (n + length us) p.1, matched_within n (length us) us p.2)
+
+  -- and what its errors say
+  pub refuses_within : {R P E : Type 0} (s : Errors T R P E) (expected : Option (Info T R)) (n : ℕ) (v : View P T) (committed : Bool) (e : E) → RefusesList s l expected n v committed e → RefusesList s l' expected n v committed e
+  refuses_within s expected n v committed e p = record {
+    count = p.count;
+    has = h.has (n + p.count) p.has;
+    matched = matched_within n p.count v.unread p.matched;
+    stops = stops_within (n + p.count) v.is_open (drop p.count v.unread) p.stops;
+    commits = p.commits;
+    says = p.says;
+  }

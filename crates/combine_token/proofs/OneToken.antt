@@ -12,7 +12,7 @@ use Rattle.combine_base.specs.declared.stream.Kind.TheVariants as kinds
 use Rattle.combine_base.specs.declared.stream.Failures.{Failures}
 use Rattle.combine_base.specs.declared.error.ParseResult.{ParseResult}
 use Rattle.combine_base.specs.declared.error.ParseResult.TheVariants.{PeekOk, CommitErr}
-use Rattle.combine_token.specs.OneToken.{one_token, one_token_at, satisfied, takes_one, ReadsToken, ReadsTokenIf}
+use Rattle.combine_token.specs.OneToken.{holds, of_token, one_token, one_token_at, satisfied, takes_one, ReadsToken, ReadsTokenIf}
 use Rattle.combine_token.proofs.Stateless.{Allows, into_begun, asks, answers_too}
 
 -- nothing is unread
@@ -24,14 +24,6 @@ undecided_at f i (t ∷ ts) e d = absurd (cc)
 ended_at : {T B : Type 0} (f : Option T → Option B → Type 0) (is_open : Bool) (us : List T) (b : B) → us ≡ [] → is_open ≡ false → f None (Some b) → one_token_at f is_open us (Accepted b 0 false)
 ended_at f i [] b e d p = (d, p, refl, refl)
 ended_at f i (t ∷ ts) b e d p = absurd (cc)
-
--- a token that the predicate holds of
-pub is_satisfied : {T : Type 0} (p : T → Bool → Type 0) (first : Option T) (t : T) → first ≡ Some t → p t true → satisfied p first (Some t)
-is_satisfied p first t e h = rw e (refl, h)
-
--- and one that it doesn't hold of
-pub is_unsatisfied : {T : Type 0} (p : T → Bool → Type 0) (first : Option T) (t : T) → first ≡ Some t → p t false → satisfied p first None
-is_unsatisfied p first t e h = rw e h
 
 -- a read takes one token
 pub one_taken : {P T : Type 0} (steady : Type 0) (step : P → T → P) (old new : View P T) (before after : Failures) (t : T) → TakesToken steady step old new before after t → Takes step 1 old new
@@ -92,17 +84,24 @@ module _ {P T R B S E : Type 0} (w : World P T S E) (f g : Option T → Option B
   pub takes : (result : ParseResult B E) → ReadsToken w f r.old r.new r.before r.after result → ((i : Option T) (o : Option B) → f i o → g i o) → Answers w (takes_one g lean adds) r result
   takes result h i = answers_too w (one_token f) (one_token g) (allows f g i) (Unit {0}) (Unit {0}) lean (Nothing {R = Unit {0}}) adds (λ l. tt) r result (h.answers r.first r.state r.left s)
 
--- a call under a predicate, made by one under a test that answers as the predicate allows
-pub reads_if : {P T S E : Type 0} (w : World P T S E) (f : Option T → Option T → Type 0) (p : T → Bool → Type 0) (old new : View P T) (before after : Failures) (result : ParseResult T E) → ReadsToken w f old new before after result → ((i o : Option T) → f i o → satisfied p i o) → ReadsTokenIf w p old new before after result
-reads_if w f p old new before after result h i = record { reads = record { answers = λ first state left s. takes w f (satisfied p) (Unit {0}) (Nothing {R = Unit {0}}) _ s result h i } }
+-- a call under one test, made by one under another that answers as the first allows
+pub reads_under : {P T B S E : Type 0} (w : World P T S E) (f g : Option T → Option B → Type 0) (old new : View P T) (before after : Failures) (result : ParseResult B E) → ReadsToken w f old new before after result → ((i : Option T) (o : Option B) → f i o → g i o) → ReadsToken w g old new before after result
+reads_under w f g old new before after result h i = record { answers = λ first state left s. takes w f g (Unit {0}) (Nothing {R = Unit {0}}) _ s result h i }
 
-holds_too : {T : Type 0} (p q : T → Bool → Type 0) → ((t : T) (b : Bool) → p t b → q t b) → (i o : Option T) → satisfied p i o → satisfied q i o
-holds_too p q h None None s = s
-holds_too p q h None (Some u) s = s
-holds_too p q h (Some t) None s = h t false s
-holds_too p q h (Some t) (Some u) s = (s.0, h t true s.1)
+of_token_too : {T B : Type 0} (f g : T → Option B → Type 0) → ((t : T) (o : Option B) → f t o → g t o) → (i : Option T) (o : Option B) → of_token f i o → of_token g i o
+of_token_too f g h None None s = s
+of_token_too f g h None (Some b) s = s
+of_token_too f g h (Some t) o s = h t o s
+
+-- a call under a predicate, made by one under a function that answers as the predicate allows
+pub reads_if : {P T S E : Type 0} (w : World P T S E) (f : T → Option T → Type 0) (p : T → Bool → Type 0) (old new : View P T) (before after : Failures) (result : ParseResult T E) → ReadsToken w (of_token f) old new before after result → ((t : T) (o : Option T) → f t o → holds p t o) → ReadsTokenIf w p old new before after result
+reads_if w f p old new before after result h i = record { reads = reads_under w (of_token f) (satisfied p) old new before after result h (of_token_too f (holds p) i) }
+
+holds_too : {T : Type 0} (p q : T → Bool → Type 0) → ((t : T) (b : Bool) → p t b → q t b) → (t : T) (o : Option T) → holds p t o → holds q t o
+holds_too p q h t None s = h t false s
+holds_too p q h t (Some u) s = (s.0, h t true s.1)
 
 module _ {P T R S E : Type 0} (w : World P T S E) (p q : T → Bool → Type 0) (lean : Type 0) (adds : List (Item T R) → Type 0) (r : Run P T S) (s : w.fresh r.left) where
   -- the same of a parser that makes a call under a predicate
   pub takes_if : (result : ParseResult T E) → ReadsTokenIf w p r.old r.new r.before r.after result → ((t : T) (b : Bool) → p t b → q t b) → Answers w (takes_one (satisfied q) lean adds) r result
-  takes_if result h i = takes w (satisfied p) (satisfied q) lean adds r s result h.reads (holds_too p q i)
+  takes_if result h i = takes w (satisfied p) (satisfied q) lean adds r s result h.reads (of_token_too (holds p) (holds q) (holds_too p q i))

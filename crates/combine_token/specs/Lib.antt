@@ -7,9 +7,11 @@ pub use Rattle.combine_base.specs.Parser.Outcome
 pub use Rattle.combine_base.specs.Stream.Calls
 pub use Rattle.combine_base.specs.Stream.View
 pub mod Alternatives
+pub mod Among
 pub mod Choice
 pub mod Given
 pub mod Iterated
+pub mod Leading
 pub mod ListAnswers
 pub mod Listed
 pub mod OneToken

@@ -40,6 +40,20 @@ of_token_is_test {T} {B} f h = record { one = by_case }
     by_case None b p q = p
     by_case (Some t) b p q = h.one t b p q
 
+-- the end, and no token
+abbrev pub ends_there : {T : Type 0} → Option T → Option (Unit {0}) → Type 0
+ends_there None None = ⊥
+ends_there None (Some u) = Unit {0}
+ends_there (Some t) None = Unit {0}
+ends_there (Some t) (Some u) = ⊥
+
+pub ends_there_is_test : {T : Type 0} → IsTest (ends_there {T = T})
+ends_there_is_test {T} = record { one = by_case }
+  where
+    by_case : (i : Option T) (u : Unit {0}) → ends_there i (Some u) → ends_there i None → ⊥
+    by_case None u p q = q
+    by_case (Some t) u p q = p
+
 -- the token itself, if the predicate holds of it
 abbrev pub holds : {T : Type 0} → (T → Bool → Type 0) → T → Option T → Type 0
 holds p t (Some u) = (u ≡ t) × p t true

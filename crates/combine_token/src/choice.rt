@@ -2,6 +2,7 @@
 ghost use Rattle.std.specs.Prelude.{◌≡◌, if◌then◌else◌};
 ghost use Rattle.combine_base.specs.Error.Errors.{IsFault};
 ghost use Rattle.combine_token.specs.Alternatives.{AfterRefusal, PeeksNoFault};
+ghost use Rattle.combine_token.specs.Leading.{running};
 ghost use Rattle.combine_token.specs.Optional.{optional_parser};
 ghost use Rattle.combine_token.specs.Or.{StartsSame, or_parser};
 
@@ -38,10 +39,24 @@ impl<S, T> Default for OrState<S, T> {
     }
 }
 
-impl<S: Drop, T: Drop> OrState<S, T> {
-    /// Hands out what is kept, if the call resumes.
+impl<S: Default, T> OrState<S, T> {
+    /// The state that the first parser goes on from or begins in, or else that of the second.
     #[inline(always)]
-    pub(crate) fn begin(&mut self, first: bool) -> OrState<S, T>
+    pub(crate) fn running(self) -> Result<S, T>
+        ensures { running S.is_default self result }
+    {
+        match self {
+            OrState::Peek => Ok(S::default()),
+            OrState::A(kept) => Ok(kept),
+            OrState::B(kept) => Err(kept),
+        }
+    }
+}
+
+impl<S: Drop, T: Drop> OrState<S, T> {
+    /// Hands out what is kept, if the call resumes. Our own.
+    #[inline(always)]
+    pub fn begin(&mut self, first: bool) -> OrState<S, T>
         ensures begun { result ≡ (if first then OrState.Peek else self.old) }
         ensures left { self.new ≡ OrState.Peek }
     {
@@ -84,9 +99,9 @@ pub fn or_is_associative<
         (⟦<Or<A, Or<B, C>> as Parser<Input>>⟧.meaning (or_parser a.now (or_parser b.now c.now))) }
 {}
 
-/// The answer of the later alternatives, after one that was refused peeked: where they are refused peeked too, the errors are merged in order.
+/// The answer of the later alternatives, after one that was refused peeked: where they are refused peeked too, the errors are merged in order. Our own.
 #[inline(always)]
-pub(crate) fn after_refusal<O, T: Copy, R: Copy, P: Ord, E: ParseError<T, R, P>>(
+pub fn after_refusal<O, T: Copy, R: Copy, P: Ord, E: ParseError<T, R, P>>(
     first: Tracked<E>,
     answer: ParseResult<O, E>,
 ) -> ParseResult<O, E>

@@ -2,17 +2,19 @@
 //!
 //! The parsers of single tokens and of values keep no state: on need of more nothing was taken and nothing is unread, and the next call begins again. A list of tokens keeps how many were matched.
 ghost use Rattle.std.specs.Prelude.{◌≡◌};
-ghost use Rattle.combine_token.specs.TokenParsers.{any_parser, satisfy_parser, token_parser, value_parser};
+ghost use Rattle.combine_token.specs.TokenParsers.{any_parser, eof_parser, position_parser, produce_parser, satisfy_map_parser, satisfy_parser, token_parser, value_parser};
 
 use std::marker::PhantomData;
-use types::{Any, Satisfy, Token, Value};
+use types::{Any, Eof, Position, Produce, Satisfy, SatisfyMap, Token, Value};
 
+mod among;
 mod lists;
 pub mod reading;
 pub mod types;
 
-pub use lists::tokens;
+pub use among::{none_of, one_of};
 pub use lists::types::TokensState;
+pub use lists::{match_list, tokens, tokens_cmp};
 
 /// Takes any token: accepted committed, with that token as the value.
 ///
@@ -37,6 +39,19 @@ pub fn satisfy<Input, F>(predicate: F) -> Satisfy<Input, F>
     }
 }
 
+/// Takes a token that the function answers a value for: accepted committed, with that value.
+///
+/// Another token is put back and refused peeked, as is the end of an ended list; nothing is said to be expected. The function is an `Fn`, where the crate takes an `FnMut`.
+#[inline]
+pub fn satisfy_map<Input, F>(predicate: F) -> SatisfyMap<Input, F>
+    ensures { result ≡ satisfy_map_parser predicate }
+{
+    SatisfyMap {
+        predicate,
+        reads: PhantomData,
+    }
+}
+
 /// Takes a token that equals this one: accepted committed, with the token that was taken as the value.
 ///
 /// Another token is put back and refused peeked, as is the end of an ended list; this token is said to be expected.
@@ -50,6 +65,14 @@ pub fn token<Input, T>(token: T) -> Token<Input, T>
     }
 }
 
+/// Accepts everywhere, peeked, with the position as the value, and reads nothing.
+#[inline]
+pub fn position<Input>() -> Position<Input>
+    ensures { result ≡ position_parser }
+{
+    Position { reads: PhantomData }
+}
+
 /// Accepts everywhere, peeked, with a clone of the value, and reads nothing.
 ///
 /// A clone that finds no memory is the fault `Memory`; the crate's can't fail.
@@ -61,4 +84,27 @@ pub fn value<Input, T>(value: T) -> Value<Input, T>
         value,
         reads: PhantomData,
     }
+}
+
+/// Accepts everywhere, peeked, with what the function answers, and reads nothing.
+///
+/// The function is an `Fn`, where the crate takes an `FnMut`.
+#[inline]
+pub fn produce<Input, F>(f: F) -> Produce<Input, F>
+    ensures { result ≡ produce_parser f }
+{
+    Produce {
+        function: f,
+        reads: PhantomData,
+    }
+}
+
+/// Accepts the end of an ended list, peeked.
+///
+/// The end of an open list is need of more. A token is put back and refused peeked; the end of input is said to be expected.
+#[inline]
+pub fn eof<Input>() -> Eof<Input>
+    ensures { result ≡ eof_parser }
+{
+    Eof { reads: PhantomData }
 }

@@ -4,11 +4,19 @@
 #[cfg(test)]
 mod drivers;
 #[cfg(test)]
+mod looks;
+#[cfg(test)]
 mod messages;
 #[cfg(test)]
 mod rows;
 #[cfg(test)]
+mod sequences;
+#[cfg(test)]
 mod sessions;
+#[cfg(test)]
+mod thens;
+#[cfg(test)]
+mod tokens;
 
 use combine_answers::answer;
 use std::io;

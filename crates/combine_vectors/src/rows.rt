@@ -2,6 +2,7 @@
 
 use combine_answers::{answer, answer_with_unread};
 use std::alloc::{AllocError, Global};
+use std::process::Abort;
 
 /// What a parser answers to pieces, and how many tokens are unread each time that it asks for more.
 const FED: [(&str, &str); 10] = [
@@ -110,18 +111,27 @@ fn rows_in_pieces(rt: HostRuntime) -> Result<(), AllocError> {
 
 #[test]
 fn rows_over_every_cut(rt: HostRuntime) -> Result<(), AllocError> {
-    for (parser, input, wanted) in ROWS {
+    over_every_cut(&rt, rt.alloc(), &ROWS)
+}
+
+/// Each parser's answer is the wanted one, however its input is cut.
+pub(crate) fn over_every_cut(
+    rt: &impl Abort,
+    alloc: Global,
+    rows: &[(&str, &str, &str)],
+) -> Result<(), AllocError> {
+    for (parser, input, wanted) in rows {
         for places in 0..sets_of_places(input) {
-            let case = case_of(rt.alloc(), parser, input, places)?;
-            let said = answer(rt.alloc(), case.as_str())?.unwrap_or(String::new(rt.alloc()));
-            assert_eq!(rt; without_count(said.as_str()), wanted, "{case}");
+            let case = case_of(alloc, parser, input, places)?;
+            let said = answer(alloc, case.as_str())?.unwrap_or(String::new(alloc));
+            assert_eq!(rt; without_count(said.as_str()), *wanted, "{case}");
         }
     }
     Ok(())
 }
 
 /// An answer without the number of pieces at whose end more was asked for.
-fn without_count(said: &str) -> &str {
+pub(crate) fn without_count(said: &str) -> &str {
     let Some(counted) = said.strip_prefix("asked ") else {
         return said;
     };
@@ -132,7 +142,12 @@ fn without_count(said: &str) -> &str {
 }
 
 /// A parser with its input cut behind each byte whose bit is set in `places`, the lowest bit first, an empty piece before each piece, and the end behind the last.
-fn case_of(alloc: Global, parser: &str, input: &str, places: u32) -> Result<String, AllocError> {
+pub(crate) fn case_of(
+    alloc: Global,
+    parser: &str,
+    input: &str,
+    places: u32,
+) -> Result<String, AllocError> {
     let mut case = String::new(alloc);
     case.push_str(parser)?;
     case.push_str(" /")?;

@@ -54,7 +54,7 @@ one_is_rest (n ∷ ns) input h =
     let i = one_is_rest ns (drop n input) (omega arith) in
     omega (arith, length-drop n input)
 
-module _ (r : Reading ℕ ℕ Message) (single : IsSingle r) (sizes input : List ℕ) where
+module _ {S : Type 0} (r : Reading ℕ ℕ Message) (kept : S → Reading ℕ ℕ Message) (single : IsSingle r) (sizes input : List ℕ) where
   abbrev pieces : List (List ℕ)
   pieces = pieces_of sizes input
 
@@ -64,7 +64,7 @@ module _ (r : Reading ℕ ℕ Message) (single : IsSingle r) (sizes input : List
   at_rest : concatenated (take (length sizes + 1) pieces) ≡ input
   at_rest = ap concatenated (take_all (length sizes + 1) pieces (one_is_left sizes input)) ∙ joined_whole sizes input
 
-  module _ (text : List ℕ) (accepted : Bool) (p : Prints r pieces text accepted) where
+  module _ (text : List ℕ) (accepted : Bool) (p : Prints r kept pieces text accepted) where
     each : (i : ℕ) → i < length sizes → on r (take (sum (take (i + 1) sizes)) input) true Undecided ↔ i < length p.unread
     each i h = (
       λ u. p.asked.only single i (let e = each_is_one sizes input in omega arith) (subst (λ x. on r x true Undecided) (sym (at_size i h)) u),
@@ -80,17 +80,17 @@ module _ (r : Reading ℕ ℕ Message) (single : IsSingle r) (sizes input : List
       ),
     )
 
-    prints_on : PrintsOn r sizes input text accepted
+    prints_on : PrintsOn r kept sizes input text accepted
     prints_on = record {
       prints = p;
       is = subst (λ x. on r x false p.outcome) (joined_whole sizes input) p.decides.is;
       only = λ o q. p.decides.only single o (subst (λ x. on r x false o) (sym (joined_whole sizes input)) q);
       each = each;
       rest = rest;
-      most = let w = p.asked.within in let m = one_is_left sizes input in omega arith;
+      most = let w = p.asked.within in let one = one_is_left sizes input in omega arith;
     }
 
   -- the lines of the pieces are lines of the input
-  pub runs_on : (old new : Option (List ℕ)) (result : Result Bool Fault) → Runs r pieces old new result → RunsOn r sizes input old new result
+  pub runs_on : (old new : Option (List ℕ)) (result : Result Bool Fault) → Runs r kept pieces old new result → RunsOn r kept sizes input old new result
   runs_on old new (Ok accepted) h = record { is = (h.is.0, prints_on h.is.0 accepted h.is.1, h.is.2) }
   runs_on old new (Err why) h = record { is = h.is }

@@ -5,12 +5,13 @@ use Rattle.std.proofs.KnownBytes.{Appends-nil, Appends-trans}
 use Rattle.std.specs.Io.KnownBytes.{Appends}
 use Rattle.combine_base.specs.Parser.Outcome.{Accepted, Refused}
 use Rattle.combine_base.specs.Parser.Meaning.{Reading}
-use Rattle.combine_base.specs.Parser.Pieces.{Asked, Decided}
+use Rattle.combine_base.specs.Parser.Pieces.{concatenated, Asked, Decided}
+use Rattle.combine_base.proofs.Pieces.{concatenated_more}
 use Rattle.combine_base.specs.declared.error.UnexpectedParse.{UnexpectedParse}
 use Rattle.combine_base.specs.declared.parser.answer.Answer.{Answer}
 use Rattle.combine_base.specs.declared.parser.answer.Answer.TheVariants as answers
 use Rattle.feedline_core.specs.Lines.{more_line}
-use Rattle.feedline_core.specs.Runs.{leaves_ends, more_lines, answer_line, answer_accepts, Runs}
+use Rattle.feedline_core.specs.Runs.{Leaves, leaves, more_lines, answer_line, answer_accepts, Runs}
 use Rattle.feedline_core.specs.declared.message.Message.{Message}
 use Rattle.feedline_core.specs.declared.fault.Fault.{Fault}
 use Rattle.feedline_core.specs.declared.fault.Fault.TheVariants as faults
@@ -24,74 +25,86 @@ abbrev pub last_or : ℕ → List ℕ → ℕ
 last_or before [] = before
 last_or before (u ∷ us) = last_or u us
 
--- one more piece, of which and of what was unread no more is unread than there is
-ends_more : (before : ℕ) (ps : List (List ℕ)) (us : List ℕ) → length us ≡ length ps → leaves_ends before ps us → (p : List ℕ) (u : ℕ) → u ≤ last_or before us + length p → leaves_ends before (ps ++ p ∷ []) (us ++ u ∷ [])
-ends_more before [] [] e h p u k = (k, tt)
-ends_more before [] (v ∷ us) e h p u k = absurd h
-ends_more before (q ∷ ps) [] e h p u k = absurd (omega arith)
-ends_more before (q ∷ ps) (v ∷ us) e h p u k = (h.0, ends_more v ps us (omega arith) h.1 p u k)
+-- all bytes of the pieces, behind those before
+abbrev all_fed : List ℕ → List (List ℕ) → List ℕ
+all_fed fed [] = fed
+all_fed fed (p ∷ ps) = all_fed (fed ++ p) ps
 
--- the same with further pieces
-ends_before : (before : ℕ) (ps qs : List (List ℕ)) (us : List ℕ) → leaves_ends before ps us → leaves_ends before (ps ++ qs) us
-ends_before before ps qs [] h = tt
-ends_before before [] qs (u ∷ us) h = absurd h
-ends_before before (p ∷ ps) qs (u ∷ us) h = (h.0, ends_before u ps qs us h.1)
+all_fed_is : (fed : List ℕ) (ps : List (List ℕ)) → all_fed fed ps ≡ fed ++ concatenated ps
+all_fed_is fed [] = sym (append-nil fed)
+all_fed_is fed (p ∷ ps) = all_fed_is (fed ++ p) ps ∙ append_assoc fed p (concatenated ps)
 
 last_more : (before : ℕ) (us : List ℕ) (u : ℕ) → last_or before (us ++ u ∷ []) ≡ u
 last_more before [] u = refl
 last_more before (v ∷ us) u = last_more v us u
 
--- a line for each of these pieces, and so many bytes unread after the last
-pub record Written (old now : Option (List ℕ)) (fed : List (List ℕ)) (last : ℕ) : Type 0 where
-  pub unread : List ℕ
-  pub count : length unread ≡ length fed
-  pub ends : leaves_ends 0 fed unread
-  pub is_last : last_or 0 unread ≡ last
-  pub lines : Appends old now (more_lines unread)
+module _ {S : Type 0} (r : Reading ℕ ℕ Message) (kept : S → Reading ℕ ℕ Message) where
+  -- one more piece
+  leaves_more : (fed : List ℕ) (before : ℕ) (ps : List (List ℕ)) (us : List ℕ) → length us ≡ length ps → leaves r kept fed before ps us → (p : List ℕ) (u : ℕ) → u ≤ last_or before us + length p → Leaves r kept (all_fed fed ps ++ p) u → leaves r kept fed before (ps ++ p ∷ []) (us ++ u ∷ [])
+  leaves_more fed before [] [] e h p u k l = (k, l, tt)
+  leaves_more fed before [] (v ∷ us) e h p u k l = absurd h
+  leaves_more fed before (q ∷ ps) [] e h p u k l = absurd (omega arith)
+  leaves_more fed before (q ∷ ps) (v ∷ us) e h p u k l = (h.0, h.1, leaves_more (fed ++ q) v ps us (omega arith) h.2 p u k l)
 
-pub none_written : (old : Option (List ℕ)) (last : ℕ) → last ≡ 0 → Written old old [] last
-none_written old last e = record { unread = []; count = refl; ends = tt; is_last = sym e; lines = Appends-nil old }
+  -- the same with further pieces
+  leaves_before : (fed : List ℕ) (before : ℕ) (ps qs : List (List ℕ)) (us : List ℕ) → leaves r kept fed before ps us → leaves r kept fed before (ps ++ qs) us
+  leaves_before fed before ps qs [] h = tt
+  leaves_before fed before [] qs (u ∷ us) h = absurd h
+  leaves_before fed before (p ∷ ps) qs (u ∷ us) h = (h.0, h.1, leaves_before (fed ++ p) u ps qs us h.2)
 
-one_more : (old now new : Option (List ℕ)) (fed : List (List ℕ)) (last : ℕ) (w : Written old now fed last) (piece : List ℕ) (u : ℕ) → u ≤ last + length piece → Appends now new (more_line u) → Written old new (fed ++ piece ∷ []) u
-one_more old now new fed last w piece u k a = record {
-  unread = w.unread ++ u ∷ [];
-  count = (let e = w.count in omega (arith, length-append w.unread (u ∷ []), length-append fed (piece ∷ [])));
-  ends = ends_more 0 fed w.unread w.count w.ends piece u (let e = w.is_last in omega arith);
-  is_last = last_more 0 w.unread u;
-  lines = subst (Appends old new) (sym (more_lines_append w.unread u)) (Appends-trans old now new (more_lines w.unread) (more_line u) w.lines a);
-}
+  -- a line for each of these pieces, and so many bytes unread after the last
+  pub record Written (old now : Option (List ℕ)) (fed : List (List ℕ)) (last : ℕ) : Type 0 where
+    pub unread : List ℕ
+    pub count : length unread ≡ length fed
+    pub leaves : leaves r kept [] 0 fed unread
+    pub is_last : last_or 0 unread ≡ last
+    pub lines : Appends old now (more_lines unread)
 
--- in a loop over the pieces, of which the first n were fed
-pub one_more_at : (old now new : Option (List ℕ)) (pieces : List (List ℕ)) (n last : ℕ) → Written old now (take n pieces) last → (piece : List ℕ) → n < length pieces → get_or pieces n piece ≡ piece → (u : ℕ) → u ≤ last + length piece → Appends now new (more_line u) → Written old new (take (n + 1) pieces) u
-one_more_at old now new pieces n last w piece within at u k a =
-    let next : take n pieces ++ piece ∷ [] ≡ take (n + 1) pieces = ap (λ x. take n pieces ++ x ∷ []) (sym at) ∙ sym (take_more pieces n piece within) in
-    subst (λ ps. Written old new ps u) next (one_more old now new (take n pieces) last w piece u k a)
+  pub none_written : (old : Option (List ℕ)) (last : ℕ) → last ≡ 0 → Written old old [] last
+  none_written old last e = record { unread = []; count = refl; leaves = tt; is_last = sym e; lines = Appends-nil old }
 
-module _ (m : Reading ℕ ℕ Message) (pieces : List (List ℕ)) (n last : ℕ) (old now new : Option (List ℕ)) (w : Written old now (take n pieces) last) (within : n ≤ length pieces) where
+  one_more : (old now new : Option (List ℕ)) (fed : List (List ℕ)) (last : ℕ) (w : Written old now fed last) (piece : List ℕ) (u : ℕ) → u ≤ last + length piece → Leaves r kept (concatenated (fed ++ piece ∷ [])) u → Appends now new (more_line u) → Written old new (fed ++ piece ∷ []) u
+  one_more old now new fed last w piece u k l a =
+      let all : concatenated (fed ++ piece ∷ []) ≡ all_fed [] fed ++ piece = concatenated_more fed piece ∙ ap (λ z. z ++ piece) (sym (all_fed_is [] fed)) in
+      record {
+        unread = w.unread ++ u ∷ [];
+        count = (let e = w.count in omega (arith, length-append w.unread (u ∷ []), length-append fed (piece ∷ [])));
+        leaves = leaves_more [] 0 fed w.unread w.count w.leaves piece u (let e = w.is_last in omega arith) (subst (λ z. Leaves r kept z u) all l);
+        is_last = last_more 0 w.unread u;
+        lines = subst (Appends old new) (sym (more_lines_append w.unread u)) (Appends-trans old now new (more_lines w.unread) (more_line u) w.lines a);
+      }
+
+  -- in a loop over the pieces, of which the first n were fed
+  pub one_more_at : (old now new : Option (List ℕ)) (pieces : List (List ℕ)) (n last : ℕ) → Written old now (take n pieces) last → (piece : List ℕ) → n < length pieces → get_or pieces n piece ≡ piece → (u : ℕ) → u ≤ last + length piece → Leaves r kept (concatenated (take (n + 1) pieces)) u → Appends now new (more_line u) → Written old new (take (n + 1) pieces) u
+  one_more_at old now new pieces n last w piece within at u k l a =
+      let next : take n pieces ++ piece ∷ [] ≡ take (n + 1) pieces = ap (λ x. take n pieces ++ x ∷ []) (sym at) ∙ sym (take_more pieces n piece within) in
+      subst (λ ps. Written old new ps u) next (one_more old now new (take n pieces) last w piece u k (subst (λ ps. Leaves r kept (concatenated ps) u) (sym next) l) a)
+
+module _ {S : Type 0} (r : Reading ℕ ℕ Message) (kept : S → Reading ℕ ℕ Message) (pieces : List (List ℕ)) (n last : ℕ) (old now new : Option (List ℕ)) (w : Written r kept old now (take n pieces) last) (within : n ≤ length pieces) where
   abbrev wrote : Answer Message UnexpectedParse → Result Bool Fault → Type 0
   wrote a result = MatchResult result (λ accepted. (accepted ≡ answer_accepts a) × Appends now new (answer_line a)) (λ why. why ≡ faults.Write)
 
-  asked : Asked m pieces n → Asked m pieces (length w.unread)
-  asked h = subst (Asked m pieces) (sym (w.count ∙ length-take-le n pieces within)) h
+  asked : Asked r pieces n → Asked r pieces (length w.unread)
+  asked h = subst (Asked r pieces) (sym (w.count ∙ length-take-le n pieces within)) h
 
-  ends : leaves_ends 0 pieces w.unread
-  ends = subst (λ ps. leaves_ends 0 ps w.unread) (take-append-drop n pieces) (ends_before 0 (take n pieces) (drop n pieces) w.unread w.ends)
+  left : leaves r kept [] 0 pieces w.unread
+  left = subst (λ ps. leaves r kept [] 0 ps w.unread) (take-append-drop n pieces) (leaves_before r kept [] 0 (take n pieces) (drop n pieces) w.unread w.leaves)
 
   -- a decision after n pieces that asked for more
-  pub decided : (a : Answer Message UnexpectedParse) → Decided m pieces n a → (result : Result Bool Fault) → wrote a result → Runs m pieces old new result
+  pub decided : (a : Answer Message UnexpectedParse) → Decided r pieces n a → (result : Result Bool Fault) → wrote a result → Runs r kept pieces old new result
   decided a d (Err why) h = record { is = inr h }
   decided answers.More d (Ok accepted) h = absurd d.answer
   decided (answers.Accepted v t k) d (Ok accepted) h = record {
     is = (
       more_lines w.unread ++ answer_line {E = UnexpectedParse} (answers.Accepted v t k),
-      record { outcome = Accepted v t k; decides = d.answer; unread = w.unread; asked = asked d.asked; ends = ends; lines = refl; accepts = h.0 },
+      record { outcome = Accepted v t k; decides = d.answer; unread = w.unread; asked = asked d.asked; leaves = left; lines = refl; accepts = h.0 },
       Appends-trans old now new (more_lines w.unread) _ w.lines h.1,
     );
   }
   decided (answers.Refused e k) d (Ok accepted) h = record {
     is = (
       more_lines w.unread ++ answer_line (answers.Refused e k),
-      record { outcome = Refused k; decides = d.answer; unread = w.unread; asked = asked d.asked; ends = ends; lines = refl; accepts = h.0 },
+      record { outcome = Refused k; decides = d.answer; unread = w.unread; asked = asked d.asked; leaves = left; lines = refl; accepts = h.0 },
       Appends-trans old now new (more_lines w.unread) _ w.lines h.1,
     );
   }

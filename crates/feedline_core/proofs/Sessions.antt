@@ -1,8 +1,10 @@
 -- a session that still runs: its one error, what it leaves unread, and its room for the next piece
-use Rattle.std.proofs.Common.{ℕ, ◌+◌, ◌^◌, ◌<◌, ◌≤◌, ◌≡◌, ap, subst, List, [], ◌++◌, length, take, get_or, true, false, arith, Result, Ok, Err}
+use Rattle.std.proofs.Common.{ℕ, ◌+◌, ◌^◌, ◌<◌, ◌≤◌, ◌≡◌, ap, subst, List, [], ◌++◌, length, take, drop, get_or, Bool, true, false, refl, sym, arith, Result, Ok, Err}
 use Rattle.std.proofs.lemmas.List.{length-append, length-drop}
 use Rattle.combine_base.specs.Parser.Meaning.{Meaning}
-use Rattle.combine_base.specs.Parser.Pieces.{concatenated}
+use Rattle.combine_base.specs.Stream.View.{extended}
+use Rattle.combine_base.specs.Parser.Outcome.{Outcome, after}
+use Rattle.combine_base.specs.Parser.Pieces.{concatenated, on}
 use Rattle.combine_base.specs.Parser.Sessions.{Course, Feeds, Ends, by_stage}
 use Rattle.combine_base.specs.Parser.Sessions as session
 use Rattle.combine_base.proofs.Pieces.{SoFar, no_longer}
@@ -12,7 +14,8 @@ use Rattle.combine_base.specs.declared.parser.answer.Answer.TheVariants as answe
 use Rattle.combine_base.specs.declared.parser.session.SessionError.{SessionError}
 use Rattle.combine_base.specs.declared.parser.session.SessionError.TheVariants as errors
 use Rattle.combine_base.specs.declared.parser.session.Stage.TheVariants as stages
-use Rattle.feedline_core.specs.Runs.{IsWantOfMemory}
+use Rattle.feedline_core.specs.Runs.{IsWantOfMemory, Leaves}
+use Rattle.feedline_core.specs.declared.message.Message.{Message}
 
 module _ {P T R A S : Type 0} (meaning : P → Meaning ℕ T R A S) (valid : S → Type 0) (old new : Course P T S) (running : old.stage ≡ stages.Running) where
   module _ (piece : List T) where
@@ -50,3 +53,18 @@ pub has_room : {P T R A S : Type 0} (meaning : P → Meaning ℕ T R A S) (m : M
 has_room meaning m valid pieces n c far piece within at fits =
     let most = no_longer meaning m valid pieces n c far piece within at c in
     omega arith
+
+module _ {P S : Type 0} (meaning : P → Meaning ℕ ℕ (Unit {0}) Message S) (m : Meaning ℕ ℕ (Unit {0}) Message S) (fed : List (List ℕ)) (c : Course P ℕ S) (far : SoFar meaning m fed c) where
+  means : (x : List ℕ) (is_open : Bool) (o : Outcome Message) → m.rest c.state (record { position = c.seen.position; unread = drop c.seen.position (concatenated fed) ++ x; is_open = is_open }) o → on m.whole (concatenated fed ++ x) is_open (after c.seen.position false o)
+  means x is_open o h =
+      let v = subst (λ us. m.rest c.state (record { position = c.seen.position; unread = us ++ x; is_open = is_open }) o) (sym far.unread) h in
+      far.left x is_open (after c.seen.position false o) (o, refl, (far.same.rest c.state (extended x is_open c.seen) o).0 v)
+
+  -- of what was fed a session leaves these bytes unread, from a state that goes on with them
+  pub leaves_unread : Leaves m.whole m.rest (concatenated fed) (length c.seen.unread)
+  leaves_unread = record {
+    state = c.state;
+    taken = c.seen.position;
+    split = (let w = far.within in let e = ap length far.unread in omega (arith, length-drop c.seen.position (concatenated fed)));
+    means = means;
+  }

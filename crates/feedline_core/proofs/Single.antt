@@ -34,11 +34,11 @@ module _ {A B C U V W : Type 0} {f : U → Type 0} {g : V → Type 0} {h : W →
   four_one : {D X : Type 0} {k : X → Type 0} {q : Meaning ℕ ℕ (Unit {0}) D X} → MeansOne k q → MeansOne (valid_in place_4 (valid_in place_3 (valid_in place_2 (valid_1 f) g) h) k) (tuple_4 step m n p q)
   four_one four = followed_means_one step place_4 push_3 three_one four
 
-delete_is_single : IsSingle delete
+delete_is_single : IsSingle delete.whole
 delete_is_single = (mapped_means_one _ _ (λ parts m. m ≡ Delete parts.1) (three_one (attempted_means_one step _ _ (four_one (byte_one _) (byte_one _) (byte_one _) (byte_one _))) (bytes_one _) (byte_one _))).whole
 
-set_is_single : IsSingle set
+set_is_single : IsSingle set.whole
 set_is_single = (mapped_means_one _ _ (λ parts m. m ≡ Set parts.0 parts.2) (four_one (bytes_one _) (byte_one _) (bytes_one _) (byte_one _))).whole
 
-pub message_is_single : IsSingle message
-message_is_single = either_is_single delete (Either set refused) delete_is_single (either_is_single set refused set_is_single refused_is_single)
+pub message_is_single : IsSingle message.whole
+message_is_single = either_is_single delete.whole (Either set.whole refused) delete_is_single (either_is_single set.whole refused set_is_single refused_is_single)

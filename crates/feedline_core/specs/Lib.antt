@@ -4,3 +4,4 @@ pub mod Lines
 pub mod Runs
 pub mod OnInput
 pub mod Messages
+pub mod Faults

@@ -2,14 +2,16 @@
 use Rattle.std.specs.Prelude.{ℕ, ◌≡◌, ◌+◌, nat_eq, [], ◌∷◌, ◌++◌, Bool}
 use Rattle.std.specs.Char.{is_ascii_digit, is_ascii_lowercase}
 use Rattle.std.specs.Global.{Vec}
-use Rattle.combine_base.specs.Parser.Meaning.{Meaning, Reading}
+use Rattle.combine_base.specs.Parser.Meaning.{Meaning}
 use Rattle.combine_base.specs.Parser.Mapped.{mapped}
 use Rattle.combine_base.specs.Error.Errors.{Nothing}
 use Rattle.combine_base.specs.Sequence.Tuples.{tuple_3, tuple_4}
-use Rattle.combine_token.specs.Choice.{Either, refused}
+use Rattle.combine_token.specs.Or.{either_of}
 use Rattle.combine_token.specs.OneToken.{of_function, satisfied, takes_one}
 use Rattle.combine_base.specs.declared.sequence.SequenceState.{SequenceState}
+use Rattle.combine_base.specs.declared.sequence.PartialState3.{PartialState3}
 use Rattle.combine_base.specs.declared.sequence.PartialState4.{PartialState4}
+use Rattle.combine_token.specs.declared.choice.OrState.{OrState}
 use Rattle.combine_map.specs.Attempt.{attempted}
 use Rattle.combine_map.specs.declared.combinator.TryState.{TryState}
 use Rattle.combine_repeat.specs.Repetition.{appended, many1}
@@ -42,21 +44,28 @@ digits = bytes_where is_ascii_digit
 abbrev pub del : Meaning ℕ ℕ (Unit {0}) (ℕ × ℕ × ℕ × ℕ) (TryState (PartialState4 (SequenceState (Unit {0}) (Unit {0})) (SequenceState (record { 0 : ℕ }) (Unit {0})) (SequenceState (ℕ × ℕ) (Unit {0})) (SequenceState (ℕ × ℕ × ℕ) (Unit {0}))))
 del = attempted step (tuple_4 step (byte 100) (byte 101) (byte 108) (byte 32))
 
+-- what is kept of a message that deletes, and of one that sets
+abbrev pub DeleteState : Type 0 → Type 0
+DeleteState S = PartialState3 (SequenceState (Unit {0}) S) (SequenceState (record { 0 : ℕ × ℕ × ℕ × ℕ }) (TurnsState (Vec ℕ) (Unit {0}))) (SequenceState ((ℕ × ℕ × ℕ × ℕ) × Vec ℕ) (Unit {0}))
+
+abbrev pub SetState : Type 0
+SetState = PartialState4 (SequenceState (Unit {0}) (TurnsState (Vec ℕ) (Unit {0}))) (SequenceState (record { 0 : Vec ℕ }) (Unit {0})) (SequenceState (Vec ℕ × ℕ) (TurnsState (Vec ℕ) (Unit {0}))) (SequenceState (Vec ℕ × ℕ × Vec ℕ) (Unit {0}))
+
 -- what is read before a word that is deleted, that word, and `;`
-abbrev pub delete_after : {S : Type 0} → Meaning ℕ ℕ (Unit {0}) (ℕ × ℕ × ℕ × ℕ) S → Reading ℕ ℕ Message
-delete_after before = (mapped (tuple_3 step before word (byte 59)) (λ parts m. m ≡ Delete parts.1)).whole
+abbrev pub delete_after : {S : Type 0} → Meaning ℕ ℕ (Unit {0}) (ℕ × ℕ × ℕ × ℕ) S → Meaning ℕ ℕ (Unit {0}) Message (DeleteState S)
+delete_after before = mapped (tuple_3 step before word (byte 59)) (λ parts m. m ≡ Delete parts.1)
 
 -- `del WORD;`
-abbrev pub delete : Reading ℕ ℕ Message
+abbrev pub delete : Meaning ℕ ℕ (Unit {0}) Message (DeleteState (TryState (PartialState4 (SequenceState (Unit {0}) (Unit {0})) (SequenceState (record { 0 : ℕ }) (Unit {0})) (SequenceState (ℕ × ℕ) (Unit {0})) (SequenceState (ℕ × ℕ × ℕ) (Unit {0})))))
 delete = delete_after del
 
 -- `WORD=DIGITS;`
-abbrev pub set : Reading ℕ ℕ Message
-set = (mapped (tuple_4 step word (byte 61) digits (byte 59)) (λ parts m. m ≡ Set parts.0 parts.2)).whole
+abbrev pub set : Meaning ℕ ℕ (Unit {0}) Message SetState
+set = mapped (tuple_4 step word (byte 61) digits (byte 59)) (λ parts m. m ≡ Set parts.0 parts.2)
 
 -- the first of these and `set` that isn't refused peeked
-abbrev pub or_set : Reading ℕ ℕ Message → Reading ℕ ℕ Message
-or_set first = Either first (Either set refused)
+abbrev pub or_set : {S : Type 0} → Meaning ℕ ℕ (Unit {0}) Message S → Meaning ℕ ℕ (Unit {0}) Message (OrState S SetState)
+or_set first = either_of first set
 
-abbrev pub message : Reading ℕ ℕ Message
+abbrev pub message : Meaning ℕ ℕ (Unit {0}) Message (OrState (DeleteState (TryState (PartialState4 (SequenceState (Unit {0}) (Unit {0})) (SequenceState (record { 0 : ℕ }) (Unit {0})) (SequenceState (ℕ × ℕ) (Unit {0})) (SequenceState (ℕ × ℕ × ℕ) (Unit {0}))))) SetState)
 message = or_set delete

@@ -10,10 +10,10 @@ use Rattle.feedline_core.specs.declared.message.Message.{Message}
 use Rattle.feedline_core.specs.declared.fault.Fault.{Fault}
 use Rattle.feedline_core.specs.declared.fault.Fault.TheVariants as faults
 
-module _ (r : Reading ℕ ℕ Message) (sizes input : List ℕ) where
-  -- These lines: those of the pieces, where the outcome is that of the whole input, and each piece at whose end, more being open, the reading is undecided has a line, and no other.
+module _ {S : Type 0} (r : Reading ℕ ℕ Message) (kept : S → Reading ℕ ℕ Message) (sizes input : List ℕ) where
+  -- These lines: those of the pieces, where the outcome is that of the whole input, and each piece at whose end, more being open, the meaning is undecided has a line, and no other.
   pub record PrintsOn (text : List ℕ) (accepted : Bool) : Type 0 where
-    pub prints : Prints r (pieces_of sizes input) text accepted
+    pub prints : Prints r kept (pieces_of sizes input) text accepted
     -- an outcome on the input, ended, and none has another shape
     pub is : on r input false prints.outcome
     pub only : (o : Outcome Message) → on r input false o → shape o ≡ shape prints.outcome

@@ -1,9 +1,9 @@
 -- what is written where an input is fed piece by piece to a parser of messages
-use Rattle.std.specs.Prelude.{ℕ, ◌≡◌, ◌+◌, ◌≤◌, ◌⊎◌, List, [], ◌∷◌, ◌++◌, length, Bool, true, false, Option, Result, Ok, Err}
+use Rattle.std.specs.Prelude.{ℕ, ◌≡◌, ◌+◌, ◌≤◌, ◌⊎◌, List, [], ◌∷◌, ◌++◌, length, drop, Bool, true, false, Option, Result, Ok, Err}
 use Rattle.std.specs.Io.KnownBytes.{Appends}
-use Rattle.combine_base.specs.Parser.Outcome.{Outcome, Accepted, Refused, Undecided}
+use Rattle.combine_base.specs.Parser.Outcome.{Outcome, Accepted, Refused, Undecided, after}
 use Rattle.combine_base.specs.Parser.Meaning.{Reading}
-use Rattle.combine_base.specs.Parser.Pieces.{concatenated, Decides, Asked}
+use Rattle.combine_base.specs.Parser.Pieces.{concatenated, on, Decides, Asked}
 use Rattle.combine_base.specs.declared.parser.answer.Answer.{Answer}
 use Rattle.combine_base.specs.declared.parser.answer.Answer.TheVariants as answers
 use Rattle.combine_base.specs.declared.parser.session.SessionError.{SessionError}
@@ -35,12 +35,6 @@ abbrev pub more_lines : List ℕ → List ℕ
 more_lines [] = []
 more_lines (u ∷ us) = more_line u ++ more_lines us
 
--- How many bytes are unread after each of the first pieces: they are an end of those that were unread before and the piece, so there are no more than of these.
-abbrev pub leaves_ends : ℕ → List (List ℕ) → List ℕ → Type 0
-leaves_ends before pieces [] = Unit {0}
-leaves_ends before [] (u ∷ us) = ⊥
-leaves_ends before (p ∷ ps) (u ∷ us) = (u ≤ before + length p) × leaves_ends u ps us
-
 -- a growth was refused, of what is fed or within the parse
 abbrev pub IsWantOfMemory : SessionError → Type 0
 IsWantOfMemory errors.Memory = Unit {0}
@@ -49,14 +43,28 @@ IsWantOfMemory errors.TooLong = ⊥
 IsWantOfMemory errors.Closed = ⊥
 IsWantOfMemory errors.Failed = ⊥
 
-module _ (r : Reading ℕ ℕ Message) (pieces : List (List ℕ)) where
-  -- These lines: one for each piece at whose end, more being open, the reading is undecided, with a number of unread bytes; and then that of the outcome on the whole input, ended.
+module _ {S : Type 0} (r : Reading ℕ ℕ Message) (kept : S → Reading ℕ ℕ Message) where
+  -- Of these bytes so many are unread, and the others taken: there is a state from which what is left means, on the unread bytes and whatever follows, what the whole does on all.
+  pub record Leaves (fed : List ℕ) (unread : ℕ) : Type 0 where
+    pub state : S
+    pub taken : ℕ
+    pub split : taken + unread ≡ length fed
+    pub means : (x : List ℕ) (is_open : Bool) (o : Outcome Message) → kept state (record { position = taken; unread = drop taken fed ++ x; is_open = is_open }) o → on r (fed ++ x) is_open (after taken false o)
+
+  -- How many bytes are unread after each of the first pieces, behind those that were fed before, of which so many were unread: no more than these and the piece.
+  abbrev pub leaves : List ℕ → ℕ → List (List ℕ) → List ℕ → Type 0
+  leaves fed before pieces [] = Unit {0}
+  leaves fed before [] (u ∷ us) = ⊥
+  leaves fed before (p ∷ ps) (u ∷ us) = (u ≤ before + length p) × Leaves (fed ++ p) u × leaves (fed ++ p) u ps us
+
+module _ {S : Type 0} (r : Reading ℕ ℕ Message) (kept : S → Reading ℕ ℕ Message) (pieces : List (List ℕ)) where
+  -- These lines: one for each piece at whose end, more being open, the meaning is undecided, with a number of unread bytes; and then that of the outcome on the whole input, ended.
   pub record Prints (text : List ℕ) (accepted : Bool) : Type 0 where
     pub outcome : Outcome Message
     pub decides : Decides r (concatenated pieces) outcome
     pub unread : List ℕ
     pub asked : Asked r pieces (length unread)
-    pub ends : leaves_ends 0 pieces unread
+    pub leaves : leaves r kept [] 0 pieces unread
     pub lines : text ≡ more_lines unread ++ decision_line outcome
     pub accepts : accepted ≡ is_accepted outcome
 

@@ -1,5 +1,8 @@
 //! Why the program gives up.
+ghost use Rattle.std.specs.Prelude.{◌≡◌, Some};
+ghost use Rattle.feedline_core.specs.Faults.{fault_text};
 
+use std::error::Error;
 use std::fmt;
 
 /// Why the program gives up: it then writes this text on standard error and ends with status 2.
@@ -19,7 +22,9 @@ pub enum Fault {
 
 impl Fault {
     /// The line that the program writes, without its end.
-    fn text(self) -> &'static str {
+    fn text(self) -> &'static str
+        ensures { result.now ≡ fault_text self }
+    {
         match self {
             Fault::Argument => "feedline: bad argument",
             Fault::Read => "feedline: cannot read",
@@ -31,7 +36,13 @@ impl Fault {
 }
 
 impl fmt::Display for Fault {
+    ghost output = { λ fault. Some (fault_text fault) };
+
+    ghost styled_output = { λ fault spec. Some (fault_text fault) };
+
     fn fmt<W: fmt::Write>(&self, f: &mut fmt::Formatter<W>) -> fmt::Result {
         f.write_str(self.text())
     }
 }
+
+impl Error for Fault {}

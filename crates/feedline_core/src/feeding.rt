@@ -27,7 +27,7 @@ use std::io::Write;
 ///
 /// It stops at the first decision. It writes a line `more N` for each piece that needs more, with N bytes unread, and then the line of the decision; it answers whether that accepts. It answers `Memory` where a growth was refused and `Write` where a write failed; of what the writer then holds nothing is said.
 pub fn run<W: Write>(alloc: Global, sizes: &[u32], input: &[u8], out: &mut W) -> Result<bool, Fault>
-    ensures { RunsOn message sizes.now input.now (W.contents out.old) (W.contents out.new) result }
+    ensures { RunsOn message.whole message.rest sizes.now input.now (W.contents out.old) (W.contents out.new) result }
 {
     let pieces = cut(alloc, sizes, input)?;
     let del = attempt((token(b'd'), token(b'e'), token(b'l'), token(b' ')));
@@ -45,7 +45,7 @@ fn drive_after<D: Parser<fed::Stream<u8>, Output = (u8, u8, u8, u8)> + Drop, W: 
 ) -> Result<bool, Fault>
     requires lawful { D.lawful del }
     requires fits { length (concatenated (map (λ p. p.now) pieces.now)) < 2 ^ 64 }
-    ensures { Runs (or_set (delete_after (D.meaning del))) (map (λ p. p.now) pieces.now) (W.contents out.old) (W.contents out.new) result }
+    ensures { Runs (or_set (delete_after (D.meaning del))).whole (or_set (delete_after (D.meaning del))).rest (map (λ p. p.now) pieces.now) (W.contents out.old) (W.contents out.new) result }
 {
     let delete = map(
         (del, many1(alloc, satisfy(is_letter)), token(b';')),
@@ -63,7 +63,7 @@ fn drive_or_set<A: Parser<fed::Stream<u8>, Output = Message> + Drop, W: Write>(
 ) -> Result<bool, Fault>
     requires lawful { A.lawful delete }
     requires fits { length (concatenated (map (λ p. p.now) pieces.now)) < 2 ^ 64 }
-    ensures { Runs (or_set (A.meaning delete).whole) (map (λ p. p.now) pieces.now) (W.contents out.old) (W.contents out.new) result }
+    ensures { Runs (or_set (A.meaning delete)).whole (or_set (A.meaning delete)).rest (map (λ p. p.now) pieces.now) (W.contents out.old) (W.contents out.new) result }
 {
     let set = map(
         (
@@ -112,7 +112,7 @@ pub(crate) fn drive<P: Parser<fed::Stream<u8>, Output = Message> + Drop, W: Writ
 ) -> Result<bool, Fault>
     requires lawful { P.lawful parser }
     requires fits { length (concatenated (map (λ p. p.now) pieces.now)) < 2 ^ 64 }
-    ensures { Runs (P.meaning parser).whole (map (λ p. p.now) pieces.now) (W.contents out.old) (W.contents out.new) result }
+    ensures { Runs (P.meaning parser).whole (P.meaning parser).rest (map (λ p. p.now) pieces.now) (W.contents out.old) (W.contents out.new) result }
 {
     let mut session = Session::new(alloc, parser);
     'pieces: for piece in pieces {

@@ -16,15 +16,33 @@ fn count(steps: &Cell<u32>) {
     }
 }
 
+/// Bytes or characters: what a whole input is made of.
+pub trait Letter: Copy + PartialEq + 'static {
+    /// The input of these letters of ASCII. Characters are left behind by their case.
+    fn all(letters: &[u8]) -> &[Self];
+}
+
+impl Letter for u8 {
+    fn all(letters: &[u8]) -> &[u8] {
+        letters
+    }
+}
+
+impl Letter for char {
+    fn all(letters: &[u8]) -> &[char] {
+        letters.iter().map(|letter| char::from(*letter)).collect::<Vec<_>>().leak()
+    }
+}
+
 /// Tokens that count how often they are read.
-pub struct Guarded<'a> {
-    stream: MaybePartialStream<&'a [u8]>,
+pub struct Guarded<'a, T> {
+    stream: MaybePartialStream<&'a [T]>,
     reads: Cell<u32>,
 }
 
-impl<'a> Guarded<'a> {
-    pub fn new(tokens: &'a [u8], open: bool) -> Self {
-        Guarded { stream: MaybePartialStream(tokens, open), reads: Cell::new(0) }
+impl<'a, T: Letter> Guarded<'a, T> {
+    pub fn new(letters: &'a [u8], open: bool) -> Self {
+        Guarded { stream: MaybePartialStream(T::all(letters), open), reads: Cell::new(0) }
     }
 
     pub fn unread(&self) -> usize {
@@ -32,13 +50,13 @@ impl<'a> Guarded<'a> {
     }
 }
 
-impl<'a> StreamOnce for Guarded<'a> {
-    type Token = u8;
-    type Range = &'a [u8];
-    type Position = <&'a [u8] as StreamOnce>::Position;
-    type Error = <&'a [u8] as StreamOnce>::Error;
+impl<'a, T: Letter> StreamOnce for Guarded<'a, T> {
+    type Token = T;
+    type Range = &'a [T];
+    type Position = <&'a [T] as StreamOnce>::Position;
+    type Error = <&'a [T] as StreamOnce>::Error;
 
-    fn uncons(&mut self) -> Result<u8, StreamErrorFor<Self>> {
+    fn uncons(&mut self) -> Result<T, StreamErrorFor<Self>> {
         count(&self.reads);
         self.stream.uncons()
     }
@@ -48,14 +66,14 @@ impl<'a> StreamOnce for Guarded<'a> {
     }
 }
 
-impl Positioned for Guarded<'_> {
+impl<T: Letter> Positioned for Guarded<'_, T> {
     fn position(&self) -> Self::Position {
         self.stream.position()
     }
 }
 
-impl<'a> ResetStream for Guarded<'a> {
-    type Checkpoint = <&'a [u8] as ResetStream>::Checkpoint;
+impl<'a, T: Letter> ResetStream for Guarded<'a, T> {
+    type Checkpoint = <&'a [T] as ResetStream>::Checkpoint;
 
     fn checkpoint(&self) -> Self::Checkpoint {
         self.stream.checkpoint()

@@ -1,11 +1,13 @@
 //! The parsers of diff/parsers.list, as calls of combine.
 
 use crate::guarded::{Counted, Guarded};
-use combine::parser::choice::{optional, or};
-use combine::parser::combinator::attempt;
+use combine::parser::char::string;
+use combine::parser::choice::{choice, optional, or};
+use combine::parser::combinator::{attempt, Either};
 use combine::parser::repeat::{many, many1, skip_many, skip_many1};
-use combine::parser::token::{any, satisfy, token, tokens, value};
-use combine::Parser;
+use combine::parser::sequence::{between, skip, with};
+use combine::parser::token::{any, eof, none_of, one_of, satisfy, satisfy_map, token, tokens, tokens_cmp, value};
+use combine::{dispatch, Parser};
 
 use crate::run::run;
 
@@ -13,12 +15,36 @@ use crate::run::run;
 macro_rules! parser {
     (any()) => { any() };
     (satisfy($set:ident)) => { satisfy(|token: u8| stringify!($set).as_bytes().contains(&token)) };
+    (satisfy_map($set:ident)) => { satisfy_map(|token: u8| stringify!($set).as_bytes().contains(&token).then(|| Mapped(token))) };
+    (one_of($($set:ident)?)) => { one_of(concat!($(stringify!($set))?).bytes()) };
+    (none_of($($set:ident)?)) => { none_of(concat!($(stringify!($set))?).bytes()) };
+    (eof()) => { eof() };
     (token($token:ident)) => { token(stringify!($token).as_bytes()[0]) };
     (tokens($($tokens:ident)?)) => { listed(concat!($(stringify!($tokens))?)) };
+    (tokens_cmp($($tokens:ident)?)) => { compared(concat!($(stringify!($tokens))?)) };
+    (string($text:ident)) => { string(stringify!($text)).map(String::from) };
     (value($token:ident)) => { counted(stringify!($token).as_bytes()[0]) };
     (map($f:ident $a:tt)) => { parser!($f $a).map(Mapped) };
     (attempt($f:ident $a:tt)) => { attempt(parser!($f $a)) };
     (or($f:ident $a:tt, $g:ident $b:tt)) => { or(parser!($f $a), parser!($g $b)) };
+    (choice($($f:ident $a:tt),+)) => { choice(($(parser!($f $a),)+)) };
+    (array($($f:ident $a:tt),+)) => { choice([$(parser!($f $a)),+]) };
+    (slice($($f:ident $a:tt),+)) => { choice(lent(vec![$(parser!($f $a)),+])) };
+    (left($f:ident $a:tt, $g:ident $b:tt)) => { left(parser!($f $a), parser!($g $b)) };
+    (right($f:ident $a:tt, $g:ident $b:tt)) => { right(parser!($f $a), parser!($g $b)) };
+    (dispatch($f:ident $a:tt)) => {
+        parser!($f $a).then(|first| {
+            dispatch!(first; b'a' => token(b'a'), b'b' => satisfy(|it: u8| it == b'a' || it == b'b'), _ => any())
+        })
+    };
+    (with($f:ident $a:tt, $g:ident $b:tt)) => { with(parser!($f $a), parser!($g $b)) };
+    (skip($f:ident $a:tt, $g:ident $b:tt)) => { skip(parser!($f $a), parser!($g $b)) };
+    (between($f:ident $a:tt, $g:ident $b:tt, $h:ident $c:tt)) => {
+        between(parser!($f $a), parser!($g $b), parser!($h $c))
+    };
+    (then($f:ident $a:tt)) => { parser!($f $a).then(|first| token(first)) };
+    (then_partial($f:ident $a:tt)) => { parser!($f $a).then_partial(|first| token(*first)) };
+    (then_ref($f:ident $a:tt)) => { parser!($f $a).then_ref(|first| token(*first)) };
     (optional($f:ident $a:tt)) => { optional(parser!($f $a)) };
     (tuple($($f:ident $a:tt),+)) => { ($(parser!($f $a),)+) };
     (many($f:ident $a:tt)) => { many::<Vec<_>, _, _>(parser!($f $a)) };
@@ -30,12 +56,30 @@ macro_rules! parser {
 /// What `map` makes of a value.
 pub struct Mapped<T>(pub T);
 
-fn listed<'a>(text: &'static str) -> impl Parser<Guarded<'a>, Output = String> {
+fn listed<'a>(text: &'static str) -> impl Parser<Guarded<'a, u8>, Output = String> {
     tokens(|want: u8, is: u8| want == is, text, text.bytes())
         .map(|matched| String::from_utf8(matched.collect()).unwrap())
 }
 
-fn counted<'a>(token: u8) -> impl Parser<Guarded<'a>, Output = u8> {
+fn compared<'a>(text: &'static str) -> impl Parser<Guarded<'a, u8>, Output = String> {
+    tokens_cmp(text.bytes(), |want: u8, is: u8| want == is)
+        .map(|matched| String::from_utf8(matched.collect()).unwrap())
+}
+
+/// A slice of parsers for as long as is wanted: a case leaves it behind.
+fn lent<'p, P: 'p>(parsers: Vec<P>) -> &'p mut [P] {
+    parsers.leak()
+}
+
+fn left<P, Q>(parser: P, _: Q) -> Either<P, Q> {
+    Either::Left(parser)
+}
+
+fn right<P, Q>(_: P, parser: Q) -> Either<P, Q> {
+    Either::Right(parser)
+}
+
+fn counted<'a>(token: u8) -> impl Parser<Guarded<'a, u8>, Output = u8> {
     value(Counted::default()).map(move |_| token)
 }
 

@@ -1,6 +1,6 @@
 //! Feeding a parser, as users of combine do: each window is what is unread and the next piece, and the state is kept.
 
-use crate::guarded::{Endless, Guarded};
+use crate::guarded::{Endless, Guarded, Letter};
 use crate::show::Show;
 use combine::error::{ParseError, ParseResult, UnexpectedParse};
 use combine::stream::PointerOffset;
@@ -8,9 +8,10 @@ use combine::Parser;
 use std::panic::{catch_unwind, AssertUnwindSafe};
 
 /// The answer as text; the ends are where the windows end, and whether more may follow there.
-pub fn run<'a, P>(parser: P, tokens: &'a [u8], ends: &[(usize, bool)]) -> String
+pub fn run<'a, T, P>(parser: P, tokens: &'a [u8], ends: &[(usize, bool)]) -> String
 where
-    P: Parser<Guarded<'a>>,
+    T: Letter,
+    P: Parser<Guarded<'a, T>>,
     P::Output: Show,
 {
     catch_unwind(AssertUnwindSafe(|| feed(parser, tokens, ends))).unwrap_or_else(|stop| {
@@ -19,9 +20,10 @@ where
     })
 }
 
-fn feed<'a, P>(mut parser: P, tokens: &'a [u8], ends: &[(usize, bool)]) -> String
+fn feed<'a, T, P>(mut parser: P, tokens: &'a [u8], ends: &[(usize, bool)]) -> String
 where
-    P: Parser<Guarded<'a>>,
+    T: Letter,
+    P: Parser<Guarded<'a, T>>,
     P::Output: Show,
 {
     let mut state = P::PartialState::default();

@@ -79,3 +79,5 @@ tuples!(A; 0);
 tuples!(A B; 0 1);
 tuples!(A B C; 0 1 2);
 tuples!(A B C D; 0 1 2 3);
+tuples!(A B C D E; 0 1 2 3 4);
+tuples!(A B C D E F G H; 0 1 2 3 4 5 6 7);

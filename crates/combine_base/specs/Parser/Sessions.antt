@@ -1,13 +1,14 @@
 -- what a session is seen as, and what its calls promise
-use Rattle.std.specs.Prelude.{ℕ, ◌+◌, ◌^◌, ◌<◌, ◌≤◌, ◌≡◌, ◌↔◌, List, [], ◌++◌, Bool, true, false, length, drop, Result, Ok, Err}
+use Rattle.std.specs.Prelude.{ℕ, ◌+◌, ◌^◌, ◌<◌, ◌≤◌, ◌≡◌, ◌↔◌, List, [], ◌++◌, Bool, true, false, length, drop, Result, Ok, Err, MatchResult, IsErrAnd}
 use Rattle.combine_base.specs.Stream.View.{View, extended}
 use Rattle.combine_base.specs.Parser.Outcome.{Outcome, Accepted, Refused, Undecided, after, shape}
 use Rattle.combine_base.specs.Parser.Meaning.{Meaning, Reading, MeansOne, MeansSame}
 use Rattle.combine_base.specs.Stream.Fed.{fed_view}
-use Rattle.combine_base.specs.Parser.Judged.{IsRefusal}
+use Rattle.combine_base.specs.Parser.Judged.{IsRefusal, answer_to}
 use Rattle.combine_base.specs.declared.stream.fed.Stream.{Stream}
 use Rattle.combine_base.specs.declared.stream.Kind.{Kind}
 use Rattle.combine_base.specs.declared.stream.Kind.TheVariants as kinds
+use Rattle.combine_base.specs.declared.error.ParseResult.{ParseResult}
 use Rattle.combine_base.specs.declared.error.UnexpectedParse.{UnexpectedParse}
 use Rattle.combine_base.specs.declared.parser.answer.Answer.{Answer}
 use Rattle.combine_base.specs.declared.parser.answer.Answer.TheVariants as answers
@@ -26,12 +27,20 @@ pub record Course (Parser Token State : Type 0) : Type 0 where
 abbrev pub course_of : {Parser Token State : Type 0} → Parser → State → Stream Token → Stage → Course Parser Token State
 course_of parser state stream stage = record { parser = parser; state = state; seen = fed_view stream; stage = stage }
 
+-- what a parser answered that left its stream so, as a session answers it
+abbrev pub answered : {Token Value : Type 0} → View ℕ Token → ParseResult Value UnexpectedParse → Result (Answer Value UnexpectedParse) Kind
+answered v parsed = answer_to (λ e. e.0) v.is_open v.position parsed
+
 -- the stage after a parse
 abbrev pub stage_after : {Value E : Type 0} → Result (Answer Value E) Kind → Stage
 stage_after (Ok answers.More) = stages.Running
 stage_after (Ok (answers.Accepted value taken committed)) = stages.Decided
 stage_after (Ok (answers.Refused error committed)) = stages.Decided
 stage_after (Err k) = stages.Failed
+
+-- an answer, or a fault as a session's
+abbrev pub Passed : {A : Type 0} → Result A Kind → Result A SessionError → Type 0
+Passed parsed r = MatchResult parsed (λ a. r ≡ Ok a) (λ k. IsErrAnd r (λ e. e ≡ errors.Fault k))
 
 -- what a call answers that comes after a decision or a fault
 abbrev pub checked : Stage → Result Unit SessionError

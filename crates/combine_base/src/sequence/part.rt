@@ -73,6 +73,62 @@ impl<A, B, C, D> Push<D> for (A, B, C) {
     }
 }
 
+impl<A, B, C, D, E> Push<E> for (A, B, C, D) {
+    ghost use Rattle.combine_base.specs.Sequence.Longer.{push_4};
+
+    type Pushed = (A, B, C, D, E);
+
+    ghost pushed = { push_4 };
+
+    #[inline(always)]
+    fn push(self, last: E) -> (A, B, C, D, E) {
+        let (a, b, c, d) = self;
+        (a, b, c, d, last)
+    }
+}
+
+impl<A, B, C, D, E, F> Push<F> for (A, B, C, D, E) {
+    ghost use Rattle.combine_base.specs.Sequence.Longer.{push_5};
+
+    type Pushed = (A, B, C, D, E, F);
+
+    ghost pushed = { push_5 };
+
+    #[inline(always)]
+    fn push(self, last: F) -> (A, B, C, D, E, F) {
+        let (a, b, c, d, e) = self;
+        (a, b, c, d, e, last)
+    }
+}
+
+impl<A, B, C, D, E, F, G> Push<G> for (A, B, C, D, E, F) {
+    ghost use Rattle.combine_base.specs.Sequence.Longer.{push_6};
+
+    type Pushed = (A, B, C, D, E, F, G);
+
+    ghost pushed = { push_6 };
+
+    #[inline(always)]
+    fn push(self, last: G) -> (A, B, C, D, E, F, G) {
+        let (a, b, c, d, e, f) = self;
+        (a, b, c, d, e, f, last)
+    }
+}
+
+impl<A, B, C, D, E, F, G, H> Push<H> for (A, B, C, D, E, F, G) {
+    ghost use Rattle.combine_base.specs.Sequence.Longer.{push_7};
+
+    type Pushed = (A, B, C, D, E, F, G, H);
+
+    ghost pushed = { push_7 };
+
+    #[inline(always)]
+    fn push(self, last: H) -> (A, B, C, D, E, F, G, H) {
+        let (a, b, c, d, e, f, g) = self;
+        (a, b, c, d, e, f, g, last)
+    }
+}
+
 /// Takes the state that a call in this mode runs from: in first mode a default one, and else the one that is kept. It leaves a default one.
 #[inline(always)]
 pub fn take_state<S: Default + Drop, M: ParseMode>(mode: M, state: &mut S) -> S
@@ -107,7 +163,7 @@ pub fn refused_after<V, E>(committed: bool, refusal: Tracked<E>) -> ParseResult<
     ParseResult::CommitErr(error)
 }
 
-/// Runs the last part, from what is kept of it and of those before it. A peeked refusal is put back to where the part began, and explained by it. Need of more is kept in `state`, which is a default one.
+/// Runs the last part, from what is kept of it and of those before it. A peeked refusal is put back to where the part began, and explained by it. Need of more is kept in `state`, which every other answer leaves as it was.
 #[inline(always)]
 pub(crate) fn parse_last<
     Input: Stream,
@@ -124,8 +180,7 @@ pub(crate) fn parse_last<
 ) -> ParseResult<T::Pushed, Input::Error>
     requires ready { ⟦<P as Calls<Input>>⟧.ready part.old from.state }
     requires starts { M.first mode ≡ true → P.PartialState.is_default from.state }
-    requires fresh { S.is_default state.old }
-    ensures { CalledLast P.Parser Input.StreamOnce Input.Error.seen P.PartialState.is_default S.is_default S.place T.pushed part.old part.new input.old input.new from state.new result }
+    ensures { CalledLast P.Parser Input.StreamOnce Input.Error.seen P.PartialState.is_default (λ z. z ≡ state.old) S.place T.pushed part.old part.new input.old input.new from state.new result }
 {
     let SequenceState {
         value,
@@ -151,7 +206,6 @@ pub(crate) fn parse_last<
 }
 
 /// As `parse_last`, for a call that resumes: apart from the code of calls that begin afresh, which holds each part once.
-#[inline(never)]
 pub(crate) fn resume_last<
     Input: Stream,
     T: Push<P::Output> + Drop,
@@ -167,13 +221,12 @@ pub(crate) fn resume_last<
 ) -> ParseResult<T::Pushed, Input::Error>
     requires ready { ⟦<P as Calls<Input>>⟧.ready part.old from.state }
     requires starts { M.first mode ≡ true → P.PartialState.is_default from.state }
-    requires fresh { S.is_default state.old }
-    ensures { CalledLast P.Parser Input.StreamOnce Input.Error.seen P.PartialState.is_default S.is_default S.place T.pushed part.old part.new input.old input.new from state.new result }
+    ensures { CalledLast P.Parser Input.StreamOnce Input.Error.seen P.PartialState.is_default (λ z. z ≡ state.old) S.place T.pushed part.old part.new input.old input.new from state.new result }
 {
     parse_last(part, mode, input, from, state)
 }
 
-/// Goes on with the last part, from its start, where those before it have accepted. `kept` is the state that they left, and `state` is a default one.
+/// Goes on with the last part, from its start, where those before it have accepted. `kept` is the state that they left; `state` is as for `parse_last`.
 #[inline(always)]
 pub(crate) fn parse_rest<
     Input: Stream,
@@ -190,8 +243,7 @@ pub(crate) fn parse_rest<
     state: &mut S,
 ) -> ParseResult<T::Pushed, Input::Error>
     requires lawful { P.lawful part.old }
-    requires fresh { S.is_default state.old }
-    ensures { CalledRest P.Parser Input.StreamOnce Input.Error.seen P.PartialState.is_default S.is_default S.place T.pushed part.old part.new input.old input.new kept state.new result answer }
+    ensures { CalledRest P.Parser Input.StreamOnce Input.Error.seen P.PartialState.is_default (λ z. z ≡ state.old) S.place T.pushed part.old part.new input.old input.new kept state.new result answer }
 {
     let (value, committed) = match answer {
         ParseResult::CommitOk(value) => (value, true),

@@ -13,6 +13,8 @@ use crate::sequence::{
 };
 use crate::stream::Stream;
 
+mod longer;
+
 pub type State1<Input, A> = PartialState1<SequenceState<(), <A as Parser<Input>>::PartialState>>;
 
 pub type State2<Input, A, B> = PartialState2<

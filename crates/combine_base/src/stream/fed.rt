@@ -6,6 +6,9 @@ use crate::stream::{Failures, Kind, Positioned, ResetStream, StreamOnce};
 use std::alloc::{AllocError, Global};
 use std::mem::replace;
 
+// For how many tokens room is made at least, so that small pieces make it seldom.
+const LEAST_ROOM: usize = 64;
+
 /// Tokens that are fed piece by piece; those that are unread are kept.
 ///
 /// The position is how many tokens were taken. A checkpoint is a place among the tokens that are held, and stands for it until the stream is fed again. Only `feed` takes memory: no parse asks for any. Our own: with the crate a caller keeps the input that is left, and makes a stream of it for each call.
@@ -41,11 +44,34 @@ impl<T: Copy + 'static> Stream<T> {
     /// Puts a piece behind the unread tokens; a refused growth changes nothing that is seen.
     ///
     /// In all it may be fed at most 2^64 - 1 tokens, as `room` tells.
+    #[inline]
     pub fn feed(&mut self, piece: &[T]) -> Result<(), AllocError>
         requires { (fed_view self.old).position + length (fed_view self.old).unread + length piece.now < 2 ^ 64 }
         ensures { FeedsPiece (fed_view self.old) (fed_view self.new) piece.now result }
     {
-        self.drop_taken();
+        if let [token] = piece {
+            if self.tokens.len() < self.tokens.capacity() {
+                return match self.tokens.push(*token) {
+                    Ok(()) => Ok(()),
+                    Err(_refused) => Err(AllocError),
+                };
+            }
+        }
+        self.feed_slice(piece)
+    }
+
+    // Puts a piece behind the unread tokens, with the taken ones let go where there is no room for it.
+    #[inline(never)]
+    fn feed_slice(&mut self, piece: &[T]) -> Result<(), AllocError>
+        requires { (fed_view self.old).position + length (fed_view self.old).unread + length piece.now < 2 ^ 64 }
+        ensures { FeedsPiece (fed_view self.old) (fed_view self.new) piece.now result }
+    {
+        if self.tokens.capacity() - self.tokens.len() < piece.len() {
+            self.drop_taken();
+            if piece.len() < LEAST_ROOM {
+                self.tokens.reserve(LEAST_ROOM)?;
+            }
+        }
         self.tokens.extend_from_slice(piece)
     }
 
@@ -125,7 +151,7 @@ impl<T: Copy + 'static> Stream<T> {
 
 impl<T: Copy + 'static> StreamOnce for Stream<T> {
     ghost use Rattle.std.specs.Prelude.{◌+◌};
-    ghost use Rattle.combine_base.specs.Stream.Fed.{fed_view, Stands, fed_moves};
+    ghost use Rattle.combine_base.specs.Stream.Fed.{fed_view, Stands, count_moves};
 
     type Token = T;
 
@@ -147,7 +173,7 @@ impl<T: Copy + 'static> StreamOnce for Stream<T> {
 
     ghost steady = { Unit {0} };
 
-    ghost moves = { λ s n h k. fed_moves s n h k };
+    ghost moves = { λ s n h k. count_moves (fed_view s) n h k };
 
     #[inline(always)]
     fn uncons(&mut self) -> Result<T, Kind> {

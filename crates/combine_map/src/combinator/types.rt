@@ -1,4 +1,4 @@
-//! The parsers that `map` and `attempt` answer.
+//! The parsers that the functions of `combinator` answer.
 ghost use Rattle.std.specs.Prelude.{◌≡◌};
 ghost use Rattle.combine_map.specs.Attempt.{HasValid, attempt_refuses, attempted, attempted_is_meaning, attempted_means_one, losing, refusing};
 ghost use Rattle.combine_map.specs.Parsers.{attempt_part, map_function, map_part};
@@ -7,6 +7,8 @@ ghost use Rattle.combine_base.specs.Parser.Mapped.{mapped, mapped_is_meaning, ma
 ghost use Rattle.combine_base.specs.Stream.Calls.{Passes};
 
 use super::TryState;
+pub use super::look::{LookAhead, NoPartial, NotFollowedBy};
+pub use super::values::{Ignore, Nothing, Pick, Picked};
 use combine_base::distance::{measure, pass_over};
 use combine_base::error::{ErrorOffset, ParseError, ParseResult, Tracked};
 use combine_base::parser::{ParseMode, Parser};
@@ -153,7 +155,7 @@ fn lost(kind: Kind) -> Kind
 
 /// Whether an error of that kind, where it isn't need of more, is a refusal.
 #[inline]
-fn refuses(kind: Kind) -> bool
+pub(super) fn refuses(kind: Kind) -> bool
     ensures { result ≡ refusing kind }
 {
     matches!(kind, Kind::Refused | Kind::End)

@@ -1,6 +1,7 @@
 //! The parsers that the functions of `choice` answer.
-ghost use Rattle.std.specs.Prelude.{◌≡◌, false, true, Some};
+ghost use Rattle.std.specs.Prelude.{◌≡◌, false, true, MatchResult};
 ghost use Rattle.combine_base.specs.Parser.Reasons.{Reasoned, kept_from};
+ghost use Rattle.combine_token.specs.Leading.{Leads, SaysMerged};
 ghost use Rattle.combine_token.specs.Reasons.{RefusesOr, committed_only};
 ghost use Rattle.combine_token.specs.Optional.{optional, optional_is_meaning, optional_means_one};
 ghost use Rattle.combine_token.specs.Or.{either_of, or_is_meaning, or_means_one, or_valid};
@@ -41,51 +42,57 @@ impl<P, Q> Or<P, Q> {
         answer
     }
 
-    /// The first parser goes on, or begins; the second is tried where it is refused peeked.
+    /// The first parser goes on, or begins, if it is its turn. The answer, or from where the second one goes on, with the refusal of the first if there was one.
     #[inline(always)]
-    fn try_first<Input: Stream, M: ParseMode>(
+    fn lead<Input: Stream, M: ParseMode>(
         &mut self,
         mode: M,
         input: &mut Input,
-        kept: P::PartialState,
+        kept: OrState<P::PartialState, Q::PartialState>,
         state: &mut OrState<P::PartialState, Q::PartialState>,
-    ) -> ParseResult<P::Output, Input::Error>
+    ) -> Result<
+        (Q::PartialState, Option<Tracked<Input::Error>>),
+        ParseResult<P::Output, Input::Error>,
+    >
     where
         P: Parser<Input>,
         Q: Parser<Input, Output = P::Output>,
-        requires ready { ⟦<Or<P, Q> as Calls<Input>>⟧.ready self.old (OrState.A kept) }
-        requires starts { M.first mode ≡ true → P.PartialState.is_default kept }
+        requires ready { ⟦<Or<P, Q> as Calls<Input>>⟧.ready self.old kept }
+        requires starts { M.first mode ≡ true → kept ≡ OrState.Peek }
         requires fresh { state.old ≡ OrState.Peek }
-        ensures called { ⟦<Or<P, Q> as Calls<Input>>⟧.called self.old self.new input.old input.new false (OrState.A kept) state.new result }
-        ensures refuses { Reasoned Input.Error.seen.kind (Input.view input.new).is_open (RefusesOr Input.Error.seen Input.Position.cmp P.PartialState.is_default Q.PartialState.is_default (P.refuses self.old.0) (Q.refuses self.old.1) (kept_from (M.first mode) (OrState.A kept)) (Input.view input.old)) result }
+        ensures called { MatchResult result
+            (λ next. Leads ⟦<Or<P, Q> as Calls<Input>>⟧.ready ⟦<Or<P, Q> as Calls<Input>>⟧.called Input.Error.seen Input.Position.cmp (M.first mode) Q.PartialState.is_default self.old self.new input.old input.new kept state.new next)
+            (λ answer. ⟦<Or<P, Q> as Calls<Input>>⟧.called self.old self.new input.old input.new false kept state.new answer) }
+        ensures refuses { MatchResult result
+            (λ next. SaysMerged P.Output Input.Error.seen Input.Position.cmp next.1 (Q.refuses self.new.1 (kept_from (M.first mode) next.0) (Input.view input.new)) (RefusesOr Input.Error.seen Input.Position.cmp P.PartialState.is_default Q.PartialState.is_default (P.refuses self.old.0) (Q.refuses self.old.1) (kept_from (M.first mode) kept) (Input.view input.old)))
+            (λ answer. Reasoned Input.Error.seen.kind (Input.view input.new).is_open (RefusesOr Input.Error.seen Input.Position.cmp P.PartialState.is_default Q.PartialState.is_default (P.refuses self.old.0) (Q.refuses self.old.1) (kept_from (M.first mode) kept) (Input.view input.old)) answer) }
     {
+        let mut kept = match kept.running() {
+            Ok(kept) => kept,
+            Err(kept) => return Ok((kept, None)),
+        };
         let start = input.checkpoint();
         let position = input.position();
-        let mut kept = kept;
         match self.0.parse_mode(mode, input, &mut kept) {
-            ParseResult::CommitOk(value) => ParseResult::CommitOk(value),
-            ParseResult::PeekOk(value) => ParseResult::PeekOk(value),
+            ParseResult::CommitOk(value) => Err(ParseResult::CommitOk(value)),
+            ParseResult::PeekOk(value) => Err(ParseResult::PeekOk(value)),
             ParseResult::CommitErr(error) => {
                 if needs_more(input, &error) {
                     *state = OrState::A(kept);
-                    return ParseResult::CommitErr(error);
+                    return Err(ParseResult::CommitErr(error));
                 }
-                ParseResult::CommitErr(error)
+                Err(ParseResult::CommitErr(error))
             }
             ParseResult::PeekErr(refused) => match input.reset(start) {
-                Ok(()) => {
-                    let fresh = Q::PartialState::default();
-                    let later = self.try_second(mode, input, fresh, state);
-                    after_refusal(refused, later)
-                }
-                Err(kind) => ParseResult::CommitErr(input.new_error(kind, position)),
+                Ok(()) => Ok((Q::PartialState::default(), Some(refused))),
+                Err(kind) => Err(ParseResult::CommitErr(input.new_error(kind, position))),
             },
         }
     }
 
-    /// A call that resumes: apart from the code of calls that begin afresh, which holds each parser once.
-    #[inline(never)]
-    fn resume<Input: Stream, M: ParseMode>(
+    /// Goes on from a state of its own. The code of each parser stands once in it, so that nothing that resumes needs to be a function of its own over the stream.
+    #[inline(always)]
+    fn go_on<Input: Stream, M: ParseMode>(
         &mut self,
         mode: M,
         input: &mut Input,
@@ -96,17 +103,20 @@ impl<P, Q> Or<P, Q> {
         P: Parser<Input>,
         Q: Parser<Input, Output = P::Output>,
         requires ready { ⟦<Or<P, Q> as Calls<Input>>⟧.ready self.old kept }
-        requires resumes { M.first mode ≡ false }
+        requires starts { M.first mode ≡ true → kept ≡ OrState.Peek }
         requires fresh { state.old ≡ OrState.Peek }
         ensures called { ⟦<Or<P, Q> as Calls<Input>>⟧.called self.old self.new input.old input.new false kept state.new result }
-        ensures refuses { Reasoned Input.Error.seen.kind (Input.view input.new).is_open (RefusesOr Input.Error.seen Input.Position.cmp P.PartialState.is_default Q.PartialState.is_default (P.refuses self.old.0) (Q.refuses self.old.1) (Some kept) (Input.view input.old)) result }
+        ensures refuses { Reasoned Input.Error.seen.kind (Input.view input.new).is_open (RefusesOr Input.Error.seen Input.Position.cmp P.PartialState.is_default Q.PartialState.is_default (P.refuses self.old.0) (Q.refuses self.old.1) (kept_from (M.first mode) kept) (Input.view input.old)) result }
     {
-        let kept = match kept {
-            OrState::B(kept) => return self.try_second(mode, input, kept, state),
-            OrState::A(kept) => kept,
-            OrState::Peek => P::PartialState::default(),
+        let (kept, refused) = match self.lead(mode, input, kept, state) {
+            Ok(next) => next,
+            Err(answer) => return answer,
         };
-        self.try_first(mode, input, kept, state)
+        let later = self.try_second(mode, input, kept, state);
+        match refused {
+            Some(refused) => after_refusal(refused, later),
+            None => later,
+        }
     }
 }
 
@@ -142,10 +152,7 @@ impl<Input: Stream, P: Parser<Input>, Q: Parser<Input, Output = P::Output>> Pars
         state: &mut Self::PartialState,
     ) -> ParseResult<P::Output, Input::Error> {
         let kept = state.begin(mode.is_first());
-        if mode.is_first() {
-            return self.try_first(mode, input, P::PartialState::default(), state);
-        }
-        self.resume(mode, input, kept, state)
+        self.go_on(mode, input, kept, state)
     }
 
     /// What the first adds, and then what the second does.

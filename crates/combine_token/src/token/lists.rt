@@ -8,7 +8,7 @@ ghost use Rattle.combine_base.specs.Parser.Reasons.{Reasoned, kept_from};
 ghost use Rattle.combine_token.specs.ListAnswers.{expecting};
 ghost use Rattle.combine_token.specs.Reasons.{RefusesList, begins_at};
 ghost use Rattle.combine_token.specs.TokenLists.{token_list};
-ghost use Rattle.combine_token.specs.TokenParsers.{matched_before, tokens_of};
+ghost use Rattle.combine_token.specs.TokenParsers.{matched_before, tokens_cmp_of, tokens_of};
 
 mod answers;
 pub mod types;
@@ -18,7 +18,7 @@ use combine_base::error::{Info, ParseResult};
 use combine_base::parser::ParseMode;
 use combine_base::stream::{Kind, Stream, StreamOnce, ends_open};
 use std::marker::PhantomData;
-use types::{Tokens, TokensState};
+use types::{Tokens, TokensCmp, TokensState};
 
 /// A parser of the tokens of a list, one after another; its value is a clone of the list.
 ///
@@ -47,27 +47,42 @@ where
     }
 }
 
-/// One call of a parser of a list of tokens, as `tokens` makes one.
+/// As `tokens`, but the error of a committed mismatch says only which token stands there, and nothing is said to be expected.
 ///
-/// `expected` is what the error of a committed mismatch says was expected, if it says so.
+/// Unlike the crate's, `cmp` is an `Fn`.
+pub fn tokens_cmp<C, T, Input>(tokens: T, cmp: C) -> TokensCmp<C, T, Input>
+    ensures { result ≡ tokens_cmp_of tokens cmp }
+{
+    TokensCmp {
+        cmp,
+        tokens,
+        reads: PhantomData,
+    }
+}
+
+/// One call of a parser of a list of tokens, whose value is a clone of `value` (our own: the crate has no such call).
+///
+/// `expected` is what the error of a committed mismatch says was expected, if it says so. A clone of the list or of the value that finds no memory is the fault `Memory`.
 #[inline(always)]
-pub(super) fn match_list<C, T, Input: Stream, M: ParseMode>(
+pub fn match_list<'a, C, T, V, Input: Stream, M: ParseMode>(
     cmp: &C,
-    list: &T,
-    expected: Option<&Info<Input::Token, Input::Range>>,
+    list: &'a T,
+    value: &V,
+    expected: Option<&'a Info<Input::Token, Input::Range>>,
     mode: M,
     input: &mut Input,
     state: &mut TokensState,
-) -> ParseResult<T, Input::Error>
+) -> ParseResult<V, Input::Error>
 where
     C: Fn(T::Item, Input::Token) -> bool,
     T: Clone + IntoIterator,
     T::Item: Drop,
+    V: Clone,
     requires callable { C.IsAlwaysCallable cmp.now }
     requires list { IsIterated T.is_clone T.into_iter_gives T.IntoIter.next_gives list.now T.IntoIter.can_next T.IntoIter.remaining }
     ensures passes { Passes (Input.marks input.old) (Input.marks input.new) (Input.failures input.old) (Input.failures input.new) }
     ensures answers { Answers (world Input.step Input.Error.seen Input.steady (λ s. matched_before s ≡ 0))
-        (token_list (iterated T.is_clone T.into_iter_gives T.IntoIter.next_gives list.now (λ x t b. C.post cmp.now x t b)) (T.is_clone list.now) matched_before (T.is_infallible list.now) (λ is. is ≡ expecting (option_copied expected.entry)))
+        (token_list (iterated T.is_clone T.into_iter_gives T.IntoIter.next_gives list.now (λ x t b. C.post cmp.now x t b)) (V.is_clone value.now) matched_before (T.is_infallible list.now × V.is_infallible value.now) (λ is. is ≡ expecting (option_copied expected.entry)))
         (record { first = M.first mode; state = state.old; left = state.new; old = Input.view input.old; new = Input.view input.new; before = Input.failures input.old; after = Input.failures input.new })
         result }
     ensures refuses { Reasoned Input.Error.seen.kind (Input.view input.new).is_open
@@ -83,7 +98,7 @@ where
     };
     match pass_over(&mut items, matched) {
         Ok(()) => {}
-        Err(count) => return accepted(list, count > 0, position, input),
+        Err(count) => return accepted(value, count > 0, position, input),
     }
     'items: for item in items {
         match input.uncons() {
@@ -106,5 +121,5 @@ where
         }
         matched += 1;
     }
-    accepted(list, matched > 0, position, input)
+    accepted(value, matched > 0, position, input)
 }

@@ -1,10 +1,11 @@
-//! The reading of one token, of which the parsers of single tokens are made.
+//! The calls of which the parsers of tokens are made, also in other crates: the reading of one token, and the match of a list.
 ghost use Rattle.combine_base.specs.Parser.Answer.{world};
 ghost use Rattle.combine_base.specs.Parser.Reasons.{Reasoned};
 ghost use Rattle.combine_base.specs.Stream.Calls.{Passes};
-ghost use Rattle.combine_token.specs.OneToken.{satisfied, PutBack, ReadsToken, ReadsTokenIf};
+ghost use Rattle.combine_token.specs.OneToken.{holds, of_token, PutBack, ReadsToken, ReadsTokenIf};
 ghost use Rattle.combine_token.specs.Reasons.{RefusesToken};
 
+pub use crate::token::lists::match_list;
 use combine_base::error::{ParseResult, Tracked};
 use combine_base::refusal::no_token;
 use combine_base::stream::{Kind, Stream};
@@ -51,7 +52,33 @@ pub fn one_token<B, Input: Stream, F: FnOnce(Option<Input::Token>) -> Option<B>>
     }
 }
 
-/// As `one_token`, for a token that the predicate holds of (our own). Another token, and the end of an ended list, is refused peeked.
+/// As `one_token`, for a token that the function answers a value for (our own). Another token, and the end of an ended list, is refused peeked.
+#[inline(always)]
+pub fn token_map<B, Input: Stream, F: FnOnce(Input::Token) -> Option<B>>(
+    function: F,
+    input: &mut Input,
+) -> ParseResult<B, Input::Error>
+    requires { F.IsAlwaysCallable function }
+    ensures passes { Passes (Input.marks input.old) (Input.marks input.new) (Input.failures input.old) (Input.failures input.new) }
+    ensures reads { ReadsToken (world Input.step Input.Error.seen Input.steady ⟦<() as Default>⟧.is_default) (of_token (F.post function)) (Input.view input.old) (Input.view input.new) (Input.failures input.old) (Input.failures input.new) result }
+    ensures back { PutBack (Input.view input.old) (Input.view input.new) result }
+    ensures refuses { Reasoned Input.Error.seen.kind (Input.view input.new).is_open (RefusesToken Input.Error.seen (Input.view input.old)) result }
+{
+    one_token(
+        |first: Option<Input::Token>| -> Option<B>
+            requires { F.IsAlwaysCallable function }
+            ensures { of_token (F.post function) first result }
+        {
+            match first {
+                Some(token) => function(token),
+                None => None,
+            }
+        },
+        input,
+    )
+}
+
+/// As `token_map`, for a token that the predicate holds of (our own).
 #[inline(always)]
 pub fn token_if<Input: Stream, F: FnOnce(Input::Token) -> bool>(
     predicate: F,
@@ -63,16 +90,11 @@ pub fn token_if<Input: Stream, F: FnOnce(Input::Token) -> bool>(
     ensures back { PutBack (Input.view input.old) (Input.view input.new) result }
     ensures refuses { Reasoned Input.Error.seen.kind (Input.view input.new).is_open (RefusesToken Input.Error.seen (Input.view input.old)) result }
 {
-    one_token(
-        |first: Option<Input::Token>| -> Option<Input::Token>
+    token_map(
+        |token: Input::Token| -> Option<Input::Token>
             requires { F.IsAlwaysCallable predicate }
-            ensures { satisfied (F.post predicate) first result }
-        {
-            match first {
-                Some(token) => { if predicate(token) { Some(token) } else { None } }
-                None => None,
-            }
-        },
+            ensures { holds (F.post predicate) token result }
+        { if predicate(token) { Some(token) } else { None } },
         input,
     )
 }

@@ -1,13 +1,14 @@
 //! The parsers that the functions of `token` answer.
-ghost use Rattle.std.specs.Prelude.{◌≡◌, true};
+ghost use Rattle.std.specs.Prelude.{◌≡◌, codes, true};
 ghost use Rattle.combine_base.specs.Error.Errors.{Nothing, Only};
-ghost use Rattle.combine_base.specs.Error.Items.{Expected, OfToken};
-ghost use Rattle.combine_token.specs.OneToken.{IsPredicate, of_function, of_function_is_predicate, satisfied, satisfied_is_test, takes_one, takes_one_is_meaning, takes_one_means_one};
+ghost use Rattle.combine_base.specs.Error.Items.{Expected, Fixed, OfToken};
+ghost use Rattle.combine_token.specs.OneToken.{IsPredicate, IsTest, ends_there, ends_there_is_test, of_function, of_function_is_predicate, of_token, of_token_is_test, satisfied, satisfied_is_test, takes_one, takes_one_is_meaning, takes_one_means_one};
 ghost use Rattle.combine_token.specs.Reasons.{RefusesToken};
 ghost use Rattle.combine_token.specs.Given.{gives, gives_is_meaning, gives_means_one};
 
-pub use crate::token::lists::types::Tokens;
-use crate::token::reading::token_if;
+pub use crate::token::among::types::{NoneOf, OneOf};
+pub use crate::token::lists::types::{Tokens, TokensCmp};
+use crate::token::reading::{one_token, token_if, token_map};
 use combine_base::error::{ErrorOffset, Info, ParseError, ParseResult, Tracked};
 use combine_base::parser::{ParseMode, Parser};
 use combine_base::stream::{Kind, Stream};
@@ -28,6 +29,14 @@ pub struct Satisfy<Input, F> {
     pub(super) reads: PhantomData<Input>,
 }
 
+/// The parser of [`satisfy_map`](crate::token::satisfy_map).
+#[derive(Drop)]
+#[derive_where(Clone, Copy; F)]
+pub struct SatisfyMap<Input, F> {
+    pub(super) predicate: F,
+    pub(super) reads: PhantomData<Input>,
+}
+
 /// The parser of [`token`](crate::token::token), with the stream's tokens as `T`. The crate's has no such parameter; a type that holds an associated type could be neither `Copy` nor used over a borrowed slice.
 #[derive(Drop)]
 #[derive_where(Clone, Copy; T)]
@@ -36,11 +45,33 @@ pub struct Token<Input, T> {
     pub(super) reads: PhantomData<Input>,
 }
 
+/// The parser of [`position`](crate::token::position).
+#[derive(Drop)]
+#[derive_where(Clone, Copy)]
+pub struct Position<Input> {
+    pub(super) reads: PhantomData<Input>,
+}
+
 /// The parser of [`value`](crate::token::value).
 #[derive(Drop)]
 #[derive_where(Clone, Copy; T)]
 pub struct Value<Input, T> {
     pub(super) value: T,
+    pub(super) reads: PhantomData<Input>,
+}
+
+/// The parser of [`produce`](crate::token::produce).
+#[derive(Drop)]
+#[derive_where(Clone, Copy; F)]
+pub struct Produce<Input, F> {
+    pub(super) function: F,
+    pub(super) reads: PhantomData<Input>,
+}
+
+/// The parser of [`eof`](crate::token::eof).
+#[derive(Drop)]
+#[derive_where(Clone, Copy)]
+pub struct Eof<Input> {
     pub(super) reads: PhantomData<Input>,
 }
 
@@ -133,6 +164,49 @@ impl<Input: Stream, F: Fn(Input::Token) -> bool> Parser<Input> for Satisfy<Input
     ghost single = { λ p l d. takes_one_means_one (satisfied (F.post p.predicate)) _ _ _ (satisfied_is_test _ d) };
 }
 
+impl<Input: Stream, B: Drop, F: Fn(Input::Token) -> Option<B>> Parser<Input>
+    for SatisfyMap<Input, F> {
+    type Output = B;
+
+    type PartialState = ();
+
+    ghost lawful = { λ p. F.IsAlwaysCallable p.predicate };
+
+    ghost determined = { λ p. IsTest (F.post p.predicate) };
+
+    ghost valid = { λ s. Unit {0} };
+
+    ghost meaning = { λ p. takes_one (of_token (F.post p.predicate)) (Unit {0}) Nothing };
+
+    ghost refuses = { λ p k. RefusesToken Input.Error.seen };
+
+    ghost parts = { λ p. 1 };
+
+    #[inline(always)]
+    fn parse_mode<M: ParseMode>(
+        &mut self,
+        mode: M,
+        input: &mut Input,
+        state: &mut (),
+    ) -> ParseResult<B, Input::Error> {
+        token_map(&self.predicate, input)
+    }
+
+    #[inline]
+    fn add_error(&mut self, error: &mut Tracked<Input::Error>) {}
+
+    #[inline]
+    fn parser_count(&self) -> ErrorOffset {
+        ErrorOffset(1)
+    }
+
+    ghost default_valid = { λ s d. tt };
+
+    ghost laws = { λ p l. takes_one_is_meaning (of_token (F.post p.predicate)) _ _ _ _ };
+
+    ghost single = { λ p l d. takes_one_means_one (of_token (F.post p.predicate)) _ _ _ (of_token_is_test _ d) };
+}
+
 impl<Input: Stream> Parser<Input> for Token<Input, Input::Token>
 where
     Input::Token: PartialEq,
@@ -186,6 +260,48 @@ where
     ghost single = { λ p l d. takes_one_means_one (satisfied (of_function (λ t. Input.Token.eq t p.token))) _ _ _ (satisfied_is_test _ (of_function_is_predicate (λ t. Input.Token.eq t p.token))) };
 }
 
+impl<Input: Stream> Parser<Input> for Position<Input> {
+    type Output = Input::Position;
+
+    type PartialState = ();
+
+    ghost lawful = { λ p. Unit {0} };
+
+    ghost determined = { λ p. Unit {0} };
+
+    ghost valid = { λ s. Unit {0} };
+
+    ghost meaning = { λ p. gives (λ at v. v ≡ at) (Unit {0}) Nothing };
+
+    ghost refuses = { λ p k v committed e. ⊥ };
+
+    ghost parts = { λ p. 1 };
+
+    #[inline(always)]
+    fn parse_mode<M: ParseMode>(
+        &mut self,
+        mode: M,
+        input: &mut Input,
+        state: &mut (),
+    ) -> ParseResult<Input::Position, Input::Error> {
+        ParseResult::PeekOk(input.position())
+    }
+
+    #[inline]
+    fn add_error(&mut self, error: &mut Tracked<Input::Error>) {}
+
+    #[inline]
+    fn parser_count(&self) -> ErrorOffset {
+        ErrorOffset(1)
+    }
+
+    ghost default_valid = { λ s d. tt };
+
+    ghost laws = { λ p l. gives_is_meaning (λ at v. v ≡ at) _ _ _ _ };
+
+    ghost single = { λ p l d. gives_means_one (λ at v. v ≡ at) _ _ _ };
+}
+
 impl<Input: Stream, T: Clone> Parser<Input> for Value<Input, T> {
     type Output = T;
 
@@ -229,4 +345,100 @@ impl<Input: Stream, T: Clone> Parser<Input> for Value<Input, T> {
     ghost laws = { λ p l. gives_is_meaning (λ at v. T.is_clone p.value v) _ _ _ _ };
 
     ghost single = { λ p l d. gives_means_one (λ at v. T.is_clone p.value v) _ _ _ };
+}
+
+impl<Input: Stream, B: Drop, F: Fn() -> B> Parser<Input> for Produce<Input, F> {
+    type Output = B;
+
+    type PartialState = ();
+
+    ghost lawful = { λ p. F.IsAlwaysCallable p.function };
+
+    ghost determined = { λ p. Unit {0} };
+
+    ghost valid = { λ s. Unit {0} };
+
+    ghost meaning = { λ p. gives (λ at v. F.post p.function v) (Unit {0}) Nothing };
+
+    ghost refuses = { λ p k v committed e. ⊥ };
+
+    ghost parts = { λ p. 1 };
+
+    #[inline(always)]
+    fn parse_mode<M: ParseMode>(
+        &mut self,
+        mode: M,
+        input: &mut Input,
+        state: &mut (),
+    ) -> ParseResult<B, Input::Error> {
+        ParseResult::PeekOk((self.function)())
+    }
+
+    #[inline]
+    fn add_error(&mut self, error: &mut Tracked<Input::Error>) {}
+
+    #[inline]
+    fn parser_count(&self) -> ErrorOffset {
+        ErrorOffset(1)
+    }
+
+    ghost default_valid = { λ s d. tt };
+
+    ghost laws = { λ p l. gives_is_meaning (λ at v. F.post p.function v) _ _ _ _ };
+
+    ghost single = { λ p l d. gives_means_one (λ at v. F.post p.function v) _ _ _ };
+}
+
+impl<Input: Stream> Parser<Input> for Eof<Input> {
+    type Output = ();
+
+    type PartialState = ();
+
+    ghost lawful = { λ p. Unit {0} };
+
+    ghost determined = { λ p. Unit {0} };
+
+    ghost valid = { λ s. Unit {0} };
+
+    ghost meaning = { λ p. takes_one ends_there (Unit {0}) (Only (Expected (Fixed (codes "end of input")))) };
+
+    ghost refuses = { λ p k. RefusesToken Input.Error.seen };
+
+    ghost parts = { λ p. 1 };
+
+    #[inline(always)]
+    fn parse_mode<M: ParseMode>(
+        &mut self,
+        mode: M,
+        input: &mut Input,
+        state: &mut (),
+    ) -> ParseResult<(), Input::Error> {
+        one_token(
+            |first: Option<Input::Token>| -> Option<()>
+                ensures { ends_there first result }
+            {
+                match first {
+                    Some(_) => None,
+                    None => Some(()),
+                }
+            },
+            input,
+        )
+    }
+
+    #[inline]
+    fn add_error(&mut self, error: &mut Tracked<Input::Error>) {
+        error.error.add_expected(&Info::Static("end of input"));
+    }
+
+    #[inline]
+    fn parser_count(&self) -> ErrorOffset {
+        ErrorOffset(1)
+    }
+
+    ghost default_valid = { λ s d. tt };
+
+    ghost laws = { λ p l. takes_one_is_meaning ends_there _ _ _ _ };
+
+    ghost single = { λ p l d. takes_one_means_one ends_there _ _ _ ends_there_is_test };
 }

@@ -32,17 +32,17 @@ where
     Ok(())
 }
 
-/// An acceptance with a clone of the list.
+/// An acceptance with a clone of the value.
 #[inline]
-pub(super) fn accepted<T: Clone, Input: Stream>(
-    tokens: &T,
+pub(super) fn accepted<V: Clone, Input: Stream>(
+    value: &V,
     committed: bool,
     position: Input::Position,
     input: &Input,
-) -> ParseResult<T, Input::Error>
-    ensures { Accepted Input.Error.seen.kind (T.is_clone tokens.now) (T.is_infallible tokens.now) committed result }
+) -> ParseResult<V, Input::Error>
+    ensures { Accepted Input.Error.seen.kind (V.is_clone value.now) (V.is_infallible value.now) committed result }
 {
-    match tokens.clone() {
+    match value.clone() {
         Ok(value) => accepted_after(committed, value),
         Err(_refused) => ParseResult::CommitErr(input.new_error(Kind::Memory, position)),
     }

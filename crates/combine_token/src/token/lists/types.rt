@@ -1,6 +1,6 @@
-//! The parsers of lists of tokens, and their states.
-ghost use Rattle.std.specs.Prelude.{◌≡◌, not, if◌then◌else◌, MatchResult, Some};
-ghost use Rattle.combine_base.specs.Error.Errors.{Only};
+//! The parsers of lists of tokens, and their state.
+ghost use Rattle.std.specs.Prelude.{◌≡◌, not, if◌then◌else◌, MatchResult, None, Some};
+ghost use Rattle.combine_base.specs.Error.Errors.{Nothing, Only};
 ghost use Rattle.combine_base.specs.Error.Items.{Expected, shown};
 ghost use Rattle.combine_token.specs.ListAnswers.{NoText};
 ghost use Rattle.combine_token.specs.Reasons.{RefusesList, begins_at};
@@ -111,6 +111,7 @@ where
         match_list(
             &self.cmp,
             &self.tokens,
+            &self.tokens,
             Some(&self.expected),
             mode,
             input,
@@ -121,6 +122,70 @@ where
     fn add_error(&mut self, error: &mut Tracked<Input::Error>) {
         error.error.add_expected(&self.expected);
     }
+
+    fn parser_count(&self) -> ErrorOffset {
+        ErrorOffset(1)
+    }
+}
+
+/// The parser that `tokens_cmp` makes.
+///
+/// Its errors at a committed mismatch say which token stands there, at the position where the call began; what was expected is never said.
+/// On need of more nothing is left unread: the state keeps how many tokens were matched.
+#[derive(Drop)]
+#[derive_where(Clone; C, T)]
+pub struct TokensCmp<C, T, Input> {
+    pub(super) cmp: C,
+    pub(super) tokens: T,
+    pub(super) reads: PhantomData<Input>,
+}
+
+impl<Input: Stream, C: Fn(T::Item, Input::Token) -> bool, T: Clone + IntoIterator> Parser<Input>
+    for TokensCmp<C, T, Input>
+where
+    T::Item: Drop,
+{
+    type Output = T;
+
+    type PartialState = TokensState;
+
+    ghost lawful = { λ p. C.IsAlwaysCallable p.cmp × IsIterated T.is_clone T.into_iter_gives T.IntoIter.next_gives p.tokens T.IntoIter.can_next T.IntoIter.remaining };
+
+    ghost determined = { λ p. ComparesOnce (iterated T.is_clone T.into_iter_gives T.IntoIter.next_gives p.tokens (λ x t b. C.post p.cmp x t b)) };
+
+    ghost valid = { λ s. Unit {0} };
+
+    ghost meaning = { λ p. token_list (iterated T.is_clone T.into_iter_gives T.IntoIter.next_gives p.tokens (λ x t b. C.post p.cmp x t b)) (T.is_clone p.tokens) (λ s. s.matched) (T.is_infallible p.tokens) Nothing };
+
+    ghost refuses = { λ p k. RefusesList Input.Error.seen (iterated T.is_clone T.into_iter_gives T.IntoIter.next_gives p.tokens (λ x t b. C.post p.cmp x t b)) None (begins_at (λ s. s.matched) k) };
+
+    ghost parts = { λ _. 1 };
+
+    ghost default_valid = { λ s d. tt };
+
+    ghost laws = { λ p l. token_list_is_meaning _ _ _ _ _ _ _ (λ s d. d) };
+
+    ghost single = { λ p l d. token_list_means_one (λ _. Unit {0}) _ _ _ _ _ _ (iterated_ends_once _ _ _ _ _ _ _ l.1) d };
+
+    #[inline(always)]
+    fn parse_mode<M: ParseMode>(
+        &mut self,
+        mode: M,
+        input: &mut Input,
+        state: &mut TokensState,
+    ) -> ParseResult<T, Input::Error> {
+        match_list(
+            &self.cmp,
+            &self.tokens,
+            &self.tokens,
+            None,
+            mode,
+            input,
+            state,
+        )
+    }
+
+    fn add_error(&mut self, error: &mut Tracked<Input::Error>) {}
 
     fn parser_count(&self) -> ErrorOffset {
         ErrorOffset(1)

@@ -7,5 +7,5 @@ use Rattle.feedline_core.proofs.feeding.drive.Given as goal
 abbrev pub invariant-pieces : goal.invariant-pieces
 invariant-pieces g l = record {
   far : SoFar g.P.Parser.meaning (g.P.Parser.meaning l.fn.parser) (take l.piece-index (map (λ p. p.now) l.pieces)) l.session;
-  written : Written (g.W.Write.contents l.fn.out) (g.W.Write.contents l.out) (take l.piece-index (map (λ p. p.now) l.pieces)) (length l.session.seen.unread);
+  written : Written (g.P.Parser.meaning l.fn.parser).whole (g.P.Parser.meaning l.fn.parser).rest (g.W.Write.contents l.fn.out) (g.W.Write.contents l.out) (take l.piece-index (map (λ p. p.now) l.pieces)) (length l.session.seen.unread);
 }

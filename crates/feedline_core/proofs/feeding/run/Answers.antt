@@ -18,4 +18,4 @@ returns g c =
     let del = rw c.token-4.ensures at rw c.token-3.ensures at rw c.token-2.ensures at rw c.token.ensures at c.attempt-del.ensures in
     let drove = rw del at c.drive_after.ensures in
     let pieces = ap (map (λ p. p.now)) c.deref.ensures.value ∙ c.in_ok-pieces.ensures in
-    runs_on message message_is_single _ _ _ _ _ (subst (λ ps. Runs message ps (g.W.Write.contents c.args.out.now) (g.W.Write.contents c.drive_after.new.out) c.drive_after.result) pieces drove)
+    runs_on message.whole message.rest message_is_single _ _ _ _ _ (subst (λ ps. Runs message.whole message.rest ps (g.W.Write.contents c.args.out.now) (g.W.Write.contents c.drive_after.new.out) c.drive_after.result) pieces drove)

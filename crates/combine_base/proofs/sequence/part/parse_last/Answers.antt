@@ -18,7 +18,7 @@ returns-in-CommitOk g c =
         answers = at_rest _ _ _ (g.met.P.Parser.laws c.args.part.now c.requires.ready.lawful) _ c.requires.starts _ c.in-CommitOk.ensures.answers;
         explained = explained_only c.in-CommitOk.ensures.explained;
         is = ap CommitOk c.push.ensures;
-        leaves = inr (λ q. q, c.requires.fresh);
+        leaves = inr (λ q. q, refl);
       };
     }
 
@@ -35,7 +35,7 @@ returns-in-PeekOk g c =
         answers = at_rest _ _ _ (g.met.P.Parser.laws c.args.part.now c.requires.ready.lawful) _ c.requires.starts _ c.in-PeekOk.ensures.answers;
         explained = explained_only c.in-PeekOk.ensures.explained;
         is = rw (c.accepted_after.ensures, c.push-in-PeekOk.ensures);
-        leaves = inr (λ q. q, c.requires.fresh);
+        leaves = inr (λ q. q, refl);
       };
     }
 
@@ -70,7 +70,7 @@ returns-else-needs_more g c =
         answers = at_rest _ _ _ (g.met.P.Parser.laws c.args.part.now c.requires.ready.lawful) _ c.requires.starts _ c.in-CommitErr.ensures.answers;
         explained = explained_only c.in-CommitErr.ensures.explained;
         is = refl;
-        leaves = inr (λ q. let e = c.needs_more.ensures.1 q in let f = c.if-needs_more.false in cc, c.requires.fresh);
+        leaves = inr (λ q. let e = c.needs_more.ensures.1 q in let f = c.if-needs_more.false in cc, refl);
       };
     }
 
@@ -87,6 +87,6 @@ returns-in-PeekErr g c =
         answers = at_rest _ _ _ (g.met.P.Parser.laws c.args.part.now c.requires.ready.lawful) _ c.requires.starts _ c.in-PeekErr.ensures.answers;
         explained = explained_only c.in-PeekErr.ensures.explained;
         is = c.refused_after.ensures;
-        leaves = inr (λ q. q, c.requires.fresh);
+        leaves = inr (λ q. q, refl);
       };
     }

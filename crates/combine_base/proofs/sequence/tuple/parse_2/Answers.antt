@@ -13,7 +13,7 @@ parse_1-answer-requires-clause-starts g c = λ h. rw (sym c.into_place.ensures �
 pub returns-in-Before-clause-called : goal.returns-in-Before-clause-called
 returns-in-Before-clause-called g c =
     let first = c.parse_1-answer.ensures.called in
-    let all = sequence_called place_2 push_1 (begins_valid_1 g.met.A.Parser.default_valid) (tuple_1_is_meaning (g.met.A.Parser.laws _ c.requires.ready.lawful.0)) (g.met.B.Parser.laws _ c.requires.ready.lawful.1) (sym c.into_place.ensures ∙ c.in-Before.is) c.requires.ready.valid first c.parse_rest.ensures in
+    let all = sequence_called place_2 push_1 c.requires.fresh (begins_valid_1 g.met.A.Parser.default_valid) (tuple_1_is_meaning (g.met.A.Parser.laws _ c.requires.ready.lawful.0)) (g.met.B.Parser.laws _ c.requires.ready.lawful.1) (sym c.into_place.ensures ∙ c.in-Before.is) c.requires.ready.valid first.valid first.same first.passes first.answers c.parse_rest.ensures in
     record { lawful = (first.lawful, c.parse_rest.ensures.lawful); valid = all.valid; same = all.same; passes = all.passes; answers = all.answers }
 
 pub resume_last-requires-clause-ready : goal.resume_last-requires-clause-ready
@@ -25,5 +25,5 @@ resume_last-requires-clause-starts g c = λ h. absurd (rw (sym c.into_place.ensu
 
 pub returns-in-Last-clause-called : goal.returns-in-Last-clause-called
 returns-in-Last-clause-called g c =
-    let all = last_called place_2 push_1 (tuple_1 (g.A.Parser.meaning c.args.a.now)) (begins_valid_1 g.met.A.Parser.default_valid) (sym c.into_place.ensures ∙ c.in-Last.is) c.resume_last.ensures in
+    let all = last_called place_2 push_1 c.requires.fresh (tuple_1 (g.A.Parser.meaning c.args.a.now)) (begins_valid_1 g.met.A.Parser.default_valid) (sym c.into_place.ensures ∙ c.in-Last.is) c.resume_last.ensures in
     record { lawful = (c.requires.ready.lawful.0, c.resume_last.ensures.lawful); valid = all.valid; same = all.same; passes = all.passes; answers = all.answers }

@@ -28,7 +28,7 @@ pub returns-in-Err-pass_over-clause-answers : goal.returns-in-Err-pass_over-clau
 returns-in-Err-pass_over-clause-answers g c =
     let z = c.in-Err-pass_over.ensures.gave in
     let a = arrived_first _ _ _ _ _ _ _ _ _ _ _ (rw c.is_first.ensures at c.begin-matched.ensures.matched) in
-    match_accepted _ _ _ _ _ _ _ _ _ _ a c.begin-matched.ensures.left _ (omega (arith, z.0)) (ends_early _ _ _ _ _ _ _ c.in-Ok.ensures.cases c.into_iter-items.ensures.into_iter_gives z.1) refl refl _ refl _ c.accepted.ensures
+    match_accepted _ _ _ _ _ _ _ _ _ _ a c.begin-matched.ensures.left _ (omega (arith, z.0)) (ends_early _ _ _ _ _ _ _ c.in-Ok.ensures.cases c.into_iter-items.ensures.into_iter_gives z.1) refl refl _ (λ l. l.1) _ refl _ c.accepted.ensures
 
 pub returns-then-matched-gt0-clause-passes : goal.returns-then-matched-gt0-clause-passes
 returns-then-matched-gt0-clause-passes g c = passes_more _ _ _ _ _ _ c.items.invariant.passes c.uncons.ensures.passes
@@ -92,7 +92,7 @@ items-preserved g c =
 pub returns-clause-answers : goal.returns-clause-answers
 returns-clause-answers g c =
     let i = c.items.invariant in
-    match_accepted _ _ _ _ _ _ _ _ _ _ i.arrived i.cleared _ (omega arith) (ends _ _ _ _ _ _ _ i.reached c.in-None.ensures.steps) refl refl _ refl _ c.accepted-2.ensures
+    match_accepted _ _ _ _ _ _ _ _ _ _ i.arrived i.cleared _ (omega arith) (ends _ _ _ _ _ _ _ i.reached c.in-None.ensures.steps) refl refl _ (λ l. l.1) _ refl _ c.accepted-2.ensures
 
 pub returns-in-Err-clause-refuses : goal.returns-in-Err-clause-refuses
 returns-in-Err-clause-refuses g c = reasons_fault _ _ _ _ kinds.Memory c.new_error.ensures.kind tt

@@ -1,0 +1,12 @@
+//! `skip_many(letter())` over Greek letters, which is read as UTF-8 first. The answer is how many characters it took.
+
+use crate::measure::Measure;
+use crate::{inputs, texts};
+
+pub const MEASURE: Measure = Measure {
+    name: "letters_greek",
+    what: "`skip_many(letter())` over Greek letters, as text",
+    input: inputs::greek,
+    pieces: &[0],
+    sides: &[("hand", texts::letters_by_hand), ("combine", texts::letters_by_combine), ("nom", texts::letters_by_nom)],
+};

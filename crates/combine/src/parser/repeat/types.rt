@@ -1,0 +1,5 @@
+//! The parsers that the functions of `repeat` answer.
+
+pub use combine_repeat::repeat::types::{Many, Many1, SkipMany, SkipMany1};
+pub use combine_separated::repeat::types::{Chainl1, SepBy, SepBy1, SepCountMinMax};
+pub use combine_turns::repeat::types::{Count, CountMinMax, SkipCount, SkipCountMinMax};

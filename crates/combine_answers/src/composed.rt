@@ -1,0 +1,101 @@
+//! Parsers that are composed in functions, by their texts: those of which a type can't name a call.
+
+use crate::feeding::Feeding;
+use crate::run::run;
+use crate::show::Show;
+use combine_base::parser::Parser;
+use combine_base::stream::fed;
+use std::alloc::{AllocError, Global};
+
+/// The answer of the parser among these that has this text, if one has.
+macro_rules! answer_composed {
+    ($alloc:ident, $parser:ident, $feeding:ident; $($f:ident $a:tt),+ $(,)?) => {{
+        $(
+            if $crate::text::is_text_of($parser, stringify!($f $a)) {
+                return Some($crate::composed::answer_over_bytes($alloc, $feeding, $crate::composed::parser!($alloc; $f $a)));
+            }
+        )+
+        None
+    }};
+}
+
+/// The same of parsers that read characters.
+macro_rules! answer_of_characters {
+    ($alloc:ident, $parser:ident, $feeding:ident; $($f:ident $a:tt),+ $(,)?) => {{
+        $(
+            if $crate::text::is_text_of($parser, stringify!($f $a)) {
+                return Some($crate::composed::answer_over_characters($alloc, $feeding, $crate::composed::parser!($alloc; $f $a)));
+            }
+        )+
+        None
+    }};
+}
+
+/// The parser that a text stands for. Names of tokens stand for their bytes.
+macro_rules! parser {
+    ($alloc:ident; any()) => { combine_token::token::any() };
+    ($alloc:ident; token(a)) => { combine_token::token::token(b'a') };
+    ($alloc:ident; token(b)) => { combine_token::token::token(b'b') };
+    ($alloc:ident; token(c)) => { combine_token::token::token(b'c') };
+    ($alloc:ident; satisfy(ab)) => { combine_token::token::satisfy(|token: u8| token == b'a' || token == b'b') };
+    ($alloc:ident; string(ab)) => { combine_text::char::string("ab") };
+    ($alloc:ident; string(ac)) => { combine_text::char::string("ac") };
+    ($alloc:ident; string(abc)) => { combine_text::char::string("abc") };
+    ($alloc:ident; string(c)) => { combine_text::char::string("c") };
+    ($alloc:ident; or($f:ident $a:tt, $g:ident $b:tt)) => { combine_token::choice::or($crate::composed::parser!($alloc; $f $a), $crate::composed::parser!($alloc; $g $b)) };
+    ($alloc:ident; optional($f:ident $a:tt)) => { combine_token::choice::optional($crate::composed::parser!($alloc; $f $a)) };
+    ($alloc:ident; attempt($f:ident $a:tt)) => { combine_map::combinator::attempt($crate::composed::parser!($alloc; $f $a)) };
+    ($alloc:ident; many($f:ident $a:tt)) => { combine_repeat::repeat::many::<Vec<_>, _>($alloc, $crate::composed::parser!($alloc; $f $a)) };
+    ($alloc:ident; tuple($f:ident $a:tt, $g:ident $b:tt)) => { ($crate::composed::parser!($alloc; $f $a), $crate::composed::parser!($alloc; $g $b)) };
+    ($alloc:ident; then($f:ident $a:tt)) => { combine_sequence::sequence::then($crate::composed::parser!($alloc; $f $a), |first: u8| combine_token::token::token(first)) };
+    ($alloc:ident; then_partial($f:ident $a:tt)) => { combine_sequence::sequence::then_partial($crate::composed::parser!($alloc; $f $a), |first: &mut u8| combine_token::token::token(*first)) };
+    ($alloc:ident; then_ref($f:ident $a:tt)) => { combine_sequence::sequence::then_ref($crate::composed::parser!($alloc; $f $a), |first: &u8| combine_token::token::token(*first)) };
+}
+
+pub(crate) use answer_composed;
+pub(crate) use answer_of_characters;
+pub(crate) use parser;
+
+/// What a parser answers to an input of bytes, as text.
+pub(crate) fn answer_over_bytes<P: Parser<fed::Stream<u8>> + Drop>(
+    alloc: Global,
+    feeding: &Feeding<'_>,
+    parser: P,
+) -> Result<String, AllocError>
+where
+    P::Output: Show,
+    requires { P.lawful parser }
+{
+    run(alloc, parser, &feeding.pieces, feeding.ended)?.to_text(alloc, feeding.style)
+}
+
+/// What a parser answers to an input of characters, as text: its letters are those of ASCII.
+pub(crate) fn answer_over_characters<P: Parser<fed::Stream<char>> + Drop>(
+    alloc: Global,
+    feeding: &Feeding<'_>,
+    parser: P,
+) -> Result<String, AllocError>
+where
+    P::Output: Show,
+    requires { P.lawful parser }
+{
+    let texts = characters(alloc, &feeding.pieces)?;
+    let mut pieces = Vec::new(alloc);
+    for text in &texts {
+        pieces.push(text.as_slice())?;
+    }
+    run(alloc, parser, &pieces, feeding.ended)?.to_text(alloc, feeding.style)
+}
+
+/// The characters of each piece.
+fn characters(alloc: Global, pieces: &[&[u8]]) -> Result<Vec<Vec<char>>, AllocError> {
+    let mut texts = Vec::new(alloc);
+    for piece in pieces {
+        let mut text = Vec::new(alloc);
+        for byte in *piece {
+            text.push(char::from(*byte))?;
+        }
+        texts.push(text)?;
+    }
+    Ok(texts)
+}

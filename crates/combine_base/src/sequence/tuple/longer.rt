@@ -1,0 +1,761 @@
+//! Tuples of five to eight as parsers: each is a tuple of references to the parts before its last one, and then that one.
+ghost use Rattle.std.specs.Prelude.{◌≡◌, ◌+◌, min, refl, true};
+ghost use Rattle.combine_base.specs.Sequence.Followed.{Follows};
+ghost use Rattle.combine_base.specs.Sequence.Longer.{begins_valid_5, begins_valid_6, begins_valid_7, begins_valid_8, tuple_5, tuple_5_is_meaning, tuple_5_means_one, tuple_6, tuple_6_is_meaning, tuple_6_means_one, tuple_7, tuple_7_is_meaning, tuple_7_means_one, tuple_8, tuple_8_is_meaning, tuple_8_means_one, valid_5, valid_6, valid_7, valid_8};
+ghost use Rattle.combine_base.specs.Sequence.Places.{begins, begins_4, begins_valid_4, first_fresh, valid_4, valid_in};
+ghost use Rattle.combine_base.specs.Sequence.Tuples.{followed, tuple_4, tuple_4_is_meaning};
+
+use crate::error::{ErrorOffset, ParseResult, Tracked};
+use crate::parser::{ParseMode, Parser};
+use crate::sequence::part::{Push, parse_rest, resume_last};
+use crate::sequence::tuple::{State4, add_counts, parse_4};
+use crate::sequence::{
+    PartialState4, PartialState5, PartialState6, PartialState7, PartialState8, Placed,
+    SequencePlace, SequenceState,
+};
+use crate::stream::Stream;
+
+/// Parts that were lent, which are run before another one.
+trait Front<Input: Stream> {
+    ghost use Rattle.std.specs.Prelude.{◌≡◌, true};
+    ghost use Rattle.combine_base.specs.Parser.Meaning.{Meaning, IsMeaning, MeansSame};
+    ghost use Rattle.combine_base.specs.Parser.Answer.{Answers, world};
+    ghost use Rattle.combine_base.specs.Sequence.Parts.{run_from};
+    ghost use Rattle.combine_base.specs.Stream.Calls.{Passes};
+
+    type Output: Drop;
+
+    type State;
+
+    ghost lawful: { Self → Type 0 };
+
+    ghost valid: { Self.State → Type 0 };
+
+    /// The states that begin the parts.
+    ghost fresh: { Self.State → Type 0 };
+
+    ghost meaning: { Self → Meaning Input.Position Input.Token Input.Range Self.Output Self.State };
+
+    /// The same parts are lent.
+    ghost same: { Self → Self → Type 0 };
+
+    /// A state that begins the parts.
+    fn begin() -> Self::State
+        ensures { fresh result };
+
+    /// Runs the parts, from what is kept of them. Need of more is kept in `state`, and every other answer leaves one that begins the parts, as it was.
+    fn run<M: ParseMode>(
+        &mut self,
+        mode: M,
+        input: &mut Input,
+        from: Self::State,
+        state: &mut Self::State,
+    ) -> ParseResult<Self::Output, Input::Error>
+        requires lawful { lawful self.old }
+        requires valid { valid from }
+        requires starts { M.first mode ≡ true → fresh from }
+        requires fresh { fresh state.old }
+        ensures lent { same self.old self.new }
+        ensures lawful { lawful self.new }
+        ensures valid { valid state.new }
+        ensures same { MeansSame (meaning self.old) (meaning self.new) }
+        ensures passes { Passes (Input.marks input.old) (Input.marks input.new) (Input.failures input.old) (Input.failures input.new) }
+        ensures answers { Answers (world Input.step Input.Error.seen Input.steady fresh) (meaning self.old) (run_from from state.new (Input.view input.old) (Input.view input.new) (Input.failures input.old) (Input.failures input.new)) result };
+
+    ghost fresh_valid: { (s : Self.State) → fresh s → valid s };
+
+    ghost unchanged: { (p : Self) → same p p };
+
+    ghost laws: { (p : Self) → lawful p → IsMeaning fresh valid (meaning p) };
+}
+
+impl<Input: Stream, A: Parser<Input>, B: Parser<Input>, C: Parser<Input>, D: Parser<Input>> Front<
+    Input,
+> for (&mut A, &mut B, &mut C, &mut D) {
+    type Output = (A::Output, B::Output, C::Output, D::Output);
+
+    type State = State4<Input, A, B, C, D>;
+
+    ghost lawful = { λ p. A.lawful p.0.now × B.lawful p.1.now × C.lawful p.2.now × D.lawful p.3.now };
+
+    ghost valid = { valid_4 A.valid B.valid C.valid D.valid };
+
+    ghost fresh = { begins_4 (first_fresh A.PartialState.is_default) };
+
+    ghost meaning = { λ p. tuple_4 Input.step (A.meaning p.0.now) (B.meaning p.1.now) (C.meaning p.2.now) (D.meaning p.3.now) };
+
+    ghost same = { λ p q. (p.0.ghost_name ≡ q.0.ghost_name) × (p.1.ghost_name ≡ q.1.ghost_name) × (p.2.ghost_name ≡ q.2.ghost_name) × (p.3.ghost_name ≡ q.3.ghost_name) };
+
+    ghost unchanged = { λ p. (refl, refl, refl, refl) };
+
+    #[inline(always)]
+    fn begin() -> Self::State {
+        PartialState4::default()
+    }
+
+    #[inline(always)]
+    fn run<M: ParseMode>(
+        &mut self,
+        mode: M,
+        input: &mut Input,
+        from: Self::State,
+        state: &mut Self::State,
+    ) -> ParseResult<Self::Output, Input::Error> {
+        parse_4(self.0, self.1, self.2, self.3, mode, input, from, state)
+    }
+
+    ghost fresh_valid = { begins_valid_4 B.valid C.valid D.valid A.default_valid };
+
+    ghost laws = { λ p l. tuple_4_is_meaning Input.step (A.laws p.0.now l.0) (B.laws p.1.now l.1) (C.laws p.2.now l.2) (D.laws p.3.now l.3) };
+}
+
+/// Runs parts that were lent, and one more, from what is kept of them. Need of more is kept in `state`, which begins them, and which every other answer leaves as it was.
+#[inline(always)]
+fn parse_one_after<
+    Input: Stream,
+    T: Push<E::Output> + Drop,
+    Q: Front<Input, Output = T>,
+    E: Parser<Input>,
+    S: Placed<Before = Q::State, Last = SequenceState<T, E::PartialState>>,
+    M: ParseMode,
+>(
+    before: &mut Q,
+    e: &mut E,
+    mode: M,
+    input: &mut Input,
+    from: S,
+    state: &mut S,
+) -> ParseResult<T::Pushed, Input::Error>
+    requires lawful { Q.lawful before.old × E.lawful e.old }
+    requires valid { valid_in S.place Q.valid E.valid from }
+    requires starts { M.first mode ≡ true → begins S.place Q.fresh from }
+    requires fresh { begins S.place Q.fresh state.old }
+    ensures lent { Q.same before.old before.new }
+    ensures lawful { Q.lawful before.new × E.lawful e.new }
+    ensures follows { Follows S.place T.pushed Input.StreamOnce Input.Error.seen Q.fresh Q.valid E.Parser (Q.meaning before.old) (Q.meaning before.new) e.old e.new input.old input.new from state.new result }
+{
+    match from.into_place() {
+        SequencePlace::Before(at) => {
+            let mut kept = Q::begin();
+            let answer = before.run(mode, input, at, &mut kept);
+            parse_rest(answer, kept, e, mode, input, state)
+        }
+        SequencePlace::Last(at) => resume_last(e, mode, input, at, state),
+    }
+}
+
+/// Runs parts that were lent, and two more, from what is kept of them. Need of more is kept in `state`, which begins them, and which every other answer leaves as it was.
+#[inline(always)]
+fn parse_two_after<
+    Input: Stream,
+    T: Push<E::Output, Pushed = V> + Drop,
+    V: Push<F::Output> + Drop,
+    Q: Front<Input, Output = T>,
+    E: Parser<Input>,
+    F: Parser<Input>,
+    N: Placed<Before = Q::State, Last = SequenceState<T, E::PartialState>>,
+    S: Placed<Before = N, Last = SequenceState<V, F::PartialState>>,
+    M: ParseMode,
+>(
+    before: &mut Q,
+    e: &mut E,
+    f: &mut F,
+    mode: M,
+    input: &mut Input,
+    from: S,
+    state: &mut S,
+) -> ParseResult<V::Pushed, Input::Error>
+    requires lawful { Q.lawful before.old × E.lawful e.old × F.lawful f.old }
+    requires valid { valid_in S.place (valid_in N.place Q.valid E.valid) F.valid from }
+    requires starts { M.first mode ≡ true → begins S.place (begins N.place Q.fresh) from }
+    requires fresh { begins S.place (begins N.place Q.fresh) state.old }
+    ensures lent { Q.same before.old before.new }
+    ensures lawful { Q.lawful before.new × E.lawful e.new × F.lawful f.new }
+    ensures follows { Follows S.place V.pushed Input.StreamOnce Input.Error.seen (begins N.place Q.fresh) (valid_in N.place Q.valid E.valid) F.Parser (followed Input.step N.place T.pushed (Q.meaning before.old) (E.meaning e.old)) (followed Input.step N.place T.pushed (Q.meaning before.new) (E.meaning e.new)) f.old f.new input.old input.new from state.new result }
+{
+    match from.into_place() {
+        SequencePlace::Before(at) => {
+            let mut kept = N::from_place(SequencePlace::Before(Q::begin()));
+            let answer = parse_one_after(before, e, mode, input, at, &mut kept);
+            parse_rest(answer, kept, f, mode, input, state)
+        }
+        SequencePlace::Last(at) => resume_last(f, mode, input, at, state),
+    }
+}
+
+/// Runs parts that were lent, and three more, from what is kept of them. Need of more is kept in `state`, which begins them, and which every other answer leaves as it was.
+#[inline(always)]
+fn parse_three_after<
+    Input: Stream,
+    T: Push<E::Output, Pushed = V> + Drop,
+    V: Push<F::Output, Pushed = W> + Drop,
+    W: Push<G::Output> + Drop,
+    Q: Front<Input, Output = T>,
+    E: Parser<Input>,
+    F: Parser<Input>,
+    G: Parser<Input>,
+    L: Placed<Before = Q::State, Last = SequenceState<T, E::PartialState>>,
+    N: Placed<Before = L, Last = SequenceState<V, F::PartialState>>,
+    S: Placed<Before = N, Last = SequenceState<W, G::PartialState>>,
+    M: ParseMode,
+>(
+    before: &mut Q,
+    e: &mut E,
+    f: &mut F,
+    g: &mut G,
+    mode: M,
+    input: &mut Input,
+    from: S,
+    state: &mut S,
+) -> ParseResult<W::Pushed, Input::Error>
+    requires lawful { Q.lawful before.old × E.lawful e.old × F.lawful f.old × G.lawful g.old }
+    requires valid { valid_in S.place (valid_in N.place (valid_in L.place Q.valid E.valid) F.valid) G.valid from }
+    requires starts { M.first mode ≡ true → begins S.place (begins N.place (begins L.place Q.fresh)) from }
+    requires fresh { begins S.place (begins N.place (begins L.place Q.fresh)) state.old }
+    ensures lent { Q.same before.old before.new }
+    ensures lawful { Q.lawful before.new × E.lawful e.new × F.lawful f.new × G.lawful g.new }
+    ensures follows { Follows S.place W.pushed Input.StreamOnce Input.Error.seen (begins N.place (begins L.place Q.fresh)) (valid_in N.place (valid_in L.place Q.valid E.valid) F.valid) G.Parser (followed Input.step N.place V.pushed (followed Input.step L.place T.pushed (Q.meaning before.old) (E.meaning e.old)) (F.meaning f.old)) (followed Input.step N.place V.pushed (followed Input.step L.place T.pushed (Q.meaning before.new) (E.meaning e.new)) (F.meaning f.new)) g.old g.new input.old input.new from state.new result }
+{
+    match from.into_place() {
+        SequencePlace::Before(at) => {
+            let mut kept = N::from_place(SequencePlace::Before(L::from_place(SequencePlace::Before(
+                Q::begin(),
+            ))));
+            let answer = parse_two_after(before, e, f, mode, input, at, &mut kept);
+            parse_rest(answer, kept, g, mode, input, state)
+        }
+        SequencePlace::Last(at) => resume_last(g, mode, input, at, state),
+    }
+}
+
+/// Runs parts that were lent, and four more, from what is kept of them. Need of more is kept in `state`, which begins them, and which every other answer leaves as it was.
+#[inline(always)]
+fn parse_four_after<
+    Input: Stream,
+    T: Push<E::Output, Pushed = V> + Drop,
+    V: Push<F::Output, Pushed = W> + Drop,
+    W: Push<G::Output, Pushed = Y> + Drop,
+    Y: Push<H::Output> + Drop,
+    Q: Front<Input, Output = T>,
+    E: Parser<Input>,
+    F: Parser<Input>,
+    G: Parser<Input>,
+    H: Parser<Input>,
+    K: Placed<Before = Q::State, Last = SequenceState<T, E::PartialState>>,
+    L: Placed<Before = K, Last = SequenceState<V, F::PartialState>>,
+    N: Placed<Before = L, Last = SequenceState<W, G::PartialState>>,
+    S: Placed<Before = N, Last = SequenceState<Y, H::PartialState>>,
+    M: ParseMode,
+>(
+    before: &mut Q,
+    e: &mut E,
+    f: &mut F,
+    g: &mut G,
+    h: &mut H,
+    mode: M,
+    input: &mut Input,
+    from: S,
+    state: &mut S,
+) -> ParseResult<Y::Pushed, Input::Error>
+    requires lawful { Q.lawful before.old × E.lawful e.old × F.lawful f.old × G.lawful g.old × H.lawful h.old }
+    requires valid { valid_in S.place (valid_in N.place (valid_in L.place (valid_in K.place Q.valid E.valid) F.valid) G.valid) H.valid from }
+    requires starts { M.first mode ≡ true → begins S.place (begins N.place (begins L.place (begins K.place Q.fresh))) from }
+    requires fresh { begins S.place (begins N.place (begins L.place (begins K.place Q.fresh))) state.old }
+    ensures lent { Q.same before.old before.new }
+    ensures lawful { Q.lawful before.new × E.lawful e.new × F.lawful f.new × G.lawful g.new × H.lawful h.new }
+    ensures follows { Follows S.place Y.pushed Input.StreamOnce Input.Error.seen (begins N.place (begins L.place (begins K.place Q.fresh))) (valid_in N.place (valid_in L.place (valid_in K.place Q.valid E.valid) F.valid) G.valid) H.Parser (followed Input.step N.place W.pushed (followed Input.step L.place V.pushed (followed Input.step K.place T.pushed (Q.meaning before.old) (E.meaning e.old)) (F.meaning f.old)) (G.meaning g.old)) (followed Input.step N.place W.pushed (followed Input.step L.place V.pushed (followed Input.step K.place T.pushed (Q.meaning before.new) (E.meaning e.new)) (F.meaning f.new)) (G.meaning g.new)) h.old h.new input.old input.new from state.new result }
+{
+    match from.into_place() {
+        SequencePlace::Before(at) => {
+            let mut kept = N::from_place(SequencePlace::Before(L::from_place(SequencePlace::Before(
+                K::from_place(SequencePlace::Before(Q::begin())),
+            ))));
+            let answer = parse_three_after(before, e, f, g, mode, input, at, &mut kept);
+            parse_rest(answer, kept, h, mode, input, state)
+        }
+        SequencePlace::Last(at) => resume_last(h, mode, input, at, state),
+    }
+}
+
+type State5<Input, A, B, C, D, E> = PartialState5<
+    SequenceState<(), <A as Parser<Input>>::PartialState>,
+    SequenceState<(<A as Parser<Input>>::Output,), <B as Parser<Input>>::PartialState>,
+    SequenceState<
+        (<A as Parser<Input>>::Output, <B as Parser<Input>>::Output),
+        <C as Parser<Input>>::PartialState,
+    >,
+    SequenceState<
+        (
+            <A as Parser<Input>>::Output,
+            <B as Parser<Input>>::Output,
+            <C as Parser<Input>>::Output,
+        ),
+        <D as Parser<Input>>::PartialState,
+    >,
+    SequenceState<
+        (
+            <A as Parser<Input>>::Output,
+            <B as Parser<Input>>::Output,
+            <C as Parser<Input>>::Output,
+            <D as Parser<Input>>::Output,
+        ),
+        <E as Parser<Input>>::PartialState,
+    >,
+>;
+
+impl<
+    Input: Stream,
+    A: Parser<Input>,
+    B: Parser<Input>,
+    C: Parser<Input>,
+    D: Parser<Input>,
+    E: Parser<Input>,
+> Parser<Input> for (A, B, C, D, E) {
+    type Output = (A::Output, B::Output, C::Output, D::Output, E::Output);
+
+    type PartialState = State5<Input, A, B, C, D, E>;
+
+    ghost lawful = { λ p. A.lawful p.0 × B.lawful p.1 × C.lawful p.2 × D.lawful p.3 × E.lawful p.4 };
+
+    ghost determined = { λ p. A.determined p.0 × B.determined p.1 × C.determined p.2 × D.determined p.3 × E.determined p.4 };
+
+    ghost valid = { valid_5 A.valid B.valid C.valid D.valid E.valid };
+
+    ghost meaning = { λ p. tuple_5 Input.step (A.meaning p.0) (B.meaning p.1) (C.meaning p.2) (D.meaning p.3) (E.meaning p.4) };
+
+    ghost parts = { λ p. min (A.parts p.0 + B.parts p.1 + C.parts p.2 + D.parts p.3 + E.parts p.4) 255 };
+
+    #[inline(always)]
+    fn parse_mode<M: ParseMode>(
+        &mut self,
+        mode: M,
+        input: &mut Input,
+        state: &mut Self::PartialState,
+    ) -> ParseResult<Self::Output, Input::Error> {
+        let from = state.take(mode);
+        let mut before = (&mut self.0, &mut self.1, &mut self.2, &mut self.3);
+        parse_one_after(&mut before, &mut self.4, mode, input, from, state)
+    }
+
+    #[inline]
+    fn add_error(&mut self, error: &mut Tracked<Input::Error>) {
+        self.0.add_error(error);
+    }
+
+    #[inline]
+    fn parser_count(&self) -> ErrorOffset {
+        add_counts(
+            add_counts(
+                add_counts(
+                    add_counts(self.0.parser_count(), self.1.parser_count()),
+                    self.2.parser_count(),
+                ),
+                self.3.parser_count(),
+            ),
+            self.4.parser_count(),
+        )
+    }
+
+    ghost default_valid = { begins_valid_5 B.valid C.valid D.valid E.valid A.default_valid };
+
+    ghost laws = { λ p l. tuple_5_is_meaning Input.step (A.laws p.0 l.0) (B.laws p.1 l.1) (C.laws p.2 l.2) (D.laws p.3 l.3) (E.laws p.4 l.4) };
+
+    ghost single = { λ p l d. tuple_5_means_one Input.step (A.single p.0 l.0 d.0) (B.single p.1 l.1 d.1) (C.single p.2 l.2 d.2) (D.single p.3 l.3 d.3) (E.single p.4 l.4 d.4) };
+}
+
+type State6<Input, A, B, C, D, E, F> = PartialState6<
+    SequenceState<(), <A as Parser<Input>>::PartialState>,
+    SequenceState<(<A as Parser<Input>>::Output,), <B as Parser<Input>>::PartialState>,
+    SequenceState<
+        (<A as Parser<Input>>::Output, <B as Parser<Input>>::Output),
+        <C as Parser<Input>>::PartialState,
+    >,
+    SequenceState<
+        (
+            <A as Parser<Input>>::Output,
+            <B as Parser<Input>>::Output,
+            <C as Parser<Input>>::Output,
+        ),
+        <D as Parser<Input>>::PartialState,
+    >,
+    SequenceState<
+        (
+            <A as Parser<Input>>::Output,
+            <B as Parser<Input>>::Output,
+            <C as Parser<Input>>::Output,
+            <D as Parser<Input>>::Output,
+        ),
+        <E as Parser<Input>>::PartialState,
+    >,
+    SequenceState<
+        (
+            <A as Parser<Input>>::Output,
+            <B as Parser<Input>>::Output,
+            <C as Parser<Input>>::Output,
+            <D as Parser<Input>>::Output,
+            <E as Parser<Input>>::Output,
+        ),
+        <F as Parser<Input>>::PartialState,
+    >,
+>;
+
+impl<
+    Input: Stream,
+    A: Parser<Input>,
+    B: Parser<Input>,
+    C: Parser<Input>,
+    D: Parser<Input>,
+    E: Parser<Input>,
+    F: Parser<Input>,
+> Parser<Input> for (A, B, C, D, E, F) {
+    type Output = (
+        A::Output,
+        B::Output,
+        C::Output,
+        D::Output,
+        E::Output,
+        F::Output,
+    );
+
+    type PartialState = State6<Input, A, B, C, D, E, F>;
+
+    ghost lawful = { λ p. A.lawful p.0 × B.lawful p.1 × C.lawful p.2 × D.lawful p.3 × E.lawful p.4 × F.lawful p.5 };
+
+    ghost determined = { λ p. A.determined p.0 × B.determined p.1 × C.determined p.2 × D.determined p.3 × E.determined p.4 × F.determined p.5 };
+
+    ghost valid = { valid_6 A.valid B.valid C.valid D.valid E.valid F.valid };
+
+    ghost meaning = { λ p. tuple_6 Input.step (A.meaning p.0) (B.meaning p.1) (C.meaning p.2) (D.meaning p.3) (E.meaning p.4) (F.meaning p.5) };
+
+    ghost parts = { λ p. min (A.parts p.0 + B.parts p.1 + C.parts p.2 + D.parts p.3 + E.parts p.4 + F.parts p.5) 255 };
+
+    #[inline(always)]
+    fn parse_mode<M: ParseMode>(
+        &mut self,
+        mode: M,
+        input: &mut Input,
+        state: &mut Self::PartialState,
+    ) -> ParseResult<Self::Output, Input::Error> {
+        let from = state.take(mode);
+        let mut before = (&mut self.0, &mut self.1, &mut self.2, &mut self.3);
+        parse_two_after(
+            &mut before,
+            &mut self.4,
+            &mut self.5,
+            mode,
+            input,
+            from,
+            state,
+        )
+    }
+
+    #[inline]
+    fn add_error(&mut self, error: &mut Tracked<Input::Error>) {
+        self.0.add_error(error);
+    }
+
+    #[inline]
+    fn parser_count(&self) -> ErrorOffset {
+        add_counts(
+            add_counts(
+                add_counts(
+                    add_counts(
+                        add_counts(self.0.parser_count(), self.1.parser_count()),
+                        self.2.parser_count(),
+                    ),
+                    self.3.parser_count(),
+                ),
+                self.4.parser_count(),
+            ),
+            self.5.parser_count(),
+        )
+    }
+
+    ghost default_valid = { begins_valid_6 B.valid C.valid D.valid E.valid F.valid A.default_valid };
+
+    ghost laws = { λ p l. tuple_6_is_meaning Input.step (A.laws p.0 l.0) (B.laws p.1 l.1) (C.laws p.2 l.2) (D.laws p.3 l.3) (E.laws p.4 l.4) (F.laws p.5 l.5) };
+
+    ghost single = { λ p l d. tuple_6_means_one Input.step (A.single p.0 l.0 d.0) (B.single p.1 l.1 d.1) (C.single p.2 l.2 d.2) (D.single p.3 l.3 d.3) (E.single p.4 l.4 d.4) (F.single p.5 l.5 d.5) };
+}
+
+type State7<Input, A, B, C, D, E, F, G> = PartialState7<
+    SequenceState<(), <A as Parser<Input>>::PartialState>,
+    SequenceState<(<A as Parser<Input>>::Output,), <B as Parser<Input>>::PartialState>,
+    SequenceState<
+        (<A as Parser<Input>>::Output, <B as Parser<Input>>::Output),
+        <C as Parser<Input>>::PartialState,
+    >,
+    SequenceState<
+        (
+            <A as Parser<Input>>::Output,
+            <B as Parser<Input>>::Output,
+            <C as Parser<Input>>::Output,
+        ),
+        <D as Parser<Input>>::PartialState,
+    >,
+    SequenceState<
+        (
+            <A as Parser<Input>>::Output,
+            <B as Parser<Input>>::Output,
+            <C as Parser<Input>>::Output,
+            <D as Parser<Input>>::Output,
+        ),
+        <E as Parser<Input>>::PartialState,
+    >,
+    SequenceState<
+        (
+            <A as Parser<Input>>::Output,
+            <B as Parser<Input>>::Output,
+            <C as Parser<Input>>::Output,
+            <D as Parser<Input>>::Output,
+            <E as Parser<Input>>::Output,
+        ),
+        <F as Parser<Input>>::PartialState,
+    >,
+    SequenceState<
+        (
+            <A as Parser<Input>>::Output,
+            <B as Parser<Input>>::Output,
+            <C as Parser<Input>>::Output,
+            <D as Parser<Input>>::Output,
+            <E as Parser<Input>>::Output,
+            <F as Parser<Input>>::Output,
+        ),
+        <G as Parser<Input>>::PartialState,
+    >,
+>;
+
+impl<
+    Input: Stream,
+    A: Parser<Input>,
+    B: Parser<Input>,
+    C: Parser<Input>,
+    D: Parser<Input>,
+    E: Parser<Input>,
+    F: Parser<Input>,
+    G: Parser<Input>,
+> Parser<Input> for (A, B, C, D, E, F, G) {
+    type Output = (
+        A::Output,
+        B::Output,
+        C::Output,
+        D::Output,
+        E::Output,
+        F::Output,
+        G::Output,
+    );
+
+    type PartialState = State7<Input, A, B, C, D, E, F, G>;
+
+    ghost lawful = { λ p. A.lawful p.0 × B.lawful p.1 × C.lawful p.2 × D.lawful p.3 × E.lawful p.4 × F.lawful p.5 × G.lawful p.6 };
+
+    ghost determined = { λ p. A.determined p.0 × B.determined p.1 × C.determined p.2 × D.determined p.3 × E.determined p.4 × F.determined p.5 × G.determined p.6 };
+
+    ghost valid = { valid_7 A.valid B.valid C.valid D.valid E.valid F.valid G.valid };
+
+    ghost meaning = { λ p. tuple_7 Input.step (A.meaning p.0) (B.meaning p.1) (C.meaning p.2) (D.meaning p.3) (E.meaning p.4) (F.meaning p.5) (G.meaning p.6) };
+
+    ghost parts = { λ p. min (A.parts p.0 + B.parts p.1 + C.parts p.2 + D.parts p.3 + E.parts p.4 + F.parts p.5 + G.parts p.6) 255 };
+
+    #[inline(always)]
+    fn parse_mode<M: ParseMode>(
+        &mut self,
+        mode: M,
+        input: &mut Input,
+        state: &mut Self::PartialState,
+    ) -> ParseResult<Self::Output, Input::Error> {
+        let from = state.take(mode);
+        let mut before = (&mut self.0, &mut self.1, &mut self.2, &mut self.3);
+        parse_three_after(
+            &mut before,
+            &mut self.4,
+            &mut self.5,
+            &mut self.6,
+            mode,
+            input,
+            from,
+            state,
+        )
+    }
+
+    #[inline]
+    fn add_error(&mut self, error: &mut Tracked<Input::Error>) {
+        self.0.add_error(error);
+    }
+
+    #[inline]
+    fn parser_count(&self) -> ErrorOffset {
+        add_counts(
+            add_counts(
+                add_counts(
+                    add_counts(
+                        add_counts(
+                            add_counts(self.0.parser_count(), self.1.parser_count()),
+                            self.2.parser_count(),
+                        ),
+                        self.3.parser_count(),
+                    ),
+                    self.4.parser_count(),
+                ),
+                self.5.parser_count(),
+            ),
+            self.6.parser_count(),
+        )
+    }
+
+    ghost default_valid = { begins_valid_7 B.valid C.valid D.valid E.valid F.valid G.valid A.default_valid };
+
+    ghost laws = { λ p l. tuple_7_is_meaning Input.step (A.laws p.0 l.0) (B.laws p.1 l.1) (C.laws p.2 l.2) (D.laws p.3 l.3) (E.laws p.4 l.4) (F.laws p.5 l.5) (G.laws p.6 l.6) };
+
+    ghost single = { λ p l d. tuple_7_means_one Input.step (A.single p.0 l.0 d.0) (B.single p.1 l.1 d.1) (C.single p.2 l.2 d.2) (D.single p.3 l.3 d.3) (E.single p.4 l.4 d.4) (F.single p.5 l.5 d.5) (G.single p.6 l.6 d.6) };
+}
+
+type State8<Input, A, B, C, D, E, F, G, H> = PartialState8<
+    SequenceState<(), <A as Parser<Input>>::PartialState>,
+    SequenceState<(<A as Parser<Input>>::Output,), <B as Parser<Input>>::PartialState>,
+    SequenceState<
+        (<A as Parser<Input>>::Output, <B as Parser<Input>>::Output),
+        <C as Parser<Input>>::PartialState,
+    >,
+    SequenceState<
+        (
+            <A as Parser<Input>>::Output,
+            <B as Parser<Input>>::Output,
+            <C as Parser<Input>>::Output,
+        ),
+        <D as Parser<Input>>::PartialState,
+    >,
+    SequenceState<
+        (
+            <A as Parser<Input>>::Output,
+            <B as Parser<Input>>::Output,
+            <C as Parser<Input>>::Output,
+            <D as Parser<Input>>::Output,
+        ),
+        <E as Parser<Input>>::PartialState,
+    >,
+    SequenceState<
+        (
+            <A as Parser<Input>>::Output,
+            <B as Parser<Input>>::Output,
+            <C as Parser<Input>>::Output,
+            <D as Parser<Input>>::Output,
+            <E as Parser<Input>>::Output,
+        ),
+        <F as Parser<Input>>::PartialState,
+    >,
+    SequenceState<
+        (
+            <A as Parser<Input>>::Output,
+            <B as Parser<Input>>::Output,
+            <C as Parser<Input>>::Output,
+            <D as Parser<Input>>::Output,
+            <E as Parser<Input>>::Output,
+            <F as Parser<Input>>::Output,
+        ),
+        <G as Parser<Input>>::PartialState,
+    >,
+    SequenceState<
+        (
+            <A as Parser<Input>>::Output,
+            <B as Parser<Input>>::Output,
+            <C as Parser<Input>>::Output,
+            <D as Parser<Input>>::Output,
+            <E as Parser<Input>>::Output,
+            <F as Parser<Input>>::Output,
+            <G as Parser<Input>>::Output,
+        ),
+        <H as Parser<Input>>::PartialState,
+    >,
+>;
+
+impl<
+    Input: Stream,
+    A: Parser<Input>,
+    B: Parser<Input>,
+    C: Parser<Input>,
+    D: Parser<Input>,
+    E: Parser<Input>,
+    F: Parser<Input>,
+    G: Parser<Input>,
+    H: Parser<Input>,
+> Parser<Input> for (A, B, C, D, E, F, G, H) {
+    type Output = (
+        A::Output,
+        B::Output,
+        C::Output,
+        D::Output,
+        E::Output,
+        F::Output,
+        G::Output,
+        H::Output,
+    );
+
+    type PartialState = State8<Input, A, B, C, D, E, F, G, H>;
+
+    ghost lawful = { λ p. A.lawful p.0 × B.lawful p.1 × C.lawful p.2 × D.lawful p.3 × E.lawful p.4 × F.lawful p.5 × G.lawful p.6 × H.lawful p.7 };
+
+    ghost determined = { λ p. A.determined p.0 × B.determined p.1 × C.determined p.2 × D.determined p.3 × E.determined p.4 × F.determined p.5 × G.determined p.6 × H.determined p.7 };
+
+    ghost valid = { valid_8 A.valid B.valid C.valid D.valid E.valid F.valid G.valid H.valid };
+
+    ghost meaning = { λ p. tuple_8 Input.step (A.meaning p.0) (B.meaning p.1) (C.meaning p.2) (D.meaning p.3) (E.meaning p.4) (F.meaning p.5) (G.meaning p.6) (H.meaning p.7) };
+
+    ghost parts = { λ p. min (A.parts p.0 + B.parts p.1 + C.parts p.2 + D.parts p.3 + E.parts p.4 + F.parts p.5 + G.parts p.6 + H.parts p.7) 255 };
+
+    #[inline(always)]
+    fn parse_mode<M: ParseMode>(
+        &mut self,
+        mode: M,
+        input: &mut Input,
+        state: &mut Self::PartialState,
+    ) -> ParseResult<Self::Output, Input::Error> {
+        let from = state.take(mode);
+        let mut before = (&mut self.0, &mut self.1, &mut self.2, &mut self.3);
+        parse_four_after(
+            &mut before,
+            &mut self.4,
+            &mut self.5,
+            &mut self.6,
+            &mut self.7,
+            mode,
+            input,
+            from,
+            state,
+        )
+    }
+
+    #[inline]
+    fn add_error(&mut self, error: &mut Tracked<Input::Error>) {
+        self.0.add_error(error);
+    }
+
+    #[inline]
+    fn parser_count(&self) -> ErrorOffset {
+        add_counts(
+            add_counts(
+                add_counts(
+                    add_counts(
+                        add_counts(
+                            add_counts(
+                                add_counts(self.0.parser_count(), self.1.parser_count()),
+                                self.2.parser_count(),
+                            ),
+                            self.3.parser_count(),
+                        ),
+                        self.4.parser_count(),
+                    ),
+                    self.5.parser_count(),
+                ),
+                self.6.parser_count(),
+            ),
+            self.7.parser_count(),
+        )
+    }
+
+    ghost default_valid = { begins_valid_8 B.valid C.valid D.valid E.valid F.valid G.valid H.valid A.default_valid };
+
+    ghost laws = { λ p l. tuple_8_is_meaning Input.step (A.laws p.0 l.0) (B.laws p.1 l.1) (C.laws p.2 l.2) (D.laws p.3 l.3) (E.laws p.4 l.4) (F.laws p.5 l.5) (G.laws p.6 l.6) (H.laws p.7 l.7) };
+
+    ghost single = { λ p l d. tuple_8_means_one Input.step (A.single p.0 l.0 d.0) (B.single p.1 l.1 d.1) (C.single p.2 l.2 d.2) (D.single p.3 l.3 d.3) (E.single p.4 l.4 d.4) (F.single p.5 l.5 d.5) (G.single p.6 l.6 d.6) (H.single p.7 l.7 d.7) };
+}

@@ -1,0 +1,11 @@
+use Rattle.std.proofs.Common.{◌≡◌}
+use Rattle.combine_token.specs.declared.choice.OrState.TheVariants.{Peek}
+use Rattle.combine_base.specs.Parser.Answer.{world}
+use Rattle.combine_choice.proofs.TupleCalls.{may_settle}
+use Rattle.combine_choice.proofs.choice.lent.then_2.Goals as goal
+
+pub settle-requires : goal.settle-requires
+settle-requires g c = may_settle (world g.Input.StreamOnce.step g.Input.Error.ParseError.seen g.Input.StreamOnce.steady (λ s. s ≡ Peek)) _ _ c.requires.refused _ c.choose_2-answer.ensures
+
+pub returns : goal.returns
+returns g c = record { answer = _; stopped = _; called = c.choose_2-answer.ensures; settled = c.settle.ensures }

@@ -1,0 +1,178 @@
+-- a choice over a list of alternatives, whose state is the running one's place and its state
+use Rattle.std.specs.Prelude.{ℕ, zero, suc, ◌≡◌, List, [], ◌∷◌, drop, ◌↔◌, refl}
+use Rattle.std.specs.List.{All, AllZip, AllByRecursion}
+use Rattle.std.proofs.lemmas.List.Elements.{recursion_from_All}
+use Rattle.combine_base.specs.Stream.View.{View}
+use Rattle.combine_base.specs.Error.Items.{Item}
+use Rattle.combine_base.specs.Parser.Meaning.{Meaning, Reading, IsReading, IsSingle, IsMeaning, MeansOne, MeansSame}
+use Rattle.combine_token.specs.Alternatives.{Together, together_both}
+use Rattle.combine_token.specs.Choice.{Agree, Either, refused, refused_is_reading, refused_is_single, either_is_reading, either_is_single, either_both, agree_self}
+use Rattle.combine_choice.specs.declared.choice.slice.SliceState.{SliceState}
+use Rattle.combine_choice.specs.declared.choice.slice.SliceState.TheVariants.{Peek, At}
+
+abbrev pub slice_valid : {S : Type 0} → (S → Type 0) → SliceState S → Type 0
+slice_valid f Peek = Unit {0}
+slice_valid f (At i s) = f s
+
+module _ {X P T R V S : Type 0} (m : X → Meaning P T R V S) where
+  -- the first that isn't refused peeked
+  abbrev pub first_of : List X → Reading P T V
+  first_of [] = refused
+  first_of (x ∷ xs) = Either ((m x).whole) (first_of xs)
+
+  -- the running alternative goes on, and then the later ones; r where none runs
+  abbrev pub goes_on : Reading P T V → List X → S → Reading P T V
+  goes_on r [] s = r
+  goes_on r (x ∷ xs) s = Either ((m x).rest s) (first_of xs)
+
+  -- an index past the last alternative is the beginning
+  abbrev pub chosen_rest : List X → SliceState S → Reading P T V
+  chosen_rest xs Peek = first_of xs
+  chosen_rest xs (At i s) = goes_on (first_of xs) (drop i xs) s
+
+  abbrev pub running_lost : List X → S → View P T → Type 0
+  running_lost [] s v = ⊥
+  running_lost (x ∷ xs) s v = (m x).lost s v
+
+  abbrev pub chosen_lost : List X → SliceState S → View P T → Type 0
+  chosen_lost xs Peek v = ⊥
+  chosen_lost xs (At i s) v = running_lost (drop i xs) s v
+
+  -- what holds of the meaning of every alternative
+  abbrev pub every : (Meaning P T R V S → Type 0) → List X → Type 0
+  every f [] = Unit {0}
+  every f (x ∷ xs) = f (m x) × every f xs
+
+  -- what the alternatives add to an error, in order
+  abbrev pub adds_all : List X → List (Item T R) → Type 0
+  adds_all [] is = is ≡ []
+  adds_all (x ∷ xs) is = Together ((m x).adds) (adds_all xs) is
+
+  abbrev pub choice_of : List X → Meaning P T R V (SliceState S)
+  choice_of xs = record {
+    whole = first_of xs;
+    rest = chosen_rest xs;
+    lost = chosen_lost xs;
+    keeps = every (λ a. a.keeps) xs;
+    puts_back = every (λ a. a.puts_back) xs;
+    lean = every (λ a. a.lean) xs;
+    adds = adds_all xs;
+  }
+
+  every_by_recursion : (L : X → Type 0) (f : Meaning P T R V S → Type 0) → ((x : X) → L x → f (m x)) → (xs : List X) → AllByRecursion L xs → every f xs
+  every_by_recursion L f g [] h = tt
+  every_by_recursion L f g (x ∷ xs) h = (g x h.0, every_by_recursion L f g xs h.1)
+
+  pub every_all : (L : X → Type 0) (f : Meaning P T R V S → Type 0) → ((x : X) → L x → f (m x)) → (xs : List X) → All L xs → every f xs
+  every_all L f g xs h = every_by_recursion L f g xs (recursion_from_All L xs h)
+
+  both_by_recursion : (L D : X → Type 0) (f : Meaning P T R V S → Type 0) → ((x : X) → L x → D x → f (m x)) → (xs : List X) → AllByRecursion L xs → AllByRecursion D xs → every f xs
+  both_by_recursion L D f g [] h k = tt
+  both_by_recursion L D f g (x ∷ xs) h k = (g x h.0 k.0, both_by_recursion L D f g xs h.1 k.1)
+
+  pub every_both : (L D : X → Type 0) (f : Meaning P T R V S → Type 0) → ((x : X) → L x → D x → f (m x)) → (xs : List X) → All L xs → All D xs → every f xs
+  every_both L D f g xs h k = both_by_recursion L D f g xs (recursion_from_All L xs h) (recursion_from_All D xs k)
+
+  pub every_drop : (f : Meaning P T R V S → Type 0) (i : ℕ) (xs : List X) → every f xs → every f (drop i xs)
+  every_drop f zero xs h = h
+  every_drop f (suc i) [] h = tt
+  every_drop f (suc i) (x ∷ xs) h = every_drop f i xs h.1
+
+  module _ (fresh valid : S → Type 0) where
+    first_reads : (xs : List X) → every (IsMeaning fresh valid) xs → IsReading (first_of xs)
+    first_reads [] h = refused_is_reading
+    first_reads (x ∷ xs) h = either_is_reading ((m x).whole) (first_of xs) h.0.whole (first_reads xs h.1)
+
+    goes_reads : (r : Reading P T V) → IsReading r → (xs : List X) → every (IsMeaning fresh valid) xs → (s : S) → valid s → IsReading (goes_on r xs s)
+    goes_reads r k [] h s d = k
+    goes_reads r k (x ∷ xs) h s d = either_is_reading ((m x).rest s) (first_of xs) (h.0.rest s d) (first_reads xs h.1)
+
+    rest_reads : (xs : List X) → every (IsMeaning fresh valid) xs → (s : SliceState S) → slice_valid valid s → IsReading (chosen_rest xs s)
+    rest_reads xs h Peek d = first_reads xs h
+    rest_reads xs h (At i s) d = goes_reads (first_of xs) (first_reads xs h) (drop i xs) (every_drop (IsMeaning fresh valid) i xs h) s d
+
+    pub chosen_is_meaning : (xs : List X) → every (IsMeaning fresh valid) xs → IsMeaning (λ s. s ≡ Peek) (slice_valid valid) (choice_of xs)
+    chosen_is_meaning xs h = record {
+      whole = first_reads xs h;
+      rest = rest_reads xs h;
+      start = λ s v o d. rw d (λ p. p, λ p. p);
+      found = λ s v d. rw d (λ p. p);
+    }
+
+    first_one : (xs : List X) → every (MeansOne valid) xs → IsSingle (first_of xs)
+    first_one [] h = refused_is_single
+    first_one (x ∷ xs) h = either_is_single ((m x).whole) (first_of xs) h.0.whole (first_one xs h.1)
+
+    goes_one : (r : Reading P T V) → IsSingle r → (xs : List X) → every (MeansOne valid) xs → (s : S) → valid s → IsSingle (goes_on r xs s)
+    goes_one r k [] h s d = k
+    goes_one r k (x ∷ xs) h s d = either_is_single ((m x).rest s) (first_of xs) (h.0.rest s d) (first_one xs h.1)
+
+    rest_one : (xs : List X) → every (MeansOne valid) xs → (s : SliceState S) → slice_valid valid s → IsSingle (chosen_rest xs s)
+    rest_one xs h Peek d = first_one xs h
+    rest_one xs h (At i s) d = goes_one (first_of xs) (first_one xs h) (drop i xs) (every_drop (MeansOne valid) i xs h) s d
+
+    pub chosen_means_one : (xs : List X) → every (MeansOne valid) xs → MeansOne (slice_valid valid) (choice_of xs)
+    chosen_means_one xs h = record { whole = first_one xs h; rest = rest_one xs h }
+
+  -- alternatives that mean the same, each in its place
+  abbrev pub AllSame : List X → List X → Type 0
+  AllSame = AllZip (λ x y. MeansSame (m x) (m y))
+
+  same_drop : (i : ℕ) (xs ys : List X) → AllSame xs ys → AllSame (drop i xs) (drop i ys)
+  same_drop zero xs ys h = h
+  same_drop (suc i) [] [] h = h
+  same_drop (suc i) [] (y ∷ ys) h = absurd h
+  same_drop (suc i) (x ∷ xs) [] h = absurd h
+  same_drop (suc i) (x ∷ xs) (y ∷ ys) h = same_drop i xs ys h.1
+
+  first_same : (xs ys : List X) → AllSame xs ys → Agree (first_of xs) (first_of ys)
+  first_same [] [] h = agree_self refused
+  first_same [] (y ∷ ys) h = absurd h
+  first_same (x ∷ xs) [] h = absurd h
+  first_same (x ∷ xs) (y ∷ ys) h = either_both ((m x).whole) ((m y).whole) (first_of xs) (first_of ys) h.0.whole (first_same xs ys h.1)
+
+  goes_same : (r r' : Reading P T V) → Agree r r' → (xs ys : List X) → AllSame xs ys → (s : S) → Agree (goes_on r xs s) (goes_on r' ys s)
+  goes_same r r' k [] [] h s = k
+  goes_same r r' k [] (y ∷ ys) h s = absurd h
+  goes_same r r' k (x ∷ xs) [] h s = absurd h
+  goes_same r r' k (x ∷ xs) (y ∷ ys) h s = either_both ((m x).rest s) ((m y).rest s) (first_of xs) (first_of ys) (h.0.rest s) (first_same xs ys h.1)
+
+  rest_same : (xs ys : List X) → AllSame xs ys → (s : SliceState S) → Agree (chosen_rest xs s) (chosen_rest ys s)
+  rest_same xs ys h Peek = first_same xs ys h
+  rest_same xs ys h (At i s) = goes_same (first_of xs) (first_of ys) (first_same xs ys h) (drop i xs) (drop i ys) (same_drop i xs ys h) s
+
+  running_same : (xs ys : List X) → AllSame xs ys → (s : S) (v : View P T) → running_lost xs s v ↔ running_lost ys s v
+  running_same [] [] h s v = (λ p. p, λ p. p)
+  running_same [] (y ∷ ys) h s v = absurd h
+  running_same (x ∷ xs) [] h s v = absurd h
+  running_same (x ∷ xs) (y ∷ ys) h s v = h.0.lost s v
+
+  lost_same : (xs ys : List X) → AllSame xs ys → (s : SliceState S) (v : View P T) → chosen_lost xs s v ↔ chosen_lost ys s v
+  lost_same xs ys h Peek v = (λ p. p, λ p. p)
+  lost_same xs ys h (At i s) v = running_same (drop i xs) (drop i ys) (same_drop i xs ys h) s v
+
+  every_same : (f : Meaning P T R V S → Type 0) → ((x y : X) → MeansSame (m x) (m y) → f (m x) ↔ f (m y)) → (xs ys : List X) → AllSame xs ys → every f xs ↔ every f ys
+  every_same f g [] [] h = (λ p. p, λ p. p)
+  every_same f g [] (y ∷ ys) h = absurd h
+  every_same f g (x ∷ xs) [] h = absurd h
+  every_same f g (x ∷ xs) (y ∷ ys) h =
+      let a = g x y h.0 in
+      let b = every_same f g xs ys h.1 in
+      (λ p. (a.0 p.0, b.0 p.1), λ p. (a.1 p.0, b.1 p.1))
+
+  adds_same : (xs ys : List X) → AllSame xs ys → (is : List (Item T R)) → adds_all xs is ↔ adds_all ys is
+  adds_same [] [] h is = (λ p. p, λ p. p)
+  adds_same [] (y ∷ ys) h is = absurd h
+  adds_same (x ∷ xs) [] h is = absurd h
+  adds_same (x ∷ xs) (y ∷ ys) h is = together_both ((m x).adds) ((m y).adds) (adds_all xs) (adds_all ys) h.0.adds (adds_same xs ys h.1) is
+
+  pub chosen_same : (xs ys : List X) → AllSame xs ys → MeansSame (choice_of xs) (choice_of ys)
+  chosen_same xs ys h = record {
+    whole = first_same xs ys h;
+    rest = rest_same xs ys h;
+    lost = lost_same xs ys h;
+    keeps = every_same (λ a. a.keeps) (λ x y k. k.keeps) xs ys h;
+    puts_back = every_same (λ a. a.puts_back) (λ x y k. k.puts_back) xs ys h;
+    lean = every_same (λ a. a.lean) (λ x y k. k.lean) xs ys h;
+    adds = adds_same xs ys h;
+  }

@@ -1,0 +1,33 @@
+-- one alternative's turn in a choice
+use Rattle.std.specs.Prelude.{◌≡◌, Bool}
+use Rattle.combine_base.specs.Stream.View.{View}
+use Rattle.combine_base.specs.Error.Errors.{Errors, Only}
+use Rattle.combine_base.specs.Refusals.{Saying}
+use Rattle.combine_base.specs.Parser.Meaning.{Meaning}
+use Rattle.combine_base.specs.Parser.Answer.{Run, World, Answers}
+use Rattle.combine_base.specs.declared.stream.Failures.{Failures}
+use Rattle.combine_base.specs.declared.stream.Kind.{Kind}
+use Rattle.combine_base.specs.declared.stream.Kind.TheVariants as kinds
+use Rattle.combine_base.specs.declared.error.ParseResult.{ParseResult}
+use Rattle.combine_base.specs.declared.error.ParseResult.TheVariants.{CommitOk, PeekOk, CommitErr, PeekErr}
+use Rattle.combine_choice.specs.Merged.{choice_is_empty}
+use Rattle.combine_base.specs.Parser.Judged.{NeedsMore}
+
+module _ {P T R V S S' E : Type 0} (w : World P T S E) (m : Meaning P T R V S) (peek : S') (at : S → S') where
+  -- the alternative's answer; on need of more its state is kept in the choice's, and else none is
+  pub record Turn (first : Bool) (given : S) (kept : S') (old new : View P T) (before after : Failures) (result : ParseResult V E) : Type 0 where
+    pub left : S
+    pub answers : Answers w m (record { first = first; state = given; left = left; old = old; new = new; before = before; after = after }) result
+    pub asks : NeedsMore w.kind new.is_open result → kept ≡ at left
+    pub ends : (NeedsMore w.kind new.is_open result → ⊥) → kept ≡ peek
+
+module _ {V T R P E : Type 0} (s : Errors T R P E) (place : P) where
+  abbrev pub no_alternative : ParseResult V E → Type 0
+  no_alternative (CommitOk v) = ⊥
+  no_alternative (PeekOk v) = ⊥
+  no_alternative (CommitErr e) = (s.kind e ≡ kinds.Memory) × (s.frugal → ⊥)
+  no_alternative (PeekErr t) = (s.kind t.error ≡ kinds.Refused) × Saying s kinds.Refused place (Only choice_is_empty) t.error
+
+  -- refused peeked with its message, unless that found no memory
+  pub record NoAlternative (result : ParseResult V E) : Type 0 where
+    pub is : no_alternative result

@@ -1,0 +1,174 @@
+//! Choices: the first alternative that isn't refused peeked gives the answer.
+ghost use Rattle.std.specs.Prelude.{◌≡◌};
+ghost use Rattle.combine_choice.specs.Parsers.{choice_parser};
+
+use combine_base::error::{ErrorOffset, ParseResult, Tracked};
+use combine_base::parser::{FirstMode, ParseMode, Parser, PartialMode};
+use combine_base::stream::Stream;
+
+mod first;
+pub mod laws;
+mod lent;
+pub mod slice;
+mod tuples;
+pub mod types;
+
+pub use combine_token::choice::{OrState, optional, or, or_is_associative};
+pub use slice::{Slice, SliceState};
+use types::Choice;
+
+/// Alternatives of which the first, in order, that isn't refused peeked gives the answer; if all are refused peeked so is the choice, and their errors are merged in order.
+///
+/// A committed refusal of an alternative ends the choice, and so does a fault. On need of more the running alternative is kept; where it is then refused peeked, the later ones are still tried, which the crate's choice doesn't do.
+pub trait ChoiceParser<Input: Stream> {
+    ghost use Rattle.std.specs.Prelude.{◌≡◌, true, false, Bool, Option, Some, None};
+    ghost use Rattle.combine_base.specs.Stream.View.{View};
+    ghost use Rattle.combine_base.specs.Parser.Meaning.{Meaning, IsMeaning, MeansOne, MeansSame};
+    ghost use Rattle.combine_base.specs.Parser.Answer.{Answers, world};
+    ghost use Rattle.combine_base.specs.Parser.Reasons.{Reasoned, kept_from};
+    ghost use Rattle.combine_base.specs.Error.Errors.{Says};
+    ghost use Rattle.combine_base.specs.Stream.Calls.{Passes};
+
+    /// The value of an acceptance.
+    type Output: Drop;
+
+    /// What is kept while more input is needed: the running alternative and its state.
+    type PartialState: Default + Drop;
+
+    /// What a call needs of the alternatives.
+    ghost lawful: { Self → Type 0 };
+
+    /// What the caller's functions owe so that there is one outcome.
+    ghost determined: { Self → Type 0 };
+
+    /// The states that a call may be given.
+    ghost valid: { Self.PartialState → Type 0 };
+
+    /// Which outcomes the choice has on a view, from the start and from a state.
+    ghost meaning: { Self → Meaning Input.Position Input.Token Input.Range Self.Output Self.PartialState };
+
+    /// What error a refusal may have, committed or not, of a call that begins afresh (`None`) or from that state, on a view.
+    ghost refuses: { Self → Option Self.PartialState → View Input.Position Input.Token → Bool → Input.Error → Type 0 };
+
+    /// The choice, afresh or from the kept state. It answers as `parse_mode` of a parser does.
+    fn parse_mode_choice<M: ParseMode>(
+        &mut self,
+        mode: M,
+        input: &mut Input,
+        state: &mut Self::PartialState,
+    ) -> ParseResult<Self::Output, Input::Error>
+        requires lawful { lawful self.old }
+        requires valid { valid state.old }
+        ensures lawful { lawful self.new }
+        ensures valid { valid state.new }
+        ensures same { MeansSame (meaning self.old) (meaning self.new) }
+        ensures passes { Passes (Input.marks input.old) (Input.marks input.new) (Input.failures input.old) (Input.failures input.new) }
+        ensures answers { Answers (world Input.step Input.Error.seen Input.steady Self.PartialState.is_default)
+            (meaning self.old)
+            (record { first = M.first mode; state = state.old; left = state.new; old = Input.view input.old; new = Input.view input.new; before = Input.failures input.old; after = Input.failures input.new })
+            result }
+        ensures refuses { Reasoned Input.Error.seen.kind (Input.view input.new).is_open (refuses self.old (kept_from (M.first mode) state.old) (Input.view input.old)) result };
+
+    /// What each alternative adds to an error, in order.
+    fn add_error_choice(&mut self, error: &mut Tracked<Input::Error>)
+        requires { lawful self.old }
+        ensures lawful { lawful self.new }
+        ensures same { MeansSame (meaning self.old) (meaning self.new) }
+        ensures says { Says Input.Error.seen (meaning self.old).lean (meaning self.old).adds error.old.error error.new.error };
+
+    /// As from a default state, whatever the state held.
+    final fn parse_first(
+        &mut self,
+        input: &mut Input,
+        state: &mut Self::PartialState,
+    ) -> ParseResult<Self::Output, Input::Error>
+        requires lawful { lawful self.old }
+        requires valid { valid state.old }
+        ensures lawful { lawful self.new }
+        ensures valid { valid state.new }
+        ensures same { MeansSame (meaning self.old) (meaning self.new) }
+        ensures passes { Passes (Input.marks input.old) (Input.marks input.new) (Input.failures input.old) (Input.failures input.new) }
+        ensures answers { Answers (world Input.step Input.Error.seen Input.steady Self.PartialState.is_default)
+            (meaning self.old)
+            (record { first = true; state = state.old; left = state.new; old = Input.view input.old; new = Input.view input.new; before = Input.failures input.old; after = Input.failures input.new })
+            result }
+        ensures refuses { Reasoned Input.Error.seen.kind (Input.view input.new).is_open (refuses self.old None (Input.view input.old)) result }
+    {
+        self.parse_mode_choice(FirstMode, input, state)
+    }
+
+    /// Goes on from the kept state.
+    final fn parse_partial(
+        &mut self,
+        input: &mut Input,
+        state: &mut Self::PartialState,
+    ) -> ParseResult<Self::Output, Input::Error>
+        requires lawful { lawful self.old }
+        requires valid { valid state.old }
+        ensures lawful { lawful self.new }
+        ensures valid { valid state.new }
+        ensures same { MeansSame (meaning self.old) (meaning self.new) }
+        ensures passes { Passes (Input.marks input.old) (Input.marks input.new) (Input.failures input.old) (Input.failures input.new) }
+        ensures answers { Answers (world Input.step Input.Error.seen Input.steady Self.PartialState.is_default)
+            (meaning self.old)
+            (record { first = false; state = state.old; left = state.new; old = Input.view input.old; new = Input.view input.new; before = Input.failures input.old; after = Input.failures input.new })
+            result }
+        ensures refuses { Reasoned Input.Error.seen.kind (Input.view input.new).is_open (refuses self.old (Some state.old) (Input.view input.old)) result }
+    {
+        self.parse_mode_choice(PartialMode::default(), input, state)
+    }
+
+    ghost default_valid: { (s : Self.PartialState) → Self.PartialState.is_default s → valid s };
+
+    ghost laws: { (p : Self) → lawful p → IsMeaning Self.PartialState.is_default valid (meaning p) };
+
+    ghost single: { (p : Self) → lawful p → determined p → MeansOne valid (meaning p) };
+}
+
+/// A reference to alternatives chooses as they do.
+impl<'a, Input: Stream, P: ChoiceParser<Input>> ChoiceParser<Input> for &'a mut P {
+    type Output = P::Output;
+
+    type PartialState = P::PartialState;
+
+    ghost lawful = { λ p. P.lawful p.now };
+
+    ghost determined = { λ p. P.determined p.now };
+
+    ghost valid = { P.valid };
+
+    ghost meaning = { λ p. P.meaning p.now };
+
+    ghost refuses = { λ p. P.refuses p.now };
+
+    ghost default_valid = { P.default_valid };
+
+    ghost laws = { λ p l. P.laws p.now l };
+
+    ghost single = { λ p l d. P.single p.now l d };
+
+    #[inline(always)]
+    fn parse_mode_choice<M: ParseMode>(
+        &mut self,
+        mode: M,
+        input: &mut Input,
+        state: &mut P::PartialState,
+    ) -> ParseResult<P::Output, Input::Error> {
+        (**self).parse_mode_choice(mode, input, state)
+    }
+
+    #[inline]
+    fn add_error_choice(&mut self, error: &mut Tracked<Input::Error>) {
+        P::add_error_choice(&mut **self, error)
+    }
+}
+
+/// The choice of alternatives that stand in a tuple of 1 to 5 parsers, an array, or a `Slice`: the answer of the first that isn't refused peeked. Where all are refused peeked so is the choice, and their errors are merged in order.
+///
+/// Each alternative begins where the choice did, with a state of its own. A committed refusal ends the choice, and so does a fault. On need of more the running alternative is kept; where it is then refused peeked, the later ones are still tried, which the crate's choice doesn't do. Of an empty array or slice the choice is refused peeked, with the message `parser choice is empty`, also where more input may come. Two faults are the choice's own: `Reset`, where the stream can't be put back, and `Memory`, where an item of an error finds none.
+#[inline]
+pub fn choice<P>(alternatives: P) -> Choice<P>
+    ensures { result ≡ choice_parser alternatives }
+{
+    Choice(alternatives)
+}

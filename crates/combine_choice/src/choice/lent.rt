@@ -1,0 +1,268 @@
+//! Choices of parsers that are lent one by one: of two halves, each of which is a parser or such a choice.
+ghost use Rattle.std.specs.Prelude.{◌≡◌};
+ghost use Rattle.combine_base.specs.Parser.Answer.{world};
+ghost use Rattle.combine_choice.specs.Chose.{Chose, Followed, Tried};
+ghost use Rattle.combine_choice.specs.Turned.{NoFault, first_valid};
+ghost use Rattle.combine_token.specs.Or.{either_of, or_valid};
+ghost use Rattle.combine_token.specs.Reasons.{RefusesOr};
+
+use super::first::{Turn, begin, call, go_on, settle};
+use combine_base::error::{ParseResult, Tracked};
+use combine_base::parser::{ParseMode, Parser};
+use combine_base::stream::Stream;
+use combine_token::choice::OrState;
+
+/// The state of a choice of two.
+pub type State2<Input, A, B> = OrState<
+    <A as Parser<Input>>::PartialState,
+    <B as Parser<Input>>::PartialState,
+>;
+
+/// The state of a choice of three.
+pub type State3<Input, A, B, C> = OrState<<A as Parser<Input>>::PartialState, State2<Input, B, C>>;
+
+/// The state of a choice of four.
+pub type State4<Input, A, B, C, D> = OrState<State2<Input, A, B>, State2<Input, C, D>>;
+
+/// The state of a choice of five.
+pub type State5<Input, A, B, C, D, E> = OrState<
+    <A as Parser<Input>>::PartialState,
+    State4<Input, B, C, D, E>,
+>;
+
+/// The first part of a choice, which goes on, or begins, unless the later part is running.
+#[inline(always)]
+fn try_1<Input: Stream, A: Parser<Input>, S: Default + Drop, M: ParseMode>(
+    a: &mut A,
+    mode: M,
+    input: &mut Input,
+    state: &mut OrState<A::PartialState, S>,
+) -> Turn<A::Output, S, Input::Error>
+    requires lawful { A.lawful a.old }
+    requires valid { first_valid A.valid state.old }
+    ensures { Tried (world Input.step Input.Error.seen Input.steady A.PartialState.is_default) S.is_default A.valid (A.lawful a.new) (A.meaning a.old) (A.meaning a.new) (A.refuses a.old) (Input.marks input.old) (Input.marks input.new) (M.first mode) state.old state.new (Input.view input.old) (Input.view input.new) (Input.failures input.old) (Input.failures input.new) result }
+{
+    let mut kept = match begin(state, mode) {
+        Ok(kept) => kept,
+        Err(kept) => return Turn::Goes(kept, None),
+    };
+    let start = input.checkpoint();
+    let position = input.position();
+    let answer = call(a, mode, input, &mut kept);
+    go_on(start, position, input, kept, answer, state)
+}
+
+/// The first two parts of a choice, which go on, or begin, unless the later part is running.
+#[inline(always)]
+fn try_2<
+    Input: Stream,
+    A: Parser<Input>,
+    B: Parser<Input, Output = A::Output>,
+    S: Default + Drop,
+    M: ParseMode,
+>(
+    a: &mut A,
+    b: &mut B,
+    mode: M,
+    input: &mut Input,
+    state: &mut OrState<State2<Input, A, B>, S>,
+) -> Turn<A::Output, S, Input::Error>
+    requires lawful { A.lawful a.old × B.lawful b.old }
+    requires valid { first_valid (or_valid A.valid B.valid) state.old }
+    ensures { Tried (world Input.step Input.Error.seen Input.steady (λ s. s ≡ OrState.Peek)) S.is_default (or_valid A.valid B.valid) (A.lawful a.new × B.lawful b.new) (either_of (A.meaning a.old) (B.meaning b.old)) (either_of (A.meaning a.new) (B.meaning b.new)) (RefusesOr Input.Error.seen Input.Position.cmp A.PartialState.is_default B.PartialState.is_default (A.refuses a.old) (B.refuses b.old)) (Input.marks input.old) (Input.marks input.new) (M.first mode) state.old state.new (Input.view input.old) (Input.view input.new) (Input.failures input.old) (Input.failures input.new) result }
+{
+    let mut kept = match begin(state, mode) {
+        Ok(kept) => kept,
+        Err(kept) => return Turn::Goes(kept, None),
+    };
+    let start = input.checkpoint();
+    let position = input.position();
+    let answer = choose_2(a, b, mode, input, &mut kept);
+    go_on(start, position, input, kept, answer, state)
+}
+
+/// The later part of a choice, which goes on from that state, after that refusal of the first part.
+#[inline(always)]
+fn then_1<Input: Stream, A: Parser<Input>, S: Drop, M: ParseMode>(
+    a: &mut A,
+    mode: M,
+    input: &mut Input,
+    refused: Option<Tracked<Input::Error>>,
+    kept: A::PartialState,
+    state: &mut OrState<S, A::PartialState>,
+) -> ParseResult<A::Output, Input::Error>
+    requires lawful { A.lawful a.old }
+    requires valid { A.valid kept }
+    requires refused { NoFault Input.Error.seen.kind refused }
+    ensures { Followed Input.step Input.Error.seen Input.steady Input.Position.cmp A.PartialState.is_default (A.lawful a.new) A.valid (A.meaning a.old) (A.meaning a.new) (A.refuses a.old) (Input.marks input.old) (Input.marks input.new) (M.first mode) kept state.old state.new refused (Input.view input.old) (Input.view input.new) (Input.failures input.old) (Input.failures input.new) result }
+{
+    let mut kept = kept;
+    let answer = call(a, mode, input, &mut kept);
+    settle(input, refused, kept, answer, state)
+}
+
+/// The later two parts of a choice, which go on from that state, after that refusal of the first part.
+#[inline(always)]
+fn then_2<
+    Input: Stream,
+    A: Parser<Input>,
+    B: Parser<Input, Output = A::Output>,
+    S: Drop,
+    M: ParseMode,
+>(
+    a: &mut A,
+    b: &mut B,
+    mode: M,
+    input: &mut Input,
+    refused: Option<Tracked<Input::Error>>,
+    kept: State2<Input, A, B>,
+    state: &mut OrState<S, State2<Input, A, B>>,
+) -> ParseResult<A::Output, Input::Error>
+    requires lawful { A.lawful a.old × B.lawful b.old }
+    requires valid { or_valid A.valid B.valid kept }
+    requires refused { NoFault Input.Error.seen.kind refused }
+    ensures { Followed Input.step Input.Error.seen Input.steady Input.Position.cmp (λ s. s ≡ OrState.Peek) (A.lawful a.new × B.lawful b.new) (or_valid A.valid B.valid) (either_of (A.meaning a.old) (B.meaning b.old)) (either_of (A.meaning a.new) (B.meaning b.new)) (RefusesOr Input.Error.seen Input.Position.cmp A.PartialState.is_default B.PartialState.is_default (A.refuses a.old) (B.refuses b.old)) (Input.marks input.old) (Input.marks input.new) (M.first mode) kept state.old state.new refused (Input.view input.old) (Input.view input.new) (Input.failures input.old) (Input.failures input.new) result }
+{
+    let mut kept = kept;
+    let answer = choose_2(a, b, mode, input, &mut kept);
+    settle(input, refused, kept, answer, state)
+}
+
+/// The later four parts of a choice, which go on from that state, after that refusal of the first part.
+#[inline(always)]
+fn then_4<
+    Input: Stream,
+    A: Parser<Input>,
+    B: Parser<Input, Output = A::Output>,
+    C: Parser<Input, Output = A::Output>,
+    D: Parser<Input, Output = A::Output>,
+    S: Drop,
+    M: ParseMode,
+>(
+    a: &mut A,
+    b: &mut B,
+    c: &mut C,
+    d: &mut D,
+    mode: M,
+    input: &mut Input,
+    refused: Option<Tracked<Input::Error>>,
+    kept: State4<Input, A, B, C, D>,
+    state: &mut OrState<S, State4<Input, A, B, C, D>>,
+) -> ParseResult<A::Output, Input::Error>
+    requires lawful { (A.lawful a.old × B.lawful b.old) × (C.lawful c.old × D.lawful d.old) }
+    requires valid { or_valid (or_valid A.valid B.valid) (or_valid C.valid D.valid) kept }
+    requires refused { NoFault Input.Error.seen.kind refused }
+    ensures { Followed Input.step Input.Error.seen Input.steady Input.Position.cmp (λ s. s ≡ OrState.Peek) ((A.lawful a.new × B.lawful b.new) × (C.lawful c.new × D.lawful d.new)) (or_valid (or_valid A.valid B.valid) (or_valid C.valid D.valid)) (either_of (either_of (A.meaning a.old) (B.meaning b.old)) (either_of (C.meaning c.old) (D.meaning d.old))) (either_of (either_of (A.meaning a.new) (B.meaning b.new)) (either_of (C.meaning c.new) (D.meaning d.new))) (RefusesOr Input.Error.seen Input.Position.cmp (λ s. s ≡ OrState.Peek) (λ s. s ≡ OrState.Peek) (RefusesOr Input.Error.seen Input.Position.cmp A.PartialState.is_default B.PartialState.is_default (A.refuses a.old) (B.refuses b.old)) (RefusesOr Input.Error.seen Input.Position.cmp C.PartialState.is_default D.PartialState.is_default (C.refuses c.old) (D.refuses d.old))) (Input.marks input.old) (Input.marks input.new) (M.first mode) kept state.old state.new refused (Input.view input.old) (Input.view input.new) (Input.failures input.old) (Input.failures input.new) result }
+{
+    let mut kept = kept;
+    let answer = choose_4(a, b, c, d, mode, input, &mut kept);
+    settle(input, refused, kept, answer, state)
+}
+
+/// The choice of two.
+#[inline(always)]
+pub(super) fn choose_2<
+    Input: Stream,
+    A: Parser<Input>,
+    B: Parser<Input, Output = A::Output>,
+    M: ParseMode,
+>(
+    a: &mut A,
+    b: &mut B,
+    mode: M,
+    input: &mut Input,
+    state: &mut State2<Input, A, B>,
+) -> ParseResult<A::Output, Input::Error>
+    requires lawful { A.lawful a.old × B.lawful b.old }
+    requires valid { or_valid A.valid B.valid state.old }
+    ensures { Chose (world Input.step Input.Error.seen Input.steady (λ s. s ≡ OrState.Peek)) (A.lawful a.new × B.lawful b.new) (or_valid A.valid B.valid) (either_of (A.meaning a.old) (B.meaning b.old)) (either_of (A.meaning a.new) (B.meaning b.new)) (RefusesOr Input.Error.seen Input.Position.cmp A.PartialState.is_default B.PartialState.is_default (A.refuses a.old) (B.refuses b.old)) (Input.marks input.old) (Input.marks input.new) (record { first = M.first mode; state = state.old; left = state.new; old = Input.view input.old; new = Input.view input.new; before = Input.failures input.old; after = Input.failures input.new }) result }
+{
+    match try_1(a, mode, input, state) {
+        Turn::Ends(answer) => answer,
+        Turn::Goes(kept, refused) => { then_1(b, mode, input, refused, kept, state) }
+    }
+}
+
+/// The choice of three.
+#[inline(always)]
+pub(super) fn choose_3<
+    Input: Stream,
+    A: Parser<Input>,
+    B: Parser<Input, Output = A::Output>,
+    C: Parser<Input, Output = A::Output>,
+    M: ParseMode,
+>(
+    a: &mut A,
+    b: &mut B,
+    c: &mut C,
+    mode: M,
+    input: &mut Input,
+    state: &mut State3<Input, A, B, C>,
+) -> ParseResult<A::Output, Input::Error>
+    requires lawful { A.lawful a.old × (B.lawful b.old × C.lawful c.old) }
+    requires valid { or_valid A.valid (or_valid B.valid C.valid) state.old }
+    ensures { Chose (world Input.step Input.Error.seen Input.steady (λ s. s ≡ OrState.Peek)) (A.lawful a.new × (B.lawful b.new × C.lawful c.new)) (or_valid A.valid (or_valid B.valid C.valid)) (either_of (A.meaning a.old) (either_of (B.meaning b.old) (C.meaning c.old))) (either_of (A.meaning a.new) (either_of (B.meaning b.new) (C.meaning c.new))) (RefusesOr Input.Error.seen Input.Position.cmp A.PartialState.is_default (λ s. s ≡ OrState.Peek) (A.refuses a.old) (RefusesOr Input.Error.seen Input.Position.cmp B.PartialState.is_default C.PartialState.is_default (B.refuses b.old) (C.refuses c.old))) (Input.marks input.old) (Input.marks input.new) (record { first = M.first mode; state = state.old; left = state.new; old = Input.view input.old; new = Input.view input.new; before = Input.failures input.old; after = Input.failures input.new }) result }
+{
+    match try_1(a, mode, input, state) {
+        Turn::Ends(answer) => answer,
+        Turn::Goes(kept, refused) => { then_2(b, c, mode, input, refused, kept, state) }
+    }
+}
+
+/// The choice of four.
+#[inline(always)]
+pub(super) fn choose_4<
+    Input: Stream,
+    A: Parser<Input>,
+    B: Parser<Input, Output = A::Output>,
+    C: Parser<Input, Output = A::Output>,
+    D: Parser<Input, Output = A::Output>,
+    M: ParseMode,
+>(
+    a: &mut A,
+    b: &mut B,
+    c: &mut C,
+    d: &mut D,
+    mode: M,
+    input: &mut Input,
+    state: &mut State4<Input, A, B, C, D>,
+) -> ParseResult<A::Output, Input::Error>
+    requires lawful { (A.lawful a.old × B.lawful b.old) × (C.lawful c.old × D.lawful d.old) }
+    requires valid { or_valid (or_valid A.valid B.valid) (or_valid C.valid D.valid) state.old }
+    ensures { Chose (world Input.step Input.Error.seen Input.steady (λ s. s ≡ OrState.Peek)) ((A.lawful a.new × B.lawful b.new) × (C.lawful c.new × D.lawful d.new)) (or_valid (or_valid A.valid B.valid) (or_valid C.valid D.valid)) (either_of (either_of (A.meaning a.old) (B.meaning b.old)) (either_of (C.meaning c.old) (D.meaning d.old))) (either_of (either_of (A.meaning a.new) (B.meaning b.new)) (either_of (C.meaning c.new) (D.meaning d.new))) (RefusesOr Input.Error.seen Input.Position.cmp (λ s. s ≡ OrState.Peek) (λ s. s ≡ OrState.Peek) (RefusesOr Input.Error.seen Input.Position.cmp A.PartialState.is_default B.PartialState.is_default (A.refuses a.old) (B.refuses b.old)) (RefusesOr Input.Error.seen Input.Position.cmp C.PartialState.is_default D.PartialState.is_default (C.refuses c.old) (D.refuses d.old))) (Input.marks input.old) (Input.marks input.new) (record { first = M.first mode; state = state.old; left = state.new; old = Input.view input.old; new = Input.view input.new; before = Input.failures input.old; after = Input.failures input.new }) result }
+{
+    match try_2(a, b, mode, input, state) {
+        Turn::Ends(answer) => answer,
+        Turn::Goes(kept, refused) => { then_2(c, d, mode, input, refused, kept, state) }
+    }
+}
+
+/// The choice of five.
+#[inline(always)]
+pub(super) fn choose_5<
+    Input: Stream,
+    A: Parser<Input>,
+    B: Parser<Input, Output = A::Output>,
+    C: Parser<Input, Output = A::Output>,
+    D: Parser<Input, Output = A::Output>,
+    E: Parser<Input, Output = A::Output>,
+    M: ParseMode,
+>(
+    a: &mut A,
+    b: &mut B,
+    c: &mut C,
+    d: &mut D,
+    e: &mut E,
+    mode: M,
+    input: &mut Input,
+    state: &mut State5<Input, A, B, C, D, E>,
+) -> ParseResult<A::Output, Input::Error>
+    requires lawful { A.lawful a.old × ((B.lawful b.old × C.lawful c.old) × (D.lawful d.old × E.lawful e.old)) }
+    requires valid { or_valid A.valid (or_valid (or_valid B.valid C.valid) (or_valid D.valid E.valid)) state.old }
+    ensures { Chose (world Input.step Input.Error.seen Input.steady (λ s. s ≡ OrState.Peek)) (A.lawful a.new × ((B.lawful b.new × C.lawful c.new) × (D.lawful d.new × E.lawful e.new))) (or_valid A.valid (or_valid (or_valid B.valid C.valid) (or_valid D.valid E.valid))) (either_of (A.meaning a.old) (either_of (either_of (B.meaning b.old) (C.meaning c.old)) (either_of (D.meaning d.old) (E.meaning e.old)))) (either_of (A.meaning a.new) (either_of (either_of (B.meaning b.new) (C.meaning c.new)) (either_of (D.meaning d.new) (E.meaning e.new)))) (RefusesOr Input.Error.seen Input.Position.cmp A.PartialState.is_default (λ s. s ≡ OrState.Peek) (A.refuses a.old) (RefusesOr Input.Error.seen Input.Position.cmp (λ s. s ≡ OrState.Peek) (λ s. s ≡ OrState.Peek) (RefusesOr Input.Error.seen Input.Position.cmp B.PartialState.is_default C.PartialState.is_default (B.refuses b.old) (C.refuses c.old)) (RefusesOr Input.Error.seen Input.Position.cmp D.PartialState.is_default E.PartialState.is_default (D.refuses d.old) (E.refuses e.old)))) (Input.marks input.old) (Input.marks input.new) (record { first = M.first mode; state = state.old; left = state.new; old = Input.view input.old; new = Input.view input.new; before = Input.failures input.old; after = Input.failures input.new }) result }
+{
+    match try_1(a, mode, input, state) {
+        Turn::Ends(answer) => answer,
+        Turn::Goes(kept, refused) => { then_4(b, c, d, e, mode, input, refused, kept, state) }
+    }
+}

@@ -1,0 +1,276 @@
+//! Choices over the alternatives of a slice or an array.
+ghost use Rattle.std.specs.Prelude.{◌≡◌, ◌<◌, length, drop, true, false};
+ghost use Rattle.std.specs.List.{All};
+ghost use Rattle.combine_base.specs.Error.Errors.{Says};
+ghost use Rattle.combine_base.specs.Parser.Answer.{Answers, world};
+ghost use Rattle.combine_base.specs.Parser.Meaning.{MeansSame};
+ghost use Rattle.combine_base.specs.Parser.Reasons.{Reasoned, kept_from};
+ghost use Rattle.combine_base.specs.Stream.Calls.{Passes};
+ghost use Rattle.combine_choice.specs.Chosen.{AllSame, choice_of, slice_valid};
+ghost use Rattle.combine_choice.specs.Merged.{RefusesChoice, tried_refuses};
+ghost use Rattle.combine_choice.specs.OneTurn.{NoAlternative, Turn};
+
+use super::ChoiceParser;
+use combine_base::error::{ParseResult, Tracked};
+use combine_base::parser::{FirstMode, ParseMode, Parser, PartialMode};
+use combine_base::refusal::{peeked, refusal_saying};
+use combine_base::stream::{Stream, asks_for_more};
+use combine_token::choice::after_refusal;
+use std::mem::replace;
+
+/// The running alternative of a choice over a slice or an array, and its state.
+///
+/// A choice makes it by `Default`, which is `Peek`, and keeps an alternative in it on need of more alone. An index past the last alternative is the beginning.
+#[derive(Drop)]
+pub enum SliceState<S> {
+    /// No alternative runs.
+    Peek,
+    /// The alternative at that index runs, from that state.
+    At { index: usize, state: S },
+}
+
+impl<S> Default for SliceState<S> {
+    ghost use Rattle.combine_choice.specs.declared.choice.slice.SliceState.TheVariants.{Peek};
+
+    ghost is_default = { λ s. s ≡ Peek };
+
+    fn default() -> Self {
+        SliceState::Peek
+    }
+}
+
+/// The alternatives of a slice. In the crate the slice itself is a choice.
+#[derive(Drop)]
+pub struct Slice<'a, P>(pub &'a mut [P]);
+
+/// The alternative at an index goes on, or begins. On need of more it is kept in `state`.
+#[inline(always)]
+fn take_turn<Input: Stream, P: Parser<Input>, M: ParseMode>(
+    alternative: &mut P,
+    index: usize,
+    mode: M,
+    input: &mut Input,
+    kept: P::PartialState,
+    state: &mut SliceState<P::PartialState>,
+) -> ParseResult<P::Output, Input::Error>
+    requires lawful { P.lawful alternative.old }
+    requires valid { P.valid kept }
+    requires state { state.old ≡ SliceState.Peek }
+    ensures lawful { P.lawful alternative.new }
+    ensures valid { slice_valid P.valid state.new }
+    ensures same { MeansSame (P.meaning alternative.old) (P.meaning alternative.new) }
+    ensures passes { Passes (Input.marks input.old) (Input.marks input.new) (Input.failures input.old) (Input.failures input.new) }
+    ensures turn { Turn (world Input.step Input.Error.seen Input.steady P.PartialState.is_default) (P.meaning alternative.old)
+        SliceState.Peek (λ s. SliceState.At index s)
+        (M.first mode) kept state.new (Input.view input.old) (Input.view input.new) (Input.failures input.old) (Input.failures input.new) result }
+    ensures refuses { Reasoned Input.Error.seen.kind (Input.view input.new).is_open (P.refuses alternative.old (kept_from (M.first mode) kept) (Input.view input.old)) result }
+{
+    let mut kept = kept;
+    let answer = alternative.parse_mode(mode, input, &mut kept);
+    if asks_for_more(input, &answer) {
+        *state = SliceState::At { index, state: kept };
+    }
+    answer
+}
+
+/// The alternatives from that index on, the first of them from that state, the later ones afresh.
+#[inline(always)]
+fn choose<Input: Stream, P: Parser<Input>, M: ParseMode>(
+    alternatives: &mut [P],
+    index: usize,
+    mode: M,
+    input: &mut Input,
+    kept: P::PartialState,
+    state: &mut SliceState<P::PartialState>,
+) -> ParseResult<P::Output, Input::Error>
+    requires within { index < length alternatives.old }
+    requires lawful { All P.lawful alternatives.old }
+    requires valid { P.valid kept }
+    requires fresh { M.first mode ≡ true → P.PartialState.is_default kept }
+    requires state { state.old ≡ SliceState.Peek }
+    ensures lawful { All P.lawful alternatives.new }
+    ensures valid { slice_valid P.valid state.new }
+    ensures same { AllSame P.meaning alternatives.old alternatives.new }
+    ensures passes { Passes (Input.marks input.old) (Input.marks input.new) (Input.failures input.old) (Input.failures input.new) }
+    ensures answers { Answers (world Input.step Input.Error.seen Input.steady (λ s. s ≡ SliceState.Peek))
+        (choice_of P.meaning alternatives.old)
+        (record { first = false; state = SliceState.At index kept; left = state.new; old = Input.view input.old; new = Input.view input.new; before = Input.failures input.old; after = Input.failures input.new })
+        result }
+    ensures refuses { Reasoned Input.Error.seen.kind (Input.view input.new).is_open (tried_refuses Input.Error.seen Input.Position.cmp P.refuses (drop index alternatives.old) (kept_from (M.first mode) kept) (Input.view input.old)) result }
+{
+    let start = input.checkpoint();
+    let position = input.position();
+    let mut refused = match take_turn(&mut alternatives[index], index, mode, input, kept, state) {
+        ParseResult::CommitOk(value) => return ParseResult::CommitOk(value),
+        ParseResult::PeekOk(value) => return ParseResult::PeekOk(value),
+        ParseResult::CommitErr(error) => return ParseResult::CommitErr(error),
+        ParseResult::PeekErr(refused) => refused,
+    };
+    for at in index + 1..alternatives.len() {
+        match input.reset(start) {
+            Ok(()) => {}
+            Err(kind) => return ParseResult::CommitErr(input.new_error(kind, position)),
+        }
+        let fresh = P::PartialState::default();
+        let answer = take_turn(&mut alternatives[at], at, FirstMode, input, fresh, state);
+        refused = match after_refusal(refused, answer) {
+            ParseResult::CommitOk(value) => return ParseResult::CommitOk(value),
+            ParseResult::PeekOk(value) => return ParseResult::PeekOk(value),
+            ParseResult::CommitErr(error) => return ParseResult::CommitErr(error),
+            ParseResult::PeekErr(refused) => refused,
+        };
+    }
+    ParseResult::PeekErr(refused)
+}
+
+/// The answer of a choice among no alternatives.
+fn no_alternative<O, Input: Stream>(input: &Input) -> ParseResult<O, Input::Error>
+    ensures { NoAlternative Input.Error.seen (Input.view input.now).position result }
+{
+    let error = refusal_saying(input, input.position(), "parser choice is empty");
+    peeked(Tracked::from(error))
+}
+
+/// The choice of the alternatives of a slice.
+#[inline(always)]
+fn parse_slice<Input: Stream, P: Parser<Input>, M: ParseMode>(
+    alternatives: &mut [P],
+    mode: M,
+    input: &mut Input,
+    state: &mut SliceState<P::PartialState>,
+) -> ParseResult<P::Output, Input::Error>
+    requires lawful { All P.lawful alternatives.old }
+    requires valid { slice_valid P.valid state.old }
+    ensures lawful { All P.lawful alternatives.new }
+    ensures valid { slice_valid P.valid state.new }
+    ensures same { MeansSame (choice_of P.meaning alternatives.old) (choice_of P.meaning alternatives.new) }
+    ensures passes { Passes (Input.marks input.old) (Input.marks input.new) (Input.failures input.old) (Input.failures input.new) }
+    ensures answers { Answers (world Input.step Input.Error.seen Input.steady (λ s. s ≡ SliceState.Peek))
+        (choice_of P.meaning alternatives.old)
+        (record { first = M.first mode; state = state.old; left = state.new; old = Input.view input.old; new = Input.view input.new; before = Input.failures input.old; after = Input.failures input.new })
+        result }
+    ensures refuses { Reasoned Input.Error.seen.kind (Input.view input.new).is_open (RefusesChoice Input.Error.seen Input.Position.cmp P.refuses alternatives.old (kept_from (M.first mode) state.old) (Input.view input.old)) result }
+{
+    let kept = replace(state, SliceState::Peek);
+    if alternatives.is_empty() {
+        return no_alternative(input);
+    }
+    let begun = P::PartialState::default();
+    if mode.is_first() {
+        return choose(alternatives, 0, FirstMode, input, begun, state);
+    }
+    match kept {
+        SliceState::At { index, state: kept } => {
+            if index < alternatives.len() {
+                return choose(
+                    alternatives,
+                    index,
+                    PartialMode::default(),
+                    input,
+                    kept,
+                    state,
+                );
+            }
+            choose(alternatives, 0, FirstMode, input, begun, state)
+        }
+        SliceState::Peek => choose(alternatives, 0, FirstMode, input, begun, state),
+    }
+}
+
+/// What the alternatives add to an error, in order.
+fn add_errors<Input: Stream, P: Parser<Input>>(
+    alternatives: &mut [P],
+    error: &mut Tracked<Input::Error>,
+)
+    requires { All P.lawful alternatives.old }
+    ensures lawful { All P.lawful alternatives.new }
+    ensures same { MeansSame (choice_of P.meaning alternatives.old) (choice_of P.meaning alternatives.new) }
+    ensures says { Says Input.Error.seen (choice_of P.meaning alternatives.old).lean (choice_of P.meaning alternatives.old).adds error.old.error error.new.error }
+{
+    for at in 0..alternatives.len() {
+        alternatives[at].add_error(error);
+    }
+}
+
+impl<'a, Input: Stream, P: Parser<Input>> ChoiceParser<Input> for Slice<'a, P> {
+    ghost use Rattle.std.specs.List.{All};
+    ghost use Rattle.combine_base.specs.Parser.Meaning.{IsMeaning, MeansOne};
+    ghost use Rattle.combine_choice.specs.Chosen.{chosen_is_meaning, chosen_means_one, choice_of, every_all, every_both, slice_valid};
+    ghost use Rattle.combine_choice.specs.Merged.{RefusesChoice};
+
+    type Output = P::Output;
+
+    type PartialState = SliceState<P::PartialState>;
+
+    ghost lawful = { λ p. All P.lawful p.0.now };
+
+    ghost determined = { λ p. All P.determined p.0.now };
+
+    ghost valid = { slice_valid P.valid };
+
+    ghost meaning = { λ p. choice_of P.meaning p.0.now };
+
+    ghost refuses = { λ p. RefusesChoice Input.Error.seen Input.Position.cmp P.refuses p.0.now };
+
+    ghost default_valid = { λ s d. rw d tt };
+
+    ghost laws = { λ p l. chosen_is_meaning P.meaning P.PartialState.is_default P.valid p.0.now (every_all P.meaning P.lawful (IsMeaning P.PartialState.is_default P.valid) P.laws p.0.now l) };
+
+    ghost single = { λ p l d. chosen_means_one P.meaning P.PartialState.is_default P.valid p.0.now (every_both P.meaning P.lawful P.determined (MeansOne P.valid) P.single p.0.now l d) };
+
+    #[inline(always)]
+    fn parse_mode_choice<M: ParseMode>(
+        &mut self,
+        mode: M,
+        input: &mut Input,
+        state: &mut SliceState<P::PartialState>,
+    ) -> ParseResult<P::Output, Input::Error> {
+        parse_slice(&mut *self.0, mode, input, state)
+    }
+
+    fn add_error_choice(&mut self, error: &mut Tracked<Input::Error>) {
+        add_errors::<Input, P>(&mut *self.0, error)
+    }
+}
+
+/// An array is parsed as the slice of its alternatives.
+impl<Input: Stream, P: Parser<Input>, const N: usize> ChoiceParser<Input> for [P; N] {
+    ghost use Rattle.std.specs.List.{All};
+    ghost use Rattle.combine_base.specs.Parser.Meaning.{IsMeaning, MeansOne};
+    ghost use Rattle.combine_choice.specs.Chosen.{chosen_is_meaning, chosen_means_one, choice_of, every_all, every_both, slice_valid};
+    ghost use Rattle.combine_choice.specs.Merged.{RefusesChoice};
+
+    type Output = P::Output;
+
+    type PartialState = SliceState<P::PartialState>;
+
+    ghost lawful = { λ p. All P.lawful p };
+
+    ghost determined = { λ p. All P.determined p };
+
+    ghost valid = { slice_valid P.valid };
+
+    ghost meaning = { λ p. choice_of P.meaning p };
+
+    ghost refuses = { λ p. RefusesChoice Input.Error.seen Input.Position.cmp P.refuses p };
+
+    ghost default_valid = { λ s d. rw d tt };
+
+    ghost laws = { λ p l. chosen_is_meaning P.meaning P.PartialState.is_default P.valid p (every_all P.meaning P.lawful (IsMeaning P.PartialState.is_default P.valid) P.laws p l) };
+
+    ghost single = { λ p l d. chosen_means_one P.meaning P.PartialState.is_default P.valid p (every_both P.meaning P.lawful P.determined (MeansOne P.valid) P.single p l d) };
+
+    #[inline(always)]
+    fn parse_mode_choice<M: ParseMode>(
+        &mut self,
+        mode: M,
+        input: &mut Input,
+        state: &mut SliceState<P::PartialState>,
+    ) -> ParseResult<P::Output, Input::Error> {
+        parse_slice(&mut *self, mode, input, state)
+    }
+
+    fn add_error_choice(&mut self, error: &mut Tracked<Input::Error>) {
+        add_errors::<Input, P>(&mut *self, error)
+    }
+}

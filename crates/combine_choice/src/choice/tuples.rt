@@ -1,0 +1,258 @@
+//! Choices over the parsers of a tuple of 1 to 5.
+
+use super::ChoiceParser;
+use super::lent::{State2, State3, State4, State5, choose_2, choose_3, choose_4, choose_5};
+use combine_base::error::{ParseResult, Tracked};
+use combine_base::parser::{ParseMode, Parser};
+use combine_base::stream::Stream;
+
+/// The choice of one parser is that parser.
+impl<Input: Stream, A: Parser<Input>> ChoiceParser<Input> for (A,) {
+    type Output = A::Output;
+
+    type PartialState = A::PartialState;
+
+    ghost lawful = { λ p. A.lawful p.0 };
+
+    ghost determined = { λ p. A.determined p.0 };
+
+    ghost valid = { A.valid };
+
+    ghost meaning = { λ p. A.meaning p.0 };
+
+    ghost refuses = { λ p. A.refuses p.0 };
+
+    ghost default_valid = { A.default_valid };
+
+    ghost laws = { λ p l. A.laws p.0 l };
+
+    ghost single = { λ p l d. A.single p.0 l d };
+
+    #[inline(always)]
+    fn parse_mode_choice<M: ParseMode>(
+        &mut self,
+        mode: M,
+        input: &mut Input,
+        state: &mut A::PartialState,
+    ) -> ParseResult<A::Output, Input::Error> {
+        self.0.parse_mode(mode, input, state)
+    }
+
+    fn add_error_choice(&mut self, error: &mut Tracked<Input::Error>) {
+        self.0.add_error(error)
+    }
+}
+
+impl<Input: Stream, A: Parser<Input>, B: Parser<Input, Output = A::Output>> ChoiceParser<Input>
+    for (A, B) {
+    ghost use Rattle.std.specs.Prelude.{◌≡◌};
+    ghost use Rattle.combine_token.specs.Or.{either_of, or_valid};
+    ghost use Rattle.combine_token.specs.Reasons.{RefusesOr};
+    ghost use Rattle.combine_token.specs.declared.choice.OrState.TheVariants.{Peek};
+    ghost use Rattle.combine_choice.specs.Nested.{nest_laws, nest_one};
+
+    type Output = A::Output;
+
+    type PartialState = State2<Input, A, B>;
+
+    ghost lawful = { λ p. A.lawful p.0 × B.lawful p.1 };
+
+    ghost determined = { λ p. A.determined p.0 × B.determined p.1 };
+
+    ghost valid = { or_valid A.valid B.valid };
+
+    ghost meaning = { λ p. either_of (A.meaning p.0) (B.meaning p.1) };
+
+    ghost refuses = { λ p. RefusesOr Input.Error.seen Input.Position.cmp A.PartialState.is_default B.PartialState.is_default (A.refuses p.0) (B.refuses p.1) };
+
+    ghost default_valid = { λ s d. rw d tt };
+
+    ghost laws = { λ p l. nest_laws (A.laws p.0 l.0) (B.laws p.1 l.1) };
+
+    ghost single = { λ p l d. nest_one (A.single p.0 l.0 d.0) (B.single p.1 l.1 d.1) };
+
+    #[inline(always)]
+    fn parse_mode_choice<M: ParseMode>(
+        &mut self,
+        mode: M,
+        input: &mut Input,
+        state: &mut Self::PartialState,
+    ) -> ParseResult<A::Output, Input::Error> {
+        choose_2(&mut self.0, &mut self.1, mode, input, state)
+    }
+
+    fn add_error_choice(&mut self, error: &mut Tracked<Input::Error>) {
+        self.0.add_error(error);
+        self.1.add_error(error);
+    }
+}
+
+impl<
+    Input: Stream,
+    A: Parser<Input>,
+    B: Parser<Input, Output = A::Output>,
+    C: Parser<Input, Output = A::Output>,
+> ChoiceParser<Input> for (A, B, C) {
+    ghost use Rattle.std.specs.Prelude.{◌≡◌};
+    ghost use Rattle.combine_token.specs.Or.{either_of, or_valid};
+    ghost use Rattle.combine_token.specs.Reasons.{RefusesOr};
+    ghost use Rattle.combine_token.specs.declared.choice.OrState.TheVariants.{Peek};
+    ghost use Rattle.combine_choice.specs.Nested.{nest_laws, nest_one};
+
+    type Output = A::Output;
+
+    type PartialState = State3<Input, A, B, C>;
+
+    ghost lawful = { λ p. A.lawful p.0 × (B.lawful p.1 × C.lawful p.2) };
+
+    ghost determined = { λ p. A.determined p.0 × (B.determined p.1 × C.determined p.2) };
+
+    ghost valid = { or_valid A.valid (or_valid B.valid C.valid) };
+
+    ghost meaning = { λ p. either_of (A.meaning p.0) (either_of (B.meaning p.1) (C.meaning p.2)) };
+
+    ghost refuses = { λ p. RefusesOr Input.Error.seen Input.Position.cmp A.PartialState.is_default (λ s. s ≡ Peek) (A.refuses p.0) (RefusesOr Input.Error.seen Input.Position.cmp B.PartialState.is_default C.PartialState.is_default (B.refuses p.1) (C.refuses p.2)) };
+
+    ghost default_valid = { λ s d. rw d tt };
+
+    ghost laws = { λ p l. nest_laws (A.laws p.0 l.0) (nest_laws (B.laws p.1 l.1.0) (C.laws p.2 l.1.1)) };
+
+    ghost single = { λ p l d. nest_one (A.single p.0 l.0 d.0) (nest_one (B.single p.1 l.1.0 d.1.0) (C.single p.2 l.1.1 d.1.1)) };
+
+    #[inline(always)]
+    fn parse_mode_choice<M: ParseMode>(
+        &mut self,
+        mode: M,
+        input: &mut Input,
+        state: &mut Self::PartialState,
+    ) -> ParseResult<A::Output, Input::Error> {
+        choose_3(&mut self.0, &mut self.1, &mut self.2, mode, input, state)
+    }
+
+    fn add_error_choice(&mut self, error: &mut Tracked<Input::Error>) {
+        self.0.add_error(error);
+        self.1.add_error(error);
+        self.2.add_error(error);
+    }
+}
+
+impl<
+    Input: Stream,
+    A: Parser<Input>,
+    B: Parser<Input, Output = A::Output>,
+    C: Parser<Input, Output = A::Output>,
+    D: Parser<Input, Output = A::Output>,
+> ChoiceParser<Input> for (A, B, C, D) {
+    ghost use Rattle.std.specs.Prelude.{◌≡◌};
+    ghost use Rattle.combine_token.specs.Or.{either_of, or_valid};
+    ghost use Rattle.combine_token.specs.Reasons.{RefusesOr};
+    ghost use Rattle.combine_token.specs.declared.choice.OrState.TheVariants.{Peek};
+    ghost use Rattle.combine_choice.specs.Nested.{nest_laws, nest_one};
+
+    type Output = A::Output;
+
+    type PartialState = State4<Input, A, B, C, D>;
+
+    ghost lawful = { λ p. (A.lawful p.0 × B.lawful p.1) × (C.lawful p.2 × D.lawful p.3) };
+
+    ghost determined = { λ p. (A.determined p.0 × B.determined p.1) × (C.determined p.2 × D.determined p.3) };
+
+    ghost valid = { or_valid (or_valid A.valid B.valid) (or_valid C.valid D.valid) };
+
+    ghost meaning = { λ p. either_of (either_of (A.meaning p.0) (B.meaning p.1)) (either_of (C.meaning p.2) (D.meaning p.3)) };
+
+    ghost refuses = { λ p. RefusesOr Input.Error.seen Input.Position.cmp (λ s. s ≡ Peek) (λ s. s ≡ Peek) (RefusesOr Input.Error.seen Input.Position.cmp A.PartialState.is_default B.PartialState.is_default (A.refuses p.0) (B.refuses p.1)) (RefusesOr Input.Error.seen Input.Position.cmp C.PartialState.is_default D.PartialState.is_default (C.refuses p.2) (D.refuses p.3)) };
+
+    ghost default_valid = { λ s d. rw d tt };
+
+    ghost laws = { λ p l. nest_laws (nest_laws (A.laws p.0 l.0.0) (B.laws p.1 l.0.1)) (nest_laws (C.laws p.2 l.1.0) (D.laws p.3 l.1.1)) };
+
+    ghost single = { λ p l d. nest_one (nest_one (A.single p.0 l.0.0 d.0.0) (B.single p.1 l.0.1 d.0.1)) (nest_one (C.single p.2 l.1.0 d.1.0) (D.single p.3 l.1.1 d.1.1)) };
+
+    #[inline(always)]
+    fn parse_mode_choice<M: ParseMode>(
+        &mut self,
+        mode: M,
+        input: &mut Input,
+        state: &mut Self::PartialState,
+    ) -> ParseResult<A::Output, Input::Error> {
+        choose_4(
+            &mut self.0,
+            &mut self.1,
+            &mut self.2,
+            &mut self.3,
+            mode,
+            input,
+            state,
+        )
+    }
+
+    fn add_error_choice(&mut self, error: &mut Tracked<Input::Error>) {
+        self.0.add_error(error);
+        self.1.add_error(error);
+        self.2.add_error(error);
+        self.3.add_error(error);
+    }
+}
+
+impl<
+    Input: Stream,
+    A: Parser<Input>,
+    B: Parser<Input, Output = A::Output>,
+    C: Parser<Input, Output = A::Output>,
+    D: Parser<Input, Output = A::Output>,
+    E: Parser<Input, Output = A::Output>,
+> ChoiceParser<Input> for (A, B, C, D, E) {
+    ghost use Rattle.std.specs.Prelude.{◌≡◌};
+    ghost use Rattle.combine_token.specs.Or.{either_of, or_valid};
+    ghost use Rattle.combine_token.specs.Reasons.{RefusesOr};
+    ghost use Rattle.combine_token.specs.declared.choice.OrState.TheVariants.{Peek};
+    ghost use Rattle.combine_choice.specs.Nested.{nest_laws, nest_one};
+
+    type Output = A::Output;
+
+    type PartialState = State5<Input, A, B, C, D, E>;
+
+    ghost lawful = { λ p. A.lawful p.0 × ((B.lawful p.1 × C.lawful p.2) × (D.lawful p.3 × E.lawful p.4)) };
+
+    ghost determined = { λ p. A.determined p.0 × ((B.determined p.1 × C.determined p.2) × (D.determined p.3 × E.determined p.4)) };
+
+    ghost valid = { or_valid A.valid (or_valid (or_valid B.valid C.valid) (or_valid D.valid E.valid)) };
+
+    ghost meaning = { λ p. either_of (A.meaning p.0) (either_of (either_of (B.meaning p.1) (C.meaning p.2)) (either_of (D.meaning p.3) (E.meaning p.4))) };
+
+    ghost refuses = { λ p. RefusesOr Input.Error.seen Input.Position.cmp A.PartialState.is_default (λ s. s ≡ Peek) (A.refuses p.0) (RefusesOr Input.Error.seen Input.Position.cmp (λ s. s ≡ Peek) (λ s. s ≡ Peek) (RefusesOr Input.Error.seen Input.Position.cmp B.PartialState.is_default C.PartialState.is_default (B.refuses p.1) (C.refuses p.2)) (RefusesOr Input.Error.seen Input.Position.cmp D.PartialState.is_default E.PartialState.is_default (D.refuses p.3) (E.refuses p.4))) };
+
+    ghost default_valid = { λ s d. rw d tt };
+
+    ghost laws = { λ p l. nest_laws (A.laws p.0 l.0) (nest_laws (nest_laws (B.laws p.1 l.1.0.0) (C.laws p.2 l.1.0.1)) (nest_laws (D.laws p.3 l.1.1.0) (E.laws p.4 l.1.1.1))) };
+
+    ghost single = { λ p l d. nest_one (A.single p.0 l.0 d.0) (nest_one (nest_one (B.single p.1 l.1.0.0 d.1.0.0) (C.single p.2 l.1.0.1 d.1.0.1)) (nest_one (D.single p.3 l.1.1.0 d.1.1.0) (E.single p.4 l.1.1.1 d.1.1.1))) };
+
+    #[inline(always)]
+    fn parse_mode_choice<M: ParseMode>(
+        &mut self,
+        mode: M,
+        input: &mut Input,
+        state: &mut Self::PartialState,
+    ) -> ParseResult<A::Output, Input::Error> {
+        choose_5(
+            &mut self.0,
+            &mut self.1,
+            &mut self.2,
+            &mut self.3,
+            &mut self.4,
+            mode,
+            input,
+            state,
+        )
+    }
+
+    fn add_error_choice(&mut self, error: &mut Tracked<Input::Error>) {
+        self.0.add_error(error);
+        self.1.add_error(error);
+        self.2.add_error(error);
+        self.3.add_error(error);
+        self.4.add_error(error);
+    }
+}

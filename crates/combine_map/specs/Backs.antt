@@ -1,0 +1,36 @@
+-- putting a stream back before an answer, and the error of `not_followed_by`
+use Rattle.std.specs.Prelude.{◌≡◌, ◌<◌, ◌⊎◌, Bool, true, false}
+use Rattle.combine_base.specs.Error.Errors.{Errors, New}
+use Rattle.combine_base.specs.Stream.View.{View, Moves}
+use Rattle.combine_base.specs.declared.stream.Kind.{Kind}
+use Rattle.combine_base.specs.declared.stream.Kind.TheVariants as kinds
+use Rattle.combine_base.specs.declared.stream.Failures.{Failures}
+use Rattle.combine_base.specs.declared.error.ParseResult.{ParseResult}
+use Rattle.combine_base.specs.declared.error.ParseResult.TheVariants.{CommitErr}
+
+module _ {P T V E : Type 0} (steady : Type 0) (step : P → T → P) (kind : E → Kind) (marked : View P T → Type 0) (old new : View P T) (before after : Failures) where
+  -- the stream was put back, and the answer is that one
+  pub record Back (answer result : ParseResult V E) : Type 0 where
+    pub at : (v : View P T) → marked v → new ≡ v
+    pub failures : steady → after ≡ before
+    pub is : result ≡ answer
+
+  -- it could not be put back
+  pub record Stuck (result : ParseResult V E) : Type 0 where
+    pub error : E
+    pub is : result ≡ CommitErr error
+    pub kind_is : kind error ≡ kinds.Reset
+    pub moves : Moves step old new
+    pub resets : before.resets < after.resets
+
+  -- the stream was put back for that answer, or could not be
+  pub record PutBackFor (answer result : ParseResult V E) : Type 0 where
+    pub is : Back answer result ⊎ Stuck result
+
+-- the error of `not_followed_by`: peeked, made where it began, and it says nothing
+abbrev pub refuses_followed : {T R P E : Type 0} → Errors T R P E → P → Bool → E → Type 0
+refuses_followed s place true e = ⊥
+refuses_followed s place false e = New s kinds.Refused place e
+
+pub record RefusesFollowed {T R P E : Type 0} (s : Errors T R P E) (v : View P T) (committed : Bool) (e : E) : Type 0 where
+  pub is : refuses_followed s v.position committed e

@@ -1,0 +1,121 @@
+-- a first part, and then turns of another parser
+use Rattle.std.specs.Prelude.{◌≡◌, Bool, true, false, ◌↔◌}
+use Rattle.combine_base.specs.Stream.View.{View}
+use Rattle.combine_base.specs.Parser.Outcome.{Outcome}
+use Rattle.combine_base.specs.Parser.Meaning.{Meaning, Reading, IsReading, IsSingle, IsMeaning, MeansOne, MeansSame}
+use Rattle.combine_base.specs.Sequence.Readings.{following, following_is_reading, following_is_single, following_same}
+use Rattle.combine_turns.specs.Turn.{IsTurn, TurnsSame, EndsOnce, TurnsOnce, never_ends}
+use Rattle.combine_separated.specs.declared.separated.SeparatedState.{SeparatedState}
+use Rattle.combine_separated.specs.declared.separated.SeparatedState.TheVariants as kept
+use Rattle.combine_separated.specs.declared.separated.Element.{Element}
+use Rattle.combine_separated.specs.declared.separated.Element.TheVariants.{First, Then}
+use Rattle.combine_separated.specs.declared.separated.Separated.{Separated}
+
+abbrev pub part_of : {X Y : Type 0} → Separated X Y → X
+part_of p = p.parser
+
+abbrev pub separator_of : {X Y : Type 0} → Separated X Y → Y
+separator_of p = p.separator
+
+-- the first element, and a later one with what its separator gave
+abbrev pub first_element : {O V : Type 0} → V → Element O V
+first_element v = First v
+
+abbrev pub then_element : {O V : Type 0} → O × V → Element O V
+then_element t = Then t.0 t.1
+
+-- the first part begins
+abbrev pub separated_fresh : {U W : Type 0} → (U → Type 0) → SeparatedState U W → Type 0
+separated_fresh fresh (kept.First s) = fresh s
+separated_fresh fresh (kept.Later s) = ⊥
+
+abbrev pub separated_valid : {U W : Type 0} → (U → Type 0) → (W → Type 0) → SeparatedState U W → Type 0
+separated_valid valid valid' (kept.First s) = valid s
+separated_valid valid valid' (kept.Later s) = valid' s
+
+pub separated_default : {U W : Type 0} (fresh valid : U → Type 0) (valid' : W → Type 0) → ((s : U) → fresh s → valid s) → (s : SeparatedState U W) → separated_fresh fresh s → separated_valid valid valid' s
+separated_default fresh valid valid' h (kept.First s) d = h s d
+separated_default fresh valid valid' h (kept.Later s) d = absurd d
+
+-- a later turn, whose value is changed by f
+abbrev pub later_turn : {P T R A C W : Type 0} → (C → A) → Meaning P T R C W → Reading P T A
+later_turn f n = following false f n.whole
+
+module _ {P T R A C D U W : Type 0} (e : D → A) (f : C → A) where
+  abbrev pub kept_reading : Meaning P T R D U → Meaning P T R C W → SeparatedState U W → Reading P T A
+  kept_reading m n (kept.First s) = following false e (m.rest s)
+  kept_reading m n (kept.Later s) = following false f (n.rest s)
+
+  abbrev pub kept_lost : Meaning P T R D U → Meaning P T R C W → SeparatedState U W → View P T → Type 0
+  kept_lost m n (kept.First s) = m.lost s
+  kept_lost m n (kept.Later s) = n.lost s
+
+  -- the first turn is m, and later ones are n, whose value is changed by f
+  abbrev pub first_then : Meaning P T R D U → Meaning P T R C W → Meaning P T R A (SeparatedState U W)
+  first_then m n = record {
+    whole = following false e m.whole;
+    rest = kept_reading m n;
+    lost = kept_lost m n;
+    keeps = m.keeps × n.keeps;
+    puts_back = ⊥;
+    lean = m.lean × n.lean;
+    adds = m.adds;
+  }
+
+  module _ {fresh valid : U → Type 0} {fresh' valid' : W → Type 0} {m : Meaning P T R D U} {n : Meaning P T R C W} where
+    pub then_is_turn : IsMeaning fresh valid m → IsMeaning fresh' valid' n → IsTurn (separated_fresh fresh) (separated_valid valid valid') (first_then m n) (later_turn f n)
+    then_is_turn h k = record {
+      meaning = record {
+        whole = following_is_reading false e m.whole h.whole;
+        rest = resting;
+        start = starting;
+        found = finding;
+      };
+      later = following_is_reading false f n.whole k.whole;
+    }
+      where
+        resting : (s : SeparatedState U W) → separated_valid valid valid' s → IsReading (kept_reading m n s)
+        resting (kept.First s) d = following_is_reading false e (m.rest s) (h.rest s d)
+        resting (kept.Later s) d = following_is_reading false f (n.rest s) (k.rest s d)
+
+        starting : (s : SeparatedState U W) (v : View P T) (o : Outcome A) → separated_fresh fresh s → kept_reading m n s v o ↔ following false e m.whole v o
+        starting (kept.First s) v o d = following_same false e (m.rest s) m.whole (λ v o. h.start s v o d) v o
+        starting (kept.Later s) v o d = absurd d
+
+        finding : (s : SeparatedState U W) (v : View P T) → separated_fresh fresh s → kept_lost m n s v → ⊥
+        finding (kept.First s) v d = h.found s v d
+        finding (kept.Later s) v d = absurd d
+
+  module _ {valid : U → Type 0} {valid' : W → Type 0} {m : Meaning P T R D U} {n : Meaning P T R C W} where
+    pub then_once : MeansOne valid m → MeansOne valid' n → TurnsOnce (separated_valid valid valid') (λ _. false) (first_then m n) (later_turn f n)
+    then_once h k = record {
+      whole = never_ends (following_is_single false e m.whole h.whole);
+      rest = resting;
+      later = never_ends (following_is_single false f n.whole k.whole);
+    }
+      where
+        resting : (s : SeparatedState U W) → separated_valid valid valid' s → EndsOnce (λ _. false) (kept_reading m n s)
+        resting (kept.First s) d = never_ends (following_is_single false e (m.rest s) (h.rest s d))
+        resting (kept.Later s) d = never_ends (following_is_single false f (n.rest s) (k.rest s d))
+
+  pub then_same : (m m' : Meaning P T R D U) (n n' : Meaning P T R C W) → MeansSame m m' → MeansSame n n' → TurnsSame (first_then m n) (later_turn f n) (first_then m' n') (later_turn f n')
+  then_same m m' n n' h k = record {
+    meaning = record {
+      whole = following_same false e m.whole m'.whole h.whole;
+      rest = resting;
+      lost = losing;
+      keeps = (λ x. (h.keeps.0 x.0, k.keeps.0 x.1), λ x. (h.keeps.1 x.0, k.keeps.1 x.1));
+      puts_back = (λ x. x, λ x. x);
+      lean = (λ x. (h.lean.0 x.0, k.lean.0 x.1), λ x. (h.lean.1 x.0, k.lean.1 x.1));
+      adds = h.adds;
+    };
+    later = following_same false f n.whole n'.whole k.whole;
+  }
+    where
+      resting : (s : SeparatedState U W) (v : View P T) (o : Outcome A) → kept_reading m n s v o ↔ kept_reading m' n' s v o
+      resting (kept.First s) = following_same false e (m.rest s) (m'.rest s) (h.rest s)
+      resting (kept.Later s) = following_same false f (n.rest s) (n'.rest s) (k.rest s)
+
+      losing : (s : SeparatedState U W) (v : View P T) → kept_lost m n s v ↔ kept_lost m' n' s v
+      losing (kept.First s) = h.lost s
+      losing (kept.Later s) = k.lost s

@@ -1,0 +1,6 @@
+//! Repetitions with a separator or an operator between the turns.
+#![tactic(auto)]
+
+pub mod elements;
+pub mod repeat;
+pub mod separated;

@@ -1,0 +1,95 @@
+//! Parsers one after another.
+//!
+//! Of `with`, `skip`, `between` and `struct_parser!` what is taken, refusals, faults, need of more, errors and states are those of the tuple.
+ghost use Rattle.std.specs.Prelude.{◌≡◌};
+ghost use Rattle.combine_map.specs.Parsers.{picked_of};
+ghost use Rattle.combine_sequence.specs.Answered.{then_of, then_partial_of, then_ref_of};
+
+mod answered;
+pub mod laws;
+pub mod types;
+
+use answered::asked::{ByMut, ByRef, ByValue};
+pub use combine_map::combinator::map;
+use types::{Answered, Between, Skip, Then, ThenPartial, ThenRef, With};
+
+/// `p` and then `q`, with the value of `q`.
+#[inline]
+pub fn with<P, Q>(p: P, q: Q) -> With<P, Q>
+    ensures { result ≡ picked_of (p, q) }
+{
+    With::new((p, q))
+}
+
+/// `p` and then `q`, with the value of `p`.
+#[inline]
+pub fn skip<P, Q>(p: P, q: Q) -> Skip<P, Q>
+    ensures { result ≡ picked_of (p, q) }
+{
+    Skip::new((p, q))
+}
+
+/// `l`, then `p`, then `r`, with the value of `p`. It counts as one parser.
+#[inline]
+pub fn between<L, R, P>(l: L, r: R, p: P) -> Between<L, R, P>
+    ensures { result ≡ picked_of (l, p, r) }
+{
+    Between::new((l, p, r))
+}
+
+/// As `parser`, and then as the parser that `f` answers for its value, whose value is the value of both.
+///
+/// `f` is asked once, where `parser` is accepted: on need of more the state keeps the parser that it answered, and the next call goes on with that one. It is committed if one of the two is. A peeked refusal of the second is put back to where the second began, and says what stands there and what the second expects; it is committed if the first was. Every parser that `f` may answer has to be lawful. The crate takes an `FnMut`.
+#[inline]
+pub fn then<P, F>(parser: P, f: F) -> Then<P, F>
+    ensures { result ≡ then_of parser f }
+{
+    Answered(parser, ByValue(f))
+}
+
+/// As `then`, where the function takes a mutable reference to the value. The crate's hands its function the value as it stands in the state.
+#[inline]
+pub fn then_partial<P, F>(parser: P, f: F) -> ThenPartial<P, F>
+    ensures { result ≡ then_partial_of parser f }
+{
+    Answered(parser, ByMut(f))
+}
+
+/// As `then`, where the function takes a reference to the value: the value of both is the pair of both values.
+#[inline]
+pub fn then_ref<P, F>(parser: P, f: F) -> ThenRef<P, F>
+    ensures { result ≡ then_ref_of parser f }
+{
+    Answered(parser, ByRef(f))
+}
+
+/// Up to eight parsers one after another, whose values make a struct.
+///
+/// `struct_parser!(Pair { left: p, _: q, right: r })` is `(p, q, r)` with the value `Pair { left, right }` of the values of `p` and `r`, and `struct_parser!(Pair(p, _: q, r))` is the same of a struct whose fields have no names. A part named `_` is run, and its value let go. Such a call is an expression, and may stand as a part of another.
+#[macro_export]
+macro_rules! struct_parser {
+    ($name:ident { $($parts:tt)* }) => {
+        $crate::struct_parser!(@named $name [] [] [] $($parts)*)
+    };
+    ($name:ident ( $($parts:tt)* )) => {
+        $crate::struct_parser!(@unnamed $name [] [] [] $($parts)*)
+    };
+    (@named $name:ident [$($parser:tt)*] [$($value:tt)*] [$($field:tt)*]) => {
+        $crate::sequence::map(($($parser)*), |($($value)*)| $name { $($field)* })
+    };
+    (@named $name:ident [$($parser:tt)*] [$($value:tt)*] [$($field:tt)*] _ : $part:expr $(, $($rest:tt)*)?) => {
+        $crate::struct_parser!(@named $name [$($parser)* $part,] [$($value)* _,] [$($field)*] $($($rest)*)?)
+    };
+    (@named $name:ident [$($parser:tt)*] [$($value:tt)*] [$($field:tt)*] $new:ident : $part:expr $(, $($rest:tt)*)?) => {
+        $crate::struct_parser!(@named $name [$($parser)* $part,] [$($value)* $new,] [$($field)* $new,] $($($rest)*)?)
+    };
+    (@unnamed $name:ident [$($parser:tt)*] [$($value:tt)*] [$($field:tt)*]) => {
+        $crate::sequence::map(($($parser)*), |($($value)*)| $name($($field)*))
+    };
+    (@unnamed $name:ident [$($parser:tt)*] [$($value:tt)*] [$($field:tt)*] _ : $part:expr $(, $($rest:tt)*)?) => {
+        $crate::struct_parser!(@unnamed $name [$($parser)* $part,] [$($value)* _,] [$($field)*] $($($rest)*)?)
+    };
+    (@unnamed $name:ident [$($parser:tt)*] [$($value:tt)*] [$($field:tt)*] $part:expr $(, $($rest:tt)*)?) => {
+        $crate::struct_parser!(@unnamed $name [$($parser)* $part,] [$($value)* value,] [$($field)* value,] $($($rest)*)?)
+    };
+}

@@ -1,0 +1,170 @@
+//! A parser, and then one that a function of its value answers.
+ghost use Rattle.std.specs.Prelude.{◌≡◌, true};
+ghost use Rattle.combine_sequence.specs.Answered.{AnswersOne, asked_part, first_part, starts_first, starts_valid, then, then_is_meaning, then_means_one, valid_step};
+ghost use Rattle.combine_sequence.specs.Thens.{CalledAnswered, RefusesThen};
+
+pub(super) mod asked;
+pub(super) mod state;
+
+use asked::{Asked, ByMut, ByRef, ByValue, Join};
+use combine_base::error::{ErrorOffset, ParseResult, Tracked};
+use combine_base::parser::{Calls, ParseMode, Parser};
+use combine_base::sequence::{accepted_after, refused_after, take_state};
+use combine_base::stream::{Stream, needs_more};
+use state::{AnsweredState, Answering};
+
+/// A parser, and then the one that a function answers for its value.
+///
+/// The state keeps the answered parser, which is not asked for again.
+#[derive(Clone, Copy, Drop)]
+pub struct Answered<P, K>(pub(super) P, pub(super) K);
+
+/// The parser of [`then`](crate::sequence::then).
+pub type Then<P, F> = Answered<P, ByValue<F>>;
+
+/// The parser of [`then_partial`](crate::sequence::then_partial).
+pub type ThenPartial<P, F> = Answered<P, ByMut<F>>;
+
+/// The parser of [`then_ref`](crate::sequence::then_ref).
+pub type ThenRef<P, F> = Answered<P, ByRef<F>>;
+
+impl<
+    Input: Stream,
+    P: Parser<Input>,
+    N: Parser<Input> + Drop,
+    V: Join<N::Output> + Drop,
+    K: Asked<P::Output, Parser = N, Kept = V>,
+> Parser<Input> for Answered<P, K>
+where
+    V::Joined: Drop,
+{
+    type Output = V::Joined;
+
+    type PartialState = AnsweredState<P::PartialState, V, N, N::PartialState>;
+
+    ghost lawful = { λ p. P.lawful (first_part p) × K.callable (asked_part p) × ((a : P.Output) (n : N) → K.answers (asked_part p) a n → N.lawful n) };
+
+    ghost determined = { λ p. P.determined (first_part p) × ((n : N) → N.lawful n → N.determined n) × AnswersOne (P.meaning (first_part p)).whole (K.answers (asked_part p)) (λ n. (N.meaning n).whole) × ((s : P.PartialState) → P.valid s → AnswersOne ((P.meaning (first_part p)).rest s) (K.answers (asked_part p)) (λ n. (N.meaning n).whole)) };
+
+    ghost valid = { valid_step P.valid N.lawful N.valid };
+
+    ghost meaning = { λ p. then Input.step K.keeps V.joined (K.answers (asked_part p)) N.lawful (P.meaning (first_part p)) N.meaning };
+
+    ghost refuses = { λ p. RefusesThen Input.step Input.Error.seen (K.answers (asked_part p)) N.PartialState.is_default N.meaning N.refuses (P.meaning (first_part p)) (P.refuses (first_part p)) };
+
+    ghost parts = { λ _. 1 };
+
+    ghost default_valid = { starts_valid N.lawful N.valid P.default_valid };
+
+    ghost laws = { λ p l. then_is_meaning Input.step K.keeps V.joined (K.answers (asked_part p)) N.lawful (P.laws (first_part p) l.0) N.laws l.2 };
+
+    ghost single = { λ p l d. then_means_one Input.step K.keeps V.joined (K.answers (asked_part p)) N.lawful (P.single (first_part p) l.0 d.0) (λ n i. N.single n i (d.1 n i)) d.2 d.3 };
+
+    #[inline(always)]
+    fn parse_mode<M: ParseMode>(
+        &mut self,
+        mode: M,
+        input: &mut Input,
+        state: &mut Self::PartialState,
+    ) -> ParseResult<V::Joined, Input::Error> {
+        let mut at = match take_state(mode, state) {
+            AnsweredState::First(at) => at,
+            AnsweredState::Second(at) => return resume_answered(mode, input, at, state),
+        };
+        let (value, committed) = match self.0.parse_mode(mode, input, &mut at) {
+            ParseResult::CommitOk(value) => (value, true),
+            ParseResult::PeekOk(value) => (value, false),
+            ParseResult::CommitErr(error) => {
+                *state = AnsweredState::First(at);
+                return ParseResult::CommitErr(error);
+            }
+            ParseResult::PeekErr(refusal) => return ParseResult::PeekErr(refusal),
+        };
+        let (value, parser) = self.1.ask(value);
+        let next = Answering {
+            value,
+            parser,
+            committed,
+            state: N::PartialState::default(),
+        };
+        parse_answered(mode, input, next, state)
+    }
+
+    /// What the first parser adds.
+    #[inline]
+    fn add_error(&mut self, error: &mut Tracked<Input::Error>) {
+        self.0.add_error(error);
+    }
+
+    /// One, whatever the two parsers count.
+    #[inline]
+    fn parser_count(&self) -> ErrorOffset {
+        ErrorOffset(1)
+    }
+}
+
+/// Runs an answered parser, from what is kept of it. A peeked refusal is put back to where it began, and explained by it. Need of more is kept in `state`, which is a default one.
+#[inline(always)]
+fn parse_answered<
+    Input: Stream,
+    V: Join<N::Output> + Drop,
+    N: Parser<Input> + Drop,
+    S: Default + Drop,
+    M: ParseMode,
+>(
+    mode: M,
+    input: &mut Input,
+    from: Answering<V, N, N::PartialState>,
+    state: &mut AnsweredState<S, V, N, N::PartialState>,
+) -> ParseResult<V::Joined, Input::Error>
+    requires ready { ⟦<N as Calls<Input>>⟧.ready from.parser from.state }
+    requires starts { M.first mode ≡ true → N.PartialState.is_default from.state }
+    requires fresh { starts_first S.is_default state.old }
+    ensures { CalledAnswered N.Parser Input.StreamOnce Input.Error.seen N.PartialState.is_default S.is_default V.joined (M.first mode) input.old input.new from state.new result }
+{
+    let Answering {
+        value,
+        mut parser,
+        committed,
+        state: mut kept,
+    } = from;
+    match parser.parse_explained(mode, input, &mut kept) {
+        ParseResult::CommitOk(last) => ParseResult::CommitOk(value.join(last)),
+        ParseResult::PeekOk(last) => accepted_after(committed, value.join(last)),
+        ParseResult::CommitErr(error) => {
+            if needs_more(input, &error) {
+                *state = AnsweredState::Second(Answering {
+                    value,
+                    parser,
+                    committed,
+                    state: kept,
+                });
+                return ParseResult::CommitErr(error);
+            }
+            ParseResult::CommitErr(error)
+        }
+        ParseResult::PeekErr(refusal) => refused_after(committed, refusal),
+    }
+}
+
+/// As `parse_answered`, for a call that resumes: apart from the code of calls that begin afresh.
+#[inline(never)]
+fn resume_answered<
+    Input: Stream,
+    V: Join<N::Output> + Drop,
+    N: Parser<Input> + Drop,
+    S: Default + Drop,
+    M: ParseMode,
+>(
+    mode: M,
+    input: &mut Input,
+    from: Answering<V, N, N::PartialState>,
+    state: &mut AnsweredState<S, V, N, N::PartialState>,
+) -> ParseResult<V::Joined, Input::Error>
+    requires ready { ⟦<N as Calls<Input>>⟧.ready from.parser from.state }
+    requires starts { M.first mode ≡ true → N.PartialState.is_default from.state }
+    requires fresh { starts_first S.is_default state.old }
+    ensures { CalledAnswered N.Parser Input.StreamOnce Input.Error.seen N.PartialState.is_default S.is_default V.joined (M.first mode) input.old input.new from state.new result }
+{
+    parse_answered(mode, input, from, state)
+}

@@ -1,0 +1,27 @@
+-- calls of a slice with an index
+use Rattle.std.proofs.Common.{ℕ, ◌+◌, ◌-◌, ◌≤◌, ◌≡◌, List, take, drop, length, Bool, false, subst, arith, ap, sym, ◌∙◌}
+use Rattle.std.proofs.lemmas.List.{drop-drop, length-take-le}
+use Rattle.combine_base.specs.Stream.View.{View, Takes, after_all}
+use Rattle.combine_stream.specs.Ranges.{Ahead, LongestItems, size_of}
+use Rattle.combine_stream.specs.Indices.{indexed_view}
+use Rattle.combine_base.specs.Stream.Fed.{one_more, after_count}
+use Rattle.combine_stream.proofs.Slicing.{ones_take}
+use Rattle.combine_stream.specs.declared.position.indexed.Indexed.{Indexed}
+
+pub index_takes : {T : Type 0} (s : Indexed T) (n : ℕ) → n ≤ length (indexed_view s).unread → Takes one_more n (indexed_view s) (indexed_view (record { tokens = s.tokens; at = s.at + n }))
+index_takes s n h =
+    let us = drop s.at s.tokens.now in
+    let p : s.at + n ≡ after_all one_more s.at (take n us) = sym (after_count s.at (take n us) ∙ ap (λ k. s.at + k) (length-take-le n us h)) in
+    let q : drop (s.at + n) s.tokens.now ≡ drop n us = sym (drop-drop n s.at s.tokens.now) in
+    record { enough = h; rest = ap (λ k. record { position = k; unread = drop (s.at + n) s.tokens.now; is_open = false }) p ∙ ap (λ x. record { position = after_all one_more s.at (take n us); unread = x; is_open = false }) q }
+
+pub index_apart : {T : Type 0} (s t : Indexed T) (v : View ℕ T) (k : ℕ) → v ≡ indexed_view s → Ahead one_more k v (indexed_view t) → t.at - s.at ≡ size_of (λ t. 1) (take k v.unread)
+index_apart s t v k e a =
+    let p = a.position ∙ after_count v.position (take k v.unread) in
+    let q = length-take-le k v.unread a.enough in
+    let r : v.position ≡ s.at = ap (λ (x : View _ _). x.position) e in
+    let z = ones_take k v.unread a.enough in
+    omega arith
+
+pub longest_same : {T : Type 0} (f : T → Bool → Type 0) (us vs : List T) (n : ℕ) → us ≡ vs → LongestItems (λ t. 1) f us n → LongestItems (λ t. 1) f vs n
+longest_same f us vs n e h = subst (λ xs. LongestItems (λ t. 1) f xs n) e h

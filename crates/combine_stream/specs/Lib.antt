@@ -1,0 +1,9 @@
+pub mod Counted
+pub mod Indices
+pub mod Lines
+pub mod MaybePartial
+pub mod Measures
+pub mod PlacedViews
+pub mod RangeFacts
+pub mod Ranges
+pub mod TextRanges

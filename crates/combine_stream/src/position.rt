@@ -1,0 +1,163 @@
+//! Streams that count their position: an index of a slice, a line and a column of a text.
+ghost use Rattle.std.specs.Prelude.{◌≡◌, ℕ, ◌≤◌, length};
+ghost use Rattle.combine_base.specs.Stream.View.{View, advanced};
+
+use crate::range::{Range, RangeStream, Test};
+use combine_base::stream::{Failures, Kind, Positioned, ResetStream, StreamOnce};
+use std::marker::PhantomData;
+
+mod indexed;
+mod text;
+
+pub use text::SourcePosition;
+
+/// The inputs with their positions, which a `Stream` holds.
+pub mod types {
+    pub use super::indexed::Indexed;
+    pub use super::text::PlacedText;
+}
+
+/// The inputs whose position can be counted: slices and texts.
+///
+/// In the crate it says which type counts; here, what the input is together with its position.
+pub trait DefaultPositioned {
+    /// The input with its position.
+    type Placed: combine_base::stream::Stream;
+
+    /// What is seen of the whole input.
+    ghost whole: { Self → View Self.Placed.Position Self.Placed.Token };
+
+    /// The position behind so many tokens of the whole input.
+    ghost behind: { Self → ℕ → Self.Placed.Position };
+
+    /// The whole input, at the first position.
+    fn place(self) -> Self::Placed
+        ensures { Self.Placed.view result ≡ whole self };
+
+    /// The position is what was said.
+    ghost counts: { (s : Self) (n : ℕ) → n ≤ length (whole s).unread → (advanced Self.Placed.step n (whole s)).position ≡ behind s n };
+}
+
+/// An input whose position is counted: `Stream<&[T]>` has an index from 0, `Stream<&str>` a `SourcePosition` from line 1 and column 1. Both are ended.
+///
+/// The position stays counted from where the input began, also after a reset. The second parameter follows from the first; in the crate it is what counts.
+#[derive(Drop)]
+pub struct Stream<S, P = <S as DefaultPositioned>::Placed> {
+    placed: P,
+    input: PhantomData<S>,
+}
+
+impl<S: DefaultPositioned> Stream<S, S::Placed> {
+    /// The whole input, at the first position.
+    #[inline]
+    pub fn new(input: S) -> Self
+        ensures { ⟦<Stream<S, S::Placed> as StreamOnce>⟧.view result ≡ S.whole input }
+    {
+        Stream {
+            placed: input.place(),
+            input: PhantomData,
+        }
+    }
+}
+
+impl<S, P: StreamOnce> StreamOnce for Stream<S, P> {
+    type Token = P::Token;
+
+    type Range = P::Range;
+
+    type Position = P::Position;
+
+    type Error = P::Error;
+
+    ghost Mark = { P.Mark };
+
+    ghost view = { λ s. P.view s.placed };
+
+    ghost step = { P.step };
+
+    ghost marks = { λ s. P.marks s.placed };
+
+    ghost failures = { λ s. P.failures s.placed };
+
+    ghost steady = { P.steady };
+
+    ghost moves = { λ s n h k. P.moves s.placed n h k };
+
+    #[inline(always)]
+    fn uncons(&mut self) -> Result<P::Token, Kind> {
+        self.placed.uncons()
+    }
+
+    #[inline(always)]
+    fn is_partial(&self) -> bool {
+        self.placed.is_partial()
+    }
+
+    #[inline(always)]
+    fn new_error(&self, why: Kind, position: P::Position) -> P::Error {
+        self.placed.new_error(why, position)
+    }
+}
+
+impl<S, P: ResetStream> ResetStream for Stream<S, P> {
+    type Checkpoint = P::Checkpoint;
+
+    ghost stands = { λ s c. P.stands s.placed c };
+
+    ghost lasts = { λ s t c v h k. P.lasts s.placed t.placed c v h k };
+
+    #[inline(always)]
+    fn checkpoint(&self) -> P::Checkpoint {
+        self.placed.checkpoint()
+    }
+
+    #[inline(always)]
+    fn reset(&mut self, checkpoint: P::Checkpoint) -> Result<(), Kind> {
+        self.placed.reset(checkpoint)
+    }
+
+    #[inline(always)]
+    fn failures(&self) -> Failures {
+        self.placed.failures()
+    }
+}
+
+impl<S, P: Positioned> Positioned for Stream<S, P> {
+    #[inline(always)]
+    fn position(&self) -> P::Position {
+        self.placed.position()
+    }
+}
+
+impl<S, P: RangeStream> RangeStream for Stream<S, P>
+where
+    P::Range: Range,
+{
+    ghost size = { P.size };
+
+    ghost spells = { P.spells };
+
+    ghost filled = { P.filled };
+
+    ghost measured = { P.measured };
+
+    #[inline(always)]
+    fn uncons_range(&mut self, n: usize) -> Result<P::Range, Kind> {
+        self.placed.uncons_range(n)
+    }
+
+    #[inline(always)]
+    fn uncons_while<F: Test<P::Token>>(&mut self, f: &F) -> Result<P::Range, Kind> {
+        self.placed.uncons_while(f)
+    }
+
+    #[inline(always)]
+    fn distance(&self, since: &P::Checkpoint) -> usize {
+        self.placed.distance(since)
+    }
+
+    #[inline(always)]
+    fn range(&self) -> P::Range {
+        self.placed.range()
+    }
+}

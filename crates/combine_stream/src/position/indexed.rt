@@ -1,0 +1,175 @@
+//! A slice whose position is an index.
+ghost use Rattle.std.specs.Prelude.{◌≡◌, false};
+
+use crate::position::DefaultPositioned;
+use crate::range::slices::count_while;
+use crate::range::{RangeStream, Test};
+use combine_base::error::UnexpectedParse;
+use combine_base::stream::{Failures, Kind, Positioned, ResetStream, StreamOnce};
+
+/// The tokens of a slice, and how many of them are taken.
+#[derive_where(Clone, Copy)]
+pub struct Indexed<'a, T> {
+    tokens: &'a [T],
+    at: usize,
+}
+
+impl<'a, T: Copy> Indexed<'a, T> {
+    ghost use Rattle.combine_stream.specs.Indices.{indexed_view};
+
+    // The unread tokens.
+    #[inline(always)]
+    fn unread(&self) -> &'a [T]
+        ensures { result.now ≡ (indexed_view self.now).unread }
+    {
+        if self.at <= self.tokens.len() {
+            &self.tokens[self.at..]
+        } else {
+            &[]
+        }
+    }
+}
+
+impl<'a, T: Copy> DefaultPositioned for &'a [T] {
+    ghost use Rattle.combine_stream.specs.Counted.{index_counts};
+
+    type Placed = Indexed<'a, T>;
+
+    ghost whole = { λ s. record { position = 0; unread = s.now; is_open = false } };
+
+    ghost behind = { λ s n. n };
+
+    ghost counts = { λ s n h. index_counts n s.now h };
+
+    #[inline]
+    fn place(self) -> Indexed<'a, T> {
+        Indexed {
+            tokens: self,
+            at: 0,
+        }
+    }
+}
+
+impl<'a, T: Copy> StreamOnce for Indexed<'a, T> {
+    ghost use Rattle.combine_base.specs.Stream.Fed.{one_more, count_moves};
+    ghost use Rattle.combine_stream.specs.Indices.{indexed_view};
+
+    type Token = T;
+
+    type Range = &'a [T];
+
+    type Position = usize;
+
+    type Error = UnexpectedParse;
+
+    ghost Mark = { Unit {0} };
+
+    ghost view = { indexed_view };
+
+    ghost step = { one_more };
+
+    ghost marks = { λ _ c v. Unit {0} };
+
+    ghost failures = { λ _. record { reads = 0; resets = 0 } };
+
+    ghost steady = { Unit {0} };
+
+    ghost moves = { λ s n h k. count_moves (indexed_view s) n h k };
+
+    #[inline(always)]
+    fn uncons(&mut self) -> Result<T, Kind> {
+        if self.at < self.tokens.len() {
+            let token = self.tokens[self.at];
+            self.at += 1;
+            Ok(token)
+        } else {
+            Err(Kind::End)
+        }
+    }
+
+    #[inline]
+    fn is_partial(&self) -> bool {
+        false
+    }
+
+    #[inline]
+    fn new_error(&self, why: Kind, position: usize) -> UnexpectedParse {
+        UnexpectedParse(why)
+    }
+}
+
+impl<'a, T: Copy> ResetStream for Indexed<'a, T> {
+    ghost use Rattle.combine_stream.specs.Indices.{indexed_view};
+
+    type Checkpoint = Indexed<'a, T>;
+
+    ghost stands = { λ _ c v. v ≡ indexed_view c };
+
+    ghost lasts = { λ s t c v h k. k };
+
+    #[inline(always)]
+    fn checkpoint(&self) -> Indexed<'a, T> {
+        *self
+    }
+
+    #[inline(always)]
+    fn reset(&mut self, checkpoint: Indexed<'a, T>) -> Result<(), Kind> {
+        *self = checkpoint;
+        Ok(())
+    }
+
+    #[inline]
+    fn failures(&self) -> Failures {
+        Failures {
+            reads: 0,
+            resets: 0,
+        }
+    }
+}
+
+impl<'a, T: Copy> Positioned for Indexed<'a, T> {
+    #[inline(always)]
+    fn position(&self) -> usize {
+        self.at
+    }
+}
+
+impl<'a, T: Copy> RangeStream for Indexed<'a, T> {
+    ghost use Rattle.std.specs.Prelude.{◌≡◌, ℕ, ◌<◌};
+    ghost use Rattle.std.proofs.Common.{arith};
+    ghost use Rattle.combine_stream.specs.Measures.{slice_measured};
+
+    ghost size = { λ t. 1 };
+
+    ghost spells = { λ r ts. r.now ≡ ts };
+
+    ghost filled = { λ t. omega arith };
+
+    ghost measured = { λ r ts e. slice_measured r.now ts e };
+
+    #[inline(always)]
+    fn uncons_range(&mut self, n: usize) -> Result<&'a [T], Kind> {
+        let unread = self.unread();
+        if n > unread.len() {
+            return Err(Kind::End);
+        }
+        self.at += n;
+        Ok(&unread[..n])
+    }
+
+    #[inline(always)]
+    fn uncons_while<F: Test<T>>(&mut self, f: &F) -> Result<&'a [T], Kind> {
+        let n = count_while(self.unread(), f);
+        self.uncons_range(n)
+    }
+
+    #[inline(always)]
+    fn distance(&self, since: &Indexed<'a, T>) -> usize {
+        self.at.saturating_sub(since.at)
+    }
+
+    #[inline(always)]
+    fn range(&self) -> &'a [T] {
+        self.unread()
+    }
+}

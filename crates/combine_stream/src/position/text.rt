@@ -1,0 +1,292 @@
+//! A text whose position is a line and a column.
+ghost use Rattle.std.specs.Prelude.{◌≡◌, ℕ, ◌+◌, ◌<◌, ◌≤◌, ◌^◌, [], MatchOption, MatchResult, length, take, drop, false};
+ghost use Rattle.std.specs.Char.{len_utf8};
+ghost use Rattle.std.specs.Str.{IsUtf8, chars};
+ghost use Rattle.combine_base.specs.Stream.View.{after_all};
+ghost use Rattle.combine_stream.specs.Ranges.{size_of};
+ghost use Rattle.combine_stream.specs.TextRanges.{Cut, uncut};
+ghost use Rattle.combine_stream.specs.Lines.{Fits, StepsOn, first_place, next_place};
+
+use crate::position::DefaultPositioned;
+use crate::range::texts::{bytes_while, cut};
+use crate::range::{Range, RangeStream, Test};
+use combine_base::error::UnexpectedParse;
+use combine_base::stream::{Failures, Kind, Positioned, ResetStream, StreamOnce, split_first};
+
+/// A line and a column, both counted from 1. A line feed begins a line, at column 1; every other character is a column more. A later position is greater.
+///
+/// In the crate they are `i32`.
+#[derive(Clone, Copy, Debug, PartialEq, Eq, PartialOrd, Ord)]
+pub struct SourcePosition {
+    /// One more than the line feeds before it.
+    pub line: u64,
+    /// One more than the characters before it on its line.
+    pub column: u64,
+}
+
+impl Default for SourcePosition {
+    /// Line 1, column 1.
+    #[inline]
+    fn default() -> SourcePosition
+        ensures { result ≡ first_place }
+    {
+        SourcePosition { line: 1, column: 1 }
+    }
+}
+
+impl SourcePosition {
+    // The position after a character.
+    #[inline(always)]
+    fn after(self, character: char) -> SourcePosition
+        requires { Fits self 1 }
+        ensures { result ≡ next_place self character }
+    {
+        if character == '\n' {
+            SourcePosition {
+                line: self.line + 1,
+                column: 1,
+            }
+        } else {
+            SourcePosition {
+                line: self.line,
+                column: self.column + 1,
+            }
+        }
+    }
+}
+
+/// What is left of a text, and where it stands.
+#[derive(Clone, Copy)]
+pub struct PlacedText<'a> {
+    rest: &'a str,
+    place: SourcePosition,
+    ghost lines: { place.line + length rest.now < 2 ^ 64 },
+    ghost columns: { place.column + length rest.now < 2 ^ 64 },
+}
+
+impl<'a> DefaultPositioned for &'a str {
+    ghost use Rattle.combine_stream.specs.Counted.{place_counts};
+    ghost use Rattle.combine_stream.specs.Lines.{behind};
+
+    type Placed = PlacedText<'a>;
+
+    ghost whole = { λ s. record { position = first_place; unread = chars s.now; is_open = false } };
+
+    ghost behind = { λ s n. behind (chars s.now) n };
+
+    ghost counts = { λ s n h. place_counts n (chars s.now) };
+
+    #[inline]
+    fn place(self) -> PlacedText<'a> {
+        let _size = self.len();
+        PlacedText {
+            rest: self,
+            place: SourcePosition::default(),
+        }
+    }
+}
+
+impl<'a> StreamOnce for PlacedText<'a> {
+    ghost use Rattle.combine_stream.specs.PlacedViews.{placed_view, placed_moves};
+
+    type Token = char;
+
+    type Range = &'a str;
+
+    type Position = SourcePosition;
+
+    type Error = UnexpectedParse;
+
+    ghost Mark = { Unit {0} };
+
+    ghost view = { placed_view };
+
+    ghost step = { next_place };
+
+    ghost marks = { λ _ c v. Unit {0} };
+
+    ghost failures = { λ _. record { reads = 0; resets = 0 } };
+
+    ghost steady = { Unit {0} };
+
+    ghost moves = { λ s n h k. placed_moves s.place n (chars s.rest.now) h k };
+
+    #[inline(always)]
+    fn uncons(&mut self) -> Result<char, Kind> {
+        match step_on(self.rest, self.place) {
+            Some((first, left)) => {
+                *self = left;
+                Ok(first)
+            }
+            None => Err(Kind::End),
+        }
+    }
+
+    #[inline]
+    fn is_partial(&self) -> bool {
+        false
+    }
+
+    #[inline]
+    fn new_error(&self, why: Kind, position: SourcePosition) -> UnexpectedParse {
+        UnexpectedParse(why)
+    }
+}
+
+impl<'a> ResetStream for PlacedText<'a> {
+    ghost use Rattle.combine_stream.specs.PlacedViews.{placed_view};
+
+    type Checkpoint = PlacedText<'a>;
+
+    ghost stands = { λ _ c v. v ≡ placed_view c };
+
+    ghost lasts = { λ s t c v h k. k };
+
+    #[inline(always)]
+    fn checkpoint(&self) -> PlacedText<'a> {
+        here(self.rest, self.place)
+    }
+
+    #[inline(always)]
+    fn reset(&mut self, checkpoint: PlacedText<'a>) -> Result<(), Kind> {
+        *self = checkpoint;
+        Ok(())
+    }
+
+    #[inline]
+    fn failures(&self) -> Failures {
+        Failures {
+            reads: 0,
+            resets: 0,
+        }
+    }
+}
+
+impl<'a> Positioned for PlacedText<'a> {
+    #[inline(always)]
+    fn position(&self) -> SourcePosition {
+        self.place
+    }
+}
+
+impl<'a> RangeStream for PlacedText<'a> {
+    ghost use Rattle.combine_stream.specs.TextRanges.{text_of, char_filled, text_measured};
+
+    ghost size = { len_utf8 };
+
+    ghost spells = { λ r cs. text_of r.now cs };
+
+    ghost filled = { char_filled };
+
+    ghost measured = { λ r cs e. text_measured r.now cs e };
+
+    #[inline(always)]
+    fn uncons_range(&mut self, n: usize) -> Result<&'a str, Kind> {
+        match take_range(self.rest, self.place, n) {
+            Ok((range, left)) => {
+                *self = left;
+                Ok(range)
+            }
+            Err(kind) => Err(kind),
+        }
+    }
+
+    #[inline(always)]
+    fn uncons_while<F: Test<char>>(&mut self, f: &F) -> Result<&'a str, Kind> {
+        let n = bytes_while(self.rest, f);
+        self.uncons_range(n)
+    }
+
+    #[inline(always)]
+    fn distance(&self, since: &PlacedText<'a>) -> usize {
+        bytes_between(since.rest, self.rest)
+    }
+
+    #[inline(always)]
+    fn range(&self) -> &'a str {
+        self.rest.range()
+    }
+}
+
+// The steps below are functions of their own since a `&str` parameter is known to be text.
+
+// The first character, and what is left behind it.
+#[inline(always)]
+fn step_on<'a>(rest: &'a str, place: SourcePosition) -> Option<(char, PlacedText<'a>)>
+    requires { Fits place (length rest.now) }
+    ensures { MatchOption result (chars rest.now ≡ []) (λ p. StepsOn rest.now place p.0 p.1.rest.now p.1.place) }
+{
+    match split_first(rest) {
+        Some((first, left)) => Some((
+            first,
+            PlacedText {
+                rest: left,
+                place: place.after(first),
+            },
+        )),
+        None => None,
+    }
+}
+
+// The same place, whose characters are fewer than 2^64.
+#[inline(always)]
+fn here<'a>(rest: &'a str, place: SourcePosition) -> PlacedText<'a>
+    requires { Fits place (length rest.now) }
+    ensures rest { result.rest.now ≡ rest.now }
+    ensures place { result.place ≡ place }
+    ensures short { length (chars rest.now) < 2 ^ 64 }
+{
+    PlacedText { rest, place }
+}
+
+// The place after a text.
+fn place_after(place: SourcePosition, text: &str) -> SourcePosition
+    requires { Fits place (length text.now) }
+    ensures place { result ≡ after_all next_place place (chars text.now) }
+    ensures text { IsUtf8 text.now }
+{
+    let mut now = place;
+    let mut rest = text;
+    loop {
+        match split_first(rest) {
+            Some((first, left)) => {
+                now = now.after(first);
+                rest = left;
+            }
+            None => return now,
+        }
+    }
+}
+
+// A place in a text.
+#[inline(always)]
+fn put<'a>(rest: &'a str, place: SourcePosition) -> PlacedText<'a>
+    requires { Fits place (length rest.now) }
+    ensures rest { result.rest.now ≡ rest.now }
+    ensures place { result.place ≡ place }
+{
+    PlacedText { rest, place }
+}
+
+// The first n bytes, and what is left behind them.
+#[inline(always)]
+fn take_range<'a>(
+    rest: &'a str,
+    place: SourcePosition,
+    n: usize,
+) -> Result<(&'a str, PlacedText<'a>), Kind>
+    requires { Fits place (length rest.now) }
+    ensures { MatchResult result (λ p. (k : ℕ) × Cut rest.now n k p.0.now p.1.rest.now × (p.1.place ≡ after_all next_place place (take k (chars rest.now)))) (λ why. uncut rest.now n why) }
+{
+    match cut(rest, n) {
+        Ok((front, back)) => Ok((front, put(back, place_after(place, front)))),
+        Err(kind) => Err(kind),
+    }
+}
+
+#[inline(always)]
+fn bytes_between(from: &str, to: &str) -> usize
+    ensures { (k : ℕ) → chars to.now ≡ drop k (chars from.now) → result ≡ size_of len_utf8 (take k (chars from.now)) }
+{
+    from.len().saturating_sub(to.len())
+}

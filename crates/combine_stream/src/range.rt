@@ -1,0 +1,93 @@
+//! Streams that hand out ranges of their tokens.
+ghost use Rattle.std.specs.Prelude.{◌≡◌, ℕ, ◌<◌, List, Bool, length, take};
+ghost use Rattle.combine_base.specs.Stream.View.{View};
+ghost use Rattle.combine_base.specs.Stream.Calls.{Passes};
+ghost use Rattle.combine_stream.specs.Ranges.{Ahead, size_of, UnconsRange, UnconsWhile};
+
+use combine_base::stream::{Kind, ResetStream, Stream, StreamOnce};
+
+pub(crate) mod slices;
+pub(crate) mod texts;
+
+/// A part of an input, measured in items: tokens of a slice, or bytes of a text. `Copy`, where the crate asks `Clone`.
+pub trait Range: Copy {
+    ghost count: { Self → ℕ };
+
+    /// The number of items.
+    fn len(&self) -> usize
+        ensures { result ≡ count self.now };
+}
+
+/// A range whose items are bytes. Our own: the crate asks `AsRef<[u8]>`.
+pub trait ByteRange: Range {
+    ghost bytes: { Self → List ℕ };
+
+    /// The bytes.
+    fn as_bytes(&self) -> &[u8]
+        ensures { result.now ≡ bytes self.now };
+
+    /// Each item is a byte.
+    ghost counts: { (r : Self) → Self.Range.count r ≡ length (bytes r) };
+}
+
+/// A test of tokens: every function that answers a truth value. Our own: the crate asks `FnMut`.
+pub trait Test<T> {
+    /// The function may be called on every token.
+    ghost callable: { Self → Type 0 };
+
+    /// What it may answer of a token.
+    ghost answers: { Self → T → Bool → Type 0 };
+
+    /// Whether the token passes.
+    fn test(&self, token: T) -> bool
+        requires { callable self.now }
+        ensures { answers self.now token result };
+}
+
+impl<T, F: Fn(T) -> bool> Test<T> for F {
+    ghost callable = { λ f. F.IsAlwaysCallable f };
+
+    ghost answers = { λ f. F.post f };
+
+    #[inline(always)]
+    fn test(&self, token: T) -> bool {
+        self(token)
+    }
+}
+
+/// A stream that hands out ranges.
+pub trait RangeStream: Stream
+where
+    Self::Range: Range,
+{
+    /// The number of items of a token.
+    ghost size: { Self.Token → ℕ };
+
+    /// The range holds these tokens.
+    ghost spells: { Self.Range → List Self.Token → Type 0 };
+
+    /// Takes the first n items: `End` where fewer are unread, and `Refused` where the n-th is inside a token; both change nothing. A failed read is `Read`; its count rises, and an end of the unread tokens is left.
+    fn uncons_range(&mut self, n: usize) -> Result<Self::Range, Kind>
+        ensures read { UnconsRange Self.steady Self.step size spells (Self.view self.old) (Self.view self.new) (Self.failures self.old) (Self.failures self.new) n result }
+        ensures passes { Passes (Self.marks self.old) (Self.marks self.new) (Self.failures self.old) (Self.failures self.new) };
+
+    /// Takes the longest beginning whose tokens pass the test; it may be empty. A failed read is as above.
+    fn uncons_while<F: Test<Self::Token>>(&mut self, f: &F) -> Result<Self::Range, Kind>
+        requires { F.callable f.now }
+        ensures read { UnconsWhile Self.steady Self.step size spells (Self.view self.old) (Self.view self.new) (Self.failures self.old) (Self.failures self.new) (F.answers f.now) result }
+        ensures passes { Passes (Self.marks self.old) (Self.marks self.new) (Self.failures self.old) (Self.failures self.new) };
+
+    /// The number of items that were taken since the checkpoint was made.
+    fn distance(&self, since: &Self::Checkpoint) -> usize
+        ensures { (v : View Self.Position Self.Token) (k : ℕ) → Self.stands self.now since.now v → Ahead Self.step k v (Self.view self.now) → result ≡ size_of size (take k v.unread) };
+
+    /// All that is unread.
+    fn range(&self) -> Self::Range
+        ensures { spells result (Self.view self.now).unread };
+
+    /// Each token is some items.
+    ghost filled: { (t : Self.Token) → 0 < size t };
+
+    /// A range has as many items as its tokens.
+    ghost measured: { (r : Self.Range) (ts : List Self.Token) → spells r ts → Self.Range.count r ≡ size_of size ts };
+}

@@ -1,0 +1,15 @@
+pub use Rattle.combine_base.specs.Error.Errors
+pub use Rattle.combine_base.specs.Error.Items
+pub use Rattle.combine_base.specs.Parser.Answer
+pub use Rattle.combine_base.specs.Parser.Mapped
+pub use Rattle.combine_base.specs.Parser.Meaning
+pub use Rattle.combine_base.specs.Parser.Outcome
+pub use Rattle.combine_token.specs.OneToken
+pub use Rattle.combine_token.specs.Stateless
+pub use Rattle.combine_token.specs.TokenParsers
+pub mod Again
+pub mod TextParsers
+pub mod Bytes
+pub mod Characters
+pub mod Named
+pub mod Spelled

@@ -1,0 +1,45 @@
+-- a parser of which errors say another text
+use Rattle.std.specs.Prelude.{ℕ, List}
+use Rattle.combine_base.specs.Error.Errors.{Only}
+use Rattle.combine_base.specs.Error.Items.{Expected, Fixed}
+use Rattle.combine_base.specs.Parser.Meaning.{Meaning, IsMeaning, MeansOne, MeansSame, Alike}
+
+module _ {P T R V S : Type 0} (text : List ℕ) where
+  -- the same, but it adds that text alone, as what was expected
+  abbrev pub named : Meaning P T R V S → Meaning P T R V S
+  named m = record {
+    whole = m.whole;
+    rest = m.rest;
+    lost = m.lost;
+    keeps = m.keeps;
+    puts_back = m.puts_back;
+    lean = m.lean;
+    adds = Only (Expected (Fixed text));
+  }
+
+  pub named_is_meaning : (fresh valid : S → Type 0) (m : Meaning P T R V S) → IsMeaning fresh valid m → IsMeaning fresh valid (named m)
+  named_is_meaning fresh valid m h = record { whole = h.whole; rest = h.rest; start = h.start; found = h.found }
+
+  pub named_means_one : (valid : S → Type 0) (m : Meaning P T R V S) → MeansOne valid m → MeansOne valid (named m)
+  named_means_one valid m h = record { whole = h.whole; rest = h.rest }
+
+  pub named_means_same : (m m' : Meaning P T R V S) → MeansSame m m' → MeansSame (named m) (named m')
+  named_means_same m m' h = record {
+    whole = h.whole;
+    rest = h.rest;
+    lost = h.lost;
+    keeps = h.keeps;
+    puts_back = h.puts_back;
+    lean = h.lean;
+    adds = λ is. (λ p. p, λ p. p);
+  }
+
+  pub named_alike : (m : Meaning P T R V S) → Alike (named m) m
+  named_alike m = record {
+    whole = λ v o. (λ p. p, λ p. p);
+    rest = λ s v o. (λ p. p, λ p. p);
+    lost = λ s v. (λ p. p, λ p. p);
+    keeps = (λ p. p, λ p. p);
+    puts_back = (λ p. p, λ p. p);
+    lean = (λ p. p, λ p. p);
+  }

@@ -1,0 +1,55 @@
+//! The parsers that the functions of `byte` answer.
+
+use crate::byte::classes;
+use crate::byte_list::InBytes;
+use crate::class::types::InClass;
+use crate::fits::{By, Equal};
+use crate::named::Named;
+use crate::pair::WholePair;
+use crate::texts;
+use combine_repeat::repeat::types::SkipMany;
+
+/// The parser of [`digit`](crate::byte::digit).
+pub type Digit<Input> = InClass<Input, classes::Digit>;
+
+/// The parser of [`oct_digit`](crate::byte::oct_digit).
+pub type OctDigit<Input> = InClass<Input, classes::OctDigit>;
+
+/// The parser of [`hex_digit`](crate::byte::hex_digit).
+pub type HexDigit<Input> = InClass<Input, classes::HexDigit>;
+
+/// The parser of [`space`](crate::byte::space).
+pub type Space<Input> = InClass<Input, classes::Space>;
+
+/// The parser of [`newline`](crate::byte::newline).
+pub type Newline<Input> = InClass<Input, classes::Newline>;
+
+/// The parser of [`tab`](crate::byte::tab).
+pub type Tab<Input> = InClass<Input, classes::Tab>;
+
+/// The parser of [`upper`](crate::byte::upper).
+pub type Upper<Input> = InClass<Input, classes::Upper>;
+
+/// The parser of [`lower`](crate::byte::lower).
+pub type Lower<Input> = InClass<Input, classes::Lower>;
+
+/// The parser of [`letter`](crate::byte::letter).
+pub type Letter<Input> = InClass<Input, classes::Letter>;
+
+/// The parser of [`alpha_num`](crate::byte::alpha_num).
+pub type AlphaNum<Input> = InClass<Input, classes::AlphaNum>;
+
+/// The parser of [`crlf`](crate::byte::crlf).
+pub type CrLf<Input> = Named<
+    WholePair<(InClass<Input, classes::CarriageReturn>, Newline<Input>)>,
+    texts::CrLf,
+>;
+
+/// The parser of [`spaces`](crate::byte::spaces).
+pub type Spaces<Input> = Named<SkipMany<Space<Input>>, texts::Spaces>;
+
+/// The parser of [`bytes`](crate::byte::bytes).
+pub type Bytes<Input> = InBytes<Input, Equal>;
+
+/// The parser of [`bytes_cmp`](crate::byte::bytes_cmp).
+pub type BytesCmp<Input, C> = InBytes<Input, By<C>>;

@@ -1,0 +1,157 @@
+//! The bytes of a list, matched one by one. Our own, of which `bytes` and `bytes_cmp` are made.
+ghost use Rattle.std.specs.Prelude.{◌≡◌, ◌<◌, ◌^◌, None, length};
+ghost use Rattle.std.specs.Slice.Iter.{iter_rest};
+ghost use Rattle.combine_base.specs.Error.Errors.{Nothing};
+ghost use Rattle.combine_base.specs.Parser.Answer.{Answers, world};
+ghost use Rattle.combine_base.specs.Parser.Reasons.{Reasoned, kept_from};
+ghost use Rattle.combine_base.specs.Stream.Calls.{Passes};
+ghost use Rattle.combine_token.specs.Listed.{listed};
+ghost use Rattle.combine_token.specs.Reasons.{RefusesList, begins_at};
+ghost use Rattle.combine_token.specs.TokenLists.{token_list};
+ghost use Rattle.combine_token.specs.TokenListLaws.{token_list_is_meaning, token_list_means_one};
+ghost use Rattle.combine_token.specs.TokenParsers.{matched_before};
+ghost use Rattle.combine_text.specs.TextParsers.{bytes_of, fits_of_bytes, in_bytes_parser};
+ghost use Rattle.combine_text.specs.Spelled.{SaysRange, listed_compares_once, listed_ends_once};
+
+use crate::fits::Fits;
+use combine_base::error::{ErrorOffset, Info, ParseError, ParseResult, Tracked};
+use combine_base::parser::{ParseMode, Parser};
+use combine_base::stream::Stream;
+use combine_token::token::{TokensState, match_list};
+use std::marker::PhantomData;
+
+/// The ranges of a stream of bytes, by which errors show a list of bytes.
+pub trait ShowsBytes: Copy {
+    ghost use Rattle.std.specs.Prelude.{ℕ, List};
+
+    /// Which range may show these bytes.
+    ghost shows: { List ℕ → Self → Type 0 };
+
+    /// A range that shows these bytes.
+    fn of_bytes(bytes: &'static [u8]) -> Self
+        ensures { shows bytes.now result };
+}
+
+impl<'a> ShowsBytes for &'a [u8] {
+    ghost shows = { λ bytes range. range.now ≡ bytes };
+
+    #[inline]
+    fn of_bytes(bytes: &'static [u8]) -> Self {
+        bytes
+    }
+}
+
+/// As the ranges of a fed stream, which show nothing.
+impl ShowsBytes for () {
+    ghost shows = { λ bytes range. Unit {0} };
+
+    #[inline]
+    fn of_bytes(bytes: &'static [u8]) -> Self {}
+}
+
+/// The parser of the bytes of a list, one after another; its value is the list.
+///
+/// The error of a committed mismatch says which token stands there, at the position where the call began. On need of more nothing is left unread: the state keeps how many bytes were matched.
+#[derive(Drop)]
+pub struct InBytes<Input, F> {
+    bytes: &'static [u8],
+    fits: F,
+    reads: PhantomData<Input>,
+}
+
+/// The bytes of a list, each compared with the token at its place.
+#[inline]
+pub fn in_bytes<Input, F>(bytes: &'static [u8], fits: F) -> InBytes<Input, F>
+    ensures { result ≡ in_bytes_parser bytes.entry fits }
+{
+    InBytes {
+        bytes,
+        fits,
+        reads: PhantomData,
+    }
+}
+
+impl<Input: Stream, F: Fits<u8, Input::Token>> Parser<Input> for InBytes<Input, F>
+where
+    Input::Range: ShowsBytes,
+{
+    type Output = &'static [u8];
+
+    type PartialState = TokensState;
+
+    ghost lawful = { λ p. F.ready (fits_of_bytes p) };
+
+    ghost determined = { λ p. F.determined (fits_of_bytes p) };
+
+    ghost valid = { λ s. Unit {0} };
+
+    ghost meaning = { λ p. token_list (listed (F.compares (fits_of_bytes p)) (bytes_of p).now) (λ v. v ≡ bytes_of p) matched_before (Unit {0}) (SaysRange (Input.Range.shows (bytes_of p).now)) };
+
+    ghost refuses = { λ p k. RefusesList Input.Error.seen (listed (F.compares (fits_of_bytes p)) (bytes_of p).now) None (begins_at matched_before k) };
+
+    ghost parts = { λ p. 1 };
+
+    #[inline(always)]
+    fn parse_mode<M: ParseMode>(
+        &mut self,
+        mode: M,
+        input: &mut Input,
+        state: &mut TokensState,
+    ) -> ParseResult<&'static [u8], Input::Error> {
+        match_bytes(self.bytes, &self.fits, mode, input, state)
+    }
+
+    /// Adds the list as a range, as what was expected.
+    #[inline]
+    fn add_error(&mut self, error: &mut Tracked<Input::Error>) {
+        let range = Input::Range::of_bytes(self.bytes);
+        error.error.add_expected(&Info::Range(range));
+    }
+
+    #[inline]
+    fn parser_count(&self) -> ErrorOffset {
+        ErrorOffset(1)
+    }
+
+    ghost default_valid = { λ s d. tt };
+
+    ghost laws = { λ p l. token_list_is_meaning _ _ _ _ _ _ _ (λ s d. d) };
+
+    ghost single = { λ p l d. token_list_means_one (λ _. Unit {0}) _ _ _ _ _ _ (listed_ends_once _ _) (listed_compares_once _ _ (F.once (fits_of_bytes p) d)) };
+}
+
+/// One call of a parser of the bytes of a list.
+#[inline(always)]
+fn match_bytes<F, Input: Stream, M: ParseMode>(
+    bytes: &'static [u8],
+    fits: &F,
+    mode: M,
+    input: &mut Input,
+    state: &mut TokensState,
+) -> ParseResult<&'static [u8], Input::Error>
+where
+    F: Fits<u8, Input::Token>,
+    requires { F.ready fits.now }
+    ensures passes { Passes (Input.marks input.old) (Input.marks input.new) (Input.failures input.old) (Input.failures input.new) }
+    ensures answers { Answers (world Input.step Input.Error.seen Input.steady (λ s. matched_before s ≡ 0))
+        (token_list (listed (F.compares fits.now) bytes.now) (λ v. v ≡ bytes.entry) matched_before (Unit {0}) (Nothing {R = Input.Range}))
+        (record { first = M.first mode; state = state.old; left = state.new; old = Input.view input.old; new = Input.view input.new; before = Input.failures input.old; after = Input.failures input.new })
+        result }
+    ensures refuses { Reasoned Input.Error.seen.kind (Input.view input.new).is_open
+        (RefusesList Input.Error.seen (listed (F.compares fits.now) bytes.now) None (begins_at matched_before (kept_from (M.first mode) state.old)) (Input.view input.old))
+        result }
+{
+    let items = bytes.iter();
+    match_list(
+        &|item: &u8, token: Input::Token| -> bool
+            requires { F.ready fits.now }
+            ensures { F.compares fits.entry.now item.now token result }
+        { fits.fits(*item, token) },
+        &items,
+        &bytes,
+        None,
+        mode,
+        input,
+        state,
+    )
+}

@@ -1,0 +1,71 @@
+//! The parser that `in_class` answers.
+ghost use Rattle.std.specs.Prelude.{◌≡◌};
+ghost use Rattle.combine_base.specs.Error.Errors.{Only};
+ghost use Rattle.combine_base.specs.Error.Items.{Expected, Fixed};
+ghost use Rattle.combine_token.specs.OneToken.{of_function, of_function_is_predicate, satisfied, satisfied_is_test, takes_one, takes_one_is_meaning, takes_one_means_one};
+ghost use Rattle.combine_token.specs.Reasons.{RefusesToken};
+
+use crate::class::Class;
+use combine_base::error::{ErrorOffset, Info, ParseError, ParseResult, Tracked};
+use combine_base::parser::{ParseMode, Parser};
+use combine_base::stream::Stream;
+use combine_token::token::reading::token_if;
+use std::marker::PhantomData;
+
+/// The parser of a token of that class. It keeps no state.
+#[derive(Drop)]
+#[derive_where(Clone, Copy; C)]
+pub struct InClass<Input, C> {
+    pub(super) reads: PhantomData<Input>,
+    pub(super) class: PhantomData<C>,
+}
+
+impl<Input: Stream, C: Class<Input::Token>> Parser<Input> for InClass<Input, C> {
+    type Output = Input::Token;
+
+    type PartialState = ();
+
+    ghost lawful = { λ p. Unit {0} };
+
+    ghost determined = { λ p. Unit {0} };
+
+    ghost valid = { λ s. Unit {0} };
+
+    ghost meaning = { λ p. takes_one (satisfied (of_function C.members)) (Unit {0}) (Only (Expected (Fixed C.bytes))) };
+
+    ghost refuses = { λ p k. RefusesToken Input.Error.seen };
+
+    ghost parts = { λ p. 1 };
+
+    #[inline(always)]
+    fn parse_mode<M: ParseMode>(
+        &mut self,
+        mode: M,
+        input: &mut Input,
+        state: &mut (),
+    ) -> ParseResult<Input::Token, Input::Error> {
+        token_if(
+            |token: Input::Token| -> bool
+                ensures { result ≡ C.members token }
+            { C::has(token) },
+            input,
+        )
+    }
+
+    /// Adds the text of the class, as what was expected.
+    #[inline]
+    fn add_error(&mut self, error: &mut Tracked<Input::Error>) {
+        error.error.add_expected(&Info::Static(C::text()));
+    }
+
+    #[inline]
+    fn parser_count(&self) -> ErrorOffset {
+        ErrorOffset(1)
+    }
+
+    ghost default_valid = { λ s d. tt };
+
+    ghost laws = { λ p l. takes_one_is_meaning (satisfied (of_function C.members)) _ _ _ _ };
+
+    ghost single = { λ p l d. takes_one_means_one (satisfied (of_function C.members)) _ _ _ (satisfied_is_test _ (of_function_is_predicate C.members)) };
+}

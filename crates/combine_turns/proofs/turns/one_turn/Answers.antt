@@ -1,0 +1,42 @@
+use Rattle.std.proofs.Common.{refl, sym, ◌∙◌}
+use Rattle.combine_turns.specs.OneTurn.{Ended, PutBack, TakesNothing, Unstored}
+use Rattle.combine_turns.proofs.Judging.{judged_by, accepts_by, put_back, not_put_back}
+use Rattle.combine_turns.proofs.turns.one_turn.Goals as goal
+use Rattle.combine_turns.proofs.turns.one_turn.Goals.{in-CommitOk, in-PeekOk}
+
+pub returns-in-Err-clause-turned : goal.returns-in-Err-clause-turned
+returns-in-Err-clause-turned g c = record { is = not_put_back _ _ _ _ _ _ _ _ _ _ _ _ _ _ _ _ c.in-PeekErr.ensures.answers _ c.in-Err.ensures.to.is c.parse_turn.ensures.passes.resets _ c.new_error.ensures.kind }
+
+pub returns-then-is_enough-clause-turned : goal.returns-then-is_enough-clause-turned
+returns-then-is_enough-clause-turned g c =
+    let n = c.in_default.ensures.to.is in
+    let e = n.0 _ (g.met.Input.ResetStream.lasts _ _ _ _ c.parse_turn.ensures.passes.marks c.checkpoint-checkpoint.ensures.stands) in
+    record { is = PutBack (sym c.is_enough.ensures ∙ c.if-is_enough.true) (put_back _ _ _ _ _ _ _ _ _ _ _ _ c.in-PeekErr.ensures.answers e n.1) e refl }
+
+pub returns-then-ends-clause-turned : goal.returns-then-ends-clause-turned
+returns-then-ends-clause-turned g c =
+    elim c.match-parse_turn.branch [
+      | in-CommitOk w ↦ record { is = Ended c.match-parse_turn.value (accepts_by _ _ _ _ _ _ w.value-is w.in-CommitOk.ensures.answers.is) (sym c.ends.ensures ∙ c.if-ends.true) (rw c.or.ensures refl) }
+      | in-PeekOk w ↦ record { is = Ended c.match-parse_turn.value (accepts_by _ _ _ _ _ _ w.value-is w.in-PeekOk.ensures.answers.is) (sym c.ends.ensures ∙ c.if-ends.true) (rw c.or.ensures refl) }
+    ]
+
+pub returns-then-not-goes-clause-turned : goal.returns-then-not-goes-clause-turned
+returns-then-not-goes-clause-turned g c =
+    elim c.match-parse_turn.branch [
+      | in-CommitOk w ↦ record { is = TakesNothing _ (judged_by _ _ _ _ _ _ _ _ _ _ _ w.value-is w.in-CommitOk.ensures.answers.is (sym c.ends.ensures ∙ c.if-ends.false) (λ n t. c.goes.ensures n _ c.position-position.ensures t) c.if-not-goes.true) c.refusal_saying-error.ensures.told }
+      | in-PeekOk w ↦ record { is = TakesNothing _ (judged_by _ _ _ _ _ _ _ _ _ _ _ w.value-is w.in-PeekOk.ensures.answers.is (sym c.ends.ensures ∙ c.if-ends.false) (λ n t. c.goes.ensures n _ c.position-position.ensures t) c.if-not-goes.true) c.refusal_saying-error.ensures.told }
+    ]
+
+pub returns-in-Ok-clause-turned : goal.returns-in-Ok-clause-turned
+returns-in-Ok-clause-turned g c =
+    elim c.match-parse_turn.branch [
+      | in-CommitOk w ↦ record { is = record { turn = _; judged = (judged_by _ _ _ _ _ _ _ _ _ _ _ w.value-is w.in-CommitOk.ensures.answers.is (sym c.ends.ensures ∙ c.if-ends.false) (λ n t. c.goes.ensures n _ c.position-position.ensures t) c.if-not-goes.false); held = _; more = c.in-Ok.ensures; turns = rw (c.next-place.ensures, c.limit.ensures, c.or-in-Ok.ensures) refl } }
+      | in-PeekOk w ↦ record { is = record { turn = _; judged = (judged_by _ _ _ _ _ _ _ _ _ _ _ w.value-is w.in-PeekOk.ensures.answers.is (sym c.ends.ensures ∙ c.if-ends.false) (λ n t. c.goes.ensures n _ c.position-position.ensures t) c.if-not-goes.false); held = _; more = c.in-Ok.ensures; turns = rw (c.next-place.ensures, c.limit.ensures, c.or-in-Ok.ensures) refl } }
+    ]
+
+pub returns-in-Err-gather-clause-turned : goal.returns-in-Err-gather-clause-turned
+returns-in-Err-gather-clause-turned g c =
+    elim c.match-parse_turn.branch [
+      | in-CommitOk w ↦ record { is = Unstored _ (accepts_by _ _ _ _ _ _ w.value-is w.in-CommitOk.ensures.answers.is) c.new_error-in-Err-gather.ensures.kind c.in-Err-gather.ensures }
+      | in-PeekOk w ↦ record { is = Unstored _ (accepts_by _ _ _ _ _ _ w.value-is w.in-PeekOk.ensures.answers.is) c.new_error-in-Err-gather.ensures.kind c.in-Err-gather.ensures }
+    ]

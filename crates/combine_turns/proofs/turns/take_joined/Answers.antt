@@ -1,0 +1,88 @@
+use Rattle.std.proofs.Common.{true, false, refl, sym, ◌∙◌}
+use Rattle.combine_base.proofs.Same.{passes_none, passes_more}
+use Rattle.combine_turns.proofs.Judging.{called_same, turned_same, turns_same_more}
+use Rattle.combine_turns.proofs.Repeating.{comes_on, comes_stopped, resumed_valid}
+use Rattle.combine_turns.proofs.Beginning.{not_first, valid_begun, comes_kept, enters, first_on, first_refused, first_more, first_fails}
+use Rattle.combine_turns.proofs.turns.take_joined.Goals as goal
+use Rattle.combine_turns.proofs.turns.take_joined.Goals.{in-Turns+in-Goes, in-Nothing+in-Goes-first_turn}
+
+pub returns-in-Stops-clause-answers : goal.returns-in-Stops-clause-answers
+returns-in-Stops-clause-answers g c =
+    let f = not_first g.P.Running.Default.is_default g.P.Turn.valid _ _ _ _ (rw c.is_first.ensures at c.hand_out-given.ensures.afresh) c.in-Turns.is in
+    let r = (rw c.is_first.ensures at c.hand_out-given.ensures.resumed) f in
+    let z = comes_kept _ _ _ _ _ _ _ _ _ _ _ _ f (sym r.0 ∙ c.in-Turns.is) (sym r.1) in
+    let q = passes_none (g.Input.StreamOnce.marks c.args.input.now) (g.Input.StreamOnce.failures c.args.input.now) in
+    rw c.stopped.ensures.answer (comes_stopped _ _ _ _ _ _ _ _ false _ _ z refl _ c.hand_out-given.ensures.left refl refl refl q.reads q.resets _ c.in-Stops.ensures.turned.is c.stopped.ensures.state)
+
+pub returns-in-Refused-clause-answers : goal.returns-in-Refused-clause-answers
+returns-in-Refused-clause-answers g c =
+    let r = rw c.is_first.ensures at c.hand_out-given.ensures.resumed in
+    let z = enters _ _ _ _ _ _ _ _ _ _ _ (λ f. (sym (r f).0 ∙ c.in-Nothing.is, sym (r f).1)) in
+    first_refused _ _ _ _ _ _ _ _ _ z _ c.in-Refused.ensures.turned.is (c.hand_out-given.ensures.left, refl)
+
+pub returns-in-More-clause-answers : goal.returns-in-More-clause-answers
+returns-in-More-clause-answers g c =
+    let r = rw c.is_first.ensures at c.hand_out-given.ensures.resumed in
+    let z = enters _ _ _ _ _ _ _ _ _ _ _ (λ f. (sym (r f).0 ∙ c.in-Nothing.is, sym (r f).1)) in
+    first_more _ _ _ _ _ _ _ _ _ z _ c.in-More.ensures.turned.is (c.hand_out-given.ensures.left, refl)
+
+pub returns-in-Failed-clause-answers : goal.returns-in-Failed-clause-answers
+returns-in-Failed-clause-answers g c =
+    let r = rw c.is_first.ensures at c.hand_out-given.ensures.resumed in
+    let z = enters _ _ _ _ _ _ _ _ _ _ _ (λ f. (sym (r f).0 ∙ c.in-Nothing.is, sym (r f).1)) in
+    let q = passes_none (g.Input.StreamOnce.marks c.args.input.now) (g.Input.StreamOnce.failures c.args.input.now) in
+    first_fails _ _ _ _ _ _ _ _ _ z q.reads q.resets _ c.in-Failed.ensures.turned.is (c.hand_out-given.ensures.left, refl)
+
+pub turns-init : goal.turns-init
+turns-init g c =
+    let r = rw c.is_first.ensures at c.hand_out-given.ensures.resumed in
+    let a = rw c.is_first.ensures at c.hand_out-given.ensures.afresh in
+    elim c.match-given.branch [
+      | in-Turns+in-Goes w ↦
+          let f = not_first g.P.Running.Default.is_default g.P.Turn.valid _ _ _ _ a w.in-Turns.is in
+          let z = comes_kept _ _ _ _ _ _ _ _ _ _ _ _ f (sym (r f).0 ∙ w.in-Turns.is) (sym (r f).1) in
+          let s = w.in-Goes.ensures.turned.is in
+          record {
+            lawful = rw w.parser-is w.resume_turn.ensures.lawful;
+            valid = rw w.state-is w.resume_turn.ensures.valid;
+            fresh = rw w.state-is s.judged.accepts.state;
+            same = rw w.parser-is w.resume_turn.ensures.same;
+            passes = rw w.input-is w.resume_turn.ensures.passes;
+            cleared = rw w.state-is c.hand_out-given.ensures.left;
+            reaches = rw (w.state-is, w.input-is, w.turns-is) (comes_on _ _ _ _ _ _ _ _ (g.met.P.Turn.laws _ c.requires.lawful) _ _ _ _ false _ _ _ z refl (resumed_valid g.P.Turn.valid _ _ (r f).1 c.requires.valid) s _);
+          }
+      | in-Nothing+in-Goes-first_turn w ↦
+          let z = enters _ _ _ _ _ _ _ _ _ _ _ (λ f. (sym (r f).0 ∙ w.in-Nothing.is, sym (r f).1)) in
+          let s = w.in-Goes-first_turn.ensures.turned.is in
+          record {
+            lawful = rw w.parser-is w.first_turn.ensures.lawful;
+            valid = rw w.state-is w.first_turn.ensures.valid;
+            fresh = rw w.state-is s.accepts.state;
+            same = rw w.parser-is w.first_turn.ensures.same;
+            passes = rw w.input-is w.first_turn.ensures.passes;
+            cleared = rw w.state-is c.hand_out-given.ensures.left;
+            reaches = rw (w.state-is, w.input-is, w.turns-is) (first_on _ _ _ _ _ _ _ (g.met.P.Turn.laws _ c.requires.lawful) c.requires.never _ _ _ z (valid_begun g.P.Running.Default.is_default g.P.Turn.valid g.met.P.Turn.default_valid _ _ _ _ _ r a c.requires.valid) s _);
+          }
+    ]
+
+pub returns-in-Stops-one_turn-clause-answers : goal.returns-in-Stops-one_turn-clause-answers
+returns-in-Stops-one_turn-clause-answers g c =
+    let i = c.turns.invariant in
+    let q = i.passes in
+    let s = turned_same _ _ _ _ _ (called_same _ _ _ _ i.same true) _ _ _ _ c.in-Stops-one_turn.ensures.turned in
+    rw c.stopped-in-Stops-one_turn.ensures.answer (comes_stopped _ _ _ _ _ _ _ _ true _ _ i.reaches refl _ i.cleared refl refl refl q.reads q.resets _ s.is c.stopped-in-Stops-one_turn.ensures.state)
+
+pub turns-preserved : goal.turns-preserved
+turns-preserved g c =
+    let i = c.turns.invariant in
+    let t = turned_same _ _ _ _ _ (called_same _ _ _ _ i.same true) _ _ _ _ c.in-Goes-one_turn.ensures.turned in
+    let s = t.is in
+    record {
+      lawful = c.one_turn.ensures.lawful;
+      valid = c.one_turn.ensures.valid;
+      fresh = s.judged.accepts.state;
+      same = turns_same_more _ _ _ _ _ _ i.same c.one_turn.ensures.same;
+      passes = passes_more _ _ _ _ _ _ i.passes c.one_turn.ensures.passes;
+      cleared = i.cleared;
+      reaches = comes_on _ _ _ _ _ _ _ _ (g.met.P.Turn.laws _ c.requires.lawful) _ _ _ _ true _ _ _ i.reaches refl i.valid s _;
+    }

@@ -1,0 +1,6 @@
+//! Turns: one operator for repetitions of any kind, and counted ones.
+#![tactic(auto)]
+
+pub mod each;
+pub mod repeat;
+pub mod turns;

@@ -1,0 +1,793 @@
+//! The loop that all repetitions run, and what it keeps.
+ghost use Rattle.std.specs.Prelude.{◌≡◌, ◌||◌, ℕ, nat_lt, not, false, true, MatchResult, if◌then◌else◌};
+ghost use Rattle.combine_base.specs.Stream.View.{Takes};
+ghost use Rattle.combine_base.specs.Parser.Answer.{Answers, world};
+ghost use Rattle.combine_base.specs.Stream.Calls.{Passes};
+ghost use Rattle.combine_base.specs.Refusals.{Told};
+ghost use Rattle.combine_base.specs.Sequence.Parts.{accepted_as, refused_as};
+ghost use Rattle.std.specs.Prelude.{None};
+ghost use Rattle.combine_turns.specs.FirstTurn.{FirstTurn};
+ghost use Rattle.combine_turns.specs.OneTurn.{OneTurn, stopped_answer, stopped_state};
+ghost use Rattle.combine_turns.specs.Turn.{TurnsSame, called};
+ghost use Rattle.combine_turns.specs.Bounded.{gathered, cut_at, counted, enough, fresh_turns, full_at, goes_at, kept_or, limit, missing, none_yet, owns, running_turn, so_far, turns_from};
+
+use combine_base::error::{Info, ParseError, ParseResult, Tracked};
+use combine_base::parser::{FirstMode, ParseMode, Parser};
+use combine_base::refusal::refusal_saying;
+use combine_base::sequence::{accepted_after, refused_after};
+use combine_base::stream::{Kind, Stream, has_taken, needs_more};
+use std::alloc::AllocError;
+use std::mem;
+
+/// What runs in a turn: the first one, or any later one, which may differ.
+pub trait Turn<Input: Stream> {
+    ghost use Rattle.std.specs.Prelude.{◌≡◌, Bool, true};
+    ghost use Rattle.combine_base.specs.Parser.Meaning.{Meaning, Reading, IsMeaning};
+    ghost use Rattle.combine_base.specs.Parser.Answer.{Answers, world};
+    ghost use Rattle.combine_base.specs.Error.Errors.{Says};
+    ghost use Rattle.combine_base.specs.Stream.Calls.{Passes};
+    ghost use Rattle.combine_turns.specs.Turn.{TurnsSame, TurnsOnce, IsTurn, called};
+
+    /// What a turn gives.
+    type Value: Drop;
+
+    /// What is kept of a running turn.
+    type Running: Default + Drop;
+
+    ghost lawful: { Self → Type 0 };
+
+    ghost determined: { Self → Type 0 };
+
+    ghost valid: { Self.Running → Type 0 };
+
+    /// The first turn from its start, and any from a kept state.
+    ghost meaning: { Self → Meaning Input.Position Input.Token Input.Range Self.Value Self.Running };
+
+    /// A later turn from its start.
+    ghost again: { Self → Reading Input.Position Input.Token Self.Value };
+
+    /// The values that end the turns.
+    ghost ending: { Self.Value → Bool };
+
+    fn parse_turn<M: ParseMode>(
+        &mut self,
+        later: bool,
+        mode: M,
+        input: &mut Input,
+        state: &mut Self::Running,
+    ) -> ParseResult<Self::Value, Input::Error>
+        requires lawful { lawful self.old }
+        requires valid { valid state.old }
+        requires fresh { M.first mode ≡ true → Self.Running.is_default state.old }
+        ensures lawful { lawful self.new }
+        ensures valid { valid state.new }
+        ensures same { TurnsSame (meaning self.old) (again self.old) (meaning self.new) (again self.new) }
+        ensures passes { Passes (Input.marks input.old) (Input.marks input.new) (Input.failures input.old) (Input.failures input.new) }
+        ensures answers { Answers (world Input.step Input.Error.seen Input.steady Self.Running.is_default)
+            (called (meaning self.old) (again self.old) later)
+            (record { first = M.first mode; state = state.old; left = state.new; old = Input.view input.old; new = Input.view input.new; before = Input.failures input.old; after = Input.failures input.new })
+            result };
+
+    /// What the first turn adds.
+    fn add_error(&mut self, error: &mut Tracked<Input::Error>)
+        requires { lawful self.old }
+        ensures lawful { lawful self.new }
+        ensures same { TurnsSame (meaning self.old) (again self.old) (meaning self.new) (again self.new) }
+        ensures says { Says Input.Error.seen (meaning self.old).lean (meaning self.old).adds error.old.error error.new.error };
+
+    /// Whether this value ends the turns.
+    fn ends(value: &Self::Value) -> bool
+        ensures { result ≡ ending value.now };
+
+    ghost default_valid: { (s : Self.Running) → Self.Running.is_default s → valid s };
+
+    ghost laws: { (p : Self) → lawful p → IsTurn Self.Running.is_default valid (meaning p) (again p) };
+
+    ghost once: { (p : Self) → lawful p → determined p → TurnsOnce valid ending (meaning p) (again p) };
+}
+
+/// How what turns give is gathered.
+pub trait Gather<A> {
+    ghost use Rattle.std.specs.Prelude.{◌≡◌, MatchResult};
+
+    /// What it is gathered into.
+    type Into: Drop;
+
+    /// What an empty gathering, or one of a first value, is made from.
+    type From: Copy;
+
+    ghost Held: { Type 0 };
+
+    ghost held: { Self.Into → Held };
+
+    /// What is held before any value.
+    ghost none: { Held };
+
+    /// What is held after one more value.
+    ghost more: { Held → A → Held → Type 0 };
+
+    /// What gathering needs of a caller's functions.
+    ghost able: { Type 0 };
+
+    /// Holds where it takes no memory.
+    ghost lean: { Type 0 };
+
+    /// What the first value makes.
+    fn begin(from: Self::From, value: A) -> Result<Self::Into, AllocError>
+        ensures { MatchResult result (λ i. more none value (held i)) (λ _. lean → ⊥) };
+
+    fn gather(into: Self::Into, value: A) -> Result<Self::Into, AllocError>
+        requires { able }
+        ensures { MatchResult result (λ i. more (held into) value (held i)) (λ _. lean → ⊥) };
+}
+
+/// A gathering that may hold nothing.
+pub trait Starts<A>: Gather<A> {
+    ghost use Rattle.std.specs.Prelude.{◌≡◌};
+
+    fn empty(from: Self::From) -> Self::Into
+        ensures { Self.held result ≡ Self.none };
+}
+
+/// How many turns there are.
+#[derive(Clone, Copy)]
+pub enum Bounds {
+    /// Any number; each takes a token.
+    Any,
+    /// The first is a part of its own: it may take nothing, and its refusal is the answer unless there need be none. Each later one takes a token.
+    Joined { least: usize, most: Option<usize> },
+    /// A number; they may take nothing.
+    Counted { least: usize, most: usize },
+}
+
+impl Bounds {
+    #[inline(always)]
+    fn limit(self) -> usize
+        ensures { result ≡ limit self }
+    {
+        match self {
+            Bounds::Any => 0,
+            Bounds::Joined { least, most: None } => if least < 1 { 1 } else { least },
+            Bounds::Joined {
+                least: _,
+                most: Some(most),
+            } => most,
+            Bounds::Counted { least: _, most } => most,
+        }
+    }
+
+    #[inline(always)]
+    fn is_full(self, place: Place) -> bool
+        ensures { result ≡ full_at self place }
+    {
+        match self {
+            Bounds::Any => false,
+            Bounds::Joined {
+                least: _,
+                most: None,
+            } => false,
+            Bounds::Joined {
+                least: _,
+                most: Some(most),
+            } => !(place.number < most),
+            Bounds::Counted { least: _, most } => !(place.number < most),
+        }
+    }
+
+    /// How many turns are still missing.
+    #[inline(always)]
+    fn missing(self, place: Place) -> usize
+        ensures { result ≡ missing self place }
+    {
+        match self {
+            Bounds::Any => 0,
+            Bounds::Joined { least, most: _ } => least.saturating_sub(place.number),
+            Bounds::Counted { least, most: _ } => least.saturating_sub(place.number),
+        }
+    }
+
+    #[inline(always)]
+    fn is_enough(self, place: Place) -> bool
+        ensures { result ≡ enough self place }
+    {
+        let missing = self.missing(place);
+        !(0 < missing)
+    }
+
+    /// Whether a refusal of this turn is its own answer.
+    #[inline(always)]
+    fn owns(self, place: Place) -> bool
+        ensures { result ≡ owns self place }
+    {
+        match self {
+            Bounds::Any => false,
+            Bounds::Joined { least: _, most: _ } => place.number < 1,
+            Bounds::Counted { least: _, most: _ } => false,
+        }
+    }
+
+    /// Whether a turn is a block that is accepted so, this piece's part of it begun at that position.
+    #[inline(always)]
+    fn goes<Input: Stream>(
+        self,
+        place: Place,
+        committed: bool,
+        since: Input::Position,
+        input: &Input,
+    ) -> bool
+        ensures { (n : ℕ) (old : Input) → since ≡ (Input.view old).position → Takes Input.step n (Input.view old) (Input.view input.now) → result ≡ goes_at self place n committed }
+    {
+        match self {
+            Bounds::Any => committed && has_taken(place.begun, since, input),
+            Bounds::Joined { least: _, most: _ } => {
+                if place.number < 1 {
+                    return true;
+                }
+                committed && has_taken(place.begun, since, input)
+            }
+            Bounds::Counted { least: _, most: _ } => true,
+        }
+    }
+}
+
+/// Which turn runs: how many were before, as far as that matters, and whether it took a token in an earlier piece.
+#[derive(Clone, Copy)]
+pub struct Place {
+    number: usize,
+    begun: bool,
+}
+
+impl Place {
+    /// The first turn.
+    #[inline(always)]
+    pub fn first() -> Place
+        ensures { result ≡ record { number = 0; begun = false } }
+    {
+        Place {
+            number: 0,
+            begun: false,
+        }
+    }
+
+    /// The next turn.
+    #[inline(always)]
+    fn next(self, limit: usize) -> Place
+        ensures { result ≡ record { number = counted limit self.number; begun = false } }
+    {
+        if self.number < limit.saturating_sub(1) {
+            return Place {
+                number: self.number + 1,
+                begun: false,
+            };
+        }
+        Place {
+            number: limit,
+            begun: false,
+        }
+    }
+
+    /// The place of the same turn in the next piece.
+    #[inline(always)]
+    fn cut<Input: Stream>(self, since: Input::Position, input: &Input) -> Place
+        ensures { (n : ℕ) (old : Input) → since ≡ (Input.view old).position → Takes Input.step n (Input.view old) (Input.view input.now) → result ≡ cut_at self n }
+    {
+        Place {
+            number: self.number,
+            begun: has_taken(self.begun, since, input),
+        }
+    }
+}
+
+/// The turns so far: what is gathered, whether one committed, and which one runs.
+#[derive(Drop)]
+pub struct Turns<F> {
+    into: F,
+    committed: bool,
+    place: Place,
+}
+
+impl<F> Turns<F> {
+    /// The first turn runs, or would if there is one.
+    #[inline]
+    pub fn none_yet(into: F) -> Turns<F>
+        ensures { result ≡ record { into = into; committed = false; place = record { number = 0; begun = false } } }
+    {
+        Turns {
+            into,
+            committed: false,
+            place: Place::first(),
+        }
+    }
+
+    /// The turns end, accepted.
+    #[inline(always)]
+    fn end<E>(self) -> ParseResult<F, E>
+        ensures { result ≡ accepted_as self.committed self.into }
+    {
+        let Turns {
+            into,
+            committed,
+            place: _,
+        } = self;
+        accepted_after(committed, into)
+    }
+
+    /// A turn that is missing is refused peeked, which is committed if a turn before it was.
+    #[inline(always)]
+    fn refused<E: Drop>(self, refusal: Tracked<E>) -> ParseResult<F, E>
+    where
+        F: Drop,
+        ensures { result ≡ refused_as self.committed refusal }
+    {
+        refused_after(self.committed, refusal)
+    }
+}
+
+/// What is kept of the turns before the one that runs.
+#[derive(Drop)]
+pub enum Earlier<F> {
+    /// No turn is over, and nothing is gathered.
+    Nothing,
+    Turns(Turns<F>),
+}
+
+/// What a repetition keeps while more input is needed: the turns so far, and the state of the one that runs.
+#[derive(Drop)]
+pub struct TurnsState<F, S> {
+    earlier: Earlier<F>,
+    running: S,
+}
+
+impl<F, S: Default> Default for TurnsState<F, S> {
+    ghost is_default = { fresh_turns S.is_default };
+
+    #[inline]
+    fn default() -> Self {
+        TurnsState {
+            earlier: Earlier::Nothing,
+            running: S::default(),
+        }
+    }
+}
+
+impl<F: Drop, S: Default + Drop> TurnsState<F, S> {
+    /// Hands out the turns that are kept, if the call resumes. Else there are none, and the state of the turn that runs is a default one.
+    #[inline(always)]
+    fn hand_out(&mut self, first: bool) -> Earlier<F>
+        ensures resumed { first ≡ false → (result ≡ self.old.earlier) × (self.new.running ≡ self.old.running) }
+        ensures afresh { first ≡ true → (result ≡ Earlier.Nothing) × S.is_default self.new.running }
+        ensures left { self.new.earlier ≡ Earlier.Nothing }
+    {
+        let earlier = mem::replace(&mut self.earlier, Earlier::Nothing);
+        if first {
+            self.running = S::default();
+            return Earlier::Nothing;
+        }
+        earlier
+    }
+
+    /// The turns that are kept, if the call resumes and there are any; else those of the start.
+    #[inline(always)]
+    fn begin(&mut self, first: bool, start: Turns<F>) -> Turns<F>
+        ensures turns { result ≡ (if first then start else kept_or start self.old.earlier) }
+        ensures resumed { first ≡ false → self.new.running ≡ self.old.running }
+        ensures afresh { first ≡ true → S.is_default self.new.running }
+        ensures left { self.new.earlier ≡ Earlier.Nothing }
+    {
+        match self.hand_out(first) {
+            Earlier::Turns(turns) => turns,
+            Earlier::Nothing => start,
+        }
+    }
+}
+
+/// What a turn did.
+pub enum Step<F, E> {
+    /// It is a block, and the next one runs.
+    Goes(Turns<F>),
+    Stops(Stop<F, E>),
+}
+
+/// Why no further turn runs.
+pub enum Stop<F, E> {
+    /// The turns end, accepted.
+    Over(Turns<F>),
+    /// A turn that is missing is refused peeked.
+    Refused(Turns<F>, Tracked<E>),
+    /// The turn needs more.
+    More(Turns<F>, E),
+    Failed(E),
+}
+
+/// A turn that begins afresh is a first-mode call, so that the mode is known where it is compiled, and has a state of its own, which is stored on need of more alone.
+#[inline(always)]
+fn parse_turn<Input: Stream, P: Turn<Input>, M: ParseMode>(
+    parser: &mut P,
+    later: bool,
+    mode: M,
+    input: &mut Input,
+    state: &mut P::Running,
+) -> ParseResult<P::Value, Input::Error>
+    requires lawful { P.lawful parser.old }
+    requires valid { P.valid state.old }
+    requires fresh { M.first mode ≡ true → P.Running.is_default state.old }
+    ensures lawful { P.lawful parser.new }
+    ensures valid { P.valid state.new }
+    ensures same { TurnsSame (P.meaning parser.old) (P.again parser.old) (P.meaning parser.new) (P.again parser.new) }
+    ensures passes { Passes (Input.marks input.old) (Input.marks input.new) (Input.failures input.old) (Input.failures input.new) }
+    ensures answers { Answers (world Input.step Input.Error.seen Input.steady P.Running.is_default)
+        (called (P.meaning parser.old) (P.again parser.old) later)
+        (record { first = M.first mode; state = state.old; left = state.new; old = Input.view input.old; new = Input.view input.new; before = Input.failures input.old; after = Input.failures input.new })
+        result }
+{
+    if mode.is_first() {
+        let mut own = P::Running::default();
+        let answer = parser.parse_turn(later, FirstMode, input, &mut own);
+        if let ParseResult::CommitErr(error) = &answer {
+            if needs_more(input, error) {
+                *state = own;
+            }
+        }
+        return answer;
+    }
+    parser.parse_turn(later, mode, input, state)
+}
+
+/// A refusal that says how many turns are missing.
+#[inline]
+fn too_few<Input: Stream>(input: &Input, position: Input::Position, missing: usize) -> Input::Error
+    ensures told { Told Input.Error.seen.kind Input.Error.seen.frugal result }
+{
+    let mut error = input.new_error(Kind::Refused, position);
+    error.add_message(&Info::More(missing));
+    error
+}
+
+#[inline(always)]
+fn or(before: bool, committed: bool) -> bool
+    ensures { result ≡ (before || committed) }
+{
+    before || committed
+}
+
+/// One turn.
+#[inline(always)]
+fn one_turn<G: Gather<P::Value>, Input: Stream, P: Turn<Input>, M: ParseMode>(
+    parser: &mut P,
+    bounds: Bounds,
+    later: bool,
+    mode: M,
+    turns: Turns<G::Into>,
+    input: &mut Input,
+    running: &mut P::Running,
+) -> Step<G::Into, Input::Error>
+    requires able { G.able }
+    requires lawful { P.lawful parser.old }
+    requires valid { P.valid running.old }
+    requires fresh { M.first mode ≡ true → P.Running.is_default running.old }
+    ensures lawful { P.lawful parser.new }
+    ensures valid { P.valid running.new }
+    ensures same { TurnsSame (P.meaning parser.old) (P.again parser.old) (P.meaning parser.new) (P.again parser.new) }
+    ensures passes { Passes (Input.marks input.old) (Input.marks input.new) (Input.failures input.old) (Input.failures input.new) }
+    ensures turned { OneTurn (world Input.step Input.Error.seen Input.steady P.Running.is_default)
+        bounds P.ending (gathered G.held G.none G.more G.lean) (called (P.meaning parser.old) (P.again parser.old) later)
+        (record { first = M.first mode; state = running.old; left = running.new; old = Input.view input.old; new = Input.view input.new; before = Input.failures input.old; after = Input.failures input.new })
+        turns result }
+{
+    let checkpoint = input.checkpoint();
+    let position = input.position();
+    let Turns {
+        into,
+        committed: before,
+        place,
+    } = turns;
+    let (value, committed) = match parse_turn(parser, later, mode, input, running) {
+        ParseResult::CommitOk(value) => (value, true),
+        ParseResult::PeekOk(value) => (value, false),
+        ParseResult::PeekErr(refusal) => {
+            if bounds.is_enough(place) {
+                if let Err(kind) = input.reset(checkpoint) {
+                    return Step::Stops(Stop::Failed(input.new_error(kind, position)));
+                }
+                return Step::Stops(Stop::Over(Turns {
+                    into,
+                    committed: before,
+                    place,
+                }));
+            }
+            if bounds.owns(place) {
+                return Step::Stops(Stop::Refused(
+                    Turns {
+                        into,
+                        committed: before,
+                        place,
+                    },
+                    refusal,
+                ));
+            }
+            let error = too_few(input, position, bounds.missing(place));
+            if error.kind() == Kind::Memory {
+                return Step::Stops(Stop::Failed(error));
+            }
+            return Step::Stops(Stop::Refused(
+                Turns {
+                    into,
+                    committed: before,
+                    place,
+                },
+                Tracked::from(error),
+            ));
+        }
+        ParseResult::CommitErr(error) => {
+            if needs_more(input, &error) {
+                let place = place.cut(position, input);
+                return Step::Stops(Stop::More(
+                    Turns {
+                        into,
+                        committed: before,
+                        place,
+                    },
+                    error,
+                ));
+            }
+            return Step::Stops(Stop::Failed(error));
+        }
+    };
+    if P::ends(&value) {
+        return Step::Stops(Stop::Over(Turns {
+            into,
+            committed: or(before, committed),
+            place,
+        }));
+    }
+    if !bounds.goes(place, committed, position, input) {
+        let error = refusal_saying(input, position, "repetition takes nothing");
+        return Step::Stops(Stop::Failed(error));
+    }
+    match G::gather(into, value) {
+        Ok(into) => {
+            let place = place.next(bounds.limit());
+            Step::Goes(Turns {
+                into,
+                committed: or(before, committed),
+                place,
+            })
+        }
+        Err(_refused) => Step::Stops(Stop::Failed(input.new_error(Kind::Memory, position))),
+    }
+}
+
+/// What the first turn did, where it makes what is gathered.
+pub enum First<F, E> {
+    /// It is a block, and the next one runs.
+    Goes(Turns<F>),
+    /// It is refused peeked.
+    Refused(Tracked<E>),
+    /// It needs more.
+    More(E),
+    Failed(E),
+}
+
+/// The first turn, which is asked for and makes what is gathered.
+#[inline(always)]
+fn first_turn<G: Gather<P::Value>, Input: Stream, P: Turn<Input>, M: ParseMode>(
+    parser: &mut P,
+    from: G::From,
+    mode: M,
+    input: &mut Input,
+    running: &mut P::Running,
+) -> First<G::Into, Input::Error>
+    requires lawful { P.lawful parser.old }
+    requires valid { P.valid running.old }
+    requires fresh { M.first mode ≡ true → P.Running.is_default running.old }
+    ensures lawful { P.lawful parser.new }
+    ensures valid { P.valid running.new }
+    ensures same { TurnsSame (P.meaning parser.old) (P.again parser.old) (P.meaning parser.new) (P.again parser.new) }
+    ensures passes { Passes (Input.marks input.old) (Input.marks input.new) (Input.failures input.old) (Input.failures input.new) }
+    ensures turned { FirstTurn (world Input.step Input.Error.seen Input.steady P.Running.is_default)
+        (gathered G.held G.none G.more G.lean) G.none (called (P.meaning parser.old) (P.again parser.old) false)
+        (record { first = M.first mode; state = running.old; left = running.new; old = Input.view input.old; new = Input.view input.new; before = Input.failures input.old; after = Input.failures input.new })
+        result }
+{
+    let position = input.position();
+    let (value, committed) = match parse_turn(parser, false, mode, input, running) {
+        ParseResult::CommitOk(value) => (value, true),
+        ParseResult::PeekOk(value) => (value, false),
+        ParseResult::PeekErr(refusal) => return First::Refused(refusal),
+        ParseResult::CommitErr(error) => {
+            if needs_more(input, &error) {
+                return First::More(error);
+            }
+            return First::Failed(error);
+        }
+    };
+    match G::begin(from, value) {
+        Ok(into) => First::Goes(Turns {
+            into,
+            committed,
+            place: Place {
+                number: 1,
+                begun: false,
+            },
+        }),
+        Err(_refused) => First::Failed(input.new_error(Kind::Memory, position)),
+    }
+}
+
+/// As `one_turn`, for a call that resumes: apart from the code of calls that begin afresh, which holds the turn once.
+fn resume_turn<G: Gather<P::Value>, Input: Stream, P: Turn<Input>, M: ParseMode>(
+    parser: &mut P,
+    bounds: Bounds,
+    mode: M,
+    turns: Turns<G::Into>,
+    input: &mut Input,
+    running: &mut P::Running,
+) -> Step<G::Into, Input::Error>
+    requires able { G.able }
+    requires lawful { P.lawful parser.old }
+    requires valid { P.valid running.old }
+    requires fresh { M.first mode ≡ true → P.Running.is_default running.old }
+    ensures lawful { P.lawful parser.new }
+    ensures valid { P.valid running.new }
+    ensures same { TurnsSame (P.meaning parser.old) (P.again parser.old) (P.meaning parser.new) (P.again parser.new) }
+    ensures passes { Passes (Input.marks input.old) (Input.marks input.new) (Input.failures input.old) (Input.failures input.new) }
+    ensures turned { OneTurn (world Input.step Input.Error.seen Input.steady P.Running.is_default)
+        bounds P.ending (gathered G.held G.none G.more G.lean) (called (P.meaning parser.old) (P.again parser.old) false)
+        (record { first = M.first mode; state = running.old; left = running.new; old = Input.view input.old; new = Input.view input.new; before = Input.failures input.old; after = Input.failures input.new })
+        turns result }
+{
+    one_turn::<G, Input, P, M>(parser, bounds, false, mode, turns, input, running)
+}
+
+/// What turns answer that stop so; on need of more they are kept.
+#[inline(always)]
+fn stopped<F: Drop, S: Drop, E: Drop>(
+    why: Stop<F, E>,
+    state: &mut TurnsState<F, S>,
+) -> ParseResult<F, E>
+    ensures answer { result ≡ stopped_answer why }
+    ensures state { state.new ≡ stopped_state why state.old }
+{
+    match why {
+        Stop::Over(turns) => turns.end(),
+        Stop::Refused(turns, refusal) => turns.refused(refusal),
+        Stop::More(turns, error) => {
+            state.earlier = Earlier::Turns(turns);
+            ParseResult::CommitErr(error)
+        }
+        Stop::Failed(error) => ParseResult::CommitErr(error),
+    }
+}
+
+/// One call of turns, which begin so where nothing is kept.
+#[inline(always)]
+pub fn take_turns<G: Gather<P::Value>, Input: Stream, P: Turn<Input>, M: ParseMode>(
+    parser: &mut P,
+    bounds: Bounds,
+    start: Turns<G::Into>,
+    mode: M,
+    input: &mut Input,
+    state: &mut TurnsState<G::Into, P::Running>,
+) -> ParseResult<G::Into, Input::Error>
+    requires able { G.able }
+    requires lawful { P.lawful parser.old }
+    requires valid { P.valid (running_turn state.old) }
+    ensures lawful { P.lawful parser.new }
+    ensures valid { P.valid (running_turn state.new) }
+    ensures same { TurnsSame (P.meaning parser.old) (P.again parser.old) (P.meaning parser.new) (P.again parser.new) }
+    ensures passes { Passes (Input.marks input.old) (Input.marks input.new) (Input.failures input.old) (Input.failures input.new) }
+    ensures answers { Answers (world Input.step Input.Error.seen Input.steady (fresh_turns P.Running.is_default))
+        (turns_from Input.step bounds P.ending (gathered G.held G.none G.more G.lean) (so_far G.held start) (P.meaning parser.old) (P.again parser.old))
+        (record { first = M.first mode; state = state.old; left = state.new; old = Input.view input.old; new = Input.view input.new; before = Input.failures input.old; after = Input.failures input.new })
+        result }
+{
+    let mut turns = state.begin(mode.is_first(), start);
+    let mut later = false;
+    if !mode.is_first() {
+        if bounds.is_full(turns.place) {
+            state.running = P::Running::default();
+            return turns.end();
+        }
+        match resume_turn::<G, Input, P, M>(
+            parser,
+            bounds,
+            mode,
+            turns,
+            input,
+            &mut state.running,
+        ) {
+            Step::Stops(why) => return stopped(why, state),
+            Step::Goes(next) => {
+                turns = next;
+                later = true;
+            }
+        }
+    }
+    'turns: loop {
+        if bounds.is_full(turns.place) {
+            return turns.end();
+        }
+        match one_turn::<G, Input, P, FirstMode>(
+            parser,
+            bounds,
+            later,
+            FirstMode,
+            turns,
+            input,
+            &mut state.running,
+        ) {
+            Step::Stops(why) => return stopped(why, state),
+            Step::Goes(next) => {
+                turns = next;
+                later = true;
+            }
+        }
+    }
+}
+
+/// One call of turns of which the first makes what is gathered, so that nothing is before it; it is asked for.
+#[inline(always)]
+pub fn take_joined<G: Gather<P::Value>, Input: Stream, P: Turn<Input>, M: ParseMode>(
+    parser: &mut P,
+    from: G::From,
+    mode: M,
+    input: &mut Input,
+    state: &mut TurnsState<G::Into, P::Running>,
+) -> ParseResult<G::Into, Input::Error>
+    requires able { G.able }
+    requires never { (a : P.Value) → P.ending a ≡ false }
+    requires lawful { P.lawful parser.old }
+    requires valid { P.valid (running_turn state.old) }
+    ensures lawful { P.lawful parser.new }
+    ensures valid { P.valid (running_turn state.new) }
+    ensures same { TurnsSame (P.meaning parser.old) (P.again parser.old) (P.meaning parser.new) (P.again parser.new) }
+    ensures passes { Passes (Input.marks input.old) (Input.marks input.new) (Input.failures input.old) (Input.failures input.new) }
+    ensures answers { Answers (world Input.step Input.Error.seen Input.steady (fresh_turns P.Running.is_default))
+        (turns_from Input.step (Bounds.Joined 1 None) P.ending (gathered G.held G.none G.more G.lean) (none_yet G.none) (P.meaning parser.old) (P.again parser.old))
+        (record { first = M.first mode; state = state.old; left = state.new; old = Input.view input.old; new = Input.view input.new; before = Input.failures input.old; after = Input.failures input.new })
+        result }
+{
+    let bounds = Bounds::Joined {
+        least: 1,
+        most: None,
+    };
+    let mut turns: Turns<G::Into>;
+    let given = state.hand_out(mode.is_first());
+    match given {
+        Earlier::Turns(kept) => {
+            match resume_turn::<G, Input, P, M>(
+                parser,
+                bounds,
+                mode,
+                kept,
+                input,
+                &mut state.running,
+            ) {
+                Step::Stops(why) => return stopped(why, state),
+                Step::Goes(next) => turns = next,
+            }
+        }
+        Earlier::Nothing => {
+            match first_turn::<G, Input, P, M>(parser, from, mode, input, &mut state.running) {
+                First::Goes(next) => turns = next,
+                First::Refused(refusal) => return ParseResult::PeekErr(refusal),
+                First::More(error) => return ParseResult::CommitErr(error),
+                First::Failed(error) => return ParseResult::CommitErr(error),
+            }
+        }
+    }
+    'turns: loop {
+        match one_turn::<G, Input, P, FirstMode>(
+            parser,
+            bounds,
+            true,
+            FirstMode,
+            turns,
+            input,
+            &mut state.running,
+        ) {
+            Step::Stops(why) => return stopped(why, state),
+            Step::Goes(next) => turns = next,
+        }
+    }
+}
