@@ -204,8 +204,8 @@ impl Class<char> for Letter {
 
     fn has(token: char) -> bool {
         // The table's way is longer.
-        if token.is_ascii() {
-            return token.is_alphabetic();
+        if token.is_ascii_alphabetic() {
+            return true;
         }
         is_alphabetic(token)
     }
