@@ -1,4 +1,4 @@
-//! `skip_many(letter())` over Greek letters, which is read as UTF-8 first. The answer is how many characters it took.
+//! `skip_many(letter())` over Greek letters, which is read as UTF-8 first. The answer is how many bytes they take.
 
 use crate::measure::Measure;
 use crate::{inputs, texts};

@@ -1,3 +1,4 @@
 pub mod Given
 pub mod Measures
+pub mod Tagged
 pub mod Tally

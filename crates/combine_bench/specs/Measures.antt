@@ -1,14 +1,15 @@
 -- what the measures answer
-use Rattle.std.specs.Prelude.{ℕ, ◌+◌, ◌≡◌, ◌⊎◌, ◌||◌, List, [], ◌∷◌, ◌++◌, Some, None, false}
+use Rattle.std.specs.Prelude.{ℕ, ◌+◌, ◌≡◌, ◌⊎◌, ◌||◌, List, [], ◌∷◌, ◌++◌, length, Some, None, false}
 use Rattle.std.specs.Char.{is_ascii_digit, is_ascii_lowercase}
 use Rattle.std.specs.Global.{Vec}
 use Rattle.combine_base.specs.Parser.Mapped.{mapped_reading}
 use Rattle.combine_base.specs.Parser.Meaning.{Reading}
+use Rattle.combine_base.specs.Sequence.Longer.{tuple_8}
 use Rattle.combine_base.specs.Stream.Slices.{slice_view, one_less}
 use Rattle.combine_base.specs.declared.stream.slices.Left.{Left}
 use Rattle.combine_repeat.specs.Repetition.{appended}
 use Rattle.combine_bench.specs.Given.{Answers}
-use Rattle.combine_calls.specs.Parsers.{one_where, byte, either, put_back, skipping, skipping1, collecting, collecting1, pair, triple, quadruple}
+use Rattle.combine_calls.specs.Parsers.{known, one_where, byte, either, put_back, skipping, skipping1, collecting, collecting1, pair, triple, quadruple}
 use Rattle.combine_bench.specs.Tally.{with_message}
 use Rattle.combine_bench.specs.declared.messages_collect.Message.{Message}
 use Rattle.combine_bench.specs.declared.messages_collect.Tally.{Tally}
@@ -23,6 +24,10 @@ taken v n = n
 
 abbrev pub sum : Tally → ℕ → ℕ
 sum t n = t.sum
+
+-- how many bytes were collected
+abbrev pub how_many : Vec ℕ → ℕ → ℕ
+how_many v n = length v.items
 
 abbrev pub letter : {P : Type 0} → Reading P ℕ ℕ
 letter = one_where is_ascii_lowercase
@@ -42,6 +47,13 @@ module _ (P : Type 0) (step : P → ℕ → P) where
 
   abbrev pub tuple_of_tuples : Reading P ℕ (Unit {0})
   tuple_of_tuples = skipping step (pair step (pair step letter digit) (pair step letter digit))
+
+  -- a small letter and a digit, four times
+  abbrev pub eight : Reading P ℕ (ℕ × ℕ × ℕ × ℕ × ℕ × ℕ × ℕ × ℕ)
+  eight = (tuple_8 step (known letter) (known digit) (known letter) (known digit) (known letter) (known digit) (known letter) (known digit)).whole
+
+  abbrev pub tuple_of_8 : Reading P ℕ (Unit {0})
+  tuple_of_8 = skipping step eight
 
   -- a word and a `;`
   abbrev pub many_in_many : Reading P ℕ (Unit {0})
@@ -70,6 +82,10 @@ module _ (P : Type 0) (step : P → ℕ → P) where
   -- one or more such bytes, collected
   abbrev pub bytes_of : Reading P ℕ ℕ → Reading P ℕ (Vec ℕ)
   bytes_of r = collecting1 step (appended (λ v. v.items) [] (λ bs b. bs ++ b ∷ []) ⊥) r
+
+  -- digits, collected, at least one
+  abbrev pub digits_collect : Reading P ℕ (Vec ℕ)
+  digits_collect = bytes_of digit
 
   -- the message of `del WORD;`
   abbrev pub collected_delete : Reading P ℕ Message

@@ -3,6 +3,13 @@
 
 mod classes;
 mod del;
+mod digits_collect;
+mod keywords;
+mod keywords_array;
+mod keywords_slice;
+mod keywords_tuple;
+mod letters;
+mod lines_and_columns;
 mod many_in_many;
 mod many_in_many_in_many;
 mod measure;
@@ -10,6 +17,8 @@ mod messages_collect;
 mod messages_skip;
 mod one_token;
 mod run;
+mod then_of_3;
 mod tuple_of_2;
 mod tuple_of_4;
+mod tuple_of_8;
 mod tuple_of_tuples;

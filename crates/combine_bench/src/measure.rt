@@ -64,6 +64,18 @@ fn number_of<O: Drop, N: Number<O>>(given: Given<O>) -> u64
     }
 }
 
+/// How many bytes a parser takes, by that run.
+#[inline(always)]
+pub(crate) fn count_taken<Input: Stream, R: Run<Input> + Drop, P: Parser<Input> + Drop>(
+    run: R,
+    parser: P,
+) -> u64
+    requires { P.lawful parser }
+    ensures { Answers taken (P.meaning parser).whole (R.all run) result }
+{
+    number_of::<P::Output, Taken>(run.run(parser))
+}
+
 /// The number of what the parser of a call gives, by that run.
 #[inline(always)]
 fn measured_by<Input: Stream<Token = u8>, R: Run<Input> + Drop, C: Call, N: Number<C::Output>>(

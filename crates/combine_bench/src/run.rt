@@ -120,7 +120,7 @@ fn decided<O>(answer: Answer<O, UnexpectedParse>) -> Given<O>
 
 /// Why an ended input was not accepted.
 #[inline]
-fn why(kind: Kind) -> Failure
+pub(crate) fn why(kind: Kind) -> Failure
     ensures { result ≡ failure kind }
 {
     match kind {

@@ -1,3 +1,4 @@
 pub mod Beginning
+pub mod Letters
 pub mod Mapping
 pub mod Spelling

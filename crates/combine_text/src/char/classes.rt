@@ -203,6 +203,10 @@ impl Class<char> for Letter {
     ghost members = { letter };
 
     fn has(token: char) -> bool {
+        // The table's way is longer.
+        if token.is_ascii_alphabetic() {
+            return true;
+        }
         is_alphabetic(token)
     }
 }
@@ -223,7 +227,7 @@ impl Class<char> for AlphaNum {
     ghost members = { alpha_num };
 
     fn has(token: char) -> bool {
-        is_alphabetic(token)
+        Letter::has(token)
             || GeneralCategoryGroup::Number.contains(GeneralCategory::for_char(token))
     }
 }
