@@ -208,7 +208,8 @@ impl<T: Copy + 'static> ResetStream for Stream<T> {
 
     #[inline(always)]
     fn checkpoint(&self) -> usize {
-        self.at
+        // It's `at`, and the compiler sees that a reset to it is in bounds.
+        self.at.min(self.tokens.len())
     }
 
     #[inline(always)]
