@@ -59,7 +59,8 @@ fn byte_ranges<C: Class<u8> + Drop>(alloc: Global) -> Result<String, AllocError>
     let mut ranges = Ranges::new(alloc);
     for byte in 0..=u8::MAX {
         let token = [byte];
-        if in_class::<_, C>().parse(&token[..]).is_ok() {
+        let mut parser = in_class::<_, C>();
+        if parser.parse(&token[..]).is_ok() {
             ranges.push(u32::from(byte))?;
         }
     }
@@ -70,7 +71,8 @@ fn character_ranges<C: Class<char> + Drop>(alloc: Global) -> Result<String, Allo
     let mut ranges = Ranges::new(alloc);
     for character in '\0'..=char::MAX {
         let token = [character];
-        if in_class::<_, C>().parse(&token[..]).is_ok() {
+        let mut parser = in_class::<_, C>();
+        if parser.parse(&token[..]).is_ok() {
             ranges.push(u32::from(character))?;
         }
     }
