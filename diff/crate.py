@@ -299,6 +299,14 @@ class Or(Parser):
     def forget(self):
         self.running = None
 
+    def adopt(self, other):
+        self.running = None
+        if other.running is not None:
+            at, others = other.running
+            alternative = make(self.alternatives[at], self.switches)
+            alternative.adopt(others)
+            self.running = at, alternative
+
     def parse(self, first, window):
         if first or self.running is None:
             return self.choose(0, window)
