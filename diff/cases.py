@@ -66,3 +66,12 @@ def split(parser):
         depth += {"(": 1, ")": -1}.get(letter, 0)
         parts[-1] += letter
     return name, [] if parts == [""] and name in ("any", "eof") else parts
+
+
+def calls(parser):
+    """Each call in a parser, itself first: the name of its constructor and the texts of its arguments."""
+    name, parts = split(parser)
+    yield name, parts
+    for part in parts:
+        if "(" in part:
+            yield from calls(part)

@@ -48,6 +48,8 @@ DEBIAN = frozenset()
 LATEST = frozenset([TOKENS])
 # More turns than any repetition takes on a few tokens.
 MOST_TURNS = 100
+# What a parser is made with; all else that it has is its state.
+MADE_WITH = ("switches", "parts", "alternatives", "wanted", "value")
 
 
 class Endless(Exception):
@@ -161,6 +163,12 @@ class Parser:
         self.forget()
         for part in self.parts:
             part.clear()
+
+    def adopt(self, other):
+        """Goes on from the state of another parser of its type."""
+        vars(self).update((name, kept) for name, kept in vars(other).items() if name not in MADE_WITH)
+        for part, others in zip(self.parts, other.parts):
+            part.adopt(others)
 
 
 class OneToken(Parser):
@@ -291,6 +299,14 @@ class Or(Parser):
     def forget(self):
         self.running = None
 
+    def adopt(self, other):
+        self.running = None
+        if other.running is not None:
+            at, others = other.running
+            alternative = make(self.alternatives[at], self.switches)
+            alternative.adopt(others)
+            self.running = at, alternative
+
     def parse(self, first, window):
         if first or self.running is None:
             return self.choose(0, window)
@@ -325,14 +341,49 @@ class Or(Parser):
             self.running = at, alternative
 
 
-class SliceChoice(Or):
+class SliceChoice(Parser):
     """A choice over parsers of one type: that which asked for more is kept, whether it has taken tokens or not.
 
-    In the crate they share a state. Those of the cases begin afresh in first mode whatever it holds, so here each has its own.
+    They share a state. With `REFUSAL` a refused one leaves nothing in it; with `CHOICE` the later ones begin afresh.
     """
 
-    def keep(self, at, alternative, has_taken):
-        self.running = at, alternative
+    def forget(self):
+        self.running = None
+        self.last = 0
+
+    def parse(self, first, window):
+        if first or self.running is None:
+            return self.choose(0, first, window)
+        start = window.at
+        at = self.running
+        result = self.take_turn(at, first, window)
+        if result.accepted:
+            self.running = None
+        if CHOICE in self.switches and not result.accepted and not result.committed:
+            self.running = None
+            window.at = start
+            return self.choose(at + 1, True, window)
+        return result
+
+    def choose(self, begin, first, window):
+        """The alternatives from this one on."""
+        start = window.at
+        for at in range(begin, len(self.parts)):
+            result = self.take_turn(at, first, window)
+            if result.accepted:
+                self.running = None
+                return result
+            if result.committed:
+                self.running = at
+                return result
+            window.at = start
+        return refused(False)
+
+    def take_turn(self, at, first, window):
+        if at != self.last:
+            self.parts[at].adopt(self.parts[self.last])
+            self.last = at
+        return self.parts[at].run(first, window)
 
 
 class Left(Parser):

@@ -1,10 +1,12 @@
 //! Parsers that are composed in functions, by their texts: those of which a type can't name a call.
+ghost use Rattle.std.specs.Prelude.{◌≡◌};
 
 use crate::feeding::Feeding;
 use crate::run::run;
 use crate::show::Show;
 use combine_base::parser::Parser;
 use combine_base::stream::fed;
+use combine_variants::variants::Either;
 use std::alloc::{AllocError, Global};
 
 /// The answer of the parser among these that has this text, if one has.
@@ -38,23 +40,51 @@ macro_rules! parser {
     ($alloc:ident; token(b)) => { combine_token::token::token(b'b') };
     ($alloc:ident; token(c)) => { combine_token::token::token(b'c') };
     ($alloc:ident; satisfy(ab)) => { combine_token::token::satisfy(|token: u8| token == b'a' || token == b'b') };
+    ($alloc:ident; eof()) => { combine_token::token::eof() };
+    ($alloc:ident; value(x)) => { combine_token::token::value(b'x') };
     ($alloc:ident; string(ab)) => { combine_text::char::string("ab") };
     ($alloc:ident; string(ac)) => { combine_text::char::string("ac") };
     ($alloc:ident; string(abc)) => { combine_text::char::string("abc") };
+    ($alloc:ident; string(b)) => { combine_text::char::string("b") };
     ($alloc:ident; string(c)) => { combine_text::char::string("c") };
     ($alloc:ident; or($f:ident $a:tt, $g:ident $b:tt)) => { combine_token::choice::or($crate::composed::parser!($alloc; $f $a), $crate::composed::parser!($alloc; $g $b)) };
+    ($alloc:ident; choice($($f:ident $a:tt),+)) => { combine_choice::choice::choice(($($crate::composed::parser!($alloc; $f $a),)+)) };
+    ($alloc:ident; array($($f:ident $a:tt),+)) => { combine_choice::choice::choice([$($crate::composed::parser!($alloc; $f $a)),+]) };
+    ($alloc:ident; slice($($f:ident $a:tt),+)) => { combine_choice::choice::choice(combine_choice::choice::Slice(&mut [$($crate::composed::parser!($alloc; $f $a)),+])) };
+    ($alloc:ident; left($f:ident $a:tt, $g:ident $b:tt)) => { $crate::composed::left($crate::composed::parser!($alloc; $f $a), $crate::composed::parser!($alloc; $g $b)) };
+    ($alloc:ident; right($f:ident $a:tt, $g:ident $b:tt)) => { $crate::composed::right($crate::composed::parser!($alloc; $f $a), $crate::composed::parser!($alloc; $g $b)) };
     ($alloc:ident; optional($f:ident $a:tt)) => { combine_token::choice::optional($crate::composed::parser!($alloc; $f $a)) };
     ($alloc:ident; attempt($f:ident $a:tt)) => { combine_map::combinator::attempt($crate::composed::parser!($alloc; $f $a)) };
     ($alloc:ident; many($f:ident $a:tt)) => { combine_repeat::repeat::many::<Vec<_>, _>($alloc, $crate::composed::parser!($alloc; $f $a)) };
-    ($alloc:ident; tuple($f:ident $a:tt, $g:ident $b:tt)) => { ($crate::composed::parser!($alloc; $f $a), $crate::composed::parser!($alloc; $g $b)) };
+    ($alloc:ident; many1($f:ident $a:tt)) => { combine_repeat::repeat::many1::<Vec<_>, _>($alloc, $crate::composed::parser!($alloc; $f $a)) };
+    ($alloc:ident; tuple($($f:ident $a:tt),+)) => { ($($crate::composed::parser!($alloc; $f $a),)+) };
     ($alloc:ident; then($f:ident $a:tt)) => { combine_sequence::sequence::then($crate::composed::parser!($alloc; $f $a), |first: u8| combine_token::token::token(first)) };
     ($alloc:ident; then_partial($f:ident $a:tt)) => { combine_sequence::sequence::then_partial($crate::composed::parser!($alloc; $f $a), |first: &mut u8| combine_token::token::token(*first)) };
     ($alloc:ident; then_ref($f:ident $a:tt)) => { combine_sequence::sequence::then_ref($crate::composed::parser!($alloc; $f $a), |first: &u8| combine_token::token::token(*first)) };
+    ($alloc:ident; dispatch($f:ident $a:tt)) => { combine_sequence::sequence::then($crate::composed::parser!($alloc; $f $a), |first: u8| match first {
+        b'a' => combine_variants::variants::Dispatch3::A(combine_token::token::token(b'a')),
+        b'b' => combine_variants::variants::Dispatch3::B(combine_token::token::satisfy(|token: u8| token == b'a' || token == b'b')),
+        _ => combine_variants::variants::Dispatch3::C(combine_token::token::any()),
+    }) };
 }
 
 pub(crate) use answer_composed;
 pub(crate) use answer_of_characters;
 pub(crate) use parser;
+
+/// The first of two parsers, where either may stand.
+pub(crate) fn left<P, Q: Drop>(parser: P, _other: Q) -> Either<P, Q>
+    ensures { result ≡ Either.Left parser }
+{
+    Either::Left(parser)
+}
+
+/// The second.
+pub(crate) fn right<P: Drop, Q>(_other: P, parser: Q) -> Either<P, Q>
+    ensures { result ≡ Either.Right parser }
+{
+    Either::Right(parser)
+}
 
 /// What a parser answers to an input of bytes, as text.
 pub(crate) fn answer_over_bytes<P: Parser<fed::Stream<u8>> + Drop>(

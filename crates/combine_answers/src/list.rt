@@ -18,6 +18,7 @@ pub(crate) fn find(alloc: Global, parser: &str, feeding: &Feeding<'_>) -> Found 
         .or_else(|| repetitions(alloc, parser, feeding))
         .or_else(|| without_room(alloc, parser, feeding))
         .or_else(|| answered(alloc, parser, feeding))
+        .or_else(|| of_several(alloc, parser, feeding))
         .or_else(|| of_characters(alloc, parser, feeding))
 }
 
@@ -118,6 +119,19 @@ fn without_room(alloc: Global, parser: &str, feeding: &Feeding<'_>) -> Found {
 /// Parsers that functions answer.
 fn answered(alloc: Global, parser: &str, feeding: &Feeding<'_>) -> Found {
     answer_composed!(alloc, parser, feeding; then(any()), many(then(any())))
+}
+
+/// Choices of three, parsers that are one of several, and a long tuple.
+fn of_several(alloc: Global, parser: &str, feeding: &Feeding<'_>) -> Found {
+    answer_composed!(
+        alloc, parser, feeding;
+        choice(token(a), value(x), token(b)),
+        array(token(a), token(b), token(c)),
+        slice(token(a), token(b), token(c)),
+        left(token(a), any()),
+        dispatch(any()),
+        tuple(any(), any(), any(), any(), eof()),
+    )
 }
 
 /// Parsers that read characters.
