@@ -6,7 +6,6 @@ use combine_base::error::{ErrorOffset, ParseResult, Tracked};
 use combine_base::parser::{FirstMode, ParseMode, Parser, PartialMode};
 use combine_base::stream::Stream;
 
-mod first;
 pub mod laws;
 mod lent;
 pub mod slice;

@@ -1,10 +1,11 @@
 //! Choices over the parsers of a tuple of 1 to 8.
 
 use super::ChoiceParser;
-use super::lent::{State2, State3, State4, State5, State6, State7, State8, choose_2, choose_3, choose_4, choose_5, choose_6, choose_7, choose_8};
+use super::lent::{State3, State4, State5, State6, State7, State8, choose_3, choose_4, choose_5, choose_6, choose_7, choose_8};
 use combine_base::error::{ParseResult, Tracked};
 use combine_base::parser::{ParseMode, Parser};
 use combine_base::stream::Stream;
+use combine_token::choice::lent::{State2, choose_2};
 
 /// The choice of one parser is that parser.
 impl<Input: Stream, A: Parser<Input>> ChoiceParser<Input> for (A,) {

@@ -26,9 +26,9 @@ use Rattle.combine_token.proofs.Choosing.{Tries, tries_start, tries_next, tries_
 use Rattle.combine_token.proofs.Merging.{no_fault, merged_answers}
 use Rattle.combine_token.specs.declared.choice.OrState.{OrState}
 use Rattle.combine_token.specs.declared.choice.OrState.TheVariants.{Peek, A, B}
-use Rattle.combine_choice.specs.declared.choice.first.Turn.{Turn}
-use Rattle.combine_choice.specs.declared.choice.first.Turn.TheVariants.{Ends, Goes}
-use Rattle.combine_choice.specs.Turned.{Turned, Ended, Answered, Failed, Ran, Keeps, Unreset, Refusal, Resumed, IsFinal, begins, begins_from, first_valid, GoesOn, Stays, PutBack, NotPutBack, NoFault, Settles, Settled}
+use Rattle.combine_token.specs.declared.choice.first.Turn.{Turn}
+use Rattle.combine_token.specs.declared.choice.first.Turn.TheVariants.{Ends, Goes}
+use Rattle.combine_token.specs.Turned.{Turned, Ended, Answered, Failed, Ran, Keeps, Unreset, Refusal, Resumed, IsFinal, begins, begins_from, first_valid, GoesOn, Stays, PutBack, NotPutBack, NoFault, Settles, Settled}
 
 pub asks_or_not : {V E : Type 0} (kind : E → Kind) (b : Bool) (answer : ParseResult V E) → NeedsMore kind b answer ⊎ (NeedsMore kind b answer → ⊥)
 asks_or_not kind b (CommitOk v) = inr (λ q. q)

@@ -8,11 +8,11 @@ use Rattle.std.specs.Prelude.{Bool, Option}
 use Rattle.combine_base.specs.declared.stream.Failures.{Failures}
 use Rattle.combine_base.specs.declared.error.ParseResult.{ParseResult}
 use Rattle.combine_token.specs.declared.choice.OrState.{OrState}
-use Rattle.combine_choice.specs.Turned.{Settled, Turned}
+use Rattle.combine_token.specs.Turned.{Settled, Turned}
 use Rattle.std.specs.declared.cmp.Ordering.{Ordering}
 use Rattle.combine_base.specs.Error.Errors.{Errors}
 use Rattle.combine_base.specs.declared.error.Tracked.{Tracked}
-use Rattle.combine_choice.specs.declared.choice.first.Turn.{Turn}
+use Rattle.combine_token.specs.declared.choice.first.Turn.{Turn}
 
 pub record Chose {P T R V S E C : Type 0} (w : World P T S E) (law : Type 0) (accepts : S → Type 0) (m m' : Meaning P T R V S) (says : Option S → View P T → Bool → E → Type 0) (x y : C → View P T → Type 0) (r : Run P T S) (result : ParseResult V E) : Type 0 where
   pub lawful : law

@@ -16,8 +16,8 @@ use Rattle.combine_base.specs.Parser.Judged.{NeedsMore}
 use Rattle.combine_token.specs.Alternatives.{AfterRefusal, PeeksNoFault}
 use Rattle.combine_token.specs.declared.choice.OrState.{OrState}
 use Rattle.combine_token.specs.declared.choice.OrState.TheVariants.{Peek, A, B}
-use Rattle.combine_choice.specs.declared.choice.first.Turn.{Turn}
-use Rattle.combine_choice.specs.declared.choice.first.Turn.TheVariants.{Ends, Goes}
+use Rattle.combine_token.specs.declared.choice.first.Turn.{Turn}
+use Rattle.combine_token.specs.declared.choice.first.Turn.TheVariants.{Ends, Goes}
 
 -- the first alternative's state is one that it may be given
 abbrev pub first_valid : {S S' : Type 0} → (S → Type 0) → OrState S S' → Type 0

@@ -16,18 +16,18 @@ use Rattle.combine_token.proofs.Merging.{no_fault}
 use Rattle.combine_token.specs.Or.{either_of, or_valid, or_means_same}
 use Rattle.combine_token.specs.declared.choice.OrState.{OrState}
 use Rattle.combine_token.specs.declared.choice.OrState.TheVariants.{Peek, A, B}
-use Rattle.combine_choice.specs.Chose.{Chose, Followed, Tried}
-use Rattle.combine_choice.specs.Turned.{Answered, Ended, Failed, GoesOn, IsFinal, NoFault, Settled, Settles, Turned, begins, turned}
-use Rattle.combine_choice.specs.declared.choice.first.Turn.TheVariants.{Ends, Goes}
+use Rattle.combine_token.specs.Chose.{Chose, Followed, Tried}
+use Rattle.combine_token.specs.Turned.{Answered, Ended, Failed, GoesOn, IsFinal, NoFault, Settled, Settles, Turned, begins, turned}
+use Rattle.combine_token.specs.declared.choice.first.Turn.TheVariants.{Ends, Goes}
 use Rattle.combine_base.specs.Parser.Reasons.{Reasoned, kept_from}
 use Rattle.combine_base.specs.declared.error.ParseResult.TheVariants.{CommitOk, PeekOk, CommitErr, PeekErr}
 use Rattle.combine_base.specs.declared.stream.Kind.TheVariants as kinds
 use Rattle.combine_base.proofs.Reasoning.{reasons_fault, reasons_into, reasons_ok, reasons_peek_ok}
 use Rattle.combine_token.specs.Reasons.{RefusesOr}
 use Rattle.combine_token.proofs.Reasons.{first_reasons, from_peek, from_second, second_reasons}
-use Rattle.combine_choice.specs.declared.choice.first.Turn.{Turn}
-use Rattle.combine_choice.proofs.FirstTurn as first_turn
-use Rattle.combine_choice.proofs.FirstThen.{ended_answers, ended_valid, first_no_fault, gone_answers, gone_valid, kept_valid}
+use Rattle.combine_token.specs.declared.choice.first.Turn.{Turn}
+use Rattle.combine_token.proofs.FirstTurn as first_turn
+use Rattle.combine_token.proofs.FirstThen.{ended_answers, ended_valid, first_no_fault, gone_answers, gone_valid, kept_valid}
 
 -- the error of the choice, by what came of the first
 module _ {P T R S S' E : Type 0} (s : Errors T R P E) (cmp : P → P → Ordering) (fresh : S → Type 0) (fresh' : S' → Type 0) (says : Option S → View P T → Bool → E → Type 0) (says' : Option S' → View P T → Bool → E → Type 0) (first : Bool) where

@@ -1,6 +1,6 @@
 use Rattle.std.proofs.Common.{refl}
-use Rattle.combine_choice.proofs.choice.first.settle.Goals as goal
-use Rattle.combine_choice.proofs.choice.first.settle.Goals.{then-asks_for_more, else-asks_for_more}
+use Rattle.combine_token.proofs.choice.first.settle.Goals as goal
+use Rattle.combine_token.proofs.choice.first.settle.Goals.{then-asks_for_more, else-asks_for_more}
 
 pub returns-in-Some : goal.returns-in-Some
 returns-in-Some g c =

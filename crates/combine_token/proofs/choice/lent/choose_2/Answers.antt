@@ -1,6 +1,6 @@
-use Rattle.combine_choice.proofs.TupleCalls.{ended_chose, gone_chose, is_no_fault, ready}
-use Rattle.combine_choice.proofs.FirstThen.{first_is_valid}
-use Rattle.combine_choice.proofs.choice.lent.choose_2.Goals as goal
+use Rattle.combine_token.proofs.TupleCalls.{ended_chose, gone_chose, is_no_fault, ready}
+use Rattle.combine_token.proofs.FirstThen.{first_is_valid}
+use Rattle.combine_token.proofs.choice.lent.choose_2.Goals as goal
 
 pub try_1-requires-clause-valid : goal.try_1-requires-clause-valid
 try_1-requires-clause-valid g c = first_is_valid g.A.Parser.valid g.B.Parser.valid c.args.state.now c.requires.valid

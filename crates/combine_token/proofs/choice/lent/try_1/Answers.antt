@@ -1,8 +1,8 @@
 use Rattle.std.proofs.Common.{◌≡◌}
 use Rattle.combine_base.specs.Parser.Answer.{world}
-use Rattle.combine_choice.proofs.FirstTurn.{begun_valid}
-use Rattle.combine_choice.proofs.TupleCalls.{resumed, tried}
-use Rattle.combine_choice.proofs.choice.lent.try_1.Goals as goal
+use Rattle.combine_token.proofs.FirstTurn.{begun_valid}
+use Rattle.combine_token.proofs.TupleCalls.{resumed, tried}
+use Rattle.combine_token.proofs.choice.lent.try_1.Goals as goal
 
 pub returns-in-Err : goal.returns-in-Err
 returns-in-Err g c =

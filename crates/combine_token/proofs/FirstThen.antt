@@ -21,10 +21,9 @@ use Rattle.combine_token.proofs.Choosing.{Tries, tries_next, tries_commit_ok, tr
 use Rattle.combine_token.proofs.Merging.{no_fault, merged_answers}
 use Rattle.combine_token.specs.declared.choice.OrState.{OrState}
 use Rattle.combine_token.specs.declared.choice.OrState.TheVariants.{Peek, A, B}
-pub use Rattle.combine_choice.specs.Nested.{nest_laws}
-use Rattle.combine_choice.specs.Turned.{Ended, Answered, Failed, Ran, Keeps, Refusal, Resumed, IsFinal, turned, begins, first_valid, NoFault, Settles, Settled, joined}
-use Rattle.combine_choice.specs.declared.choice.first.Turn.TheVariants.{Ends, Goes}
-use Rattle.combine_choice.proofs.FirstTurn.{asks_or_not}
+use Rattle.combine_token.specs.Turned.{Ended, Answered, Failed, Ran, Keeps, Refusal, Resumed, IsFinal, turned, begins, first_valid, NoFault, Settles, Settled, joined}
+use Rattle.combine_token.specs.declared.choice.first.Turn.TheVariants.{Ends, Goes}
+use Rattle.combine_token.proofs.FirstTurn.{asks_or_not}
 
 -- the state of the first is valid where the choice's is
 pub first_is_valid : {S S' : Type 0} (valid : S → Type 0) (valid' : S' → Type 0) (given : OrState S S') → or_valid valid valid' given → first_valid valid given

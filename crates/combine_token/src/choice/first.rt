@@ -2,18 +2,18 @@
 ghost use Rattle.std.specs.Prelude.{◌≡◌, false};
 ghost use Rattle.combine_base.specs.Parser.Answer.{world};
 ghost use Rattle.combine_base.specs.Stream.Calls.{Passes};
-ghost use Rattle.combine_choice.specs.Chose.{Chose};
-ghost use Rattle.combine_choice.specs.Turned.{GoesOn, RunsOn, Settled, Settles};
+ghost use Rattle.combine_token.specs.Chose.{Chose};
+ghost use Rattle.combine_token.specs.Turned.{GoesOn, RunsOn, Settled, Settles};
 
+use super::{OrState, after_refusal};
 use combine_base::error::{ParseResult, Tracked};
 use combine_base::parser::{ParseMode, Parser};
 use combine_base::stream::{Stream, asks_for_more, needs_more};
-use combine_token::choice::{OrState, after_refusal};
 use std::mem::replace;
 
 /// What comes of the first part of a choice.
 #[derive(Drop)]
-pub(super) enum Turn<V, S, E> {
+pub enum Turn<V, S, E> {
     /// The choice ends with this answer.
     Ends(ParseResult<V, E>),
     /// The later part goes on from that state, or begins after that refusal of the first.
@@ -22,7 +22,7 @@ pub(super) enum Turn<V, S, E> {
 
 /// Hands out the state of the part that goes on, or begins: the first one's, or that of the later one.
 #[inline(always)]
-pub(super) fn begin<S: Default + Drop, T: Drop, M: ParseMode>(
+pub fn begin<S: Default + Drop, T: Drop, M: ParseMode>(
     state: &mut OrState<S, T>,
     mode: M,
 ) -> Result<S, T>
@@ -42,7 +42,7 @@ pub(super) fn begin<S: Default + Drop, T: Drop, M: ParseMode>(
 
 /// After the first part's answer: a peeked refusal is put back, and the later part goes on; another answer ends the choice, and on need of more the first part's state is kept.
 #[inline(always)]
-pub(super) fn go_on<O, Input: Stream, S: Drop, T: Default + Drop>(
+pub fn go_on<O, Input: Stream, S: Drop, T: Default + Drop>(
     start: Input::Checkpoint,
     position: Input::Position,
     input: &mut Input,
@@ -72,7 +72,7 @@ pub(super) fn go_on<O, Input: Stream, S: Drop, T: Default + Drop>(
 
 /// The answer of the later part, after that refusal of the first. On need of more its state is kept.
 #[inline(always)]
-pub(super) fn settle<O, Input: Stream, S: Drop, T: Drop>(
+pub fn settle<O, Input: Stream, S: Drop, T: Drop>(
     input: &Input,
     refused: Option<Tracked<Input::Error>>,
     kept: T,
@@ -93,7 +93,7 @@ pub(super) fn settle<O, Input: Stream, S: Drop, T: Drop>(
 
 /// A call of a parser, as one fact.
 #[inline(always)]
-pub(super) fn call<Input: Stream, P: Parser<Input>, M: ParseMode>(
+pub fn call<Input: Stream, P: Parser<Input>, M: ParseMode>(
     parser: &mut P,
     mode: M,
     input: &mut Input,
