@@ -29,10 +29,16 @@ pub type State5<Input, A, B, C, D, E> = OrState<
 pub type State6<Input, A, B, C, D, E, F> = OrState<State2<Input, A, B>, State4<Input, C, D, E, F>>;
 
 /// The state of a choice of seven.
-pub type State7<Input, A, B, C, D, E, F, G> = OrState<State3<Input, A, B, C>, State4<Input, D, E, F, G>>;
+pub type State7<Input, A, B, C, D, E, F, G> = OrState<
+    State3<Input, A, B, C>,
+    State4<Input, D, E, F, G>,
+>;
 
 /// The state of a choice of eight.
-pub type State8<Input, A, B, C, D, E, F, G, H> = OrState<State4<Input, A, B, C, D>, State4<Input, E, F, G, H>>;
+pub type State8<Input, A, B, C, D, E, F, G, H> = OrState<
+    State4<Input, A, B, C, D>,
+    State4<Input, E, F, G, H>,
+>;
 
 /// The first two parts of a choice, which go on, or begin, unless the later part is running.
 #[inline(always)]
@@ -297,9 +303,7 @@ pub(super) fn choose_6<
 {
     match try_2(a, b, mode, input, state) {
         Turn::Ends(answer) => answer,
-        Turn::Goes(kept, refused) => {
-            then_4(c, d, e, f, mode, input, refused, kept, state)
-        }
+        Turn::Goes(kept, refused) => { then_4(c, d, e, f, mode, input, refused, kept, state) }
     }
 }
 
@@ -333,9 +337,7 @@ pub(super) fn choose_7<
 {
     match try_3(a, b, c, mode, input, state) {
         Turn::Ends(answer) => answer,
-        Turn::Goes(kept, refused) => {
-            then_4(d, e, f, g, mode, input, refused, kept, state)
-        }
+        Turn::Goes(kept, refused) => { then_4(d, e, f, g, mode, input, refused, kept, state) }
     }
 }
 
@@ -371,8 +373,6 @@ pub(super) fn choose_8<
 {
     match try_4(a, b, c, d, mode, input, state) {
         Turn::Ends(answer) => answer,
-        Turn::Goes(kept, refused) => {
-            then_4(e, f, g, h, mode, input, refused, kept, state)
-        }
+        Turn::Goes(kept, refused) => { then_4(e, f, g, h, mode, input, refused, kept, state) }
     }
 }

@@ -1,7 +1,10 @@
 //! Choices over the parsers of a tuple of 1 to 8.
 
 use super::ChoiceParser;
-use super::lent::{State3, State4, State5, State6, State7, State8, choose_3, choose_4, choose_5, choose_6, choose_7, choose_8};
+use super::lent::{
+    State3, State4, State5, State6, State7, State8, choose_3, choose_4, choose_5, choose_6,
+    choose_7, choose_8,
+};
 use combine_base::error::{ParseResult, Tracked};
 use combine_base::parser::{ParseMode, Parser};
 use combine_base::stream::Stream;
