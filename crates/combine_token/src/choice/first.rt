@@ -1,4 +1,4 @@
-//! The first part of a choice, and what follows it.
+//! The first part of a choice, and what follows it. Our own: what `or` and the choices over tuples are made of.
 ghost use Rattle.std.specs.Prelude.{◌≡◌, false};
 ghost use Rattle.combine_base.specs.Parser.Answer.{world};
 ghost use Rattle.combine_base.specs.Stream.Calls.{Passes};

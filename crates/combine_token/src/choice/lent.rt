@@ -1,4 +1,4 @@
-//! The choice of two parsers that are lent one by one.
+//! The choice of two parsers that are lent one by one. Our own: `or` and the choices over tuples are made of it.
 ghost use Rattle.std.specs.Prelude.{◌≡◌};
 ghost use Rattle.combine_base.specs.Parser.Answer.{world};
 ghost use Rattle.combine_token.specs.Chose.{Chose, Followed, Tried};
@@ -60,7 +60,7 @@ pub fn then_1<Input: Stream, A: Parser<Input>, S: Drop, M: ParseMode>(
     settle(input, refused, kept, answer, state)
 }
 
-/// The choice of two.
+/// The choice of two, which answers as `or` does. The code of each part stands once in it, so that nothing that resumes needs to be a function of its own over the stream.
 #[inline(always)]
 pub fn choose_2<
     Input: Stream,
