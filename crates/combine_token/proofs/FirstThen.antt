@@ -1,10 +1,10 @@
 -- the first alternative ends the choice, or what the later ones answer is its answer
-use Rattle.std.proofs.Common.{◌≤◌, ◌≡◌, ◌⊎◌, inl, inr, Bool, true, false, arith, subst, refl, ◌∙◌}
+use Rattle.std.proofs.Common.{◌≡◌, inl, inr, Bool, true, false, arith, subst, refl, ◌∙◌}
 use Rattle.std.specs.Prelude.{Option, Some, None}
 use Rattle.std.specs.declared.cmp.Ordering.{Ordering}
 use Rattle.combine_base.specs.Stream.View.{View, extended}
 use Rattle.combine_base.specs.Parser.Outcome.{Outcome}
-use Rattle.combine_base.specs.Error.Errors.{Errors, IsFault}
+use Rattle.combine_base.specs.Error.Errors.{Errors}
 use Rattle.combine_base.specs.Parser.Meaning.{Meaning, Reading, IsMeaning, begun}
 use Rattle.combine_base.specs.Parser.Answer.{Run, World, Answers, world}
 use Rattle.combine_base.specs.Stream.Calls.{Passes}
@@ -13,16 +13,14 @@ use Rattle.combine_base.specs.declared.stream.Failures.{Failures}
 use Rattle.combine_base.specs.declared.error.Tracked.{Tracked}
 use Rattle.combine_base.specs.declared.error.ParseResult.{ParseResult}
 use Rattle.combine_base.specs.declared.error.ParseResult.TheVariants.{CommitOk, PeekOk, CommitErr, PeekErr}
-use Rattle.combine_base.specs.Parser.Judged.{NeedsMore}
-use Rattle.combine_token.specs.Alternatives.{PeeksNoFault}
 use Rattle.combine_token.specs.Choice.{Either, refused, either_into}
-use Rattle.combine_token.specs.Or.{either_of, or_valid, or_is_meaning}
+use Rattle.combine_token.specs.Or.{either_of, or_valid}
 use Rattle.combine_token.proofs.Choosing.{Tries, tries_next, tries_commit_ok, tries_peek_ok, tries_fails, tries_asks, tries_ends, tries_needs, begun_reads}
 use Rattle.combine_token.proofs.Merging.{no_fault, merged_answers}
 use Rattle.combine_token.specs.declared.choice.OrState.{OrState}
 use Rattle.combine_token.specs.declared.choice.OrState.TheVariants.{Peek, A, B}
-use Rattle.combine_token.specs.Turned.{Ended, Answered, Failed, Ran, Keeps, Refusal, Resumed, IsFinal, turned, begins, first_valid, NoFault, Settles, Settled, joined}
-use Rattle.combine_token.specs.declared.choice.first.Turn.TheVariants.{Ends, Goes}
+use Rattle.combine_token.specs.Turned.{Ended, Answered, Failed, Ran, Keeps, Resumed, IsFinal, turned, begins, first_valid, NoFault, Settled, joined}
+use Rattle.combine_token.specs.declared.choice.first.Turn.TheVariants.{Goes}
 use Rattle.combine_token.proofs.FirstTurn.{asks_or_not}
 
 -- the state of the first is valid where the choice's is

@@ -1,14 +1,10 @@
 -- the first alternative ends the choice, or the later ones do
-use Rattle.std.proofs.Common.{ℕ, ◌+◌, ◌<◌, ◌≤◌, ◌≡◌, ◌⊎◌, inl, inr, Bool, true, false, arith, sym, subst, refl, ◌∙◌}
-use Rattle.std.specs.Prelude.{Option, Some, None}
-use Rattle.std.specs.declared.cmp.Ordering.{Ordering}
+use Rattle.std.proofs.Common.{◌+◌, ◌<◌, ◌≤◌, ◌≡◌, ◌⊎◌, inr, Bool, true, false, arith, refl, ◌∙◌}
+use Rattle.std.specs.Prelude.{Option}
 use Rattle.combine_base.specs.Stream.View.{View, Moves}
-use Rattle.combine_base.specs.Parser.Outcome.{Outcome}
-use Rattle.combine_base.specs.Error.Errors.{Errors, IsFault}
-use Rattle.combine_base.specs.Parser.Meaning.{Meaning, IsMeaning, MeansSame, begun}
-use Rattle.combine_base.specs.Parser.Answer.{Run, World, Answers, world}
-use Rattle.combine_base.specs.Stream.Calls.{Passes}
-use Rattle.combine_base.proofs.Calls.{around, peeked_refusal, unreset}
+use Rattle.combine_base.specs.Parser.Meaning.{Meaning}
+use Rattle.combine_base.specs.Parser.Answer.{Run, World, Answers}
+use Rattle.combine_base.proofs.Calls.{peeked_refusal}
 use Rattle.combine_base.proofs.Progress.{takes_more}
 use Rattle.combine_base.proofs.Starting.{need_or_not}
 use Rattle.combine_base.specs.Parser.Reasons.{Reasoned, kept_from}
@@ -19,16 +15,12 @@ use Rattle.combine_base.specs.declared.error.Tracked.{Tracked}
 use Rattle.combine_base.specs.declared.error.ParseResult.{ParseResult}
 use Rattle.combine_base.specs.declared.error.ParseResult.TheVariants.{CommitOk, PeekOk, CommitErr, PeekErr}
 use Rattle.combine_base.specs.Parser.Judged.{NeedsMore}
-use Rattle.combine_token.specs.Alternatives.{AfterRefusal, PeeksNoFault}
-use Rattle.combine_token.specs.Choice.{Either, refused, either_into}
-use Rattle.combine_token.specs.Or.{either_of, or_valid}
-use Rattle.combine_token.proofs.Choosing.{Tries, tries_start, tries_next, tries_commit_ok, tries_peek_ok, tries_fails, tries_asks, tries_ends, tries_needs, begun_reads}
-use Rattle.combine_token.proofs.Merging.{no_fault, merged_answers}
+use Rattle.combine_token.specs.Choice.{refused}
 use Rattle.combine_token.specs.declared.choice.OrState.{OrState}
 use Rattle.combine_token.specs.declared.choice.OrState.TheVariants.{Peek, A, B}
 use Rattle.combine_token.specs.declared.choice.first.Turn.{Turn}
 use Rattle.combine_token.specs.declared.choice.first.Turn.TheVariants.{Ends, Goes}
-use Rattle.combine_token.specs.Turned.{Turned, Ended, Answered, Failed, Ran, Keeps, Unreset, Refusal, Resumed, IsFinal, begins, begins_from, first_valid, GoesOn, Stays, PutBack, NotPutBack, NoFault, Settles, Settled}
+use Rattle.combine_token.specs.Turned.{Turned, Answered, Failed, Unreset, IsFinal, begins, first_valid, GoesOn, Stays}
 
 pub asks_or_not : {V E : Type 0} (kind : E → Kind) (b : Bool) (answer : ParseResult V E) → NeedsMore kind b answer ⊎ (NeedsMore kind b answer → ⊥)
 asks_or_not kind b (CommitOk v) = inr (λ q. q)

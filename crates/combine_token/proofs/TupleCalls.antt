@@ -1,10 +1,10 @@
 -- a choice of the first and of later ones, of what came of the first
-use Rattle.std.proofs.Common.{◌≡◌, ◌≤◌, Bool, true, false, refl, subst, sym}
+use Rattle.std.proofs.Common.{◌≡◌, Bool, true, false, refl, subst}
 use Rattle.std.specs.Prelude.{Option, Some, None}
 use Rattle.std.specs.declared.cmp.Ordering.{Ordering}
 use Rattle.combine_base.specs.Stream.View.{View}
 use Rattle.combine_base.specs.Error.Errors.{Errors}
-use Rattle.combine_base.specs.Parser.Meaning.{Meaning, IsMeaning, MeansSame}
+use Rattle.combine_base.specs.Parser.Meaning.{Meaning, IsMeaning}
 use Rattle.combine_base.specs.Parser.Answer.{Run, World, Answers, world}
 use Rattle.combine_base.specs.Stream.Calls.{Passes}
 use Rattle.combine_base.proofs.Same.{passes_more, passes_none, same_none}
@@ -17,7 +17,7 @@ use Rattle.combine_token.specs.Or.{either_of, or_valid, or_means_same}
 use Rattle.combine_token.specs.declared.choice.OrState.{OrState}
 use Rattle.combine_token.specs.declared.choice.OrState.TheVariants.{Peek, A, B}
 use Rattle.combine_token.specs.Chose.{Chose, Followed, Tried}
-use Rattle.combine_token.specs.Turned.{Answered, Ended, Failed, GoesOn, IsFinal, NoFault, Settled, Settles, Turned, begins, turned}
+use Rattle.combine_token.specs.Turned.{Answered, Ended, Failed, GoesOn, IsFinal, NoFault, Settled, Settles, begins, turned}
 use Rattle.combine_token.specs.declared.choice.first.Turn.TheVariants.{Ends, Goes}
 use Rattle.combine_base.specs.Parser.Reasons.{Reasoned, kept_from}
 use Rattle.combine_base.specs.declared.error.ParseResult.TheVariants.{CommitOk, PeekOk, CommitErr, PeekErr}

@@ -1,10 +1,10 @@
 -- what comes of the first alternative of a choice, and of those after it
-use Rattle.std.specs.Prelude.{ℕ, ◌<◌, ◌≡◌, ◌⊎◌, Bool, true, false, Option, Some, None, Result, Ok, Err}
+use Rattle.std.specs.Prelude.{ℕ, ◌<◌, ◌≡◌, Bool, true, false, Option, Some, None, Result, Ok, Err}
 use Rattle.std.specs.declared.cmp.Ordering.{Ordering}
 use Rattle.combine_base.specs.Stream.View.{View, Moves, Takes}
 use Rattle.combine_base.specs.Parser.Reasons.{Reasoned, kept_from}
 use Rattle.combine_base.specs.Parser.Meaning.{Meaning}
-use Rattle.combine_base.specs.Parser.Answer.{Run, World, Answers}
+use Rattle.combine_base.specs.Parser.Answer.{World, Answers}
 use Rattle.combine_base.specs.Error.Errors.{Errors, IsFault}
 use Rattle.combine_base.specs.declared.stream.Failures.{Failures}
 use Rattle.combine_base.specs.declared.stream.Kind.{Kind}

@@ -1,6 +1,4 @@
-use Rattle.std.proofs.Common.{◌≡◌}
 use Rattle.combine_token.specs.Reasons.{RefusesOr}
-use Rattle.combine_token.specs.declared.choice.OrState.TheVariants.{Peek}
 use Rattle.combine_token.specs.Or.{or_valid}
 use Rattle.combine_token.proofs.TupleCalls.{ended_chose, gone_chose, is_no_fault, ready}
 use Rattle.combine_token.proofs.FirstThen.{first_is_valid}

@@ -1,4 +1,3 @@
-use Rattle.std.proofs.Common.{◌≡◌}
 use Rattle.combine_base.specs.Parser.Answer.{world}
 use Rattle.combine_token.proofs.TupleCalls.{may_settle}
 use Rattle.combine_token.proofs.choice.lent.then_1.Goals as goal

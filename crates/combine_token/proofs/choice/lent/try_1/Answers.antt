@@ -1,4 +1,3 @@
-use Rattle.std.proofs.Common.{◌≡◌}
 use Rattle.combine_base.specs.Parser.Answer.{world}
 use Rattle.combine_token.proofs.FirstTurn.{begun_valid}
 use Rattle.combine_token.proofs.TupleCalls.{resumed, tried}
