@@ -84,10 +84,10 @@ pub use Rattle.combine_turns.specs.OneTurn
 pub use Rattle.combine_turns.specs.Plain
 pub use Rattle.combine_turns.specs.Turn
 pub use Rattle.combine_turns.specs.TurnLaws
-pub use Rattle.combine_choice.specs.Chose
+pub use Rattle.combine_token.specs.Chose
 pub use Rattle.combine_choice.specs.ListChoice
 pub use Rattle.combine_choice.specs.Nested
-pub use Rattle.combine_choice.specs.Turned
+pub use Rattle.combine_token.specs.Turned
 pub use Rattle.combine_variants.specs.Held
 pub use Rattle.combine_variants.specs.Variants2
 pub use Rattle.combine_variants.specs.Variants3

@@ -1,5 +1,5 @@
 -- lists of alternatives, of which one was run
-use Rattle.std.proofs.Common.{ℕ, zero, suc, ◌+◌, ◌<◌, ◌≤◌, ◌≡◌, List, [], ◌∷◌, length, drop, set, get_or, ap, sym, refl, ◌∙◌, add-one, drop-cons, arith}
+use Rattle.std.proofs.Common.{ℕ, zero, suc, ◌+◌, ◌<◌, ◌≤◌, ◌≡◌, List, [], ◌∷◌, length, drop, set, get_or, ap, sym, refl, ◌∙◌, drop-cons, arith}
 use Rattle.combine_base.specs.Parser.Meaning.{Meaning, MeansSame}
 use Rattle.combine_base.proofs.Same.{same_none, same_more}
 use Rattle.combine_choice.specs.Chosen.{AllSame}

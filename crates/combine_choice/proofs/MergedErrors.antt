@@ -4,14 +4,14 @@ use Rattle.std.specs.declared.cmp.Ordering.{Ordering}
 use Rattle.combine_base.specs.Stream.View.{View}
 use Rattle.combine_base.specs.Error.Errors.{Errors, Joined, later}
 use Rattle.combine_base.specs.Parser.Reasons.{Reasoned, kept_from}
-use Rattle.combine_base.proofs.Reasoning.{reasons_fault, reasons_hand_on, reasons_into, reasons_ok, reasons_peek_ok, reasons_peeked}
+use Rattle.combine_base.proofs.Reasoning.{reasons_fault, reasons_hand_on, reasons_ok, reasons_peek_ok, reasons_peeked}
 use Rattle.combine_base.proofs.Explaining.{reason_peeked}
 use Rattle.combine_base.specs.declared.stream.Kind.TheVariants as kinds
 use Rattle.combine_base.specs.declared.error.Tracked.{Tracked}
 use Rattle.combine_base.specs.declared.error.ParseResult.{ParseResult}
 use Rattle.combine_base.specs.declared.error.ParseResult.TheVariants.{CommitOk, PeekOk, CommitErr, PeekErr}
 use Rattle.combine_token.specs.Alternatives.{AfterRefusal, refuses_both}
-use Rattle.combine_choice.specs.Merged.{Joins, RefusesChoice, chosen_refuses, merges, one_commits, on_refuses, tried_refuses}
+use Rattle.combine_choice.specs.Merged.{RefusesChoice, merges, one_commits, on_refuses, tried_refuses}
 use Rattle.combine_choice.specs.OneTurn.{NoAlternative}
 use Rattle.combine_choice.specs.declared.choice.slice.SliceState.{SliceState}
 use Rattle.combine_choice.specs.declared.choice.slice.SliceState.TheVariants.{Peek, At}

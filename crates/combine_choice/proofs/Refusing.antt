@@ -1,14 +1,14 @@
 -- alternatives of a list, refused peeked one after another: what the later ones answer is the choice's answer
-use Rattle.std.proofs.Common.{ℕ, ◌<◌, ◌≤◌, ◌+◌, ◌≡◌, ◌⊎◌, inl, inr, List, [], ◌∷◌, Bool, true, false, length, drop, arith, ap, sym, subst, refl, ◌∙◌}
+use Rattle.std.proofs.Common.{ℕ, ◌<◌, ◌≤◌, ◌+◌, ◌≡◌, inl, inr, List, [], ◌∷◌, Bool, true, false, drop, arith, ap, sym, subst, refl, ◌∙◌}
 use Rattle.std.specs.declared.cmp.Ordering.{Ordering}
 use Rattle.combine_base.specs.Stream.View.{View, Takes, Moves, extended, Follows}
 use Rattle.combine_base.specs.Stream.Advance.{extended_none, follows_none, stands}
-use Rattle.combine_base.specs.Parser.Outcome.{Outcome, Accepted, Refused, Undecided}
-use Rattle.combine_base.specs.Parser.Meaning.{Meaning, Reading, IsReading, IsMeaning, begun}
+use Rattle.combine_base.specs.Parser.Outcome.{Outcome, Refused}
+use Rattle.combine_base.specs.Parser.Meaning.{Meaning, IsReading, IsMeaning, begun}
 use Rattle.combine_base.specs.Parser.Answer.{Run, World, Answers, Refuses, Leaves, peeks, world}
 use Rattle.combine_base.specs.Error.Errors.{Errors, IsFault, joined_kind}
 use Rattle.combine_base.specs.Stream.Calls.{Passes}
-use Rattle.combine_base.proofs.Calls.{around, peeked_refusal, unreset}
+use Rattle.combine_base.proofs.Calls.{peeked_refusal, unreset}
 use Rattle.combine_base.proofs.Progress.{takes_more}
 use Rattle.combine_base.proofs.Starting.{need_or_not}
 use Rattle.combine_base.specs.declared.stream.Kind.{Kind}
@@ -17,12 +17,11 @@ use Rattle.combine_base.specs.declared.stream.Failures.{Failures}
 use Rattle.combine_base.specs.declared.error.Tracked.{Tracked}
 use Rattle.combine_base.specs.declared.error.ParseResult.{ParseResult}
 use Rattle.combine_base.specs.declared.error.ParseResult.TheVariants.{CommitOk, PeekOk, CommitErr, PeekErr}
-use Rattle.combine_base.specs.Parser.Judged.{NeedsMore}
 use Rattle.combine_token.specs.Alternatives.{AfterRefusal, PeeksNoFault, refuses_both}
-use Rattle.combine_token.specs.Choice.{Either, Here, Later, either_into, refused}
-use Rattle.combine_token.proofs.Choosing.{Tries, tries_start, tries_ends, tries_needs, tries_asks, tries_fails, tries_commit_ok, tries_peek_ok, tries_peeks, begun_reads}
+use Rattle.combine_token.specs.Choice.{Either, Later, either_into}
+use Rattle.combine_token.proofs.Choosing.{Tries, tries_start, tries_asks, tries_fails, tries_commit_ok, tries_peek_ok}
 use Rattle.combine_token.proofs.Merging.{no_fault}
-use Rattle.combine_choice.specs.Chosen.{first_of, goes_on, every, every_drop, choice_of, running_lost, AllSame}
+use Rattle.combine_choice.specs.Chosen.{first_of, goes_on, every, every_drop, choice_of, running_lost}
 use Rattle.combine_choice.specs.OneTurn.{Turn}
 use Rattle.combine_choice.specs.declared.choice.slice.SliceState.{SliceState}
 use Rattle.combine_choice.specs.declared.choice.slice.SliceState.TheVariants.{Peek, At}

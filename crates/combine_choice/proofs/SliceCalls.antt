@@ -1,21 +1,18 @@
 -- a call of the choice over a slice: where it begins, and that over no alternatives
-use Rattle.std.proofs.Common.{ℕ, zero, suc, ◌<◌, ◌≡◌, ◌⊎◌, inl, inr, List, [], ◌∷◌, Bool, true, false, length, drop, arith, refl, sym, subst}
+use Rattle.std.proofs.Common.{ℕ, zero, suc, ◌<◌, ◌≡◌, inl, List, [], ◌∷◌, Bool, true, false, length, drop, arith, refl, sym, subst}
 use Rattle.combine_base.specs.Stream.View.{View}
 use Rattle.combine_base.specs.Parser.Outcome.{Outcome, Refused}
 use Rattle.combine_base.specs.Error.Errors.{Errors, Says}
 use Rattle.combine_base.specs.Parser.Meaning.{Meaning, IsMeaning, begun}
-use Rattle.combine_base.specs.Parser.Answer.{Run, World, Answers, Leaves, world}
-use Rattle.combine_base.specs.Refusals.{Told, Peeked}
+use Rattle.combine_base.specs.Parser.Answer.{Run, World, Answers, world}
 use Rattle.combine_base.proofs.Progress.{takes_none}
-use Rattle.combine_base.specs.declared.stream.Kind.TheVariants as kinds
 use Rattle.combine_base.specs.declared.stream.Failures.{Failures}
-use Rattle.combine_base.specs.declared.error.Tracked.{Tracked}
 use Rattle.combine_base.specs.declared.error.ParseResult.{ParseResult}
 use Rattle.combine_base.specs.declared.error.ParseResult.TheVariants.{CommitOk, PeekOk, CommitErr, PeekErr}
-use Rattle.combine_token.specs.Choice.{Either, refused, last_is, either_into}
+use Rattle.combine_token.specs.Choice.{refused, last_is, either_into}
 use Rattle.combine_token.proofs.Choosing.{Tries}
 use Rattle.combine_token.proofs.Adding.{says_together}
-use Rattle.combine_choice.specs.Chosen.{first_of, goes_on, every, choice_of, running_lost, chosen_lost, chosen_rest, adds_all}
+use Rattle.combine_choice.specs.Chosen.{first_of, goes_on, every, choice_of, chosen_lost, chosen_rest, adds_all}
 use Rattle.combine_choice.specs.OneTurn.{NoAlternative}
 use Rattle.combine_choice.specs.declared.choice.slice.SliceState.{SliceState}
 use Rattle.combine_choice.specs.declared.choice.slice.SliceState.TheVariants.{Peek, At}

@@ -4,9 +4,8 @@ use Rattle.combine_base.specs.Stream.View.{View}
 use Rattle.combine_base.specs.Error.Errors.{Errors, Only}
 use Rattle.combine_base.specs.Refusals.{Saying}
 use Rattle.combine_base.specs.Parser.Meaning.{Meaning}
-use Rattle.combine_base.specs.Parser.Answer.{Run, World, Answers}
+use Rattle.combine_base.specs.Parser.Answer.{World, Answers}
 use Rattle.combine_base.specs.declared.stream.Failures.{Failures}
-use Rattle.combine_base.specs.declared.stream.Kind.{Kind}
 use Rattle.combine_base.specs.declared.stream.Kind.TheVariants as kinds
 use Rattle.combine_base.specs.declared.error.ParseResult.{ParseResult}
 use Rattle.combine_base.specs.declared.error.ParseResult.TheVariants.{CommitOk, PeekOk, CommitErr, PeekErr}

@@ -6,7 +6,6 @@ use combine_base::error::{ErrorOffset, ParseResult, Tracked};
 use combine_base::parser::{FirstMode, ParseMode, Parser, PartialMode};
 use combine_base::stream::Stream;
 
-mod first;
 pub mod laws;
 mod lent;
 pub mod slice;
@@ -163,7 +162,7 @@ impl<'a, Input: Stream, P: ChoiceParser<Input>> ChoiceParser<Input> for &'a mut 
     }
 }
 
-/// The choice of alternatives that stand in a tuple of 1 to 5 parsers, an array, or a `Slice`: the answer of the first that isn't refused peeked. Where all are refused peeked so is the choice, and their errors are merged in order.
+/// The choice of alternatives that stand in a tuple of 1 to 8 parsers, an array, or a `Slice`: the answer of the first that isn't refused peeked. Where all are refused peeked so is the choice, and their errors are merged in order.
 ///
 /// Each alternative begins where the choice did, with a state of its own. A committed refusal ends the choice, and so does a fault. On need of more the running alternative is kept; where it is then refused peeked, the later ones are still tried, which the crate's choice doesn't do. Of an empty array or slice the choice is refused peeked, with the message `parser choice is empty`, also where more input may come. Two faults are the choice's own: `Reset`, where the stream can't be put back, and `Memory`, where an item of an error finds none.
 #[inline]

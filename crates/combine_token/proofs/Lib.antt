@@ -1,9 +1,7 @@
 pub mod Adding
 pub mod Choosing
-pub mod Leading
 pub mod Merging
 pub mod Optionals
-pub mod Ors
 pub mod OneToken
 pub mod Reasons
 pub mod ListReasons
@@ -18,3 +16,6 @@ pub mod Listing
 pub mod StdLists
 pub mod Given
 pub mod Giving
+pub mod FirstThen
+pub mod FirstTurn
+pub mod TupleCalls

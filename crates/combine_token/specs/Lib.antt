@@ -9,9 +9,9 @@ pub use Rattle.combine_base.specs.Stream.View
 pub mod Alternatives
 pub mod Among
 pub mod Choice
+pub mod Chose
 pub mod Given
 pub mod Iterated
-pub mod Leading
 pub mod ListAnswers
 pub mod Listed
 pub mod OneToken
@@ -22,3 +22,4 @@ pub mod Stateless
 pub mod TokenListLaws
 pub mod TokenLists
 pub mod TokenParsers
+pub mod Turned

@@ -1,8 +1,7 @@
 //! Choices: the first parser that isn't refused peeked.
-ghost use Rattle.std.specs.Prelude.{◌≡◌, if◌then◌else◌};
+ghost use Rattle.std.specs.Prelude.{◌≡◌};
 ghost use Rattle.combine_base.specs.Error.Errors.{IsFault};
 ghost use Rattle.combine_token.specs.Alternatives.{AfterRefusal, PeeksNoFault};
-ghost use Rattle.combine_token.specs.Leading.{running};
 ghost use Rattle.combine_token.specs.Optional.{optional_parser};
 ghost use Rattle.combine_token.specs.Or.{StartsSame, or_parser};
 
@@ -10,8 +9,9 @@ use combine_base::error::{ParseError, ParseResult, Tracked};
 use combine_base::parser::Parser;
 use combine_base::refusal::peeked;
 use combine_base::stream::Stream;
-use std::mem::replace;
 
+pub mod first;
+pub mod lent;
 pub mod types;
 
 use types::{Optional, Or};
@@ -36,32 +36,6 @@ impl<S, T> Default for OrState<S, T> {
 
     fn default() -> Self {
         OrState::Peek
-    }
-}
-
-impl<S: Default, T> OrState<S, T> {
-    /// The state that the first parser goes on from or begins in, or else that of the second.
-    #[inline(always)]
-    pub(crate) fn running(self) -> Result<S, T>
-        ensures { running S.is_default self result }
-    {
-        match self {
-            OrState::Peek => Ok(S::default()),
-            OrState::A(kept) => Ok(kept),
-            OrState::B(kept) => Err(kept),
-        }
-    }
-}
-
-impl<S: Drop, T: Drop> OrState<S, T> {
-    /// Hands out what is kept, if the call resumes. Our own.
-    #[inline(always)]
-    pub fn begin(&mut self, first: bool) -> OrState<S, T>
-        ensures begun { result ≡ (if first then OrState.Peek else self.old) }
-        ensures left { self.new ≡ OrState.Peek }
-    {
-        let kept = replace(self, OrState::Peek);
-        if first { OrState::Peek } else { kept }
     }
 }
 

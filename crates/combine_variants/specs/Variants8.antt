@@ -99,7 +99,7 @@ module _ {S0 S1 S2 S3 S4 S5 S6 S7 : Type 0} where
   each_8 f0 f1 f2 f3 f4 f5 f6 f7 (H s) = f7 s
 
   module _ (f0 : S0 → Type 0) (f1 : S1 → Type 0) (f2 : S2 → Type 0) (f3 : S3 → Type 0) (f4 : S4 → Type 0) (f5 : S5 → Type 0) (f6 : S6 → Type 0) (f7 : S7 → Type 0) where
-    each_8_a : (s : Dispatch8 S0 S1 S2 S3 S4 S5 S6 S7) → each_8 f0 f1 f2 f3 f4 f5 f6 f7 s → Holds f0 (pick_a s)
+    pub each_8_a : (s : Dispatch8 S0 S1 S2 S3 S4 S5 S6 S7) → each_8 f0 f1 f2 f3 f4 f5 f6 f7 s → Holds f0 (pick_a s)
     each_8_a (A s) h = h
     each_8_a (B s) h = tt
     each_8_a (C s) h = tt

@@ -38,3 +38,41 @@ pub fn tuple_5_is_array<Input: Stream, P: Parser<Input>>(a: &P, b: &P, c: &P, d:
         (⟦<(P, P, P, P, P) as ChoiceParser<Input>>⟧.meaning (a.now, b.now, c.now, d.now, e.now))
         (⟦<[P; 5] as ChoiceParser<Input>>⟧.meaning (a.now ∷ b.now ∷ c.now ∷ d.now ∷ e.now ∷ [])) }
 {}
+
+/// The law that a choice over a tuple of six means what that over an array of the same parsers means: the same outcomes from the start; they leave tokens unread and ask for memory alike, and add the same items to an error.
+pub fn tuple_6_is_array<Input: Stream, P: Parser<Input>>(a: &P, b: &P, c: &P, d: &P, e: &P, f: &P)
+    ensures { StartsSame
+        (⟦<(P, P, P, P, P, P) as ChoiceParser<Input>>⟧.meaning (a.now, b.now, c.now, d.now, e.now, f.now))
+        (⟦<[P; 6] as ChoiceParser<Input>>⟧.meaning (a.now ∷ b.now ∷ c.now ∷ d.now ∷ e.now ∷ f.now ∷ [])) }
+{}
+
+/// The law that a choice over a tuple of seven means what that over an array of the same parsers means: the same outcomes from the start; they leave tokens unread and ask for memory alike, and add the same items to an error.
+pub fn tuple_7_is_array<Input: Stream, P: Parser<Input>>(
+    a: &P,
+    b: &P,
+    c: &P,
+    d: &P,
+    e: &P,
+    f: &P,
+    g: &P,
+)
+    ensures { StartsSame
+        (⟦<(P, P, P, P, P, P, P) as ChoiceParser<Input>>⟧.meaning (a.now, b.now, c.now, d.now, e.now, f.now, g.now))
+        (⟦<[P; 7] as ChoiceParser<Input>>⟧.meaning (a.now ∷ b.now ∷ c.now ∷ d.now ∷ e.now ∷ f.now ∷ g.now ∷ [])) }
+{}
+
+/// The law that a choice over a tuple of eight means what that over an array of the same parsers means: the same outcomes from the start; they leave tokens unread and ask for memory alike, and add the same items to an error.
+pub fn tuple_8_is_array<Input: Stream, P: Parser<Input>>(
+    a: &P,
+    b: &P,
+    c: &P,
+    d: &P,
+    e: &P,
+    f: &P,
+    g: &P,
+    h: &P,
+)
+    ensures { StartsSame
+        (⟦<(P, P, P, P, P, P, P, P) as ChoiceParser<Input>>⟧.meaning (a.now, b.now, c.now, d.now, e.now, f.now, g.now, h.now))
+        (⟦<[P; 8] as ChoiceParser<Input>>⟧.meaning (a.now ∷ b.now ∷ c.now ∷ d.now ∷ e.now ∷ f.now ∷ g.now ∷ h.now ∷ [])) }
+{}

@@ -1,10 +1,14 @@
-//! Choices over the parsers of a tuple of 1 to 5.
+//! Choices over the parsers of a tuple of 1 to 8.
 
 use super::ChoiceParser;
-use super::lent::{State2, State3, State4, State5, choose_2, choose_3, choose_4, choose_5};
+use super::lent::{
+    State3, State4, State5, State6, State7, State8, choose_3, choose_4, choose_5, choose_6,
+    choose_7, choose_8,
+};
 use combine_base::error::{ParseResult, Tracked};
 use combine_base::parser::{ParseMode, Parser};
 use combine_base::stream::Stream;
+use combine_token::choice::lent::{State2, choose_2};
 
 /// The choice of one parser is that parser.
 impl<Input: Stream, A: Parser<Input>> ChoiceParser<Input> for (A,) {
@@ -254,5 +258,209 @@ impl<
         self.2.add_error(error);
         self.3.add_error(error);
         self.4.add_error(error);
+    }
+}
+
+impl<
+    Input: Stream,
+    A: Parser<Input>,
+    B: Parser<Input, Output = A::Output>,
+    C: Parser<Input, Output = A::Output>,
+    D: Parser<Input, Output = A::Output>,
+    E: Parser<Input, Output = A::Output>,
+    F: Parser<Input, Output = A::Output>,
+> ChoiceParser<Input> for (A, B, C, D, E, F) {
+    ghost use Rattle.std.specs.Prelude.{◌≡◌};
+    ghost use Rattle.combine_token.specs.Or.{either_of, or_valid};
+    ghost use Rattle.combine_token.specs.Reasons.{RefusesOr};
+    ghost use Rattle.combine_token.specs.declared.choice.OrState.TheVariants.{Peek};
+    ghost use Rattle.combine_choice.specs.Nested.{nest_laws, nest_one};
+
+    type Output = A::Output;
+
+    type PartialState = State6<Input, A, B, C, D, E, F>;
+
+    ghost lawful = { λ p. (A.lawful p.0 × B.lawful p.1) × ((C.lawful p.2 × D.lawful p.3) × (E.lawful p.4 × F.lawful p.5)) };
+
+    ghost determined = { λ p. (A.determined p.0 × B.determined p.1) × ((C.determined p.2 × D.determined p.3) × (E.determined p.4 × F.determined p.5)) };
+
+    ghost valid = { or_valid (or_valid A.valid B.valid) (or_valid (or_valid C.valid D.valid) (or_valid E.valid F.valid)) };
+
+    ghost meaning = { λ p. either_of (either_of (A.meaning p.0) (B.meaning p.1)) (either_of (either_of (C.meaning p.2) (D.meaning p.3)) (either_of (E.meaning p.4) (F.meaning p.5))) };
+
+    ghost refuses = { λ p. RefusesOr Input.Error.seen Input.Position.cmp (λ s. s ≡ Peek) (λ s. s ≡ Peek) (RefusesOr Input.Error.seen Input.Position.cmp A.PartialState.is_default B.PartialState.is_default (A.refuses p.0) (B.refuses p.1)) (RefusesOr Input.Error.seen Input.Position.cmp (λ s. s ≡ Peek) (λ s. s ≡ Peek) (RefusesOr Input.Error.seen Input.Position.cmp C.PartialState.is_default D.PartialState.is_default (C.refuses p.2) (D.refuses p.3)) (RefusesOr Input.Error.seen Input.Position.cmp E.PartialState.is_default F.PartialState.is_default (E.refuses p.4) (F.refuses p.5))) };
+
+    ghost default_valid = { λ s d. rw d tt };
+
+    ghost laws = { λ p l. nest_laws (nest_laws (A.laws p.0 l.0.0) (B.laws p.1 l.0.1)) (nest_laws (nest_laws (C.laws p.2 l.1.0.0) (D.laws p.3 l.1.0.1)) (nest_laws (E.laws p.4 l.1.1.0) (F.laws p.5 l.1.1.1))) };
+
+    ghost single = { λ p l d. nest_one (nest_one (A.single p.0 l.0.0 d.0.0) (B.single p.1 l.0.1 d.0.1)) (nest_one (nest_one (C.single p.2 l.1.0.0 d.1.0.0) (D.single p.3 l.1.0.1 d.1.0.1)) (nest_one (E.single p.4 l.1.1.0 d.1.1.0) (F.single p.5 l.1.1.1 d.1.1.1))) };
+
+    #[inline(always)]
+    fn parse_mode_choice<M: ParseMode>(
+        &mut self,
+        mode: M,
+        input: &mut Input,
+        state: &mut Self::PartialState,
+    ) -> ParseResult<A::Output, Input::Error> {
+        choose_6(
+            &mut self.0,
+            &mut self.1,
+            &mut self.2,
+            &mut self.3,
+            &mut self.4,
+            &mut self.5,
+            mode,
+            input,
+            state,
+        )
+    }
+
+    fn add_error_choice(&mut self, error: &mut Tracked<Input::Error>) {
+        self.0.add_error(error);
+        self.1.add_error(error);
+        self.2.add_error(error);
+        self.3.add_error(error);
+        self.4.add_error(error);
+        self.5.add_error(error);
+    }
+}
+
+impl<
+    Input: Stream,
+    A: Parser<Input>,
+    B: Parser<Input, Output = A::Output>,
+    C: Parser<Input, Output = A::Output>,
+    D: Parser<Input, Output = A::Output>,
+    E: Parser<Input, Output = A::Output>,
+    F: Parser<Input, Output = A::Output>,
+    G: Parser<Input, Output = A::Output>,
+> ChoiceParser<Input> for (A, B, C, D, E, F, G) {
+    ghost use Rattle.std.specs.Prelude.{◌≡◌};
+    ghost use Rattle.combine_token.specs.Or.{either_of, or_valid};
+    ghost use Rattle.combine_token.specs.Reasons.{RefusesOr};
+    ghost use Rattle.combine_token.specs.declared.choice.OrState.TheVariants.{Peek};
+    ghost use Rattle.combine_choice.specs.Nested.{nest_laws, nest_one};
+
+    type Output = A::Output;
+
+    type PartialState = State7<Input, A, B, C, D, E, F, G>;
+
+    ghost lawful = { λ p. (A.lawful p.0 × (B.lawful p.1 × C.lawful p.2)) × ((D.lawful p.3 × E.lawful p.4) × (F.lawful p.5 × G.lawful p.6)) };
+
+    ghost determined = { λ p. (A.determined p.0 × (B.determined p.1 × C.determined p.2)) × ((D.determined p.3 × E.determined p.4) × (F.determined p.5 × G.determined p.6)) };
+
+    ghost valid = { or_valid (or_valid A.valid (or_valid B.valid C.valid)) (or_valid (or_valid D.valid E.valid) (or_valid F.valid G.valid)) };
+
+    ghost meaning = { λ p. either_of (either_of (A.meaning p.0) (either_of (B.meaning p.1) (C.meaning p.2))) (either_of (either_of (D.meaning p.3) (E.meaning p.4)) (either_of (F.meaning p.5) (G.meaning p.6))) };
+
+    ghost refuses = { λ p. RefusesOr Input.Error.seen Input.Position.cmp (λ s. s ≡ Peek) (λ s. s ≡ Peek) (RefusesOr Input.Error.seen Input.Position.cmp A.PartialState.is_default (λ s. s ≡ Peek) (A.refuses p.0) (RefusesOr Input.Error.seen Input.Position.cmp B.PartialState.is_default C.PartialState.is_default (B.refuses p.1) (C.refuses p.2))) (RefusesOr Input.Error.seen Input.Position.cmp (λ s. s ≡ Peek) (λ s. s ≡ Peek) (RefusesOr Input.Error.seen Input.Position.cmp D.PartialState.is_default E.PartialState.is_default (D.refuses p.3) (E.refuses p.4)) (RefusesOr Input.Error.seen Input.Position.cmp F.PartialState.is_default G.PartialState.is_default (F.refuses p.5) (G.refuses p.6))) };
+
+    ghost default_valid = { λ s d. rw d tt };
+
+    ghost laws = { λ p l. nest_laws (nest_laws (A.laws p.0 l.0.0) (nest_laws (B.laws p.1 l.0.1.0) (C.laws p.2 l.0.1.1))) (nest_laws (nest_laws (D.laws p.3 l.1.0.0) (E.laws p.4 l.1.0.1)) (nest_laws (F.laws p.5 l.1.1.0) (G.laws p.6 l.1.1.1))) };
+
+    ghost single = { λ p l d. nest_one (nest_one (A.single p.0 l.0.0 d.0.0) (nest_one (B.single p.1 l.0.1.0 d.0.1.0) (C.single p.2 l.0.1.1 d.0.1.1))) (nest_one (nest_one (D.single p.3 l.1.0.0 d.1.0.0) (E.single p.4 l.1.0.1 d.1.0.1)) (nest_one (F.single p.5 l.1.1.0 d.1.1.0) (G.single p.6 l.1.1.1 d.1.1.1))) };
+
+    #[inline(always)]
+    fn parse_mode_choice<M: ParseMode>(
+        &mut self,
+        mode: M,
+        input: &mut Input,
+        state: &mut Self::PartialState,
+    ) -> ParseResult<A::Output, Input::Error> {
+        choose_7(
+            &mut self.0,
+            &mut self.1,
+            &mut self.2,
+            &mut self.3,
+            &mut self.4,
+            &mut self.5,
+            &mut self.6,
+            mode,
+            input,
+            state,
+        )
+    }
+
+    fn add_error_choice(&mut self, error: &mut Tracked<Input::Error>) {
+        self.0.add_error(error);
+        self.1.add_error(error);
+        self.2.add_error(error);
+        self.3.add_error(error);
+        self.4.add_error(error);
+        self.5.add_error(error);
+        self.6.add_error(error);
+    }
+}
+
+impl<
+    Input: Stream,
+    A: Parser<Input>,
+    B: Parser<Input, Output = A::Output>,
+    C: Parser<Input, Output = A::Output>,
+    D: Parser<Input, Output = A::Output>,
+    E: Parser<Input, Output = A::Output>,
+    F: Parser<Input, Output = A::Output>,
+    G: Parser<Input, Output = A::Output>,
+    H: Parser<Input, Output = A::Output>,
+> ChoiceParser<Input> for (A, B, C, D, E, F, G, H) {
+    ghost use Rattle.std.specs.Prelude.{◌≡◌};
+    ghost use Rattle.combine_token.specs.Or.{either_of, or_valid};
+    ghost use Rattle.combine_token.specs.Reasons.{RefusesOr};
+    ghost use Rattle.combine_token.specs.declared.choice.OrState.TheVariants.{Peek};
+    ghost use Rattle.combine_choice.specs.Nested.{nest_laws, nest_one};
+
+    type Output = A::Output;
+
+    type PartialState = State8<Input, A, B, C, D, E, F, G, H>;
+
+    ghost lawful = { λ p. ((A.lawful p.0 × B.lawful p.1) × (C.lawful p.2 × D.lawful p.3)) × ((E.lawful p.4 × F.lawful p.5) × (G.lawful p.6 × H.lawful p.7)) };
+
+    ghost determined = { λ p. ((A.determined p.0 × B.determined p.1) × (C.determined p.2 × D.determined p.3)) × ((E.determined p.4 × F.determined p.5) × (G.determined p.6 × H.determined p.7)) };
+
+    ghost valid = { or_valid (or_valid (or_valid A.valid B.valid) (or_valid C.valid D.valid)) (or_valid (or_valid E.valid F.valid) (or_valid G.valid H.valid)) };
+
+    ghost meaning = { λ p. either_of (either_of (either_of (A.meaning p.0) (B.meaning p.1)) (either_of (C.meaning p.2) (D.meaning p.3))) (either_of (either_of (E.meaning p.4) (F.meaning p.5)) (either_of (G.meaning p.6) (H.meaning p.7))) };
+
+    ghost refuses = { λ p. RefusesOr Input.Error.seen Input.Position.cmp (λ s. s ≡ Peek) (λ s. s ≡ Peek) (RefusesOr Input.Error.seen Input.Position.cmp (λ s. s ≡ Peek) (λ s. s ≡ Peek) (RefusesOr Input.Error.seen Input.Position.cmp A.PartialState.is_default B.PartialState.is_default (A.refuses p.0) (B.refuses p.1)) (RefusesOr Input.Error.seen Input.Position.cmp C.PartialState.is_default D.PartialState.is_default (C.refuses p.2) (D.refuses p.3))) (RefusesOr Input.Error.seen Input.Position.cmp (λ s. s ≡ Peek) (λ s. s ≡ Peek) (RefusesOr Input.Error.seen Input.Position.cmp E.PartialState.is_default F.PartialState.is_default (E.refuses p.4) (F.refuses p.5)) (RefusesOr Input.Error.seen Input.Position.cmp G.PartialState.is_default H.PartialState.is_default (G.refuses p.6) (H.refuses p.7))) };
+
+    ghost default_valid = { λ s d. rw d tt };
+
+    ghost laws = { λ p l. nest_laws (nest_laws (nest_laws (A.laws p.0 l.0.0.0) (B.laws p.1 l.0.0.1)) (nest_laws (C.laws p.2 l.0.1.0) (D.laws p.3 l.0.1.1))) (nest_laws (nest_laws (E.laws p.4 l.1.0.0) (F.laws p.5 l.1.0.1)) (nest_laws (G.laws p.6 l.1.1.0) (H.laws p.7 l.1.1.1))) };
+
+    ghost single = { λ p l d. nest_one (nest_one (nest_one (A.single p.0 l.0.0.0 d.0.0.0) (B.single p.1 l.0.0.1 d.0.0.1)) (nest_one (C.single p.2 l.0.1.0 d.0.1.0) (D.single p.3 l.0.1.1 d.0.1.1))) (nest_one (nest_one (E.single p.4 l.1.0.0 d.1.0.0) (F.single p.5 l.1.0.1 d.1.0.1)) (nest_one (G.single p.6 l.1.1.0 d.1.1.0) (H.single p.7 l.1.1.1 d.1.1.1))) };
+
+    #[inline(always)]
+    fn parse_mode_choice<M: ParseMode>(
+        &mut self,
+        mode: M,
+        input: &mut Input,
+        state: &mut Self::PartialState,
+    ) -> ParseResult<A::Output, Input::Error> {
+        choose_8(
+            &mut self.0,
+            &mut self.1,
+            &mut self.2,
+            &mut self.3,
+            &mut self.4,
+            &mut self.5,
+            &mut self.6,
+            &mut self.7,
+            mode,
+            input,
+            state,
+        )
+    }
+
+    fn add_error_choice(&mut self, error: &mut Tracked<Input::Error>) {
+        self.0.add_error(error);
+        self.1.add_error(error);
+        self.2.add_error(error);
+        self.3.add_error(error);
+        self.4.add_error(error);
+        self.5.add_error(error);
+        self.6.add_error(error);
+        self.7.add_error(error);
     }
 }

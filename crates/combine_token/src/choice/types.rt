@@ -1,124 +1,18 @@
 //! The parsers that the functions of `choice` answer.
-ghost use Rattle.std.specs.Prelude.{◌≡◌, false, true, MatchResult};
-ghost use Rattle.combine_base.specs.Parser.Reasons.{Reasoned, kept_from};
-ghost use Rattle.combine_token.specs.Leading.{Leads, SaysMerged};
+ghost use Rattle.std.specs.Prelude.{◌≡◌};
 ghost use Rattle.combine_token.specs.Reasons.{RefusesOr, committed_only};
 ghost use Rattle.combine_token.specs.Optional.{optional, optional_is_meaning, optional_means_one};
 ghost use Rattle.combine_token.specs.Or.{either_of, or_is_meaning, or_means_one, or_valid};
 
-use super::{OrState, after_refusal};
+use super::OrState;
+use super::lent::choose_2;
 use combine_base::error::{ErrorOffset, ParseResult, Tracked};
-use combine_base::parser::{Calls, ParseMode, Parser};
-use combine_base::stream::{Stream, asks_for_more, needs_more};
+use combine_base::parser::{ParseMode, Parser};
+use combine_base::stream::Stream;
 
 /// The choice of two parsers, as `or` makes it.
 #[derive(Clone, Copy, Drop)]
 pub struct Or<P, Q>(pub(super) P, pub(super) Q);
-
-impl<P, Q> Or<P, Q> {
-    /// The second parser goes on, or begins.
-    #[inline(always)]
-    fn try_second<Input: Stream, M: ParseMode>(
-        &mut self,
-        mode: M,
-        input: &mut Input,
-        kept: Q::PartialState,
-        state: &mut OrState<P::PartialState, Q::PartialState>,
-    ) -> ParseResult<P::Output, Input::Error>
-    where
-        P: Parser<Input>,
-        Q: Parser<Input, Output = P::Output>,
-        requires ready { ⟦<Or<P, Q> as Calls<Input>>⟧.ready self.old (OrState.B kept) }
-        requires starts { M.first mode ≡ true → Q.PartialState.is_default kept }
-        requires fresh { state.old ≡ OrState.Peek }
-        ensures called { ⟦<Or<P, Q> as Calls<Input>>⟧.called self.old self.new input.old input.new false (OrState.B kept) state.new result }
-        ensures refuses { Reasoned Input.Error.seen.kind (Input.view input.new).is_open (Q.refuses self.old.1 (kept_from (M.first mode) kept) (Input.view input.old)) result }
-    {
-        let mut kept = kept;
-        let answer = self.1.parse_mode(mode, input, &mut kept);
-        if asks_for_more(input, &answer) {
-            *state = OrState::B(kept);
-        }
-        answer
-    }
-
-    /// The first parser goes on, or begins, if it is its turn. The answer, or from where the second one goes on, with the refusal of the first if there was one.
-    #[inline(always)]
-    fn lead<Input: Stream, M: ParseMode>(
-        &mut self,
-        mode: M,
-        input: &mut Input,
-        kept: OrState<P::PartialState, Q::PartialState>,
-        state: &mut OrState<P::PartialState, Q::PartialState>,
-    ) -> Result<
-        (Q::PartialState, Option<Tracked<Input::Error>>),
-        ParseResult<P::Output, Input::Error>,
-    >
-    where
-        P: Parser<Input>,
-        Q: Parser<Input, Output = P::Output>,
-        requires ready { ⟦<Or<P, Q> as Calls<Input>>⟧.ready self.old kept }
-        requires starts { M.first mode ≡ true → kept ≡ OrState.Peek }
-        requires fresh { state.old ≡ OrState.Peek }
-        ensures called { MatchResult result
-            (λ next. Leads ⟦<Or<P, Q> as Calls<Input>>⟧.ready ⟦<Or<P, Q> as Calls<Input>>⟧.called Input.Error.seen Input.Position.cmp (M.first mode) Q.PartialState.is_default self.old self.new input.old input.new kept state.new next)
-            (λ answer. ⟦<Or<P, Q> as Calls<Input>>⟧.called self.old self.new input.old input.new false kept state.new answer) }
-        ensures refuses { MatchResult result
-            (λ next. SaysMerged P.Output Input.Error.seen Input.Position.cmp next.1 (Q.refuses self.new.1 (kept_from (M.first mode) next.0) (Input.view input.new)) (RefusesOr Input.Error.seen Input.Position.cmp P.PartialState.is_default Q.PartialState.is_default (P.refuses self.old.0) (Q.refuses self.old.1) (kept_from (M.first mode) kept) (Input.view input.old)))
-            (λ answer. Reasoned Input.Error.seen.kind (Input.view input.new).is_open (RefusesOr Input.Error.seen Input.Position.cmp P.PartialState.is_default Q.PartialState.is_default (P.refuses self.old.0) (Q.refuses self.old.1) (kept_from (M.first mode) kept) (Input.view input.old)) answer) }
-    {
-        let mut kept = match kept.running() {
-            Ok(kept) => kept,
-            Err(kept) => return Ok((kept, None)),
-        };
-        let start = input.checkpoint();
-        let position = input.position();
-        match self.0.parse_mode(mode, input, &mut kept) {
-            ParseResult::CommitOk(value) => Err(ParseResult::CommitOk(value)),
-            ParseResult::PeekOk(value) => Err(ParseResult::PeekOk(value)),
-            ParseResult::CommitErr(error) => {
-                if needs_more(input, &error) {
-                    *state = OrState::A(kept);
-                    return Err(ParseResult::CommitErr(error));
-                }
-                Err(ParseResult::CommitErr(error))
-            }
-            ParseResult::PeekErr(refused) => match input.reset(start) {
-                Ok(()) => Ok((Q::PartialState::default(), Some(refused))),
-                Err(kind) => Err(ParseResult::CommitErr(input.new_error(kind, position))),
-            },
-        }
-    }
-
-    /// Goes on from a state of its own. The code of each parser stands once in it, so that nothing that resumes needs to be a function of its own over the stream.
-    #[inline(always)]
-    fn go_on<Input: Stream, M: ParseMode>(
-        &mut self,
-        mode: M,
-        input: &mut Input,
-        kept: OrState<P::PartialState, Q::PartialState>,
-        state: &mut OrState<P::PartialState, Q::PartialState>,
-    ) -> ParseResult<P::Output, Input::Error>
-    where
-        P: Parser<Input>,
-        Q: Parser<Input, Output = P::Output>,
-        requires ready { ⟦<Or<P, Q> as Calls<Input>>⟧.ready self.old kept }
-        requires starts { M.first mode ≡ true → kept ≡ OrState.Peek }
-        requires fresh { state.old ≡ OrState.Peek }
-        ensures called { ⟦<Or<P, Q> as Calls<Input>>⟧.called self.old self.new input.old input.new false kept state.new result }
-        ensures refuses { Reasoned Input.Error.seen.kind (Input.view input.new).is_open (RefusesOr Input.Error.seen Input.Position.cmp P.PartialState.is_default Q.PartialState.is_default (P.refuses self.old.0) (Q.refuses self.old.1) (kept_from (M.first mode) kept) (Input.view input.old)) result }
-    {
-        let (kept, refused) = match self.lead(mode, input, kept, state) {
-            Ok(next) => next,
-            Err(answer) => return answer,
-        };
-        let later = self.try_second(mode, input, kept, state);
-        match refused {
-            Some(refused) => after_refusal(refused, later),
-            None => later,
-        }
-    }
-}
 
 impl<Input: Stream, P: Parser<Input>, Q: Parser<Input, Output = P::Output>> Parser<Input>
     for Or<P, Q> {
@@ -151,8 +45,7 @@ impl<Input: Stream, P: Parser<Input>, Q: Parser<Input, Output = P::Output>> Pars
         input: &mut Input,
         state: &mut Self::PartialState,
     ) -> ParseResult<P::Output, Input::Error> {
-        let kept = state.begin(mode.is_first());
-        self.go_on(mode, input, kept, state)
+        choose_2(&mut self.0, &mut self.1, mode, input, state)
     }
 
     /// What the first adds, and then what the second does.

@@ -1,9 +1,8 @@
-use Rattle.std.proofs.Common.{◌≡◌}
 use Rattle.combine_token.specs.Reasons.{RefusesOr}
-use Rattle.combine_token.specs.declared.choice.OrState.TheVariants.{Peek}
 use Rattle.combine_token.specs.Or.{or_valid}
-use Rattle.combine_choice.proofs.TupleCalls.{ended_chose, gone_chose, is_no_fault, ready}
-use Rattle.combine_choice.proofs.FirstThen.{first_is_valid, nest_laws}
+use Rattle.combine_token.proofs.TupleCalls.{ended_chose, gone_chose, is_no_fault, ready}
+use Rattle.combine_token.proofs.FirstThen.{first_is_valid}
+use Rattle.combine_choice.specs.Nested.{nest_laws}
 use Rattle.combine_choice.proofs.choice.lent.choose_3.Goals as goal
 
 pub try_1-requires-clause-valid : goal.try_1-requires-clause-valid

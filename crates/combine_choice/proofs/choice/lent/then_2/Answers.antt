@@ -1,7 +1,7 @@
 use Rattle.std.proofs.Common.{◌≡◌}
 use Rattle.combine_token.specs.declared.choice.OrState.TheVariants.{Peek}
 use Rattle.combine_base.specs.Parser.Answer.{world}
-use Rattle.combine_choice.proofs.TupleCalls.{may_settle}
+use Rattle.combine_token.proofs.TupleCalls.{may_settle}
 use Rattle.combine_choice.proofs.choice.lent.then_2.Goals as goal
 
 pub settle-requires : goal.settle-requires

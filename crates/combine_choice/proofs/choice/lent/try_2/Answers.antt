@@ -3,8 +3,8 @@ use Rattle.combine_token.specs.Or.{or_valid}
 use Rattle.combine_token.specs.Reasons.{RefusesOr}
 use Rattle.combine_token.specs.declared.choice.OrState.TheVariants.{Peek}
 use Rattle.combine_base.specs.Parser.Answer.{world}
-use Rattle.combine_choice.proofs.FirstTurn.{begun_valid}
-use Rattle.combine_choice.proofs.TupleCalls.{resumed, tried}
+use Rattle.combine_token.proofs.FirstTurn.{begun_valid}
+use Rattle.combine_token.proofs.TupleCalls.{resumed, tried}
 use Rattle.combine_choice.proofs.choice.lent.try_2.Goals as goal
 
 pub returns-in-Err : goal.returns-in-Err

@@ -1,4 +1,4 @@
-use Rattle.std.proofs.Common.{ℕ, ◌≡◌, ◌≤◌, ◌<◌, ◌∙◌, drop, length, arith, rules, refl}
+use Rattle.std.proofs.Common.{◌≤◌, ◌<◌, ◌∙◌, length, arith, rules, refl}
 use Rattle.std.proofs.lemmas.List.{drop-set-lt}
 use Rattle.std.proofs.lemmas.List.Elements.{All-set}
 use Rattle.combine_choice.specs.Chosen.{chosen_same}

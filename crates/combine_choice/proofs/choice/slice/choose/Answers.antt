@@ -1,4 +1,4 @@
-use Rattle.std.proofs.Common.{ℕ, ◌≡◌, ◌≤◌, ◌<◌, ◌+◌, ◌∙◌, true, false, drop, length, arith, rules, refl, subst, sym, get_or}
+use Rattle.std.proofs.Common.{◌≤◌, ◌<◌, ◌∙◌, true, length, arith, rules}
 use Rattle.std.proofs.lemmas.List.{drop-set-lt}
 use Rattle.std.proofs.lemmas.List.Elements.{All-set}
 use Rattle.combine_base.specs.Parser.Answer.{world}

@@ -1,4 +1,4 @@
-use Rattle.std.proofs.Common.{◌≡◌, ◌<◌, ◌≤◌, true, false, length, arith, rules, refl, sym, ◌∙◌}
+use Rattle.std.proofs.Common.{◌≡◌, ◌<◌, length, arith, rules, refl, sym}
 use Rattle.combine_base.specs.Parser.Answer.{world}
 use Rattle.combine_base.specs.Parser.Meaning.{IsMeaning}
 use Rattle.combine_token.proofs.Choosing.{tries_answers}

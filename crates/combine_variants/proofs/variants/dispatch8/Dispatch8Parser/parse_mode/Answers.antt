@@ -1,7 +1,7 @@
 use Rattle.std.proofs.Common.{refl}
 use Rattle.combine_variants.specs.Held.{held_means_same}
-use Rattle.combine_variants.specs.Variants8.{pick_a, pick_b, pick_c, pick_d, pick_e, pick_f, pick_g, pick_h}
-use Rattle.combine_variants.proofs.Holding.{held_answers, held_reasons}
+use Rattle.combine_variants.specs.Variants8.{each_8_a, pick_a, pick_b, pick_c, pick_d, pick_e, pick_f, pick_g, pick_h}
+use Rattle.combine_variants.proofs.Holding.{held_answers, held_reasons, started_valid}
 use Rattle.combine_variants.proofs.variants.dispatch8.Dispatch8Parser.parse_mode.Goals as goal
 
 pub returns-in-A-clause-same : goal.returns-in-A-clause-same
@@ -115,3 +115,83 @@ pub returns-in-H-clause-refuses : goal.returns-in-H-clause-refuses
 returns-in-H-clause-refuses g c =
     let from = rw (c.into_h.ensures, c.take-in-H.ensures.value) at c.start-kept-in-H.ensures in
     rw c.in-H.is (held_reasons pick_h _ (g.H.Parser.refuses c.in-H.parser) (g.M.ParseMode.first c.args.mode) _ _ from (g.Input.StreamOnce.view c.args.input.now) _ _ _ c.parse_mode-answer-in-H.ensures.refuses)
+
+pub returns-in-A-clause-lawful : goal.returns-in-A-clause-lawful
+returns-in-A-clause-lawful g c = c.parse_mode-answer.ensures.lawful
+
+pub returns-in-A-clause-valid : goal.returns-in-A-clause-valid
+returns-in-A-clause-valid g c = c.parse_mode-answer.ensures.valid
+
+pub returns-in-A-clause-passes : goal.returns-in-A-clause-passes
+returns-in-A-clause-passes g c = c.parse_mode-answer.ensures.passes
+
+pub parse_mode-answer-requires-clause-lawful : goal.parse_mode-answer-requires-clause-lawful
+parse_mode-answer-requires-clause-lawful g c = rw c.in-A.is at c.requires.lawful
+
+pub returns-in-B-clause-lawful : goal.returns-in-B-clause-lawful
+returns-in-B-clause-lawful g c = c.parse_mode-answer-in-B.ensures.lawful
+
+pub returns-in-B-clause-valid : goal.returns-in-B-clause-valid
+returns-in-B-clause-valid g c = c.parse_mode-answer-in-B.ensures.valid
+
+pub returns-in-B-clause-passes : goal.returns-in-B-clause-passes
+returns-in-B-clause-passes g c = c.parse_mode-answer-in-B.ensures.passes
+
+pub returns-in-C-clause-lawful : goal.returns-in-C-clause-lawful
+returns-in-C-clause-lawful g c = c.parse_mode-answer-in-C.ensures.lawful
+
+pub returns-in-C-clause-valid : goal.returns-in-C-clause-valid
+returns-in-C-clause-valid g c = c.parse_mode-answer-in-C.ensures.valid
+
+pub returns-in-C-clause-passes : goal.returns-in-C-clause-passes
+returns-in-C-clause-passes g c = c.parse_mode-answer-in-C.ensures.passes
+
+pub returns-in-D-clause-lawful : goal.returns-in-D-clause-lawful
+returns-in-D-clause-lawful g c = c.parse_mode-answer-in-D.ensures.lawful
+
+pub returns-in-D-clause-valid : goal.returns-in-D-clause-valid
+returns-in-D-clause-valid g c = c.parse_mode-answer-in-D.ensures.valid
+
+pub returns-in-D-clause-passes : goal.returns-in-D-clause-passes
+returns-in-D-clause-passes g c = c.parse_mode-answer-in-D.ensures.passes
+
+pub returns-in-E-clause-lawful : goal.returns-in-E-clause-lawful
+returns-in-E-clause-lawful g c = c.parse_mode-answer-in-E.ensures.lawful
+
+pub returns-in-E-clause-valid : goal.returns-in-E-clause-valid
+returns-in-E-clause-valid g c = c.parse_mode-answer-in-E.ensures.valid
+
+pub returns-in-E-clause-passes : goal.returns-in-E-clause-passes
+returns-in-E-clause-passes g c = c.parse_mode-answer-in-E.ensures.passes
+
+pub returns-in-F-clause-lawful : goal.returns-in-F-clause-lawful
+returns-in-F-clause-lawful g c = c.parse_mode-answer-in-F.ensures.lawful
+
+pub returns-in-F-clause-valid : goal.returns-in-F-clause-valid
+returns-in-F-clause-valid g c = c.parse_mode-answer-in-F.ensures.valid
+
+pub returns-in-F-clause-passes : goal.returns-in-F-clause-passes
+returns-in-F-clause-passes g c = c.parse_mode-answer-in-F.ensures.passes
+
+pub returns-in-G-clause-lawful : goal.returns-in-G-clause-lawful
+returns-in-G-clause-lawful g c = c.parse_mode-answer-in-G.ensures.lawful
+
+pub returns-in-G-clause-valid : goal.returns-in-G-clause-valid
+returns-in-G-clause-valid g c = c.parse_mode-answer-in-G.ensures.valid
+
+pub returns-in-G-clause-passes : goal.returns-in-G-clause-passes
+returns-in-G-clause-passes g c = c.parse_mode-answer-in-G.ensures.passes
+
+pub returns-in-H-clause-lawful : goal.returns-in-H-clause-lawful
+returns-in-H-clause-lawful g c = c.parse_mode-answer-in-H.ensures.lawful
+
+pub returns-in-H-clause-valid : goal.returns-in-H-clause-valid
+returns-in-H-clause-valid g c = c.parse_mode-answer-in-H.ensures.valid
+
+pub returns-in-H-clause-passes : goal.returns-in-H-clause-passes
+returns-in-H-clause-passes g c = c.parse_mode-answer-in-H.ensures.passes
+
+pub parse_mode-answer-requires-clause-valid : goal.parse_mode-answer-requires-clause-valid
+parse_mode-answer-requires-clause-valid g c =
+    let from = rw (c.into_a.ensures, c.take.ensures.value) at c.start-kept.ensures in
+    started_valid g.A.PartialState.Default.is_default g.A.Parser.valid g.met.A.Parser.default_valid _ _ (each_8_a g.A.Parser.valid g.B.Parser.valid g.C.Parser.valid g.D.Parser.valid g.E.Parser.valid g.F.Parser.valid g.G.Parser.valid g.H.Parser.valid c.args.state.now c.requires.valid) from.is

@@ -1,0 +1,34 @@
+use Rattle.combine_token.proofs.TupleCalls.{ended_chose, gone_chose, is_no_fault, ready}
+use Rattle.combine_token.proofs.FirstThen.{first_is_valid}
+use Rattle.combine_token.proofs.choice.lent.choose_2.Goals as goal
+
+pub try_1-requires-clause-valid : goal.try_1-requires-clause-valid
+try_1-requires-clause-valid g c = first_is_valid g.A.Parser.valid g.B.Parser.valid c.args.state.now c.requires.valid
+
+pub returns-in-Ends : goal.returns-in-Ends
+returns-in-Ends g c =
+    let l = c.requires.lawful in
+    let h = (g.met.A.Parser.laws _ l.0) in
+    let k = (g.met.B.Parser.laws _ l.1) in
+    ended_chose g.Input.StreamOnce.step g.Input.Error.ParseError.seen g.Input.StreamOnce.steady g.Input.Position.Ord.cmp (g.A.Parser.refuses c.args.a.now) (g.B.Parser.refuses c.args.b.now) h k _ _ _ _ _ _ _ l.1 _ c.in-Ends.ensures
+
+pub then_1-requires-clause-valid : goal.then_1-requires-clause-valid
+then_1-requires-clause-valid g c =
+    let l = c.requires.lawful in
+    let h = (g.met.A.Parser.laws _ l.0) in
+    let k = (g.met.B.Parser.laws _ l.1) in
+    ready g.Input.StreamOnce.step g.Input.Error.ParseError.seen g.Input.StreamOnce.steady g.Input.Position.Ord.cmp (g.A.Parser.refuses c.args.a.now) (g.B.Parser.refuses c.args.b.now) h k _ _ _ _ _ _ _ _ _ c.in-Goes.ensures g.met.B.Parser.default_valid c.requires.valid
+
+pub then_1-requires-clause-refused : goal.then_1-requires-clause-refused
+then_1-requires-clause-refused g c =
+    let l = c.requires.lawful in
+    let h = (g.met.A.Parser.laws _ l.0) in
+    let k = (g.met.B.Parser.laws _ l.1) in
+    is_no_fault g.Input.StreamOnce.step g.Input.Error.ParseError.seen g.Input.StreamOnce.steady g.Input.Position.Ord.cmp (g.A.Parser.refuses c.args.a.now) (g.B.Parser.refuses c.args.b.now) h k _ _ _ _ _ _ _ _ _ c.in-Goes.ensures
+
+pub returns-in-Goes : goal.returns-in-Goes
+returns-in-Goes g c =
+    let l = c.requires.lawful in
+    let h = (g.met.A.Parser.laws _ l.0) in
+    let k = (g.met.B.Parser.laws _ l.1) in
+    gone_chose g.Input.StreamOnce.step g.Input.Error.ParseError.seen g.Input.StreamOnce.steady g.Input.Position.Ord.cmp (g.A.Parser.refuses c.args.a.now) (g.B.Parser.refuses c.args.b.now) h k _ _ _ _ _ _ _ _ _ c.in-Goes.ensures _ _ _ _ c.then_1.ensures
