@@ -58,7 +58,9 @@ fn characters_of(alloc: Global, class: &str) -> Option<Result<String, AllocError
 fn byte_ranges<C: Class<u8> + Drop>(alloc: Global) -> Result<String, AllocError> {
     let mut ranges = Ranges::new(alloc);
     for byte in 0..=u8::MAX {
-        if in_class::<_, C>().parse(&[byte][..]).is_ok() {
+        let token = [byte];
+        let mut parser = in_class::<_, C>();
+        if parser.parse(&token[..]).is_ok() {
             ranges.push(u32::from(byte))?;
         }
     }
@@ -68,7 +70,9 @@ fn byte_ranges<C: Class<u8> + Drop>(alloc: Global) -> Result<String, AllocError>
 fn character_ranges<C: Class<char> + Drop>(alloc: Global) -> Result<String, AllocError> {
     let mut ranges = Ranges::new(alloc);
     for character in '\0'..=char::MAX {
-        if in_class::<_, C>().parse(&[character][..]).is_ok() {
+        let token = [character];
+        let mut parser = in_class::<_, C>();
+        if parser.parse(&token[..]).is_ok() {
             ranges.push(u32::from(character))?;
         }
     }
