@@ -11,11 +11,14 @@ ghost use Rattle.combine_turns.specs.Bounded.{begun_valid, running_turn};
 use crate::operands::{EachOperand, Operands};
 use combine_base::error::{ErrorOffset, ParseResult, Tracked};
 use combine_base::parser::{ParseMode, Parser};
+use combine_base::repeat::Sink;
 use combine_base::sequence::State2;
 use combine_base::stream::Stream;
 use combine_map::combinator::types::{Ignore, NoPartial};
+use combine_repeat::repeat::TurnsState as RepeatState;
 use combine_repeat::repeat::types::SkipMany;
 use combine_separated::separated::{Separated, SeparatedState};
+use combine_token::choice::OrState;
 use combine_token::choice::types::Or;
 use combine_token::token::types::Token;
 use combine_turns::turns::{TurnsState, take_joined};
@@ -26,6 +29,12 @@ pub type Chainr1<P, S> = NoPartial<RightFold<P, S>>;
 
 /// The parser of [`escaped`](crate::repeat::escaped).
 pub type Escaped<Input, P, T, Q> = SkipMany<Or<Ignore<P>, Ignore<(Token<Input, T>, Q)>>>;
+
+/// What `escaped` keeps while more input is needed: whether a turn committed, whether the running one has taken a token, and which part of it runs, with its state.
+pub type EscapedState<Input, P, T, Q> = RepeatState<
+    Sink,
+    OrState<<P as Parser<Input>>::PartialState, State2<Input, Token<Input, T>, Q>>,
+>;
 
 /// As `chainr1`, but it keeps its operands on need of more. Our own.
 #[derive(Clone, Copy, Drop)]
