@@ -36,6 +36,11 @@ pub use Rattle.combine_repeat.specs.Built
 pub use Rattle.combine_repeat.specs.Compared
 pub use Rattle.combine_repeat.specs.Repetition
 pub use Rattle.combine_repeat.specs.Turns
+pub use Rattle.combine_chains.specs.ChainParsers
+pub use Rattle.combine_chains.specs.Chains
+pub use Rattle.combine_sep_end.specs.Ended
+pub use Rattle.combine_sep_end.specs.SepEnd
+pub use Rattle.combine_sep_end.specs.SepEndParsers
 pub use Rattle.combine_separated.specs.Elements
 pub use Rattle.combine_separated.specs.Separated
 pub use Rattle.combine_separated.specs.SeparatedParsers
@@ -96,3 +101,4 @@ pub use Rattle.combine_variants.specs.Variants5
 pub use Rattle.combine_variants.specs.Variants6
 pub use Rattle.combine_variants.specs.Variants7
 pub use Rattle.combine_variants.specs.Variants8
+pub use Rattle.combine_separated.specs.OneThenTurns

@@ -1,5 +1,7 @@
 //! What collects the values of a repetition.
-ghost use Rattle.std.specs.Prelude.{◌≡◌, List, [], ◌∷◌, ◌++◌, MatchResult};
+ghost use Rattle.std.specs.Char.{encode_utf8};
+ghost use Rattle.std.specs.Prelude.{◌≡◌, ℕ, List, [], ◌∷◌, ◌++◌, MatchResult};
+ghost use Rattle.std.specs.String.{string_bytes};
 
 use std::alloc::{AllocError, Global};
 
@@ -48,6 +50,52 @@ impl<A: Drop> Append<A> for Vec<A> {
     fn append(&mut self, value: A) -> Result<(), AllocError> {
         self.push(value)?;
         Ok(())
+    }
+}
+
+/// Characters, one behind another; what is seen of a text is its bytes in UTF-8.
+impl Append<char> for String {
+    ghost Held = { List ℕ };
+
+    ghost held = { string_bytes };
+
+    ghost none = { [] };
+
+    ghost more = { λ xs c. xs ++ encode_utf8 c };
+
+    ghost lean = { ⊥ };
+
+    fn empty(alloc: Global) -> String {
+        String::new(alloc)
+    }
+
+    fn append(&mut self, value: char) -> Result<(), AllocError> {
+        self.push(value)
+    }
+}
+
+/// Texts, one behind another.
+impl<'a> Append<&'a str> for String {
+    ghost Held = { List ℕ };
+
+    ghost held = { string_bytes };
+
+    ghost none = { [] };
+
+    ghost more = { λ xs text. xs ++ text.now };
+
+    ghost lean = { ⊥ };
+
+    fn empty(alloc: Global) -> String
+        ensures { string_bytes result ≡ [] }
+    {
+        String::new(alloc)
+    }
+
+    fn append(&mut self, value: &'a str) -> Result<(), AllocError>
+        ensures { MatchResult result (λ _. string_bytes self.new ≡ string_bytes self.old ++ value.now) (λ _. (⊥ → ⊥) × (string_bytes self.new ≡ string_bytes self.old)) }
+    {
+        self.push_str(value)
     }
 }
 

@@ -1,6 +1,7 @@
 //! Callers of the library: the README's, word for word, and a plain function for each constructor, over slices, pieces and sessions.
 #![tactic(auto)]
 
+pub mod chains;
 pub mod classes;
 pub mod classes_in_pieces;
 pub mod each;

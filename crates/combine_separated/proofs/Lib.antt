@@ -1,2 +1,3 @@
 pub mod Placing
 pub mod Separating
+pub mod OneThenTurns

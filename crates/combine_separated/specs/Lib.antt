@@ -17,3 +17,4 @@ pub mod Separated
 pub mod Elements
 pub mod JoinedLaws
 pub mod SeparatedParsers
+pub mod OneThenTurns

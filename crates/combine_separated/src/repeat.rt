@@ -8,6 +8,7 @@
 ghost use Rattle.std.specs.Prelude.{◌≡◌, ◌≤◌};
 ghost use Rattle.combine_separated.specs.SeparatedParsers.{chainl1_of, sep_by_of, sep_by1_of, sep_count_min_max_of};
 
+pub mod laws;
 pub mod types;
 
 use crate::separated::Separated;

@@ -41,8 +41,8 @@ impl<A: Default, B> Default for SeparatedState<A, B> {
 /// A part, and later a separator and the part.
 #[derive(Clone, Copy, Drop)]
 pub struct Separated<P, S> {
-    pub(crate) parser: P,
-    pub(crate) separator: S,
+    pub parser: P,
+    pub separator: S,
 }
 
 /// Runs the first part, from what is kept of it.

@@ -1,5 +1,5 @@
 -- what one turn answers: whether it is a block, and a peeked refusal that is put back, or could not be
-use Rattle.std.proofs.Common.{ℕ, ◌+◌, ◌<◌, ◌≤◌, ◌≡◌, arith, Bool, true, false, Option, Some, None, sym, ◌∙◌}
+use Rattle.std.proofs.Common.{ℕ, ◌+◌, ◌<◌, ◌≤◌, ◌≡◌, arith, Bool, true, false, Option, Some, None, ◌||◌, refl, sym, ◌∙◌}
 use Rattle.combine_base.specs.Stream.View.{View, Takes, Moves}
 use Rattle.combine_base.specs.Parser.Outcome.{Outcome, Refused}
 use Rattle.combine_base.specs.Parser.Meaning.{Meaning, Reading, MeansSame, begun}
@@ -14,8 +14,8 @@ use Rattle.combine_base.specs.declared.error.Tracked.{Tracked}
 use Rattle.combine_base.specs.declared.error.ParseResult.TheVariants.{CommitErr, PeekErr}
 use Rattle.combine_turns.specs.Turns.{Collecting}
 use Rattle.combine_turns.specs.Turn.{called, TurnsSame}
-use Rattle.combine_turns.specs.Bounded.{goes_at}
-use Rattle.combine_turns.specs.OneTurn.{Judged, OneTurn, IsOver, Ended, PutBack, HasFailed, InTurn, TakesNothing, Unstored, Untold, Unreset, halted}
+use Rattle.combine_turns.specs.Bounded.{goes_at, limit, next_of, so_far}
+use Rattle.combine_turns.specs.OneTurn.{IsGathered, Judged, OneTurn, IsOver, Ended, PutBack, HasFailed, InTurn, TakesNothing, Unstored, Untold, Unreset, halted}
 use Rattle.combine_turns.specs.declared.turns.Bounds.{Bounds}
 use Rattle.combine_turns.specs.declared.turns.Place.{Place}
 use Rattle.combine_turns.specs.declared.turns.Step.{Step}
@@ -58,6 +58,10 @@ module _ {P T R A V S E : Type 0} (w : World P T S E) (b : Bounds) (ending : A �
       let x = h.1 in
       let a = h.2 in
       Unreset (q ∙ h.0) (omega arith) (record { count = y.count + x.count; taken = takes_more w.step y.count x.count old now new y.taken x.taken; state = y.state })
+
+-- a turn that is gathered, and what the next one begins with
+pub gathered_on : {A V Held : Type 0} (held : V → Held) (more : Held → A → Held → Type 0) (b : Bounds) (old joined new : Kept V) (value : A) (most : ℕ) (k : Bool) → IsGathered held more joined value most new → joined ≡ record { into = old.into; committed = old.committed || k; place = old.place } → most ≡ limit b → more (held old.into) value (held new.into) × (so_far held new ≡ record { mark = next_of b old.place; held = held new.into; committed = old.committed || k })
+gathered_on held more b old joined new value most k g e l = let h = rw (e, l) at g in (h.more_held, rw (h.place, h.committed) refl)
 
 -- what a turn of one parser did is what it did of another that means the same
 module _ {P T R A S E : Type 0} (w : World P T S E) (b : Bounds) (ending : A → Bool) (m m' : Meaning P T R A S) (h : MeansSame m m') (r : Run P T S) where

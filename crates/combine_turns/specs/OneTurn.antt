@@ -6,7 +6,7 @@ use Rattle.combine_base.specs.Parser.Answer.{Run, World, Answers, Accepts, Refus
 use Rattle.combine_base.specs.Sequence.Parts.{accepted_as, refused_as}
 use Rattle.combine_base.specs.Refusals.{Told}
 use Rattle.combine_turns.specs.Turns.{Collecting}
-use Rattle.combine_turns.specs.Bounded.{enough, goes_at, cut_at, next_of, so_far}
+use Rattle.combine_turns.specs.Bounded.{counted, enough, goes_at, cut_at, next_of, so_far}
 use Rattle.combine_base.specs.declared.stream.Kind.TheVariants as kinds
 use Rattle.combine_base.specs.declared.error.Tracked.{Tracked}
 use Rattle.combine_base.specs.declared.error.ParseResult.{ParseResult}
@@ -81,6 +81,12 @@ module _ {P T R A V S E : Type 0} (w : World P T S E) (b : Bounds) (ending : A �
 
   pub record OneTurn (result : Step V E) : Type 0 where
     pub is : turned result
+
+-- turns with one more value gathered, of which the next one runs
+pub record IsGathered {A V Held : Type 0} (held : V → Held) (more : Held → A → Held → Type 0) (old : Kept V) (value : A) (most : ℕ) (new : Kept V) : Type 0 where
+  pub more_held : more (held old.into) value (held new.into)
+  pub committed : new.committed ≡ old.committed
+  pub place : new.place ≡ record { number = counted most old.place.number; begun = false }
 
 -- what turns answer that stop so
 abbrev pub stopped_answer : {V E : Type 0} → Stop V E → ParseResult V E

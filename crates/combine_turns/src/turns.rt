@@ -7,7 +7,7 @@ ghost use Rattle.combine_base.specs.Refusals.{Told};
 ghost use Rattle.combine_base.specs.Sequence.Parts.{accepted_as, refused_as};
 ghost use Rattle.std.specs.Prelude.{None};
 ghost use Rattle.combine_turns.specs.FirstTurn.{FirstTurn};
-ghost use Rattle.combine_turns.specs.OneTurn.{OneTurn, stopped_answer, stopped_state};
+ghost use Rattle.combine_turns.specs.OneTurn.{IsGathered, OneTurn, stopped_answer, stopped_state};
 ghost use Rattle.combine_turns.specs.Turn.{TurnsSame, called};
 ghost use Rattle.combine_turns.specs.Bounded.{gathered, cut_at, counted, enough, fresh_turns, full_at, goes_at, kept_or, limit, missing, none_yet, owns, running_turn, so_far, turns_from};
 
@@ -299,6 +299,40 @@ impl<F> Turns<F> {
         }
     }
 
+    /// With one more turn, which is committed or not.
+    #[inline(always)]
+    fn joined(self, committed: bool) -> Turns<F>
+        ensures { result ≡ record { into = self.into; committed = self.committed || committed; place = self.place } }
+    {
+        let Turns {
+            into,
+            committed: before,
+            place,
+        } = self;
+        Turns {
+            into,
+            committed: before || committed,
+            place,
+        }
+    }
+
+    /// The same turns in the next piece.
+    #[inline(always)]
+    fn cut<Input: Stream>(self, since: Input::Position, input: &Input) -> Turns<F>
+        ensures { (n : ℕ) (old : Input) → since ≡ (Input.view old).position → Takes Input.step n (Input.view old) (Input.view input.now) → result ≡ record { into = self.into; committed = self.committed; place = cut_at self.place n } }
+    {
+        let Turns {
+            into,
+            committed,
+            place,
+        } = self;
+        Turns {
+            into,
+            committed,
+            place: place.cut(since, input),
+        }
+    }
+
     /// The turns end, accepted.
     #[inline(always)]
     fn end<E>(self) -> ParseResult<F, E>
@@ -443,11 +477,26 @@ fn too_few<Input: Stream>(input: &Input, position: Input::Position, missing: usi
     error
 }
 
+/// What the turn gave is gathered, and the next one runs.
 #[inline(always)]
-fn or(before: bool, committed: bool) -> bool
-    ensures { result ≡ (before || committed) }
+fn gather_turn<A, G: Gather<A>>(
+    turns: Turns<G::Into>,
+    value: A,
+    limit: usize,
+) -> Result<Turns<G::Into>, AllocError>
+    requires { G.able }
+    ensures { MatchResult result (λ n. IsGathered G.held G.more turns value limit n) (λ _. G.lean → ⊥) }
 {
-    before || committed
+    let Turns {
+        into,
+        committed,
+        place,
+    } = turns;
+    Ok(Turns {
+        into: G::gather(into, value)?,
+        committed,
+        place: place.next(limit),
+    })
 }
 
 /// One turn.
@@ -476,83 +525,41 @@ fn one_turn<G: Gather<P::Value>, Input: Stream, P: Turn<Input>, M: ParseMode>(
 {
     let checkpoint = input.checkpoint();
     let position = input.position();
-    let Turns {
-        into,
-        committed: before,
-        place,
-    } = turns;
     let (value, committed) = match parse_turn(parser, later, mode, input, running) {
         ParseResult::CommitOk(value) => (value, true),
         ParseResult::PeekOk(value) => (value, false),
         ParseResult::PeekErr(refusal) => {
-            if bounds.is_enough(place) {
+            if bounds.is_enough(turns.place) {
                 if let Err(kind) = input.reset(checkpoint) {
                     return Step::Stops(Stop::Failed(input.new_error(kind, position)));
                 }
-                return Step::Stops(Stop::Over(Turns {
-                    into,
-                    committed: before,
-                    place,
-                }));
+                return Step::Stops(Stop::Over(turns));
             }
-            if bounds.owns(place) {
-                return Step::Stops(Stop::Refused(
-                    Turns {
-                        into,
-                        committed: before,
-                        place,
-                    },
-                    refusal,
-                ));
+            if bounds.owns(turns.place) {
+                return Step::Stops(Stop::Refused(turns, refusal));
             }
-            let error = too_few(input, position, bounds.missing(place));
+            let error = too_few(input, position, bounds.missing(turns.place));
             if error.kind() == Kind::Memory {
                 return Step::Stops(Stop::Failed(error));
             }
-            return Step::Stops(Stop::Refused(
-                Turns {
-                    into,
-                    committed: before,
-                    place,
-                },
-                Tracked::from(error),
-            ));
+            return Step::Stops(Stop::Refused(turns, Tracked::from(error)));
         }
         ParseResult::CommitErr(error) => {
             if needs_more(input, &error) {
-                let place = place.cut(position, input);
-                return Step::Stops(Stop::More(
-                    Turns {
-                        into,
-                        committed: before,
-                        place,
-                    },
-                    error,
-                ));
+                return Step::Stops(Stop::More(turns.cut(position, input), error));
             }
             return Step::Stops(Stop::Failed(error));
         }
     };
     if P::ends(&value) {
-        return Step::Stops(Stop::Over(Turns {
-            into,
-            committed: or(before, committed),
-            place,
-        }));
+        return Step::Stops(Stop::Over(turns.joined(committed)));
     }
-    if !bounds.goes(place, committed, position, input) {
+    if !bounds.goes(turns.place, committed, position, input) {
         let error = refusal_saying(input, position, "repetition takes nothing");
         return Step::Stops(Stop::Failed(error));
     }
-    match G::gather(into, value) {
-        Ok(into) => {
-            let place = place.next(bounds.limit());
-            Step::Goes(Turns {
-                into,
-                committed: or(before, committed),
-                place,
-            })
-        }
+    match gather_turn::<P::Value, G>(turns.joined(committed), value, bounds.limit()) {
+        Ok(turns) => Step::Goes(turns),
         Err(_refused) => Step::Stops(Stop::Failed(input.new_error(Kind::Memory, position))),
     }
 }

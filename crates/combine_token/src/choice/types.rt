@@ -62,7 +62,7 @@ impl<Input: Stream, P: Parser<Input>, Q: Parser<Input, Output = P::Output>> Pars
 
 /// A parser or no value, as `optional` makes it.
 #[derive(Clone, Copy, Drop)]
-pub struct Optional<P>(pub(super) P);
+pub struct Optional<P>(pub P);
 
 impl<Input: Stream, P: Parser<Input>> Parser<Input> for Optional<P> {
     type Output = Option<P::Output>;

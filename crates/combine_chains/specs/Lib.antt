@@ -1,0 +1,17 @@
+pub use Rattle.combine_base.specs.Parser.Answer
+pub use Rattle.combine_base.specs.Parser.Mapped
+pub use Rattle.combine_base.specs.Parser.Meaning
+pub use Rattle.combine_base.specs.Parser.Outcome
+pub use Rattle.combine_base.specs.Sequence.Places
+pub use Rattle.combine_map.specs.Parsers
+pub use Rattle.combine_map.specs.Tables
+pub use Rattle.combine_repeat.specs.Built
+pub use Rattle.combine_separated.specs.Elements
+pub use Rattle.combine_separated.specs.JoinedLaws
+pub use Rattle.combine_separated.specs.Separated
+pub use Rattle.combine_token.specs.Or
+pub use Rattle.combine_token.specs.TokenParsers
+pub use Rattle.combine_turns.specs.Bounded
+pub use Rattle.combine_turns.specs.Turns
+pub mod Chains
+pub mod ChainParsers

@@ -1,0 +1,229 @@
+//! What runs in each turn: a part, and later a separator and the part, or a separator alone, which ends the turns.
+ghost use Rattle.std.specs.Prelude.{◌≡◌, false, true};
+ghost use Rattle.combine_base.specs.Parser.Answer.{world};
+ghost use Rattle.combine_base.specs.Parser.Meaning.{MeansSame};
+ghost use Rattle.combine_base.specs.Sequence.Places.{begins_2, first_fresh, valid_2};
+ghost use Rattle.combine_base.specs.Sequence.Tuples.{tuple_2, tuple_2_is_meaning};
+ghost use Rattle.combine_base.specs.Stream.Calls.{Passes};
+ghost use Rattle.combine_separated.specs.Placed.{Ran};
+ghost use Rattle.combine_separated.specs.Separated.{first_then, later_turn, separated_default, separated_valid, then_is_turn};
+ghost use Rattle.combine_sep_end.specs.Ended.{closer_of, ended_once, ended_part, is_none, last, some_more, some_of, within};
+ghost use Rattle.combine_token.specs.Optional.{optional, optional_is_meaning};
+
+use combine_base::error::{ParseResult, Tracked};
+use combine_base::parser::{FirstMode, ParseMode, Parser};
+use combine_base::repeat::Append;
+use combine_base::sequence::{PartialState2, State2, parse_2};
+use combine_base::stream::{Stream, needs_more};
+use combine_separated::separated::SeparatedState;
+use combine_token::choice::types::Optional;
+use combine_turns::turns::{Gather, Starts, Turn};
+use std::alloc::{AllocError, Global};
+use std::marker::PhantomData;
+use std::mem;
+
+/// A part, and later a separator and the part, or a separator alone, which ends the turns.
+#[derive(Clone, Copy, Drop)]
+pub struct Ended<P, S> {
+    pub(crate) part: Optional<P>,
+    pub(crate) separator: S,
+}
+
+/// Each value that there is is appended.
+#[derive(Drop)]
+pub struct EachSome<F>(PhantomData<F>);
+
+impl<A: Drop, F: Append<A>> Gather<Option<A>> for EachSome<F> {
+    type Into = F;
+
+    type From = Global;
+
+    ghost Held = { F.Held };
+
+    ghost held = { F.held };
+
+    ghost none = { F.none };
+
+    ghost more = { some_more (λ h a i. i ≡ F.more h a) };
+
+    ghost able = { Unit {0} };
+
+    ghost lean = { F.lean };
+
+    #[inline(always)]
+    fn begin(alloc: Global, value: Option<A>) -> Result<F, AllocError> {
+        let mut into = F::empty(alloc);
+        match value {
+            Some(value) => {
+                into.append(value)?;
+                Ok(into)
+            }
+            None => Ok(into),
+        }
+    }
+
+    #[inline(always)]
+    fn gather(into: F, value: Option<A>) -> Result<F, AllocError> {
+        let mut into = into;
+        match value {
+            Some(value) => {
+                into.append(value)?;
+                Ok(into)
+            }
+            None => Ok(into),
+        }
+    }
+}
+
+impl<A: Drop, F: Append<A>> Starts<Option<A>> for EachSome<F> {
+    #[inline(always)]
+    fn empty(alloc: Global) -> F {
+        F::empty(alloc)
+    }
+}
+
+/// Runs the first part, from what is kept of it.
+#[inline(always)]
+fn run_first<Input: Stream, P: Parser<Input>, B: Drop, M: ParseMode>(
+    parser: &mut P,
+    mode: M,
+    kept: P::PartialState,
+    input: &mut Input,
+    state: &mut SeparatedState<P::PartialState, B>,
+) -> ParseResult<Option<P::Output>, Input::Error>
+    requires lawful { P.lawful parser.old }
+    requires valid { P.valid kept }
+    ensures lawful { P.lawful parser.new }
+    ensures same { MeansSame (P.meaning parser.old) (P.meaning parser.new) }
+    ensures passes { Passes (Input.marks input.old) (Input.marks input.new) (Input.failures input.old) (Input.failures input.new) }
+    ensures ran { Ran (world Input.step Input.Error.seen Input.steady P.PartialState.is_default) (P.meaning parser.old) P.valid some_of (λ s. SeparatedState.First s)
+        (M.first mode) kept state.old state.new (Input.view input.old) (Input.view input.new) (Input.failures input.old) (Input.failures input.new) result }
+{
+    let mut kept = kept;
+    match parser.parse_mode(mode, input, &mut kept) {
+        ParseResult::CommitOk(value) => ParseResult::CommitOk(Some(value)),
+        ParseResult::PeekOk(value) => ParseResult::PeekOk(Some(value)),
+        ParseResult::CommitErr(error) => {
+            if needs_more(input, &error) {
+                *state = SeparatedState::First(kept);
+                return ParseResult::CommitErr(error);
+            }
+            ParseResult::CommitErr(error)
+        }
+        ParseResult::PeekErr(refusal) => ParseResult::PeekErr(refusal),
+    }
+}
+
+/// Runs a separator, and a part that may be missing, from what is kept of them.
+#[inline(always)]
+fn run_later<Input: Stream, P: Parser<Input>, S: Parser<Input>, M: ParseMode>(
+    separator: &mut S,
+    part: &mut Optional<P>,
+    mode: M,
+    kept: State2<Input, S, Optional<P>>,
+    input: &mut Input,
+    state: &mut SeparatedState<P::PartialState, State2<Input, S, Optional<P>>>,
+) -> ParseResult<Option<P::Output>, Input::Error>
+    requires lawful { S.lawful separator.old × P.lawful (within part.old) }
+    requires valid { valid_2 S.valid P.valid kept }
+    requires starts { M.first mode ≡ true → begins_2 (first_fresh S.PartialState.is_default) kept }
+    ensures lawful { S.lawful separator.new × P.lawful (within part.new) }
+    ensures parts { MeansSame (S.meaning separator.old) (S.meaning separator.new) × MeansSame (P.meaning (within part.old)) (P.meaning (within part.new)) }
+    ensures same { MeansSame (tuple_2 Input.step (S.meaning separator.old) (optional (P.meaning (within part.old)))) (tuple_2 Input.step (S.meaning separator.new) (optional (P.meaning (within part.new)))) }
+    ensures passes { Passes (Input.marks input.old) (Input.marks input.new) (Input.failures input.old) (Input.failures input.new) }
+    ensures ran { Ran (world Input.step Input.Error.seen Input.steady (begins_2 (first_fresh S.PartialState.is_default))) (tuple_2 Input.step (S.meaning separator.old) (optional (P.meaning (within part.old)))) (valid_2 S.valid P.valid) last (λ s. SeparatedState.Later s)
+        false kept state.old state.new (Input.view input.old) (Input.view input.new) (Input.failures input.old) (Input.failures input.new) result }
+{
+    let mut left = PartialState2::default();
+    match parse_2(separator, part, mode, input, kept, &mut left) {
+        ParseResult::CommitOk(pair) => {
+            let (_separator, value) = pair;
+            ParseResult::CommitOk(value)
+        }
+        ParseResult::PeekOk(pair) => {
+            let (_separator, value) = pair;
+            ParseResult::PeekOk(value)
+        }
+        ParseResult::CommitErr(error) => {
+            if needs_more(input, &error) {
+                *state = SeparatedState::Later(left);
+                return ParseResult::CommitErr(error);
+            }
+            ParseResult::CommitErr(error)
+        }
+        ParseResult::PeekErr(refusal) => ParseResult::PeekErr(refusal),
+    }
+}
+
+impl<Input: Stream, P: Parser<Input>, S: Parser<Input>> Turn<Input> for Ended<P, S> {
+    type Value = Option<P::Output>;
+
+    type Running = SeparatedState<P::PartialState, State2<Input, S, Optional<P>>>;
+
+    ghost lawful = { λ p. S.lawful (closer_of p) × P.lawful (ended_part p) };
+
+    ghost determined = { λ p. S.determined (closer_of p) × P.determined (ended_part p) };
+
+    ghost valid = { separated_valid P.valid (valid_2 S.valid P.valid) };
+
+    ghost meaning = { λ p. first_then some_of last (P.meaning (ended_part p)) (tuple_2 Input.step (S.meaning (closer_of p)) (optional (P.meaning (ended_part p)))) };
+
+    ghost again = { λ p. later_turn last (tuple_2 Input.step (S.meaning (closer_of p)) (optional (P.meaning (ended_part p)))) };
+
+    ghost ending = { is_none };
+
+    #[inline(always)]
+    fn parse_turn<M: ParseMode>(
+        &mut self,
+        later: bool,
+        mode: M,
+        input: &mut Input,
+        state: &mut Self::Running,
+    ) -> ParseResult<Self::Value, Input::Error> {
+        let given = mem::take(state);
+        if mode.is_first() {
+            if later {
+                let kept = PartialState2::default();
+                return run_later(
+                    &mut self.separator,
+                    &mut self.part,
+                    FirstMode,
+                    kept,
+                    input,
+                    state,
+                );
+            }
+            let kept = P::PartialState::default();
+            return run_first(&mut self.part.0, FirstMode, kept, input, state);
+        }
+        match given {
+            SeparatedState::First(kept) => run_first(&mut self.part.0, mode, kept, input, state),
+            SeparatedState::Later(kept) => run_later(
+                &mut self.separator,
+                &mut self.part,
+                mode,
+                kept,
+                input,
+                state,
+            ),
+        }
+    }
+
+    fn add_error(&mut self, error: &mut Tracked<Input::Error>) {
+        self.part.0.add_error(error);
+    }
+
+    #[inline(always)]
+    fn ends(value: &Self::Value) -> bool {
+        match value {
+            Some(_) => false,
+            None => true,
+        }
+    }
+
+    ghost default_valid = { λ s d. separated_default P.PartialState.is_default P.valid (valid_2 S.valid P.valid) P.default_valid s d };
+
+    ghost laws = { λ p l. then_is_turn some_of last (P.laws (ended_part p) l.1) (tuple_2_is_meaning Input.step (S.laws (closer_of p) l.0) (optional_is_meaning _ P.valid (P.meaning (ended_part p)) (P.laws (ended_part p) l.1))) };
+
+    ghost once = { λ p l d. ended_once Input.step P.valid S.valid (P.meaning (ended_part p)) (S.meaning (closer_of p)) (P.single (ended_part p) l.1 d.1) (S.single (closer_of p) l.0 d.0) };
+}

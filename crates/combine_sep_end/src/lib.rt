@@ -1,0 +1,5 @@
+//! Repetitions whose last separator may stand alone.
+#![tactic(auto)]
+
+pub mod ended;
+pub mod repeat;
