@@ -40,6 +40,7 @@ pub fn fed_in_pieces<T: Copy + 'static, P: Parser<fed::Stream<T>> + Drop>(
 #[cfg(test)]
 mod tests {
     use super::*;
+    use crate::cuts::{cut, sets_of_places};
     use combine::parser::choice::{optional, or};
     use combine::parser::combinator::attempt;
     use combine::parser::{byte, char};
@@ -47,38 +48,6 @@ mod tests {
 
     /// An input, and what is answered to it, however it is cut: the number of tokens taken of an acceptance, and whether the answer is committed.
     type Row<'a, T> = (&'a [T], Option<u64>, bool);
-
-    /// How many sets of places there are between tokens.
-    fn sets_of_places<T>(input: &[T]) -> u32 {
-        let mut sets: u32 = 1;
-        for _token in input.iter().skip(1) {
-            sets = sets.saturating_mul(2);
-        }
-        sets
-    }
-
-    /// The input cut behind each token whose bit is set in `places`, the lowest bit first, with an empty piece before each piece.
-    fn cut<T>(alloc: Global, input: &[T], places: u32) -> Result<Vec<&[T]>, AllocError> {
-        let empty: &[T] = &[];
-        let mut pieces = Vec::new(alloc);
-        let mut places = places;
-        let mut rest = input;
-        let mut length: usize = 0;
-        for _token in input {
-            length = length.saturating_add(1);
-            if places % 2 == 1 {
-                let (piece, behind) = rest.split_at(length.min(rest.len()));
-                pieces.push(empty)?;
-                pieces.push(piece)?;
-                rest = behind;
-                length = 0;
-            }
-            places /= 2;
-        }
-        pieces.push(empty)?;
-        pieces.push(rest)?;
-        Ok(pieces)
-    }
 
     /// The tokens taken of an acceptance, and whether the answer is committed.
     fn kind<V: Drop>(fed: Result<Fed<V>, SessionError>) -> Option<(Option<u64>, bool)> {

@@ -1,10 +1,15 @@
 //! Callers of the library: the README's, word for word, and a plain function for each constructor, over slices, pieces and sessions.
 #![tactic(auto)]
 
+pub mod choices;
 pub mod classes;
 pub mod classes_in_pieces;
+#[cfg(test)]
+mod cuts;
 pub mod each;
 pub mod faults;
+#[cfg(test)]
+mod kept_states;
 pub mod looks;
 pub mod pieces;
 pub mod ranges;
