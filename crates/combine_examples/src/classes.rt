@@ -270,13 +270,13 @@ mod tests {
     }
 
     /// Characters, as those bytes, and those of white space past ASCII.
-    const CHARS: [&str; 52] = [
+    const CHARS: [&str; 55] = [
         "\0", "\u{8}", "\u{9}", "\u{A}", "\u{B}", "\u{C}", "\u{D}", "\u{E}", "\u{1F}", " ", "!",
         "/", "0", "7", "8", "9", ":", "@", "A", "F", "G", "Z", "[", "`", "a", "f", "g", "z", "{",
         "\u{84}", "\u{85}", "\u{86}", "\u{9F}", "\u{A0}", "\u{A1}", "\u{167F}", "\u{1680}",
         "\u{1681}", "\u{1FFF}", "\u{2000}", "\u{200A}", "\u{200B}", "\u{2027}", "\u{2028}",
-        "\u{2029}", "\u{202A}", "\u{202E}", "\u{202F}", "\u{205F}", "\u{2060}", "\u{3000}",
-        "\u{3001}",
+        "\u{2029}", "\u{202A}", "\u{202E}", "\u{202F}", "\u{2030}", "\u{205E}", "\u{205F}",
+        "\u{2060}", "\u{2FFF}", "\u{3000}", "\u{3001}",
     ];
 
     /// Whether a value is the character, with nothing behind it, or else a refusal.

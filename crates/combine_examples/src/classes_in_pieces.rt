@@ -237,6 +237,29 @@ mod tests {
         Ok(())
     }
 
+    /// A digit of another script is a letter or a digit, and no `digit`.
+    #[test]
+    fn a_digit_of_another_script(rt: HostRuntime) {
+        let alloc = rt.alloc();
+        let pieces: [&[char]; 2] = [&[], &['\u{663}']];
+        let taken = fed_in_pieces(alloc, char::alpha_num(), &pieces);
+        assert_eq!(rt; kind(taken), Some((Some(1), true)));
+        let refused = fed_in_pieces(alloc, char::digit(), &pieces);
+        assert_eq!(rt; kind(refused), Some((None, false)));
+    }
+
+    /// A form feed is white space, and a vertical tab none.
+    #[test]
+    fn white_space_of_bytes(rt: HostRuntime) {
+        let alloc = rt.alloc();
+        let form_feed: [&[u8]; 2] = [b"", b"\x0C"];
+        let taken = fed_in_pieces(alloc, byte::space(), &form_feed);
+        assert_eq!(rt; kind(taken), Some((Some(1), true)));
+        let vertical_tab: [&[u8]; 2] = [b"", b"\x0B"];
+        let refused = fed_in_pieces(alloc, byte::space(), &vertical_tab);
+        assert_eq!(rt; kind(refused), Some((None, false)));
+    }
+
     #[test]
     fn two_texts(rt: HostRuntime) -> Result<(), AllocError> {
         let alloc = rt.alloc();

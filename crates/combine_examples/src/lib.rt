@@ -11,6 +11,7 @@ pub mod faults;
 #[cfg(test)]
 mod kept_states;
 pub mod looks;
+pub mod nested;
 pub mod pieces;
 pub mod ranges;
 pub mod repetitions;
