@@ -1,10 +1,10 @@
 //! A plain function for each parser of bytes, over slices, and of characters, over texts; and some over streams that count positions.
 
 use crate::each::Parsed;
-use combine::error::{ErrorOffset, ParseError, UnexpectedParse};
+use combine::error::{ErrorOffset, UnexpectedParse};
 use combine::parser::{Parser, byte, char};
+use combine::stream::Positioned;
 use combine::stream::position::{self, SourcePosition};
-use combine::stream::{Positioned, Stream};
 
 /// A value and the text behind it, or why there is none.
 pub type ParsedText<'a, T> = Result<(T, &'a str), UnexpectedParse>;
@@ -177,16 +177,15 @@ pub fn behind_spaces(input: &str) -> Result<SourcePosition, UnexpectedParse> {
     Ok(rest.position())
 }
 
-/// The position behind the text `let`, in any stream of characters.
-///
-/// In a function that isn't generic, Rattle's borrow checker doesn't cover `string` over a stream that counts positions: its type names several lifetimes, and the signature of `string` names `'static`.
-pub fn behind_let<Input: Stream<Token = char>>(
-    input: Input,
-) -> Result<Input::Position, Input::Error>
-where
-    Input::Error: ParseError<char, Input::Range, Input::Position>,
-{
-    let (_, rest) = char::string("let").parse(input)?;
+/// The line and column behind the text `let`.
+pub fn behind_let(input: &str) -> Result<SourcePosition, UnexpectedParse> {
+    let (_, rest) = char::string("let").parse(position::Stream::new(input))?;
+    Ok(rest.position())
+}
+
+/// The index behind the bytes `let`.
+pub fn behind_let_bytes(input: &[u8]) -> Result<usize, UnexpectedParse> {
+    let (_, rest) = byte::bytes(b"let").parse(position::Stream::new(input))?;
     Ok(rest.position())
 }
 
@@ -457,9 +456,10 @@ mod tests {
             Ok(SourcePosition { line: 2, column: 2 })
         );
         assert_eq!(rt;
-            behind_let(position::Stream::new("letx")),
+            behind_let("letx"),
             Ok(SourcePosition { line: 1, column: 4 })
         );
+        assert_eq!(rt; behind_let_bytes(b"letx"), Ok(3));
         assert_eq!(rt; behind_crlf(b"\r\nx"), Ok(2));
     }
 }

@@ -219,10 +219,7 @@ mod tests {
             for places in 0..sets_of_places(input) {
                 let pieces = cut(alloc, input, places)?;
                 let bracketed = between(token('['), token(']'), string("rust"));
-                assert_eq!(rt;
-                    parse_pieces(alloc, bracketed, pieces.as_slice()),
-                    wanted
-                );
+                assert_eq!(rt; parse_pieces(alloc, bracketed, pieces.as_slice()), wanted);
             }
         }
         Ok(())

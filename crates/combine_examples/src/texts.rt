@@ -157,10 +157,7 @@ mod tests {
     #[test]
     fn places_of_a_mark(rt: HostRuntime) {
         assert_eq!(rt; placed_mark('!', "!"), Ok((at(1, 1), '!', at(1, 2))));
-        assert_eq!(rt;
-            placed_mark('\n', "\n"),
-            Ok((at(1, 1), '\n', at(2, 1)))
-        );
+        assert_eq!(rt; placed_mark('\n', "\n"), Ok((at(1, 1), '\n', at(2, 1))));
         assert_eq!(rt; placed_mark('!', "?"), Err(REFUSED));
     }
 
