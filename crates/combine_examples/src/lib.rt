@@ -11,7 +11,8 @@ pub mod faults;
 #[cfg(test)]
 mod kept_states;
 pub mod looks;
-pub mod nested;
+#[cfg(test)]
+mod nested;
 pub mod pieces;
 pub mod ranges;
 pub mod repetitions;
