@@ -338,5 +338,8 @@ mod tests {
         let cut: [&[char]; 2] = [&['l', 'e'], &['x']];
         let either = or(attempt(char::string("let")), char::string("lex"));
         assert_eq!(rt; unread(fed_in_pieces(alloc, either, &cut)), Some(12));
+        let none: [&[u8]; 1] = [b""];
+        let maybe = optional(byte::byte(b'a'));
+        assert_eq!(rt; unread(fed_in_pieces(alloc, maybe, &none)), Some(10));
     }
 }
