@@ -13,6 +13,9 @@ use std::alloc::Global;
 /// A value and what is behind it, or why there is none.
 pub type Parsed<'a, T> = Result<(T, &'a [u8]), UnexpectedParse>;
 
+/// A value and the text behind it, or why there is none.
+pub type ParsedText<'a, T> = Result<(T, &'a str), UnexpectedParse>;
+
 /// Any byte.
 pub fn any_byte(input: &[u8]) -> Parsed<'_, u8> {
     any().parse(input)

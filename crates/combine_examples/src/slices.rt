@@ -18,13 +18,15 @@ pub fn setting(
     (word, token(b'='), digits, token(b';')).parse(input)
 }
 
-pub(crate) fn is_letter(byte: u8) -> bool
+/// Whether a byte is a small letter.
+pub fn is_letter(byte: u8) -> bool
     ensures { result ≡ is_ascii_lowercase byte }
 {
     byte.is_ascii_lowercase()
 }
 
-pub(crate) fn is_digit(byte: u8) -> bool
+/// Whether a byte is a digit.
+pub fn is_digit(byte: u8) -> bool
     ensures { result ≡ is_ascii_digit byte }
 {
     byte.is_ascii_digit()

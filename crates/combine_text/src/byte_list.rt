@@ -19,6 +19,7 @@ use combine_base::parser::{ParseMode, Parser};
 use combine_base::stream::Stream;
 use combine_token::token::{TokensState, match_list};
 use std::marker::PhantomData;
+use std::slice::Iter;
 
 /// The ranges of a stream of bytes, by which errors show a list of bytes.
 pub trait ShowsBytes: Copy {
@@ -49,20 +50,52 @@ impl ShowsBytes for () {
     fn of_bytes(bytes: &'static [u8]) -> Self {}
 }
 
+/// A list of bytes that stays as long as the program runs: `&'static [u8]`.
+///
+/// It is a type of its own to a parser, as a text is by `LastingText`.
+pub trait LastingBytes: Clone + Copy + Drop {
+    ghost use Rattle.std.specs.Prelude.{◌≡◌, ℕ, List};
+
+    /// The bytes.
+    ghost list: { Self → List ℕ };
+
+    /// The bytes.
+    fn bytes(self) -> &'static [u8]
+        ensures { result.now ≡ list self };
+
+    /// A clone is the list itself, and takes no memory.
+    ghost clones: { (s r : Self) → (Self.Clone.is_clone s r → r ≡ s) × (r ≡ s → Self.Clone.is_clone s r) };
+
+    ghost infallible: { (s : Self) → Self.Clone.is_infallible s };
+}
+
+impl LastingBytes for &'static [u8] {
+    ghost list = { λ s. s.now };
+
+    ghost clones = { λ s r. (λ e. e, λ e. e) };
+
+    ghost infallible = { λ s. tt };
+
+    #[inline(always)]
+    fn bytes(self) -> &'static [u8] {
+        self
+    }
+}
+
 /// The parser of the bytes of a list, one after another; its value is the list.
 ///
 /// The error of a committed mismatch says which token stands there, at the position where the call began. On need of more nothing is left unread: the state keeps how many bytes were matched.
 #[derive(Drop)]
-pub struct InBytes<Input, F> {
-    bytes: &'static [u8],
+pub struct InBytes<Input, F, S = &'static [u8]> {
+    bytes: S,
     fits: F,
     reads: PhantomData<Input>,
 }
 
 /// The bytes of a list, each compared with the token at its place.
 #[inline]
-pub fn in_bytes<Input, F>(bytes: &'static [u8], fits: F) -> InBytes<Input, F>
-    ensures { result ≡ in_bytes_parser bytes.entry fits }
+pub fn in_bytes<Input, F, S>(bytes: S, fits: F) -> InBytes<Input, F, S>
+    ensures { result ≡ in_bytes_parser bytes fits }
 {
     InBytes {
         bytes,
@@ -71,11 +104,12 @@ pub fn in_bytes<Input, F>(bytes: &'static [u8], fits: F) -> InBytes<Input, F>
     }
 }
 
-impl<Input: Stream, F: Fits<u8, Input::Token>> Parser<Input> for InBytes<Input, F>
+impl<Input: Stream, F: Fits<u8, Input::Token>, S: LastingBytes> Parser<Input>
+    for InBytes<Input, F, S>
 where
     Input::Range: ShowsBytes,
 {
-    type Output = &'static [u8];
+    type Output = S;
 
     type PartialState = TokensState;
 
@@ -85,9 +119,9 @@ where
 
     ghost valid = { λ s. Unit {0} };
 
-    ghost meaning = { λ p. token_list (listed (F.compares (fits_of_bytes p)) (bytes_of p).now) (λ v. v ≡ bytes_of p) matched_before (Unit {0}) (SaysRange (Input.Range.shows (bytes_of p).now)) };
+    ghost meaning = { λ p. token_list (listed (F.compares (fits_of_bytes p)) (S.list (bytes_of p))) (λ v. v ≡ bytes_of p) matched_before (Unit {0}) (SaysRange (Input.Range.shows (S.list (bytes_of p)))) };
 
-    ghost refuses = { λ p k. RefusesList Input.Error.seen (listed (F.compares (fits_of_bytes p)) (bytes_of p).now) None (begins_at matched_before k) };
+    ghost refuses = { λ p k. RefusesList Input.Error.seen (listed (F.compares (fits_of_bytes p)) (S.list (bytes_of p))) None (begins_at matched_before k) };
 
     ghost parts = { λ p. 1 };
 
@@ -97,14 +131,14 @@ where
         mode: M,
         input: &mut Input,
         state: &mut TokensState,
-    ) -> ParseResult<&'static [u8], Input::Error> {
+    ) -> ParseResult<S, Input::Error> {
         match_bytes(self.bytes, &self.fits, mode, input, state)
     }
 
     /// Adds the list as a range, as what was expected.
     #[inline]
     fn add_error(&mut self, error: &mut Tracked<Input::Error>) {
-        let range = Input::Range::of_bytes(self.bytes);
+        let range = Input::Range::of_bytes(self.bytes.bytes());
         error.error.add_expected(&Info::Range(range));
     }
 
@@ -122,26 +156,26 @@ where
 
 /// One call of a parser of the bytes of a list.
 #[inline(always)]
-fn match_bytes<F, Input: Stream, M: ParseMode>(
-    bytes: &'static [u8],
+fn match_bytes<F, S: LastingBytes, Input: Stream, M: ParseMode>(
+    bytes: S,
     fits: &F,
     mode: M,
     input: &mut Input,
     state: &mut TokensState,
-) -> ParseResult<&'static [u8], Input::Error>
+) -> ParseResult<S, Input::Error>
 where
     F: Fits<u8, Input::Token>,
     requires { F.ready fits.now }
     ensures passes { Passes (Input.marks input.old) (Input.marks input.new) (Input.failures input.old) (Input.failures input.new) }
     ensures answers { Answers (world Input.step Input.Error.seen Input.steady (λ s. matched_before s ≡ 0))
-        (token_list (listed (F.compares fits.now) bytes.now) (λ v. v ≡ bytes.entry) matched_before (Unit {0}) (Nothing {R = Input.Range}))
+        (token_list (listed (F.compares fits.now) (S.list bytes)) (λ v. v ≡ bytes) matched_before (Unit {0}) (Nothing {R = Input.Range}))
         (record { first = M.first mode; state = state.old; left = state.new; old = Input.view input.old; new = Input.view input.new; before = Input.failures input.old; after = Input.failures input.new })
         result }
     ensures refuses { Reasoned Input.Error.seen.kind (Input.view input.new).is_open
-        (RefusesList Input.Error.seen (listed (F.compares fits.now) bytes.now) None (begins_at matched_before (kept_from (M.first mode) state.old)) (Input.view input.old))
+        (RefusesList Input.Error.seen (listed (F.compares fits.now) (S.list bytes)) None (begins_at matched_before (kept_from (M.first mode) state.old)) (Input.view input.old))
         result }
 {
-    let items = bytes.iter();
+    let items = listed_items(bytes);
     match_list(
         &|item: &u8, token: Input::Token| -> bool
             requires { F.ready fits.now }
@@ -154,4 +188,13 @@ where
         input,
         state,
     )
+}
+
+/// An iterator of the bytes of a list, which are fewer than 2^64.
+#[inline(always)]
+fn listed_items<S: LastingBytes>(bytes: S) -> Iter<'static, u8>
+    ensures rest { iter_rest result ≡ S.list bytes }
+    ensures few { length (S.list bytes) < 2 ^ 64 }
+{
+    bytes.bytes().iter()
 }

@@ -1,23 +1,23 @@
-use Rattle.combine_text.proofs.Spelling.{slice_iterated, slice_within, within_slice, spelled_answers, spelled_reasons}
+use Rattle.combine_text.proofs.Spelling.{given_answers, slice_iterated, slice_within, within_slice, spelled_reasons}
 use Rattle.combine_text.proofs.byte_list.match_bytes.Goals as goal
 
 pub match_list-requires-clause-list : goal.match_list-requires-clause-list
 match_list-requires-clause-list g c =
-    let k = c.iter-items.ensures in
-    slice_iterated c.iter-items.result c.args.bytes.now k.rest (rw k.rest at k.bound)
+    let k = c.listed_items-items.ensures in
+    slice_iterated c.listed_items-items.result (g.S.LastingBytes.list c.args.bytes) k.rest k.few
 
 pub returns-clause-answers : goal.returns-clause-answers
 returns-clause-answers g c =
-    let k = c.iter-items.ensures in
+    let k = c.listed_items-items.ensures in
     let compares = g.F.Fits.compares c.args.fits.now in
-    let items = c.iter-items.result in
-    let bytes = c.args.bytes.now in
-    spelled_answers _ _ _ (slice_within items bytes k.rest compares) (within_slice items bytes k.rest compares) _ _ _ (tt, tt) _ _ _ _ c.match_list.ensures.answers
+    let items = c.listed_items-items.result in
+    let bytes = g.S.LastingBytes.list c.args.bytes in
+    given_answers _ _ _ (slice_within items bytes k.rest compares) (within_slice items bytes k.rest compares) _ _ (g.met.S.LastingBytes.clones c.args.bytes) _ _ (tt, g.met.S.LastingBytes.infallible c.args.bytes) _ _ _ _ c.match_list.ensures.answers
 
 pub returns-clause-refuses : goal.returns-clause-refuses
 returns-clause-refuses g c =
-    let k = c.iter-items.ensures in
+    let k = c.listed_items-items.ensures in
     let compares = g.F.Fits.compares c.args.fits.now in
-    let items = c.iter-items.result in
-    let bytes = c.args.bytes.now in
+    let items = c.listed_items-items.result in
+    let bytes = g.S.LastingBytes.list c.args.bytes in
     spelled_reasons _ _ _ _ (slice_within items bytes k.rest compares) _ _ _ _ c.match_list.ensures.refuses

@@ -1,13 +1,10 @@
 //! A plain function for each parser of bytes, over slices, and of characters, over texts; and some over streams that count positions.
 
-use crate::each::Parsed;
-use combine::error::{ErrorOffset, ParseError, UnexpectedParse};
+use combine::error::{ErrorOffset, UnexpectedParse};
 use combine::parser::{Parser, byte, char};
+use combine::stream::Positioned;
 use combine::stream::position::{self, SourcePosition};
-use combine::stream::{Positioned, Stream};
-
-/// A value and the text behind it, or why there is none.
-pub type ParsedText<'a, T> = Result<(T, &'a str), UnexpectedParse>;
+use combine_examples::each::{Parsed, ParsedText};
 
 /// This byte.
 pub fn byte_this(wanted: u8, input: &[u8]) -> Parsed<'_, u8> {
@@ -177,16 +174,15 @@ pub fn behind_spaces(input: &str) -> Result<SourcePosition, UnexpectedParse> {
     Ok(rest.position())
 }
 
-/// The position behind the text `let`, in any stream of characters.
-///
-/// In a function that isn't generic, Rattle's borrow checker doesn't cover `string` over a stream that counts positions: its type names several lifetimes, and the signature of `string` names `'static`.
-pub fn behind_let<Input: Stream<Token = char>>(
-    input: Input,
-) -> Result<Input::Position, Input::Error>
-where
-    Input::Error: ParseError<char, Input::Range, Input::Position>,
-{
-    let (_, rest) = char::string("let").parse(input)?;
+/// The line and column behind the text `let`.
+pub fn behind_let(input: &str) -> Result<SourcePosition, UnexpectedParse> {
+    let (_, rest) = char::string("let").parse(position::Stream::new(input))?;
+    Ok(rest.position())
+}
+
+/// The index behind the bytes `let`.
+pub fn behind_let_bytes(input: &[u8]) -> Result<usize, UnexpectedParse> {
+    let (_, rest) = byte::bytes(b"let").parse(position::Stream::new(input))?;
     Ok(rest.position())
 }
 
@@ -270,13 +266,13 @@ mod tests {
     }
 
     /// Characters, as those bytes, and those of white space past ASCII.
-    const CHARS: [&str; 52] = [
+    const CHARS: [&str; 55] = [
         "\0", "\u{8}", "\u{9}", "\u{A}", "\u{B}", "\u{C}", "\u{D}", "\u{E}", "\u{1F}", " ", "!",
         "/", "0", "7", "8", "9", ":", "@", "A", "F", "G", "Z", "[", "`", "a", "f", "g", "z", "{",
         "\u{84}", "\u{85}", "\u{86}", "\u{9F}", "\u{A0}", "\u{A1}", "\u{167F}", "\u{1680}",
         "\u{1681}", "\u{1FFF}", "\u{2000}", "\u{200A}", "\u{200B}", "\u{2027}", "\u{2028}",
-        "\u{2029}", "\u{202A}", "\u{202E}", "\u{202F}", "\u{205F}", "\u{2060}", "\u{3000}",
-        "\u{3001}",
+        "\u{2029}", "\u{202A}", "\u{202E}", "\u{202F}", "\u{2030}", "\u{205E}", "\u{205F}",
+        "\u{2060}", "\u{2FFF}", "\u{3000}", "\u{3001}",
     ];
 
     /// Whether a value is the character, with nothing behind it, or else a refusal.
@@ -457,9 +453,10 @@ mod tests {
             Ok(SourcePosition { line: 2, column: 2 })
         );
         assert_eq!(rt;
-            behind_let(position::Stream::new("letx")),
+            behind_let("letx"),
             Ok(SourcePosition { line: 1, column: 4 })
         );
+        assert_eq!(rt; behind_let_bytes(b"letx"), Ok(3));
         assert_eq!(rt; behind_crlf(b"\r\nx"), Ok(2));
     }
 }

@@ -1,10 +1,10 @@
 //! Look-ahead: a plain function for each parser whose calls begin again.
 
-use crate::each::Parsed;
 use combine::error::UnexpectedParse;
 use combine::parser::combinator::{look_ahead, no_partial, not_followed_by};
 use combine::parser::token::token;
 use combine::parser::{Answer, Parser, SessionError, parse_pieces};
+use combine_examples::each::Parsed;
 use std::alloc::Global;
 
 /// An `a`, which is left there.

@@ -43,42 +43,11 @@ mod tests {
     use combine::parser::choice::{optional, or};
     use combine::parser::combinator::attempt;
     use combine::parser::{byte, char};
+    use combine_examples::cuts::{cut, sets_of_places};
     use std::alloc::AllocError;
 
     /// An input, and what is answered to it, however it is cut: the number of tokens taken of an acceptance, and whether the answer is committed.
     type Row<'a, T> = (&'a [T], Option<u64>, bool);
-
-    /// How many sets of places there are between tokens.
-    fn sets_of_places<T>(input: &[T]) -> u32 {
-        let mut sets: u32 = 1;
-        for _token in input.iter().skip(1) {
-            sets = sets.saturating_mul(2);
-        }
-        sets
-    }
-
-    /// The input cut behind each token whose bit is set in `places`, the lowest bit first, with an empty piece before each piece.
-    fn cut<T>(alloc: Global, input: &[T], places: u32) -> Result<Vec<&[T]>, AllocError> {
-        let empty: &[T] = &[];
-        let mut pieces = Vec::new(alloc);
-        let mut places = places;
-        let mut rest = input;
-        let mut length: usize = 0;
-        for _token in input {
-            length = length.saturating_add(1);
-            if places % 2 == 1 {
-                let (piece, behind) = rest.split_at(length.min(rest.len()));
-                pieces.push(empty)?;
-                pieces.push(piece)?;
-                rest = behind;
-                length = 0;
-            }
-            places /= 2;
-        }
-        pieces.push(empty)?;
-        pieces.push(rest)?;
-        Ok(pieces)
-    }
 
     /// The tokens taken of an acceptance, and whether the answer is committed.
     fn kind<V: Drop>(fed: Result<Fed<V>, SessionError>) -> Option<(Option<u64>, bool)> {
@@ -268,6 +237,29 @@ mod tests {
         Ok(())
     }
 
+    /// A digit of another script is a letter or a digit, and no `digit`.
+    #[test]
+    fn a_digit_of_another_script(rt: HostRuntime) {
+        let alloc = rt.alloc();
+        let pieces: [&[char]; 2] = [&[], &['\u{663}']];
+        let taken = fed_in_pieces(alloc, char::alpha_num(), &pieces);
+        assert_eq!(rt; kind(taken), Some((Some(1), true)));
+        let refused = fed_in_pieces(alloc, char::digit(), &pieces);
+        assert_eq!(rt; kind(refused), Some((None, false)));
+    }
+
+    /// A form feed is white space, and a vertical tab none.
+    #[test]
+    fn white_space_of_bytes(rt: HostRuntime) {
+        let alloc = rt.alloc();
+        let form_feed: [&[u8]; 2] = [b"", b"\x0C"];
+        let taken = fed_in_pieces(alloc, byte::space(), &form_feed);
+        assert_eq!(rt; kind(taken), Some((Some(1), true)));
+        let vertical_tab: [&[u8]; 2] = [b"", b"\x0B"];
+        let refused = fed_in_pieces(alloc, byte::space(), &vertical_tab);
+        assert_eq!(rt; kind(refused), Some((None, false)));
+    }
+
     #[test]
     fn two_texts(rt: HostRuntime) -> Result<(), AllocError> {
         let alloc = rt.alloc();
@@ -346,5 +338,8 @@ mod tests {
         let cut: [&[char]; 2] = [&['l', 'e'], &['x']];
         let either = or(attempt(char::string("let")), char::string("lex"));
         assert_eq!(rt; unread(fed_in_pieces(alloc, either, &cut)), Some(12));
+        let none: [&[u8]; 1] = [b""];
+        let maybe = optional(byte::byte(b'a'));
+        assert_eq!(rt; unread(fed_in_pieces(alloc, maybe, &none)), Some(10));
     }
 }

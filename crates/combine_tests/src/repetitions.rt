@@ -1,7 +1,6 @@
 //! Plain callers of counted and separated repetitions, and of chains, over pieces.
 ghost use Rattle.std.specs.Prelude.{◌≤◌};
 
-use crate::slices::is_digit;
 use combine::error::UnexpectedParse;
 use combine::parser::combinator::map;
 use combine::parser::repeat::{
@@ -10,6 +9,7 @@ use combine::parser::repeat::{
 };
 use combine::parser::token::{satisfy, token, value};
 use combine::parser::{Answer, SessionError, parse_pieces};
+use combine_examples::slices::is_digit;
 use std::alloc::Global;
 
 /// What a parser answers to pieces.

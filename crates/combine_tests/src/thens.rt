@@ -1,12 +1,12 @@
 //! Parsers that a function answers: a plain function for each of `then` and its kin.
 
-use crate::each::Parsed;
-use crate::sessions::accepted;
-use crate::slices::is_digit;
 use combine::error::UnexpectedParse;
 use combine::parser::sequence::{then, then_partial, then_ref};
 use combine::parser::token::{any, satisfy, token};
 use combine::parser::{Answer, Parser, SessionError, parse_pieces};
+use combine_examples::each::Parsed;
+use combine_examples::sessions::accepted;
+use combine_examples::slices::is_digit;
 use std::alloc::Global;
 
 /// A byte, and the same byte again.

@@ -1,11 +1,11 @@
 //! A plain function for each constructor of tokens that `each` hasn't, over a slice of bytes or its pieces.
 
-use crate::each::Parsed;
 use combine::error::UnexpectedParse;
 use combine::parser::repeat::many;
 use combine::parser::token::{eof, none_of, one_of, position, produce, satisfy_map, tokens_cmp};
 use combine::parser::{Answer, Parser, SessionError, parse_pieces};
 use combine::stream::Left;
+use combine_examples::each::Parsed;
 use std::alloc::Global;
 
 /// A letter in either case, made small.

@@ -1,11 +1,11 @@
 //! Plain callers of lists whose last separator may stand alone, of chains that are folded from the right, and of texts with escapes, over pieces.
 use crate::repetitions::Answered;
-use crate::slices::{is_digit, is_letter};
 use combine::error::UnexpectedParse;
 use combine::parser::combinator::map;
 use combine::parser::repeat::{chainr1, escaped, many, sep_end_by, sep_end_by1};
 use combine::parser::token::{one_of, satisfy, token, value};
 use combine::parser::{Parser, parse_pieces};
+use combine_examples::slices::{is_digit, is_letter};
 use std::alloc::Global;
 
 /// Digits with `;` between them, and perhaps behind the last; there may be none.

@@ -1,13 +1,13 @@
 //! A plain function for each constructor of sequences, over a slice of bytes or over pieces.
 
-use crate::each::Parsed;
-use crate::slices::is_digit;
 use combine::error::UnexpectedParse;
 use combine::parser::combinator::ignore;
 use combine::parser::sequence::{between, skip, with};
 use combine::parser::token::{any, satisfy, token};
 use combine::parser::{Answer, Parser, SessionError, parse_pieces};
 use combine::{ParserExt, struct_parser};
+use combine_examples::each::Parsed;
+use combine_examples::slices::is_digit;
 use std::alloc::Global;
 
 /// What stands behind a colon.
@@ -89,7 +89,10 @@ pub fn eight_parts(alloc: Global, pieces: &[&[u8]]) -> InPieces<(u8, u8, u8, u8,
 #[cfg(test)]
 mod tests {
     use super::*;
+    use combine::parser::byte::digit;
+    use combine::parser::char::string;
     use combine::stream::{Kind, Stream};
+    use combine_examples::cuts::{cut, sets_of_places};
     use std::alloc::AllocError;
 
     const REFUSED: UnexpectedParse = UnexpectedParse(Kind::Refused);
@@ -195,6 +198,46 @@ mod tests {
             pieces.push(piece)?;
         }
         Ok(pieces)
+    }
+
+    fn accepted<T>(value: T, taken: u64) -> InPieces<T> {
+        Ok(Answer::Accepted {
+            value,
+            taken,
+            committed: true,
+        })
+    }
+
+    #[test]
+    fn a_text_in_brackets(rt: HostRuntime) -> Result<(), AllocError> {
+        let alloc = rt.alloc();
+        let rows: [(&[char], InPieces<&'static str>); 2] = [
+            (&['[', 'r', 'u', 's', 't', ']'], accepted("rust", 6)),
+            (&['[', 'r', 'u', 's', 't', '!'], refused()),
+        ];
+        for (input, wanted) in rows {
+            for places in 0..sets_of_places(input) {
+                let pieces = cut(alloc, input, places)?;
+                let bracketed = between(token('['), token(']'), string("rust"));
+                assert_eq!(rt; parse_pieces(alloc, bracketed, pieces.as_slice()), wanted);
+            }
+        }
+        Ok(())
+    }
+
+    #[test]
+    fn two_digits_in_pieces(rt: HostRuntime) -> Result<(), AllocError> {
+        let alloc = rt.alloc();
+        let input = b"1,2".as_slice();
+        for places in 0..sets_of_places(input) {
+            let pieces = cut(alloc, input, places)?;
+            let digits = struct_parser!(Digits(digit(), _: token(b','), digit()));
+            assert_eq!(rt;
+                parse_pieces(alloc, digits, pieces.as_slice()),
+                accepted(Digits(b'1', b'2'), 3)
+            );
+        }
+        Ok(())
     }
 
     /// However they are cut, in two pieces or a byte each.

@@ -5,7 +5,7 @@ ghost use Rattle.combine_base.specs.Parser.Faults.{NoStreamFaultIn};
 
 use combine::error::{ParseError, UnexpectedParse};
 use combine::parser::repeat::{many1, skip_many};
-use combine::parser::token::{any, satisfy, token};
+use combine::parser::token::{any, position as place, satisfy, token};
 use combine::parser::{Answer, Parser, SessionError, parse_pieces};
 use combine::stream::position::{self, SourcePosition};
 use combine::stream::{Left, Positioned, Stream};
@@ -51,6 +51,16 @@ pub fn place_of(wanted: char, input: &str) -> Result<SourcePosition, UnexpectedP
     let mut before = skip_many(satisfy(|character: char| character != wanted));
     let (_, rest) = before.parse(position::Stream::new(input))?;
     Ok(rest.position())
+}
+
+/// A mark at the beginning of a text, and where it begins and ends.
+pub fn placed_mark(
+    mark: char,
+    input: &str,
+) -> Result<(SourcePosition, char, SourcePosition), UnexpectedParse> {
+    let mut placed = (place(), token(mark), place());
+    let (value, _) = placed.parse(position::Stream::new(input))?;
+    Ok(value)
 }
 
 /// The index of the first such byte, or that behind the bytes.
@@ -142,6 +152,13 @@ mod tests {
         assert_eq!(rt; place_of('!', "ab\r\n\tc"), Ok(at(2, 3)));
         assert_eq!(rt; SourcePosition::default(), at(1, 1));
         assert!(rt; at(1, 9) < at(2, 1));
+    }
+
+    #[test]
+    fn places_of_a_mark(rt: HostRuntime) {
+        assert_eq!(rt; placed_mark('!', "!"), Ok((at(1, 1), '!', at(1, 2))));
+        assert_eq!(rt; placed_mark('\n', "\n"), Ok((at(1, 1), '\n', at(2, 1))));
+        assert_eq!(rt; placed_mark('!', "?"), Err(REFUSED));
     }
 
     #[test]
