@@ -43,6 +43,26 @@ pub fn each<'a, T>(
     Some(taken)
 }
 
+/// The values of a first item and of each next one, which begins with a separator; the number of bytes that they took.
+/// A streaming `next` that met the end of all pieces is finished by the complete one.
+pub fn separated<'a, T>(
+    first: impl Fn(&'a [u8]) -> IResult<&'a [u8], T>,
+    next: impl Fn(&'a [u8]) -> IResult<&'a [u8], T>,
+    streaming: impl Fn(&'a [u8]) -> IResult<&'a [u8], T>,
+    bytes: &'a [u8],
+    size: usize,
+    mut see: impl FnMut(T),
+) -> Option<usize> {
+    let (rest, value) = first(bytes).ok()?;
+    see(value);
+    let mut taken = bytes.len() - rest.len();
+    if size > 0 {
+        taken += each(streaming, rest, size, &mut see)?;
+    }
+    let (rest, ()) = fold_many0(next, || (), |(), value| see(value))(&bytes[taken..]).ok()?;
+    Some(bytes.len() - rest.len())
+}
+
 /// Both forms of a parser: `complete` for whole inputs, `streaming` for pieces.
 #[macro_export]
 macro_rules! both_forms {

@@ -137,6 +137,32 @@ pub fn digits(size: usize) -> Vec<u8> {
     repeated(size.max(1), |dice, all| dice.push(all, 1, b'0', b'9'))
 }
 
+/// Numbers of 1 to 6 digits with `,` between them.
+pub fn numbers(size: usize) -> Vec<u8> {
+    let mut all = repeated(size.max(1), |dice, all| {
+        let digits = dice.between(1, 6);
+        dice.push(all, digits, b'0', b'9');
+        all.push(b',');
+    });
+    all.pop();
+    all
+}
+
+/// Frames of 60 bytes.
+pub fn frames(size: usize) -> Vec<u8> {
+    repeated(size, |dice, all| dice.push(all, 60, 0, 255))
+}
+
+/// Digits with `+` between them.
+pub fn sums(size: usize) -> Vec<u8> {
+    let mut all = repeated(size.max(1), |dice, all| {
+        dice.push(all, 1, b'0', b'9');
+        all.push(b'+');
+    });
+    all.pop();
+    all
+}
+
 /// Text in lines of 20 to 100 letters and blanks.
 pub fn text(size: usize) -> Vec<u8> {
     repeated(size, |dice, all| {

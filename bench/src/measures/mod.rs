@@ -27,4 +27,8 @@ measures! {
     keywords_tuple
     keywords_array
     keywords_slice
+    separated_skip
+    separated_collect
+    counted_frames
+    chained_sum
 }

@@ -25,8 +25,12 @@ taken v n = n
 abbrev pub sum : Tally → ℕ → ℕ
 sum t n = t.sum
 
--- how many bytes were collected
-abbrev pub how_many : Vec ℕ → ℕ → ℕ
+-- the value itself
+abbrev pub value : ℕ → ℕ → ℕ
+value v n = v
+
+-- how many values were collected
+abbrev pub how_many : {A : Type 0} → Vec A → ℕ → ℕ
 how_many v n = length v.items
 
 abbrev pub letter : {P : Type 0} → Reading P ℕ ℕ

@@ -1,8 +1,7 @@
 //! `many1` of digits, collected.
-ghost use Rattle.std.specs.Prelude.{ℕ, length};
 ghost use Rattle.combine_bench.specs.Measures.{Measures, digits_collect, how_many};
 
-use crate::measure::{Number, measured};
+use crate::measure::{Collected, measured};
 use combine_base::error::ParseError;
 use combine_base::stream::Stream;
 use combine_calls::{Call, InVec, Many1Call, Visitor};
@@ -30,19 +29,6 @@ impl Call for DigitCall {
         Input::Error: ParseError<u8, Input::Range, Input::Position>,
     {
         visitor.visit(digit())
-    }
-}
-
-/// How many bytes were collected.
-#[derive(Drop)]
-struct Collected;
-
-impl Number<Vec<u8>> for Collected {
-    ghost number_of = { how_many };
-
-    #[inline(always)]
-    fn number(value: Vec<u8>, _taken: u64) -> u64 {
-        value.len() as u64
     }
 }
 

@@ -1,7 +1,9 @@
 //! Our side of the measures of `bench/`: for each a function that is called from outside, whose parser takes the bytes whole or in pieces.
 #![tactic(auto)]
 
+mod chained_sum;
 mod classes;
+mod counted_frames;
 mod del;
 mod digits_collect;
 mod keywords;
@@ -17,6 +19,8 @@ mod messages_collect;
 mod messages_skip;
 mod one_token;
 mod run;
+mod separated_collect;
+mod separated_skip;
 mod then_of_3;
 mod tuple_of_2;
 mod tuple_of_4;

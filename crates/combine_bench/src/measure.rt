@@ -2,7 +2,7 @@
 ghost use Rattle.std.specs.Prelude.{◌≡◌, ℕ};
 ghost use Rattle.combine_base.specs.Parser.Meaning.{Reading};
 ghost use Rattle.combine_bench.specs.Given.{Answers, number};
-ghost use Rattle.combine_bench.specs.Measures.{Measures, taken};
+ghost use Rattle.combine_bench.specs.Measures.{Measures, how_many, taken};
 
 use crate::run::{Given, Pieces, Run, Whole};
 use combine_base::error::ParseError;
@@ -30,6 +30,19 @@ impl<O: Drop> Number<O> for Taken {
     #[inline(always)]
     fn number(_value: O, taken: u64) -> u64 {
         taken
+    }
+}
+
+/// How many values were collected.
+#[derive(Drop)]
+pub(crate) struct Collected;
+
+impl<A: Drop> Number<Vec<A>> for Collected {
+    ghost number_of = { how_many };
+
+    #[inline(always)]
+    fn number(value: Vec<A>, _taken: u64) -> u64 {
+        value.len() as u64
     }
 }
 
@@ -64,6 +77,20 @@ fn number_of<O: Drop, N: Number<O>>(given: Given<O>) -> u64
     }
 }
 
+/// The number of what a parser gives, by that run.
+#[inline(always)]
+pub(crate) fn numbered<
+    N: Number<P::Output>,
+    Input: Stream,
+    R: Run<Input> + Drop,
+    P: Parser<Input> + Drop,
+>(run: R, parser: P) -> u64
+    requires { P.lawful parser }
+    ensures { Answers N.number_of (P.meaning parser).whole (R.all run) result }
+{
+    number_of::<P::Output, N>(run.run(parser))
+}
+
 /// How many bytes a parser takes, by that run.
 #[inline(always)]
 pub(crate) fn count_taken<Input: Stream, R: Run<Input> + Drop, P: Parser<Input> + Drop>(
@@ -73,7 +100,7 @@ pub(crate) fn count_taken<Input: Stream, R: Run<Input> + Drop, P: Parser<Input> 
     requires { P.lawful parser }
     ensures { Answers taken (P.meaning parser).whole (R.all run) result }
 {
-    number_of::<P::Output, Taken>(run.run(parser))
+    numbered::<Taken, Input, R, P>(run, parser)
 }
 
 /// The number of what the parser of a call gives, by that run.

@@ -1,8 +1,8 @@
-//! Callers of the library: the README's, word for word, and a plain function for each of the first constructors.
+//! Callers of the library: the README's, word for word, and what the tests of others share.
 #![tactic(auto)]
 
+pub mod answers;
 pub mod cuts;
-pub mod each;
 pub mod faults;
 pub mod pieces;
 pub mod sessions;

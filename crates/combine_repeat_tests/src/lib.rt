@@ -1,0 +1,7 @@
+//! A plain function for each repetition, and what each answers. They are built for the tests alone, so that they are proved once.
+#![tactic(auto)]
+
+#[cfg(test)]
+mod chains;
+#[cfg(test)]
+mod repetitions;

@@ -1,0 +1,11 @@
+//! A plain function for each sequence and look-ahead, and what each answers. They are built for the tests alone, so that they are proved once.
+#![tactic(auto)]
+
+#[cfg(test)]
+mod looks;
+#[cfg(test)]
+mod nested;
+#[cfg(test)]
+mod sequences;
+#[cfg(test)]
+mod thens;
