@@ -1,15 +1,16 @@
 //! Errors that keep what they are told, and streams whose parsers are refused with them.
-ghost use Rattle.std.specs.Prelude.{◌≡◌, ◌-◌, ◌<◌, not, ◌∷◌, [], true, MatchResult, length, map};
+ghost use Rattle.std.specs.Prelude.{◌≡◌, ◌-◌, ◌<◌, not, ◌∷◌, [], true, length, map};
 ghost use Rattle.std.specs.List.{list_any};
 ghost use Rattle.combine_base.specs.Error.Errors.{Only, Says};
 ghost use Rattle.combine_base.specs.Error.Items.{shown};
 ghost use Rattle.combine_errors.specs.Easy.{about_same, cleared_from, is_other, item_same, listed, said};
 
+use crate::info::copied;
 use combine_base::error::{Info, ParseError, StreamError};
 use combine_base::stream::Kind;
-use std::alloc::AllocError;
 use std::cmp::Ordering;
 
+mod display;
 mod driver;
 mod stream;
 
@@ -67,19 +68,6 @@ fn is_about_same<T: PartialEq, R: PartialEq>(this: &Info<T, R>, other: &Info<T, 
             Info::More(b) => *a == *b,
             _ => false,
         },
-    }
-}
-
-// An info that speaks of the same; a text of its own is cloned.
-fn copied<T: Copy, R: Copy>(info: &Info<T, R>) -> Result<Info<T, R>, AllocError>
-    ensures { MatchResult result (λ i. shown i ≡ shown info.now) (λ _. Unit {0}) }
-{
-    match info {
-        Info::Token(token) => Ok(Info::Token(*token)),
-        Info::Range(range) => Ok(Info::Range(*range)),
-        Info::Static(text) => Ok(Info::Static(*text)),
-        Info::Owned(text) => Ok(Info::Owned(text.clone()?)),
-        Info::More(missing) => Ok(Info::More(*missing)),
     }
 }
 

@@ -2,3 +2,5 @@
 #![tactic(auto)]
 
 pub mod easy;
+pub mod error;
+mod info;
