@@ -12,6 +12,7 @@ use crate::range::texts::{bytes_while, cut};
 use crate::range::{Range, RangeStream, Test};
 use combine_base::error::UnexpectedParse;
 use combine_base::stream::{Failures, Kind, Positioned, ResetStream, StreamOnce, split_first};
+use std::fmt;
 
 /// A line and a column, both counted from 1. A line feed begins a line, at column 1; every other character is a column more. A later position is greater.
 ///
@@ -31,6 +32,15 @@ impl Default for SourcePosition {
         ensures { result ≡ first_place }
     {
         SourcePosition { line: 1, column: 1 }
+    }
+}
+
+/// `line: 1, column: 2`, in the crate's words.
+impl fmt::Display for SourcePosition {
+    fn fmt<W: fmt::Write>(&self, f: &mut fmt::Formatter<W>) -> fmt::Result {
+        let line = self.line;
+        let column = self.column;
+        write!(f, "line: {line}, column: {column}")
     }
 }
 

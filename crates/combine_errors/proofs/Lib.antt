@@ -1,0 +1,5 @@
+pub mod Adding
+pub mod Clearing
+pub mod InPlaces
+pub mod Lists
+pub mod Shapes

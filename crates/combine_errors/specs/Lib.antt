@@ -1,0 +1,7 @@
+pub use Rattle.combine_base.specs.Error.Errors
+pub use Rattle.combine_base.specs.Error.Items
+pub use Rattle.combine_base.specs.Parser.Meaning
+pub mod Copies
+pub mod Easy
+pub mod Saying
+pub mod Shaped

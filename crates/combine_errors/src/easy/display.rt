@@ -1,0 +1,111 @@
+//! What people read of an error that keeps items.
+//!
+//! The words are the crate's: a line that says where the error stands, a line for each item that was not expected, one for all that was expected, and one for each message.
+
+use crate::easy::{Error, Errors, is_expected};
+use combine_base::error::Info;
+use std::fmt;
+use std::fmt::Display;
+
+/// `Unexpected ..`, `Expected ..`, or the message alone. Tokens and ranges stand in backquotes.
+impl<T: Display, R: Display> Display for Error<T, R> {
+    fn fmt<W: fmt::Write>(&self, f: &mut fmt::Formatter<W>) -> fmt::Result {
+        match self {
+            Error::Unexpected(info) => {
+                f.write_str("Unexpected ")?;
+                write_info(info, f)
+            }
+            Error::Expected(info) => {
+                f.write_str("Expected ")?;
+                write_info(info, f)
+            }
+            Error::Message(info) => write_info(info, f),
+        }
+    }
+}
+
+/// The position, and then a line for each item but those that say what was expected, which share one. Each line ends with a line feed.
+impl<T: Display, R: Display, P: Display> Display for Errors<T, R, P> {
+    fn fmt<W: fmt::Write>(&self, f: &mut fmt::Formatter<W>) -> fmt::Result {
+        let position = &self.position;
+        writeln!(f, "Parse error at {position}")?;
+        write_unexpected(self.errors.as_slice(), f)?;
+        write_expected(self.errors.as_slice(), f)?;
+        write_messages(self.errors.as_slice(), f)
+    }
+}
+
+// A token or a range in backquotes, or a text.
+fn write_info<T: Display, R: Display, W: fmt::Write>(
+    info: &Info<T, R>,
+    f: &mut fmt::Formatter<W>,
+) -> fmt::Result {
+    match info {
+        Info::Token(token) => write!(f, "`{token}`"),
+        Info::Range(range) => write!(f, "`{range}`"),
+        Info::Static(text) => write!(f, "{text}"),
+        Info::Owned(text) => write!(f, "{text}"),
+        Info::More(missing) => write!(f, "expected {missing} more elements"),
+    }
+}
+
+// A line for each item that was not expected.
+fn write_unexpected<T: Display, R: Display, W: fmt::Write>(
+    errors: &[Error<T, R>],
+    f: &mut fmt::Formatter<W>,
+) -> fmt::Result {
+    for error in errors {
+        if let Error::Unexpected(_) = error {
+            writeln!(f, "{error}")?;
+        }
+    }
+    Ok(())
+}
+
+// What stands before the n-th of so many expected items, the first being number 0.
+fn write_separator<W: fmt::Write>(
+    n: usize,
+    count: usize,
+    f: &mut fmt::Formatter<W>,
+) -> fmt::Result {
+    if n == 0 {
+        return write!(f, "Expected ");
+    }
+    if n < count.saturating_sub(1) {
+        return write!(f, ", ");
+    }
+    write!(f, " or ")
+}
+
+// A line of all that was expected, if anything was: `Expected a, b or c`.
+fn write_expected<T: Display, R: Display, W: fmt::Write>(
+    errors: &[Error<T, R>],
+    f: &mut fmt::Formatter<W>,
+) -> fmt::Result {
+    let count = errors.iter().filter(|error| is_expected(*error)).count();
+    if count == 0 {
+        return Ok(());
+    }
+    let mut written: usize = 0;
+    for error in errors {
+        if let Error::Expected(info) = error {
+            write_separator(written, count, f)?;
+            write_info(info, f)?;
+            written = written.saturating_add(1);
+        }
+    }
+    writeln!(f)
+}
+
+// A line for each message.
+fn write_messages<T: Display, R: Display, W: fmt::Write>(
+    errors: &[Error<T, R>],
+    f: &mut fmt::Formatter<W>,
+) -> fmt::Result {
+    for error in errors {
+        if let Error::Message(_) = error {
+            writeln!(f, "{error}")?;
+        }
+    }
+    Ok(())
+}
