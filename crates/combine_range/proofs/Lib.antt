@@ -1,0 +1,8 @@
+pub mod Kept
+pub mod Peeked
+pub mod Recognizing
+pub mod Seeking
+pub mod Since
+pub mod Stopping
+pub mod Tokens
+pub mod Walking

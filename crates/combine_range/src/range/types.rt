@@ -1,0 +1,5 @@
+//! The parsers that the functions of `range` answer.
+
+pub use super::beginnings::{TakeWhile, TakeWhile1};
+pub use super::recognized::{Recognize, RecognizeWithValue};
+pub use super::until::TakeUntilRange;
