@@ -1,4 +1,5 @@
 pub mod Kept
+pub mod Measuring
 pub mod Peeked
 pub mod Recognizing
 pub mod Seeking

@@ -2,16 +2,43 @@
 //!
 //! They run over every stream that hands out ranges. On need of more each puts the stream back to where it began.
 ghost use Rattle.std.specs.Prelude.{◌≡◌};
-ghost use Rattle.combine_range.specs.RangeParsers.{recognize_of, recognize_with_value_of, take_until_range_of, take_while_of, take_while1_of};
+ghost use Rattle.combine_range.specs.RangeParsers.{range_of, recognize_of, recognize_with_value_of, take_of, take_until_range_of, take_while_of, take_while1_of};
 
 mod beginnings;
+mod lengths;
 mod recognized;
 pub mod types;
 mod until;
 
 pub use recognized::RecognizeState;
 use std::marker::PhantomData;
-use types::{Recognize, RecognizeWithValue, TakeUntilRange, TakeWhile, TakeWhile1};
+use types::{Range, Recognize, RecognizeWithValue, Take, TakeUntilRange, TakeWhile, TakeWhile1};
+
+/// As many first items as the range has, if they are that range: accepted committed, also where the range is empty. If they are others: refused peeked, with the items put back. The value is the range that was read.
+///
+/// The length is judged first: too few items of an open piece are need of more, also where they differ already. The next call begins again. Too few items of ended input, and an end inside a character, are refused peeked. Faults: `Read` and `Reset` where the stream failed, `Memory` where an error found none for its text.
+#[inline]
+pub fn range<Input, R>(wanted: R) -> Range<Input, R>
+    ensures { result ≡ range_of wanted }
+{
+    Range {
+        wanted,
+        reads: PhantomData,
+    }
+}
+
+/// The first `count` items: tokens of a slice, or bytes of a text. Accepted committed, or peeked where `count` is 0.
+///
+/// Too few items of an open piece are need of more; the next call begins again. Too few items of ended input are refused peeked, and so is an end inside a character as soon as so many bytes stand there. Faults: `Read` where the stream failed, `Memory` where an error found none for its text.
+#[inline]
+pub fn take<Input>(count: usize) -> Take<Input>
+    ensures { result ≡ take_of count }
+{
+    Take {
+        count,
+        reads: PhantomData,
+    }
+}
 
 /// The longest beginning whose tokens the predicate holds of: accepted committed, or peeked where it is empty.
 ///
