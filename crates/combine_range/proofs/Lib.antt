@@ -1,0 +1,9 @@
+pub mod Kept
+pub mod Measuring
+pub mod Peeked
+pub mod Recognizing
+pub mod Seeking
+pub mod Since
+pub mod Stopping
+pub mod Tokens
+pub mod Walking

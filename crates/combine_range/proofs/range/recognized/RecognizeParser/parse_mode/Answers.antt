@@ -1,0 +1,28 @@
+use Rattle.std.proofs.Common.{refl}
+use Rattle.combine_base.proofs.Mapped.{mapped_err, mapped_ok, mapped_peek_err, mapped_peek_ok}
+use Rattle.combine_base.specs.Parser.Mapped.{mapped_means_same}
+use Rattle.combine_range.proofs.range.recognized.RecognizeParser.parse_mode.Goals as goal
+
+pub returns-in-CommitOk-clause-answers : goal.returns-in-CommitOk-clause-answers
+returns-in-CommitOk-clause-answers g c = mapped_ok _ _ _ _ _ _ refl c.in-CommitOk.ensures.answers
+
+pub returns-in-CommitOk-clause-same : goal.returns-in-CommitOk-clause-same
+returns-in-CommitOk-clause-same g c = mapped_means_same _ _ _ c.parse_mode.ensures.same
+
+pub returns-in-PeekOk-clause-answers : goal.returns-in-PeekOk-clause-answers
+returns-in-PeekOk-clause-answers g c = mapped_peek_ok _ _ _ _ _ _ refl c.in-PeekOk.ensures.answers
+
+pub returns-in-PeekOk-clause-same : goal.returns-in-PeekOk-clause-same
+returns-in-PeekOk-clause-same g c = mapped_means_same _ _ _ c.parse_mode.ensures.same
+
+pub returns-in-CommitErr-clause-answers : goal.returns-in-CommitErr-clause-answers
+returns-in-CommitErr-clause-answers g c = mapped_err _ _ _ _ _ c.in-CommitErr.ensures.answers
+
+pub returns-in-CommitErr-clause-same : goal.returns-in-CommitErr-clause-same
+returns-in-CommitErr-clause-same g c = mapped_means_same _ _ _ c.parse_mode.ensures.same
+
+pub returns-in-PeekErr-clause-answers : goal.returns-in-PeekErr-clause-answers
+returns-in-PeekErr-clause-answers g c = mapped_peek_err _ _ _ _ _ c.in-PeekErr.ensures.answers
+
+pub returns-in-PeekErr-clause-same : goal.returns-in-PeekErr-clause-same
+returns-in-PeekErr-clause-same g c = mapped_means_same _ _ _ c.parse_mode.ensures.same

@@ -1,0 +1,69 @@
+use Rattle.std.proofs.Common.{refl, sym, ◌∙◌, ◌+◌, ap}
+use Rattle.std.proofs.lemmas.Bool.{false≢true}
+use Rattle.combine_base.proofs.Progress.{takes_more}
+use Rattle.combine_range.proofs.Since.{ahead}
+use Rattle.combine_range.proofs.Recognizing.{comes, slice_hands, slice_refuses, slice_settles, slice_unreset, slice_asks, slice_unpassed}
+use Rattle.combine_range.specs.Recognized.{recognized_means_same}
+use Rattle.combine_range.specs.declared.range.recognized.RecognizeState.{RecognizeState}
+use Rattle.combine_range.proofs.range.recognized.RecognizeWithValueParser.parse_mode.Goals as goal
+
+pub returns-in-Err-clause-answers : goal.returns-in-Err-clause-answers
+returns-in-Err-clause-answers g c =
+    slice_unpassed _ _ _ (g.P.Parser.meaning c.args.self.now.0) _ _ (rw c.is_first.ensures at c.begin-distance.ensures.begun) _ _ _ c.in-Err.ensures.over c.not_passed.ensures (ap (λ (s : RecognizeState _). s.distance) c.begin-distance.ensures.left) c.default.ensures
+
+pub returns-in-CommitOk-clause-answers : goal.returns-in-CommitOk-clause-answers
+returns-in-CommitOk-clause-answers g c =
+    let z = comes _ _ g.met.Input.RangeStream.filled g.Input.RangeStream.spells (g.P.Parser.meaning c.args.self.now.0) c.is_first.ensures c.begin-distance.ensures.begun c.begin-distance.ensures.left c.in_default.ensures.over c.in_default.ensures.passes in
+    let stands = g.met.Input.ResetStream.lasts _ _ _ _ c.parse_mode.ensures.passes.marks (g.met.Input.ResetStream.lasts _ _ _ _ c.pass_items.ensures.passes.marks c.checkpoint-start.ensures.stands) in
+    let p = c.in-CommitOk.ensures.answers.is in
+    let q = c.parse_mode.ensures.passes in
+    rw c.with_value.ensures (slice_hands _ _ g.met.Input.RangeStream.filled _ (g.P.Parser.meaning c.args.self.now.0) _ _ _ _ refl z _ _ p refl _ (c.hand_out.ensures.hands _ (z.count + p.count) stands (takes_more _ _ _ _ _ _ z.taken p.taken)) q.reads q.resets)
+
+pub returns-in-PeekOk-clause-answers : goal.returns-in-PeekOk-clause-answers
+returns-in-PeekOk-clause-answers g c =
+    let z = comes _ _ g.met.Input.RangeStream.filled g.Input.RangeStream.spells (g.P.Parser.meaning c.args.self.now.0) c.is_first.ensures c.begin-distance.ensures.begun c.begin-distance.ensures.left c.in_default.ensures.over c.in_default.ensures.passes in
+    let stands = g.met.Input.ResetStream.lasts _ _ _ _ c.parse_mode.ensures.passes.marks (g.met.Input.ResetStream.lasts _ _ _ _ c.pass_items.ensures.passes.marks c.checkpoint-start.ensures.stands) in
+    let p = c.in-PeekOk.ensures.answers.is in
+    let q = c.parse_mode.ensures.passes in
+    rw c.with_value-in-PeekOk.ensures (slice_hands _ _ g.met.Input.RangeStream.filled _ (g.P.Parser.meaning c.args.self.now.0) _ _ _ _ refl z _ _ p refl _ (c.hand_out-in-PeekOk.ensures.hands _ (z.count + p.count) stands (takes_more _ _ _ _ _ _ z.taken p.taken)) q.reads q.resets)
+
+pub returns-in-PeekErr-clause-answers : goal.returns-in-PeekErr-clause-answers
+returns-in-PeekErr-clause-answers g c =
+    let z = comes _ _ g.met.Input.RangeStream.filled g.Input.RangeStream.spells (g.P.Parser.meaning c.args.self.now.0) c.is_first.ensures c.begin-distance.ensures.begun c.begin-distance.ensures.left c.in_default.ensures.over c.in_default.ensures.passes in
+    slice_refuses _ _ g.met.Input.RangeStream.filled _ (g.P.Parser.meaning c.args.self.now.0) _ _ _ _ refl z _ c.in-PeekErr.ensures.answers refl refl refl
+
+pub returns-in-Err-reset-clause-answers : goal.returns-in-Err-reset-clause-answers
+returns-in-Err-reset-clause-answers g c =
+    let z = comes _ _ g.met.Input.RangeStream.filled g.Input.RangeStream.spells (g.P.Parser.meaning c.args.self.now.0) c.is_first.ensures c.begin-distance.ensures.begun c.begin-distance.ensures.left c.in_default.ensures.over c.in_default.ensures.passes in
+    let q = c.parse_mode.ensures.passes in
+    slice_unreset _ _ g.met.Input.RangeStream.filled _ (g.P.Parser.meaning c.args.self.now.0) _ _ _ _ refl z _ (c.needs_more.ensures.0 c.if-needs_more.true) c.in-CommitErr.ensures.answers _ _ c.new_error.ensures.kind c.in-Err-reset.ensures.to.is q.reads q.resets refl c.default-in-Err-reset.ensures
+
+pub returns-then-needs_more-clause-answers : goal.returns-then-needs_more-clause-answers
+returns-then-needs_more-clause-answers g c =
+    let z = comes _ _ g.met.Input.RangeStream.filled g.Input.RangeStream.spells (g.P.Parser.meaning c.args.self.now.0) c.is_first.ensures c.begin-distance.ensures.begun c.begin-distance.ensures.left c.in_default.ensures.over c.in_default.ensures.passes in
+    let stands = g.met.Input.ResetStream.lasts _ _ _ _ c.parse_mode.ensures.passes.marks (g.met.Input.ResetStream.lasts _ _ _ _ c.pass_items.ensures.passes.marks c.checkpoint-start.ensures.stands) in
+    let n = c.in_default-reset.ensures.to.is in
+    slice_asks _ _ g.met.Input.RangeStream.filled _ (g.P.Parser.meaning c.args.self.now.0) _ _ _ _ refl z _ (c.needs_more.ensures.0 c.if-needs_more.true) c.in-CommitErr.ensures.answers (n.0 _ stands) n.1 _ (λ k t. c.distance-read.ensures _ k stands (ahead _ _ _ _ t)) refl
+
+pub returns-else-needs_more-clause-answers : goal.returns-else-needs_more-clause-answers
+returns-else-needs_more-clause-answers g c =
+    let z = comes _ _ g.met.Input.RangeStream.filled g.Input.RangeStream.spells (g.P.Parser.meaning c.args.self.now.0) c.is_first.ensures c.begin-distance.ensures.begun c.begin-distance.ensures.left c.in_default.ensures.over c.in_default.ensures.passes in
+    slice_settles _ _ g.met.Input.RangeStream.filled _ (g.P.Parser.meaning c.args.self.now.0) _ _ _ _ refl z _ (λ i. false≢true (sym c.if-needs_more.false ∙ c.needs_more.ensures.1 i)) c.in-CommitErr.ensures.answers refl refl refl
+
+pub returns-in-Err-reset-clause-same : goal.returns-in-Err-reset-clause-same
+returns-in-Err-reset-clause-same g c = recognized_means_same _ _ _ _ _ c.parse_mode.ensures.same
+
+pub returns-then-needs_more-clause-same : goal.returns-then-needs_more-clause-same
+returns-then-needs_more-clause-same g c = recognized_means_same _ _ _ _ _ c.parse_mode.ensures.same
+
+pub returns-in-CommitOk-clause-same : goal.returns-in-CommitOk-clause-same
+returns-in-CommitOk-clause-same g c = recognized_means_same _ _ _ _ _ c.parse_mode.ensures.same
+
+pub returns-in-PeekOk-clause-same : goal.returns-in-PeekOk-clause-same
+returns-in-PeekOk-clause-same g c = recognized_means_same _ _ _ _ _ c.parse_mode.ensures.same
+
+pub returns-in-PeekErr-clause-same : goal.returns-in-PeekErr-clause-same
+returns-in-PeekErr-clause-same g c = recognized_means_same _ _ _ _ _ c.parse_mode.ensures.same
+
+pub returns-else-needs_more-clause-same : goal.returns-else-needs_more-clause-same
+returns-else-needs_more-clause-same g c = recognized_means_same _ _ _ _ _ c.parse_mode.ensures.same

@@ -1,0 +1,10 @@
+pub use Rattle.combine_base.specs.Parser.Meaning
+pub mod Beginnings
+pub mod Fairness
+pub mod Kept
+pub mod Lengths
+pub mod Peeking
+pub mod RangeParsers
+pub mod Recognized
+pub mod Until
+pub mod Wanted

@@ -1,0 +1,179 @@
+//! Distances in items, which range parsers keep.
+ghost use Rattle.std.specs.Prelude.{◌≡◌, ◌↔◌, ℕ, [], true, if◌then◌else◌};
+ghost use Rattle.combine_base.specs.Stream.View.{View, Takes};
+ghost use Rattle.combine_base.specs.Stream.Calls.{Passes};
+ghost use Rattle.combine_stream.specs.Ranges.{UnconsRange};
+ghost use Rattle.combine_range.specs.Kept.{Hands, HandsOut, KeepsDistance, NotPassed};
+ghost use Rattle.combine_range.specs.Peeking.{NoRange, RefusesPeeked};
+
+use combine_base::error::{ParseResult, Tracked};
+use combine_base::refusal::no_token;
+use combine_base::stream::{Kind, ResetStream, Stream, StreamOnce};
+use combine_stream::range::{Range, RangeStream};
+
+/// Hands out the distance that a call begins with: none where it begins afresh.
+#[inline(always)]
+pub fn begin(first: bool, state: &mut usize) -> usize
+    ensures begun { result ≡ (if first then 0 else state.old) }
+    ensures left { state.new ≡ 0 }
+{
+    let distance = if first { 0 } else { *state };
+    *state = 0;
+    distance
+}
+
+/// Passes over so many items.
+#[inline(always)]
+pub fn pass_items<Input: RangeStream>(input: &mut Input, n: usize) -> Result<(), Kind>
+where
+    Input::Range: Range,
+    ensures passes { Passes (Input.marks input.old) (Input.marks input.new) (Input.failures input.old) (Input.failures input.new) }
+    ensures over { UnconsRange Input.steady Input.step Input.size (λ r ts. Unit {0}) (Input.view input.old) (Input.view input.new) (Input.failures input.old) (Input.failures input.new) n result }
+{
+    if n == 0 {
+        return Ok(());
+    }
+    match input.uncons_range(n) {
+        Ok(_range) => Ok(()),
+        Err(kind) => Err(kind),
+    }
+}
+
+/// The answer where the kept distance was not passed over.
+#[cold]
+pub fn not_passed<O, Input: Stream>(
+    input: &Input,
+    why: Kind,
+    position: Input::Position,
+) -> ParseResult<O, Input::Error>
+    ensures { NotPassed Input.Error.seen.kind why result }
+{
+    match why {
+        Kind::Refused => ParseResult::PeekErr(Tracked::from(input.new_error(
+            Kind::Refused,
+            position,
+        ))),
+        Kind::End => ParseResult::CommitErr(input.new_error(Kind::Lost, position)),
+        Kind::Memory => ParseResult::CommitErr(input.new_error(Kind::Memory, position)),
+        Kind::Read => ParseResult::CommitErr(input.new_error(Kind::Read, position)),
+        Kind::Reset => ParseResult::CommitErr(input.new_error(Kind::Reset, position)),
+        Kind::Lost => ParseResult::CommitErr(input.new_error(Kind::Lost, position)),
+    }
+}
+
+/// Whether all is taken of an open stream.
+#[inline(always)]
+pub fn may_go_on<Input: RangeStream>(input: &Input) -> bool
+where
+    Input::Range: Range,
+    ensures { (result ≡ true) ↔ (((Input.view input.now).is_open ≡ true) × ((Input.view input.now).unread ≡ [])) }
+{
+    input.is_partial() && input.range().len() == 0
+}
+
+/// Need of more: puts the stream back, and keeps the distance from there. `Reset` where the stream could not be put back.
+#[inline(always)]
+pub fn keep_distance<O, Input: RangeStream>(
+    start: Input::Checkpoint,
+    position: Input::Position,
+    input: &mut Input,
+    state: &mut usize,
+) -> ParseResult<O, Input::Error>
+where
+    Input::Range: Range,
+    ensures passes { Passes (Input.marks input.old) (Input.marks input.new) (Input.failures input.old) (Input.failures input.new) }
+    ensures keeps { (old : View Input.Position Input.Token) (n : ℕ) → Input.stands input.old start old → Takes Input.step n old (Input.view input.old) →
+        KeepsDistance Input.steady Input.step Input.size old (Input.view input.new) (Input.failures input.old) (Input.failures input.new) n Input.Error.seen.kind state.old state.new result }
+{
+    let read = input.distance(&start);
+    match input.reset(start) {
+        Ok(()) => {
+            *state = read;
+            ParseResult::CommitErr(input.new_error(Kind::End, position))
+        }
+        Err(kind) => ParseResult::CommitErr(input.new_error(kind, position)),
+    }
+}
+
+/// A peeked refusal at what is unread, which says that the input ended where nothing is; `Memory` where that found none.
+#[cold]
+pub fn refused_here<O, Input: RangeStream>(
+    input: &Input,
+    position: Input::Position,
+) -> ParseResult<O, Input::Error>
+where
+    Input::Range: Range,
+    requires { (Input.view input.now).is_open ≡ true → (Input.view input.now).unread ≡ [] → ⊥ }
+    ensures { RefusesPeeked Input.Error.seen.kind Input.Error.seen.frugal (Input.view input.now).is_open result }
+{
+    if input.range().len() == 0 {
+        return no_token(input, Kind::End, position);
+    }
+    ParseResult::PeekErr(Tracked::from(input.new_error(Kind::Refused, position)))
+}
+
+/// What a parser answers where no range of some length could be taken: too few items are need of more on an open stream; they are refused peeked on an ended one, as is an end inside a token. A failed read is a fault, and so is an error that finds no memory to say that the input ended.
+#[cold]
+pub fn no_range<O, Input: Stream>(
+    input: &Input,
+    why: Kind,
+    position: Input::Position,
+) -> ParseResult<O, Input::Error>
+    ensures { NoRange Input.Error.seen.kind Input.Error.seen.frugal (Input.view input.now).is_open why result }
+{
+    match why {
+        Kind::Refused => ParseResult::PeekErr(Tracked::from(input.new_error(
+            Kind::Refused,
+            position,
+        ))),
+        Kind::End => no_token(input, Kind::End, position),
+        Kind::Memory => no_token(input, Kind::Memory, position),
+        Kind::Read => no_token(input, Kind::Read, position),
+        Kind::Reset => no_token(input, Kind::Reset, position),
+        Kind::Lost => no_token(input, Kind::Lost, position),
+    }
+}
+
+/// The tokens since a checkpoint as a range.
+#[inline(always)]
+pub fn range_since<Input: RangeStream>(
+    start: Input::Checkpoint,
+    input: &mut Input,
+) -> Result<Input::Range, Kind>
+where
+    Input::Range: Range,
+    ensures passes { Passes (Input.marks input.old) (Input.marks input.new) (Input.failures input.old) (Input.failures input.new) }
+    ensures hands { (old : View Input.Position Input.Token) (n : ℕ) → Input.stands input.old start old → Takes Input.step n old (Input.view input.old) →
+        Hands Input.steady Input.step Input.spells old (Input.view input.new) (Input.failures input.old) (Input.failures input.new) n result }
+{
+    let n = input.distance(&start);
+    if let Err(kind) = input.reset(start) {
+        return Err(kind);
+    }
+    input.uncons_range(n)
+}
+
+/// Accepts the range of the tokens since a checkpoint: committed, or peeked where there are none. `Reset` or `Read` where they could not be read again.
+#[inline(always)]
+pub fn hand_out<Input: RangeStream>(
+    start: Input::Checkpoint,
+    position: Input::Position,
+    input: &mut Input,
+) -> ParseResult<Input::Range, Input::Error>
+where
+    Input::Range: Range,
+    ensures passes { Passes (Input.marks input.old) (Input.marks input.new) (Input.failures input.old) (Input.failures input.new) }
+    ensures hands { (old : View Input.Position Input.Token) (n : ℕ) → Input.stands input.old start old → Takes Input.step n old (Input.view input.old) →
+        HandsOut Input.steady Input.step Input.spells old (Input.view input.new) (Input.failures input.old) (Input.failures input.new) n Input.Error.seen.kind result }
+{
+    match range_since(start, input) {
+        Ok(range) => {
+            if range.len() > 0 {
+                ParseResult::CommitOk(range)
+            } else {
+                ParseResult::PeekOk(range)
+            }
+        }
+        Err(kind) => ParseResult::CommitErr(input.new_error(kind, position)),
+    }
+}

@@ -1,0 +1,98 @@
+//! Parsers that answer ranges: parts of the input, as they stand there.
+//!
+//! They run over every stream that hands out ranges. On need of more each puts the stream back to where it began.
+ghost use Rattle.std.specs.Prelude.{◌≡◌};
+ghost use Rattle.combine_range.specs.RangeParsers.{range_of, recognize_of, recognize_with_value_of, take_of, take_until_range_of, take_while_of, take_while1_of};
+
+mod beginnings;
+mod lengths;
+mod recognized;
+pub mod types;
+mod until;
+
+pub use recognized::RecognizeState;
+use std::marker::PhantomData;
+use types::{Range, Recognize, RecognizeWithValue, Take, TakeUntilRange, TakeWhile, TakeWhile1};
+
+/// As many first items as the range has, if they are that range: accepted committed, also where the range is empty. If they are others: refused peeked, with the items put back. The value is the range that was read.
+///
+/// The length is judged first: too few items of an open piece are need of more, also where they differ already. The next call begins again. Too few items of ended input, and an end inside a character, are refused peeked. Faults: `Read` and `Reset` where the stream failed, `Memory` where an error found none for its text.
+#[inline]
+pub fn range<Input, R>(wanted: R) -> Range<Input, R>
+    ensures { result ≡ range_of wanted }
+{
+    Range {
+        wanted,
+        reads: PhantomData,
+    }
+}
+
+/// The first `count` items: tokens of a slice, or bytes of a text. Accepted committed, or peeked where `count` is 0.
+///
+/// Too few items of an open piece are need of more; the next call begins again. Too few items of ended input are refused peeked, and so is an end inside a character as soon as so many bytes stand there. Faults: `Read` where the stream failed, `Memory` where an error found none for its text.
+#[inline]
+pub fn take<Input>(count: usize) -> Take<Input>
+    ensures { result ≡ take_of count }
+{
+    Take {
+        count,
+        reads: PhantomData,
+    }
+}
+
+/// The longest beginning whose tokens the predicate holds of: accepted committed, or peeked where it is empty.
+///
+/// Where it is all of an open piece more is asked for; the next call doesn't begin again, but passes over the items read so far and goes on. Faults: `Lost` where the input is shorter than what an earlier call read; `Read` and `Reset` where the stream failed. The crate takes an `FnMut`.
+#[inline]
+pub fn take_while<Input, F>(predicate: F) -> TakeWhile<Input, F>
+    ensures { result ≡ take_while_of predicate }
+{
+    TakeWhile {
+        predicate,
+        reads: PhantomData,
+    }
+}
+
+/// As `take_while`, but an empty beginning is refused peeked.
+///
+/// Where nothing is left of ended input, the error is of kind `End` and says so; one that finds no memory for that is the fault `Memory`.
+#[inline]
+pub fn take_while1<Input, F>(predicate: F) -> TakeWhile1<Input, F>
+    ensures { result ≡ take_while1_of predicate }
+{
+    TakeWhile1 {
+        predicate,
+        reads: PhantomData,
+    }
+}
+
+/// What stands before the first occurrence of a range: accepted committed, or peeked where that is nothing. Where it doesn't occur in ended input: refused peeked, with an error of kind `End`.
+///
+/// Where it isn't found in an open piece more is asked for; the next call doesn't begin again, but passes over the items that were searched and goes on. Faults: `Lost` where the input is shorter than what an earlier call searched; `Read` and `Reset` where the stream failed; `Memory` where an error found none for its text. Ranges of the same tokens must be equal.
+#[inline]
+pub fn take_until_range<Input, R>(wanted: R) -> TakeUntilRange<Input, R>
+    ensures { result ≡ take_until_range_of wanted }
+{
+    TakeUntilRange {
+        wanted,
+        reads: PhantomData,
+    }
+}
+
+/// The range of the tokens that `p` takes: accepted committed, or peeked where `p` takes none, whichever kind `p` has. What `p` refuses is refused alike.
+///
+/// On need of more `p` doesn't begin again: the state keeps the items that were read and the state of `p`; the next call passes over these items and goes on. Faults are those of `p`; `Lost` where the input is shorter than what was read; `Read` and `Reset` where the stream failed. It counts as one parser.
+#[inline]
+pub fn recognize<P>(p: P) -> Recognize<P>
+    ensures { result ≡ recognize_of p }
+{
+    Recognize(RecognizeWithValue(p))
+}
+
+/// As `recognize`, with the value of `p` beside the range.
+#[inline]
+pub fn recognize_with_value<P>(p: P) -> RecognizeWithValue<P>
+    ensures { result ≡ recognize_with_value_of p }
+{
+    RecognizeWithValue(p)
+}

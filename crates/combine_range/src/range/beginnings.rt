@@ -1,0 +1,161 @@
+//! Longest beginnings under a test.
+ghost use Rattle.std.specs.Prelude.{◌≡◌, true, false};
+ghost use Rattle.combine_base.specs.Parser.Answer.{Answers, world};
+ghost use Rattle.combine_base.specs.Error.Errors.{Nothing};
+ghost use Rattle.combine_base.specs.Stream.Calls.{Passes};
+ghost use Rattle.combine_stream.specs.RangeFacts.{IsPredicate};
+ghost use Rattle.combine_range.specs.Kept.{kept, kept_is_meaning, kept_means_one};
+ghost use Rattle.combine_range.specs.Beginnings.{beginning, beginning_is_reading, beginning_is_single};
+
+use crate::passing::{
+    begin, hand_out, keep_distance, may_go_on, not_passed, pass_items, refused_here,
+};
+use combine_base::error::{ErrorOffset, ParseResult, Tracked};
+use combine_base::parser::{ParseMode, Parser};
+use combine_base::stream::{Kind, Positioned, ResetStream, Stream, StreamOnce};
+use combine_stream::range::{Range, RangeStream, Test};
+use std::marker::PhantomData;
+
+/// The parser of [`take_while`](crate::range::take_while); its state is the number of items read.
+#[derive(Drop)]
+pub struct TakeWhile<Input, F> {
+    pub(super) predicate: F,
+    pub(super) reads: PhantomData<Input>,
+}
+
+/// The parser of [`take_while1`](crate::range::take_while1); its state is the number of items read.
+#[derive(Drop)]
+pub struct TakeWhile1<Input, F> {
+    pub(super) predicate: F,
+    pub(super) reads: PhantomData<Input>,
+}
+
+// One call. An empty beginning is refused where `some` is true.
+#[inline(always)]
+fn take_beginning<Input: RangeStream, F: Test<Input::Token>>(
+    test: &F,
+    some: bool,
+    first: bool,
+    input: &mut Input,
+    state: &mut usize,
+) -> ParseResult<Input::Range, Input::Error>
+where
+    Input::Range: Range,
+    requires { F.callable test.now }
+    ensures passes { Passes (Input.marks input.old) (Input.marks input.new) (Input.failures input.old) (Input.failures input.new) }
+    ensures answers { Answers (world Input.step Input.Error.seen Input.steady ⟦<usize as Default>⟧.is_default)
+        (kept {R = Input.Range} Input.size (beginning Input.size Input.spells (F.answers test.now) some) Nothing)
+        (record { first = first; state = state.old; left = state.new; old = Input.view input.old; new = Input.view input.new; before = Input.failures input.old; after = Input.failures input.new })
+        result }
+{
+    let start = input.checkpoint();
+    let position = input.position();
+    let distance = begin(first, state);
+    if let Err(kind) = pass_items(input, distance) {
+        return not_passed(input, kind, position);
+    }
+    match input.uncons_while(test) {
+        Ok(range) => {
+            if may_go_on(input) {
+                return keep_distance(start, position, input, state);
+            }
+            if distance > 0 {
+                return hand_out(start, position, input);
+            }
+            if range.len() > 0 {
+                ParseResult::CommitOk(range)
+            } else if some {
+                refused_here(input, position)
+            } else {
+                ParseResult::PeekOk(range)
+            }
+        }
+        Err(kind) => ParseResult::CommitErr(input.new_error(kind, position)),
+    }
+}
+
+impl<Input: RangeStream, F: Fn(Input::Token) -> bool> Parser<Input> for TakeWhile<Input, F>
+where
+    Input::Range: Range,
+{
+    type Output = Input::Range;
+
+    type PartialState = usize;
+
+    ghost lawful = { λ p. F.IsAlwaysCallable p.predicate };
+
+    ghost determined = { λ p. IsPredicate (F.post p.predicate) };
+
+    ghost valid = { λ s. Unit {0} };
+
+    ghost meaning = { λ p. kept Input.size (beginning Input.size Input.spells (F.post p.predicate) false) Nothing };
+
+    ghost parts = { λ p. 1 };
+
+    #[inline(always)]
+    fn parse_mode<M: ParseMode>(
+        &mut self,
+        mode: M,
+        input: &mut Input,
+        state: &mut usize,
+    ) -> ParseResult<Input::Range, Input::Error> {
+        take_beginning(&self.predicate, false, mode.is_first(), input, state)
+    }
+
+    #[inline]
+    fn add_error(&mut self, error: &mut Tracked<Input::Error>) {}
+
+    #[inline]
+    fn parser_count(&self) -> ErrorOffset {
+        ErrorOffset(1)
+    }
+
+    ghost default_valid = { λ s d. tt };
+
+    ghost laws = { λ p l. kept_is_meaning _ _ _ _ (beginning_is_reading _ _ _ false Input.filled) };
+
+    ghost single = { λ p l d. kept_means_one _ _ _ _ (beginning_is_single _ _ _ false Input.filled d) };
+}
+
+impl<Input: RangeStream, F: Fn(Input::Token) -> bool> Parser<Input> for TakeWhile1<Input, F>
+where
+    Input::Range: Range,
+{
+    type Output = Input::Range;
+
+    type PartialState = usize;
+
+    ghost lawful = { λ p. F.IsAlwaysCallable p.predicate };
+
+    ghost determined = { λ p. IsPredicate (F.post p.predicate) };
+
+    ghost valid = { λ s. Unit {0} };
+
+    ghost meaning = { λ p. kept Input.size (beginning Input.size Input.spells (F.post p.predicate) true) Nothing };
+
+    ghost parts = { λ p. 1 };
+
+    #[inline(always)]
+    fn parse_mode<M: ParseMode>(
+        &mut self,
+        mode: M,
+        input: &mut Input,
+        state: &mut usize,
+    ) -> ParseResult<Input::Range, Input::Error> {
+        take_beginning(&self.predicate, true, mode.is_first(), input, state)
+    }
+
+    #[inline]
+    fn add_error(&mut self, error: &mut Tracked<Input::Error>) {}
+
+    #[inline]
+    fn parser_count(&self) -> ErrorOffset {
+        ErrorOffset(1)
+    }
+
+    ghost default_valid = { λ s d. tt };
+
+    ghost laws = { λ p l. kept_is_meaning _ _ _ _ (beginning_is_reading _ _ _ true Input.filled) };
+
+    ghost single = { λ p l d. kept_means_one _ _ _ _ (beginning_is_single _ _ _ true Input.filled d) };
+}
