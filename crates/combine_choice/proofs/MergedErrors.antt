@@ -1,5 +1,5 @@
 -- the error of a choice over a list of alternatives, by how they are run one after another
-use Rattle.std.proofs.Common.{ℕ, zero, suc, ◌≡◌, inl, inr, List, [], ◌∷◌, Bool, true, false, Option, Some, None, drop, refl, subst, sym}
+use Rattle.std.proofs.Common.{ℕ, zero, suc, ◌≡◌, inl, inr, List, [], ◌∷◌, Bool, true, false, Option, Some, None, drop, length, refl, subst, sym}
 use Rattle.std.specs.declared.cmp.Ordering.{Ordering}
 use Rattle.combine_base.specs.Stream.View.{View}
 use Rattle.combine_base.specs.Error.Errors.{Errors, Joined, later}
@@ -12,7 +12,8 @@ use Rattle.combine_base.specs.declared.error.ParseResult.{ParseResult}
 use Rattle.combine_base.specs.declared.error.ParseResult.TheVariants.{CommitOk, PeekOk, CommitErr, PeekErr}
 use Rattle.combine_token.specs.Alternatives.{AfterRefusal, refuses_both}
 use Rattle.combine_choice.specs.Merged.{RefusesChoice, merges, one_commits, on_refuses, tried_refuses}
-use Rattle.combine_choice.specs.OneTurn.{NoAlternative}
+use Rattle.combine_choice.specs.OneTurn.{NoAlternative, Afresh, InFirst, AtPeek, PastLast}
+use Rattle.combine_choice.proofs.Listed.{drop_past}
 use Rattle.combine_choice.specs.declared.choice.slice.SliceState.{SliceState}
 use Rattle.combine_choice.specs.declared.choice.slice.SliceState.TheVariants.{Peek, At}
 use Rattle.combine_choice.proofs.Refusing.{IsSettled}
@@ -78,17 +79,22 @@ module _ {X T R P S E : Type 0} (s : Errors T R P E) (cmp : P → P → Ordering
   abbrev tried : List X → Option S → Bool → E → Type 0
   tried zs k = tried_refuses s cmp refuses zs k v
 
-  pub start_first : (mode : Bool) (given : SliceState S) → mode ≡ true → (c : Bool) (e : E) → tried xs None c e → from mode given c e
+  start_first : (mode : Bool) (given : SliceState S) → mode ≡ true → (c : Bool) (e : E) → tried xs None c e → from mode given c e
   start_first true given i c e p = record { is = p }
   start_first false given i c e p = absurd (cc)
 
-  pub start_peek : (mode : Bool) (given : SliceState S) → mode ≡ false → given ≡ Peek → (c : Bool) (e : E) → tried xs None c e → from mode given c e
+  start_peek : (mode : Bool) (given : SliceState S) → mode ≡ false → given ≡ Peek → (c : Bool) (e : E) → tried xs None c e → from mode given c e
   start_peek true given i j c e p = absurd (cc)
   start_peek false given i j c e p = rw j (record { is = p })
 
-  pub start_past : (mode : Bool) (given : SliceState S) (n : ℕ) (k : S) → mode ≡ false → given ≡ At n k → drop n xs ≡ [] → (c : Bool) (e : E) → tried xs None c e → from mode given c e
+  start_past : (mode : Bool) (given : SliceState S) (n : ℕ) (k : S) → mode ≡ false → given ≡ At n k → drop n xs ≡ [] → (c : Bool) (e : E) → tried xs None c e → from mode given c e
   start_past true given n k i j none c e p = absurd (cc)
   start_past false given n k i j none c e p = rw j (record { is = subst (λ zs. on_refuses s cmp refuses xs zs k v c e) (sym none) p })
+
+  pub start_afresh : (mode : Bool) (given : SliceState S) → Afresh mode given (length xs) → (c : Bool) (e : E) → tried xs None c e → from mode given c e
+  start_afresh mode given (InFirst i) = start_first mode given i
+  start_afresh mode given (AtPeek i j) = start_peek mode given i j
+  start_afresh mode given (PastLast i n k j l) = start_past mode given n k i j (drop_past xs n l)
 
   pub start_kept : (mode : Bool) (given : SliceState S) (n : ℕ) (k : S) (y : X) (ys : List X) → mode ≡ false → given ≡ At n k → drop n xs ≡ y ∷ ys → (c : Bool) (e : E) → tried (drop n xs) (Some k) c e → from mode given c e
   start_kept true given n k y ys i j here c e p = absurd (cc)

@@ -13,7 +13,8 @@ use Rattle.combine_token.specs.Choice.{refused, last_is, either_into}
 use Rattle.combine_token.proofs.Choosing.{Tries}
 use Rattle.combine_token.proofs.Adding.{says_together}
 use Rattle.combine_choice.specs.Chosen.{first_of, goes_on, every, choice_of, chosen_lost, chosen_rest, adds_all}
-use Rattle.combine_choice.specs.OneTurn.{NoAlternative}
+use Rattle.combine_choice.specs.OneTurn.{NoAlternative, Afresh, InFirst, AtPeek, PastLast}
+use Rattle.combine_choice.proofs.Listed.{drop_past}
 use Rattle.combine_choice.specs.declared.choice.slice.SliceState.{SliceState}
 use Rattle.combine_choice.specs.declared.choice.slice.SliceState.TheVariants.{Peek, At}
 
@@ -57,14 +58,20 @@ module _ {X P T R V S E : Type 0} (w : World P T (SliceState S) E) (m : X → Me
       found [] h k = k
       found (y ∷ ys) h k = h.0.found s v d k
 
-  pub first_mode : (first : Bool) (given : SliceState S) → first ≡ true → (v : View P T) (o : Outcome V) → first_of m xs v o → begun (choice_of m xs) first given v o
+  first_mode : (first : Bool) (given : SliceState S) → first ≡ true → (v : View P T) (o : Outcome V) → first_of m xs v o → begun (choice_of m xs) first given v o
   first_mode first given e v o i = rw e i
 
-  pub at_peek : (first : Bool) (given : SliceState S) → first ≡ false → given ≡ Peek → (v : View P T) (o : Outcome V) → first_of m xs v o → begun (choice_of m xs) first given v o
+  at_peek : (first : Bool) (given : SliceState S) → first ≡ false → given ≡ Peek → (v : View P T) (o : Outcome V) → first_of m xs v o → begun (choice_of m xs) first given v o
   at_peek first given e q v o i = rw (e, q) i
 
-  pub past_last : (first : Bool) (given : SliceState S) (j : ℕ) (s : S) → first ≡ false → given ≡ At j s → drop j xs ≡ [] → (v : View P T) (o : Outcome V) → first_of m xs v o → begun (choice_of m xs) first given v o
+  past_last : (first : Bool) (given : SliceState S) (j : ℕ) (s : S) → first ≡ false → given ≡ At j s → drop j xs ≡ [] → (v : View P T) (o : Outcome V) → first_of m xs v o → begun (choice_of m xs) first given v o
   past_last first given j s e q n v o i = rw (e, q) (subst (λ zs. goes_on m (first_of m xs) zs s v o) (sym n) i)
+
+  -- in each way to begin afresh
+  pub afresh : (first : Bool) (given : SliceState S) → Afresh first given (length xs) → (v : View P T) (o : Outcome V) → first_of m xs v o → begun (choice_of m xs) first given v o
+  afresh first given (InFirst e) = first_mode first given e
+  afresh first given (AtPeek e q) = at_peek first given e q
+  afresh first given (PastLast e j s q l) = past_last first given j s e q (drop_past xs j l)
 
 -- there is no alternative
 module _ {X P T R V S E : Type 0} (step : P → T → P) (errors : Errors T R P E) (steady : Type 0) (m : X → Meaning P T R V S) (first : Bool) (given left : SliceState S) (v : View P T) (f : Failures) where

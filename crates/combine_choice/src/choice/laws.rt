@@ -32,6 +32,13 @@ pub fn tuple_3_is_array<Input: Stream, P: Parser<Input>>(a: &P, b: &P, c: &P)
         (⟦<[P; 3] as ChoiceParser<Input>>⟧.meaning (a.now ∷ b.now ∷ c.now ∷ [])) }
 {}
 
+/// The law that a choice over a tuple of four means what that over an array of the same parsers means: the same outcomes from the start; they leave tokens unread and ask for memory alike, and add the same items to an error.
+pub fn tuple_4_is_array<Input: Stream, P: Parser<Input>>(a: &P, b: &P, c: &P, d: &P)
+    ensures { StartsSame
+        (⟦<(P, P, P, P) as ChoiceParser<Input>>⟧.meaning (a.now, b.now, c.now, d.now))
+        (⟦<[P; 4] as ChoiceParser<Input>>⟧.meaning (a.now ∷ b.now ∷ c.now ∷ d.now ∷ [])) }
+{}
+
 /// The law that a choice over a tuple of five means what that over an array of the same parsers means: the same outcomes from the start; they leave tokens unread and ask for memory alike, and add the same items to an error.
 pub fn tuple_5_is_array<Input: Stream, P: Parser<Input>>(a: &P, b: &P, c: &P, d: &P, e: &P)
     ensures { StartsSame

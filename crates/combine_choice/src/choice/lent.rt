@@ -129,7 +129,7 @@ fn try_4<
     };
     let start = input.checkpoint();
     let position = input.position();
-    let answer = choose_4(a, b, c, d, mode, input, &mut kept);
+    let answer = choose_4::<_, _, _, _, _, _, false>(a, b, c, d, mode, input, &mut kept);
     go_on(start, position, input, kept, answer, state)
 }
 
@@ -187,7 +187,7 @@ fn then_4<
     ensures { Followed Input.step Input.Error.seen Input.steady Input.Position.cmp (λ s. s ≡ OrState.Peek) ((A.lawful a.new × B.lawful b.new) × (C.lawful c.new × D.lawful d.new)) (or_valid (or_valid A.valid B.valid) (or_valid C.valid D.valid)) (either_of (either_of (A.meaning a.old) (B.meaning b.old)) (either_of (C.meaning c.old) (D.meaning d.old))) (either_of (either_of (A.meaning a.new) (B.meaning b.new)) (either_of (C.meaning c.new) (D.meaning d.new))) (RefusesOr Input.Error.seen Input.Position.cmp (λ s. s ≡ OrState.Peek) (λ s. s ≡ OrState.Peek) (RefusesOr Input.Error.seen Input.Position.cmp A.PartialState.is_default B.PartialState.is_default (A.refuses a.old) (B.refuses b.old)) (RefusesOr Input.Error.seen Input.Position.cmp C.PartialState.is_default D.PartialState.is_default (C.refuses c.old) (D.refuses d.old))) (Input.marks input.old) (Input.marks input.new) (M.first mode) kept state.old state.new refused (Input.view input.old) (Input.view input.new) (Input.failures input.old) (Input.failures input.new) result }
 {
     let mut kept = kept;
-    let answer = choose_4(a, b, c, d, mode, input, &mut kept);
+    let answer = choose_4::<_, _, _, _, _, _, true>(a, b, c, d, mode, input, &mut kept);
     settle(input, refused, kept, answer, state)
 }
 
@@ -217,7 +217,9 @@ pub(super) fn choose_3<
     }
 }
 
-/// The choice of four.
+/// The choice of four, which may be the later half of a longer choice.
+///
+/// It is too large to be always inlined, but a function that is called from one place is inlined whatever its size. So a choice of eight parsers of the same types calls two functions, one for each half.
 #[inline(always)]
 pub(super) fn choose_4<
     Input: Stream,
@@ -226,6 +228,7 @@ pub(super) fn choose_4<
     C: Parser<Input, Output = A::Output>,
     D: Parser<Input, Output = A::Output>,
     M: ParseMode,
+    const LATER: bool,
 >(
     a: &mut A,
     b: &mut B,

@@ -8,7 +8,7 @@ ghost use Rattle.combine_base.specs.Parser.Reasons.{Reasoned, kept_from};
 ghost use Rattle.combine_base.specs.Stream.Calls.{Passes};
 ghost use Rattle.combine_choice.specs.Chosen.{AllSame, choice_of, slice_valid};
 ghost use Rattle.combine_choice.specs.Merged.{RefusesChoice, tried_refuses};
-ghost use Rattle.combine_choice.specs.OneTurn.{NoAlternative, Turn};
+ghost use Rattle.combine_choice.specs.OneTurn.{NoAlternative, Resumes, Turn};
 
 use super::ChoiceParser;
 use combine_base::error::{ParseResult, Tracked};
@@ -123,12 +123,58 @@ fn choose<Input: Stream, P: Parser<Input>, M: ParseMode>(
     ParseResult::PeekErr(refused)
 }
 
+/// As `choose`, for a call that resumes: apart from the code of calls that begin afresh, which holds the loop once.
+fn resume<Input: Stream, P: Parser<Input>, M: ParseMode>(
+    alternatives: &mut [P],
+    index: usize,
+    mode: M,
+    input: &mut Input,
+    kept: P::PartialState,
+    state: &mut SliceState<P::PartialState>,
+) -> ParseResult<P::Output, Input::Error>
+    requires within { index < length alternatives.old }
+    requires lawful { All P.lawful alternatives.old }
+    requires valid { P.valid kept }
+    requires fresh { M.first mode ≡ true → P.PartialState.is_default kept }
+    requires state { state.old ≡ SliceState.Peek }
+    ensures lawful { All P.lawful alternatives.new }
+    ensures valid { slice_valid P.valid state.new }
+    ensures same { AllSame P.meaning alternatives.old alternatives.new }
+    ensures passes { Passes (Input.marks input.old) (Input.marks input.new) (Input.failures input.old) (Input.failures input.new) }
+    ensures answers { Answers (world Input.step Input.Error.seen Input.steady (λ s. s ≡ SliceState.Peek))
+        (choice_of P.meaning alternatives.old)
+        (record { first = false; state = SliceState.At index kept; left = state.new; old = Input.view input.old; new = Input.view input.new; before = Input.failures input.old; after = Input.failures input.new })
+        result }
+    ensures refuses { Reasoned Input.Error.seen.kind (Input.view input.new).is_open (tried_refuses Input.Error.seen Input.Position.cmp P.refuses (drop index alternatives.old) (kept_from (M.first mode) kept) (Input.view input.old)) result }
+{
+    choose(alternatives, index, mode, input, kept, state)
+}
+
 /// The answer of a choice among no alternatives.
 fn no_alternative<O, Input: Stream>(input: &Input) -> ParseResult<O, Input::Error>
     ensures { NoAlternative Input.Error.seen (Input.view input.now).position result }
 {
     let error = refusal_saying(input, input.position(), "parser choice is empty");
     peeked(Tracked::from(error))
+}
+
+/// The alternative of so many that a call goes on with, and its state: `Peek` where the call begins afresh, also where no alternative has that index.
+#[inline(always)]
+fn running<S: Drop, M: ParseMode>(kept: SliceState<S>, count: usize, mode: M) -> SliceState<S>
+    ensures { Resumes (M.first mode) kept count result }
+{
+    if mode.is_first() {
+        return SliceState::Peek;
+    }
+    match kept {
+        SliceState::At { index, state } => {
+            if index < count {
+                return SliceState::At { index, state };
+            }
+            SliceState::Peek
+        }
+        SliceState::Peek => SliceState::Peek,
+    }
 }
 
 /// The choice of the alternatives of a slice.
@@ -155,25 +201,21 @@ fn parse_slice<Input: Stream, P: Parser<Input>, M: ParseMode>(
     if alternatives.is_empty() {
         return no_alternative(input);
     }
-    let begun = P::PartialState::default();
-    if mode.is_first() {
-        return choose(alternatives, 0, FirstMode, input, begun, state);
-    }
-    match kept {
+    match running(kept, alternatives.len(), mode) {
         SliceState::At { index, state: kept } => {
-            if index < alternatives.len() {
-                return choose(
-                    alternatives,
-                    index,
-                    PartialMode::default(),
-                    input,
-                    kept,
-                    state,
-                );
-            }
+            resume(
+                alternatives,
+                index,
+                PartialMode::default(),
+                input,
+                kept,
+                state,
+            )
+        }
+        SliceState::Peek => {
+            let begun = P::PartialState::default();
             choose(alternatives, 0, FirstMode, input, begun, state)
         }
-        SliceState::Peek => choose(alternatives, 0, FirstMode, input, begun, state),
     }
 }
 

@@ -180,7 +180,7 @@ impl<
         input: &mut Input,
         state: &mut Self::PartialState,
     ) -> ParseResult<A::Output, Input::Error> {
-        choose_4(
+        choose_4::<_, _, _, _, _, _, false>(
             &mut self.0,
             &mut self.1,
             &mut self.2,
