@@ -3,3 +3,4 @@ pub mod Clearing
 pub mod InPlaces
 pub mod Lists
 pub mod Shapes
+pub mod Spanning

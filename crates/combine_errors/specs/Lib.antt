@@ -5,3 +5,4 @@ pub mod Copies
 pub mod Easy
 pub mod Saying
 pub mod Shaped
+pub mod Spans
