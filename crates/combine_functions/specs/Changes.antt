@@ -1,0 +1,194 @@
+-- values changed by a function, or refused by it, which is known by its relation; kind and count are kept
+use denote.Ref.{MutBor}
+use Rattle.std.specs.Str.{IsUtf8}
+use Rattle.std.specs.Prelude.{ℕ, codes, ◌≡◌, ◌⊎◌, ◌↔◌, refl, List, Bool, true, Result, Ok, Err, Option, Some, None}
+use Rattle.std.proofs.Common.{ap, sym, subst, inl, inr}
+use Rattle.combine_base.specs.Stream.View.{View, advanced, extended}
+use Rattle.combine_base.specs.Stream.Advance.{advanced_extended}
+use Rattle.combine_base.specs.Error.Errors.{Errors, New, Only, Says}
+use Rattle.combine_base.specs.Error.Items.{Item, Expected, Fixed, Message}
+use Rattle.combine_base.specs.Stream.Calls.{Passes}
+use Rattle.combine_base.specs.declared.stream.Failures.{Failures}
+use Rattle.combine_base.specs.Parser.Outcome.{Outcome, Accepted, Refused, Undecided, IsDecided, shape}
+use Rattle.combine_base.specs.Parser.Meaning.{Meaning, Reading, IsReading, IsSingle, IsMeaning, MeansOne, MeansSame}
+use Rattle.combine_base.specs.declared.stream.Kind.{Kind}
+use Rattle.combine_base.specs.declared.stream.Kind.TheVariants as kinds
+
+-- what changing one value answers: what it gives, or the error of a refusal, or want of memory, of which an item of that error may be the reason
+module _ {T R P E B : Type 0} (s : Errors T R P E) (gives : B → Type 0) (denies starves : Type 0) (says : E → Type 0) where
+  abbrev pub changes : Result B E → Type 0
+  changes (Ok b) = gives b
+  changes (Err e) = ((s.kind e ≡ kinds.Refused) × denies × says e) ⊎ ((s.kind e ≡ kinds.Memory) × (s.frugal → starves))
+
+  pub record Changes (result : Result B E) : Type 0 where
+    pub is : changes result
+
+-- no value finds no memory
+abbrev pub spares : {A : Type 0} → (A → Type 0) → Type 0
+spares {A} starves = (a : A) → starves a → ⊥
+
+-- a value that is accepted there is refused
+pub record Denied {P T A : Type 0} (denies : A → Type 0) (r : Reading P T A) (v : View P T) (committed : Bool) : Type 0 where
+  pub value : A
+  pub count : ℕ
+  pub accepted : r v (Accepted value count committed)
+  pub denied : denies value
+
+-- of the values that may be accepted there, none is changed where another is refused
+pub record DecidesOne {P T A B : Type 0} (step : P → T → P) (r : Reading P T A) (gives : P → A → B → Type 0) (denies : A → Type 0) : Type 0 where
+  pub one : (v : View P T) (a a' : A) (n m : ℕ) (k c : Bool) → r v (Accepted a n k) → r v (Accepted a' m c) → (b : B) → gives (advanced step n v).position a b → denies a' → ⊥
+
+module _ {P T A B : Type 0} (step : P → T → P) (gives : P → A → B → Type 0) (denies : A → Type 0) where
+  -- a value that is accepted is changed, or refused with the same kind
+  abbrev pub changed_reading : Reading P T A → Reading P T B
+  changed_reading r v (Accepted b n k) = (a : A) × r v (Accepted a n k) × gives (advanced step n v).position a b
+  changed_reading r v (Refused k) = r v (Refused k) ⊎ Denied denies r v k
+  changed_reading r v Undecided = r v Undecided
+
+  abbrev pub changed : {R S : Type 0} → Type 0 → Meaning P T R A S → Meaning P T R B S
+  changed spared m = record { whole = changed_reading m.whole; rest = λ s. changed_reading (m.rest s); lost = m.lost; keeps = m.keeps; puts_back = m.puts_back; lean = m.lean × spared; adds = m.adds }
+
+  changed_stays : (r : Reading P T A) → IsReading r → (v : View P T) (x : List T) (m : Bool) (o : Outcome B) → v.is_open ≡ true → IsDecided o → changed_reading r v o → changed_reading r (extended x m v) o
+  changed_stays r h v x m (Accepted b n k) e d p =
+      let same = ap (λ (u : View P T). u.position) (advanced_extended step n x m v (h.within v p.0 n k p.1)) in
+      (p.0, h.stays v x m (Accepted p.0 n k) e tt p.1, subst (λ at. gives at p.0 b) (sym same) p.2)
+  changed_stays r h v x m (Refused k) e d (inl p) = inl (h.stays v x m (Refused k) e tt p)
+  changed_stays r h v x m (Refused k) e d (inr p) = inr (record { value = p.value; count = p.count; accepted = h.stays v x m (Accepted p.value p.count k) e tt p.accepted; denied = p.denied })
+  changed_stays r h v x m Undecided e d p = absurd d
+
+  changed_is_reading : (r : Reading P T A) → IsReading r → IsReading (changed_reading r)
+  changed_is_reading r h = record {
+    ended = h.ended;
+    stays = changed_stays r h;
+    peeked = λ v b n p. h.peeked v p.0 n p.1;
+    within = λ v b n k p. h.within v p.0 n k p.1;
+  }
+
+  changed_one : (r : Reading P T A) → IsSingle r → DecidesOne step r gives denies → (v : View P T) (o o' : Outcome B) → changed_reading r v o → changed_reading r v o' → shape o ≡ shape o'
+  changed_one r h d v (Accepted b n k) (Accepted b' n' k') p q = let e = h.one v (Accepted p.0 n k) (Accepted q.0 n' k') p.1 q.1 in e
+  changed_one r h d v (Accepted b n k) (Refused k') p (inl q) = h.one v (Accepted p.0 n k) (Refused k') p.1 q
+  changed_one r h d v (Accepted b n k) (Refused k') p (inr q) = absurd (d.one v p.0 q.value n q.count k k' p.1 q.accepted b p.2 q.denied)
+  changed_one r h d v (Accepted b n k) Undecided p q = h.one v (Accepted p.0 n k) Undecided p.1 q
+  changed_one r h d v (Refused k) (Accepted b n k') (inl p) q = h.one v (Refused k) (Accepted q.0 n k') p q.1
+  changed_one r h d v (Refused k) (Accepted b n k') (inr p) q = absurd (d.one v q.0 p.value n p.count k' k q.1 p.accepted b q.2 p.denied)
+  changed_one r h d v (Refused k) (Refused k') (inl p) (inl q) = h.one v (Refused k) (Refused k') p q
+  changed_one r h d v (Refused k) (Refused k') (inl p) (inr q) = let e = h.one v (Refused k) (Accepted q.value q.count k') p q.accepted in absurd (cc)
+  changed_one r h d v (Refused k) (Refused k') (inr p) (inl q) = let e = h.one v (Accepted p.value p.count k) (Refused k') p.accepted q in absurd (cc)
+  changed_one r h d v (Refused k) (Refused k') (inr p) (inr q) = let e = h.one v (Accepted p.value p.count k) (Accepted q.value q.count k') p.accepted q.accepted in cc
+  changed_one r h d v (Refused k) Undecided (inl p) q = h.one v (Refused k) Undecided p q
+  changed_one r h d v (Refused k) Undecided (inr p) q = let e = h.one v (Accepted p.value p.count k) Undecided p.accepted q in absurd (cc)
+  changed_one r h d v Undecided (Accepted b n k) p q = h.one v Undecided (Accepted q.0 n k) p q.1
+  changed_one r h d v Undecided (Refused k) p (inl q) = h.one v Undecided (Refused k) p q
+  changed_one r h d v Undecided (Refused k) p (inr q) = let e = h.one v Undecided (Accepted q.value q.count k) p q.accepted in absurd (cc)
+  changed_one r h d v Undecided Undecided p q = refl
+
+  into : (r t : Reading P T A) → ((v : View P T) (o : Outcome A) → r v o → t v o) → (v : View P T) (o : Outcome B) → changed_reading r v o → changed_reading t v o
+  into r t h v (Accepted b n k) p = (p.0, h v (Accepted p.0 n k) p.1, p.2)
+  into r t h v (Refused k) (inl p) = inl (h v (Refused k) p)
+  into r t h v (Refused k) (inr p) = inr (record { value = p.value; count = p.count; accepted = h v (Accepted p.value p.count k) p.accepted; denied = p.denied })
+  into r t h v Undecided p = h v Undecided p
+
+  both_ways : (r t : Reading P T A) → ((v : View P T) (o : Outcome A) → r v o ↔ t v o) → (v : View P T) (o : Outcome B) → changed_reading r v o ↔ changed_reading t v o
+  both_ways r t h v o = (into r t (λ v o. (h v o).0) v o, into t r (λ v o. (h v o).1) v o)
+
+  module _ {R S : Type 0} (spared : Type 0) where
+    pub changed_is_meaning : {fresh valid : S → Type 0} {m : Meaning P T R A S} → IsMeaning fresh valid m → IsMeaning fresh valid (changed spared m)
+    changed_is_meaning {fresh} {valid} {m} h = record {
+      whole = changed_is_reading m.whole h.whole;
+      rest = λ s k. changed_is_reading (m.rest s) (h.rest s k);
+      start = λ s v o d. both_ways (m.rest s) m.whole (λ v o. h.start s v o d) v o;
+      found = h.found;
+    }
+
+    pub changed_means_one : {valid : S → Type 0} {m : Meaning P T R A S} → MeansOne valid m → DecidesOne step m.whole gives denies → ((s : S) → valid s → DecidesOne step (m.rest s) gives denies) → MeansOne valid (changed spared m)
+    changed_means_one {valid} {m} h d e = record {
+      whole = record { one = changed_one m.whole h.whole d };
+      rest = λ s k. record { one = changed_one (m.rest s) (h.rest s k) (e s k) };
+    }
+
+    pub changed_means_same : {m m' : Meaning P T R A S} → MeansSame m m' → MeansSame (changed spared m) (changed spared m')
+    changed_means_same {m} {m'} h = record {
+      whole = both_ways m.whole m'.whole h.whole;
+      rest = λ s. both_ways (m.rest s) (m'.rest s) (h.rest s);
+      lost = h.lost;
+      keeps = h.keeps;
+      puts_back = h.puts_back;
+      lean = (λ x. (h.lean.0 x.0, x.1), λ x. (h.lean.1 x.0, x.1));
+      adds = h.adds;
+    }
+
+-- the reading that a call begins with, by what it was given
+abbrev pub read_from : {P T R A S : Type 0} → Meaning P T R A S → Option S → Reading P T A
+read_from m None = m.whole
+read_from m (Some s) = m.rest s
+
+module _ {P T R A S E : Type 0} (m : Meaning P T R A S) (part : Option S → View P T → Bool → E → Type 0) (says : P → A → E → Type 0) where
+  -- a value was accepted, and then refused with that error
+  pub record RefusesValue (from : Option S) (v : View P T) (committed : Bool) (e : E) : Type 0 where
+    pub value : A
+    pub count : ℕ
+    pub accepted : read_from m from v (Accepted value count committed)
+    pub said : says v.position value e
+
+  -- the error of a refusal is the part's, or that of the value
+  pub record RefusesChanged (from : Option S) (v : View P T) (committed : Bool) (e : E) : Type 0 where
+    pub is : part from v committed e ⊎ RefusesValue from v committed e
+
+-- a function's errors are refusals or want of memory
+module _ {A B E : Type 0} (kind : E → Kind) (post : A → Result B E → Type 0) where
+  pub record ErrorKinds : Type 0 where
+    pub one : (a : A) (e : E) → post a (Err e) → (kind e ≡ kinds.Refused) ⊎ (kind e ≡ kinds.Memory)
+
+  -- it answers an error of that kind
+  pub record AnsweredKind (why : Kind) (a : A) : Type 0 where
+    pub error : E
+    pub met : post a (Err error)
+    pub kind_is : kind error ≡ why
+
+-- the same of what its errors are turned into
+module _ {A B E I : Type 0} (kind : I → Kind) (post : A → Result B E → Type 0) (turned : E → I → Type 0) where
+  pub record ItemKinds : Type 0 where
+    pub one : (a : A) (e : E) (i : I) → post a (Err e) → turned e i → (kind i ≡ kinds.Refused) ⊎ (kind i ≡ kinds.Memory)
+
+  pub record AnsweredItem (why : Kind) (a : A) : Type 0 where
+    pub error : E
+    pub item : I
+    pub met : post a (Err error)
+    pub turns : turned error item
+    pub kind_is : kind item ≡ why
+
+-- an error made at that place of what the function answered
+pub record MadeOf {T R P E A B X I : Type 0} (s : Errors T R P E) (items : I → List (Item T R)) (post : A → Result B X → Type 0) (turned : X → I → Type 0) (place : P) (a : A) (e : E) : Type 0 where
+  pub why : X
+  pub item : I
+  pub met : post a (Err why)
+  pub turns : turned why item
+  pub own : E
+  pub new : New s kinds.Refused place own
+  pub said : Says s (Unit {0}) (λ is. is ≡ items item) own e
+
+module _ {I P T A B C V : Type 0} (view : I → View P T) (marks : I → C → V → Type 0) (failures : I → Failures) (post : A → MutBor I → B → MutBor I → Type 0) where
+  -- a function that leaves the stream in place
+  pub record InPlace : Type 0 where
+    pub kept : (a : A) (i : MutBor I) (b : B) (l : MutBor I) → post a i b l → (view l.now ≡ view i.now) × Passes (marks i.now) (marks l.now) (failures i.now) (failures l.now) × (failures l.now ≡ failures i.now)
+
+-- what a function may answer for a value, at a stream that stands there
+pub record GivesAt {I P T A B : Type 0} (view : I → View P T) (post : A → MutBor I → B → MutBor I → Type 0) (place : P) (a : A) (b : B) : Type 0 where
+  pub shown : MutBor I
+  pub left : MutBor I
+  pub there : (view shown.now).position ≡ place
+  pub met : post a shown b left
+
+-- bytes that are no text, or a text that is refused
+abbrev pub Misread : {N E : Type 0} → (List ℕ → Result N E → Type 0) → List ℕ → Type 0
+Misread {N} {E} gives bytes = (IsUtf8 bytes → ⊥) ⊎ ((e : E) × gives bytes (Err e))
+
+-- what is said of them: that UTF-8 was expected, or that the value is invalid
+abbrev pub unreadable : {T R : Type 0} → List ℕ → List (Item T R) → Type 0
+unreadable bytes is = ((IsUtf8 bytes → ⊥) × Only (Expected (Fixed (codes "UTF-8"))) is) ⊎ Only (Message (Fixed (codes "invalid value"))) is
+
+-- an error made at that place that says such items
+pub record MadeSaying {T R P E : Type 0} (s : Errors T R P E) (says : List (Item T R) → Type 0) (place : P) (e : E) : Type 0 where
+  pub own : E
+  pub new : New s kinds.Refused place own
+  pub said : Says s (Unit {0}) says own e

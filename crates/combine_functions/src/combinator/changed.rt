@@ -1,0 +1,121 @@
+//! A parser whose value is changed, or refused.
+ghost use Rattle.std.specs.Prelude.{◌≡◌};
+ghost use Rattle.combine_functions.specs.Changes.{DecidesOne, RefusesChanged, changed, changed_is_meaning, changed_means_one, spares};
+ghost use Rattle.combine_functions.specs.Parsers.{changed_of, changed_part, change_part};
+
+use combine_base::error::{ErrorOffset, ParseResult, Tracked};
+use combine_base::parser::{ParseMode, Parser};
+use combine_base::refusal::peeked;
+use combine_base::stream::{Positioned, Stream, StreamOnce};
+
+/// How a value is changed, or refused. Our own: the crate writes each of its parsers by itself.
+pub trait Change<Input: Stream, A> {
+    ghost use Rattle.std.specs.Prelude.{◌≡◌};
+    ghost use Rattle.combine_base.specs.Stream.Calls.{Passes};
+    ghost use Rattle.combine_functions.specs.Changes.{Changes};
+
+    /// What the value is changed into.
+    type Output: Drop;
+
+    ghost callable: { Self → Type 0 };
+
+    /// What a value may be changed into, where the parser left the stream at that position.
+    ghost gives: { Self → Input.Position → A → Self.Output → Type 0 };
+
+    /// The value may be refused.
+    ghost denies: { Self → A → Type 0 };
+
+    /// The value may find no memory.
+    ghost starves: { Self → A → Type 0 };
+
+    /// What error a refusal of the value may have, where the parser began at that position.
+    ghost says: { Self → Input.Position → A → Input.Error → Type 0 };
+
+    /// The value changed, or the error of a refusal or of a fault; the stream is left in place. The parser began at that position.
+    fn change(
+        &self,
+        value: A,
+        began: Input::Position,
+        input: &mut Input,
+    ) -> Result<Self::Output, Input::Error>
+        requires { callable self.now }
+        ensures passes { Passes (Input.marks input.old) (Input.marks input.new) (Input.failures input.old) (Input.failures input.new) }
+        ensures view { Input.view input.new ≡ Input.view input.old }
+        ensures failures { Input.failures input.new ≡ Input.failures input.old }
+        ensures changes { Changes Input.Error.seen (gives self.now (Input.view input.old).position value) (denies self.now value) (starves self.now value) (says self.now began value) result };
+}
+
+/// As its part, the value changed, or refused; the state is that of the part.
+#[derive(Clone, Copy, Drop)]
+pub struct Changed<P, C> {
+    part: P,
+    change: C,
+}
+
+impl<P, C> Changed<P, C> {
+    /// The parser of this part and this change.
+    #[inline]
+    pub fn new(part: P, change: C) -> Self
+        ensures { result ≡ changed_of part change }
+    {
+        Changed { part, change }
+    }
+}
+
+impl<Input: Stream, P: Parser<Input>, C: Change<Input, P::Output>> Parser<Input> for Changed<P, C> {
+    type Output = C::Output;
+
+    type PartialState = P::PartialState;
+
+    ghost lawful = { λ p. P.lawful (changed_part p) × C.callable (change_part p) };
+
+    ghost determined = { λ p. P.determined (changed_part p) × DecidesOne Input.step (P.meaning (changed_part p)).whole (C.gives (change_part p)) (C.denies (change_part p)) × ((s : P.PartialState) → P.valid s → DecidesOne Input.step ((P.meaning (changed_part p)).rest s) (C.gives (change_part p)) (C.denies (change_part p))) };
+
+    ghost valid = { P.valid };
+
+    ghost meaning = { λ p. changed Input.step (C.gives (change_part p)) (C.denies (change_part p)) (spares (C.starves (change_part p))) (P.meaning (changed_part p)) };
+
+    ghost refuses = { λ p. RefusesChanged (P.meaning (changed_part p)) (P.refuses (changed_part p)) (C.says (change_part p)) };
+
+    ghost parts = { λ p. P.parts (changed_part p) };
+
+    ghost default_valid = { P.default_valid };
+
+    ghost laws = { λ p l. changed_is_meaning Input.step (C.gives (change_part p)) (C.denies (change_part p)) (spares (C.starves (change_part p))) (P.laws (changed_part p) l.0) };
+
+    ghost single = { λ p l d. changed_means_one Input.step (C.gives (change_part p)) (C.denies (change_part p)) (spares (C.starves (change_part p))) (P.single (changed_part p) l.0 d.0) d.1 d.2 };
+
+    #[inline(always)]
+    fn parse_mode<M: ParseMode>(
+        &mut self,
+        mode: M,
+        input: &mut Input,
+        state: &mut Self::PartialState,
+    ) -> ParseResult<C::Output, Input::Error> {
+        let began = input.position();
+        match self.part.parse_mode(mode, input, state) {
+            ParseResult::CommitOk(value) => match self.change.change(value, began, input) {
+                Ok(value) => ParseResult::CommitOk(value),
+                Err(error) => ParseResult::CommitErr(error),
+            },
+            ParseResult::PeekOk(value) => match self.change.change(value, began, input) {
+                Ok(value) => ParseResult::PeekOk(value),
+                Err(error) => peeked(Tracked::from(error)),
+            },
+            ParseResult::CommitErr(error) => ParseResult::CommitErr(error),
+            ParseResult::PeekErr(refusal) => ParseResult::PeekErr(refusal),
+        }
+    }
+
+    /// What the parser adds whose value is changed.
+    #[inline]
+    fn add_error(&mut self, error: &mut Tracked<Input::Error>) {
+        self.part.add_error(error);
+    }
+
+    /// As for the parser whose value is changed.
+    #[inline]
+    fn parser_count(&self) -> ErrorOffset {
+        self.part.parser_count()
+    }
+}
