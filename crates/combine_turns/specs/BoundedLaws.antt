@@ -22,7 +22,7 @@ positive_sum n c = by_test (nat_lt 0 n) refl
     by_test true e = let i = ltb-true 0 n e in lt-ltb 0 (n + c) (omega arith)
     by_test false e = let i = ltb-false 0 n e in let z : n + c ≡ c = omega arith in ap (nat_lt 0) z
 
-begun_over : (b : Bool) (n c : ℕ) → (b || nat_lt 0 (n + c)) ≡ ((b || nat_lt 0 n) || nat_lt 0 c)
+pub begun_over : (b : Bool) (n c : ℕ) → (b || nat_lt 0 (n + c)) ≡ ((b || nat_lt 0 n) || nat_lt 0 c)
 begun_over true n c = refl
 begun_over false n c = positive_sum n c
 

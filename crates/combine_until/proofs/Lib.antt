@@ -1,0 +1,2 @@
+mod OneTurns
+mod UntilCalls

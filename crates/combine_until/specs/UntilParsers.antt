@@ -1,0 +1,55 @@
+-- the parsers that the constructors build, and their parts
+use Rattle.std.specs.declared.alloc.Global.{Global}
+use Rattle.combine_base.specs.Parser.Meaning.{Meaning}
+use Rattle.combine_map.specs.Parsers.{picked_of, picked_part}
+use Rattle.combine_map.specs.declared.combinator.values.Nothing.{Nothing}
+use Rattle.combine_map.specs.declared.combinator.values.Picked.{Picked}
+use Rattle.combine_token.specs.TokenParsers.{any_parser}
+use Rattle.combine_token.specs.declared.choice.OrState.{OrState}
+use Rattle.combine_token.specs.declared.token.types.Any.{Any}
+use Rattle.std.specs.Prelude.{Option}
+use Rattle.combine_turns.specs.Turns.{Collecting}
+use Rattle.combine_until.specs.Next.{next}
+use Rattle.combine_until.specs.Until.{until}
+use Rattle.combine_until.specs.declared.next.Next.{Next}
+use Rattle.combine_until.specs.declared.repeat.types.RepeatUntil.{RepeatUntil}
+use Rattle.combine_until.specs.declared.repeat.types.Skips.{Skips}
+use Rattle.combine_until.specs.declared.until.UntilState.{UntilState}
+
+abbrev pub next_of : {A X Y : Type 0} → X → Y → Next A X Y
+next_of part end = record { end = picked_of end; part = picked_of part }
+
+abbrev pub next_end : {A X Y : Type 0} → Next A X Y → Y
+next_end p = picked_part p.end
+
+abbrev pub next_part : {A X Y : Type 0} → Next A X Y → X
+next_part p = picked_part p.part
+
+abbrev pub repeat_until_of : {F A X Y : Type 0} → Global → X → Y → RepeatUntil F A X Y
+repeat_until_of alloc part end = record { alloc = alloc; turn = next_of part end; collects = record {} }
+
+abbrev pub take_until_of : {F I A Y : Type 0} → Global → Y → RepeatUntil F A (Any I) Y
+take_until_of alloc end = repeat_until_of alloc any_parser end
+
+abbrev pub repeat_skip_until_of : {A X Y : Type 0} → X → Y → Picked (Skips A X Y) Nothing
+repeat_skip_until_of part end = picked_of (record { turn = next_of part end })
+
+abbrev pub skip_until_of : {I A Y : Type 0} → Y → Picked (Skips A (Any I) Y) Nothing
+skip_until_of end = repeat_skip_until_of any_parser end
+
+abbrev pub skipped_end : {A X Y : Type 0} → Skips A X Y → Y
+skipped_end p = next_end p.turn
+
+abbrev pub skipped_part : {A X Y : Type 0} → Skips A X Y → X
+skipped_part p = next_part p.turn
+
+abbrev pub blocks_end : {F A X Y : Type 0} → RepeatUntil F A X Y → Y
+blocks_end p = next_end p.turn
+
+abbrev pub blocks_part : {F A X Y : Type 0} → RepeatUntil F A X Y → X
+blocks_part p = next_part p.turn
+
+module _ {P T R A B V S U : Type 0} (step : P → T → P) (c : Collecting (Option A) V) where
+  -- blocks of a parser, up to the first place where the other one isn't refused peeked
+  abbrev pub repeat_until : Meaning P T R A S → Meaning P T R B U → Meaning P T R V (UntilState V (OrState U S))
+  repeat_until part end = until step c (next end part)

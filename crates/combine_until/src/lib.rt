@@ -1,0 +1,6 @@
+//! Repetitions up to a place, which are put back on need of more.
+#![tactic(auto)]
+
+mod next;
+pub mod repeat;
+pub mod until;
