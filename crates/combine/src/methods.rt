@@ -2,10 +2,17 @@
 ghost use Rattle.std.specs.Prelude.{◌≡◌};
 ghost use Rattle.combine_token.specs.Or.{or_parser};
 ghost use Rattle.combine_map.specs.Parsers.{map_of, picked_of};
+ghost use Rattle.combine_functions.specs.Parsers.{and_then_of, flat_map_of, map_input_of};
+ghost use Rattle.combine_errors.specs.Shaped.{expected_of, message_of, silent_of};
 ghost use Rattle.combine_sequence.specs.Answered.{then_of, then_partial_of, then_ref_of};
 
+use combine_base::error::Info;
 use combine_base::parser::Parser;
 use combine_base::stream::Stream;
+use combine_errors::error;
+use combine_errors::error::types::{Expected, Message, Silent};
+use combine_functions::combinator as changes;
+use combine_functions::combinator::types::{AndThen, FlatMap, MapInput};
 use combine_map::combinator;
 use combine_map::combinator::types::Map;
 use combine_sequence::sequence;
@@ -107,6 +114,62 @@ pub trait ParserExt<Input: Stream>: Parser<Input> {
         ensures { result ≡ Either.Right self }
     {
         Either::Right(self)
+    }
+
+    /// This parser with its value changed or refused by the function, which answers what its error says.
+    final fn and_then<F>(self, f: F) -> AndThen<Self, F>
+    where
+        Self: Sized,
+        ensures { result ≡ and_then_of self f }
+    {
+        changes::and_then(self, f)
+    }
+
+    /// This parser with its value changed or refused by the function, which answers the error.
+    final fn flat_map<F>(self, f: F) -> FlatMap<Self, F>
+    where
+        Self: Sized,
+        ensures { result ≡ flat_map_of self f }
+    {
+        changes::flat_map(self, f)
+    }
+
+    /// This parser with its value changed by the function, which is given the stream too.
+    final fn map_input<F>(self, f: F) -> MapInput<Self, F>
+    where
+        Self: Sized,
+        ensures { result ≡ map_input_of self f }
+    {
+        changes::map_input(self, f)
+    }
+
+    /// This parser, whose refusals also say this.
+    final fn message<I>(self, info: I) -> Message<Self, Info<Input::Token, Input::Range>>
+    where
+        Self: Sized,
+        I: Into<Info<Input::Token, Input::Range>>,
+        ensures { (i : _) × I.converts info i × (result ≡ message_of self i) }
+    {
+        error::message(self, info)
+    }
+
+    /// This parser, of which errors say that this was expected.
+    final fn expected<I>(self, info: I) -> Expected<Self, Info<Input::Token, Input::Range>>
+    where
+        Self: Sized,
+        I: Into<Info<Input::Token, Input::Range>>,
+        ensures { (i : _) × I.converts info i × (result ≡ expected_of self i) }
+    {
+        error::expected(self, info)
+    }
+
+    /// This parser, of which errors don't say what was expected.
+    final fn silent(self) -> Silent<Self>
+    where
+        Self: Sized,
+        ensures { result ≡ silent_of self }
+    {
+        error::silent(self)
     }
 
     /// This parser with its value changed by the function.

@@ -1,7 +1,9 @@
 //! The protocol of parsers, and their constructors by module.
 
+pub mod byte;
 pub mod choice;
 pub mod combinator;
+pub mod error;
 pub mod repeat;
 pub mod sequence;
 
@@ -9,5 +11,8 @@ pub use combine_base::parser::{
     Answer, Calls, FirstMode, ParseMode, Parser, PartialMode, Session, SessionError, judge,
     parse_pieces,
 };
-pub use combine_text::{byte, char};
+pub use combine_errors::easy::EasyParser;
+pub use combine_functions::function;
+pub use combine_range::range;
+pub use combine_text::char;
 pub use combine_token::token;

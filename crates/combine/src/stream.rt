@@ -1,8 +1,9 @@
-//! Streams: what parsers read. A slice and a text are streams, `fed::Stream` is fed piece by piece, `position::Stream` counts its position, and a `MaybePartialStream` may go on.
+//! Streams: what parsers read. A slice and a text are streams, `fed::Stream` is fed piece by piece, `position::Stream` counts its position, that of `span::Stream` is where an error begins and ends, `easy::Stream` has errors that keep items, and a `MaybePartialStream` may go on.
 
 pub use combine_base::stream::{
     Failures, Kind, Left, Positioned, ResetStream, Stream, StreamOnce, asks_for_more, ends_open,
     fed, has_taken, needs_more,
 };
+pub use combine_errors::{easy, span};
 pub use combine_stream::range::{ByteRange, Range, RangeStream, Test};
 pub use combine_stream::{MaybePartialStream, position};

@@ -1,4 +1,4 @@
-//! Repetitions, also with separators or operators between the turns.
+//! Repetitions, also with separators or operators between the turns, or up to a place.
 
 pub mod laws;
 pub mod types;
@@ -8,3 +8,6 @@ pub use combine_repeat::repeat::{Append, Sink, TurnsState, many, many1, skip_man
 pub use combine_sep_end::repeat::{sep_end_by, sep_end_by1};
 pub use combine_separated::repeat::{chainl1, sep_by, sep_by1, sep_count_min_max};
 pub use combine_turns::repeat::{count, count_min_max, skip_count, skip_count_min_max};
+pub use combine_until::repeat::{
+    UntilState, repeat_skip_until, repeat_until, skip_until, take_until,
+};

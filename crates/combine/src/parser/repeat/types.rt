@@ -5,3 +5,4 @@ pub use combine_repeat::repeat::types::{Many, Many1, SkipMany, SkipMany1};
 pub use combine_sep_end::repeat::types::{SepEndBy, SepEndBy1};
 pub use combine_separated::repeat::types::{Chainl1, SepBy, SepBy1, SepCountMinMax};
 pub use combine_turns::repeat::types::{Count, CountMinMax, SkipCount, SkipCountMinMax};
+pub use combine_until::repeat::types::{RepeatUntil, SkipRepeatUntil, SkipUntil, TakeUntil};

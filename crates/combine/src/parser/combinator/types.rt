@@ -1,0 +1,6 @@
+//! The parsers that the functions of `combinator` answer.
+
+pub use combine_functions::combinator::types::{AndThen, FlatMap, FromStr, MapInput};
+pub use combine_map::combinator::types::{
+    Ignore, LookAhead, Map, NoPartial, NotFollowedBy, Nothing, Pick, Picked, Try,
+};
