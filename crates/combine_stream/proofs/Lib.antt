@@ -4,3 +4,4 @@ pub mod Passing
 pub mod Placing
 pub mod Slicing
 pub mod TextCuts
+mod TextParts

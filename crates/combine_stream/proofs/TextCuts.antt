@@ -53,7 +53,7 @@ right_of : (a b : Bool) → (a && b) ≡ true → b ≡ true
 right_of true b h = h
 right_of false b h = absurd (cc)
 
-scalars_drop : (k : ℕ) (cs : List ℕ) → scalars cs ≡ true → scalars (drop k cs) ≡ true
+pub scalars_drop : (k : ℕ) (cs : List ℕ) → scalars cs ≡ true → scalars (drop k cs) ≡ true
 scalars_drop zero cs h = h
 scalars_drop (suc k) [] h = h
 scalars_drop (suc k) (c ∷ cs) h = scalars_drop k cs (right_of (scalar c) (scalars cs) h)

@@ -7,3 +7,4 @@ pub mod PlacedViews
 pub mod RangeFacts
 pub mod Ranges
 pub mod TextRanges
+pub mod TextWindows

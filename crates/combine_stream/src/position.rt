@@ -1,5 +1,5 @@
 //! Streams that count their position: an index of a slice, a line and a column of a text.
-ghost use Rattle.std.specs.Prelude.{◌≡◌, ℕ, ◌≤◌, length};
+ghost use Rattle.std.specs.Prelude.{◌≡◌, ℕ, ◌≤◌, drop, false, length, take, true};
 ghost use Rattle.combine_base.specs.Stream.View.{View, advanced};
 
 use crate::range::{Range, RangeStream, Test};
@@ -38,6 +38,66 @@ pub trait DefaultPositioned {
     ghost counts: { (s : Self) (n : ℕ) → n ≤ length (whole s).unread → (advanced Self.Placed.step n (whole s)).position ≡ behind s n };
 }
 
+/// An input of which parts can be parsed, one window after another: a slice or a text. Its places are numbers of items before them: of tokens in a slice, of bytes in a text. Our own.
+pub trait Windowed: DefaultPositioned + Copy {
+    ghost use Rattle.std.specs.Prelude.{◌↔◌, take, drop};
+
+    /// No token is cut at the place.
+    ghost places: { Self → ℕ → Type 0 };
+
+    /// How many tokens stand before a place.
+    ghost index: { Self → ℕ → ℕ };
+
+    /// Whether no token is cut at the place, and it isn't behind the end.
+    fn has_place(self, place: usize) -> bool
+        ensures { (result ≡ true) ↔ places self place };
+
+    /// The first place, which is 0.
+    fn start(self) -> usize
+        ensures place { places self result }
+        ensures none { index self result ≡ 0 };
+
+    /// The last place: how many items there are.
+    fn end(self) -> usize
+        ensures place { places self result }
+        ensures all { index self result ≡ length (Self.DefaultPositioned.whole self).unread };
+
+    /// What stands between two places, at the position of the first.
+    fn window(
+        self,
+        from: usize,
+        to: usize,
+        position: <Self::Placed as StreamOnce>::Position,
+    ) -> Self::Placed
+        requires from { places self from }
+        requires to { places self to }
+        requires order { from ≤ to }
+        requires position { position ≡ Self.DefaultPositioned.behind self (index self from) }
+        ensures { Self.Placed.view result ≡ record { position = position; unread = drop (index self from) (take (index self to) (Self.DefaultPositioned.whole self).unread); is_open = false } };
+
+    /// The place of the first unread token of a window that ends at a place.
+    fn place_before(self, to: usize, window: &Self::Placed) -> usize
+        requires { places self to }
+        ensures { (k : ℕ) → k ≤ index self to → (Self.Placed.view window.now).unread ≡ drop k (take (index self to) (Self.DefaultPositioned.whole self).unread) → places self result × (result ≤ to) × (index self result ≡ k) };
+
+    /// How many tokens stand before a place, where so many stand before an earlier one.
+    fn count_to(self, to: usize, from: usize, before: usize) -> usize
+        requires from { places self from }
+        requires to { places self to }
+        requires order { from ≤ to }
+        requires before { before ≡ index self from }
+        ensures { result ≡ index self to };
+
+    /// A later place has no fewer tokens before it, and none has more than there are.
+    ghost rises: { (s : Self) (c d : ℕ) → places s c → places s d → c ≤ d → (index s c ≤ index s d) × (index s d ≤ length (Self.DefaultPositioned.whole s).unread) };
+
+    /// A place with fewer tokens before it is an earlier one.
+    ghost ordered: { (s : Self) (c d : ℕ) → places s c → places s d → index s c ≤ index s d → c ≤ d };
+
+    /// Neither reads nor resets fail.
+    ghost calm: { (s t : Self.Placed) → Self.Placed.failures s ≡ Self.Placed.failures t };
+}
+
 /// An input whose position is counted: `Stream<&[T]>` has an index from 0, `Stream<&str>` a `SourcePosition` from line 1 and column 1. Both are ended.
 ///
 /// The position stays counted from where the input began, also after a reset. The second parameter follows from the first; in the crate it is what counts.
@@ -57,6 +117,30 @@ impl<S: DefaultPositioned> Stream<S, S::Placed> {
             placed: input.place(),
             input: PhantomData,
         }
+    }
+}
+
+impl<S: Windowed> Stream<S, S::Placed> {
+    /// Goes on at the same position, before what stands between two places of the input: a wider window, with nothing counted again. Our own.
+    #[inline]
+    pub fn widen(&mut self, whole: S, from: usize, to: usize)
+        requires from { S.places whole from }
+        requires to { S.places whole to }
+        requires order { from ≤ to }
+        requires position { (⟦<Stream<S, S::Placed> as StreamOnce>⟧.view self.old).position ≡ S.DefaultPositioned.behind whole (S.index whole from) }
+        ensures { ⟦<Stream<S, S::Placed> as StreamOnce>⟧.view self.new ≡ record { position = (⟦<Stream<S, S::Placed> as StreamOnce>⟧.view self.old).position; unread = drop (S.index whole from) (take (S.index whole to) (S.DefaultPositioned.whole whole).unread); is_open = false } }
+    {
+        let position = self.placed.position();
+        self.placed = whole.window(from, to, position);
+    }
+
+    /// The place of the first unread token, where the stream is a window that ends at a place. Our own.
+    #[inline]
+    pub fn place_before(&self, whole: S, to: usize) -> usize
+        requires { S.places whole to }
+        ensures { (k : ℕ) → k ≤ S.index whole to → (⟦<Stream<S, S::Placed> as StreamOnce>⟧.view self.now).unread ≡ drop k (take (S.index whole to) (S.DefaultPositioned.whole whole).unread) → S.places whole result × (result ≤ to) × (S.index whole result ≡ k) }
+    {
+        whole.place_before(to, &self.placed)
     }
 }
 

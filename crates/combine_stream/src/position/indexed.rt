@@ -1,7 +1,7 @@
 //! A slice whose position is an index.
 ghost use Rattle.std.specs.Prelude.{◌≡◌, false};
 
-use crate::position::DefaultPositioned;
+use crate::position::{DefaultPositioned, Windowed};
 use crate::range::slices::count_while;
 use crate::range::{RangeStream, Test};
 use combine_base::error::UnexpectedParse;
@@ -47,6 +47,54 @@ impl<'a, T: Copy> DefaultPositioned for &'a [T] {
             tokens: self,
             at: 0,
         }
+    }
+}
+
+impl<'a, T: Copy> Windowed for &'a [T] {
+    ghost use Rattle.std.specs.Prelude.{◌≡◌, ℕ, ◌≤◌, length, refl};
+    ghost use Rattle.std.proofs.Common.{arith};
+
+    ghost places = { λ s c. c ≤ length s.now };
+
+    ghost index = { λ s c. c };
+
+    ghost rises = { λ s c d p q l. (l, q) };
+
+    ghost ordered = { λ s c d p q l. l };
+
+    ghost calm = { λ s t. refl };
+
+    #[inline]
+    fn has_place(self, place: usize) -> bool {
+        place <= self.len()
+    }
+
+    #[inline]
+    fn start(self) -> usize {
+        0
+    }
+
+    #[inline]
+    fn end(self) -> usize {
+        self.len()
+    }
+
+    #[inline]
+    fn window(self, from: usize, to: usize, position: usize) -> Indexed<'a, T> {
+        Indexed {
+            tokens: &self[..to],
+            at: from,
+        }
+    }
+
+    #[inline]
+    fn place_before(self, to: usize, window: &Indexed<'a, T>) -> usize {
+        to.saturating_sub(window.unread().len())
+    }
+
+    #[inline]
+    fn count_to(self, to: usize, from: usize, before: usize) -> usize {
+        to
     }
 }
 

@@ -1,13 +1,14 @@
 //! A text whose position is a line and a column.
-ghost use Rattle.std.specs.Prelude.{◌≡◌, ℕ, ◌+◌, ◌<◌, ◌≤◌, ◌^◌, [], MatchOption, MatchResult, length, take, drop, false};
+ghost use Rattle.std.specs.Prelude.{◌≡◌, ◌↔◌, ℕ, ◌+◌, ◌<◌, ◌≤◌, ◌^◌, [], true, MatchOption, MatchResult, length, take, drop, false};
 ghost use Rattle.std.specs.Char.{len_utf8};
-ghost use Rattle.std.specs.Str.{IsUtf8, chars};
+ghost use Rattle.std.specs.Str.{IsCharBoundary, IsUtf8, chars};
 ghost use Rattle.combine_base.specs.Stream.View.{after_all};
 ghost use Rattle.combine_stream.specs.Ranges.{size_of};
 ghost use Rattle.combine_stream.specs.TextRanges.{Cut, uncut};
-ghost use Rattle.combine_stream.specs.Lines.{Fits, StepsOn, first_place, next_place};
+ghost use Rattle.combine_stream.specs.Lines.{Fits, StepsOn, behind, first_place, next_place};
+ghost use Rattle.combine_stream.specs.TextWindows.{index_of};
 
-use crate::position::DefaultPositioned;
+use crate::position::{DefaultPositioned, Windowed};
 use crate::range::texts::{bytes_while, cut};
 use crate::range::{Range, RangeStream, Test};
 use combine_base::error::UnexpectedParse;
@@ -93,6 +94,51 @@ impl<'a> DefaultPositioned for &'a str {
             rest: self,
             place: SourcePosition::default(),
         }
+    }
+}
+
+impl<'a> Windowed for &'a str {
+    ghost use Rattle.std.specs.Prelude.{refl};
+    ghost use Rattle.combine_stream.specs.TextWindows.{index_orders, index_rises};
+
+    ghost places = { λ s c. IsUtf8 s.now × IsCharBoundary s.now c };
+
+    ghost index = { λ s c. index_of s.now c };
+
+    ghost rises = { λ s c d p q l. index_rises s.now c d p.0 p.1 q.1 l };
+
+    ghost ordered = { λ s c d p q l. index_orders s.now c d p.0 p.1 q.1 l };
+
+    ghost calm = { λ s t. refl };
+
+    #[inline]
+    fn has_place(self, place: usize) -> bool {
+        may_cut(self, place)
+    }
+
+    #[inline]
+    fn start(self) -> usize {
+        text_start(self)
+    }
+
+    #[inline]
+    fn end(self) -> usize {
+        text_end(self)
+    }
+
+    #[inline]
+    fn window(self, from: usize, to: usize, position: SourcePosition) -> PlacedText<'a> {
+        part_of(self, from, to, position)
+    }
+
+    #[inline]
+    fn place_before(self, to: usize, window: &PlacedText<'a>) -> usize {
+        place_within(self, to, window.rest)
+    }
+
+    #[inline]
+    fn count_to(self, to: usize, from: usize, before: usize) -> usize {
+        count_on(self, to, from, before)
     }
 }
 
@@ -299,4 +345,86 @@ fn bytes_between(from: &str, to: &str) -> usize
     ensures { (k : ℕ) → chars to.now ≡ drop k (chars from.now) → result ≡ size_of len_utf8 (take k (chars from.now)) }
 {
     from.len().saturating_sub(to.len())
+}
+
+// Whether a text may be cut at a place.
+#[inline]
+fn may_cut(text: &str, place: usize) -> bool
+    ensures { (result ≡ true) ↔ (IsUtf8 text.now × IsCharBoundary text.now place) }
+{
+    text.is_char_boundary(place)
+}
+
+// The first place of a text.
+#[inline]
+fn text_start(text: &str) -> usize
+    ensures place { IsUtf8 text.now × IsCharBoundary text.now result }
+    ensures none { index_of text.now result ≡ 0 }
+{
+    0
+}
+
+// The last place of a text.
+#[inline]
+fn text_end(text: &str) -> usize
+    ensures place { IsUtf8 text.now × IsCharBoundary text.now result }
+    ensures all { index_of text.now result ≡ length (chars text.now) }
+{
+    text.len()
+}
+
+// What stands between two places of a text, at the position of the first.
+#[inline]
+fn part_of<'a>(text: &'a str, from: usize, to: usize, place: SourcePosition) -> PlacedText<'a>
+    requires from { IsCharBoundary text.now from }
+    requires to { IsCharBoundary text.now to }
+    requires order { from ≤ to }
+    requires place { place ≡ behind (chars text.now) (index_of text.now from) }
+    ensures rest { chars result.rest.now ≡ drop (index_of text.now from) (take (index_of text.now to) (chars text.now)) }
+    ensures place { result.place ≡ place }
+{
+    let _size = text.len();
+    let (front, _after) = text.split_at(to);
+    let (_before, rest) = front.split_at(from);
+    PlacedText { rest, place }
+}
+
+// The place of what is unread of a part that ends at a place.
+#[inline]
+fn place_within(text: &str, to: usize, rest: &str) -> usize
+    requires { IsCharBoundary text.now to }
+    ensures { (k : ℕ) → k ≤ index_of text.now to → chars rest.now ≡ drop k (take (index_of text.now to) (chars text.now)) → (IsUtf8 text.now × IsCharBoundary text.now result) × (result ≤ to) × (index_of text.now result ≡ k) }
+{
+    to.saturating_sub(rest.len())
+}
+
+// How many characters of a text stand before a place, where so many stand before an earlier one.
+#[inline]
+fn count_on(text: &str, to: usize, from: usize, before: usize) -> usize
+    requires from { IsCharBoundary text.now from }
+    requires to { IsCharBoundary text.now to }
+    requires order { from ≤ to }
+    requires before { before ≡ index_of text.now from }
+    ensures { result ≡ index_of text.now to }
+{
+    let (front, _after) = text.split_at(to);
+    let (_before, between) = front.split_at(from);
+    before + count_characters(between)
+}
+
+// How many characters a text has.
+fn count_characters(text: &str) -> usize
+    ensures { result ≡ length (chars text.now) }
+{
+    let mut rest = text;
+    let mut count = 0;
+    loop {
+        match split_first(rest) {
+            Some((_first, left)) => {
+                rest = left;
+                count += 1;
+            }
+            None => return count,
+        }
+    }
 }
