@@ -2,6 +2,8 @@
 #![tactic(auto)]
 
 #[cfg(test)]
+mod alternatives;
+#[cfg(test)]
 mod choices;
 #[cfg(test)]
 mod kept_states;
