@@ -61,7 +61,11 @@ SWITCHES = [
     Switch(ESCAPE, whole=True, calls=("escaped",)),
     Switch(NOT, calls=("not_followed_by",)),
 ]
-BETWEEN_VERSIONS = [Switch(TOKENS), Switch(COUNT_STATE, calls=("count",)), Switch(ESCAPED_STATE, whole=True, calls=("escaped",))]
+BETWEEN_VERSIONS = [
+    Switch(TOKENS),
+    Switch(COUNT_STATE, calls=("count",)),
+    Switch(ESCAPED_STATE, calls=("escaped",)),
+]
 # The switches that are on in 4.6.6, and in 4.6.9.
 DEBIAN = frozenset()
 LATEST = frozenset(switch.slug for switch in BETWEEN_VERSIONS)
