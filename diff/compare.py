@@ -47,15 +47,20 @@ def compare(case, debian, ours):
 
 
 def causes(compared):
-    """The fewest switches that turn the answer of 4.6.9 into ours; that between the versions, where none is needed."""
+    """The fewest switches that turn the answer of 4.6.9 into ours; where none is needed, those between the versions."""
     if crate.answer(compared.case, crate.DEBIAN) != compared.debian:
         return None
     if compared.latest == compared.ours:
-        return (crate.TOKENS,)
-    slugs = [switch.slug for switch in crate.SWITCHES]
+        return fewest(compared.case, crate.DEBIAN, crate.BETWEEN_VERSIONS, compared.ours)
+    return fewest(compared.case, crate.LATEST, crate.SWITCHES, compared.ours)
+
+
+def fewest(case, on, switches, answer):
+    """The fewest of these switches that give an answer, beside those that are on."""
+    slugs = [switch.slug for switch in switches if switch.concerns(case)]
     for number in range(1, len(slugs) + 1):
         for chosen in itertools.combinations(slugs, number):
-            if crate.answer(compared.case, crate.LATEST.union(chosen)) == compared.ours:
+            if crate.answer(case, on.union(chosen)) == answer:
                 return chosen
     return None
 
@@ -73,7 +78,7 @@ def unmodelled(debian):
 
 def unexplained(found):
     """Differences that no switches explain, or that theirs may not excuse."""
-    switches = {switch.slug: switch for switch in [*crate.SWITCHES, crate.BETWEEN_VERSIONS]}
+    switches = {switch.slug: switch for switch in [*crate.SWITCHES, *crate.BETWEEN_VERSIONS]}
     for difference in found:
         if difference.causes is None:
             yield f"no entries explain: {difference.line()}"
@@ -93,7 +98,7 @@ def is_whole(case):
 def unlisted(found, apart, document, title):
     """Where the entries under a title of the document, the switches and the entries that are used are not the same."""
     listed = entries(document.read_text(), title)
-    known = {switch.slug for switch in [*crate.SWITCHES, crate.BETWEEN_VERSIONS]} | {TABLES}
+    known = {switch.slug for switch in [*crate.SWITCHES, *crate.BETWEEN_VERSIONS]} | {TABLES}
     used = {slug for difference in found for slug in difference.causes or ()} | ({TABLES} if any(apart.values()) else set())
     yield from (f"{document.name} has no heading under '{title}': ### {slug}" for slug in sorted(known - listed))
     yield from (f"diff/crate.py has no switch for the entry {slug}" for slug in sorted(listed - known))

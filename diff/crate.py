@@ -1,8 +1,8 @@
 """What combine answers: its parsers written down as they are resumed, and what is otherwise in ours as switches.
 
-With no switch on, the answers are those of combine 4.6.6; with `TOKENS` on, those of 4.6.9; with all on, ours. Each
-switch is an entry of docs/DIFFERENCES.md, by its slug. A difference is named by the switches that turn the one answer
-into the other.
+With no switch on, the answers are those of combine 4.6.6; with those between the versions on, those of 4.6.9; with all
+on, ours. Each switch is an entry of docs/DIFFERENCES.md, by its slug. A difference is named by the switches that turn the
+one answer into the other.
 """
 
 import dataclasses
@@ -18,7 +18,15 @@ ATTEMPT = "attempt-puts-back"
 CHOICE = "choice-goes-on-after-a-cut"
 REFUSAL = "refusal-clears-the-state"
 EOF = "eof-asks-for-more"
+COUNTS = "counts-keep-commitment"
+SEPARATED = "sep-by-goes-on"
+OPERATOR = "chainr1-drops-no-operator"
+CHAIN = "chainr1-puts-back"
+ESCAPE = "escaped-puts-back"
+NOT = "not-followed-by-asks-for-more"
 TOKENS = "tokens-in-4-6-6"
+COUNT_STATE = "count-in-4-6-6"
+ESCAPED_STATE = "escaped-in-4-6-6"
 
 
 @dataclasses.dataclass(frozen=True)
@@ -30,6 +38,11 @@ class Switch:
     whole: bool = False
     # Which of the answers `endless` and `panic`.
     failures: tuple = ()
+    # The beginnings of the constructors that it is about; none where they are many.
+    calls: tuple = ()
+
+    def concerns(self, case):
+        return not self.calls or any(call in case for call in self.calls)
 
 
 # In this order: where several sets of as few switches explain a difference, the earlier ones name it.
@@ -40,16 +53,26 @@ SWITCHES = [
     Switch(ATTEMPT),
     Switch(CHOICE),
     Switch(REFUSAL, whole=True),
-    Switch(EOF),
+    Switch(EOF, calls=("eof",)),
+    Switch(COUNTS, calls=("count",)),
+    Switch(SEPARATED, calls=("sep_by",)),
+    Switch(OPERATOR, whole=True, calls=("chainr1",)),
+    Switch(CHAIN, calls=("chainr1",)),
+    Switch(ESCAPE, whole=True, calls=("escaped",)),
+    Switch(NOT, calls=("not_followed_by",)),
 ]
-BETWEEN_VERSIONS = Switch(TOKENS)
+BETWEEN_VERSIONS = [
+    Switch(TOKENS),
+    Switch(COUNT_STATE, calls=("count",)),
+    Switch(ESCAPED_STATE, calls=("escaped",)),
+]
 # The switches that are on in 4.6.6, and in 4.6.9.
 DEBIAN = frozenset()
-LATEST = frozenset([TOKENS])
+LATEST = frozenset(switch.slug for switch in BETWEEN_VERSIONS)
 # More turns than any repetition takes on a few tokens.
 MOST_TURNS = 100
 # What a parser is made with; all else that it has is its state.
-MADE_WITH = ("switches", "parts", "alternatives", "wanted", "value")
+MADE_WITH = ("switches", "parts", "alternatives", "wanted", "value", "least", "most", "escape")
 
 
 class Endless(Exception):
@@ -164,6 +187,21 @@ class Parser:
         for part in self.parts:
             part.clear()
 
+    def lazy(self, text, window):
+        """A call of a part without a state: on an open piece a committed refusal puts the tokens back.
+
+        But not where the part keeps no state either.
+        """
+        start = window.at
+        part = make(text, self.switches)
+        result = part.run(True, window)
+        if window.open and not result.accepted and result.committed and part.keeps_state():
+            window.at = start
+        return result
+
+    def keeps_state(self):
+        return True
+
     def adopt(self, other):
         """Goes on from the state of another parser of its type."""
         vars(self).update((name, kept) for name, kept in vars(other).items() if name not in MADE_WITH)
@@ -244,6 +282,9 @@ class Tokens(Parser):
         self.matched = 0
         return result
 
+    def keeps_state(self):
+        return TOKENS in self.switches
+
 
 def wrapped(result):
     return accepted(f"<{result.value}>", result.committed) if result.accepted else result
@@ -267,7 +308,10 @@ class Optional(Parser):
 
 
 class Attempt(Parser):
-    """With `ATTEMPT`, need of more puts all tokens back, and how far the part had read is kept with its state."""
+    """A committed refusal is peeked, and leaves it to the caller to put back what was read.
+
+    With `ATTEMPT`, need of more puts all tokens back, and how far the part had read is kept with its state.
+    """
 
     def forget(self):
         self.distance = 0
@@ -275,7 +319,8 @@ class Attempt(Parser):
     def parse(self, first, window):
         start = window.at
         if not first:
-            window.at += self.distance
+            # There may be fewer, where another parser has lost some.
+            window.at = min(start + self.distance, len(window.tokens))
         result = self.parts[0].run(first, window)
         self.distance = 0
         if window.asks(result):
@@ -285,7 +330,8 @@ class Attempt(Parser):
             return result
         if result.accepted:
             return result
-        window.at = start
+        if not result.committed:
+            window.at = start
         return refused(False)
 
 
@@ -515,10 +561,12 @@ class Many(Parser):
             has_taken = begun or window.at != start
             if not turn.accepted:
                 return self.last(turn, start, has_taken, committed, window)
+            committed |= turn.committed
+            if self.is_last(turn.value):
+                return self.ended(committed)
             if NOTHING in self.switches and not has_taken:
                 return refused(True)
             self.add(turn.value)
-            committed |= turn.committed
             first, begun = True, False
 
     def last(self, turn, start, has_taken, committed, window):
@@ -527,6 +575,13 @@ class Many(Parser):
             self.committed, self.begun = committed, has_taken
             return turn
         window.at = start
+        return self.ended(committed)
+
+    def is_last(self, value):
+        """Whether this value of a turn ends the repetition, accepted."""
+        return False
+
+    def ended(self, committed):
         value = self.show(self.elements)
         self.forget()
         return accepted(value, committed)
@@ -576,6 +631,315 @@ class SkipMany1(Skipping, Many1):
     pass
 
 
+class CountMinMax(Many):
+    """At most so many turns. With `COUNTS`, whether an earlier turn committed is kept."""
+
+    def __init__(self, switches, parts):
+        *numbers, parser = parts
+        super().__init__(switches, [parser])
+        self.least, self.most = [0, *map(int, numbers)][-2:]
+
+    def parse(self, first, window):
+        committed = not first and COUNTS in self.switches and self.committed
+        while len(self.elements) < self.most:
+            start = window.at
+            turn = self.parts[0].run(first, window)
+            if not turn.accepted:
+                return self.last(turn, start, False, committed, window)
+            self.add(turn.value)
+            committed |= turn.committed
+            first = True
+        return self.ended(committed)
+
+    def ended(self, committed):
+        if len(self.elements) < self.least:
+            return refused(committed)
+        return super().ended(committed)
+
+
+class Count(CountMinMax):
+    """In 4.6.6 it keeps no state."""
+
+    def parse(self, first, window):
+        if COUNT_STATE not in self.switches:
+            self.clear()
+        return super().parse(first, window)
+
+
+class SkipCountMinMax(Skipping, CountMinMax):
+    pass
+
+
+class SkipCount(Skipping, Count):
+    pass
+
+
+class SepEndBy1(Many):
+    """A first element, and turns of the separator and perhaps an element: the first without one ends them."""
+
+    def __init__(self, switches, parts):
+        super().__init__(switches, [self.turn(*parts)])
+
+    def forget(self):
+        super().forget()
+        self.parsed_one = False
+
+    def parse(self, first, window):
+        if not self.parsed_one:
+            element = self.element().run(first, window)
+            if not element.accepted:
+                return element
+            self.elements.append(element.value)
+            self.committed = element.committed
+            self.parsed_one = self.keeps_first()
+        return self.turns(first, self.committed, window)
+
+    def add(self, value):
+        super().add(value.removeprefix("some(").removesuffix(")"))
+
+    def is_last(self, value):
+        return value == "none"
+
+    def turn(self, parser, separator):
+        return f"with({separator},optional({parser}))"
+
+    def element(self):
+        """The parser of the elements, which the turns have too."""
+        return self.parts[0].parts[1].parts[0]
+
+    def keeps_first(self):
+        return True
+
+
+class SepBy1(SepEndBy1):
+    """A first element, and turns of the separator and an element. With `SEPARATED` it is kept that there was a first."""
+
+    def add(self, value):
+        Many.add(self, value)
+
+    def is_last(self, value):
+        return False
+
+    def turn(self, parser, separator):
+        return f"with({separator},{parser})"
+
+    def element(self):
+        return self.parts[0].parts[1]
+
+    def keeps_first(self):
+        return SEPARATED in self.switches
+
+
+class SepEndBy(Or):
+    def __init__(self, switches, parts):
+        super().__init__(switches, [f"sep_end_by1({','.join(parts)})", "value([])"])
+
+
+class SepBy(Or):
+    def __init__(self, switches, parts):
+        super().__init__(switches, [f"sep_by1({','.join(parts)})", "value([])"])
+
+
+class Pair(Tuple):
+    def collect(self, values):
+        return values
+
+
+def joined(left, operator, right):
+    return f"({left}{operator}{right})"
+
+
+class Chainl1(Many):
+    """A first operand, and turns of operator and operand. In first mode too it goes on from an operand that is kept."""
+
+    def __init__(self, switches, parts):
+        parser, operator = parts
+        super().__init__(switches, [f"pair({operator},{parser})"])
+
+    def parse(self, first, window):
+        if not self.elements:
+            operand = self.parts[0].parts[1].run(False, window)
+            if not operand.accepted:
+                return operand
+            self.add(operand.value)
+            self.committed = operand.committed
+            first = True
+        return self.turns(first, self.committed, window)
+
+    def show(self, elements):
+        return functools.reduce(lambda left, turn: joined(left, *turn), elements)
+
+
+class Chainr1(Parser):
+    """An operand, and turns of operator and chain. It keeps no state.
+
+    With `OPERATOR`, an operator without an operand is refused, committed if it was; with `CHAIN`, need of more puts back.
+    """
+
+    def __init__(self, switches, parts):
+        super().__init__(switches, [])
+        self.alternatives = parts
+
+    def parse(self, first, window):
+        start = window.at
+        result = self.chain(None, MOST_TURNS, window)
+        if CHAIN in self.switches and window.asks(result):
+            window.at = start
+        return result
+
+    def chain(self, turn, room, window):
+        """The operands from here on; of a turn that began at a place, so many more may be nested in it."""
+        parser, operator = self.alternatives
+        left = self.lazy(parser, window)
+        if not left.accepted:
+            return left
+        if room == 0:
+            raise Endless
+        if NOTHING in self.switches and window.at == turn:
+            return refused(True)
+        while True:
+            start = window.at
+            between = self.lazy(operator, window)
+            if not between.accepted:
+                return between if between.committed else self.ended(left, start, window)
+            behind = window.at
+            right = self.chain(start, room - 1, window)
+            if right.accepted:
+                value = joined(left.value, between.value, right.value)
+                left = accepted(value, left.committed or between.committed or right.committed)
+            elif right.committed or OPERATOR in self.switches and between.committed:
+                return right._replace(committed=True)
+            elif OPERATOR in self.switches:
+                return self.ended(left, start, window)
+            else:
+                return self.ended(left._replace(committed=left.committed or between.committed), behind, window)
+
+    def ended(self, left, place, window):
+        window.at = place
+        return left
+
+    def keeps_state(self):
+        return False
+
+
+class Escaped(Parser):
+    """Turns of the one part, or of the escape and the other. In 4.6.6 it keeps no state.
+
+    With `ESCAPE`, what the refused part has read is put back before the escape is looked for.
+    """
+
+    def __init__(self, switches, parts):
+        parser, self.escape, behind = parts
+        super().__init__(switches, [parser, behind])
+        self.alternatives = [parser, behind]
+
+    def forget(self):
+        self.committed = False
+        self.escaping = False
+        self.begun = False
+
+    def parse(self, first, window):
+        if ESCAPED_STATE not in self.switches:
+            return self.without_state(window)
+        if first:
+            self.forget()
+        for _ in range(MOST_TURNS):
+            if not self.escaping:
+                result = self.unescaped(first, window)
+                if result is not None:
+                    return result
+                first = True
+            if self.escaping:
+                turn = self.parts[1].run(first, window)
+                if not turn.accepted:
+                    return turn._replace(committed=True)
+                self.escaping = False
+                first = True
+        raise Endless
+
+    def unescaped(self, first, window):
+        """A turn of the first part, or the escape; an answer where there is neither."""
+        start = window.at
+        begun = not first and self.begun
+        turn = self.parts[0].run(first, window)
+        self.begun = begun or window.at != start
+        if turn.accepted:
+            self.committed |= turn.committed
+            return refused(True) if NOTHING in self.switches and not self.begun else None
+        if turn.committed:
+            return turn
+        if ESCAPE in self.switches:
+            window.at = start
+        self.begun = False
+        result = self.read_escape(window)
+        if window.asks(result):
+            # The part has answered, and begins from nothing.
+            self.parts[0].clear()
+            return result
+        self.escaping = result.accepted
+        self.committed |= result.accepted
+        return None if result.accepted else accepted("()", self.committed)
+
+    def read_escape(self, window):
+        start = window.at
+        result = window.read()
+        if result.accepted and result.value != self.escape:
+            window.at = start
+            return refused(False)
+        return result
+
+    def without_state(self, window):
+        """As 4.6.6: whether the escape was found commits nothing."""
+        parser, behind = self.alternatives
+        committed = False
+        for _ in range(MOST_TURNS):
+            turn = self.lazy(parser, window)
+            if not turn.accepted:
+                if turn.committed:
+                    return turn
+                escape = self.read_escape(window)
+                if not escape.accepted:
+                    return escape if escape.committed else accepted("()", committed)
+                turn = make(behind, self.switches).run(True, window)
+                if not turn.accepted:
+                    return turn._replace(committed=True)
+            committed |= turn.committed
+        raise Endless
+
+    def keeps_state(self):
+        return ESCAPED_STATE in self.switches
+
+
+class LookAhead(Parser):
+    def __init__(self, switches, parts):
+        super().__init__(switches, [])
+        self.alternatives = parts
+
+    def parse(self, first, window):
+        start = window.at
+        result = self.lazy(self.alternatives[0], window)
+        window.at = start
+        return accepted(result.value, False) if result.accepted else result
+
+    def keeps_state(self):
+        return False
+
+
+class NotFollowedBy(Parser):
+    """With `NOT`, need of more is its own, and it begins again."""
+
+    def parse(self, first, window):
+        start = window.at
+        result = self.parts[0].run(first, window)
+        window.at = start
+        if result.accepted:
+            return refused(False)
+        if NOT in self.switches and window.asks(result):
+            self.clear()
+            return result
+        return accepted("()", False)
+
+
 CONSTRUCTORS = {
     "any": OneToken,
     "satisfy": OneToken,
@@ -609,4 +973,18 @@ CONSTRUCTORS = {
     "many1": Many1,
     "skip_many": SkipMany,
     "skip_many1": SkipMany1,
+    "count": Count,
+    "count_min_max": CountMinMax,
+    "skip_count": SkipCount,
+    "skip_count_min_max": SkipCountMinMax,
+    "sep_by": SepBy,
+    "sep_by1": SepBy1,
+    "sep_end_by": SepEndBy,
+    "sep_end_by1": SepEndBy1,
+    "pair": Pair,
+    "chainl1": Chainl1,
+    "chainr1": Chainr1,
+    "escaped": Escaped,
+    "look_ahead": LookAhead,
+    "not_followed_by": NotFollowedBy,
 }

@@ -60,7 +60,7 @@ def meaning(parser):
     name, parts = cases.split(parser)
     if name in LEAVES:
         return LEAVES[name](*parts)
-    return CONSTRUCTORS[name](*[meaning(part) for part in parts])
+    return CONSTRUCTORS[name](*[meaning(part) if "(" in part else part for part in parts])
 
 
 def one(fits):
@@ -182,14 +182,39 @@ def attempt(parse):
     return parse_attempt
 
 
-def turns(parse, collect, least):
-    """Blocks that each take tokens, until a peeked refusal; a turn that takes nothing is a committed refusal."""
+def look_ahead(parse):
+    """The value alone: nothing is taken."""
+
+    def parse_ahead(tokens, open_):
+        outcome = parse(tokens, open_)
+        return ("accepted", outcome[1], 0, False) if outcome[0] == "accepted" else outcome
+
+    return parse_ahead
+
+
+def not_followed_by(parse):
+    def parse_not(tokens, open_):
+        outcome = parse(tokens, open_)
+        if outcome == UNDECIDED:
+            return outcome
+        return ("refused", False) if outcome[0] == "accepted" else ("accepted", "()", 0, False)
+
+    return parse_not
+
+
+def turns(parse, collect, least, is_last=lambda value: False):
+    """Blocks that each take tokens, until a peeked refusal; a turn that takes nothing is a committed refusal.
+
+    A turn whose value is the last ends them, accepted, and is no block.
+    """
 
     def parse_turns(tokens, open_):
         values, count, committed = [], 0, False
         while True:
             outcome = parse(tokens[count:], open_)
             first = len(values) < least
+            if outcome[0] == "accepted" and is_last(outcome[1]):
+                return after(count, committed, ("accepted", collect(values), *outcome[2:]))
             if outcome[0] == "accepted" and (outcome[2] > 0 or first):
                 values.append(outcome[1])
                 _, _, count, committed = after(count, committed, outcome)
@@ -201,6 +226,70 @@ def turns(parse, collect, least):
                 return outcome
 
     return parse_turns
+
+
+def counted(parse, collect, least, most):
+    """At most so many blocks, empty ones too; refused where a peeked refusal comes before the least number of them."""
+
+    def parse_counted(tokens, open_):
+        values, count, committed = [], 0, False
+        while len(values) < int(most):
+            outcome = parse(tokens[count:], open_)
+            if outcome == ("refused", False):
+                break
+            if outcome[0] != "accepted":
+                return outcome
+            values.append(outcome[1])
+            _, _, count, committed = after(count, committed, outcome)
+        if len(values) < int(least):
+            return ("refused", committed)
+        return ("accepted", collect(values), count, committed)
+
+    return parse_counted
+
+
+def first_and_turns(parse, turn, collect, is_last=lambda value: False):
+    """The parser, and then turns; collected are the first value and the list of those of the turns."""
+    return and_then(parse, lambda value: turns(turn, list, 0, is_last), collect)
+
+
+def sep_by1(parse, separator):
+    return first_and_turns(parse, sequence([separator, parse], lambda values: values[1]), first_and_rest)
+
+
+def sep_end_by1(parse, separator):
+    element = choice(with_value(lambda it: [it], parse), value([]))
+    turn = sequence([separator, element], lambda values: values[1])
+    return first_and_turns(parse, turn, lambda first, rest: first_and_rest(first, sum(rest, [])), lambda it: it == [])
+
+
+def first_and_rest(first, rest):
+    return listed([first, *rest])
+
+
+def or_none(parse):
+    return choice(parse, value("[]"))
+
+
+def chain(parse, operator, fold):
+    return first_and_turns(parse, sequence([operator, parse], tuple), fold)
+
+
+def from_the_left(first, rest):
+    for operator, right in rest:
+        first = f"({first}{operator}{right})"
+    return first
+
+
+def from_the_right(first, rest):
+    if not rest:
+        return first
+    operator, right = rest[0]
+    return f"({first}{operator}{from_the_right(right, rest[1:])})"
+
+
+def escaped(parse, escape, behind):
+    return turns(choice(parse, sequence([same_token(escape), behind], nothing)), nothing, 0)
 
 
 def listed(values):
@@ -240,6 +329,8 @@ CONSTRUCTORS = {
     "eof": lambda: end_of_input,
     "map": lambda parse: with_value(wrapped, parse),
     "attempt": attempt,
+    "look_ahead": look_ahead,
+    "not_followed_by": not_followed_by,
     "or": choice,
     "choice": choice,
     "array": choice,
@@ -259,4 +350,15 @@ CONSTRUCTORS = {
     "many1": lambda parse: turns(parse, listed, 1),
     "skip_many": lambda parse: turns(parse, nothing, 0),
     "skip_many1": lambda parse: turns(parse, nothing, 1),
+    "count": lambda most, parse: counted(parse, listed, 0, most),
+    "count_min_max": lambda least, most, parse: counted(parse, listed, least, most),
+    "skip_count": lambda most, parse: counted(parse, nothing, 0, most),
+    "skip_count_min_max": lambda least, most, parse: counted(parse, nothing, least, most),
+    "sep_by": lambda *parsers: or_none(sep_by1(*parsers)),
+    "sep_by1": sep_by1,
+    "sep_end_by": lambda *parsers: or_none(sep_end_by1(*parsers)),
+    "sep_end_by1": sep_end_by1,
+    "chainl1": lambda parse, operator: chain(parse, operator, from_the_left),
+    "chainr1": lambda parse, operator: chain(parse, operator, from_the_right),
+    "escaped": escaped,
 }

@@ -55,8 +55,24 @@ macro_rules! parser {
     ($alloc:ident; right($f:ident $a:tt, $g:ident $b:tt)) => { $crate::composed::right($crate::composed::parser!($alloc; $f $a), $crate::composed::parser!($alloc; $g $b)) };
     ($alloc:ident; optional($f:ident $a:tt)) => { combine_token::choice::optional($crate::composed::parser!($alloc; $f $a)) };
     ($alloc:ident; attempt($f:ident $a:tt)) => { combine_map::combinator::attempt($crate::composed::parser!($alloc; $f $a)) };
+    ($alloc:ident; look_ahead($f:ident $a:tt)) => { combine_map::combinator::look_ahead($crate::composed::parser!($alloc; $f $a)) };
+    ($alloc:ident; not_followed_by($f:ident $a:tt)) => { combine_map::combinator::not_followed_by($crate::composed::parser!($alloc; $f $a)) };
     ($alloc:ident; many($f:ident $a:tt)) => { combine_repeat::repeat::many::<Vec<_>, _>($alloc, $crate::composed::parser!($alloc; $f $a)) };
     ($alloc:ident; many1($f:ident $a:tt)) => { combine_repeat::repeat::many1::<Vec<_>, _>($alloc, $crate::composed::parser!($alloc; $f $a)) };
+    ($alloc:ident; skip_many1($f:ident $a:tt)) => { combine_repeat::repeat::skip_many1($crate::composed::parser!($alloc; $f $a)) };
+    ($alloc:ident; count($n:literal, $f:ident $a:tt)) => { combine_turns::repeat::count::<Vec<_>, _>($alloc, $n, $crate::composed::parser!($alloc; $f $a)) };
+    ($alloc:ident; count_min_max($min:literal, $max:literal, $f:ident $a:tt)) => { combine_turns::repeat::count_min_max::<Vec<_>, _>($alloc, $min, $max, $crate::composed::parser!($alloc; $f $a)) };
+    ($alloc:ident; skip_count($n:literal, $f:ident $a:tt)) => { combine_turns::repeat::skip_count($n, $crate::composed::parser!($alloc; $f $a)) };
+    ($alloc:ident; skip_count_min_max($min:literal, $max:literal, $f:ident $a:tt)) => { combine_turns::repeat::skip_count_min_max($min, $max, $crate::composed::parser!($alloc; $f $a)) };
+    ($alloc:ident; sep_by($f:ident $a:tt, $g:ident $b:tt)) => { combine_separated::repeat::sep_by::<Vec<_>, _, _>($alloc, $crate::composed::parser!($alloc; $f $a), $crate::composed::parser!($alloc; $g $b)) };
+    ($alloc:ident; sep_by1($f:ident $a:tt, $g:ident $b:tt)) => { combine_separated::repeat::sep_by1::<Vec<_>, _, _>($alloc, $crate::composed::parser!($alloc; $f $a), $crate::composed::parser!($alloc; $g $b)) };
+    ($alloc:ident; sep_end_by($f:ident $a:tt, $g:ident $b:tt)) => { combine_sep_end::repeat::sep_end_by::<Vec<_>, _, _>($alloc, $crate::composed::parser!($alloc; $f $a), $crate::composed::parser!($alloc; $g $b)) };
+    ($alloc:ident; sep_end_by1($f:ident $a:tt, $g:ident $b:tt)) => { combine_sep_end::repeat::sep_end_by1::<Vec<_>, _, _>($alloc, $crate::composed::parser!($alloc; $f $a), $crate::composed::parser!($alloc; $g $b)) };
+    ($alloc:ident; chainl1($f:ident $a:tt, $g:ident $b:tt)) => { combine_separated::repeat::chainl1($crate::composed::operand!($alloc; $f $a), $crate::composed::operator!($alloc; $g $b)) };
+    ($alloc:ident; chainr1($f:ident $a:tt, $g:ident $b:tt)) => { combine_chains::repeat::chainr1($alloc, $crate::composed::operand!($alloc; $f $a), $crate::composed::operator!($alloc; $g $b)) };
+    ($alloc:ident; escaped($f:ident $a:tt, b, $g:ident $b:tt)) => { combine_chains::repeat::escaped($crate::composed::parser!($alloc; $f $a), b'b', $crate::composed::parser!($alloc; $g $b)) };
+    ($alloc:ident; escaped($f:ident $a:tt, c, $g:ident $b:tt)) => { combine_chains::repeat::escaped($crate::composed::parser!($alloc; $f $a), b'c', $crate::composed::parser!($alloc; $g $b)) };
+    ($alloc:ident; skip($f:ident $a:tt, $g:ident $b:tt)) => { combine_sequence::sequence::skip($crate::composed::parser!($alloc; $f $a), $crate::composed::parser!($alloc; $g $b)) };
     ($alloc:ident; tuple($($f:ident $a:tt),+)) => { ($($crate::composed::parser!($alloc; $f $a),)+) };
     ($alloc:ident; then($f:ident $a:tt)) => { combine_sequence::sequence::then($crate::composed::parser!($alloc; $f $a), |first: u8| combine_token::token::token(first)) };
     ($alloc:ident; then_partial($f:ident $a:tt)) => { combine_sequence::sequence::then_partial($crate::composed::parser!($alloc; $f $a), |first: &mut u8| combine_token::token::token(*first)) };
@@ -68,8 +84,22 @@ macro_rules! parser {
     }) };
 }
 
+/// A parser of one token, as the operand of a chain.
+macro_rules! operand {
+    ($alloc:ident; $f:ident $a:tt) => { combine_map::combinator::map($crate::composed::parser!($alloc; $f $a), |token: u8| $crate::chained::Chain::operand(token)) };
+}
+
+/// A parser of one token, as the operator.
+macro_rules! operator {
+    ($alloc:ident; $f:ident $a:tt) => { combine_map::combinator::map($crate::composed::parser!($alloc; $f $a), |token: u8| {
+        move |left: $crate::chained::Chain, right: $crate::chained::Chain| $crate::chained::Chain::joined(left, token, right)
+    }) };
+}
+
 pub(crate) use answer_composed;
 pub(crate) use answer_of_characters;
+pub(crate) use operand;
+pub(crate) use operator;
 pub(crate) use parser;
 
 /// The first of two parsers, where either may stand.

@@ -5,6 +5,7 @@
 
 mod answered;
 mod cases;
+mod chained;
 mod classes;
 mod composed;
 mod feeding;

@@ -19,6 +19,7 @@ pub(crate) fn find(alloc: Global, parser: &str, feeding: &Feeding<'_>) -> Found 
         .or_else(|| without_room(alloc, parser, feeding))
         .or_else(|| answered(alloc, parser, feeding))
         .or_else(|| of_several(alloc, parser, feeding))
+        .or_else(|| turned(alloc, parser, feeding))
         .or_else(|| of_characters(alloc, parser, feeding))
 }
 
@@ -131,6 +132,19 @@ fn of_several(alloc: Global, parser: &str, feeding: &Feeding<'_>) -> Found {
         left(token(a), any()),
         dispatch(any()),
         tuple(any(), any(), any(), any(), eof()),
+    )
+}
+
+/// Counted repetitions, those with a separator, chains, and texts with escapes.
+fn turned(alloc: Global, parser: &str, feeding: &Feeding<'_>) -> Found {
+    answer_composed!(
+        alloc, parser, feeding;
+        count_min_max(1, 2, token(a)),
+        sep_by(token(a), token(b)),
+        sep_end_by1(token(a), token(b)),
+        chainl1(token(a), token(b)),
+        chainr1(token(a), token(b)),
+        escaped(token(a), b, any()),
     )
 }
 

@@ -3,8 +3,11 @@
 use crate::guarded::{Counted, Guarded};
 use combine::parser::char::string;
 use combine::parser::choice::{choice, optional, or};
-use combine::parser::combinator::{attempt, Either};
-use combine::parser::repeat::{many, many1, skip_many, skip_many1};
+use combine::parser::combinator::{attempt, look_ahead, not_followed_by, Either};
+use combine::parser::repeat::{
+    chainl1, chainr1, count, count_min_max, escaped, many, many1, sep_by, sep_by1, sep_end_by, sep_end_by1, skip_count,
+    skip_count_min_max, skip_many, skip_many1,
+};
 use combine::parser::sequence::{between, skip, with};
 use combine::parser::token::{any, eof, none_of, one_of, satisfy, satisfy_map, token, tokens, tokens_cmp, value};
 use combine::{dispatch, Parser};
@@ -51,10 +54,46 @@ macro_rules! parser {
     (many1($f:ident $a:tt)) => { many1::<Vec<_>, _, _>(parser!($f $a)) };
     (skip_many($f:ident $a:tt)) => { skip_many(parser!($f $a)) };
     (skip_many1($f:ident $a:tt)) => { skip_many1(parser!($f $a)) };
+    (count($n:literal, $f:ident $a:tt)) => { count::<Vec<_>, _, _>($n, parser!($f $a)) };
+    (count_min_max($min:literal, $max:literal, $f:ident $a:tt)) => {
+        count_min_max::<Vec<_>, _, _>($min, $max, parser!($f $a))
+    };
+    (skip_count($n:literal, $f:ident $a:tt)) => { skip_count($n, parser!($f $a)) };
+    (skip_count_min_max($min:literal, $max:literal, $f:ident $a:tt)) => {
+        skip_count_min_max($min, $max, parser!($f $a))
+    };
+    (sep_by($f:ident $a:tt, $g:ident $b:tt)) => { sep_by::<Vec<_>, _, _, _>(parser!($f $a), parser!($g $b)) };
+    (sep_by1($f:ident $a:tt, $g:ident $b:tt)) => { sep_by1::<Vec<_>, _, _, _>(parser!($f $a), parser!($g $b)) };
+    (sep_end_by($f:ident $a:tt, $g:ident $b:tt)) => { sep_end_by::<Vec<_>, _, _, _>(parser!($f $a), parser!($g $b)) };
+    (sep_end_by1($f:ident $a:tt, $g:ident $b:tt)) => { sep_end_by1::<Vec<_>, _, _, _>(parser!($f $a), parser!($g $b)) };
+    (chainl1($f:ident $a:tt, $g:ident $b:tt)) => {
+        chainl1(parser!($f $a).map(Chain::operand), parser!($g $b).map(Chain::operator))
+    };
+    (chainr1($f:ident $a:tt, $g:ident $b:tt)) => {
+        chainr1(parser!($f $a).map(Chain::operand), parser!($g $b).map(Chain::operator))
+    };
+    (escaped($f:ident $a:tt, $escape:ident, $g:ident $b:tt)) => {
+        escaped(parser!($f $a), stringify!($escape).as_bytes()[0], parser!($g $b))
+    };
+    (look_ahead($f:ident $a:tt)) => { look_ahead(parser!($f $a)) };
+    (not_followed_by($f:ident $a:tt)) => { not_followed_by(parser!($f $a).map(|_| 0_u8)) };
 }
 
 /// What `map` makes of a value.
 pub struct Mapped<T>(pub T);
+
+/// The value of a chain, in brackets as it was folded.
+pub struct Chain(pub String);
+
+impl Chain {
+    fn operand(token: u8) -> Chain {
+        Chain(char::from(token).into())
+    }
+
+    fn operator(token: u8) -> impl FnOnce(Chain, Chain) -> Chain {
+        move |left, right| Chain(format!("({}{}{})", left.0, char::from(token), right.0))
+    }
+}
 
 fn listed<'a>(text: &'static str) -> impl Parser<Guarded<'a, u8>, Output = String> {
     tokens(|want: u8, is: u8| want == is, text, text.bytes())

@@ -1,6 +1,6 @@
 //! How values are written: without blanks.
 
-use crate::parsers::Mapped;
+use crate::parsers::{Chain, Mapped};
 
 pub trait Show {
     fn show(&self, text: &mut String);
@@ -24,6 +24,12 @@ impl Show for String {
 impl Show for () {
     fn show(&self, text: &mut String) {
         text.push_str("()");
+    }
+}
+
+impl Show for Chain {
+    fn show(&self, text: &mut String) {
+        text.push_str(&self.0);
     }
 }
 
