@@ -1,7 +1,6 @@
 //! Choices over tuples of four to eight: a function for each, over any parser, so that none is proved for a parser of its own.
 ghost use Rattle.std.specs.List.{All};
 
-use crate::sequences::InPieces;
 use combine::error::UnexpectedParse;
 use combine::parser::choice::choice;
 use combine::parser::combinator::attempt;
@@ -10,6 +9,7 @@ use combine::parser::token::token;
 use combine::parser::token::types::Token;
 use combine::parser::{Answer, Parser, parse_pieces};
 use combine::stream::{Kind, fed};
+use combine_examples::answers::InPieces;
 use combine_examples::cuts::{cut, sets_of_places};
 use std::alloc::{AllocError, Global};
 use std::process::Abort;
