@@ -241,7 +241,7 @@ impl<Input: Stream, A: Parser<Input>, B: Parser<Input>> Parser<Input> for (A, B)
         input: &mut Input,
         state: &mut Self::PartialState,
     ) -> ParseResult<(A::Output, B::Output), Input::Error> {
-        let from = state.take(mode);
+        let from = take_state(mode, state);
         parse_2(&mut self.0, &mut self.1, mode, input, from, state)
     }
 
@@ -285,7 +285,7 @@ impl<Input: Stream, A: Parser<Input>, B: Parser<Input>, C: Parser<Input>> Parser
         input: &mut Input,
         state: &mut Self::PartialState,
     ) -> ParseResult<(A::Output, B::Output, C::Output), Input::Error> {
-        let from = state.take(mode);
+        let from = take_state(mode, state);
         parse_3(
             &mut self.0,
             &mut self.1,
@@ -341,7 +341,7 @@ impl<Input: Stream, A: Parser<Input>, B: Parser<Input>, C: Parser<Input>, D: Par
         input: &mut Input,
         state: &mut Self::PartialState,
     ) -> ParseResult<(A::Output, B::Output, C::Output, D::Output), Input::Error> {
-        let from = state.take(mode);
+        let from = take_state(mode, state);
         parse_4(
             &mut self.0,
             &mut self.1,

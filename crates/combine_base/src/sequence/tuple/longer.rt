@@ -7,7 +7,7 @@ ghost use Rattle.combine_base.specs.Sequence.Tuples.{followed, tuple_4, tuple_4_
 
 use crate::error::{ErrorOffset, ParseResult, Tracked};
 use crate::parser::{ParseMode, Parser};
-use crate::sequence::part::{Push, parse_rest, resume_last};
+use crate::sequence::part::{Push, parse_rest, resume_last, take_state};
 use crate::sequence::tuple::{State4, add_counts, parse_4};
 use crate::sequence::{
     PartialState4, PartialState5, PartialState6, PartialState7, PartialState8, Placed,
@@ -25,7 +25,7 @@ trait Front<Input: Stream> {
 
     type Output: Drop;
 
-    type State;
+    type State: Drop;
 
     ghost lawful: { Self → Type 0 };
 
@@ -116,7 +116,7 @@ fn parse_one_after<
     T: Push<E::Output> + Drop,
     Q: Front<Input, Output = T>,
     E: Parser<Input>,
-    S: Placed<Before = Q::State, Last = SequenceState<T, E::PartialState>>,
+    S: Placed<Before = Q::State, Last = SequenceState<T, E::PartialState>> + Drop,
     M: ParseMode,
 >(
     before: &mut Q,
@@ -153,8 +153,8 @@ fn parse_two_after<
     Q: Front<Input, Output = T>,
     E: Parser<Input>,
     F: Parser<Input>,
-    N: Placed<Before = Q::State, Last = SequenceState<T, E::PartialState>>,
-    S: Placed<Before = N, Last = SequenceState<V, F::PartialState>>,
+    N: Placed<Before = Q::State, Last = SequenceState<T, E::PartialState>> + Drop,
+    S: Placed<Before = N, Last = SequenceState<V, F::PartialState>> + Drop,
     M: ParseMode,
 >(
     before: &mut Q,
@@ -194,9 +194,9 @@ fn parse_three_after<
     E: Parser<Input>,
     F: Parser<Input>,
     G: Parser<Input>,
-    L: Placed<Before = Q::State, Last = SequenceState<T, E::PartialState>>,
-    N: Placed<Before = L, Last = SequenceState<V, F::PartialState>>,
-    S: Placed<Before = N, Last = SequenceState<W, G::PartialState>>,
+    L: Placed<Before = Q::State, Last = SequenceState<T, E::PartialState>> + Drop,
+    N: Placed<Before = L, Last = SequenceState<V, F::PartialState>> + Drop,
+    S: Placed<Before = N, Last = SequenceState<W, G::PartialState>> + Drop,
     M: ParseMode,
 >(
     before: &mut Q,
@@ -241,10 +241,10 @@ fn parse_four_after<
     F: Parser<Input>,
     G: Parser<Input>,
     H: Parser<Input>,
-    K: Placed<Before = Q::State, Last = SequenceState<T, E::PartialState>>,
-    L: Placed<Before = K, Last = SequenceState<V, F::PartialState>>,
-    N: Placed<Before = L, Last = SequenceState<W, G::PartialState>>,
-    S: Placed<Before = N, Last = SequenceState<Y, H::PartialState>>,
+    K: Placed<Before = Q::State, Last = SequenceState<T, E::PartialState>> + Drop,
+    L: Placed<Before = K, Last = SequenceState<V, F::PartialState>> + Drop,
+    N: Placed<Before = L, Last = SequenceState<W, G::PartialState>> + Drop,
+    S: Placed<Before = N, Last = SequenceState<Y, H::PartialState>> + Drop,
     M: ParseMode,
 >(
     before: &mut Q,
@@ -332,7 +332,7 @@ impl<
         input: &mut Input,
         state: &mut Self::PartialState,
     ) -> ParseResult<Self::Output, Input::Error> {
-        let from = state.take(mode);
+        let from = take_state(mode, state);
         let mut before = (&mut self.0, &mut self.1, &mut self.2, &mut self.3);
         parse_one_after(&mut before, &mut self.4, mode, input, from, state)
     }
@@ -436,7 +436,7 @@ impl<
         input: &mut Input,
         state: &mut Self::PartialState,
     ) -> ParseResult<Self::Output, Input::Error> {
-        let from = state.take(mode);
+        let from = take_state(mode, state);
         let mut before = (&mut self.0, &mut self.1, &mut self.2, &mut self.3);
         parse_two_after(
             &mut before,
@@ -564,7 +564,7 @@ impl<
         input: &mut Input,
         state: &mut Self::PartialState,
     ) -> ParseResult<Self::Output, Input::Error> {
-        let from = state.take(mode);
+        let from = take_state(mode, state);
         let mut before = (&mut self.0, &mut self.1, &mut self.2, &mut self.3);
         parse_three_after(
             &mut before,
@@ -710,7 +710,7 @@ impl<
         input: &mut Input,
         state: &mut Self::PartialState,
     ) -> ParseResult<Self::Output, Input::Error> {
-        let from = state.take(mode);
+        let from = take_state(mode, state);
         let mut before = (&mut self.0, &mut self.1, &mut self.2, &mut self.3);
         parse_four_after(
             &mut before,
