@@ -10,6 +10,7 @@ pub use Rattle.combine_map.specs.Parsers
 pub use Rattle.combine_map.specs.Picks
 pub use Rattle.combine_token.specs.Or
 pub use Rattle.combine_token.specs.TokenParsers
+pub use Rattle.combine_turns.specs.CountsCompared
 pub use Rattle.combine_turns.specs.Turn
 pub use Rattle.combine_turns.specs.Turns
 pub mod Until
@@ -17,3 +18,4 @@ pub mod UntilLaws
 pub mod UntilTurn
 pub mod Next
 pub mod UntilParsers
+pub mod UntilCompared

@@ -8,10 +8,11 @@
 ghost use Rattle.std.specs.Prelude.{◌≡◌};
 ghost use Rattle.combine_until.specs.UntilParsers.{repeat_skip_until_of, repeat_until_of, skip_until_of, take_until_of};
 
+pub mod laws;
 pub mod types;
 
-pub use crate::until::UntilState;
 use crate::next::Next;
+pub use crate::until::UntilState;
 use combine_map::combinator::ignore;
 use combine_token::token::any;
 use std::alloc::Global;
@@ -32,7 +33,7 @@ pub fn repeat_until<F, A, P, E>(alloc: Global, parser: P, end: E) -> RepeatUntil
     }
 }
 
-/// As `repeat_until`, with the values dropped.
+/// As `repeat_until`, with the values dropped; it takes no memory of its own, but for that of an error's items.
 #[inline]
 pub fn repeat_skip_until<A, P, E>(parser: P, end: E) -> SkipRepeatUntil<A, P, E>
     ensures { result ≡ repeat_skip_until_of parser end }

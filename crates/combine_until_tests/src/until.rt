@@ -15,7 +15,11 @@ fn is_digit(byte: u8) -> bool {
 
 /// The bytes before the first digit.
 fn up_to_a_digit(alloc: Global, pieces: &[&[u8]]) -> Answered<Vec<u8>> {
-    parse_pieces(alloc, take_until::<Vec<u8>, _, _, _>(alloc, satisfy(is_digit)), pieces)
+    parse_pieces(
+        alloc,
+        take_until::<Vec<u8>, _, _, _>(alloc, satisfy(is_digit)),
+        pieces,
+    )
 }
 
 /// The bytes before the first `T`, which has to be that of `TAG`.
@@ -43,7 +47,11 @@ fn digits_up_to_semicolon(alloc: Global, pieces: &[&[u8]]) -> Answered<Vec<u8>> 
 
 /// Digits before `;`, dropped.
 fn skip_digits_up_to_semicolon(alloc: Global, pieces: &[&[u8]]) -> Answered<()> {
-    parse_pieces(alloc, repeat_skip_until(satisfy(is_digit), token(b';')), pieces)
+    parse_pieces(
+        alloc,
+        repeat_skip_until(satisfy(is_digit), token(b';')),
+        pieces,
+    )
 }
 
 fn accepted<T>(value: T, taken: u64, committed: bool) -> Answered<T> {
@@ -110,7 +118,10 @@ fn tokens_up_to_a_place(rt: HostRuntime) -> Result<(), AllocError> {
     );
     for places in 0..4 {
         let cut = pieces(alloc, b"ab;", places)?;
-        assert_eq!(rt; skip_up_to_semicolon(alloc, cut.as_slice()), accepted((), 2, true));
+        assert_eq!(rt;
+            skip_up_to_semicolon(alloc, cut.as_slice()),
+            accepted((), 2, true)
+        );
     }
     Ok(())
 }

@@ -88,9 +88,8 @@ pub struct Skips<A, P, E> {
     pub(super) turn: Next<A, P, E>,
 }
 
-impl<Input: Stream, A: Drop, P: Parser<Input, Output = A>, E: Parser<Input>> Parser<
-    Input,
-> for Skips<A, P, E> {
+impl<Input: Stream, A: Drop, P: Parser<Input, Output = A>, E: Parser<Input>> Parser<Input>
+    for Skips<A, P, E> {
     type Output = Sink;
 
     type PartialState = UntilState<Sink, NextState<Input, P, E>>;

@@ -14,4 +14,3 @@ returns-clause-passes g c = c.choose_2.ensures.passes
 
 pub returns-clause-answers : goal.returns-clause-answers
 returns-clause-answers g c = c.choose_2.ensures.answers
-
