@@ -184,8 +184,8 @@ abbrev pub Misread : {N E : Type 0} → (List ℕ → Result N E → Type 0) →
 Misread {N} {E} gives bytes = (IsUtf8 bytes → ⊥) ⊎ ((e : E) × gives bytes (Err e))
 
 -- what is said of them: that UTF-8 was expected, or that the value is invalid
-abbrev pub unreadable : {T R : Type 0} → List ℕ → List (Item T R) → Type 0
-unreadable bytes is = ((IsUtf8 bytes → ⊥) × Only (Expected (Fixed (codes "UTF-8"))) is) ⊎ Only (Message (Fixed (codes "invalid value"))) is
+abbrev pub unreadable : {N E T R : Type 0} → (List ℕ → Result N E → Type 0) → List ℕ → List (Item T R) → Type 0
+unreadable {N} {E} gives bytes is = ((IsUtf8 bytes → ⊥) × Only (Expected (Fixed (codes "UTF-8"))) is) ⊎ (((e : E) × gives bytes (Err e)) × Only (Message (Fixed (codes "invalid value"))) is)
 
 -- an error made at that place that says such items
 pub record MadeSaying {T R P E : Type 0} (s : Errors T R P E) (says : List (Item T R) → Type 0) (place : P) (e : E) : Type 0 where

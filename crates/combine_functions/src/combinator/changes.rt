@@ -129,7 +129,7 @@ where
 
     ghost starves = { λ f a. ⊥ };
 
-    ghost says = { λ f at a. MadeSaying Input.Error.seen (unreadable (A.bytes a)) at };
+    ghost says = { λ f at a. MadeSaying Input.Error.seen (unreadable T.from_str_gives (A.bytes a)) at };
 
     #[inline]
     fn change(
