@@ -64,7 +64,7 @@ SWITCHES = [
 BETWEEN_VERSIONS = [
     Switch(TOKENS),
     Switch(COUNT_STATE, calls=("count",)),
-    Switch(ESCAPED_STATE, calls=("escaped",)),
+    Switch(ESCAPED_STATE, whole=True, calls=("escaped",)),
 ]
 # The switches that are on in 4.6.6, and in 4.6.9.
 DEBIAN = frozenset()
