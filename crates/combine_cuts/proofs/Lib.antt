@@ -1,0 +1,2 @@
+mod CutRuns
+mod Windows
