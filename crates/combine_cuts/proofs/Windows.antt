@@ -184,36 +184,43 @@ module _ {P T R A S : Type 0} (frugal : Type 0) (step : P → T → P) (start : 
     window_judged steady kind fresh left more taken result p = subst (Judged steady kind fresh left more p.new p.failures taken p.place) (sym p.is) (judging steady kind fresh left more p.new p.failures taken p.place p.parsed p.answers)
 
 -- a window, by the position behind what stands before it
-pub as_window : {P T : Type 0} (step : P → T → P) (start : P) (whole : List T) (from to : ℕ) (more : Bool) (behind : P) → from ≤ to → after_all step start (take from whole) ≡ behind → window_at step start whole from to more ≡ record { position = behind; unread = drop from (take to whole); is_open = more }
-as_window step start whole from to more behind l e = ap (λ p. record { position = p; unread = drop from (take to whole); is_open = more }) (ap (after_all step start) (take-take from to whole l) ∙ e)
+pub widened : {P T : Type 0} (step : P → T → P) (start : P) (whole : List T) (from to index : ℕ) (more : Bool) (old : View P T) (position behind : P) → old ≡ record { position = position; unread = drop index (take to whole); is_open = more } → position ≡ behind → index ≡ from → from ≤ to → after_all step start (take from whole) ≡ behind → old ≡ window_at step start whole from to more
+widened step start whole from to index more old position behind e p i l b =
+    let a = ap (after_all step start) (take-take from to whole l) ∙ b in
+    let c = ap (λ n. drop n (take to whole)) i in
+    cc
+
+-- a later place of a window, k tokens from the start
+pub record Later {P T : Type 0} (step : P → T → P) (start : P) (whole : List T) (from to : ℕ) (more : Bool) (new : View P T) (k : ℕ) : Type 0 where
+  pub since : from ≤ k
+  pub within : k ≤ to
+  pub unread : new.unread ≡ drop k (take to whole)
+  pub position : new.position ≡ after_all step start (take k whole)
+  pub is_open : new.is_open ≡ more
+  pub left : k + length new.unread ≡ to
 
 -- where a call on a window leaves the stream
-module _ {P T R A S E : Type 0} (w : World P T S E) (m : Meaning P T R A S) (r : Run P T S) (start : P) (whole : List T) (from to : ℕ) (more : Bool) (e : r.old ≡ window_at w.step start whole from to more) (h : to ≤ length whole) (l : from ≤ to) (result : ParseResult A E) (p : Answers w m r result) where
-  abbrev pub taken_now : ℕ
-  taken_now = (some_taken w m r result p).0
-
-  taken : Takes w.step taken_now (window_at w.step start whole from to more) r.new
-  taken = rw (sym e) at (some_taken w m r result p).1
-
-  pub later_within : from + taken_now ≤ to
-  later_within = let a = taken.enough in let b = length-drop from (take to whole) in let d = length-take-le to whole h in omega arith
-
-  rest : r.new ≡ window_at w.step start whole (from + taken_now) to more
-  rest = taken.rest ∙ advanced_twice w.step from taken_now (up_to start whole to more)
-
-  pub later_unread : r.new.unread ≡ drop (from + taken_now) (take to whole)
-  later_unread = ap (λ (v : View P T). v.unread) rest
-
-  pub later_position : r.new.position ≡ after_all w.step start (take (from + taken_now) whole)
-  later_position = ap (λ (v : View P T). v.position) rest ∙ ap (after_all w.step start) (take-take (from + taken_now) to whole later_within)
-
-  pub later_open : r.new.is_open ≡ more
-  later_open = ap (λ (v : View P T). v.is_open) rest
-
-  pub later_left : from + taken_now + length r.new.unread ≡ to
-  later_left = let a = ap length later_unread in let b = length-drop (from + taken_now) (take to whole) in let d = length-take-le to whole h in let f = later_within in omega arith
+pub window_left : {P T R A S E : Type 0} (w : World P T S E) (m : Meaning P T R A S) (r : Run P T S) (start : P) (whole : List T) (from to : ℕ) (more : Bool) (result : ParseResult A E) → r.old ≡ window_at w.step start whole from to more → to ≤ length whole → from ≤ to → Answers w m r result → (k : ℕ) × Later w.step start whole from to more r.new k
+window_left w m r start whole from to more result e h l p =
+    let some = some_taken w m r result p in
+    let n = some.0 in
+    let takes = subst (λ v. Takes w.step n v r.new) e some.1 in
+    let a = takes.enough in
+    let b = length-drop from (take to whole) in
+    let d = length-take-le to whole h in
+    let within : from + n ≤ to = omega arith in
+    let rest = takes.rest ∙ advanced_twice w.step from n (up_to start whole to more) in
+    let unread = ap (λ (v : View _ _). v.unread) rest in
+    (from + n, record {
+      since = omega arith;
+      within = within;
+      unread = unread;
+      position = ap (λ (v : View _ _). v.position) rest ∙ ap (after_all w.step start) (take-take (from + n) to whole within);
+      is_open = ap (λ (v : View _ _). v.is_open) rest;
+      left = let u = ap length unread in let v = length-drop (from + n) (take to whole) in omega arith;
+    })
 
 -- a parsed window
-pub parsed_window : {P T R A S E : Type 0} (frugal steady : Type 0) (step : P → T → P) (kind : E → Kind) (fresh : S → Type 0) (start : P) (m : Meaning P T R A S) (s left : S) (whole : List T) (from to : ℕ) (more : Bool) (taken : ℕ) (old new : View P T) (f g : Failures) (parsed : ParseResult A E) (result : Result (Answer A E) Kind) → old ≡ window_at step start whole from to more → f ≡ g → taken + length new.unread ≡ to → new.is_open ≡ more → result ≡ answer_to kind new.is_open taken parsed → Answers (record { step = step; kind = kind; frugal = frugal; steady = steady; fresh = fresh }) m (record { first = false; state = s; left = left; old = old; new = new; before = f; after = g }) parsed → ParsesWindow frugal steady step kind fresh start m s left whole from to more taken result
-parsed_window frugal steady step kind fresh start m s left whole from to more taken old new f g parsed result e i u o j p =
-    record { new = new; failures = g; parsed = parsed; place = u; is = j ∙ ap (λ b. answer_to kind b taken parsed) o; answers = rw (← e) (rw i at p) }
+pub parsed_window : {P T R A S E : Type 0} (frugal steady : Type 0) (step : P → T → P) (kind : E → Kind) (fresh : S → Type 0) (start : P) (m : Meaning P T R A S) (s left : S) (whole : List T) (from to : ℕ) (more : Bool) (taken k : ℕ) (old new : View P T) (f g : Failures) (parsed : ParseResult A E) (result : Result (Answer A E) Kind) → old ≡ window_at step start whole from to more → f ≡ g → Later step start whole from to more new k → taken ≡ k → result ≡ answer_to kind new.is_open taken parsed → Answers (record { step = step; kind = kind; frugal = frugal; steady = steady; fresh = fresh }) m (record { first = false; state = s; left = left; old = old; new = new; before = f; after = g }) parsed → ParsesWindow frugal steady step kind fresh start m s left whole from to more taken result
+parsed_window frugal steady step kind fresh start m s left whole from to more taken k old new f g parsed result e i u t j p =
+    record { new = new; failures = g; parsed = parsed; place = let a = u.left in omega arith; is = j ∙ ap (λ b. answer_to kind b taken parsed) u.is_open; answers = rw (← e) (rw i at p) }

@@ -28,6 +28,7 @@ pub fn cuts_fit<S: Windowed>(whole: S, cuts: &[usize]) -> bool
 }
 
 // Where a run stands: its window, the place of the first unread token, and how many tokens stand before it.
+#[derive(Drop)]
 struct Run<S, P> {
     stream: MaybePartialStream<Stream<S, P>>,
     place: usize,

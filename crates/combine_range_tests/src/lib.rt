@@ -1,9 +1,0 @@
-//! Plain callers of the parsers of ranges, and what each answers. They are built for the tests alone, so that they are proved once.
-#![tactic(auto)]
-
-#[cfg(test)]
-mod bytes;
-#[cfg(test)]
-mod calls;
-#[cfg(test)]
-mod texts;
