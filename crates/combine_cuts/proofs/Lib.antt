@@ -1,2 +1,3 @@
 mod CutRuns
 mod Windows
+pub mod Fitting

@@ -83,9 +83,11 @@ pub fn parse_cuts<S: Windowed, P: Parser<MaybePartialStream<Stream<S, S::Placed>
     ensures runs { RunsCuts S.Placed.Error.seen.frugal (S.DefaultPositioned.whole whole).position (P.meaning parser.old) (S.DefaultPositioned.whole whole).unread (length cuts.now) (λ i. S.index whole (get_or cuts.now i 0)) result }
 {
     let mut state = P::PartialState::default();
+    let stream = Stream::new(whole);
+    let place = whole.start();
     let mut run = Run {
-        stream: MaybePartialStream(Stream::new(whole), true),
-        place: whole.start(),
+        stream: MaybePartialStream(stream, true),
+        place,
         taken: 0,
     };
     let mut asked = 0;
@@ -96,6 +98,7 @@ pub fn parse_cuts<S: Windowed, P: Parser<MaybePartialStream<Stream<S, S::Placed>
             answer => return Ok((asked, answer)),
         }
     }
-    let parsed = parse_window(parser, &mut state, &mut run, whole, whole.end(), false);
+    let end = whole.end();
+    let parsed = parse_window(parser, &mut state, &mut run, whole, end, false);
     Ok((asked, parsed?))
 }
