@@ -1,3 +1,3 @@
 mod CutRuns
 mod Windows
-pub mod Fitting
+mod Fitting
