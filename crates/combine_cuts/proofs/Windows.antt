@@ -1,5 +1,5 @@
 -- a list, parsed window by window
-use Rattle.std.proofs.Common.{ℕ, ◌+◌, ◌-◌, ◌≤◌, ◌≡◌, List, [], ◌++◌, Bool, true, false, length, take, drop, arith, ap, sym, subst, refl, ◌∙◌, append_assoc, length-drop}
+use Rattle.std.proofs.Common.{ℕ, ◌+◌, ◌≤◌, ◌≡◌, List, [], ◌++◌, Bool, true, false, length, take, drop, arith, ap, sym, subst, refl, ◌∙◌, append_assoc, length-drop}
 use Rattle.std.specs.Prelude.{Result, Ok, Err}
 use Rattle.std.proofs.lemmas.List.{append-nil, take-append-drop, take-take, length-take-le}
 use Rattle.combine_base.specs.Stream.View.{View, Takes, advanced, after_all, extended}
@@ -9,7 +9,7 @@ use Rattle.combine_base.specs.Parser.Meaning.{Meaning}
 use Rattle.combine_base.specs.Parser.Answer.{World, Run, Answers, Accepts, Asks, Leaves, ends, loses, fails, peeks}
 use Rattle.combine_base.specs.Parser.Judged.{answer_to, answer_to_error}
 use Rattle.combine_cuts.specs.Cuts.{up_to, window_at, on, ParsesWindow}
-use Rattle.combine_base.proofs.Progress.{after_twice, takes_open}
+use Rattle.combine_base.proofs.Progress.{after_twice}
 use Rattle.combine_base.specs.declared.stream.Kind.{Kind}
 use Rattle.combine_base.specs.declared.stream.Kind.TheVariants as kinds
 use Rattle.combine_base.specs.declared.stream.Failures.{Failures}
@@ -210,15 +210,17 @@ window_left w m r start whole from to more result e h l p =
     let d = length-take-le to whole h in
     let within : from + n ≤ to = omega arith in
     let rest = takes.rest ∙ advanced_twice w.step from n (up_to start whole to more) in
-    let unread = ap (λ (v : View _ _). v.unread) rest in
-    (from + n, record {
-      since = omega arith;
-      within = within;
-      unread = unread;
-      position = ap (λ (v : View _ _). v.position) rest ∙ ap (after_all w.step start) (take-take (from + n) to whole within);
-      is_open = ap (λ (v : View _ _). v.is_open) rest;
-      left = let u = ap length unread in let v = length-drop (from + n) (take to whole) in omega arith;
-    })
+    let unread = ap (λ (v : View _ _). v.unread) rest in (
+      from + n,
+      record {
+        since = omega arith;
+        within = within;
+        unread = unread;
+        position = ap (λ (v : View _ _). v.position) rest ∙ ap (after_all w.step start) (take-take (from + n) to whole within);
+        is_open = ap (λ (v : View _ _). v.is_open) rest;
+        left = let u = ap length unread in let v = length-drop (from + n) (take to whole) in omega arith;
+      },
+    )
 
 -- a parsed window
 pub parsed_window : {P T R A S E : Type 0} (frugal steady : Type 0) (step : P → T → P) (kind : E → Kind) (fresh : S → Type 0) (start : P) (m : Meaning P T R A S) (s left : S) (whole : List T) (from to : ℕ) (more : Bool) (taken k : ℕ) (old new : View P T) (f g : Failures) (parsed : ParseResult A E) (result : Result (Answer A E) Kind) → old ≡ window_at step start whole from to more → f ≡ g → Later step start whole from to more new k → taken ≡ k → result ≡ answer_to kind new.is_open taken parsed → Answers (record { step = step; kind = kind; frugal = frugal; steady = steady; fresh = fresh }) m (record { first = false; state = s; left = left; old = old; new = new; before = f; after = g }) parsed → ParsesWindow frugal steady step kind fresh start m s left whole from to more taken result

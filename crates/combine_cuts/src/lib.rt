@@ -1,5 +1,6 @@
 //! A whole input, parsed window by window. Our own: with the crate a caller keeps the input and the state, and loops.
 #![tactic(auto)]
+
 ghost use Rattle.std.specs.Prelude.{◌≡◌, ◌↔◌, ℕ, ◌<◌, ◌≤◌, get_or, length, true};
 ghost use Rattle.combine_base.specs.Parser.Meaning.{MeansSame};
 ghost use Rattle.combine_cuts.specs.Cuts.{Fit, ParsesWindow, RunsCuts};

@@ -1,4 +1,4 @@
-use Rattle.std.proofs.Common.{◌≡◌, ◌≤◌, ◌∙◌, ap, arith}
+use Rattle.std.proofs.Common.{◌≤◌, ◌∙◌, ap, arith}
 use Rattle.combine_stream.specs.MaybePartial.{marked}
 use Rattle.combine_cuts.proofs.Windows.{widened, window_left, parsed_window}
 use Rattle.combine_cuts.proofs.parse_window.Goals as goal
