@@ -1,0 +1,3 @@
+mod CutRuns
+mod Windows
+mod Fitting

@@ -1,0 +1,2 @@
+pub use Rattle.combine_base.specs.Parser.Meaning
+pub mod Cuts
