@@ -14,17 +14,17 @@ use combine_examples::cuts::{cut, sets_of_places};
 use std::alloc::{AllocError, Global};
 use std::process::Abort;
 
-type Letter = Token<fed::Stream<u8>, u8>;
+pub(crate) type Letter = Token<fed::Stream<u8>, u8>;
 
 /// An `a` and that letter, put back where they are refused.
-fn behind_an_a(letter: u8) -> Try<(Letter, Letter)>
+pub(crate) fn behind_an_a(letter: u8) -> Try<(Letter, Letter)>
     ensures { ⟦<Try<(Letter, Letter)> as Parser<fed::Stream<u8>>>⟧.lawful result }
 {
     attempt((token(b'a'), token(letter)))
 }
 
 /// Behind an `a` those letters alone are accepted, over every cut. Each alternative takes the `a`, so that behind a cut the later ones begin again at it.
-fn check_letters<F: Fn(&[&[u8]]) -> InPieces<(u8, u8)>>(
+pub(crate) fn check_letters<F: Fn(&[&[u8]]) -> InPieces<(u8, u8)>>(
     rt: &impl Abort,
     alloc: Global,
     accepted: &[u8],

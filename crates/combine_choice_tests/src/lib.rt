@@ -7,3 +7,5 @@ mod alternatives;
 mod choices;
 #[cfg(test)]
 mod kept_states;
+#[cfg(test)]
+mod variants;
