@@ -125,3 +125,4 @@ pub use Rattle.combine_until.specs.Until
 pub use Rattle.combine_until.specs.UntilLaws
 pub use Rattle.combine_until.specs.UntilParsers
 pub use Rattle.combine_until.specs.UntilTurn
+pub use Rattle.combine_cuts.specs.Cuts

@@ -11,6 +11,7 @@ pub use combine_base::parser::{
     Answer, Calls, FirstMode, ParseMode, Parser, PartialMode, Session, SessionError, judge,
     parse_pieces,
 };
+pub use combine_cuts::{cuts_fit, parse_cuts};
 pub use combine_errors::easy::EasyParser;
 pub use combine_functions::function;
 pub use combine_range::range;
