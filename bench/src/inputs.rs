@@ -148,9 +148,9 @@ pub fn numbers(size: usize) -> Vec<u8> {
     all
 }
 
-/// Frames of 60 bytes.
+/// Frames of 60 visible bytes.
 pub fn frames(size: usize) -> Vec<u8> {
-    repeated(size, |dice, all| dice.push(all, 60, 0, 255))
+    repeated(size, |dice, all| dice.push(all, 60, b'!', b'~'))
 }
 
 /// Digits with `+` between them.
