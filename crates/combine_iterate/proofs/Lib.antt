@@ -1,0 +1,3 @@
+mod Dividing
+mod Judging
+mod Stepping

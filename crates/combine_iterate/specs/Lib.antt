@@ -1,0 +1,11 @@
+pub use Rattle.combine_base.specs.Error.Results
+pub use Rattle.combine_base.specs.Parser.Answer
+pub use Rattle.combine_base.specs.Parser.Called
+pub use Rattle.combine_base.specs.Parser.Meaning
+pub use Rattle.combine_base.specs.Parser.Outcome
+pub use Rattle.combine_base.specs.Stream.Calls
+pub use Rattle.combine_base.specs.Stream.View
+pub use Rattle.combine_repeat.specs.Repetition
+pub use Rattle.combine_repeat.specs.Turns
+pub mod Turned
+pub mod Nexts

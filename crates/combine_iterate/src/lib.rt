@@ -1,0 +1,4 @@
+//! Parsers as iterators.
+#![tactic(auto)]
+
+pub mod repeat;
