@@ -126,3 +126,4 @@ pub use Rattle.combine_until.specs.UntilLaws
 pub use Rattle.combine_until.specs.UntilParsers
 pub use Rattle.combine_until.specs.UntilTurn
 pub use Rattle.combine_cuts.specs.Cuts
+pub use Rattle.combine_iterate.specs.Nexts
