@@ -1,0 +1,11 @@
+//! Calls of the parsers of ranges, and what each answers. They are built for the tests alone, so that they are proved once.
+#![tactic(auto)]
+
+#[cfg(test)]
+mod bytes;
+#[cfg(test)]
+mod calls;
+#[cfg(test)]
+mod parsers;
+#[cfg(test)]
+mod windows;
