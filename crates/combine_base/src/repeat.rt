@@ -1,9 +1,11 @@
 //! What collects the values of a repetition.
 ghost use Rattle.std.specs.Char.{encode_utf8};
-ghost use Rattle.std.specs.Prelude.{◌≡◌, ℕ, List, [], ◌∷◌, ◌++◌, MatchResult};
+ghost use Rattle.std.specs.Vec.{vec_capacity, vec_len};
+ghost use Rattle.std.specs.Prelude.{◌≡◌, ◌<◌, ℕ, List, [], ◌∷◌, ◌++◌, MatchResult, OnOk};
 ghost use Rattle.std.specs.String.{string_bytes};
 
 use std::alloc::{AllocError, Global};
+use std::mem;
 
 /// A collection that grows by one value at a time.
 pub trait Append<A>: Drop {
@@ -47,10 +49,29 @@ impl<A: Drop> Append<A> for Vec<A> {
         Vec::new(alloc)
     }
 
+    #[inline(always)]
     fn append(&mut self, value: A) -> Result<(), AllocError> {
-        self.push(value)?;
+        if self.capacity() <= self.len() {
+            let alloc = *self.allocator();
+            let (roomy, found) = with_room(mem::replace(self, Vec::new(alloc)));
+            *self = roomy;
+            found?;
+        }
+        self.push_reserved(value);
         Ok(())
     }
+}
+
+/// The vector, with room for one more value where that is found. By value, so that a vector which a loop fills needs no place in memory.
+#[cold]
+#[inline(never)]
+fn with_room<A>(vec: Vec<A>) -> (Vec<A>, Result<(), AllocError>)
+    ensures items { result.0.items ≡ vec.items }
+    ensures room { OnOk result.1 (vec_len result.0 < vec_capacity result.0) }
+{
+    let mut vec = vec;
+    let found = vec.reserve(1);
+    (vec, found)
 }
 
 /// Characters, one behind another; what is seen of a text is its bytes in UTF-8.
