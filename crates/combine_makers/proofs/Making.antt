@@ -1,0 +1,126 @@
+-- the answers of `lazy` and `factory`, by those of the parser that was made
+use Rattle.std.proofs.Common.{ℕ, ◌≡◌, ◌≤◌, ◌⊎◌, inl, inr, Bool, true, false, List, refl, sym, ap, subst, arith, ◌∙◌, Some, None}
+use Rattle.combine_base.specs.Error.Errors.{Errors}
+use Rattle.combine_base.specs.Error.Items.{Item}
+use Rattle.combine_base.specs.Parser.Answer.{World, Run, Answers, Resumes, world}
+use Rattle.combine_base.specs.Parser.Judged.{NeedsMore}
+use Rattle.combine_base.specs.Parser.Meaning.{Meaning, Reading, IsMeaning, MeansSame}
+use Rattle.combine_base.specs.Parser.Outcome.{Outcome, after}
+use Rattle.combine_base.specs.Parser.Reasons.{Reasoned, kept_from}
+use Rattle.combine_base.specs.Sequence.Parts.{RunsFrom, run_from}
+use Rattle.combine_base.specs.Stream.View.{View, Takes, extended}
+use Rattle.combine_base.proofs.Calls.{around}
+use Rattle.combine_base.proofs.Inside.{Inside, Keeps, inside_asks, inside_commits, inside_fails, inside_peeks, inside_refuses}
+use Rattle.combine_base.proofs.Progress.{Progress, after_none, takes_none}
+use Rattle.combine_base.proofs.Starting.{progress_here}
+use Rattle.combine_base.specs.declared.error.ParseResult.{ParseResult}
+use Rattle.combine_base.specs.declared.error.ParseResult.TheVariants.{CommitOk, PeekOk, CommitErr, PeekErr}
+use Rattle.combine_base.specs.declared.parser.Parser as parser
+use Rattle.combine_base.specs.declared.stream.StreamOnce as stream
+use Rattle.combine_base.specs.declared.stream.Failures.{Failures}
+use Rattle.combine_makers.specs.Calling.{CalledMade}
+use Rattle.combine_makers.specs.Made.{Lasts, Makes, RefusesMade, is_unmade, made, made_is_meaning, made_rest, valid_made}
+use Rattle.combine_makers.specs.declared.combinator.made.Made.{Made}
+use Rattle.combine_makers.specs.declared.combinator.made.MadeState.{MadeState}
+use Rattle.combine_makers.specs.declared.combinator.made.MadeState.TheVariants.{Unmade, Kept}
+
+-- a kept parser that a call begins with is lawful, and its state is valid
+pub kept_valid : {N U : Type 0} (lawful : N → Type 0) (valid : U → Type 0) {first : Bool} {given : MadeState N U} {l : Made N U} → RunsFrom is_unmade first given (Kept l) → valid_made lawful valid given → lawful l.parser × valid l.state
+kept_valid {N} {U} lawful valid {first} {given} {l} r v = by_mode first r
+  where
+    by_mode : (first : Bool) → RunsFrom is_unmade first given (Kept l) → lawful l.parser × valid l.state
+    by_mode true r = absurd (let e = r.afresh refl in cc)
+    by_mode false r = subst (valid_made lawful valid) (sym (r.kept refl)) v
+
+module _ {N Input V U Checkpoint T R P E X : Type 0} (p : parser.Ghosts N Input V U Checkpoint T R P E X) (i : stream.Ghosts Input T R P E X) (seen : Errors T R P E) (fresh : U → Type 0) (makes : Makes P T N) (adds : List (Item T R) → Type 0) where
+  abbrev all : Meaning P T R V (MadeState N U)
+  all = made makes p.lawful p.meaning adds
+
+  abbrev own_world : World P T U E
+  own_world = world i.step seen i.steady fresh
+
+  abbrev all_world : World P T (MadeState N U) E
+  all_world = world i.step seen i.steady is_unmade
+
+  -- the state that is left is valid
+  pub leaves_valid : {first : Bool} {input left : Input} {l : Made N U} {state : MadeState N U} {y : ParseResult V E} → CalledMade p i seen fresh first input left l state y → valid_made p.lawful p.valid state
+  leaves_valid {first} {input} {left} {l} {state} {y} g = by_need g.leaves
+    where
+      by_need : (NeedsMore seen.kind (i.view left).is_open y × (state ≡ Kept (record { parser = g.parser; state = g.stopped })) × p.valid g.stopped) ⊎ ((NeedsMore seen.kind (i.view left).is_open y → ⊥) × (state ≡ Unmade)) → valid_made p.lawful p.valid state
+      by_need (inl j) = rw j.1 (g.lawful, j.2)
+      by_need (inr j) = rw j.1 tt
+
+  -- Where the parser that was made stands for what the call begins from, the call answers what that parser does.
+  module _ {first : Bool} {input left : Input} {l : Made N U} {state : MadeState N U} {y : ParseResult V E} (d : p.lawful l.parser) (g : CalledMade p i seen fresh first input left l state y) where
+    abbrev here : Reading P T V
+    here = (p.meaning l.parser).rest l.state
+
+    abbrev call : Run P T U
+    call = run_from l.state g.stopped (i.view input) (i.view left) (i.failures input) (i.failures left)
+
+    module _ (z : MadeState N U) (q : Progress own_world (made_rest makes p.lawful p.meaning adds z) here (i.view input) (i.view input) (i.failures input) (i.failures input)) (none : q.count ≡ 0) (loses : (p.meaning l.parser).lost l.state (i.view input) → all.lost z (i.view input)) where
+      abbrev inside : Inside own_world is_unmade (p.meaning l.parser) all call false z state (i.view input) (i.failures input) false here
+      inside = record {
+        progress = q;
+        reads = omega arith;
+        resets = omega arith;
+        refuses = λ k x. x;
+        lean = λ x. x l.parser d;
+        lost = λ e x. (refl, loses x);
+      }
+
+      keeping : state ≡ Kept (record { parser = g.parser; state = g.stopped }) → Keeps own_world is_unmade (p.meaning l.parser) all call false z state (i.view input) (i.failures input) here q.count
+      keeping e = rw e record {
+        undecided = λ x. x;
+        resumes = λ n t x. record {
+          gives = λ ys m o f k. x.gives ys m o f ((g.same.rest g.stopped (extended ys m (i.view left)) o).1 k);
+          committed = λ ys m o f c k. x.committed ys m o f c ((g.same.rest g.stopped (extended ys m (i.view left)) o).1 k);
+        };
+        found = λ v x. (g.same.lost g.stopped v).1 x;
+        keeps = λ x. x l.parser d;
+        puts_back = λ x. (x l.parser d, none);
+      }
+
+      by_answer : (y : ParseResult V E) → Answers own_world (p.meaning l.parser) call y → (NeedsMore seen.kind (i.view left).is_open y × (state ≡ Kept (record { parser = g.parser; state = g.stopped })) × p.valid g.stopped) ⊎ ((NeedsMore seen.kind (i.view left).is_open y → ⊥) × (state ≡ Unmade)) → Answers all_world all (run_from z state (i.view input) (i.view left) (i.failures input) (i.failures left)) y
+      by_answer (CommitOk a) w (inl j) = absurd j.0
+      by_answer (CommitOk a) w (inr j) = inside_commits _ _ _ _ _ _ _ _ _ _ _ _ inside (λ x. j.1) (λ a. a) (λ a n k x. x) a w
+      by_answer (PeekOk a) w (inl j) = absurd j.0
+      by_answer (PeekOk a) w (inr j) = inside_peeks _ _ _ _ _ _ _ _ _ _ _ _ inside (λ x. j.1) (λ a. a) (λ a n k x. x) a w
+      by_answer (CommitErr e) w (inl j) = inside_asks _ _ _ _ _ _ _ _ _ _ _ _ inside (keeping j.1) e j.0 w
+      by_answer (CommitErr e) w (inr j) = inside_fails _ _ _ _ _ _ _ _ _ _ _ _ inside (λ x. j.1) e j.0 w
+      by_answer (PeekErr t) w (inl j) = absurd j.0
+      by_answer (PeekErr t) w (inr j) = inside_refuses _ _ _ _ _ _ _ _ _ _ _ _ inside (λ x. j.1) t w
+
+      answered : Answers all_world all (run_from z state (i.view input) (i.view left) (i.failures input) (i.failures left)) y
+      answered = by_answer y g.answers g.leaves
+
+  module _ {first : Bool} {input left : Input} {l : Made N U} {state : MadeState N U} {y : ParseResult V E} (d : p.lawful l.parser) (g : CalledMade p i seen fresh first input left l state y) where
+    -- a call that goes on with the parser that is kept
+    pub resumes_made : Answers all_world all (run_from (Kept l) state (i.view input) (i.view left) (i.failures input) (i.failures left)) y
+    resumes_made = answered d g (Kept l) (progress_here own_world ((p.meaning l.parser).rest l.state) ((p.meaning l.parser).rest l.state) (i.view input) (i.failures input) (λ v o x. x)) refl (λ x. x)
+
+    -- a call that makes one
+    pub begins_made : Lasts makes → IsMeaning fresh p.valid (p.meaning l.parser) → fresh l.state → makes (i.view input) l.parser → Answers all_world all (run_from Unmade state (i.view input) (i.view left) (i.failures input) (i.failures left)) y
+    begins_made lasts h f m = answered d g Unmade (record { count = 0; taken = takes_none i.step (i.view input); resumes = resumes; failures = λ s. refl }) refl (λ x. absurd (h.found l.state (i.view input) f x))
+      where
+        resumes : Resumes (made_rest makes p.lawful p.meaning adds Unmade) ((p.meaning l.parser).rest l.state) 0 (i.view input) (i.view input)
+        resumes = record {
+          gives = λ x b o e k. rw (after_none o) (l.parser, lasts (i.view input) x b l.parser e m, (h.start l.state (extended x b (i.view input)) o f).0 k);
+          committed = λ x b o e c k. absurd (omega arith);
+        }
+
+    -- and one that makes it, where the maker left the stream in place
+    pub begins_in_place : (old : View P T) (before : Failures) → i.view input ≡ old → i.failures input ≡ before → Lasts makes → IsMeaning fresh p.valid (p.meaning l.parser) → fresh l.state → makes old l.parser → Answers all_world all (run_from Unmade state old (i.view left) before (i.failures left)) y
+    begins_in_place old before e f lasts h k m = subst (λ v. Answers all_world all (run_from Unmade state v (i.view left) before (i.failures left)) y) e (subst (λ b. Answers all_world all (run_from Unmade state (i.view input) (i.view left) b (i.failures left)) y) f (begins_made lasts h k (subst (λ v. makes v l.parser) (sym e) m)))
+
+    -- and the error of its refusal
+    pub reasons_kept : (first ≡ false) → Reasoned seen.kind (i.view left).is_open (RefusesMade makes fresh p.refuses (kept_from first (Kept l)) (i.view input)) y
+    reasons_kept e committed x r = rw e record { is = (rw e at g.refuses) committed x r }
+
+    module _ (given : MadeState N U) (from : RunsFrom is_unmade first given Unmade) (f : fresh l.state) (m : makes (i.view input) l.parser) where
+      pub reasons_made : Reasoned seen.kind (i.view left).is_open (RefusesMade makes fresh p.refuses (kept_from first given) (i.view input)) y
+      reasons_made committed x r = by_mode first from (g.refuses committed x r)
+        where
+          by_mode : (b : Bool) → RunsFrom is_unmade b given Unmade → p.refuses l.parser (kept_from b l.state) (i.view input) committed x → RefusesMade makes fresh p.refuses (kept_from b given) (i.view input) committed x
+          by_mode true k j = record { is = record { parser = l.parser; made = m; at = None; begins = tt; said = j } }
+          by_mode false k j = rw (sym (k.kept refl)) record { is = record { parser = l.parser; made = m; at = Some l.state; begins = f; said = j } }

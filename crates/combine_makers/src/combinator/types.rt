@@ -1,0 +1,141 @@
+//! The parsers that the functions of this module answer.
+ghost use Rattle.std.specs.Prelude.{◌≡◌};
+ghost use Rattle.combine_base.specs.Error.Errors.{Nothing};
+ghost use Rattle.combine_base.specs.Stream.Calls.{Passes};
+ghost use Rattle.combine_base.specs.Stream.View.{View};
+ghost use Rattle.combine_makers.specs.Made.{Adds, InPlace, MadeAt, MakesOne, RefusesMade, at_any, at_any_lasts, factory_maker, is_unmade_valid, lazy_maker, made, made_at_lasts, made_is_meaning, made_means_one, valid_made};
+
+pub use super::made::{Made, MadeState};
+use super::made::{resume_made, run_made};
+use combine_base::error::{ErrorOffset, ParseResult, Tracked};
+use combine_base::parser::{ParseMode, Parser};
+use combine_base::sequence::take_state;
+use combine_base::stream::Stream;
+
+/// The parser of [`lazy`](crate::combinator::lazy).
+#[derive(Clone, Copy, Drop)]
+pub struct Lazy<F>(pub(super) F);
+
+impl<Input: Stream, N: Parser<Input> + Drop, F: Fn() -> N> Parser<Input> for Lazy<F> {
+    type Output = N::Output;
+
+    type PartialState = MadeState<N, N::PartialState>;
+
+    ghost lawful = { λ p. F.IsAlwaysCallable (lazy_maker p) × ((n : N) → F.post (lazy_maker p) n → N.lawful n) };
+
+    ghost determined = { λ p. ((n : N) → N.lawful n → N.determined n) × MakesOne (at_any (F.post (lazy_maker p))) (λ n. (N.meaning n).whole) };
+
+    ghost valid = { valid_made N.lawful N.valid };
+
+    ghost meaning = { λ p. made (at_any (F.post (lazy_maker p))) N.lawful N.meaning (Adds (F.post (lazy_maker p)) N.meaning) };
+
+    ghost refuses = { λ p. RefusesMade (at_any (F.post (lazy_maker p))) N.PartialState.is_default N.refuses };
+
+    ghost parts = { λ p. 1 };
+
+    ghost default_valid = { is_unmade_valid N.lawful N.valid };
+
+    ghost laws = { λ p l. made_is_meaning _ N.lawful N.meaning _ (at_any_lasts (F.post (lazy_maker p))) N.laws (λ v. l.1) };
+
+    ghost single = { λ p l d. made_means_one _ N.lawful N.meaning _ (λ n i. N.single n i (d.0 n i)) d.1 };
+
+    #[inline(always)]
+    fn parse_mode<M: ParseMode>(
+        &mut self,
+        mode: M,
+        input: &mut Input,
+        state: &mut Self::PartialState,
+    ) -> ParseResult<N::Output, Input::Error> {
+        if let MadeState::Kept(made) = take_state(mode, state) {
+            return resume_made(mode, input, made, state);
+        }
+        let parser = (self.0)();
+        let made = Made {
+            parser,
+            state: N::PartialState::default(),
+        };
+        run_made(mode, input, made, state)
+    }
+
+    /// What a parser of the maker adds.
+    #[inline]
+    fn add_error(&mut self, error: &mut Tracked<Input::Error>) {
+        let mut parser = (self.0)();
+        parser.add_error(error);
+    }
+
+    /// One, whatever the parser counts that the maker answers.
+    #[inline]
+    fn parser_count(&self) -> ErrorOffset {
+        ErrorOffset(1)
+    }
+}
+
+// Asks a maker that leaves the stream in place.
+#[inline(always)]
+fn ask<Input: Stream, N, F: Fn(&mut Input) -> N>(maker: &F, input: &mut Input) -> N
+    requires callable { F.IsAlwaysCallable maker.now }
+    requires in_place { InPlace Input.view Input.marks Input.failures (λ i n l. F.post maker.now i n l) }
+    ensures made { MadeAt Input.view (λ i n l. F.post maker.now i n l) (Input.view input.old) result }
+    ensures passes { Passes (Input.marks input.old) (Input.marks input.new) (Input.failures input.old) (Input.failures input.new) }
+    ensures view { Input.view input.new ≡ Input.view input.old }
+    ensures failures { Input.failures input.new ≡ Input.failures input.old }
+{
+    maker(input)
+}
+
+/// The parser of [`factory`](crate::combinator::factory).
+#[derive(Clone, Copy, Drop)]
+pub struct Factory<F>(pub(super) F);
+
+impl<Input: Stream, N: Parser<Input> + Drop, F: Fn(&mut Input) -> N> Parser<Input> for Factory<F> {
+    type Output = N::Output;
+
+    type PartialState = MadeState<N, N::PartialState>;
+
+    ghost lawful = { λ p. F.IsAlwaysCallable (factory_maker p) × InPlace Input.view Input.marks Input.failures (λ i n l. F.post (factory_maker p) i n l) × ((v : View Input.Position Input.Token) (n : N) → MadeAt Input.view (λ i n l. F.post (factory_maker p) i n l) v n → N.lawful n) };
+
+    ghost determined = { λ p. ((n : N) → N.lawful n → N.determined n) × MakesOne (MadeAt Input.view (λ i n l. F.post (factory_maker p) i n l)) (λ n. (N.meaning n).whole) };
+
+    ghost valid = { valid_made N.lawful N.valid };
+
+    ghost meaning = { λ p. made (MadeAt Input.view (λ i n l. F.post (factory_maker p) i n l)) N.lawful N.meaning Nothing };
+
+    ghost refuses = { λ p. RefusesMade (MadeAt Input.view (λ i n l. F.post (factory_maker p) i n l)) N.PartialState.is_default N.refuses };
+
+    ghost parts = { λ p. 1 };
+
+    ghost default_valid = { is_unmade_valid N.lawful N.valid };
+
+    ghost laws = { λ p l. made_is_meaning _ N.lawful N.meaning _ (made_at_lasts Input.view (λ i n l. F.post (factory_maker p) i n l)) N.laws l.2 };
+
+    ghost single = { λ p l d. made_means_one _ N.lawful N.meaning _ (λ n i. N.single n i (d.0 n i)) d.1 };
+
+    #[inline(always)]
+    fn parse_mode<M: ParseMode>(
+        &mut self,
+        mode: M,
+        input: &mut Input,
+        state: &mut Self::PartialState,
+    ) -> ParseResult<N::Output, Input::Error> {
+        if let MadeState::Kept(kept) = take_state(mode, state) {
+            return resume_made(mode, input, kept, state);
+        }
+        let parser = ask(&self.0, input);
+        let made = Made {
+            parser,
+            state: N::PartialState::default(),
+        };
+        run_made(mode, input, made, state)
+    }
+
+    /// Nothing.
+    #[inline]
+    fn add_error(&mut self, error: &mut Tracked<Input::Error>) {}
+
+    /// One, whatever the parser counts that the maker answers.
+    #[inline]
+    fn parser_count(&self) -> ErrorOffset {
+        ErrorOffset(1)
+    }
+}

@@ -1,0 +1,4 @@
+//! Parsers that are made where a call begins: `lazy` and `factory`.
+#![tactic(auto)]
+
+pub mod combinator;

@@ -1,0 +1,4 @@
+//! Errors at spans: `spanned`.
+#![tactic(auto)]
+
+pub mod combinator;
