@@ -1,3 +1,4 @@
 mod Dividing
+mod EachItem
 mod Judging
 mod Stepping

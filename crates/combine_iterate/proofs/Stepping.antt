@@ -1,20 +1,19 @@
 -- what a call of `next` did, from what its turn did
-use Rattle.std.proofs.Common.{ℕ, ◌+◌, ◌<◌, ◌≡◌, Bool, true, false, Option, Some, None, List, [], ◌∷◌, length, sym, subst, refl, ◌∙◌}
+use Rattle.std.proofs.Common.{ℕ, ◌+◌, ◌<◌, ◌≡◌, Bool, true, false, Option, Some, None, length, subst, refl, ◌∙◌}
 use Rattle.std.proofs.lemmas.Bool.{false≢true}
 use Rattle.std.specs.Iterator.{MakesProgress}
 use Rattle.combine_base.specs.Error.Errors.{Errors}
-use Rattle.combine_base.specs.Parser.Outcome.{Outcome, Accepted}
 use Rattle.combine_base.specs.Parser.Answer.{Run, World, world}
 use Rattle.combine_base.specs.declared.parser.Parser as parser
 use Rattle.combine_base.specs.declared.stream.StreamOnce as stream
 use Rattle.combine_repeat.specs.Turns.{Block}
 use Rattle.combine_iterate.specs.Turned.{TurnCalled}
-use Rattle.combine_iterate.specs.Nexts.{Nexts, EndsTurns, GivesBlock, Runs, at_most_left, goes_on, gone_on, may_go_on, next_at, runs_at, stage_after, stage_stops, values_left}
+use Rattle.combine_iterate.specs.Nexts.{Nexts, at_most_left, goes_on, gone_on, may_go_on, next_at, runs_at, stage_after, stage_stops, values_left}
 use Rattle.combine_iterate.specs.declared.repeat.Iter.{Iter}
 use Rattle.combine_iterate.specs.declared.repeat.Stage.{Stage}
 use Rattle.combine_iterate.specs.declared.repeat.Stage.TheVariants as stages
 use Rattle.combine_iterate.specs.declared.repeat.Turn.{Turn}
-use Rattle.combine_iterate.specs.declared.repeat.Turn.TheVariants.{Gives, Over, Fails}
+use Rattle.combine_iterate.specs.declared.repeat.Turn.TheVariants.{Gives}
 use Rattle.combine_iterate.proofs.Dividing.{past_block, stops_here, fewer}
 
 is_running : {E : Type 0} (s : Stage E) → runs_at s ≡ true → s ≡ stages.Running
