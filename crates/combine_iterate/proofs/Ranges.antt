@@ -40,7 +40,10 @@ range_gives (suc n) a s i e = record {
         let h = k.1.2 in
         (cc, go next (omega arith) (omega arith))
 
--- the items of a range are its numbers
-module _ (clones makes : Range ℕ → Range ℕ → Type 0) (list : Range ℕ) (begins : (clone it : Range ℕ) → clones list clone → makes clone it → it ≡ list) where
+-- the items of a range are its numbers: a clone has its ends, and is its own iterator
+module _ (clones makes : Range ℕ → Range ℕ → Type 0) (list : Range ℕ) (begins : (clone it : Range ℕ) → clones list clone → makes clone it → (clone.start ≡ list.start) × (clone.end ≡ list.end) × (it ≡ clone)) where
+  starts_there : (clone it : Range ℕ) → (clone.start ≡ list.start) × (clone.end ≡ list.end) × (it ≡ clone) → gives_range (range_with_len list.start (list.end - list.start)) it
+  starts_there clone it e = rw e.2 (range_gives (list.end - list.start) list.start clone e.0 (rw (e.0, e.1) refl))
+
   pub range_lists : (xs : List ℕ) × Lists (λ s. Unit {0}) (λ s. at_most (s.end - s.start)) range_calls clones makes list xs
-  range_lists = (range_with_len list.start (list.end - list.start), record { each = λ clone it i j. record { is = let e = begins clone it i j in rw e (range_gives (list.end - list.start) list.start list refl refl) } })
+  range_lists = (range_with_len list.start (list.end - list.start), record { each = λ clone it i j. record { is = starts_there clone it (begins clone it i j) } })
