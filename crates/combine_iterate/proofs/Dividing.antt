@@ -1,13 +1,13 @@
 -- what one turn is for the division of the turns that are left
-use Rattle.std.proofs.Common.{ℕ, ◌+◌, ◌<◌, ◌≤◌, ◌≡◌, ◌⊎◌, inl, inr, arith, Bool, true, false, List, [], ◌∷◌, length, ap, sym, subst, refl, ◌∙◌, length-drop, ltb-true, nat_lt}
+use Rattle.std.proofs.Common.{ℕ, ◌+◌, ◌<◌, ◌≡◌, ◌⊎◌, inl, inr, arith, Bool, true, false, List, [], ◌∷◌, length, ap, sym, subst, refl, ◌∙◌, length-drop, ltb-true}
 use Rattle.combine_base.specs.Stream.View.{View, Takes, advanced}
 use Rattle.combine_base.specs.Parser.Outcome.{Outcome, Accepted, Refused, Undecided}
 use Rattle.combine_base.specs.Parser.Meaning.{Meaning, MeansSame, begun}
-use Rattle.combine_base.specs.Parser.Answer.{Run, World, Answers, fails, ends}
+use Rattle.combine_base.specs.Parser.Answer.{Run, World, fails, ends}
 use Rattle.combine_base.proofs.Calls.{same_mark}
 use Rattle.combine_base.specs.declared.stream.Kind.{Kind}
 use Rattle.combine_base.specs.declared.stream.Kind.TheVariants as kinds
-use Rattle.combine_repeat.specs.Repetition.{goes_at, goes_if, judged, until_refused}
+use Rattle.combine_repeat.specs.Repetition.{goes_at, goes_if, until_refused}
 use Rattle.combine_repeat.specs.Turns.{Block, outcome, Stops, Divides}
 use Rattle.combine_repeat.specs.TurnLaws.{divides_into}
 use Rattle.combine_repeat.specs.declared.repeat.turns.Place.TheVariants.{Later}

@@ -1,20 +1,21 @@
 -- what a call of `next` did, from what its turn did
-use Rattle.std.proofs.Common.{ℕ, ◌+◌, ◌<◌, ◌≡◌, Bool, true, false, Option, Some, None, List, [], ◌∷◌, length, sym, subst, refl, ◌∙◌}
+use Rattle.std.proofs.Common.{ℕ, ◌+◌, ◌<◌, ◌≡◌, Bool, true, false, Option, Some, None, length, subst, sym, refl, ◌∙◌}
 use Rattle.std.proofs.lemmas.Bool.{false≢true}
 use Rattle.std.specs.Iterator.{MakesProgress}
 use Rattle.combine_base.specs.Error.Errors.{Errors}
-use Rattle.combine_base.specs.Parser.Outcome.{Outcome, Accepted}
 use Rattle.combine_base.specs.Parser.Answer.{Run, World, world}
 use Rattle.combine_base.specs.declared.parser.Parser as parser
 use Rattle.combine_base.specs.declared.stream.StreamOnce as stream
 use Rattle.combine_repeat.specs.Turns.{Block}
 use Rattle.combine_iterate.specs.Turned.{TurnCalled}
-use Rattle.combine_iterate.specs.Nexts.{Nexts, EndsTurns, GivesBlock, Runs, at_most_left, goes_on, gone_on, may_go_on, next_at, runs_at, stage_after, stage_stops, values_left}
+use Rattle.combine_iterate.specs.Nexts.{Nexts, at_most_left, goes_on, gone_on, may_go_on, next_at, runs_at, stage_after, stage_stops, values_left}
 use Rattle.combine_iterate.specs.declared.repeat.Iter.{Iter}
 use Rattle.combine_iterate.specs.declared.repeat.Stage.{Stage}
 use Rattle.combine_iterate.specs.declared.repeat.Stage.TheVariants as stages
 use Rattle.combine_iterate.specs.declared.repeat.Turn.{Turn}
-use Rattle.combine_iterate.specs.declared.repeat.Turn.TheVariants.{Gives, Over, Fails}
+use Rattle.combine_iterate.specs.declared.repeat.Turn.TheVariants.{Gives}
+use Rattle.combine_base.specs.Parser.Meaning.{IsMeaning}
+use Rattle.combine_iterate.proofs.Cuts.{continues, past_block_with}
 use Rattle.combine_iterate.proofs.Dividing.{past_block, stops_here, fewer}
 
 is_running : {E : Type 0} (s : Stage E) → runs_at s ≡ true → s ≡ stages.Running
@@ -44,8 +45,8 @@ module _ {Self Input Mode Checkpoint Token Range Position Error StreamError Outp
       by_stage stages.Over q = absurd (false≢true q)
       by_stage (stages.Failed x) q = absurd (false≢true q)
 
-  pub gives_block : (a : Output) → runs_at it.stage ≡ true → turn_called (Gives a) → first new.mode ≡ true → new.given ≡ true → new.stage ≡ it.stage → new.input.ghost_name ≡ it.input.ghost_name → new.state.ghost_name ≡ it.state.ghost_name → Nexts p i first seen fresh it (Some a) new
-  gives_block a e c f g s x y =
+  pub gives_block : (a : Output) → {begins : State → Type 0} → IsMeaning begins p.valid (p.meaning it.parser) → p.valid it.state.now → runs_at it.stage ≡ true → turn_called (Gives a) → first new.mode ≡ true → new.given ≡ true → new.stage ≡ it.stage → new.input.ghost_name ≡ it.input.ghost_name → new.state.ghost_name ≡ it.state.ghost_name → Nexts p i first seen fresh it (Some a) new
+  gives_block a laws k e c f g s x y =
       let j = c.turned.is in
       let b : Block Output = record { value = a; count = j.accepts.count; committed = true } in
       record {
@@ -56,6 +57,7 @@ module _ {Self Input Mode Checkpoint Token Range Position Error StreamError Outp
           block = b;
           value = refl;
           divided = past_block i.step (p.meaning it.parser) (p.meaning new.parser) c.same (first it.mode) (first new.mode) it.state.now new.state.now (i.view it.input.now) (i.view new.input.now) b f j.accepts.meant j.says j.accepts.taken.rest;
+          stays = past_block_with i.step (p.meaning it.parser) (p.meaning new.parser) laws c.same (first it.mode) (first new.mode) it.state.now new.state.now k (i.view it.input.now) (i.view new.input.now) b f j.accepts.meant j.says j.accepts.taken.rest;
         });
         ready = record { lawful = c.lawful; valid = c.valid };
         input = x;
@@ -71,6 +73,7 @@ module _ {Self Input Mode Checkpoint Token Range Position Error StreamError Outp
           ended = rw s n;
           given = g;
           divided = λ l q. stops_here turn_world (p.meaning it.parser) turn_run t c.turned l (subst (λ (u : Stage Error). stage_stops seen.kind (i.view new.input.now).is_open u l) s q);
+          continues = λ d q. continues turn_world (p.meaning it.parser) turn_run t c.turned d (sym s ∙ q);
         });
         ready = record { lawful = c.lawful; valid = c.valid };
         input = x;

@@ -9,3 +9,7 @@ pub use Rattle.combine_repeat.specs.Repetition
 pub use Rattle.combine_repeat.specs.Turns
 pub mod Turned
 pub mod Nexts
+pub use Rattle.combine_base.specs.Sequence.Readings
+pub mod Iterated
+pub mod Items
+pub mod ItemCalls

@@ -1,7 +1,7 @@
 -- what an iterator over a parser gives: the values of the blocks of the turns that are left, one after another
-use Rattle.std.specs.Prelude.{ℕ, ◌+◌, ◌≡◌, List, [], ◌∷◌, length, Bool, true, false, Option, Some, None}
+use Rattle.std.specs.Prelude.{ℕ, ◌+◌, ◌<◌, ◌≡◌, List, [], ◌∷◌, length, Bool, true, false, Option, Some, None}
 use Rattle.std.specs.Iterator.{Count, at_most}
-use Rattle.combine_base.specs.Stream.View.{View}
+use Rattle.combine_base.specs.Stream.View.{View, Takes, Follows, extended}
 use Rattle.combine_base.specs.Error.Errors.{Errors}
 use Rattle.combine_base.specs.Parser.Outcome.{Outcome, Accepted, Refused, Undecided}
 use Rattle.combine_base.specs.Parser.Meaning.{Meaning, begun}
@@ -25,6 +25,22 @@ use Rattle.combine_iterate.specs.declared.repeat.Turn.TheVariants.{Gives, Over, 
 -- The turns that are left, of which the first begins afresh or goes on from a state: these blocks, as `many` divides the list, and then a place where the turns stop so. A turn that goes on is a block also if it takes nothing more.
 abbrev pub remains : {P T R A S : Type 0} → (P → T → P) → Meaning P T R A S → Bool → S → View P T → List (Block A) → Outcome (Unit {0}) → Type 0
 remains step m first s v bs l = Divides step until_refused (λ _. m.whole) l (begun m first s) (place_of first) bs v
+
+-- these blocks, of which the first took n tokens more before
+abbrev pub longer : {A : Type 0} → ℕ → List (Block A) → List (Block A)
+longer n [] = []
+longer n (b ∷ bs) = record { value = b.value; count = n + b.count; committed = b.committed } ∷ bs
+
+-- the first of them took a token, then or before
+abbrev pub takes_any : {A : Type 0} → ℕ → List (Block A) → Type 0
+takes_any n [] = Unit {0}
+takes_any n (b ∷ bs) = 0 < n + b.count
+
+-- A cut inside a turn, which took some tokens before it: the turns that are left behind it, of which the first goes on from the state that was kept, are those that were left, the first with the tokens from before. If it began afresh, it has to take a token in all: behind the cut such a turn counts as one that took some.
+pub record Continues {P T R A S : Type 0} (step : P → T → P) (m : Meaning P T R A S) (first : Bool) (from kept : S) (old new : View P T) : Type 0 where
+  pub count : ℕ
+  pub taken : Takes step count old new
+  pub goes_on : (x : List T) (i : Bool) (bs : List (Block A)) (l : Outcome (Unit {0})) → (first ≡ true → takes_any count bs) → remains step m false kept (extended x i new) bs l → remains step m first from (extended x i old) (longer count bs) l
 
 -- what an error says of the turns that end with it: a fault says nothing
 abbrev pub error_stops : Kind → Bool → Outcome (Unit {0}) → Type 0
@@ -100,6 +116,10 @@ module _ {Self Input Mode Checkpoint Token Range Position Error StreamError Outp
   abbrev pub left_of : Iter Input Self Mode Checkpoint Token Range Position Error StreamError Output State → List (Block Output) → Outcome (Unit {0}) → Type 0
   left_of it bs l = remains i.step (p.meaning it.parser) (first it.mode) it.state.now (i.view it.input.now) bs l
 
+  -- and where these tokens follow
+  abbrev pub left_with : Iter Input Self Mode Checkpoint Token Range Position Error StreamError Output State → List Token → Bool → List (Block Output) → Outcome (Unit {0}) → Type 0
+  left_with it x b bs l = remains i.step (p.meaning it.parser) (first it.mode) it.state.now (extended x b (i.view it.input.now)) bs l
+
   module _ (seen : Errors Token Range Position Error) (fresh : State → Type 0) where
     -- a call in which a turn was run
     pub record Runs (it new : Iter Input Self Mode Checkpoint Token Range Position Error StreamError Output State) (turn : Turn Output Error) : Type 0 where
@@ -114,6 +134,8 @@ module _ {Self Input Mode Checkpoint Token Range Position Error StreamError Outp
       pub block : Block Output
       pub value : block.value ≡ a
       pub divided : (bs : List (Block Output)) (l : Outcome (Unit {0})) → left_of new bs l → left_of it (block ∷ bs) l
+      -- and it stays one, whatever follows
+      pub stays : (x : List Token) (b : Bool) → Follows (i.view it.input.now).is_open x b → (bs : List (Block Output)) (l : Outcome (Unit {0})) → left_with new x b bs l → left_with it x b (block ∷ bs) l
 
     -- no block was left, and the turns stop as the stage says
     pub record EndsTurns (it new : Iter Input Self Mode Checkpoint Token Range Position Error StreamError Output State) : Type 0 where
@@ -122,6 +144,8 @@ module _ {Self Input Mode Checkpoint Token Range Position Error StreamError Outp
       pub ended : runs_at new.stage ≡ false
       pub given : new.given ≡ it.given
       pub divided : (l : Outcome (Unit {0})) → stage_stops seen.kind (i.view new.input.now).is_open new.stage l → left_of it [] l
+      -- where they need more, they go on from the state that was lent
+      pub continues : (e : Error) → new.stage ≡ stages.Failed e → seen.kind e ≡ kinds.End → (i.view it.input.now).is_open ≡ true → Continues i.step (p.meaning it.parser) (first it.mode) it.state.now new.state.now (i.view it.input.now) (i.view new.input.now)
 
     abbrev pub goes_on : Iter Input Self Mode Checkpoint Token Range Position Error StreamError Output State → Option Output → Iter Input Self Mode Checkpoint Token Range Position Error StreamError Output State → Type 0
     goes_on it (Some a) new = GivesBlock it new a

@@ -1,16 +1,40 @@
-//! The values of a parser, one after another.
+//! The values of a parser, one after another, and a parser for each item of a list.
 ghost use Rattle.std.specs.Prelude.{◌≡◌, ℕ};
 ghost use Rattle.combine_base.specs.Stream.View.{Takes};
 ghost use Rattle.combine_repeat.specs.Repetition.{goes_at};
 ghost use Rattle.combine_base.specs.Error.Results.{standard};
+ghost use Rattle.combine_iterate.specs.Iterated.{iterate_of};
 ghost use Rattle.combine_iterate.specs.Turned.{TurnCalled, place_of};
 ghost use Rattle.combine_iterate.specs.Nexts.{Begins, Nexts, answer_of, answer_with, at_most_left, may_go_on, runs_at};
+
+mod items;
+pub mod types;
 
 use combine_base::error::{ParseResult, StdParseResult};
 use combine_base::parser::{Calls, ParseMode, Parser};
 use combine_base::refusal::refusal_saying;
 use combine_base::sequence::accepted_after;
 use combine_base::stream::{Stream, has_taken};
+use std::alloc::Global;
+use std::marker::PhantomData;
+use types::Iterate;
+
+/// For each item of a list, in order, the parser that `f` answers for it; the values are collected in order.
+///
+/// An iterator of a clone of the list gives the items; a clone that finds no memory is the fault `Memory`. `f` is asked once for each item, where its turn comes, and leaves the stream in place: on need of more the state keeps the parser that it answered, the values so far and the items that are left. No items are accepted peeked, and so are items whose parsers are all accepted peeked. A refusal of a parser is the answer; a peeked one is put back to where that parser began, and says what stands there and what that parser expects; it is committed if an earlier item was. Every parser that `f` may answer has to be lawful.
+///
+/// In the crate `f` is an `FnMut`, which is asked again for the running item on resumption.
+#[inline]
+pub fn iterate<C, J, F>(alloc: Global, items: J, f: F) -> Iterate<C, J, F>
+    ensures { result ≡ iterate_of alloc items f }
+{
+    Iterate {
+        alloc,
+        items,
+        asked: f,
+        collects: PhantomData,
+    }
+}
 
 /// Whether another turn runs, and how the turns ended.
 #[derive(Drop)]

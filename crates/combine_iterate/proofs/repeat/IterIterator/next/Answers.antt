@@ -4,7 +4,7 @@ use Rattle.combine_iterate.specs.declared.repeat.Turn.TheVariants.{Over, Fails}
 use Rattle.combine_iterate.proofs.repeat.IterIterator.next.Goals as goal
 
 pub returns-in-Gives-clause-steps : goal.returns-in-Gives-clause-steps
-returns-in-Gives-clause-steps g c = gives_block _ _ _ _ _ _ _ _ (sym c.is_running.ensures ∙ c.if-not-is_running.false) (c.in-Gives.ensures) c.set_first.ensures refl refl refl refl
+returns-in-Gives-clause-steps g c = gives_block _ _ _ _ _ _ _ _ (g.met.P.Parser.laws _ c.requires.lawful) c.requires.valid (sym c.is_running.ensures ∙ c.if-not-is_running.false) (c.in-Gives.ensures) c.set_first.ensures refl refl refl refl
 
 pub returns-in-Gives-clause-goes : goal.returns-in-Gives-clause-goes
 returns-in-Gives-clause-goes g c = progress_block _ _ _ _ _ _ _ _ (sym c.is_running.ensures ∙ c.if-not-is_running.false) (c.in-Gives.ensures) c.set_first.ensures refl
