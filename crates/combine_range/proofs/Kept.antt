@@ -23,7 +23,8 @@ module _ {P T R A E : Type 0} (w : World P T ℕ E) (size : T → ℕ) (read : �
   abbrev pub whole : Meaning P T R A ℕ
   whole = kept size read adds
 
-  into : (v : View P T) (o : Outcome A) → read d v o → begun whole r.first r.state v o
+  -- what the distance means is what stands for the call's meaning
+  pub into : (v : View P T) (o : Outcome A) → read d v o → begun whole r.first r.state v o
   into v o p = by_first r.first e
     where
       by_first : (b : Bool) → d ≡ (if b then 0 else r.state) → begun whole b r.state v o

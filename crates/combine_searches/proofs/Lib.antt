@@ -1,0 +1,4 @@
+pub mod Bounding
+pub mod Calling
+pub mod Looking
+pub mod Scanning

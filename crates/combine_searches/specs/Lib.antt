@@ -1,0 +1,9 @@
+pub use Rattle.combine_base.specs.Parser.Meaning
+pub mod Asking
+pub mod Encoding
+pub mod InBytes
+pub mod Options
+pub mod Scans
+pub mod Searchers
+pub mod Searches
+pub mod UpTo

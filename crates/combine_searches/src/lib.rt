@@ -1,0 +1,9 @@
+//! Parsers of ranges up to a place that is searched for.
+#![tactic(auto)]
+
+pub mod byte;
+pub mod bytes;
+pub mod find;
+pub mod passing;
+pub mod range;
+pub mod search;

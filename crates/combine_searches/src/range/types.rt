@@ -1,0 +1,6 @@
+//! The parsers that the functions of `range` answer.
+
+use crate::search::{Asked, Searching};
+
+/// The parser of [`take_fn`](crate::range::take_fn); its state is the number of items that need not be searched again.
+pub type TakeFn<F, Input> = Searching<Input, Asked<F>>;
