@@ -254,8 +254,9 @@ impl<T: Copy + PartialEq, R: Copy + PartialEq, P: Ord + Copy> ParseError<T, R, P
                 ensures { result ≡ is_other item.now }
             {
                 match item {
-                    Error::Expected(_info) => false,
-                    _ => true,
+                    Error::Unexpected(_) => true,
+                    Error::Expected(_) => false,
+                    Error::Message(_) => true,
                 }
             },
         );

@@ -6,6 +6,7 @@ ghost use Rattle.combine_errors.specs.Spans.{AtSpan};
 use crate::easy::Errors;
 use combine_base::error::{ParseError, UnexpectedParse};
 use combine_base::stream::{Failures, Kind, Positioned, ResetStream, StreamOnce};
+use combine_stream::range::{Range, RangeStream, Test};
 
 /// A part of the input, from a position to another. The order is that of `start`, and then that of `end`.
 #[derive(Clone, Copy, Debug, PartialEq, Eq, PartialOrd, Ord)]
@@ -145,5 +146,40 @@ where
             start: position,
             end: position,
         }
+    }
+}
+
+/// The ranges are those of the stream inside.
+impl<S: RangeStream> RangeStream for Stream<S>
+where
+    S::Range: Range,
+    S::Error: SpannedError<S::Token, S::Range, S::Position>,
+{
+    ghost size = { S.size };
+
+    ghost spells = { S.spells };
+
+    ghost filled = { S.filled };
+
+    ghost measured = { S.measured };
+
+    #[inline(always)]
+    fn uncons_range(&mut self, n: usize) -> Result<S::Range, Kind> {
+        self.0.uncons_range(n)
+    }
+
+    #[inline(always)]
+    fn uncons_while<F: Test<S::Token>>(&mut self, f: &F) -> Result<S::Range, Kind> {
+        self.0.uncons_while(f)
+    }
+
+    #[inline(always)]
+    fn distance(&self, since: &S::Checkpoint) -> usize {
+        self.0.distance(since)
+    }
+
+    #[inline(always)]
+    fn range(&self) -> S::Range {
+        self.0.range()
     }
 }

@@ -4,6 +4,7 @@ ghost use Rattle.combine_errors.specs.Easy.{inside};
 
 use crate::easy::Errors;
 use combine_base::stream::{Failures, Kind, Positioned, ResetStream, StreamOnce};
+use combine_stream::range::{Range, RangeStream, Test};
 use std::alloc::Global;
 
 /// The stream, whose parsers are refused with errors that keep items.
@@ -120,5 +121,40 @@ where
     #[inline(always)]
     fn position(&self) -> S::Position {
         self.inner.position()
+    }
+}
+
+/// The ranges are those of the stream inside.
+impl<S: RangeStream> RangeStream for Stream<S>
+where
+    S::Token: PartialEq,
+    S::Range: Range + PartialEq,
+{
+    ghost size = { S.size };
+
+    ghost spells = { S.spells };
+
+    ghost filled = { S.filled };
+
+    ghost measured = { S.measured };
+
+    #[inline(always)]
+    fn uncons_range(&mut self, n: usize) -> Result<S::Range, Kind> {
+        self.inner.uncons_range(n)
+    }
+
+    #[inline(always)]
+    fn uncons_while<F: Test<S::Token>>(&mut self, f: &F) -> Result<S::Range, Kind> {
+        self.inner.uncons_while(f)
+    }
+
+    #[inline(always)]
+    fn distance(&self, since: &S::Checkpoint) -> usize {
+        self.inner.distance(since)
+    }
+
+    #[inline(always)]
+    fn range(&self) -> S::Range {
+        self.inner.range()
     }
 }
