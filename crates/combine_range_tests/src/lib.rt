@@ -8,4 +8,6 @@ mod calls;
 #[cfg(test)]
 mod parsers;
 #[cfg(test)]
+mod searches;
+#[cfg(test)]
 mod windows;
