@@ -7,7 +7,8 @@ use crate::windows::{bytes, windows};
 use combine_base::stream::Kind;
 use std::alloc::AllocError;
 
-fn is_digit(byte: u8) -> bool {
+/// A decimal digit.
+pub fn is_digit(byte: u8) -> bool {
     byte >= b'0' && byte <= b'9'
 }
 
