@@ -4,6 +4,7 @@ pub mod byte;
 pub mod choice;
 pub mod combinator;
 pub mod error;
+pub mod range;
 pub mod repeat;
 pub mod sequence;
 
@@ -14,6 +15,5 @@ pub use combine_base::parser::{
 pub use combine_cuts::{cuts_fit, parse_cuts};
 pub use combine_errors::easy::EasyParser;
 pub use combine_functions::function;
-pub use combine_range::range;
 pub use combine_text::char;
 pub use combine_token::token;

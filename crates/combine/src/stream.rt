@@ -5,5 +5,6 @@ pub use combine_base::stream::{
     fed, has_taken, needs_more,
 };
 pub use combine_errors::{easy, span};
+pub use combine_searches::bytes::ByteStream;
 pub use combine_stream::range::{ByteRange, Range, RangeStream, Test};
 pub use combine_stream::{MaybePartialStream, position};

@@ -7,21 +7,23 @@ use crate::windows::{bytes, windows};
 use combine_base::stream::Kind;
 use std::alloc::AllocError;
 
-fn is_digit(byte: u8) -> bool {
+/// A decimal digit.
+pub fn is_digit(byte: u8) -> bool {
     byte >= b'0' && byte <= b'9'
 }
 
-fn accepted<V>(value: V, committed: bool, taken: usize) -> Answered<V> {
+/// Accepted, so many items taken.
+pub fn accepted<V>(value: V, committed: bool, taken: usize) -> Answered<V> {
     (Called::Accepted(value, committed), taken)
 }
 
 /// Refused peeked.
-fn refused<V>() -> Answered<V> {
+pub fn refused<V>() -> Answered<V> {
     (Called::Refused(false), 0)
 }
 
 /// Need of more, with nothing taken.
-fn more<V>() -> Answered<V> {
+pub fn more<V>() -> Answered<V> {
     (Called::More, 0)
 }
 

@@ -2,10 +2,14 @@
 #![tactic(auto)]
 
 #[cfg(test)]
+mod beginnings;
+#[cfg(test)]
 mod bytes;
 #[cfg(test)]
 mod calls;
 #[cfg(test)]
 mod parsers;
+#[cfg(test)]
+mod searches;
 #[cfg(test)]
 mod windows;

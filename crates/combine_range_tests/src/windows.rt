@@ -8,6 +8,11 @@ pub fn bytes(bytes: &[u8], is_open: bool) -> MaybePartialStream<&[u8]> {
     MaybePartialStream(bytes, is_open)
 }
 
+/// A text, open if more may follow.
+pub fn text(text: &str, is_open: bool) -> MaybePartialStream<&str> {
+    MaybePartialStream(text, is_open)
+}
+
 /// Open windows of bytes, each from the start to behind a byte whose bit is set in `places`, the lowest bit first, and then all, ended.
 pub fn windows(
     alloc: Global,

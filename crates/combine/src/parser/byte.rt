@@ -1,7 +1,12 @@
-//! Parsers of bytes: one byte, classes of bytes, several bytes; and binary integers.
+//! Parsers of bytes: one byte, classes of bytes, several bytes; what stands before some bytes; and binary integers.
+
+pub mod types;
 
 pub use combine_integers::num;
+pub use combine_searches::byte::{
+    take_until_byte, take_until_byte2, take_until_byte3, take_until_bytes,
+};
 pub use combine_text::byte::{
     alpha_num, byte, bytes, bytes_cmp, classes, crlf, digit, hex_digit, letter, lower, newline,
-    oct_digit, space, spaces, tab, types, upper,
+    oct_digit, space, spaces, tab, upper,
 };

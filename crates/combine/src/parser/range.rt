@@ -1,0 +1,9 @@
+//! Parsers of ranges: parts of the input, as they stand there.
+
+pub mod types;
+
+pub use combine_range::range::{
+    RecognizeState, range, recognize, recognize_with_value, take, take_until_range, take_while,
+    take_while1,
+};
+pub use combine_searches::range::{TakeRange, take_fn};
