@@ -4,7 +4,7 @@ pub mod laws;
 pub mod types;
 
 pub use combine_chains::repeat::{chainr1, escaped};
-pub use combine_iterate::repeat::Iter;
+pub use combine_iterate::repeat::{Iter, iterate};
 pub use combine_repeat::repeat::{Append, Sink, TurnsState, many, many1, skip_many, skip_many1};
 pub use combine_sep_end::repeat::{sep_end_by, sep_end_by1};
 pub use combine_separated::repeat::{chainl1, sep_by, sep_by1, sep_count_min_max};
