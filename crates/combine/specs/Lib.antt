@@ -127,3 +127,7 @@ pub use Rattle.combine_until.specs.UntilParsers
 pub use Rattle.combine_until.specs.UntilTurn
 pub use Rattle.combine_cuts.specs.Cuts
 pub use Rattle.combine_iterate.specs.Nexts
+pub use Rattle.combine_makers.specs.Calling
+pub use Rattle.combine_makers.specs.Made
+pub use Rattle.combine_recognize.specs.Gathered
+pub use Rattle.combine_spanned.specs.Spanned

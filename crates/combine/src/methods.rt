@@ -4,6 +4,7 @@ ghost use Rattle.combine_token.specs.Or.{or_parser};
 ghost use Rattle.combine_map.specs.Parsers.{map_of, picked_of};
 ghost use Rattle.combine_functions.specs.Parsers.{and_then_of, flat_map_of, map_input_of};
 ghost use Rattle.combine_errors.specs.Shaped.{expected_of, message_of, silent_of};
+ghost use Rattle.combine_spanned.specs.Spanned.{spanned_of};
 ghost use Rattle.combine_sequence.specs.Answered.{then_of, then_partial_of, then_ref_of};
 
 use combine_base::error::Info;
@@ -17,6 +18,8 @@ use combine_map::combinator;
 use combine_map::combinator::types::Map;
 use combine_sequence::sequence;
 use combine_sequence::sequence::types::{Skip, Then, ThenPartial, ThenRef, With};
+use combine_spanned::combinator as spans;
+use combine_spanned::combinator::types::Spanned;
 use combine_token::choice;
 use combine_token::choice::types::Or;
 use combine_variants::variants::Either;
@@ -170,6 +173,15 @@ pub trait ParserExt<Input: Stream>: Parser<Input> {
         ensures { result ≡ silent_of self }
     {
         error::silent(self)
+    }
+
+    /// This parser, whose errors stand at the span that it read.
+    final fn spanned(self) -> Spanned<Self>
+    where
+        Self: Sized,
+        ensures { result ≡ spanned_of self }
+    {
+        spans::spanned(self)
     }
 
     /// This parser with its value changed by the function.

@@ -1,7 +1,9 @@
 pub use Rattle.combine_base.specs.Error.Errors
 pub use Rattle.combine_base.specs.Parser.Meaning
+pub use Rattle.combine_token.specs.ListAnswers
 pub use Rattle.combine_token.specs.Stateless
 pub mod Changes
 pub mod Functions
 pub mod Parsers
 pub mod Refusing
+pub mod Running

@@ -7,7 +7,7 @@ use Rattle.combine_base.specs.Stream.Calls.{TakesToken, no_token}
 use Rattle.combine_base.specs.Distances.{Counts, PassesOver}
 use Rattle.combine_base.proofs.Distances.{count_stopped}
 use Rattle.combine_base.proofs.Progress.{moves_more}
-use Rattle.combine_recognize.specs.Recognized.{Collects, all_more, collects, hinders}
+use Rattle.combine_recognize.specs.Gathered.{Collects, all_more, collects, hinders}
 use Rattle.combine_base.specs.declared.stream.Kind.{Kind}
 use Rattle.combine_base.specs.declared.stream.Kind.TheVariants as kinds
 use Rattle.combine_base.specs.declared.stream.Failures.{Failures}

@@ -14,7 +14,7 @@ use Rattle.combine_base.specs.declared.error.Tracked.{Tracked}
 use Rattle.combine_base.specs.declared.stream.Failures.{Failures}
 use Rattle.combine_base.specs.declared.stream.Kind.{Kind}
 use Rattle.combine_base.specs.declared.stream.Kind.TheVariants as kinds
-use Rattle.combine_recognize.specs.Recognized.{Collects, HasValid, IsFresh, all_more, begins_with, collected_by, hinders, recognized, recognizes}
+use Rattle.combine_recognize.specs.Gathered.{Collects, HasValid, IsFresh, all_more, begins_with, collected_by, hinders, recognized, recognizes}
 use Rattle.combine_recognize.specs.declared.combinator.types.Collected.TheVariants.{Tokens}
 use Rattle.combine_recognize.specs.declared.combinator.types.RecognizeState.{RecognizeState}
 use Rattle.combine_recognize.proofs.Gathering.{collected_on}

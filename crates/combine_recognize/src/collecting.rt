@@ -2,7 +2,7 @@
 ghost use Rattle.std.specs.Prelude.{◌≡◌, ℕ};
 ghost use Rattle.combine_base.specs.Stream.Calls.{Passes};
 ghost use Rattle.combine_base.specs.Stream.View.{View, Takes};
-ghost use Rattle.combine_recognize.specs.Recognized.{Collects};
+ghost use Rattle.combine_recognize.specs.Gathered.{Collects};
 
 use combine_base::repeat::Append;
 use combine_base::stream::{Kind, Stream};

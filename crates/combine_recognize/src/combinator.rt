@@ -1,6 +1,6 @@
 //! What a parser takes, in place of its value.
 ghost use Rattle.std.specs.Prelude.{◌≡◌};
-ghost use Rattle.combine_recognize.specs.Recognized.{recognize_of};
+ghost use Rattle.combine_recognize.specs.Gathered.{recognize_of};
 
 pub mod types;
 

@@ -1,12 +1,14 @@
 //! The parser that the functions of `error` answer.
-ghost use Rattle.std.specs.Prelude.{◌≡◌};
+ghost use Rattle.std.specs.Prelude.{◌≡◌, MatchResult};
 ghost use Rattle.combine_base.specs.Error.Errors.{Only};
 ghost use Rattle.combine_base.specs.Error.Items.{Unexpected as SaysUnexpected, shown};
+ghost use Rattle.combine_token.specs.ListAnswers.{NoText};
 ghost use Rattle.combine_functions.specs.Refusing.{RefusesThere, refuses_all, refuses_all_is_meaning, refuses_all_means_one, unexpected_info};
 
 use combine_base::error::{ErrorOffset, Info, ParseError, ParseResult, Tracked};
 use combine_base::parser::{ParseMode, Parser};
 use combine_base::stream::{Kind, Positioned, Stream, StreamOnce};
+use std::alloc::AllocError;
 use std::marker::PhantomData;
 
 /// The parser of [`unexpected`](crate::error::unexpected) and of [`unexpected_any`](crate::error::unexpected_any), whose value would be a `V`. `I` is an `Info`, in the crate what is turned into one.
@@ -15,6 +17,33 @@ pub struct Unexpected<Input, V, I> {
     pub(super) info: I,
     pub(super) reads: PhantomData<Input>,
     pub(super) value: PhantomData<V>,
+}
+
+impl<Input, V, A: Copy, R: Copy> Clone for Unexpected<Input, V, Info<A, R>> {
+    ghost is_clone = { λ p q. shown (unexpected_info q) ≡ shown (unexpected_info p) };
+
+    ghost is_infallible = { λ p. NoText (unexpected_info p) };
+
+    fn clone(&self) -> Result<Self, AllocError> {
+        Ok(Unexpected {
+            info: copied(&self.info)?,
+            reads: PhantomData,
+            value: PhantomData,
+        })
+    }
+}
+
+/// An info that speaks of the same; a text of its own is cloned, which takes memory.
+fn copied<T: Copy, R: Copy>(info: &Info<T, R>) -> Result<Info<T, R>, AllocError>
+    ensures { MatchResult result (λ i. shown i ≡ shown info.now) (λ _. NoText info.now → ⊥) }
+{
+    match info {
+        Info::Token(token) => Ok(Info::Token(*token)),
+        Info::Range(range) => Ok(Info::Range(*range)),
+        Info::Static(text) => Ok(Info::Static(*text)),
+        Info::Owned(text) => Ok(Info::Owned(text.clone()?)),
+        Info::More(missing) => Ok(Info::More(*missing)),
+    }
 }
 
 impl<Input: Stream, V: Drop> Parser<Input>

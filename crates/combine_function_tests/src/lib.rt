@@ -1,0 +1,9 @@
+//! A plain function for each parser that keeps what a function or another parser made, and what each answers. They are built for the tests alone, so that they are proved once.
+#![tactic(auto)]
+
+#[cfg(test)]
+mod made;
+#[cfg(test)]
+mod recognized;
+#[cfg(test)]
+mod refused;
