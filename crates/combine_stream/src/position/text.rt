@@ -53,24 +53,15 @@ impl SourcePosition {
         ensures { result ≡ next_place self character }
     {
         if character == '\n' {
-            return self.next_line();
-        }
-        SourcePosition {
-            line: self.line,
-            column: self.column + 1,
-        }
-    }
-
-    // The first place of the next line. Apart, so that the code of another character is a jump and not both cases.
-    #[cold]
-    #[inline(never)]
-    fn next_line(self) -> SourcePosition
-        requires { self.line < 18446744073709551615 }
-        ensures { result ≡ record { line = self.line + 1; column = 1 } }
-    {
-        SourcePosition {
-            line: self.line + 1,
-            column: 1,
+            SourcePosition {
+                line: self.line + 1,
+                column: 1,
+            }
+        } else {
+            SourcePosition {
+                line: self.line,
+                column: self.column + 1,
+            }
         }
     }
 }
