@@ -3,8 +3,8 @@ use Rattle.std.proofs.Common.{ℕ, zero, suc, ◌≡◌, ◌<◌, ◌≤◌, nat
 use Rattle.std.proofs.lemmas.Cmp.{tied_itself}
 use Rattle.std.specs.Cmp.{IsTotalOrder}
 use Rattle.std.specs.declared.cmp.Ordering.{Ordering}
-use Rattle.std.specs.declared.cmp.Ordering.TheVariants.{Less, Equal, Greater}
-use Rattle.std.specs.Ordering.{is_lt, is_ne, ordering_reverse}
+use Rattle.std.specs.declared.cmp.Ordering.TheVariants.{Less, Equal}
+use Rattle.std.specs.Ordering.{is_lt, is_ne}
 use Rattle.combine_base.specs.Stream.View.{View, Takes, advanced}
 
 module _ {S P T : Type 0} (cmp : P → P → Ordering) (step : P → T → P) (view : S → View P T) (h : IsTotalOrder cmp) (moves : (s : S) (n : ℕ) → 0 < n → n ≤ length (view s).unread → cmp (view s).position (advanced step n (view s)).position ≡ Less) where
@@ -20,11 +20,6 @@ module _ {S P T : Type 0} (cmp : P → P → Ordering) (step : P → T → P) (v
   pub moved : (n : ℕ) (s : S) (v : View P T) → Takes step n (view s) v → is_lt (cmp (view s).position v.position) ≡ nat_lt 0 n
   moved = by_takes is_lt refl refl
 
-  ne_turned : (o : Ordering) → is_ne (ordering_reverse o) ≡ is_ne o
-  ne_turned Less = refl
-  ne_turned Equal = refl
-  ne_turned Greater = refl
-
   -- another position, exactly where a token was taken
-  pub moved_away : (n : ℕ) (s : S) (v : View P T) → Takes step n (view s) v → is_ne (cmp v.position (view s).position) ≡ nat_lt 0 n
-  moved_away n s v k = ap is_ne (h.antisymm v.position (view s).position) ∙ ne_turned (cmp (view s).position v.position) ∙ by_takes is_ne refl refl n s v k
+  pub moved_away : (n : ℕ) (s : S) (v : View P T) → Takes step n (view s) v → is_ne (cmp (view s).position v.position) ≡ nat_lt 0 n
+  moved_away = by_takes is_ne refl refl

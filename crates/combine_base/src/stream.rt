@@ -137,7 +137,7 @@ impl<S: ResetStream + Positioned> Stream for S {}
 pub fn has_taken<Input: Stream>(begun: bool, since: Input::Position, input: &Input) -> bool
     ensures { (n : ℕ) (old : Input) → since ≡ (Input.view old).position → Takes Input.step n (Input.view old) (Input.view input.now) → result ≡ (begun || nat_lt 0 n) }
 {
-    begun || input.position().cmp(&since).is_ne()
+    begun || since.cmp(&input.position()).is_ne()
 }
 
 /// Whether a read that gave no token, for that reason, found the end of an open stream.
