@@ -69,12 +69,12 @@ macro_rules! both_forms {
     ($($item:item)*) => {
         mod complete {
             #[allow(unused_imports)]
-            use nom::{bytes::complete::{tag, take_while1}, character::complete::{char, satisfy}};
+            use nom::{bytes::complete::{tag, take_until, take_while1}, character::complete::{char, satisfy}};
             $($item)*
         }
         mod streaming {
             #[allow(unused_imports)]
-            use nom::{bytes::streaming::{tag, take_while1}, character::streaming::{char, satisfy}};
+            use nom::{bytes::streaming::{tag, take_until, take_while1}, character::streaming::{char, satisfy}};
             $($item)*
         }
     };

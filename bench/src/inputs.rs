@@ -173,3 +173,32 @@ pub fn text(size: usize) -> Vec<u8> {
         all.push(b'\n');
     })
 }
+
+/// 20 to 100 letters and a marker, `--`.
+pub fn marked(size: usize) -> Vec<u8> {
+    repeated(size, |dice, all| {
+        let letters = dice.between(20, 100);
+        dice.push(all, letters, b'a', b'z');
+        all.extend_from_slice(b"--");
+    })
+}
+
+/// Lines of so many bytes, the `\r\n` behind their letters among them.
+fn lines_of(length: u64, size: usize) -> Vec<u8> {
+    repeated(size, |dice, all| {
+        dice.push(all, length - 2, b'a', b'z');
+        all.extend_from_slice(b"\r\n");
+    })
+}
+
+pub fn lines_of_16(size: usize) -> Vec<u8> {
+    lines_of(16, size)
+}
+
+pub fn lines_of_80(size: usize) -> Vec<u8> {
+    lines_of(80, size)
+}
+
+pub fn lines_of_4096(size: usize) -> Vec<u8> {
+    lines_of(4096, size)
+}

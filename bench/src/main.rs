@@ -11,6 +11,7 @@ mod by_nom;
 mod classes;
 mod inputs;
 mod keywords;
+mod lines;
 mod measure;
 mod measures;
 mod ours;

@@ -31,4 +31,9 @@ measures! {
     separated_collect
     counted_frames
     chained_sum
+    marked_text
+    words
+    lines_of_16
+    lines_of_80
+    lines_of_4096
 }

@@ -1,0 +1,12 @@
+//! Lines of 16 bytes, each found by a search for `\r\n`. The answer is how many bytes they take.
+
+use crate::measure::Measure;
+use crate::{inputs, lines};
+
+pub const MEASURE: Measure = Measure {
+    name: "lines_of_16",
+    what: "`skip_many((take_until_bytes(b\"\\r\\n\"), take(2)))` over lines of 16 bytes",
+    input: inputs::lines_of_16,
+    pieces: &[0],
+    sides: &[("hand", lines::hand), ("combine", lines::combine), ("nom", lines::nom)],
+};
