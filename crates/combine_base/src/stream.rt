@@ -113,6 +113,10 @@ pub trait ResetStream: StreamOnce {
         ensures to { ResetTo Self.steady Self.step (stands self.old checkpoint) (Self.view self.old) (Self.view self.new) (Self.failures self.old) (Self.failures self.new) result }
         ensures passes { Passes (Self.marks self.old) (Self.marks self.new) (Self.failures self.old) (Self.failures self.new) };
 
+    /// Whether a token was taken since a checkpoint at or before which the stream stands. Our own: with the crate positions are compared.
+    fn has_moved(&self, since: Self::Checkpoint) -> bool
+        ensures { (n : ℕ) (v : View Self.Position Self.Token) → stands self.now since v → Takes Self.step n v (Self.view self.now) → result ≡ nat_lt 0 n };
+
     /// How often reads and resets have failed so far; neither count ever falls. Our own.
     fn failures(&self) -> Failures
         ensures { result ≡ Self.failures self.now };
@@ -133,11 +137,12 @@ pub trait Stream: ResetStream + Positioned {}
 
 impl<S: ResetStream + Positioned> Stream for S {}
 
-/// Whether a token was taken since that position, or, as `begun` says, before it.
-pub fn has_taken<Input: Stream>(begun: bool, since: Input::Position, input: &Input) -> bool
-    ensures { (n : ℕ) (old : Input) → since ≡ (Input.view old).position → Takes Input.step n (Input.view old) (Input.view input.now) → result ≡ (begun || nat_lt 0 n) }
+/// Whether a token was taken since that checkpoint, or, as `begun` says, before it.
+#[inline(always)]
+pub fn has_taken<Input: Stream>(begun: bool, since: Input::Checkpoint, input: &Input) -> bool
+    ensures { (n : ℕ) (v : View Input.Position Input.Token) → Input.stands input.now since v → Takes Input.step n v (Input.view input.now) → result ≡ (begun || nat_lt 0 n) }
 {
-    begun || since.cmp(&input.position()).is_ne()
+    begun || input.has_moved(since)
 }
 
 /// Whether a read that gave no token, for that reason, found the end of an open stream.

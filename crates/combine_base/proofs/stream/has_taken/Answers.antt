@@ -1,7 +1,4 @@
-use Rattle.combine_base.proofs.Moved.{moved_away}
 use Rattle.combine_base.proofs.stream.has_taken.Goals as goal
 
 pub returns-else-begun : goal.returns-else-begun
-returns-else-begun g c n old e t =
-    let k = moved_away g.Input.Position.Ord.cmp g.Input.StreamOnce.step g.Input.StreamOnce.view g.met.Input.Position.Ord.total g.met.Input.StreamOnce.moves n old _ t in
-    rw (c.if-begun.false, c.is_ne.ensures, c.cmp.ensures, e, c.position.ensures) k
+returns-else-begun g c n v s t = rw c.if-begun.false (c.has_moved.ensures n v s t)
