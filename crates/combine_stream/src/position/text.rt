@@ -350,7 +350,7 @@ fn take_range<'a>(
 fn is_apart(from: &str, to: &str) -> bool
     ensures { (k : ℕ) → k ≤ length (chars from.now) → chars to.now ≡ drop k (chars from.now) → result ≡ nat_lt 0 k }
 {
-    from.len() != to.len()
+    to.len() != from.len()
 }
 
 #[inline(always)]
