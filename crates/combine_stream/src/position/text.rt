@@ -53,15 +53,24 @@ impl SourcePosition {
         ensures { result ≡ next_place self character }
     {
         if character == '\n' {
-            SourcePosition {
-                line: self.line + 1,
-                column: 1,
-            }
-        } else {
-            SourcePosition {
-                line: self.line,
-                column: self.column + 1,
-            }
+            return self.next_line();
+        }
+        SourcePosition {
+            line: self.line,
+            column: self.column + 1,
+        }
+    }
+
+    // Where the next line begins: a call, so that the loop over the characters of a line stays small.
+    #[cold]
+    #[inline(never)]
+    fn next_line(self) -> SourcePosition
+        requires { Fits self 1 }
+        ensures { result ≡ record { line = self.line + 1; column = 1 } }
+    {
+        SourcePosition {
+            line: self.line + 1,
+            column: 1,
         }
     }
 }
