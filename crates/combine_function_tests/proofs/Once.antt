@@ -1,7 +1,8 @@
 -- runs of a function, one after another
 use Rattle.std.proofs.Common.{ℕ, ◌+◌, ◌≤◌, ◌≡◌, ◌⊎◌, ◌||◌, inl, inr, Bool, true, false, arith, ap, sym, subst, refl, zero-add, ◌∙◌}
 use denote.Ref.{MutBor}
-use Rattle.combine_base.specs.Error.Errors.{Errors, Nothing}
+use Rattle.std.proofs.lemmas.Bool.{false≢true}
+use Rattle.combine_base.specs.Error.Errors.{Errors}
 use Rattle.combine_base.specs.Error.Results.{from_standard, standard}
 use Rattle.combine_base.specs.Parser.Answer.{Accepts, Answers, Run, World, fails, world}
 use Rattle.combine_base.specs.Parser.Drivers.{Starts, afresh}
@@ -45,7 +46,7 @@ module _ {P T R E : Type 0} (step : P → T → P) (s : Errors T R P E) (steady 
       part = afresh (w fresh) m from to mid new f1 f2
 
       abbrev within : (left : Bool) → Inside (w fresh) (λ s. s ≡ false) m whole part true false left old f0 c here
-      within left = record { progress = progress; reads = reads; resets = resets; refuses = refused; lean = λ l. lean; lost = λ e l. absurd (cc) }
+      within left = record { progress = progress; reads = reads; resets = resets; refuses = refused; lean = λ l. lean; lost = λ e l. absurd (false≢true (sym e)) }
 
       keeping : Keeps (w fresh) (λ s. s ≡ false) m whole part true false true old f0 here progress.count
       keeping = record { undecided = undecided; resumes = λ n t x. record { gives = λ y b o j k. absurd k; committed = λ y b o j l k. absurd k }; found = λ v x. absurd x; keeps = λ x. absurd x; puts_back = λ x. absurd x }

@@ -18,6 +18,14 @@ use Rattle.combine_token.specs.Stateless.{stateless, stateless_is_meaning, state
 abbrev pub second : {A B : Type 0} → A → B → B
 second a b = b
 
+fresh : Unit {0} → Type 0
+fresh s = Unit {0}
+
+-- an opening bracket is one byte
+one_opened_at : (is_open : Bool) (us : List ℕ) (a n : ℕ) (c : Bool) → one_token_at (satisfied (of_function (λ t. nat_eq t 40))) is_open us (Accepted a n c) → n ≡ 1
+one_opened_at i [] a n c p = absurd p.1
+one_opened_at i (t ∷ ts) a n c p = p.1
+
 module _ {P : Type 0} where
   -- this byte
   abbrev pub byte : ℕ → Reading P ℕ ℕ
@@ -39,7 +47,7 @@ module _ {P : Type 0} where
 
   module _ (step : P → ℕ → P) where
     -- what stands behind an opening bracket, or behind none
-    pub inside : Option ℕ → ℕ → Reading P ℕ ℕ
+    abbrev pub inside : Option ℕ → ℕ → Reading P ℕ ℕ
     inside None k = none_there
     inside (Some t) zero = too_deep
     inside (Some t) (suc k) = sequel step second (sequel step second opened (λ b. inside b k)) closed
@@ -47,9 +55,6 @@ module _ {P : Type 0} where
     -- so many brackets inside one another, at most so deep
     abbrev pub nest : ℕ → Reading P ℕ ℕ
     nest k = sequel step second opened (λ b. inside b k)
-
-  fresh : Unit {0} → Type 0
-  fresh s = Unit {0}
 
   -- a parser of this byte
   abbrev of_byte : ℕ → Meaning P ℕ (Unit {0}) ℕ (Unit {0})
@@ -112,10 +117,6 @@ module _ {P : Type 0} where
   none_opened : (v : View P ℕ) (n : ℕ) (c : Bool) → opened v (Accepted None n c) → n ≡ 0
   none_opened v n c (Here p f) = let e = p.2 in absurd (cc)
   none_opened v n c (Later r e) = cc
-
-  one_opened_at : (is_open : Bool) (us : List ℕ) (a n : ℕ) (c : Bool) → one_token_at (satisfied (of_function (λ t. nat_eq t 40))) is_open us (Accepted a n c) → n ≡ 1
-  one_opened_at i [] a n c p = absurd p.1
-  one_opened_at i (t ∷ ts) a n c p = p.1
 
   one_opened : (v : View P ℕ) (t n : ℕ) (c : Bool) → opened v (Accepted (Some t) n c) → n ≡ 1
   one_opened v t n c (Here p f) = one_opened_at v.is_open v.unread p.0 n c p.1

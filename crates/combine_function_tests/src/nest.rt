@@ -1,5 +1,5 @@
 //! A recursive grammar as a caller's own parser: brackets inside brackets.
-ghost use Rattle.std.specs.Prelude.{◌≡◌, ◌<◌};
+ghost use Rattle.std.specs.Prelude.{◌≡◌, ◌<◌, true};
 ghost use Rattle.combine_base.specs.Sequence.Parts.{joined_answer};
 ghost use Rattle.combine_function_tests.specs.Nests.{closed as closed_round, inside as inside_of, nest as nest_of, nesting, nesting_is_meaning, nesting_means_one, opened as opened_by};
 ghost use Rattle.combine_function_tests.specs.Once.{RunsOnce};
