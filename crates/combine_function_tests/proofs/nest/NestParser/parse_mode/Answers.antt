@@ -17,11 +17,11 @@ pub returns-else-needs_more-clause-answers : goal.returns-else-needs_more-clause
 returns-else-needs_more-clause-answers g c = again_err g.Input.StreamOnce.step g.Input.Error.ParseError.seen g.Input.StreamOnce.steady g.Input.StreamOnce.view g.Input.StreamOnce.marks g.Input.StreamOnce.failures _ (nest g.Input.StreamOnce.step c.args.self.now.0) _ _ _ tt c.args.input.now c.brackets.new.input _ c.in-CommitErr.ensures (λ i. false≢true (sym c.if-needs_more.false ∙ c.needs_more.ensures.1 i))
 
 pub returns-in-Ok-clause-answers : goal.returns-in-Ok-clause-answers
-returns-in-Ok-clause-answers g c = 
+returns-in-Ok-clause-answers g c =
     let stands = g.met.Input.ResetStream.lasts _ _ _ _ c.brackets.ensures.passes.marks c.checkpoint-start.ensures.stands in
     again_back g.Input.StreamOnce.step g.Input.Error.ParseError.seen g.Input.StreamOnce.steady g.Input.StreamOnce.view g.Input.StreamOnce.marks g.Input.StreamOnce.failures _ (nest g.Input.StreamOnce.step c.args.self.now.0) _ _ _ tt c.args.input.now c.brackets.new.input _ c.in-CommitErr.ensures (c.needs_more.ensures.0 c.if-needs_more.true) _ stands _ _ c.in-Ok.ensures.to
 
 pub returns-in-Err-clause-answers : goal.returns-in-Err-clause-answers
-returns-in-Err-clause-answers g c = 
+returns-in-Err-clause-answers g c =
     let stands = g.met.Input.ResetStream.lasts _ _ _ _ c.brackets.ensures.passes.marks c.checkpoint-start.ensures.stands in
     again_stuck g.Input.StreamOnce.step g.Input.Error.ParseError.seen g.Input.StreamOnce.steady g.Input.StreamOnce.view g.Input.StreamOnce.marks g.Input.StreamOnce.failures _ (nest g.Input.StreamOnce.step c.args.self.now.0) _ _ _ tt c.args.input.now c.brackets.new.input _ c.in-CommitErr.ensures (c.needs_more.ensures.0 c.if-needs_more.true) _ stands _ _ _ c.in-Err.ensures.to _ c.new_error.ensures.kind
