@@ -10,14 +10,10 @@ mod choices;
 #[cfg(test)]
 mod classes;
 #[cfg(test)]
-mod lists;
-#[cfg(test)]
 mod repetitions;
 #[cfg(test)]
 mod rows;
 #[cfg(test)]
 mod shapes;
-#[cfg(test)]
-mod spans;
 #[cfg(test)]
 mod tokens;
