@@ -2,7 +2,11 @@
 #![tactic(auto)]
 
 #[cfg(test)]
+mod functions;
+#[cfg(test)]
 mod made;
+#[cfg(test)]
+mod nest;
 #[cfg(test)]
 mod recognized;
 #[cfg(test)]

@@ -1,0 +1,4 @@
+mod Again
+mod Lawful
+mod Nesting
+mod Once
