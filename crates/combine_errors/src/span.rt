@@ -130,6 +130,11 @@ where
     }
 
     #[inline(always)]
+    fn has_moved(&self, since: S::Checkpoint) -> bool {
+        self.0.has_moved(since)
+    }
+
+    #[inline(always)]
     fn failures(&self) -> Failures {
         self.0.failures()
     }

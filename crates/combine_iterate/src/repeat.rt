@@ -1,6 +1,6 @@
 //! The values of a parser, one after another, and a parser for each item of a list.
 ghost use Rattle.std.specs.Prelude.{◌≡◌, ℕ};
-ghost use Rattle.combine_base.specs.Stream.View.{Takes};
+ghost use Rattle.combine_base.specs.Stream.View.{View, Takes};
 ghost use Rattle.combine_repeat.specs.Repetition.{goes_at};
 ghost use Rattle.combine_base.specs.Error.Results.{standard};
 ghost use Rattle.combine_iterate.specs.Iterated.{iterate_of};
@@ -195,21 +195,21 @@ fn one_turn<Input: Stream, P: Parser<Input>, M: ParseMode>(
         }
         ParseResult::CommitErr(error) => return Turn::Fails(error),
     };
-    if !is_block(mode.is_first(), committed, position, input) {
+    if !is_block(mode.is_first(), committed, checkpoint, input) {
         return Turn::Fails(refusal_saying(input, position, "repetition takes nothing"));
     }
     Turn::Gives(value)
 }
 
-/// Whether a turn is a block that is accepted so, this call's part of it begun at that position: it has to take a token, unless it resumes.
+/// Whether a turn is a block that is accepted so, this call's part of it begun at that checkpoint: it has to take a token, unless it resumes.
 #[inline(always)]
 fn is_block<Input: Stream>(
     first: bool,
     committed: bool,
-    since: Input::Position,
+    since: Input::Checkpoint,
     input: &Input,
 ) -> bool
-    ensures { (n : ℕ) (old : Input) → since ≡ (Input.view old).position → Takes Input.step n (Input.view old) (Input.view input.now) → result ≡ goes_at (place_of first) n committed }
+    ensures { (n : ℕ) (v : View Input.Position Input.Token) → Input.stands input.now since v → Takes Input.step n v (Input.view input.now) → result ≡ goes_at (place_of first) n committed }
 {
     committed && has_taken(!first, since, input)
 }

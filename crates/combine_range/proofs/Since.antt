@@ -1,13 +1,13 @@
 -- calls for the tokens since a checkpoint, as a range
 use Rattle.std.proofs.Common.{ℕ, zero, suc, [], ◌∷◌, ◌<◌, ◌≤◌, ◌≡◌, List, take, length, arith, ap, sym, subst, refl, inl, inr, ◌∙◌}
 use Rattle.std.specs.Prelude.{Result, Ok, Err}
-use Rattle.combine_base.specs.Stream.View.{View, Takes, Moves}
+use Rattle.combine_base.specs.Stream.View.{View, Ahead, Takes, Moves}
 use Rattle.combine_base.specs.Parser.Drivers.{Broke}
 use Rattle.combine_base.proofs.Progress.{moves_more}
 use Rattle.combine_base.specs.declared.stream.Kind.{Kind}
 use Rattle.combine_base.specs.declared.stream.Kind.TheVariants as kinds
 use Rattle.combine_base.specs.declared.stream.Failures.{Failures}
-use Rattle.combine_stream.specs.Ranges.{Ahead, size_of, Place, UnconsRange, unconses_range, no_range}
+use Rattle.combine_stream.specs.Ranges.{size_of, Place, UnconsRange, unconses_range, no_range}
 use Rattle.combine_stream.specs.RangeFacts.{one_place, place_within}
 use Rattle.combine_base.specs.declared.error.ParseResult.TheVariants.{CommitOk, PeekOk, CommitErr}
 use Rattle.combine_range.specs.Kept.{Hands, hands, HandsOut, KeepsDistance}

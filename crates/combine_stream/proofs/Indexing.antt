@@ -1,8 +1,8 @@
 -- calls of a slice with an index
 use Rattle.std.proofs.Common.{ℕ, ◌+◌, ◌-◌, ◌≤◌, ◌≡◌, List, take, drop, length, Bool, false, subst, arith, ap, sym, ◌∙◌}
 use Rattle.std.proofs.lemmas.List.{drop-drop, length-take-le}
-use Rattle.combine_base.specs.Stream.View.{View, Takes, after_all}
-use Rattle.combine_stream.specs.Ranges.{Ahead, LongestItems, size_of}
+use Rattle.combine_base.specs.Stream.View.{View, Ahead, Takes, after_all}
+use Rattle.combine_stream.specs.Ranges.{LongestItems, size_of}
 use Rattle.combine_stream.specs.Indices.{indexed_view}
 use Rattle.combine_base.specs.Stream.Fed.{one_more, after_count}
 use Rattle.combine_stream.proofs.Slicing.{ones_take}

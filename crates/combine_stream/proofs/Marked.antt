@@ -1,10 +1,10 @@
 -- calls of a stream are calls of that stream with another mark
 use Rattle.std.proofs.Common.{ℕ, List, Bool, ap, sym, refl, ◌∙◌}
 use Rattle.std.specs.Prelude.{Result, Ok, Err, Option, Some, None}
-use Rattle.combine_base.specs.Stream.View.{View, Takes, Moves}
+use Rattle.combine_base.specs.Stream.View.{View, Ahead, Takes, Moves}
 use Rattle.combine_base.specs.Stream.Calls.{Passes, Uncons, ResetTo, unconses, no_token}
 use Rattle.combine_stream.specs.MaybePartial.{marked, or_mark, with_mark}
-use Rattle.combine_stream.specs.Ranges.{Ahead, UnconsRange, UnconsWhile, TakesRange, Stays, FailsRead, unconses_range, no_range}
+use Rattle.combine_stream.specs.Ranges.{UnconsRange, UnconsWhile, TakesRange, Stays, FailsRead, unconses_range, no_range}
 use Rattle.combine_base.specs.declared.stream.Kind.{Kind}
 use Rattle.combine_base.specs.declared.stream.Kind.TheVariants as kinds
 use Rattle.combine_base.specs.declared.stream.Failures.{Failures}

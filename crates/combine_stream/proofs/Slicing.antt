@@ -1,8 +1,8 @@
 -- positions that say how much is left, after some tokens
 use Rattle.std.proofs.Common.{ℕ, zero, suc, ◌+◌, ◌-◌, ◌≤◌, ◌≡◌, List, [], ◌∷◌, take, drop, length, arith, ap, sym, refl, ◌∙◌, false}
 use Rattle.std.proofs.lemmas.List.{length-drop}
-use Rattle.combine_base.specs.Stream.View.{View, Takes, after_all}
-use Rattle.combine_stream.specs.Ranges.{Ahead, size_of, Place}
+use Rattle.combine_base.specs.Stream.View.{View, Ahead, Takes, after_all}
+use Rattle.combine_stream.specs.Ranges.{size_of, Place}
 use Rattle.combine_stream.specs.RangeFacts.{size_take}
 use Rattle.combine_base.specs.Stream.Slices.{slice_view, one_less}
 use Rattle.combine_base.specs.declared.stream.slices.Left.{Left}

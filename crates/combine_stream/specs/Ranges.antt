@@ -5,12 +5,6 @@ use Rattle.combine_base.specs.declared.stream.Kind.{Kind}
 use Rattle.combine_base.specs.declared.stream.Kind.TheVariants as kinds
 use Rattle.combine_base.specs.declared.stream.Failures.{Failures}
 
--- the place of one view is n tokens ahead of that of another, whatever their marks
-pub record Ahead {Position Token : Type 0} (step : Position → Token → Position) (n : ℕ) (old new : View Position Token) : Type 0 where
-  pub enough : n ≤ length old.unread
-  pub position : new.position ≡ after_all step old.position (take n old.unread)
-  pub unread : new.unread ≡ drop n old.unread
-
 -- how many items these tokens are
 abbrev pub size_of : {Token : Type 0} → (Token → ℕ) → List Token → ℕ
 size_of size [] = 0

@@ -71,6 +71,11 @@ impl<S: ResetStream> ResetStream for MaybePartialStream<S> {
     }
 
     #[inline(always)]
+    fn has_moved(&self, since: S::Checkpoint) -> bool {
+        self.0.has_moved(since)
+    }
+
+    #[inline(always)]
     fn failures(&self) -> Failures {
         self.0.failures()
     }

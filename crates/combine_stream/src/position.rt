@@ -201,6 +201,11 @@ impl<S, P: ResetStream> ResetStream for Stream<S, P> {
     }
 
     #[inline(always)]
+    fn has_moved(&self, since: P::Checkpoint) -> bool {
+        self.placed.has_moved(since)
+    }
+
+    #[inline(always)]
     fn failures(&self) -> Failures {
         self.placed.failures()
     }

@@ -1,8 +1,8 @@
 //! Streams that hand out ranges of their tokens.
 ghost use Rattle.std.specs.Prelude.{◌≡◌, ℕ, ◌<◌, List, Bool, length, take};
-ghost use Rattle.combine_base.specs.Stream.View.{View};
+ghost use Rattle.combine_base.specs.Stream.View.{View, Ahead};
 ghost use Rattle.combine_base.specs.Stream.Calls.{Passes};
-ghost use Rattle.combine_stream.specs.Ranges.{Ahead, size_of, UnconsRange, UnconsWhile};
+ghost use Rattle.combine_stream.specs.Ranges.{size_of, UnconsRange, UnconsWhile};
 
 use combine_base::stream::{Kind, ResetStream, Stream, StreamOnce};
 

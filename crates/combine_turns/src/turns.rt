@@ -1,6 +1,6 @@
 //! The loop that all repetitions run, and what it keeps.
 ghost use Rattle.std.specs.Prelude.{◌≡◌, ◌||◌, ℕ, nat_lt, not, false, true, MatchResult, if◌then◌else◌};
-ghost use Rattle.combine_base.specs.Stream.View.{Takes};
+ghost use Rattle.combine_base.specs.Stream.View.{View, Takes};
 ghost use Rattle.combine_base.specs.Parser.Answer.{Answers, world};
 ghost use Rattle.combine_base.specs.Stream.Calls.{Passes};
 ghost use Rattle.combine_base.specs.Refusals.{Told};
@@ -206,16 +206,16 @@ impl Bounds {
         }
     }
 
-    /// Whether a turn is a block that is accepted so, this piece's part of it begun at that position.
+    /// Whether a turn is a block that is accepted so, this piece's part of it begun at that checkpoint.
     #[inline(always)]
     fn goes<Input: Stream>(
         self,
         place: Place,
         committed: bool,
-        since: Input::Position,
+        since: Input::Checkpoint,
         input: &Input,
     ) -> bool
-        ensures { (n : ℕ) (old : Input) → since ≡ (Input.view old).position → Takes Input.step n (Input.view old) (Input.view input.now) → result ≡ goes_at self place n committed }
+        ensures { (n : ℕ) (v : View Input.Position Input.Token) → Input.stands input.now since v → Takes Input.step n v (Input.view input.now) → result ≡ goes_at self place n committed }
     {
         match self {
             Bounds::Any => committed && has_taken(place.begun, since, input),
@@ -268,8 +268,8 @@ impl Place {
 
     /// The place of the same turn in the next piece.
     #[inline(always)]
-    fn cut<Input: Stream>(self, since: Input::Position, input: &Input) -> Place
-        ensures { (n : ℕ) (old : Input) → since ≡ (Input.view old).position → Takes Input.step n (Input.view old) (Input.view input.now) → result ≡ cut_at self n }
+    fn cut<Input: Stream>(self, since: Input::Checkpoint, input: &Input) -> Place
+        ensures { (n : ℕ) (v : View Input.Position Input.Token) → Input.stands input.now since v → Takes Input.step n v (Input.view input.now) → result ≡ cut_at self n }
     {
         Place {
             number: self.number,
@@ -318,8 +318,8 @@ impl<F> Turns<F> {
 
     /// The same turns in the next piece.
     #[inline(always)]
-    fn cut<Input: Stream>(self, since: Input::Position, input: &Input) -> Turns<F>
-        ensures { (n : ℕ) (old : Input) → since ≡ (Input.view old).position → Takes Input.step n (Input.view old) (Input.view input.now) → result ≡ record { into = self.into; committed = self.committed; place = cut_at self.place n } }
+    fn cut<Input: Stream>(self, since: Input::Checkpoint, input: &Input) -> Turns<F>
+        ensures { (n : ℕ) (v : View Input.Position Input.Token) → Input.stands input.now since v → Takes Input.step n v (Input.view input.now) → result ≡ record { into = self.into; committed = self.committed; place = cut_at self.place n } }
     {
         let Turns {
             into,
@@ -546,7 +546,7 @@ fn one_turn<G: Gather<P::Value>, Input: Stream, P: Turn<Input>, M: ParseMode>(
         }
         ParseResult::CommitErr(error) => {
             if needs_more(input, &error) {
-                return Step::Stops(Stop::More(turns.cut(position, input), error));
+                return Step::Stops(Stop::More(turns.cut(checkpoint, input), error));
             }
             return Step::Stops(Stop::Failed(error));
         }
@@ -554,7 +554,7 @@ fn one_turn<G: Gather<P::Value>, Input: Stream, P: Turn<Input>, M: ParseMode>(
     if P::ends(&value) {
         return Step::Stops(Stop::Over(turns.joined(committed)));
     }
-    if !bounds.goes(turns.place, committed, position, input) {
+    if !bounds.goes(turns.place, committed, checkpoint, input) {
         let error = refusal_saying(input, position, "repetition takes nothing");
         return Step::Stops(Stop::Failed(error));
     }

@@ -4,7 +4,7 @@ ghost use Rattle.combine_base.specs.Parser.Answer.{Answers, world};
 ghost use Rattle.combine_base.specs.Parser.Meaning.{MeansSame};
 ghost use Rattle.combine_base.specs.Sequence.Parts.{accepted_as};
 ghost use Rattle.combine_base.specs.Stream.Calls.{Passes};
-ghost use Rattle.combine_base.specs.Stream.View.{Takes};
+ghost use Rattle.combine_base.specs.Stream.View.{View, Takes};
 ghost use Rattle.combine_map.specs.Attempt.{losing};
 ghost use Rattle.combine_until.specs.Until.{blocks_so_far, some_appended, until, until_fresh, until_valid};
 ghost use Rattle.combine_until.specs.UntilTurn.{ComesTo, HandsOut, Keeps, KeepsRunning, OneTurn, Settled};
@@ -58,8 +58,8 @@ impl<F> Blocks<F> {
 
     /// The same blocks in the next piece.
     #[inline(always)]
-    fn cut<Input: Stream>(self, since: Input::Position, input: &Input) -> Blocks<F>
-        ensures { (n : ℕ) (old : Input) → since ≡ (Input.view old).position → Takes Input.step n (Input.view old) (Input.view input.now) → result ≡ record { into = self.into; committed = self.committed; begun = self.begun || nat_lt 0 n } }
+    fn cut<Input: Stream>(self, since: Input::Checkpoint, input: &Input) -> Blocks<F>
+        ensures { (n : ℕ) (v : View Input.Position Input.Token) → Input.stands input.now since v → Takes Input.step n v (Input.view input.now) → result ≡ record { into = self.into; committed = self.committed; begun = self.begun || nat_lt 0 n } }
     {
         let Blocks {
             into,
@@ -219,15 +219,15 @@ fn pass_to<Input: Stream>(
     Ok(place)
 }
 
-/// Whether a turn that is accepted so is a block, this piece's part of it begun at that position.
+/// Whether a turn that is accepted so is a block, this piece's part of it begun at that checkpoint.
 #[inline(always)]
 fn is_block<Input: Stream>(
     begun: bool,
     committed: bool,
-    since: Input::Position,
+    since: Input::Checkpoint,
     input: &Input,
 ) -> bool
-    ensures { (n : ℕ) (old : Input) → since ≡ (Input.view old).position → Takes Input.step n (Input.view old) (Input.view input.now) → result ≡ (committed && (begun || nat_lt 0 n)) }
+    ensures { (n : ℕ) (v : View Input.Position Input.Token) → Input.stands input.now since v → Takes Input.step n v (Input.view input.now) → result ≡ (committed && (begun || nat_lt 0 n)) }
 {
     committed && has_taken(begun, since, input)
 }
@@ -258,6 +258,7 @@ fn one_turn<
         (record { first = M.first mode; state = running.old; left = running.new; old = Input.view input.old; new = Input.view input.new; before = Input.failures input.old; after = Input.failures input.new })
         (Input.stands input.old place) blocks result }
 {
+    let since = input.checkpoint();
     let position = input.position();
     let (value, committed) = match parser.parse_explained(mode, input, running) {
         ParseResult::CommitOk(value) => (value, true),
@@ -265,7 +266,7 @@ fn one_turn<
         ParseResult::PeekErr(refusal) => return Step::Stops(Stop::Refused(refusal)),
         ParseResult::CommitErr(error) => {
             if needs_more(input, &error) {
-                return Step::Stops(Stop::More(blocks.cut(position, input), error));
+                return Step::Stops(Stop::More(blocks.cut(since, input), error));
             }
             return Step::Stops(Stop::Failed(error));
         }
@@ -276,7 +277,7 @@ fn one_turn<
             Err(kind) => Step::Stops(Stop::Failed(input.new_error(kind, position))),
         },
         Some(value) => {
-            if !is_block(blocks.begun, committed, position, input) {
+            if !is_block(blocks.begun, committed, since, input) {
                 let error = refusal_saying(input, position, "repetition takes nothing");
                 return Step::Stops(Stop::Failed(error));
             }

@@ -220,6 +220,11 @@ impl<T: Copy + 'static> ResetStream for Stream<T> {
         Ok(())
     }
 
+    #[inline(always)]
+    fn has_moved(&self, since: usize) -> bool {
+        self.at != since
+    }
+
     #[inline]
     fn failures(&self) -> Failures {
         Failures {

@@ -108,6 +108,11 @@ where
     }
 
     #[inline(always)]
+    fn has_moved(&self, since: S::Checkpoint) -> bool {
+        self.inner.has_moved(since)
+    }
+
+    #[inline(always)]
     fn failures(&self) -> Failures {
         self.inner.failures()
     }

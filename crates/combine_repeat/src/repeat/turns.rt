@@ -1,7 +1,7 @@
 //! The loop that all repetitions of one parser run, and what it keeps.
 ghost use Rattle.std.specs.Prelude.{◌≡◌, ◌||◌, ℕ, false, true, None, MatchResult, if◌then◌else◌};
 ghost use Rattle.combine_base.specs.Parser.Meaning.{MeansSame};
-ghost use Rattle.combine_base.specs.Stream.View.{Takes};
+ghost use Rattle.combine_base.specs.Stream.View.{View, Takes};
 ghost use Rattle.combine_base.specs.Parser.Answer.{Answers, world};
 ghost use Rattle.combine_base.specs.Sequence.Parts.{accepted_as, refused_as};
 ghost use Rattle.combine_base.specs.Stream.Calls.{Passes};
@@ -36,10 +36,10 @@ impl Place {
         }
     }
 
-    /// Whether a turn is a block that is accepted so, this piece's part of it begun at that position.
+    /// Whether a turn is a block that is accepted so, this piece's part of it begun at that checkpoint.
     #[inline(always)]
-    fn goes<Input: Stream>(self, committed: bool, since: Input::Position, input: &Input) -> bool
-        ensures { (n : ℕ) (old : Input) → since ≡ (Input.view old).position → Takes Input.step n (Input.view old) (Input.view input.now) → result ≡ goes_at self n committed }
+    fn goes<Input: Stream>(self, committed: bool, since: Input::Checkpoint, input: &Input) -> bool
+        ensures { (n : ℕ) (v : View Input.Position Input.Token) → Input.stands input.now since v → Takes Input.step n v (Input.view input.now) → result ≡ goes_at self n committed }
     {
         match self {
             Place::First => true,
@@ -49,8 +49,8 @@ impl Place {
 
     /// The place of the same turn in the next piece.
     #[inline(always)]
-    fn cut<Input: Stream>(self, since: Input::Position, input: &Input) -> Place
-        ensures { (n : ℕ) (old : Input) → since ≡ (Input.view old).position → Takes Input.step n (Input.view old) (Input.view input.now) → result ≡ cut_at self n }
+    fn cut<Input: Stream>(self, since: Input::Checkpoint, input: &Input) -> Place
+        ensures { (n : ℕ) (v : View Input.Position Input.Token) → Input.stands input.now since v → Takes Input.step n v (Input.view input.now) → result ≡ cut_at self n }
     {
         match self {
             Place::First => Place::First,
@@ -216,13 +216,13 @@ fn one_turn<Input: Stream, P: Parser<Input>, F: Append<P::Output>, M: ParseMode>
         }
         ParseResult::CommitErr(error) => {
             if needs_more(input, &error) {
-                turns.place = turns.place.cut(position, input);
+                turns.place = turns.place.cut(checkpoint, input);
                 return Some(Stop::More(error));
             }
             return Some(Stop::Failed(error));
         }
     };
-    if !turns.place.goes(committed, position, input) {
+    if !turns.place.goes(committed, checkpoint, input) {
         let error = refusal_saying(input, position, "repetition takes nothing");
         return Some(Stop::Failed(error));
     }

@@ -166,6 +166,11 @@ impl<'a, T: Copy> ResetStream for Indexed<'a, T> {
         Ok(())
     }
 
+    #[inline(always)]
+    fn has_moved(&self, since: Indexed<'a, T>) -> bool {
+        self.at != since.at
+    }
+
     #[inline]
     fn failures(&self) -> Failures {
         Failures {

@@ -1,5 +1,5 @@
 //! A text whose position is a line and a column.
-ghost use Rattle.std.specs.Prelude.{◌≡◌, ◌↔◌, ℕ, ◌+◌, ◌<◌, ◌≤◌, ◌^◌, [], true, MatchOption, MatchResult, length, take, drop, false};
+ghost use Rattle.std.specs.Prelude.{◌≡◌, ◌↔◌, ℕ, ◌+◌, ◌<◌, ◌≤◌, ◌^◌, [], nat_lt, true, MatchOption, MatchResult, length, take, drop, false};
 ghost use Rattle.std.specs.Char.{len_utf8};
 ghost use Rattle.std.specs.Str.{IsCharBoundary, IsUtf8, chars};
 ghost use Rattle.combine_base.specs.Stream.View.{after_all};
@@ -209,6 +209,11 @@ impl<'a> ResetStream for PlacedText<'a> {
         Ok(())
     }
 
+    #[inline(always)]
+    fn has_moved(&self, since: PlacedText<'a>) -> bool {
+        is_apart(since.rest, self.rest)
+    }
+
     #[inline]
     fn failures(&self) -> Failures {
         Failures {
@@ -338,6 +343,14 @@ fn take_range<'a>(
         Ok((front, back)) => Ok((front, put(back, place_after(place, front)))),
         Err(kind) => Err(kind),
     }
+}
+
+// Whether what is left of a text is another part of it.
+#[inline(always)]
+fn is_apart(from: &str, to: &str) -> bool
+    ensures { (k : ℕ) → k ≤ length (chars from.now) → chars to.now ≡ drop k (chars from.now) → result ≡ nat_lt 0 k }
+{
+    from.len() != to.len()
 }
 
 #[inline(always)]

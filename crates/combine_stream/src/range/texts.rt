@@ -2,7 +2,8 @@
 ghost use Rattle.std.specs.Prelude.{◌≡◌, ℕ, MatchResult, length, take};
 ghost use Rattle.std.specs.Str.{chars};
 ghost use Rattle.std.specs.Char.{len_utf8};
-ghost use Rattle.combine_stream.specs.Ranges.{Ahead, LongestItems, size_of};
+ghost use Rattle.combine_base.specs.Stream.View.{Ahead};
+ghost use Rattle.combine_stream.specs.Ranges.{LongestItems, size_of};
 ghost use Rattle.combine_base.specs.Stream.Texts.{text_view, less_char};
 ghost use Rattle.combine_stream.specs.TextRanges.{Cut, uncut, text_of};
 

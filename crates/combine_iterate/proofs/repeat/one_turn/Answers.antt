@@ -25,15 +25,17 @@ returns-in-CommitErr g c =
 pub returns-then-not-is_block : goal.returns-then-not-is_block
 returns-then-not-is_block g c =
     let call = c.parse_mode.ensures in
+    let since = g.met.Input.ResetStream.lasts _ _ _ _ call.passes.marks c.checkpoint-checkpoint.ensures.stands in
     elim c.match-parse_mode.branch [
-      | in-CommitOk w ↦ record { lawful = call.lawful; valid = call.valid; same = call.same; passes = call.passes; turned = record { is = TakesNothing _ _ (judged_by _ _ _ _ _ _ _ _ w.value-is w.in-CommitOk.ensures.answers.is (λ n t. rw (← c.is_first.ensures) (c.is_block.ensures n _ c.position-position.ensures t)) c.if-not-is_block.true) c.refusal_saying.ensures.told } }
-      | in-PeekOk w ↦ record { lawful = call.lawful; valid = call.valid; same = call.same; passes = call.passes; turned = record { is = TakesNothing _ _ (judged_by _ _ _ _ _ _ _ _ w.value-is w.in-PeekOk.ensures.answers.is (λ n t. rw (← c.is_first.ensures) (c.is_block.ensures n _ c.position-position.ensures t)) c.if-not-is_block.true) c.refusal_saying.ensures.told } }
+      | in-CommitOk w ↦ record { lawful = call.lawful; valid = call.valid; same = call.same; passes = call.passes; turned = record { is = TakesNothing _ _ (judged_by _ _ _ _ _ _ _ _ w.value-is w.in-CommitOk.ensures.answers.is (λ n t. rw (← c.is_first.ensures) (c.is_block.ensures n _ since t)) c.if-not-is_block.true) c.refusal_saying.ensures.told } }
+      | in-PeekOk w ↦ record { lawful = call.lawful; valid = call.valid; same = call.same; passes = call.passes; turned = record { is = TakesNothing _ _ (judged_by _ _ _ _ _ _ _ _ w.value-is w.in-PeekOk.ensures.answers.is (λ n t. rw (← c.is_first.ensures) (c.is_block.ensures n _ since t)) c.if-not-is_block.true) c.refusal_saying.ensures.told } }
     ]
 
 pub returns : goal.returns
 returns g c =
     let call = c.parse_mode.ensures in
+    let since = g.met.Input.ResetStream.lasts _ _ _ _ call.passes.marks c.checkpoint-checkpoint.ensures.stands in
     elim c.match-parse_mode.branch [
-      | in-CommitOk w ↦ record { lawful = call.lawful; valid = call.valid; same = call.same; passes = call.passes; turned = record { is = block_commits _ _ _ _ _ (judged_by _ _ _ _ _ _ _ _ w.value-is w.in-CommitOk.ensures.answers.is (λ n t. rw (← c.is_first.ensures) (c.is_block.ensures n _ c.position-position.ensures t)) c.if-not-is_block.false) } }
-      | in-PeekOk w ↦ record { lawful = call.lawful; valid = call.valid; same = call.same; passes = call.passes; turned = record { is = block_commits _ _ _ _ _ (judged_by _ _ _ _ _ _ _ _ w.value-is w.in-PeekOk.ensures.answers.is (λ n t. rw (← c.is_first.ensures) (c.is_block.ensures n _ c.position-position.ensures t)) c.if-not-is_block.false) } }
+      | in-CommitOk w ↦ record { lawful = call.lawful; valid = call.valid; same = call.same; passes = call.passes; turned = record { is = block_commits _ _ _ _ _ (judged_by _ _ _ _ _ _ _ _ w.value-is w.in-CommitOk.ensures.answers.is (λ n t. rw (← c.is_first.ensures) (c.is_block.ensures n _ since t)) c.if-not-is_block.false) } }
+      | in-PeekOk w ↦ record { lawful = call.lawful; valid = call.valid; same = call.same; passes = call.passes; turned = record { is = block_commits _ _ _ _ _ (judged_by _ _ _ _ _ _ _ _ w.value-is w.in-PeekOk.ensures.answers.is (λ n t. rw (← c.is_first.ensures) (c.is_block.ensures n _ since t)) c.if-not-is_block.false) } }
     ]

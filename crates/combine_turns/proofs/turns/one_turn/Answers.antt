@@ -22,17 +22,19 @@ returns-then-ends-clause-turned g c =
 
 pub returns-then-not-goes-clause-turned : goal.returns-then-not-goes-clause-turned
 returns-then-not-goes-clause-turned g c =
+    let since = g.met.Input.ResetStream.lasts _ _ _ _ c.parse_turn.ensures.passes.marks c.checkpoint-checkpoint.ensures.stands in
     elim c.match-parse_turn.branch [
-      | in-CommitOk w ↦ record { is = TakesNothing _ (judged_by _ _ _ _ _ _ _ _ _ _ _ w.value-is w.in-CommitOk.ensures.answers.is (sym c.ends.ensures ∙ c.if-ends.false) (λ n t. c.goes.ensures n _ c.position-position.ensures t) c.if-not-goes.true) c.refusal_saying-error.ensures.told }
-      | in-PeekOk w ↦ record { is = TakesNothing _ (judged_by _ _ _ _ _ _ _ _ _ _ _ w.value-is w.in-PeekOk.ensures.answers.is (sym c.ends.ensures ∙ c.if-ends.false) (λ n t. c.goes.ensures n _ c.position-position.ensures t) c.if-not-goes.true) c.refusal_saying-error.ensures.told }
+      | in-CommitOk w ↦ record { is = TakesNothing _ (judged_by _ _ _ _ _ _ _ _ _ _ _ w.value-is w.in-CommitOk.ensures.answers.is (sym c.ends.ensures ∙ c.if-ends.false) (λ n t. c.goes.ensures n _ since t) c.if-not-goes.true) c.refusal_saying-error.ensures.told }
+      | in-PeekOk w ↦ record { is = TakesNothing _ (judged_by _ _ _ _ _ _ _ _ _ _ _ w.value-is w.in-PeekOk.ensures.answers.is (sym c.ends.ensures ∙ c.if-ends.false) (λ n t. c.goes.ensures n _ since t) c.if-not-goes.true) c.refusal_saying-error.ensures.told }
     ]
 
 pub returns-in-Ok-clause-turned : goal.returns-in-Ok-clause-turned
 returns-in-Ok-clause-turned g c =
+    let since = g.met.Input.ResetStream.lasts _ _ _ _ c.parse_turn.ensures.passes.marks c.checkpoint-checkpoint.ensures.stands in
     let on = gathered_on g.G.Gather.held g.G.Gather.more c.args.bounds c.args.turns _ _ _ _ c.match-parse_turn.value.1 c.in-Ok.ensures c.joined-2.ensures c.limit.ensures in
     elim c.match-parse_turn.branch [
-      | in-CommitOk w ↦ record { is = record { turn = _; judged = (judged_by _ _ _ _ _ _ _ _ _ _ _ w.value-is w.in-CommitOk.ensures.answers.is (sym c.ends.ensures ∙ c.if-ends.false) (λ n t. c.goes.ensures n _ c.position-position.ensures t) c.if-not-goes.false); held = _; more = on.0; turns = on.1 } }
-      | in-PeekOk w ↦ record { is = record { turn = _; judged = (judged_by _ _ _ _ _ _ _ _ _ _ _ w.value-is w.in-PeekOk.ensures.answers.is (sym c.ends.ensures ∙ c.if-ends.false) (λ n t. c.goes.ensures n _ c.position-position.ensures t) c.if-not-goes.false); held = _; more = on.0; turns = on.1 } }
+      | in-CommitOk w ↦ record { is = record { turn = _; judged = (judged_by _ _ _ _ _ _ _ _ _ _ _ w.value-is w.in-CommitOk.ensures.answers.is (sym c.ends.ensures ∙ c.if-ends.false) (λ n t. c.goes.ensures n _ since t) c.if-not-goes.false); held = _; more = on.0; turns = on.1 } }
+      | in-PeekOk w ↦ record { is = record { turn = _; judged = (judged_by _ _ _ _ _ _ _ _ _ _ _ w.value-is w.in-PeekOk.ensures.answers.is (sym c.ends.ensures ∙ c.if-ends.false) (λ n t. c.goes.ensures n _ since t) c.if-not-goes.false); held = _; more = on.0; turns = on.1 } }
     ]
 
 pub returns-in-Err-gather_turn-clause-turned : goal.returns-in-Err-gather_turn-clause-turned

@@ -26,7 +26,8 @@ returns-in-Err g c =
 pub returns-then-needs_more : goal.returns-then-needs_more
 returns-then-needs_more g c =
     let call = c.parse_turn.ensures in
-    record { lawful = call.lawful; valid = call.valid; same = call.same; passes = call.passes; turned = record { is = record { needs = c.needs_more.ensures.0 c.if-needs_more.true; answers = c.in-CommitErr.ensures.answers; place = c.cut-turns.result; cut = λ n t. c.cut-turns.ensures n _ c.position-position.ensures t; turns = refl } } }
+    let since = g.met.Input.ResetStream.lasts _ _ _ _ call.passes.marks c.checkpoint-checkpoint.ensures.stands in
+    record { lawful = call.lawful; valid = call.valid; same = call.same; passes = call.passes; turned = record { is = record { needs = c.needs_more.ensures.0 c.if-needs_more.true; answers = c.in-CommitErr.ensures.answers; place = c.cut-turns.result; cut = λ n t. c.cut-turns.ensures n _ since t; turns = refl } } }
 
 pub returns-in-CommitErr : goal.returns-in-CommitErr
 returns-in-CommitErr g c =
@@ -36,23 +37,26 @@ returns-in-CommitErr g c =
 pub returns-then-not-goes : goal.returns-then-not-goes
 returns-then-not-goes g c =
     let call = c.parse_turn.ensures in
+    let since = g.met.Input.ResetStream.lasts _ _ _ _ call.passes.marks c.checkpoint-checkpoint.ensures.stands in
     elim c.match-parse_turn.branch [
-      | in-CommitOk w ↦ record { lawful = call.lawful; valid = call.valid; same = call.same; passes = call.passes; turned = record { is = TakesNothing _ (judged_by _ _ _ _ _ _ _ _ _ w.value-is w.in-CommitOk.ensures.answers.is (λ n t. c.goes.ensures n _ c.position-position.ensures t) c.if-not-goes.true) c.refusal_saying-error.ensures.told } }
-      | in-PeekOk w ↦ record { lawful = call.lawful; valid = call.valid; same = call.same; passes = call.passes; turned = record { is = TakesNothing _ (judged_by _ _ _ _ _ _ _ _ _ w.value-is w.in-PeekOk.ensures.answers.is (λ n t. c.goes.ensures n _ c.position-position.ensures t) c.if-not-goes.true) c.refusal_saying-error.ensures.told } }
+      | in-CommitOk w ↦ record { lawful = call.lawful; valid = call.valid; same = call.same; passes = call.passes; turned = record { is = TakesNothing _ (judged_by _ _ _ _ _ _ _ _ _ w.value-is w.in-CommitOk.ensures.answers.is (λ n t. c.goes.ensures n _ since t) c.if-not-goes.true) c.refusal_saying-error.ensures.told } }
+      | in-PeekOk w ↦ record { lawful = call.lawful; valid = call.valid; same = call.same; passes = call.passes; turned = record { is = TakesNothing _ (judged_by _ _ _ _ _ _ _ _ _ w.value-is w.in-PeekOk.ensures.answers.is (λ n t. c.goes.ensures n _ since t) c.if-not-goes.true) c.refusal_saying-error.ensures.told } }
     ]
 
 pub returns-in-Err-add : goal.returns-in-Err-add
 returns-in-Err-add g c =
     let call = c.parse_turn.ensures in
+    let since = g.met.Input.ResetStream.lasts _ _ _ _ call.passes.marks c.checkpoint-checkpoint.ensures.stands in
     elim c.match-parse_turn.branch [
-      | in-CommitOk w ↦ let j = judged_by _ _ _ _ _ _ _ _ _ w.value-is w.in-CommitOk.ensures.answers.is (λ n t. c.goes.ensures n _ c.position-position.ensures t) c.if-not-goes.false in record { lawful = call.lawful; valid = call.valid; same = call.same; passes = call.passes; turned = record { is = Unstored _ j.accepts c.new_error-in-Err-add.ensures.kind c.in-Err-add.ensures } }
-      | in-PeekOk w ↦ let j = judged_by _ _ _ _ _ _ _ _ _ w.value-is w.in-PeekOk.ensures.answers.is (λ n t. c.goes.ensures n _ c.position-position.ensures t) c.if-not-goes.false in record { lawful = call.lawful; valid = call.valid; same = call.same; passes = call.passes; turned = record { is = Unstored _ j.accepts c.new_error-in-Err-add.ensures.kind c.in-Err-add.ensures } }
+      | in-CommitOk w ↦ let j = judged_by _ _ _ _ _ _ _ _ _ w.value-is w.in-CommitOk.ensures.answers.is (λ n t. c.goes.ensures n _ since t) c.if-not-goes.false in record { lawful = call.lawful; valid = call.valid; same = call.same; passes = call.passes; turned = record { is = Unstored _ j.accepts c.new_error-in-Err-add.ensures.kind c.in-Err-add.ensures } }
+      | in-PeekOk w ↦ let j = judged_by _ _ _ _ _ _ _ _ _ w.value-is w.in-PeekOk.ensures.answers.is (λ n t. c.goes.ensures n _ since t) c.if-not-goes.false in record { lawful = call.lawful; valid = call.valid; same = call.same; passes = call.passes; turned = record { is = Unstored _ j.accepts c.new_error-in-Err-add.ensures.kind c.in-Err-add.ensures } }
     ]
 
 pub returns : goal.returns
 returns g c =
     let call = c.parse_turn.ensures in
+    let since = g.met.Input.ResetStream.lasts _ _ _ _ call.passes.marks c.checkpoint-checkpoint.ensures.stands in
     elim c.match-parse_turn.branch [
-      | in-CommitOk w ↦ record { lawful = call.lawful; valid = call.valid; same = call.same; passes = call.passes; turned = record { is = record { turn = _; judged = judged_by _ _ _ _ _ _ _ _ _ w.value-is w.in-CommitOk.ensures.answers.is (λ n t. c.goes.ensures n _ c.position-position.ensures t) c.if-not-goes.false; held = _; more = refl; turns = c.in_default-add.ensures } } }
-      | in-PeekOk w ↦ record { lawful = call.lawful; valid = call.valid; same = call.same; passes = call.passes; turned = record { is = record { turn = _; judged = judged_by _ _ _ _ _ _ _ _ _ w.value-is w.in-PeekOk.ensures.answers.is (λ n t. c.goes.ensures n _ c.position-position.ensures t) c.if-not-goes.false; held = _; more = refl; turns = c.in_default-add.ensures } } }
+      | in-CommitOk w ↦ record { lawful = call.lawful; valid = call.valid; same = call.same; passes = call.passes; turned = record { is = record { turn = _; judged = judged_by _ _ _ _ _ _ _ _ _ w.value-is w.in-CommitOk.ensures.answers.is (λ n t. c.goes.ensures n _ since t) c.if-not-goes.false; held = _; more = refl; turns = c.in_default-add.ensures } } }
+      | in-PeekOk w ↦ record { lawful = call.lawful; valid = call.valid; same = call.same; passes = call.passes; turned = record { is = record { turn = _; judged = judged_by _ _ _ _ _ _ _ _ _ w.value-is w.in-PeekOk.ensures.answers.is (λ n t. c.goes.ensures n _ since t) c.if-not-goes.false; held = _; more = refl; turns = c.in_default-add.ensures } } }
     ]

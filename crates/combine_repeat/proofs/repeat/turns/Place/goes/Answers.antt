@@ -1,4 +1,4 @@
 use Rattle.combine_repeat.proofs.repeat.turns.Place.goes.Goals as goal
 
 pub returns-then-committed : goal.returns-then-committed
-returns-then-committed g c n old e t = rw (c.in-Later.is, c.if-committed.true) (c.has_taken.ensures n old e t)
+returns-then-committed g c n v s t = rw (c.in-Later.is, c.if-committed.true) (c.has_taken.ensures n v s t)
