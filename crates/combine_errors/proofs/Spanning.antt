@@ -1,5 +1,5 @@
 -- calls of a stream are calls of that stream with spans
-use Rattle.std.proofs.Common.{ℕ, List, Bool, take, ap, sym, subst, refl, ◌≡◌, ◌∙◌}
+use Rattle.std.proofs.Common.{ℕ, List, Bool, nat_lt, take, ap, sym, subst, refl, ◌≡◌, ◌∙◌}
 use Rattle.std.specs.Prelude.{Result, Ok, Err}
 use Rattle.combine_base.specs.Stream.View.{View, Ahead, Takes, Moves, advanced}
 use Rattle.combine_base.specs.Stream.Calls.{Passes, Uncons, ResetTo, unconses, no_token}
@@ -74,6 +74,9 @@ module _ {P T : Type 0} (step : P → T → P) where
 
   span_ahead : (k : ℕ) (w u : View P T) → Ahead (span_step step) k (spanned_view w) (spanned_view u) → Ahead step k w u
   span_ahead k w u h = record { enough = h.enough; position = ap (λ (s : Span P). s.end) (h.position ∙ span_after step w.position (take k w.unread)); unread = h.unread }
+
+  pub span_moved : (stands : View P T → Type 0) (u : View P T) (b : Bool) → ((k : ℕ) (w : View P T) → stands w → Ahead step k w u → b ≡ nat_lt 0 k) → (k : ℕ) (v : View (Span P) T) → Spanned stands v → Ahead (span_step step) k v (spanned_view u) → b ≡ nat_lt 0 k
+  span_moved stands u b h k v p a = h k p.inner p.stands (span_ahead k p.inner u (subst (λ (x : View (Span P) T). Ahead (span_step step) k x (spanned_view u)) p.is a))
 
   -- what was taken since a checkpoint
   pub span_distance : (size : T → ℕ) (stands : View P T → Type 0) (u : View P T) (n : ℕ) → ((w : View P T) (k : ℕ) → stands w → Ahead step k w u → n ≡ size_of size (take k w.unread)) → (v : View (Span P) T) (k : ℕ) → Spanned stands v → Ahead (span_step step) k v (spanned_view u) → n ≡ size_of size (take k v.unread)

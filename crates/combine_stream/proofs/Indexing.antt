@@ -1,10 +1,11 @@
 -- calls of a slice with an index
-use Rattle.std.proofs.Common.{ℕ, ◌+◌, ◌-◌, ◌≤◌, ◌≡◌, List, take, drop, length, Bool, false, subst, arith, ap, sym, ◌∙◌}
+use Rattle.std.proofs.Common.{ℕ, ◌+◌, ◌-◌, ◌≤◌, ◌≡◌, List, take, drop, length, nat_eq, nat_lt, not, Bool, false, subst, arith, ap, sym, ◌∙◌}
 use Rattle.std.proofs.lemmas.List.{drop-drop, length-take-le}
 use Rattle.combine_base.specs.Stream.View.{View, Ahead, Takes, after_all}
 use Rattle.combine_stream.specs.Ranges.{LongestItems, size_of}
 use Rattle.combine_stream.specs.Indices.{indexed_view}
 use Rattle.combine_base.specs.Stream.Fed.{one_more, after_count}
+use Rattle.combine_base.proofs.Moved.{lengths_apart}
 use Rattle.combine_stream.proofs.Slicing.{ones_take}
 use Rattle.combine_stream.specs.declared.position.indexed.Indexed.{Indexed}
 
@@ -22,6 +23,13 @@ index_apart s t v k e a =
     let r : v.position ≡ s.at = ap (λ (x : View _ _). x.position) e in
     let z = ones_take k v.unread a.enough in
     omega arith
+
+pub index_moved : {T : Type 0} (s t : Indexed T) (v : View ℕ T) (k : ℕ) → v ≡ indexed_view s → Ahead one_more k v (indexed_view t) → not (nat_eq s.at t.at) ≡ nat_lt 0 k
+index_moved s t v k e a =
+    let p = a.position ∙ after_count v.position (take k v.unread) in
+    let q = length-take-le k v.unread a.enough in
+    let r : v.position ≡ s.at = ap (λ (x : View _ _). x.position) e in
+    lengths_apart s.at t.at k (λ z. omega arith) (λ i. omega arith)
 
 pub longest_same : {T : Type 0} (f : T → Bool → Type 0) (us vs : List T) (n : ℕ) → us ≡ vs → LongestItems (λ t. 1) f us n → LongestItems (λ t. 1) f vs n
 longest_same f us vs n e h = subst (λ xs. LongestItems (λ t. 1) f xs n) e h

@@ -1,13 +1,14 @@
 -- ranges of a text with a place
-use Rattle.std.proofs.Common.{ℕ, ◌+◌, ◌-◌, ◌≤◌, ◌≡◌, List, [], ◌∷◌, Bool, true, false, if◌then◌else◌, nat_eq, take, drop, length, arith, ap, sym, ◌∙◌}
-use Rattle.std.proofs.lemmas.Str.{chars_from_encodes}
+use Rattle.std.proofs.Common.{ℕ, ◌+◌, ◌-◌, ◌≤◌, ◌≡◌, List, [], ◌∷◌, Bool, true, false, if◌then◌else◌, nat_eq, nat_lt, not, take, drop, length, arith, ap, sym, ◌∙◌}
+use Rattle.std.proofs.lemmas.Str.{chars_from_encodes, len_utf8_bounds}
 use Rattle.std.specs.Char.{len_utf8}
 use Rattle.std.specs.Str.{IsUtf8, chars}
 use Rattle.combine_base.specs.Stream.View.{View, after_all}
 use Rattle.combine_base.proofs.Characters.{few_chars}
+use Rattle.combine_base.proofs.Moved.{lengths_apart}
 use Rattle.combine_base.specs.declared.stream.slices.Left.{Left}
 use Rattle.combine_stream.specs.Ranges.{size_of}
-use Rattle.combine_stream.specs.RangeFacts.{size_take}
+use Rattle.combine_stream.specs.RangeFacts.{size_take, size_rises}
 use Rattle.combine_stream.specs.TextRanges.{Cut, text_measured}
 use Rattle.combine_stream.proofs.Slicing.{left_after}
 use Rattle.combine_stream.proofs.TextCuts.{text_size}
@@ -43,3 +44,12 @@ module _ (bytes front back : List ℕ) (n k : ℕ) (c : Cut bytes n k front back
 
 pub bytes_apart : (from to : List ℕ) (k : ℕ) → IsUtf8 from → IsUtf8 to → chars to ≡ drop k (chars from) → length from - length to ≡ size_of len_utf8 (take k (chars from))
 bytes_apart from to k u w e = let a = text_size from u in let b = text_size to w in let d = size_take len_utf8 k (chars from) in let f = ap (size_of len_utf8) e in omega arith
+
+-- parts of a text have other lengths, where they have other characters
+pub other_part : (from to : List ℕ) (k : ℕ) → IsUtf8 from → IsUtf8 to → k ≤ length (chars from) → chars to ≡ drop k (chars from) → not (nat_eq (length to) (length from)) ≡ nat_lt 0 k
+other_part from to k u w h e =
+    let a = text_size from u in
+    let b = text_size to w ∙ ap (size_of len_utf8) e in
+    lengths_apart (length to) (length from) k
+      (λ z. b ∙ ap (λ n. size_of len_utf8 (drop n (chars from))) z ∙ sym a)
+      (λ i. let d = size_take len_utf8 k (chars from) in let r = size_rises len_utf8 (λ c. let m = (len_utf8_bounds c).0 in omega arith) (chars from) 0 k i h in omega arith)

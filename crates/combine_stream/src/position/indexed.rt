@@ -168,7 +168,7 @@ impl<'a, T: Copy> ResetStream for Indexed<'a, T> {
 
     #[inline(always)]
     fn has_moved(&self, since: Indexed<'a, T>) -> bool {
-        self.at != since.at
+        since.at != self.at
     }
 
     #[inline]

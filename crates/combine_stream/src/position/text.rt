@@ -53,15 +53,24 @@ impl SourcePosition {
         ensures { result ≡ next_place self character }
     {
         if character == '\n' {
-            SourcePosition {
-                line: self.line + 1,
-                column: 1,
-            }
-        } else {
-            SourcePosition {
-                line: self.line,
-                column: self.column + 1,
-            }
+            return self.next_line();
+        }
+        SourcePosition {
+            line: self.line,
+            column: self.column + 1,
+        }
+    }
+
+    // Where the next line begins: a call, so that the loop over the characters of a line stays small.
+    #[cold]
+    #[inline(never)]
+    fn next_line(self) -> SourcePosition
+        requires { Fits self 1 }
+        ensures { result ≡ record { line = self.line + 1; column = 1 } }
+    {
+        SourcePosition {
+            line: self.line + 1,
+            column: 1,
         }
     }
 }
@@ -350,7 +359,7 @@ fn take_range<'a>(
 fn is_apart(from: &str, to: &str) -> bool
     ensures { (k : ℕ) → k ≤ length (chars from.now) → chars to.now ≡ drop k (chars from.now) → result ≡ nat_lt 0 k }
 {
-    from.len() != to.len()
+    to.len() != from.len()
 }
 
 #[inline(always)]
