@@ -55,7 +55,10 @@ module _ {P T A E R N : Type 0} (step : P → T → P) (size : T → ℕ) (spell
     outcome : (n k : ℕ) (c : Bool) → ReadsLength turned r v n k c → (p o : Outcome R) → o ≡ joined k c (λ q. q) p → taking size spells n (advanced step k v) p → composed v o
     outcome n k c l p o e x = record { inner = o; meant = (Accepted n k c, (l.value, l.accepted, l.fits), (p, given n (advanced step k v) p x, e)); is = refl }
 
-    or_false : (c : Bool) → Refused c ≡ Refused {Value = R} (c || false)
+    abbrev refused : Bool → Outcome R
+    refused c = Refused c
+
+    or_false : (c : Bool) → refused c ≡ refused (c || false)
     or_false true = refl
     or_false false = refl
 

@@ -58,7 +58,7 @@ module _ {P T A E R : Type 0} (step : P → T → P) (size : T → ℕ) (spells 
     pub length : ℕ
     pub before : ℕ
     pub read : ReadsLength turned r v length before c
-    pub unfit : Unfit size length (advanced step before v)
+    pub unfit : Unfit size spells length (advanced step before v)
 
   -- behind a length the items are still too few
   pub record Awaits (v : View P T) : Type 0 where
@@ -66,7 +66,7 @@ module _ {P T A E R : Type 0} (step : P → T → P) (size : T → ℕ) (spells 
     pub before : ℕ
     pub committed : Bool
     pub read : ReadsLength turned r v length before committed
-    pub waits : Waits size length (advanced step before v)
+    pub waits : Waits size spells length (advanced step before v)
 
   -- A length is read by r, and then that many items: committed if the length was, or if there is an item. What fits no length, and a length that stands before too few items, are refused with the kind of the length.
   abbrev pub prefixed : Reading P T R

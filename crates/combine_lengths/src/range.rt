@@ -21,8 +21,5 @@ use types::LengthPrefix;
 pub fn length_prefix<Input, P>(p: P) -> LengthPrefix<Input, P>
     ensures { result ≡ length_prefix_of p }
 {
-    no_partial(Answered::new(
-        Changed::new(p, AsLength),
-        Taking(PhantomData),
-    ))
+    no_partial(Answered::new(Changed::new(p, AsLength), Taking(PhantomData)))
 }
