@@ -1,8 +1,8 @@
 -- where the values at one place are the same length, they are changed alike, and the parsers that are answered for them are one
-use Rattle.std.specs.Prelude.{ℕ, ◌≡◌, Bool, Result, Ok, Err}
+use Rattle.std.specs.Prelude.{ℕ, ◌≡◌, Result, Ok, Err}
 use Rattle.std.proofs.Common.{subst}
 use Rattle.combine_base.specs.Parser.Meaning.{IsSingle, Reading}
-use Rattle.combine_base.specs.Parser.Outcome.{Outcome, Accepted, shape}
+use Rattle.combine_base.specs.Parser.Outcome.{Outcome, shape}
 use Rattle.combine_base.specs.Stream.View.{View}
 use Rattle.combine_functions.specs.Changes.{DecidesOne, changed_reading}
 use Rattle.combine_lengths.specs.Prefixes.{FitsNone, OneLength}

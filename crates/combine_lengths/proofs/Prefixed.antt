@@ -1,15 +1,15 @@
 -- the value of a parser as a length, and then the parser of so many items, is what `prefixed` says
-use Rattle.std.specs.Prelude.{ℕ, ◌+◌, ◌≡◌, ◌⊎◌, ◌↔◌, List, Bool, true, false, ◌||◌, nat_lt, Result, Ok, Err, refl}
-use Rattle.std.proofs.Common.{ap, sym, subst, inl, inr, ◌∙◌}
+use Rattle.std.specs.Prelude.{ℕ, ◌≡◌, ◌↔◌, List, Bool, true, false, ◌||◌, nat_lt, Result, Ok, refl}
+use Rattle.std.proofs.Common.{ap, sym, subst, inl, inr}
 use Rattle.combine_base.specs.Parser.Meaning.{Reading}
 use Rattle.combine_base.specs.Parser.Outcome.{Outcome, Accepted, Refused, Undecided}
 use Rattle.combine_base.specs.Sequence.Joined.{joined}
 use Rattle.combine_base.specs.Sequence.Readings.{continues, sequel}
 use Rattle.combine_base.specs.Stream.View.{View, advanced}
-use Rattle.combine_functions.specs.Changes.{Denied, changed_reading}
-use Rattle.combine_lengths.specs.Prefixes.{Awaits, FitsNone, Framed, ReadsLength, ReadsNone, Unframed, prefixed}
+use Rattle.combine_functions.specs.Changes.{changed_reading}
+use Rattle.combine_lengths.specs.Prefixes.{FitsNone, ReadsLength, prefixed}
 use Rattle.combine_map.specs.Tables.{ByTable, stays}
-use Rattle.combine_range.specs.Lengths.{First, Unfit, Waits, taking}
+use Rattle.combine_range.specs.Lengths.{taking}
 
 module _ {P T A E R N : Type 0} (step : P → T → P) (size : T → ℕ) (spells : R → List T → Type 0) (turned : A → Result ℕ E → Type 0) (r : Reading P T A) (made : ℕ → N) (means : N → Reading P T R) (takes : (n : ℕ) (v : View P T) (o : Outcome R) → means (made n) v o ↔ taking size spells n v o) where
   -- the length

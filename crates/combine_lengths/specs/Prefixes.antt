@@ -3,7 +3,7 @@ use Rattle.std.specs.Prelude.{ℕ, codes, ◌+◌, ◌≡◌, ◌⊎◌, List, B
 use Rattle.combine_base.specs.Error.Errors.{Only}
 use Rattle.combine_base.specs.Error.Items.{Item, Fixed, Message}
 use Rattle.combine_base.specs.Parser.Meaning.{Reading}
-use Rattle.combine_base.specs.Parser.Outcome.{Outcome, Accepted, Refused, Undecided}
+use Rattle.combine_base.specs.Parser.Outcome.{Accepted, Refused, Undecided}
 use Rattle.combine_base.specs.Stream.View.{View, advanced}
 use Rattle.combine_range.specs.Lengths.{First, Unfit, Waits}
 
