@@ -129,7 +129,10 @@ fn lengths_over_windows(rt: HostRuntime) -> Result<(), AllocError> {
 
 #[test]
 fn numbers_of_texts(rt: HostRuntime) {
-    assert_eq!(rt; number("1234.0001!"), accepted(("1234.0001", true), true, 9));
+    assert_eq!(rt;
+        number("1234.0001!"),
+        accepted(("1234.0001", true), true, 9)
+    );
     assert_eq!(rt; number("1234!"), accepted(("1234", false), true, 4));
     assert_eq!(rt; number("1234."), refused_behind(5));
     assert_eq!(rt; number("!"), refused());
