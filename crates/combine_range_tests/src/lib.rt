@@ -10,8 +10,6 @@ mod calls;
 #[cfg(test)]
 mod parsers;
 #[cfg(test)]
-mod prefixes;
-#[cfg(test)]
 mod searches;
 #[cfg(test)]
 mod windows;
