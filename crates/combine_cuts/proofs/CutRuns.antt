@@ -115,8 +115,9 @@ module _ {P T R A S : Type 0} (frugal : Type 0) (step : P → T → P) (start : 
         decided_here (answers.Accepted v n k) d p = answered (answers.Accepted v n k) (Accepted v n k) (λ x. x) tt (window_judged frugal step start m whole s t cut here steady kind fresh left true taken _ p)
         decided_here (answers.Refused e k) d p = answered (answers.Refused e k) (Refused k) (λ x. x) tt (window_judged frugal step start m whole s t cut here steady kind fresh left true taken _ p)
 
-        pub stops : (a : Answer A E) (r : Result (Answer A E) Kind) → a ≢ answers.More → r ≡ Ok a → Parsed r → RunsCuts frugal start m whole number at (Ok (i, a))
-        stops a r d e p = record { is = decided_here a d (subst Parsed e p) }
+        -- n windows asked, one at each cut before this one
+        pub stops : (n : ℕ) → n ≡ i → (a : Answer A E) (r : Result (Answer A E) Kind) → a ≢ answers.More → r ≡ Ok a → Parsed r → RunsCuts frugal start m whole number at (Ok (n, a))
+        stops n c a r d e p = record { is = subst (λ j. Ran frugal start m whole number at j a) (sym c) (decided_here a d (subst Parsed e p)) }
 
         pub stops_by : (k : Kind) (r : Result (Answer A E) Kind) → r ≡ Err k → Parsed r → RunsCuts frugal start m whole number at {E = E} (Err k)
         stops_by k r e p = record { is = window_judged frugal step start m whole s t cut here steady kind fresh left true taken (Err k) (subst Parsed e p) }
@@ -131,30 +132,34 @@ module _ {P T R A S : Type 0} (frugal : Type 0) (step : P → T → P) (start : 
               asked = λ j k. ⊎_elim (λ z. subst (λ n. on frugal start m (take (at n) whole) true Undecided) (sym z) q.1) (far.asked j) (eq-or-lt_of_le (let w : j ≤ i = omega arith in w));
             }
 
-    module _ (s : S) (t : ℕ) (far : SoFar s t (number)) where
+    -- the last window, behind the first i cuts
+    module _ (s : S) (t i : ℕ) (l : i ≤ number) (far : SoFar s t i) where
       pub fits_last : t ≤ length whole
-      fits_last = let a = far.reached.before in let b = last_within (length whole) number at fit (number) (omega arith) in omega arith
+      fits_last = let a = far.reached.before in let b = last_within (length whole) number at fit i l in omega arith
 
       there : Reached frugal step start m whole s t (length whole)
-      there = reached_later frugal step start m whole (last_cut at (number)) (length whole) (last_within (length whole) number at fit (number) (omega arith)) s t (omega arith) far.reached
+      there = reached_later frugal step start m whole (last_cut at i) (length whole) (last_within (length whole) number at fit i l) s t (omega arith) far.reached
 
       module _ {E : Type 0} (steady : Type 0) (kind : E → Kind) (fresh : S → Type 0) (left : S) (taken : ℕ) where
         abbrev Ended : Result (Answer A E) Kind → Type 0
         Ended r = ParsesWindow frugal steady step kind fresh start m s left whole t (length whole) false taken r
 
-        all_asked : (a : Answer A E) → decided frugal start m whole a → Ran frugal start m whole number at (number) a
-        all_asked a d = record { answer = d; within = omega arith; here = far.asked; only = λ z j k u. k }
-
-        decided_there : (a : Answer A E) → Ended (Ok a) → Ran frugal start m whole number at (number) a
-        decided_there answers.More p = absurd (let q = (window_judged frugal step start m whole s t (length whole) there steady kind fresh left false taken _ p).0 in cc)
-        decided_there (answers.Accepted v n k) p = all_asked (answers.Accepted v n k) (decides (Accepted v n k) (on_all false (Accepted v n k) (window_judged frugal step start m whole s t (length whole) there steady kind fresh left false taken _ p)))
-        decided_there (answers.Refused e k) p = all_asked (answers.Refused e k) (decides (Refused k) (on_all false (Refused k) (window_judged frugal step start m whole s t (length whole) there steady kind fresh left false taken _ p)))
-
-        pub ends : (a : Answer A E) (r : Result (Answer A E) Kind) → r ≡ Ok a → Ended r → RunsCuts frugal start m whole number at (Ok (number, a))
-        ends a r e p = record { is = decided_there a (subst Ended e p) }
-
         pub ends_by : (k : Kind) (r : Result (Answer A E) Kind) → r ≡ Err k → Ended r → RunsCuts frugal start m whole number at {E = E} (Err k)
         ends_by k r e p = record { is = window_judged frugal step start m whole s t (length whole) there steady kind fresh left false taken (Err k) (subst Ended e p) }
+
+        -- all cuts were gone through
+        module _ (all : i ≡ number) where
+          all_asked : (a : Answer A E) → decided frugal start m whole a → Ran frugal start m whole number at i a
+          all_asked a d = record { answer = d; within = l; here = far.asked; only = λ z j k u. omega arith }
+
+          decided_there : (a : Answer A E) → Ended (Ok a) → Ran frugal start m whole number at i a
+          decided_there answers.More p = absurd (let q = (window_judged frugal step start m whole s t (length whole) there steady kind fresh left false taken _ p).0 in cc)
+          decided_there (answers.Accepted v n k) p = all_asked (answers.Accepted v n k) (decides (Accepted v n k) (on_all false (Accepted v n k) (window_judged frugal step start m whole s t (length whole) there steady kind fresh left false taken _ p)))
+          decided_there (answers.Refused e k) p = all_asked (answers.Refused e k) (decides (Refused k) (on_all false (Refused k) (window_judged frugal step start m whole s t (length whole) there steady kind fresh left false taken _ p)))
+
+          -- n windows asked, as many as there are cuts
+          pub ends : (n : ℕ) → n ≡ i → (a : Answer A E) (r : Result (Answer A E) Kind) → r ≡ Ok a → Ended r → RunsCuts frugal start m whole number at (Ok (n, a))
+          ends n c a r e p = record { is = subst (λ j. Ran frugal start m whole number at j a) (sym c) (decided_there a (subst Ended e p)) }
 
 -- places that fit are so in tokens
 pub fits_in_tokens : (size : ℕ) (is_place : ℕ → Type 0) (index : ℕ → ℕ) (cuts : List ℕ) → ((c d : ℕ) → is_place c → is_place d → c ≤ d → (index c ≤ index d) × (index d ≤ size)) → places.Fit is_place cuts → Fit size (length cuts) (λ i. index (get_or cuts i 0))

@@ -3,6 +3,8 @@ use crate::notes::{Count, Notes, Noting};
 use combine_base::parser::{Answer, Parser};
 use combine_base::stream::StreamOnce;
 use combine_cuts::{cuts_fit, parse_cuts};
+use combine_integers::num::be_u16;
+use combine_lengths::range::length_prefix;
 use combine_range::range::take_while1;
 use combine_repeat::repeat::many;
 use combine_stream::MaybePartialStream;
@@ -100,9 +102,16 @@ where
     (found, parser.into_notes())
 }
 
+/// As `over`, with a length of two bytes and so many bytes behind it.
+pub fn frame<'a>(whole: &'a [u8], cuts: &[usize]) -> Option<(usize, Found<&'a [u8]>)> {
+    let mut parser = length_prefix(be_u16());
+    over(&mut parser, whole, cuts)
+}
+
 #[cfg(test)]
 mod tests {
     use super::*;
+    use std::alloc::AllocError;
 
     #[test]
     fn cuts_that_fit(rt: HostRuntime) {
@@ -144,6 +153,35 @@ mod tests {
             _ => assert!(rt; false),
         }
         assert_eq!(rt; notes.begins(), [0, 1, 2]);
+    }
+
+    /// Each window before the last byte of the frame asks for more.
+    #[test]
+    fn frames(rt: HostRuntime) -> Result<(), AllocError> {
+        let input = b"\x00\x031234";
+        assert_eq!(rt;
+            frame(input, &[3]),
+            Some((1, Found::Accepted(b"123".as_slice(), 5, true)))
+        );
+        for places in 0..64_u32 {
+            let mut cuts = Vec::new(rt.alloc());
+            let mut asked: usize = 0;
+            let mut left = places;
+            for cut in 1..7_usize {
+                if left % 2 == 1 {
+                    cuts.push(cut)?;
+                    if cut < 5 {
+                        asked = asked.saturating_add(1);
+                    }
+                }
+                left /= 2;
+            }
+            assert_eq!(rt;
+                frame(input, &cuts),
+                Some((asked, Found::Accepted(b"123".as_slice(), 5, true)))
+            );
+        }
+        Ok(())
     }
 
     fn is_digit(byte: u8) -> bool {

@@ -4,6 +4,7 @@
 ghost use Rattle.std.specs.Prelude.{◌≡◌};
 ghost use Rattle.combine_integers.specs.WholeNumbers.{number_parser};
 
+pub mod laws;
 pub mod types;
 
 use crate::whole::whole_number;

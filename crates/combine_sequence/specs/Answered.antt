@@ -19,14 +19,17 @@ use Rattle.combine_sequence.specs.declared.sequence.answered.asked.ByRef.{ByRef}
 use Rattle.combine_sequence.specs.declared.sequence.answered.asked.ByValue.{ByValue}
 
 -- the parsers of this crate, of their parts
+abbrev pub answered_of : {Q K : Type 0} → Q → K → Answered Q K
+answered_of q k = record { 0 = q; 1 = k }
+
 abbrev pub then_of : {Q F : Type 0} → Q → F → Answered Q (ByValue F)
-then_of q f = record { 0 = q; 1 = record { 0 = f } }
+then_of q f = answered_of q (record { 0 = f })
 
 abbrev pub then_partial_of : {Q F : Type 0} → Q → F → Answered Q (ByMut F)
-then_partial_of q f = record { 0 = q; 1 = record { 0 = f } }
+then_partial_of q f = answered_of q (record { 0 = f })
 
 abbrev pub then_ref_of : {Q F : Type 0} → Q → F → Answered Q (ByRef F)
-then_ref_of q f = record { 0 = q; 1 = record { 0 = f } }
+then_ref_of q f = answered_of q (record { 0 = f })
 
 abbrev pub first_part : {Q K : Type 0} → Answered Q K → Q
 first_part p = p.0

@@ -44,7 +44,7 @@ pub fn between<L, R, P>(l: L, r: R, p: P) -> Between<L, R, P>
 pub fn then<P, F>(parser: P, f: F) -> Then<P, F>
     ensures { result ≡ then_of parser f }
 {
-    Answered(parser, ByValue(f))
+    Answered::new(parser, ByValue(f))
 }
 
 /// As `then`, where the function takes a mutable reference to the value. The crate's hands its function the value as it stands in the state.
@@ -52,7 +52,7 @@ pub fn then<P, F>(parser: P, f: F) -> Then<P, F>
 pub fn then_partial<P, F>(parser: P, f: F) -> ThenPartial<P, F>
     ensures { result ≡ then_partial_of parser f }
 {
-    Answered(parser, ByMut(f))
+    Answered::new(parser, ByMut(f))
 }
 
 /// As `then`, where the function takes a reference to the value: the value of both is the pair of both values.
@@ -60,7 +60,7 @@ pub fn then_partial<P, F>(parser: P, f: F) -> ThenPartial<P, F>
 pub fn then_ref<P, F>(parser: P, f: F) -> ThenRef<P, F>
     ensures { result ≡ then_ref_of parser f }
 {
-    Answered(parser, ByRef(f))
+    Answered::new(parser, ByRef(f))
 }
 
 /// Up to eight parsers one after another, whose values make a struct.

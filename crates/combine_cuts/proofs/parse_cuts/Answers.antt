@@ -49,7 +49,7 @@ returns-in_default g c =
     record {
       lawful = c.parse_window-parsed.ensures.lawful;
       same = same_more _ _ _ c.loop-cut.invariant.same c.parse_window-parsed.ensures.same;
-      runs = rw c.loop-cut.invariant.asked (stops _ _ _ _ _ _ _ law fit _ _ _ c.loop-cut.invariant.so_far c.loop-cut-test.true _ _ _ _ _ _ _ c.in_default.not-More c.in_ok-answer.was p);
+      runs = stops _ _ _ _ _ _ _ law fit _ _ _ c.loop-cut.invariant.so_far c.loop-cut-test.true _ _ _ _ _ c.loop-cut.asked c.loop-cut.invariant.asked _ _ c.in_default.not-More c.in_ok-answer.was p;
     }
 
 pub loop-cut-preserved : goal.loop-cut-preserved
@@ -78,8 +78,7 @@ pub parse_window-parsed-requires-2-clause-order : goal.parse_window-parsed-requi
 parse_window-parsed-requires-2-clause-order g c =
     let law = (g.met.P.Parser.laws _ c.requires.lawful).whole in
     let fit = fits_in_tokens _ _ _ _ (g.met.S.Windowed.rises c.args.whole) c.requires.fit in
-    let all : c.loop-cut.cut-index ≡ length c.args.cuts.now = omega arith in
-    let within = fits_last _ _ _ _ _ _ _ law fit _ _ (rw all at c.loop-cut.invariant.so_far) in
+    let within = fits_last _ _ _ _ _ _ _ law fit _ _ c.loop-cut.cut-index (omega arith) c.loop-cut.invariant.so_far in
     g.met.S.Windowed.ordered c.args.whole _ _ c.loop-cut.invariant.place c.end-end.ensures.place (let i = c.loop-cut.invariant.index in let n = c.end-end.ensures.all in omega arith)
 
 pub returns-in_err-parsed-clause-runs : goal.returns-in_err-parsed-clause-runs
@@ -88,8 +87,7 @@ returns-in_err-parsed-clause-runs g c =
     let fit = fits_in_tokens _ _ _ _ (g.met.S.Windowed.rises c.args.whole) c.requires.fit in
     let p = window_same _ _ _ _ _ _ _ _ _ _ _ _ _ _ _ _ c.loop-cut.invariant.same c.parse_window-parsed-2.ensures.parses in
     let e = err_from_is_err_and c.from_residual-in_err-parsed.result c.from_residual-in_err-parsed.ensures.1 in
-    let all : c.loop-cut.cut-index ≡ length c.args.cuts.now = omega arith in
-    rw (e.1, e.2) (ends_by _ _ _ _ _ _ _ law fit _ _ (rw all at c.loop-cut.invariant.so_far) _ _ _ _ _ _ _ c.in_err-parsed.was (rw c.end-end.ensures.all at p))
+    rw (e.1, e.2) (ends_by _ _ _ _ _ _ _ law fit _ _ c.loop-cut.cut-index (omega arith) c.loop-cut.invariant.so_far _ _ _ _ _ _ _ c.in_err-parsed.was (rw c.end-end.ensures.all at p))
 
 pub returns-clause-runs : goal.returns-clause-runs
 returns-clause-runs g c =
@@ -97,5 +95,4 @@ returns-clause-runs g c =
     let fit = fits_in_tokens _ _ _ _ (g.met.S.Windowed.rises c.args.whole) c.requires.fit in
     let p = window_same _ _ _ _ _ _ _ _ _ _ _ _ _ _ _ _ c.loop-cut.invariant.same c.parse_window-parsed-2.ensures.parses in
     let all : c.loop-cut.cut-index ≡ length c.args.cuts.now = omega arith in
-    let n = c.loop-cut.invariant.asked ∙ all in
-    rw n (ends _ _ _ _ _ _ _ law fit _ _ (rw all at c.loop-cut.invariant.so_far) _ _ _ _ _ _ _ c.in_ok-parsed.was (rw c.end-end.ensures.all at p))
+    ends _ _ _ _ _ _ _ law fit _ _ c.loop-cut.cut-index (omega arith) c.loop-cut.invariant.so_far _ _ _ _ _ all c.loop-cut.asked c.loop-cut.invariant.asked _ _ c.in_ok-parsed.was (rw c.end-end.ensures.all at p)

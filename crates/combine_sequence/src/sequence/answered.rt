@@ -1,6 +1,6 @@
 //! A parser, and then one that a function of its value answers.
 ghost use Rattle.std.specs.Prelude.{◌≡◌, true};
-ghost use Rattle.combine_sequence.specs.Answered.{AnswersOne, asked_part, first_part, starts_first, starts_valid, then, then_is_meaning, then_means_one, valid_step};
+ghost use Rattle.combine_sequence.specs.Answered.{AnswersOne, answered_of, asked_part, first_part, starts_first, starts_valid, then, then_is_meaning, then_means_one, valid_step};
 ghost use Rattle.combine_sequence.specs.Thens.{CalledAnswered, RefusesThen};
 
 pub(super) mod asked;
@@ -17,7 +17,17 @@ use state::{AnsweredState, Answering};
 ///
 /// The state keeps the answered parser, which is not asked for again.
 #[derive(Clone, Copy, Drop)]
-pub struct Answered<P, K>(pub(super) P, pub(super) K);
+pub struct Answered<P, K>(P, K);
+
+impl<P, K> Answered<P, K> {
+    /// This parser, and then one that is asked for so.
+    #[inline]
+    pub fn new(parser: P, asked: K) -> Self
+        ensures { result ≡ answered_of parser asked }
+    {
+        Answered(parser, asked)
+    }
+}
 
 /// The parser of [`then`](crate::sequence::then).
 pub type Then<P, F> = Answered<P, ByValue<F>>;

@@ -1,7 +1,7 @@
 //! Functions that are asked for a parser, by what they take.
 ghost use Rattle.std.specs.Prelude.{◌≡◌};
 
-/// A function that answers a parser for a value, by what it takes of the value.
+/// A function that answers a parser for a value, by what it takes of the value. Our own.
 pub trait Asked<A> {
     ghost use Rattle.std.specs.Prelude.{◌≡◌};
 
@@ -18,6 +18,7 @@ pub trait Asked<A> {
 
     ghost keeps: { A → Self.Kept };
 
+    /// What is kept of the value, and the parser.
     fn ask(&self, value: A) -> (Self::Kept, Self::Parser)
         requires { callable self.now }
         ensures kept { result.0 ≡ keeps value }
@@ -42,6 +43,7 @@ impl<A, N, F: Fn(A) -> N> Asked<A> for ByValue<F> {
     ghost keeps = { forget };
 
     #[inline(always)]
+    /// What is kept of the value, and the parser.
     fn ask(&self, value: A) -> ((), N) {
         ((), (self.0)(value))
     }
@@ -65,6 +67,7 @@ impl<A: Drop, N, F: Fn(&mut A) -> N> Asked<A> for ByMut<F> {
     ghost keeps = { forget };
 
     #[inline(always)]
+    /// What is kept of the value, and the parser.
     fn ask(&self, value: A) -> ((), N) {
         let mut value = value;
         ((), (self.0)(&mut value))
@@ -90,20 +93,23 @@ impl<A, N, F: Fn(&A) -> N> Asked<A> for ByRef<F> {
     ghost keeps = { keep_first };
 
     #[inline(always)]
+    /// What is kept of the value, and the parser.
     fn ask(&self, value: A) -> ((A,), N) {
         let parser = (self.0)(&value);
         ((value,), parser)
     }
 }
 
-/// What is kept of a first value, to which the second is put.
+/// What is kept of a first value, to which the second is put. Our own.
 pub trait Join<B> {
     ghost use Rattle.std.specs.Prelude.{◌≡◌};
 
+    /// The value of both.
     type Joined;
 
     ghost joined: { Self → B → Self.Joined };
 
+    /// The value of both, of what was kept and the second.
     fn join(self, last: B) -> Self::Joined
         ensures { result ≡ joined self last };
 }

@@ -1,0 +1,2 @@
+pub mod OneLengths
+pub mod Prefixed

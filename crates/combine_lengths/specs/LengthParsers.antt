@@ -1,0 +1,12 @@
+-- `length_prefix` of a parser
+use Rattle.combine_functions.specs.Parsers.{changed_of}
+use Rattle.combine_functions.specs.declared.combinator.changed.Changed.{Changed}
+use Rattle.combine_lengths.specs.declared.range.prefix.AsLength.{AsLength}
+use Rattle.combine_lengths.specs.declared.range.prefix.Taking.{Taking}
+use Rattle.combine_map.specs.Parsers.{no_partial_of}
+use Rattle.combine_map.specs.declared.combinator.look.NoPartial.{NoPartial}
+use Rattle.combine_sequence.specs.Answered.{answered_of}
+use Rattle.combine_sequence.specs.declared.sequence.answered.Answered.{Answered}
+
+abbrev pub length_prefix_of : {Input Q : Type 0} → Q → NoPartial (Answered (Changed Q AsLength) (Taking Input))
+length_prefix_of q = no_partial_of (answered_of (changed_of q (record {})) (record { 0 = record {} }))

@@ -1,0 +1,3 @@
+pub use Rattle.combine_base.specs.Parser.Meaning
+pub mod LengthParsers
+pub mod Prefixes

@@ -1,0 +1,75 @@
+-- a length, and then so many items
+use Rattle.std.specs.Prelude.{ℕ, codes, ◌+◌, ◌≡◌, ◌⊎◌, List, Bool, ◌||◌, nat_lt, Result, Ok, Err}
+use Rattle.combine_base.specs.Error.Errors.{Only}
+use Rattle.combine_base.specs.Error.Items.{Item, Fixed, Message}
+use Rattle.combine_base.specs.Parser.Meaning.{Reading}
+use Rattle.combine_base.specs.Parser.Outcome.{Accepted, Refused, Undecided}
+use Rattle.combine_base.specs.Stream.View.{View, advanced}
+use Rattle.combine_range.specs.Lengths.{First, Unfit, Waits}
+
+module _ {A E : Type 0} (turned : A → Result ℕ E → Type 0) where
+  -- a value that is no length
+  abbrev pub FitsNone : A → Type 0
+  FitsNone a = (e : E) × turned a (Err e)
+
+  -- what is said of it
+  abbrev pub out_of_range : {T R : Type 0} → A → List (Item T R) → Type 0
+  out_of_range a is = FitsNone a × Only (Message (Fixed (codes "length out of range"))) is
+
+-- both are that length, or both are none
+abbrev pub SameLength : {E : Type 0} → Result ℕ E → Result ℕ E → Type 0
+SameLength (Ok n) (Ok m) = n ≡ m
+SameLength (Ok n) (Err e) = ⊥
+SameLength (Err e) (Ok m) = ⊥
+SameLength (Err e) (Err f) = Unit {0}
+
+-- the values that may be accepted at one place are the same length
+pub record OneLength {P T A E : Type 0} (turned : A → Result ℕ E → Type 0) (r : Reading P T A) : Type 0 where
+  pub one : (v : View P T) (a a' : A) (n m : ℕ) (k c : Bool) → r v (Accepted a n k) → r v (Accepted a' m c) → (x x' : Result ℕ E) → turned a x → turned a' x' → SameLength x x'
+
+module _ {P T A E : Type 0} (turned : A → Result ℕ E → Type 0) (r : Reading P T A) (v : View P T) where
+  -- a length was read, with so many tokens
+  pub record ReadsLength (length count : ℕ) (committed : Bool) : Type 0 where
+    pub value : A
+    pub accepted : r v (Accepted value count committed)
+    pub fits : turned value (Ok length)
+
+  -- a value was read that is none
+  pub record ReadsNone (committed : Bool) : Type 0 where
+    pub value : A
+    pub count : ℕ
+    pub accepted : r v (Accepted value count committed)
+    pub none : FitsNone turned value
+
+module _ {P T A E R : Type 0} (step : P → T → P) (size : T → ℕ) (spells : R → List T → Type 0) (turned : A → Result ℕ E → Type 0) (r : Reading P T A) where
+  -- behind a length stand so many items, and this is their range
+  pub record Framed (v : View P T) (q : R) (n : ℕ) (c : Bool) : Type 0 where
+    pub length : ℕ
+    pub before : ℕ
+    pub committed : Bool
+    pub read : ReadsLength turned r v length before committed
+    pub count : ℕ
+    pub first : First size spells length (advanced step before v) q count
+    pub sum : n ≡ before + count
+    pub kind : c ≡ (committed || nat_lt 0 length)
+
+  -- behind a length the items are too few, or end inside a token
+  pub record Unframed (v : View P T) (c : Bool) : Type 0 where
+    pub length : ℕ
+    pub before : ℕ
+    pub read : ReadsLength turned r v length before c
+    pub unfit : Unfit size spells length (advanced step before v)
+
+  -- behind a length the items are still too few
+  pub record Awaits (v : View P T) : Type 0 where
+    pub length : ℕ
+    pub before : ℕ
+    pub committed : Bool
+    pub read : ReadsLength turned r v length before committed
+    pub waits : Waits size spells length (advanced step before v)
+
+  -- A length is read by r, and then that many items: committed if the length was, or if there is an item. What fits no length, and a length that stands before too few items, are refused with the kind of the length.
+  abbrev pub prefixed : Reading P T R
+  prefixed v (Accepted q n c) = Framed v q n c
+  prefixed v (Refused c) = r v (Refused c) ⊎ (ReadsNone turned r v c ⊎ Unframed v c)
+  prefixed v Undecided = r v Undecided ⊎ Awaits v

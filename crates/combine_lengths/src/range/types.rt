@@ -1,0 +1,9 @@
+//! The parser that the function of `range` answers.
+
+pub use super::prefix::{AsLength, Taking};
+use combine_functions::combinator::Changed;
+use combine_map::combinator::types::NoPartial;
+use combine_sequence::sequence::types::Answered;
+
+/// The parser of [`length_prefix`](crate::range::length_prefix): no type of its own, but one that is composed of others.
+pub type LengthPrefix<Input, P> = NoPartial<Answered<Changed<P, AsLength>, Taking<Input>>>;
