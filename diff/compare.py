@@ -73,7 +73,7 @@ def unmodelled(debian):
     for case, answer in debian.items():
         modelled = crate.answer(case, crate.DEBIAN)
         if modelled != answer:
-            yield f"diff/crate.py does not answer as the crate does: {case} = {answer} and not {modelled}"
+            yield f"diff/crate does not answer as the crate does: {case} = {answer} and not {modelled}"
 
 
 def unexplained(found):
@@ -101,7 +101,7 @@ def unlisted(found, apart, document, title):
     known = {switch.slug for switch in [*crate.SWITCHES, *crate.BETWEEN_VERSIONS]} | {TABLES}
     used = {slug for difference in found for slug in difference.causes or ()} | ({TABLES} if any(apart.values()) else set())
     yield from (f"{document.name} has no heading under '{title}': ### {slug}" for slug in sorted(known - listed))
-    yield from (f"diff/crate.py has no switch for the entry {slug}" for slug in sorted(listed - known))
+    yield from (f"diff/crate has no switch for the entry {slug}" for slug in sorted(listed - known))
     yield from (f"no difference needs the entry {slug}" for slug in sorted(known - used))
 
 
