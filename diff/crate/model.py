@@ -27,6 +27,9 @@ OPERATOR = "chainr1-drops-no-operator"
 CHAIN = "chainr1-puts-back"
 ESCAPE = "escaped-puts-back"
 NOT = "not-followed-by-asks-for-more"
+AND_THEN = "and-then-keeps-its-tokens"
+UNTIL = "until-puts-back"
+OFFSET = "searches-judge-the-whole"
 TOKENS = "tokens-in-4-6-6"
 COUNT_STATE = "count-in-4-6-6"
 ESCAPED_STATE = "escaped-in-4-6-6"
@@ -63,6 +66,9 @@ SWITCHES = [
     Switch(CHAIN, calls=("chainr1",)),
     Switch(ESCAPE, whole=True, calls=("escaped",)),
     Switch(NOT, calls=("not_followed_by",)),
+    Switch(AND_THEN, calls=("and_then",)),
+    Switch(UNTIL, calls=("take_until", "skip_until", "repeat_until", "repeat_skip_until")),
+    Switch(OFFSET, calls=("take_until_byte",)),
 ]
 BETWEEN_VERSIONS = [
     Switch(TOKENS),
@@ -80,6 +86,10 @@ MADE_WITH = ("switches", "parts", "alternatives", "wanted", "value", "least", "m
 
 class Endless(Exception):
     """A repetition goes round for ever."""
+
+
+class Panic(Exception):
+    """The crate panics."""
 
 
 class Result(typing.NamedTuple):
@@ -114,6 +124,22 @@ class Window:
         self.at += 1
         return accepted(self.tokens[self.at - 1], True)
 
+    def read_range(self, size):
+        """So many tokens; none where there are fewer."""
+        tokens = self.tokens[self.at : self.at + size]
+        if len(tokens) < size:
+            return None
+        self.at += size
+        return tokens
+
+    def pass_over(self, distance):
+        """Goes on behind what was read before; the crate panics where there is less."""
+        if self.read_range(distance) is None:
+            raise Panic
+
+    def is_open_end(self):
+        return self.open and self.at == len(self.tokens)
+
     def asks(self, result):
         """Whether this result asks for more."""
         return self.open and not result.accepted and result.committed and result.at_end
@@ -126,6 +152,8 @@ def answer(case, switches):
         return feed(make(text, switches), cases.windows(pieces))
     except Endless:
         return "endless"
+    except Panic:
+        return "panic"
 
 
 def feed(parser, pieces):
