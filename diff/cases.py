@@ -91,6 +91,20 @@ def cases_of(parser):
         yield from (f"{parser} {pieces}" for tokens in numbers(size_of(name)) for pieces in number_cuts(tokens))
 
 
+TEXTS = HERE / "texts.list"
+# So long are the inputs of which errors are compared.
+LONGEST_TEXT = 3
+
+
+def texts():
+    return [tokens for tokens in inputs() if len(tokens) <= LONGEST_TEXT]
+
+
+def sayings():
+    """The whole inputs of which it is compared what errors say."""
+    return [f"says {parser} {tokens}." for parser in parsers(TEXTS) for tokens in texts()]
+
+
 def every_case():
     return [case for parser in parsers() for case in dict.fromkeys(cases_of(parser))]
 

@@ -14,7 +14,8 @@ CRATE = ROOT / "crates" / "combine_vectors"
 ANSWERS = ROOT / "crates" / "combine_answers" / "src"
 # The parsers that the gate keeps.
 KEPT = ANSWERS / "list.rt"
-# What the gate's program has no use for: it stands in the copy alone.
+# What the gate's program has no use for stands in the copy alone: files beside those of combine_answers or in place of them,
+# and arms of its macro `parser!`.
 ADDED = HERE / "ours"
 # So many parsers stand in one function of the list.
 TOGETHER = 10
@@ -79,7 +80,7 @@ def tried(meant):
         for test in (crate / "src").iterdir():
             test.unlink()
         (crate / "src" / "main.rt").write_text(TRIED)
-        text = output(["rt", "try", "--seconds", "120"], cwd=crate, input="".join(lines))
+        text = output(["rt", "try", "--seconds", "1500"], cwd=crate, input="".join(lines))
     if f"compared {len(lines)}\n" not in text:
         raise Missing(f"rt try answered no {len(lines)} cases:\n{text[-500:]}")
     given.update(line.split(" = ", 1) for line in text.splitlines() if " = " in line)
@@ -96,17 +97,28 @@ def copied():
         shutil.copytree(ROOT, copy, symlinks=True, ignore=shutil.ignore_patterns(".git", "target"))
         answers = copy / ANSWERS.relative_to(ROOT)
         (answers / "list.rt").write_text(whole_list(cases.parsers()))
+        (answers / "worded.rt").write_text(worded_list(cases.parsers(cases.TEXTS)))
         added = sorted(ADDED.glob("*.rt"))
+        modules = "mod worded;\n"
+        modules += "".join(f"mod {file.stem};\n" for file in added if not (answers / file.name).exists())
         for file in added:
             shutil.copy(file, answers)
-        root = answers / "lib.rt"
-        modules = "".join(f"mod {file.stem};\n" for file in added)
-        root.write_text(root.read_text().replace("mod text;\n", f"mod text;\n{modules}"))
-        uses = copy / "crates.txt"
-        uses.write_text(uses.read_text().replace("\ncombine_answers:", f"\ncombine_answers: {ADDED_USES}"))
+        put_before(answers / "lib.rt", "mod text;\n", modules)
+        put_before(answers / "composed.rt", COMPOSED_FROM, (ADDED / "arms.txt").read_text())
+        put_before(copy / "crates.txt", "\ncombine_answers:", "", f" {ADDED_USES}")
         yield copy / CRATE.relative_to(ROOT)
 
 
+def put_before(path, mark, text, behind=""):
+    """Writes a text before the first place of a mark, and another one behind the mark."""
+    first, found, rest = path.read_text().partition(mark)
+    if not found:
+        raise Missing(f"{path.name} has no {mark.strip()} any more")
+    path.write_text(first + text + found + behind + rest)
+
+
+# Where the arms begin, of the macro `parser!`, of what is composed of other parsers.
+COMPOSED_FROM = "    ($alloc:ident; or("
 # The libraries that the parsers need which the gate does not keep.
 ADDED_USES = (
     "combine_functions combine_recognize combine_errors combine_until combine_iterate combine_stream combine_range"
@@ -142,31 +154,51 @@ def whole_list(parsers):
     """The list of parsers as a file of combine_answers."""
     groups = []
     for macro in ("answer_among", "answer_composed", "answer_of_characters", "answer_over_windows"):
-        listed = [parser for parser in parsers if macro_of(parser) == macro]
-        groups += [(macro, listed[at : at + TOGETHER]) for at in range(0, len(listed), TOGETHER)]
-    calls = "\n        ".join(f".or_else(|| part_{at}(alloc, parser, feeding))" for at in range(1, len(groups)))
+        groups += in_groups(macro, [parser for parser in parsers if macro_of(parser) == macro])
+    uses = """\
+use crate::composed::{answer_composed, answer_of_characters};
+use crate::feeding::Feeding;
+use crate::text::answer_among;
+use crate::windows::answer_over_windows;
+"""
+    return found_in("The list of parsers, all of them.", uses, groups, "parser, feeding", "&str, feeding: &Feeding<'_>")
+
+
+def worded_list(parsers):
+    """The list of the parsers whose errors are compared, and the inputs."""
+    texts = ", ".join(f'"{text}"' for text in cases.texts())
+    count = len(cases.texts())
+    inputs = f"\n/// The inputs.\npub(crate) const TEXTS: [&'static str; {count}] = [{texts}];\n"
+    groups = in_groups("said_among", parsers)
+    words = found_in("What parsers say.", "use crate::texts::said_among;\n", groups, "parser, text", "&str, text: &'static str")
+    return words + inputs
+
+
+def in_groups(macro, parsers):
+    return [(macro, parsers[at : at + TOGETHER]) for at in range(0, len(parsers), TOGETHER)]
+
+
+def found_in(title, uses, groups, names, types):
+    """A file with a function `find`, which goes through the groups."""
+    calls = "\n        ".join(f".or_else(|| part_{at}(alloc, {names}))" for at in range(1, len(groups)))
     lines = [
-        "//! The list of parsers, all of them.",
+        f"//! {title}",
         "",
-        "use crate::composed::{answer_composed, answer_of_characters};",
-        "use crate::feeding::Feeding;",
-        "use crate::text::answer_among;",
-        "use crate::windows::answer_over_windows;",
-        "use std::alloc::{AllocError, Global};",
+        f"{uses}use std::alloc::{{AllocError, Global}};",
         "",
         "type Found = Option<Result<String, AllocError>>;",
         "",
         "/// The answer of the parser of the list that has this text.",
-        "pub(crate) fn find(alloc: Global, parser: &str, feeding: &Feeding<'_>) -> Found {",
-        f"    part_0(alloc, parser, feeding)\n        {calls}",
+        f"pub(crate) fn find(alloc: Global, parser: {types}) -> Found {{",
+        f"    part_0(alloc, {names})\n        {calls}",
         "}",
     ]
     for at, (macro, group) in enumerate(groups):
         listed = "".join(f"        {parser},\n" for parser in group)
         lines += [
             "",
-            f"fn part_{at}(alloc: Global, parser: &str, feeding: &Feeding<'_>) -> Found {{",
-            f"    {macro}!(\n        alloc, parser, feeding;\n{listed}    )",
+            f"fn part_{at}(alloc: Global, parser: {types}) -> Found {{",
+            f"    {macro}!(\n        alloc, {names};\n{listed}    )",
             "}",
         ]
     return "\n".join(lines) + "\n"

@@ -2,7 +2,7 @@
 
 use crate::answered::Style;
 use crate::classes::tokens_of;
-use crate::feeding::{bytes_of, read_feeding};
+use crate::feeding::read_feeding;
 use crate::list::find;
 use std::alloc::{AllocError, Global};
 
@@ -25,7 +25,6 @@ fn answer_in_style(alloc: Global, case: &str, style: Style) -> Result<Option<Str
     if parser == "class" {
         return tokens_of(alloc, pieces).transpose();
     }
-    let whole = bytes_of(alloc, pieces)?;
-    let feeding = read_feeding(alloc, pieces, &whole, style)?;
+    let feeding = read_feeding(alloc, pieces, style)?;
     find(alloc, parser, &feeding).transpose()
 }

@@ -8,6 +8,7 @@ mod guarded;
 mod parsers;
 mod run;
 mod show;
+mod texts;
 
 use std::io::{BufRead, BufWriter, Write};
 
@@ -21,9 +22,10 @@ fn main() -> std::io::Result<()> {
         if case.is_empty() || case.starts_with('#') {
             continue;
         }
-        let answer = match case.strip_prefix("class ") {
-            Some(class) => classes::answer(class),
-            None => read(case).and_then(|(parser, tokens, ends)| parsers::answer(parser, &tokens, &ends)),
+        let answer = match case.split_once(' ') {
+            Some(("class", class)) => classes::answer(class),
+            Some(("says", case)) => texts::answer(case),
+            _ => read(case).and_then(|(parser, tokens, ends)| parsers::answer(parser, &tokens, &ends)),
         };
         writeln!(out, "{case} = {}", answer.as_deref().unwrap_or("unknown"))?;
     }
