@@ -132,7 +132,7 @@ def split(parser):
             continue
         depth += {"(": 1, ")": -1}.get(letter, 0)
         parts[-1] += letter
-    return name, [] if parts == [""] and name in {"any", "eof", *NUMBERS} else parts
+    return name, [] if parts == [""] and name in {"any", "eof", "letter", "digit", *NUMBERS} else parts
 
 
 def calls(parser):

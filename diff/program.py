@@ -29,7 +29,7 @@ def build():
     """The program, proved and built (some minutes)."""
     made = HERE / "out" / "combine_vectors"
     made.parent.mkdir(exist_ok=True)
-    with copied() as crate:
+    with copied(cases.parsers()) as crate:
         # A run compares with these; what the program answers is compared here.
         (crate / "stdin").write_text("")
         (crate / "stdout").write_text("")
@@ -72,31 +72,53 @@ fn main(rt: HostRuntime) -> io::Result<()> {
 """
 
 
+# So many parsers are tried at once.
+TRIED_AT_ONCE = 60
+
+
 def tried(meant):
     """What the sources answer to these cases, by `rt try`, which proves nothing: the answers that are meant, or others."""
+    of_parser = {}
+    for case in meant:
+        of_parser.setdefault(case.split(" ")[0], []).append(case)
+    apart = {name: of_parser.pop(name, []) for name in ("class", "says")}
+    parsers = [*of_parser]
+    groups = [parsers[at : at + TRIED_AT_ONCE] for at in range(0, len(parsers), TRIED_AT_ONCE)] or [[]]
+    given = {}
+    for at, group in enumerate(groups):
+        cases_ = [case for parser in group for case in of_parser[parser]]
+        cases_ += [] if at else [*apart["class"], *apart["says"]]
+        given |= tried_at_once(group, {case: meant[case] for case in cases_})
+    return given
+
+
+def tried_at_once(parsers, meant):
     lines = [f"{case} = {answer}\n" for case, answer in meant.items()]
-    given = dict(meant)
-    with copied() as crate:
+    with copied(with_each_macro(parsers)) as crate:
         for test in (crate / "src").iterdir():
             test.unlink()
         (crate / "src" / "main.rt").write_text(TRIED)
         text = output(["rt", "try", "--seconds", "1500"], cwd=crate, input="".join(lines))
     if f"compared {len(lines)}\n" not in text:
         raise Missing(f"rt try answered no {len(lines)} cases:\n{text[-500:]}")
-    given.update(line.split(" = ", 1) for line in text.splitlines() if " = " in line)
-    return given
+    return meant | dict(line.split(" = ", 1) for line in text.splitlines() if " = " in line)
+
+
+def with_each_macro(parsers):
+    """The parsers, and one for each macro that has none: the list names all."""
+    return list(dict.fromkeys(["any()", "then(any())", "string(ab)", "take(1)", *parsers]))
 
 
 @contextlib.contextmanager
-def copied():
-    """The crate in a copy of the repository, with what is built there."""
+def copied(parsers):
+    """The crate in a copy of the repository, with what is built there, and these parsers as its list."""
     if shutil.which("rt") is None:
         raise Missing("rt, of Rattle's toolchain, is missing: it makes the program of crates/combine_vectors")
     with tempfile.TemporaryDirectory() as folder:
         copy = pathlib.Path(folder) / "repository"
         shutil.copytree(ROOT, copy, symlinks=True, ignore=shutil.ignore_patterns(".git", "target"))
         answers = copy / ANSWERS.relative_to(ROOT)
-        (answers / "list.rt").write_text(whole_list(cases.parsers()))
+        (answers / "list.rt").write_text(whole_list(parsers))
         (answers / "worded.rt").write_text(worded_list(cases.parsers(cases.TEXTS)))
         added = sorted(ADDED.glob("*.rt"))
         modules = "mod worded;\n"
