@@ -1,4 +1,4 @@
-"""Our program over all parsers: the crate combine_vectors in a copy of the repository, whose list of parsers is all of parsers.list."""
+"""Our program over all parsers: the crate combine_vectors in a copy of the repository, whose list is all of parsers.list."""
 
 import contextlib
 import pathlib

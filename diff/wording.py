@@ -1,7 +1,7 @@
 """What an error says that is meant, of a whole input of characters; and how what the crate says differs from it.
 
-A parser is read as a function of the tokens and a place in them, which answers `Said`. Items are pairs, of `Unexpected`, `Expected`
-or `Message` and a text; an item is added once.
+A parser is read as a function of the tokens and a place in them, which answers `Said`. Items are pairs, of `Unexpected`,
+`Expected` or `Message` and a text; an item is added once.
 """
 
 import dataclasses

@@ -83,11 +83,11 @@ fn in_windows<'a, P: Parser<MaybePartialStream<&'a [u8]>> + Drop>(
     let mut unread = Vec::new(alloc);
     let (mut taken, mut end) = (0_usize, 0_usize);
     for (at, piece) in pieces.iter().enumerate() {
-        end += piece.len();
+        end = end.saturating_add(piece.len());
         let is_open = !(ended && at + 1 == pieces.len());
-        let mut stream = MaybePartialStream(&whole[taken..end], is_open);
+        let mut stream = MaybePartialStream(whole.get(taken..end).unwrap_or(&[]), is_open);
         let parsed = parser.parse_partial(&mut stream, &mut state);
-        taken = end - stream.0.len();
+        taken = end.saturating_sub(stream.0.len());
         match judge(&stream, parsed, taken as u64) {
             Ok(Answer::More) => unread.push(stream.0.len())?,
             answer => {
