@@ -1,5 +1,6 @@
 """The cases: each parser of parsers.list on each short input over each cut; and how they are written."""
 
+import functools
 import itertools
 import pathlib
 
@@ -39,8 +40,73 @@ def cuts(tokens):
             yield "/".join(tokens[begin:end] for begin, end in zip(ends, ends[1:])) + "."
 
 
+# Tokens that stand for bytes of whole numbers.
+BYTES = {"N": 0x00, "S": 0x7F, "H": 0x80, "F": 0xFF}
+NUMBERS = [f"{order}_{sign}{8 * size}" for sign in "ui" for size in (2, 4, 8) for order in ("be", "le")]
+RANGES = {
+    *("range", "take", "take_while", "take_while1", "take_until_range", "recognize_range", "recognize_with_value"),
+    *("take_until_byte", "take_until_byte2", "take_until_byte3", "take_until_bytes"),
+    *NUMBERS,
+}
+
+
+def reads_ranges(parser):
+    """Whether a parser reads ranges, or whole numbers: it is run over windows."""
+    return any(name in RANGES for name, _ in calls(parser))
+
+
+def size_of(number):
+    """How many bytes the whole number of `be_u16` has."""
+    return int(number[4:]) // 8
+
+
+def number(name, tokens):
+    """The whole number of these tokens, as text."""
+    value = int.from_bytes(bytes(BYTES.get(token, ord(token)) for token in tokens), {"b": "big", "l": "little"}[name[0]])
+    limit = 256**len(tokens)
+    return str(value - limit if name[3] == "i" and 2 * value >= limit else value)
+
+
+def numbers(size):
+    """Bytes of a whole number: each that is on an edge in each place, others before and behind it, and one too few."""
+    rests = [(byte,) * (size - 1) for byte in "NF"]
+    edges = {(*rest[:at], byte, *rest[at:]) for byte in "NSHF" for rest in rests for at in range(size)}
+    letters = "abcSHabc"[:size]
+    return sorted("".join(tokens) for tokens in edges) + [letters, letters[1:]]
+
+
+def number_cuts(tokens):
+    """The whole input, one in two pieces at each place, and each byte alone."""
+    yield f"{tokens}."
+    for at in range(len(tokens) + 1):
+        yield f"{tokens[:at]}/{tokens[at:]}."
+    yield "/".join(tokens) + "/."
+
+
+def cases_of(parser):
+    """The inputs of a parser, over every cut."""
+    yield from (f"{parser} {pieces}" for tokens in inputs() for pieces in cuts(tokens))
+    name, _ = split(parser)
+    if name in NUMBERS:
+        yield from (f"{parser} {pieces}" for tokens in numbers(size_of(name)) for pieces in number_cuts(tokens))
+
+
+TEXTS = HERE / "texts.list"
+# So long are the inputs of which errors are compared.
+LONGEST_TEXT = 3
+
+
+def texts():
+    return [tokens for tokens in inputs() if len(tokens) <= LONGEST_TEXT]
+
+
+def sayings():
+    """The whole inputs of which it is compared what errors say."""
+    return [f"says {parser} {tokens}." for parser in parsers(TEXTS) for tokens in texts()]
+
+
 def every_case():
-    return [f"{parser} {pieces}" for parser in parsers() for tokens in inputs() for pieces in cuts(tokens)]
+    return [case for parser in parsers() for case in dict.fromkeys(cases_of(parser))]
 
 
 def windows(pieces):
@@ -55,6 +121,7 @@ def is_whole(feeding):
     return len(feeding) == 1 and not feeding[0][1]
 
 
+@functools.cache
 def split(parser):
     """The name of a constructor and the texts of its arguments."""
     name, rest = parser.removesuffix(")").split("(", 1)
@@ -65,7 +132,7 @@ def split(parser):
             continue
         depth += {"(": 1, ")": -1}.get(letter, 0)
         parts[-1] += letter
-    return name, [] if parts == [""] and name in ("any", "eof") else parts
+    return name, [] if parts == [""] and name in {"any", "eof", "letter", "digit", *NUMBERS} else parts
 
 
 def calls(parser):

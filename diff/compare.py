@@ -7,6 +7,7 @@ import re
 
 import cases
 import crate
+import wording
 
 FAILURES = ("endless", "panic")
 
@@ -23,7 +24,7 @@ class Compared:
     causes: tuple | None
 
     def parser(self):
-        return self.case.split(" ")[0]
+        return self.case.rsplit(" ", 1)[0]
 
     def differs(self):
         return not self.debian == self.latest == self.ours
@@ -40,6 +41,8 @@ class Compared:
 
 
 def compare(case, debian, ours):
+    if case.startswith("says "):
+        return Compared(case, debian, debian, ours, () if debian == ours else wording.causes(debian, ours))
     compared = Compared(case, debian, crate.answer(case, crate.LATEST), ours, ())
     if compared.differs():
         compared.causes = causes(compared)
@@ -71,9 +74,11 @@ def fewest(case, on, switches, answer):
 def unmodelled(debian):
     """Answers of the crate that its model does not give."""
     for case, answer in debian.items():
+        if case.startswith("says "):
+            continue
         modelled = crate.answer(case, crate.DEBIAN)
         if modelled != answer:
-            yield f"diff/crate.py does not answer as the crate does: {case} = {answer} and not {modelled}"
+            yield f"diff/crate does not answer as the crate does: {case} = {answer} and not {modelled}"
 
 
 def unexplained(found):
@@ -82,6 +87,8 @@ def unexplained(found):
     for difference in found:
         if difference.causes is None:
             yield f"no entries explain: {difference.line()}"
+            continue
+        if difference.case.startswith("says "):
             continue
         named = [switches[slug] for slug in difference.causes]
         if is_whole(difference.case) and not all(switch.whole for switch in named):
@@ -98,10 +105,10 @@ def is_whole(case):
 def unlisted(found, apart, document, title):
     """Where the entries under a title of the document, the switches and the entries that are used are not the same."""
     listed = entries(document.read_text(), title)
-    known = {switch.slug for switch in [*crate.SWITCHES, *crate.BETWEEN_VERSIONS]} | {TABLES}
+    known = {switch.slug for switch in [*crate.SWITCHES, *crate.BETWEEN_VERSIONS]} | {TABLES, *wording.NAMES}
     used = {slug for difference in found for slug in difference.causes or ()} | ({TABLES} if any(apart.values()) else set())
     yield from (f"{document.name} has no heading under '{title}': ### {slug}" for slug in sorted(known - listed))
-    yield from (f"diff/crate.py has no switch for the entry {slug}" for slug in sorted(listed - known))
+    yield from (f"diff/crate has no switch for the entry {slug}" for slug in sorted(listed - known))
     yield from (f"no difference needs the entry {slug}" for slug in sorted(known - used))
 
 
@@ -166,7 +173,7 @@ def read_counts(path):
 
 def shortness(case):
     """Short inputs come first, and then few pieces."""
-    pieces = case.split(" ")[1]
+    pieces = case.rsplit(" ", 1)[1]
     return (len(pieces.replace("/", "")), len(pieces), case)
 
 

@@ -94,6 +94,19 @@ def end_of_input(tokens, open_):
     return UNDECIDED if open_ else ("accepted", "()", 0, False)
 
 
+def with_taken(parse, collect):
+    """The same outcomes, the value made of the tokens that were taken and of the one that was."""
+
+    def parse_taking(tokens, open_):
+        outcome = parse(tokens, open_)
+        if outcome[0] != "accepted":
+            return outcome
+        _, value, count, committed = outcome
+        return ("accepted", collect(tokens[:count], value), count, committed)
+
+    return parse_taking
+
+
 def with_value(function, parse):
     """The same outcomes, the value changed."""
 
@@ -105,6 +118,91 @@ def with_value(function, parse):
         return ("accepted", function(value), count, committed)
 
     return parse_with
+
+
+def but_b(parse):
+    """A function makes a capital of the value, and refuses a `b`, with the kind of the parser."""
+
+    def parse_but_b(tokens, open_):
+        outcome = parse(tokens, open_)
+        if outcome[0] != "accepted":
+            return outcome
+        _, value, count, committed = outcome
+        return ("refused", committed) if value == "b" else ("accepted", value.upper(), count, committed)
+
+    return parse_but_b
+
+
+def length(size):
+    def parse(tokens, open_):
+        if len(tokens) < size:
+            return UNDECIDED if open_ else ("refused", False)
+        return ("accepted", quoted(tokens[:size]), size, size > 0)
+
+    return parse
+
+
+def one_range(wanted=""):
+    """That many tokens are judged first; the same ones are accepted, always committed."""
+    first = length(len(wanted))
+
+    def parse(tokens, open_):
+        outcome = first(tokens, open_)
+        if outcome[0] != "accepted":
+            return outcome
+        return ("accepted", quoted(wanted), len(wanted), True) if tokens.startswith(wanted) else ("refused", False)
+
+    return parse
+
+
+def longest(letters, least):
+    def parse(tokens, open_):
+        count = len(tokens) - len(tokens.lstrip(letters))
+        if open_ and count == len(tokens):
+            return UNDECIDED
+        if count < least:
+            return ("refused", False)
+        return ("accepted", quoted(tokens[:count]), count, count > 0)
+
+    return parse
+
+
+def before(find, is_range):
+    """What stands before the first place; where there is none, on ended input, a search refuses committed but an empty one."""
+
+    def parse(tokens, open_):
+        count = find(tokens)
+        if count >= 0:
+            return ("accepted", quoted(tokens[:count]), count, count > 0)
+        return UNDECIDED if open_ else ("refused", not is_range and len(tokens) > 0)
+
+    return parse
+
+
+def first_of(letters):
+    return before(lambda tokens: next((at for at, token in enumerate(tokens) if token in letters), -1), False)
+
+
+def by_length(parse, collect):
+    """What a parser took, committed if it is anything."""
+    recognized = with_taken(parse, collect)
+
+    def parse_recognized(tokens, open_):
+        outcome = recognized(tokens, open_)
+        return (*outcome[:3], outcome[2] > 0) if outcome[0] == "accepted" else outcome
+
+    return parse_recognized
+
+
+def whole_number(name):
+    size = cases.size_of(name)
+
+    def parse(tokens, open_):
+        if len(tokens) < size:
+            return UNDECIDED if open_ else ("refused", False)
+        return ("accepted", cases.number(name, tokens[:size]), size, True)
+
+    return parse
 
 
 def after(count, committed, outcome):
@@ -292,12 +390,43 @@ def escaped(parse, escape, behind):
     return turns(choice(parse, sequence([same_token(escape), behind], nothing)), nothing, 0)
 
 
+def until(parse, end, collect):
+    """Turns up to the first place where the end isn't refused peeked; its tokens are put back. A turn may not take nothing."""
+
+    def parse_until(tokens, open_):
+        values, count, committed = [], 0, False
+        while True:
+            outcome = end(tokens[count:], open_)
+            if outcome[0] == "accepted":
+                return ("accepted", collect(values), count, committed or outcome[3])
+            if outcome != ("refused", False):
+                return outcome
+            outcome = parse(tokens[count:], open_)
+            if outcome[0] != "accepted":
+                return outcome
+            if outcome[2] == 0:
+                return ("refused", True)
+            values.append(outcome[1])
+            _, _, count, committed = after(count, committed, outcome)
+
+    return parse_until
+
+
+def iterate(most, parse):
+    """The n-th item wants the parser n times."""
+    return sequence([counted(parse, listed, item, item) for item in range(int(most))], listed)
+
+
 def listed(values):
     return f"[{','.join(values)}]"
 
 
 def nothing(values):
     return "()"
+
+
+def quoted(tokens):
+    return f'"{tokens}"'
 
 
 def wrapped(value):
@@ -322,12 +451,35 @@ LEAVES = {
     "tokens": token_list,
     "tokens_cmp": token_list,
     "value": value,
+    "range": one_range,
+    "take": lambda size: length(int(size)),
+    "take_while": lambda letters: longest(letters, 0),
+    "take_while1": lambda letters: longest(letters, 1),
+    "take_until_range": lambda wanted: before(lambda tokens: tokens.find(wanted), True),
+    "take_until_byte": first_of,
+    "take_until_byte2": first_of,
+    "take_until_byte3": first_of,
+    "take_until_bytes": lambda wanted: before(lambda tokens: tokens.find(wanted), False),
+    **{name: functools.partial(whole_number, name) for name in cases.NUMBERS},
 }
 
 CONSTRUCTORS = {
     "any": lambda: one(lambda token: True),
     "eof": lambda: end_of_input,
     "map": lambda parse: with_value(wrapped, parse),
+    "and_then": but_b,
+    "flat_map": but_b,
+    "recognize": lambda parse: with_taken(parse, lambda tokens, value: listed(tokens)),
+    "recognize_range": lambda parse: by_length(parse, lambda tokens, value: quoted(tokens)),
+    "recognize_with_value": lambda parse: by_length(parse, lambda tokens, value: both(quoted(tokens), value)),
+    "expected": lambda parse: parse,
+    "message": lambda parse: parse,
+    "silent": lambda parse: parse,
+    "take_until": lambda end: until(one(lambda token: True), end, listed),
+    "skip_until": lambda end: until(one(lambda token: True), end, nothing),
+    "repeat_until": lambda parse, end: until(parse, end, listed),
+    "repeat_skip_until": lambda parse, end: until(parse, end, nothing),
+    "iterate": iterate,
     "attempt": attempt,
     "look_ahead": look_ahead,
     "not_followed_by": not_followed_by,

@@ -1,6 +1,6 @@
 //! Guards against a parse without end: it is stopped after so many reads, or so many copies of a value.
 
-use combine::stream::{MaybePartialStream, Positioned, ResetStream, StreamErrorFor, StreamOnce};
+use combine::stream::{MaybePartialStream, Positioned, RangeStreamOnce, ResetStream, StreamErrorFor, StreamOnce};
 use std::cell::Cell;
 
 /// More than any parse of a few tokens takes.
@@ -81,6 +81,26 @@ impl<'a, T: Letter> ResetStream for Guarded<'a, T> {
 
     fn reset(&mut self, checkpoint: Self::Checkpoint) -> Result<(), Self::Error> {
         self.stream.reset(checkpoint)
+    }
+}
+
+impl<'a, T: Letter> RangeStreamOnce for Guarded<'a, T> {
+    fn uncons_range(&mut self, size: usize) -> Result<Self::Range, StreamErrorFor<Self>> {
+        count(&self.reads);
+        self.stream.uncons_range(size)
+    }
+
+    fn uncons_while<F: FnMut(T) -> bool>(&mut self, f: F) -> Result<Self::Range, StreamErrorFor<Self>> {
+        count(&self.reads);
+        self.stream.uncons_while(f)
+    }
+
+    fn distance(&self, end: &Self::Checkpoint) -> usize {
+        self.stream.distance(end)
+    }
+
+    fn range(&self) -> Self::Range {
+        self.stream.range()
     }
 }
 

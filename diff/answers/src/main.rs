@@ -8,6 +8,7 @@ mod guarded;
 mod parsers;
 mod run;
 mod show;
+mod texts;
 
 use std::io::{BufRead, BufWriter, Write};
 
@@ -21,9 +22,10 @@ fn main() -> std::io::Result<()> {
         if case.is_empty() || case.starts_with('#') {
             continue;
         }
-        let answer = match case.strip_prefix("class ") {
-            Some(class) => classes::answer(class),
-            None => read(case).and_then(|(parser, tokens, ends)| parsers::answer(parser, &tokens, &ends)),
+        let answer = match case.split_once(' ') {
+            Some(("class", class)) => classes::answer(class),
+            Some(("says", case)) => texts::answer(case),
+            _ => read(case).and_then(|(parser, tokens, ends)| parsers::answer(parser, &tokens, &ends)),
         };
         writeln!(out, "{case} = {}", answer.as_deref().unwrap_or("unknown"))?;
     }
@@ -39,9 +41,20 @@ fn read(case: &str) -> Option<(&str, Vec<u8>, Vec<(usize, bool)>)> {
     };
     let (mut tokens, mut ends) = (Vec::new(), Vec::new());
     for piece in pieces.split('/') {
-        tokens.extend_from_slice(piece.as_bytes());
+        tokens.extend(piece.bytes().map(byte_of));
         ends.push((tokens.len(), true));
     }
     ends.last_mut()?.1 = !ended;
     Some((parser, tokens, ends))
+}
+
+/// The byte that a letter stands for: its own, and for a few capitals one that is on an edge of whole numbers.
+fn byte_of(letter: u8) -> u8 {
+    match letter {
+        b'N' => 0x00,
+        b'S' => 0x7f,
+        b'H' => 0x80,
+        b'F' => 0xff,
+        letter => letter,
+    }
 }

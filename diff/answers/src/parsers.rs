@@ -3,10 +3,18 @@
 use crate::guarded::{Counted, Guarded};
 use combine::parser::char::string;
 use combine::parser::choice::{choice, optional, or};
-use combine::parser::combinator::{attempt, look_ahead, not_followed_by, Either};
+use combine::error::UnexpectedParse;
+use combine::parser::byte::num::{
+    be_i16, be_i32, be_i64, be_u16, be_u32, be_u64, le_i16, le_i32, le_i64, le_u16, le_u32, le_u64,
+};
+use combine::parser::byte::{take_until_byte, take_until_byte2, take_until_byte3, take_until_bytes};
+use combine::parser::combinator::{attempt, look_ahead, not_followed_by, recognize, Either};
+use combine::parser::range::{
+    range, recognize as recognize_range, recognize_with_value, take, take_until_range, take_while, take_while1,
+};
 use combine::parser::repeat::{
-    chainl1, chainr1, count, count_min_max, escaped, many, many1, sep_by, sep_by1, sep_end_by, sep_end_by1, skip_count,
-    skip_count_min_max, skip_many, skip_many1,
+    chainl1, chainr1, count, count_min_max, escaped, iterate, many, many1, repeat_skip_until, repeat_until, sep_by, sep_by1,
+    sep_end_by, sep_end_by1, skip_count, skip_count_min_max, skip_many, skip_many1, skip_until, take_until,
 };
 use combine::parser::sequence::{between, skip, with};
 use combine::parser::token::{any, eof, none_of, one_of, satisfy, satisfy_map, token, tokens, tokens_cmp, value};
@@ -75,6 +83,42 @@ macro_rules! parser {
     (escaped($f:ident $a:tt, $escape:ident, $g:ident $b:tt)) => {
         escaped(parser!($f $a), stringify!($escape).as_bytes()[0], parser!($g $b))
     };
+    (and_then($f:ident $a:tt)) => { parser!($f $a).and_then(all_but_b) };
+    (flat_map($f:ident $a:tt)) => { parser!($f $a).flat_map(all_but_b) };
+    (recognize($f:ident $a:tt)) => { recognize::<Vec<u8>, _, _>(parser!($f $a)) };
+    (expected($f:ident $a:tt)) => { parser!($f $a).expected("what is expected") };
+    (message($f:ident $a:tt)) => { parser!($f $a).message("what is said") };
+    (silent($f:ident $a:tt)) => { parser!($f $a).silent() };
+    (take_until($f:ident $a:tt)) => { take_until::<Vec<u8>, _, _>(parser!($f $a)) };
+    (skip_until($f:ident $a:tt)) => { skip_until(parser!($f $a)) };
+    (repeat_until($f:ident $a:tt, $g:ident $b:tt)) => { repeat_until::<Vec<_>, _, _, _>(parser!($f $a), parser!($g $b)) };
+    (repeat_skip_until($f:ident $a:tt, $g:ident $b:tt)) => { repeat_skip_until(parser!($f $a), parser!($g $b)) };
+    (iterate($n:literal, $f:ident $a:tt)) => {
+        iterate::<Vec<_>, _, _, _, _>(0..$n, |count, _| count_min_max::<Vec<_>, _, _>(*count, *count, parser!($f $a)))
+    };
+    (range($($text:ident)?)) => { range(concat!($(stringify!($text))?).as_bytes()) };
+    (take($n:literal)) => { take($n) };
+    (take_while($set:ident)) => { take_while(|token: u8| stringify!($set).as_bytes().contains(&token)) };
+    (take_while1($set:ident)) => { take_while1(|token: u8| stringify!($set).as_bytes().contains(&token)) };
+    (take_until_range($($text:ident)?)) => { take_until_range(concat!($(stringify!($text))?).as_bytes()) };
+    (recognize_range($f:ident $a:tt)) => { recognize_range(parser!($f $a)) };
+    (recognize_with_value($f:ident $a:tt)) => { recognize_with_value(parser!($f $a)) };
+    (take_until_byte(a)) => { take_until_byte(b'a') };
+    (take_until_byte2(ab)) => { take_until_byte2(b'a', b'b') };
+    (take_until_byte3(abc)) => { take_until_byte3(b'a', b'b', b'c') };
+    (take_until_bytes($($text:ident)?)) => { take_until_bytes(concat!($(stringify!($text))?).as_bytes()) };
+    (be_u16()) => { be_u16() };
+    (le_u16()) => { le_u16() };
+    (be_i16()) => { be_i16() };
+    (le_i16()) => { le_i16() };
+    (be_u32()) => { be_u32() };
+    (le_u32()) => { le_u32() };
+    (be_i32()) => { be_i32() };
+    (le_i32()) => { le_i32() };
+    (be_u64()) => { be_u64() };
+    (le_u64()) => { le_u64() };
+    (be_i64()) => { be_i64() };
+    (le_i64()) => { le_i64() };
     (look_ahead($f:ident $a:tt)) => { look_ahead(parser!($f $a)) };
     (not_followed_by($f:ident $a:tt)) => { not_followed_by(parser!($f $a).map(|_| 0_u8)) };
 }
@@ -93,6 +137,14 @@ impl Chain {
     fn operator(token: u8) -> impl FnOnce(Chain, Chain) -> Chain {
         move |left, right| Chain(format!("({}{}{})", left.0, char::from(token), right.0))
     }
+}
+
+/// A token as a capital, but for `b`, which is refused.
+fn all_but_b(token: u8) -> Result<u8, UnexpectedParse> {
+    if token == b'b' {
+        return Err(UnexpectedParse::Unexpected);
+    }
+    Ok(token.to_ascii_uppercase())
 }
 
 fn listed<'a>(text: &'static str) -> impl Parser<Guarded<'a, u8>, Output = String> {

@@ -21,6 +21,24 @@ impl Show for String {
     }
 }
 
+/// A range.
+impl Show for &[u8] {
+    fn show(&self, text: &mut String) {
+        text.push_str(&format!("{:?}", String::from_utf8_lossy(self)));
+    }
+}
+
+macro_rules! numbers {
+    ($($number:ident)+) => {
+        $(impl Show for $number {
+            fn show(&self, text: &mut String) {
+                text.push_str(&self.to_string());
+            }
+        })+
+    };
+}
+numbers!(u16 i16 u32 i32 u64 i64);
+
 impl Show for () {
     fn show(&self, text: &mut String) {
         text.push_str("()");
