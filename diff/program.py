@@ -120,11 +120,12 @@ def copied(parsers):
         answers = copy / ANSWERS.relative_to(ROOT)
         (answers / "list.rt").write_text(whole_list(parsers))
         (answers / "worded.rt").write_text(worded_list(cases.parsers(cases.TEXTS)))
-        added = sorted(ADDED.glob("*.rt"))
+        # their names end in .txt here, since the gate reads each .rt file of the repository as part of a crate
+        added = {file.name.removesuffix(".txt"): file for file in sorted(ADDED.glob("*.rt.txt"))}
         modules = "mod worded;\n"
-        modules += "".join(f"mod {file.stem};\n" for file in added if not (answers / file.name).exists())
-        for file in added:
-            shutil.copy(file, answers)
+        modules += "".join(f"mod {name.removesuffix('.rt')};\n" for name in added if not (answers / name).exists())
+        for name, file in added.items():
+            shutil.copy(file, answers / name)
         put_before(answers / "lib.rt", "mod text;\n", modules)
         put_before(answers / "composed.rt", COMPOSED_FROM, (ADDED / "arms.txt").read_text())
         put_before(copy / "crates.txt", "\ncombine_answers:", "", f" {ADDED_USES}")
