@@ -4,7 +4,7 @@ ghost use Rattle.combine_base.specs.Parser.Answer.{Answers, world};
 ghost use Rattle.combine_base.specs.Parser.Meaning.{MeansSame};
 ghost use Rattle.combine_base.specs.Sequence.Parts.{accepted_as};
 ghost use Rattle.combine_base.specs.Stream.Calls.{Passes};
-ghost use Rattle.combine_base.specs.Stream.View.{View, Takes};
+ghost use Rattle.combine_base.specs.Stream.View.{Takes};
 ghost use Rattle.combine_map.specs.Attempt.{losing};
 ghost use Rattle.combine_until.specs.Until.{blocks_so_far, some_appended, until, until_fresh, until_valid};
 ghost use Rattle.combine_until.specs.UntilTurn.{ComesTo, HandsOut, Keeps, KeepsRunning, OneTurn, Settled};
@@ -15,7 +15,7 @@ use combine_base::parser::{FirstMode, ParseMode, Parser};
 use combine_base::refusal::refusal_saying;
 use combine_base::repeat::Append;
 use combine_base::sequence::accepted_after;
-use combine_base::stream::{Kind, Stream, has_taken, needs_more};
+use combine_base::stream::{Kind, Stream, needs_more};
 use std::alloc::AllocError;
 use std::mem::replace;
 
@@ -58,8 +58,8 @@ impl<F> Blocks<F> {
 
     /// The same blocks in the next piece.
     #[inline(always)]
-    fn cut<Input: Stream>(self, since: Input::Checkpoint, input: &Input) -> Blocks<F>
-        ensures { (n : ℕ) (v : View Input.Position Input.Token) → Input.stands input.now since v → Takes Input.step n v (Input.view input.now) → result ≡ record { into = self.into; committed = self.committed; begun = self.begun || nat_lt 0 n } }
+    fn cut<Input: Stream>(self, since: Input::Position, input: &Input) -> Blocks<F>
+        ensures { (n : ℕ) (old : Input) → since ≡ (Input.view old).position → Takes Input.step n (Input.view old) (Input.view input.now) → result ≡ record { into = self.into; committed = self.committed; begun = self.begun || nat_lt 0 n } }
     {
         let Blocks {
             into,
@@ -219,15 +219,22 @@ fn pass_to<Input: Stream>(
     Ok(place)
 }
 
-/// Whether a turn that is accepted so is a block, this piece's part of it begun at that checkpoint.
+/// Whether a token was taken since that position, or, as `begun` says, before it.
+fn has_taken<Input: Stream>(begun: bool, since: Input::Position, input: &Input) -> bool
+    ensures { (n : ℕ) (old : Input) → since ≡ (Input.view old).position → Takes Input.step n (Input.view old) (Input.view input.now) → result ≡ (begun || nat_lt 0 n) }
+{
+    begun || since.cmp(&input.position()).is_lt()
+}
+
+/// Whether a turn that is accepted so is a block, this piece's part of it begun at that position.
 #[inline(always)]
 fn is_block<Input: Stream>(
     begun: bool,
     committed: bool,
-    since: Input::Checkpoint,
+    since: Input::Position,
     input: &Input,
 ) -> bool
-    ensures { (n : ℕ) (v : View Input.Position Input.Token) → Input.stands input.now since v → Takes Input.step n v (Input.view input.now) → result ≡ (committed && (begun || nat_lt 0 n)) }
+    ensures { (n : ℕ) (old : Input) → since ≡ (Input.view old).position → Takes Input.step n (Input.view old) (Input.view input.now) → result ≡ (committed && (begun || nat_lt 0 n)) }
 {
     committed && has_taken(begun, since, input)
 }
@@ -258,7 +265,6 @@ fn one_turn<
         (record { first = M.first mode; state = running.old; left = running.new; old = Input.view input.old; new = Input.view input.new; before = Input.failures input.old; after = Input.failures input.new })
         (Input.stands input.old place) blocks result }
 {
-    let since = input.checkpoint();
     let position = input.position();
     let (value, committed) = match parser.parse_explained(mode, input, running) {
         ParseResult::CommitOk(value) => (value, true),
@@ -266,7 +272,7 @@ fn one_turn<
         ParseResult::PeekErr(refusal) => return Step::Stops(Stop::Refused(refusal)),
         ParseResult::CommitErr(error) => {
             if needs_more(input, &error) {
-                return Step::Stops(Stop::More(blocks.cut(since, input), error));
+                return Step::Stops(Stop::More(blocks.cut(position, input), error));
             }
             return Step::Stops(Stop::Failed(error));
         }
@@ -277,7 +283,7 @@ fn one_turn<
             Err(kind) => Step::Stops(Stop::Failed(input.new_error(kind, position))),
         },
         Some(value) => {
-            if !is_block(blocks.begun, committed, since, input) {
+            if !is_block(blocks.begun, committed, position, input) {
                 let error = refusal_saying(input, position, "repetition takes nothing");
                 return Step::Stops(Stop::Failed(error));
             }
