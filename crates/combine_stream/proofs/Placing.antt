@@ -51,5 +51,5 @@ other_part from to k u w h e =
     let a = text_size from u in
     let b = text_size to w ∙ ap (size_of len_utf8) e in
     lengths_apart (length to) (length from) k
-      (λ z. b ∙ ap (λ n. size_of len_utf8 (drop n (chars from))) z ∙ sym a)
-      (λ i. let d = size_take len_utf8 k (chars from) in let r = size_rises len_utf8 (λ c. let m = (len_utf8_bounds c).0 in omega arith) (chars from) 0 k i h in omega arith)
+    (λ z. b ∙ ap (λ n. size_of len_utf8 (drop n (chars from))) z ∙ sym a)
+    (λ i. let d = size_take len_utf8 k (chars from) in let r = size_rises len_utf8 (λ c. let m = (len_utf8_bounds c).0 in omega arith) (chars from) 0 k i h in omega arith)
