@@ -35,7 +35,6 @@ pub use Rattle.combine_map.specs.Picks
 pub use Rattle.combine_repeat.specs.Built
 pub use Rattle.combine_repeat.specs.Compared
 pub use Rattle.combine_repeat.specs.Repetition
-pub use Rattle.combine_repeat.specs.Turns
 pub use Rattle.combine_chains.specs.ChainParsers
 pub use Rattle.combine_chains.specs.Chains
 pub use Rattle.combine_sep_end.specs.Ended
@@ -85,10 +84,12 @@ pub use Rattle.combine_turns.specs.CountParsers
 pub use Rattle.combine_turns.specs.Counts
 pub use Rattle.combine_turns.specs.CountsCompared
 pub use Rattle.combine_turns.specs.FirstTurn
+pub use Rattle.combine_turns.specs.OneThenTurns
 pub use Rattle.combine_turns.specs.OneTurn
 pub use Rattle.combine_turns.specs.Plain
 pub use Rattle.combine_turns.specs.Turn
 pub use Rattle.combine_turns.specs.TurnLaws
+pub use Rattle.combine_turns.specs.Turns
 pub use Rattle.combine_token.specs.Chose
 pub use Rattle.combine_choice.specs.ListChoice
 pub use Rattle.combine_choice.specs.Nested
@@ -101,7 +102,7 @@ pub use Rattle.combine_variants.specs.Variants5
 pub use Rattle.combine_variants.specs.Variants6
 pub use Rattle.combine_variants.specs.Variants7
 pub use Rattle.combine_variants.specs.Variants8
-pub use Rattle.combine_separated.specs.OneThenTurns
+pub use Rattle.combine_separated.specs.ElementThenTurns
 pub use Rattle.combine_range.specs.Beginnings
 pub use Rattle.combine_range.specs.Fairness
 pub use Rattle.combine_range.specs.Kept

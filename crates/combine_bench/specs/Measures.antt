@@ -7,7 +7,7 @@ use Rattle.combine_base.specs.Parser.Meaning.{Reading}
 use Rattle.combine_base.specs.Sequence.Longer.{tuple_8}
 use Rattle.combine_base.specs.Stream.Slices.{slice_view, one_less}
 use Rattle.combine_base.specs.declared.stream.slices.Left.{Left}
-use Rattle.combine_repeat.specs.Repetition.{appended}
+use Rattle.combine_turns.specs.Counts.{appended}
 use Rattle.combine_bench.specs.Given.{Answers}
 use Rattle.combine_calls.specs.Parsers.{known, one_where, byte, either, put_back, skipping, skipping1, collecting, collecting1, pair, triple, quadruple}
 use Rattle.combine_bench.specs.Tally.{with_message}

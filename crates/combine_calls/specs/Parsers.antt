@@ -12,7 +12,7 @@ use Rattle.combine_token.specs.OneToken.{ends_there, of_function, of_token, one_
 use Rattle.combine_token.specs.TokenLists.{matching}
 use Rattle.combine_map.specs.Attempt.{attempted}
 use Rattle.combine_repeat.specs.Repetition.{many, many1, skip_many, skip_many1}
-use Rattle.combine_repeat.specs.Turns.{Collecting}
+use Rattle.combine_turns.specs.Turns.{Collecting}
 
 -- one token of which this holds
 abbrev pub one_where : {P T : Type 0} → (T → Bool) → Reading P T T

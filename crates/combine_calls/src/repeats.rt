@@ -1,6 +1,6 @@
 //! Calls of repetitions.
 ghost use Rattle.std.specs.Prelude.{◌≡◌};
-ghost use Rattle.combine_repeat.specs.Repetition.{appended};
+ghost use Rattle.combine_turns.specs.Counts.{appended};
 ghost use Rattle.combine_calls.specs.Parsers.{collecting, collecting1, skipping, skipping1};
 
 use crate::{Call, Visitor};

@@ -7,22 +7,23 @@ use Rattle.combine_base.specs.Parser.Answer.{Run, World, fails, ends}
 use Rattle.combine_base.proofs.Calls.{same_mark}
 use Rattle.combine_base.specs.declared.stream.Kind.{Kind}
 use Rattle.combine_base.specs.declared.stream.Kind.TheVariants as kinds
-use Rattle.combine_repeat.specs.Repetition.{goes_at, goes_if, until_refused}
-use Rattle.combine_repeat.specs.Turns.{Block, outcome, Stops, Divides}
-use Rattle.combine_repeat.specs.TurnLaws.{divides_into}
-use Rattle.combine_repeat.specs.declared.repeat.turns.Place.TheVariants.{Later}
+use Rattle.combine_turns.specs.Bounded.{accepted_at, bounded, goes_at}
+use Rattle.combine_turns.specs.Counts.{never}
+use Rattle.combine_turns.specs.Turns.{Block, outcome, Stops, Divides}
+use Rattle.combine_turns.specs.TurnLaws.{divides_into}
+use Rattle.combine_turns.specs.declared.turns.Bounds.TheVariants.{Any}
 use Rattle.combine_iterate.specs.Turned.{Turned, IsOver, HasFailed, InTurn, TakesNothing, Unreset, place_of}
 use Rattle.combine_iterate.specs.Nexts.{gone_on, remains, error_stops, stage_stops, stage_after}
 use Rattle.combine_iterate.specs.declared.repeat.Turn.{Turn}
 use Rattle.combine_iterate.specs.declared.repeat.Turn.TheVariants.{Gives, Over, Fails}
 
 -- past a block
-pub past_block : {P T R A S : Type 0} (step : P → T → P) (m m' : Meaning P T R A S) → MeansSame m m' → (first again : Bool) (s s' : S) (v u : View P T) (b : Block A) → again ≡ true → begun m first s v (outcome b) → goes_at (place_of first) b.count b.committed ≡ true → u ≡ advanced step b.count v → (bs : List (Block A)) (l : Outcome (Unit {0})) → remains step m' again s' u bs l → remains step m first s v (b ∷ bs) l
+pub past_block : {P T R A S : Type 0} (step : P → T → P) (m m' : Meaning P T R A S) → MeansSame m m' → (first again : Bool) (s s' : S) (v u : View P T) (b : Block A) → again ≡ true → begun m first s v (outcome b) → goes_at Any (place_of first) b.count b.committed ≡ true → u ≡ advanced step b.count v → (bs : List (Block A)) (l : Outcome (Unit {0})) → remains step m' again s' u bs l → remains step m first s v (b ∷ bs) l
 past_block {T = T} step m m' h first again s s' v u b e d j q bs l t =
     let At : Bool → Type 0 = λ k. remains step m' k s' u bs l in
-    let y = divides_into step until_refused (λ _. m'.whole) (λ _. m.whole) (λ g v o. (h.whole v o).1) m'.whole m.whole (λ v o. (h.whole v o).1) (Later false) u l bs (subst At e t) in
-    let To : View _ T → Type 0 = λ z. Divides step until_refused (λ _. m.whole) l m.whole (Later false) bs z in
-    (d, ap goes_if j, subst To q y)
+    let y = divides_into step (bounded Any never) (λ _. m'.whole) (λ _. m.whole) (λ g v o. (h.whole v o).1) m'.whole m.whole (λ v o. (h.whole v o).1) (place_of true) u l bs (subst At e t) in
+    let To : View _ T → Type 0 = λ z. Divides step (bounded Any never) (λ _. m.whole) l m.whole (place_of true) bs z in
+    (refl, d, ap (accepted_at b.count b.committed false) j, subst To q y)
 
 module _ {P T R A S E : Type 0} (w : World P T S E) (m : Meaning P T R A S) (r : Run P T S) where
   -- the turns stop here
@@ -52,7 +53,7 @@ module _ {P T R A S E : Type 0} (w : World P T S E) (m : Meaning P T R A S) (r :
       At i = error_stops i r.new.is_open l
 
       by_told : (w.kind e ≡ kinds.Refused) ⊎ ((w.kind e ≡ kinds.Memory) × (w.frugal → ⊥)) → here l
-      by_told (inl i) = let z : l ≡ Refused true = subst At i q in (Accepted a j.accepts.count k, j.accepts.meant, ap goes_if j.says ∙ ap Stops (sym z))
+      by_told (inl i) = let z : l ≡ Refused true = subst At i q in (Accepted a j.accepts.count k, j.accepts.meant, ap (accepted_at j.accepts.count k false) j.says ∙ ap Stops (sym z))
       by_told (inr i) = absurd (subst At i.0 q)
   fails_here e (Unreset i c y) l q = absurd (subst (λ (k : Kind). error_stops k r.new.is_open l) i q)
 
@@ -63,7 +64,7 @@ module _ {P T R A S E : Type 0} (w : World P T S E) (m : Meaning P T R A S) (r :
   stops_here (Fails e) p l q = fails_here e p.is l q
 
 -- a block that begins afresh takes a token, and so does each after it
-pub fewer : {P T : Type 0} (step : P → T → P) (first again : Bool) (n : ℕ) (v u : View P T) → again ≡ true → goes_at (place_of first) n true ≡ true → Takes step n v u → length u.unread + gone_on again < length v.unread + gone_on first
+pub fewer : {P T : Type 0} (step : P → T → P) (first again : Bool) (n : ℕ) (v u : View P T) → again ≡ true → goes_at Any (place_of first) n true ≡ true → Takes step n v u → length u.unread + gone_on again < length v.unread + gone_on first
 fewer step first again n v u e j t = by_mode first j
   where
     len : length u.unread + n ≡ length v.unread
@@ -75,6 +76,6 @@ fewer step first again n v u e j t = by_mode first j
     none : gone_on again ≡ 0
     none = rw e refl
 
-    by_mode : (b : Bool) → goes_at (place_of b) n true ≡ true → length u.unread + gone_on again < length v.unread + gone_on b
+    by_mode : (b : Bool) → goes_at Any (place_of b) n true ≡ true → length u.unread + gone_on again < length v.unread + gone_on b
     by_mode true i = let a = len in let z = none in let y = ltb-true 0 n i in omega arith
     by_mode false i = let a = len in let z = none in omega arith

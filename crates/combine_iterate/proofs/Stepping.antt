@@ -6,7 +6,7 @@ use Rattle.combine_base.specs.Error.Errors.{Errors}
 use Rattle.combine_base.specs.Parser.Answer.{Run, World, world}
 use Rattle.combine_base.specs.declared.parser.Parser as parser
 use Rattle.combine_base.specs.declared.stream.StreamOnce as stream
-use Rattle.combine_repeat.specs.Turns.{Block}
+use Rattle.combine_turns.specs.Turns.{Block}
 use Rattle.combine_iterate.specs.Turned.{TurnCalled}
 use Rattle.combine_iterate.specs.Nexts.{Nexts, at_most_left, goes_on, gone_on, may_go_on, next_at, runs_at, stage_after, stage_stops, values_left}
 use Rattle.combine_iterate.specs.declared.repeat.Iter.{Iter}

@@ -5,8 +5,9 @@ pub use Rattle.combine_base.specs.Parser.Meaning
 pub use Rattle.combine_base.specs.Parser.Outcome
 pub use Rattle.combine_base.specs.Stream.Calls
 pub use Rattle.combine_base.specs.Stream.View
-pub use Rattle.combine_repeat.specs.Repetition
-pub use Rattle.combine_repeat.specs.Turns
+pub use Rattle.combine_turns.specs.Bounded
+pub use Rattle.combine_turns.specs.Counts
+pub use Rattle.combine_turns.specs.Turns
 pub mod Turned
 pub mod Nexts
 pub use Rattle.combine_base.specs.Sequence.Readings

@@ -7,8 +7,10 @@ use Rattle.combine_base.specs.Parser.Outcome.{Outcome, Accepted, Refused, Undeci
 use Rattle.combine_base.specs.Parser.Meaning.{Meaning, begun}
 use Rattle.combine_base.specs.Parser.Called.{Ready}
 use Rattle.combine_base.specs.Sequence.Parts.{accepted_as}
-use Rattle.combine_repeat.specs.Repetition.{until_refused}
-use Rattle.combine_repeat.specs.Turns.{Block, Divides}
+use Rattle.combine_turns.specs.Bounded.{bounded}
+use Rattle.combine_turns.specs.Counts.{never}
+use Rattle.combine_turns.specs.Turns.{Block, Divides}
+use Rattle.combine_turns.specs.declared.turns.Bounds.TheVariants.{Any}
 use Rattle.combine_base.specs.declared.parser.Parser as parser
 use Rattle.combine_base.specs.declared.stream.StreamOnce as stream
 use Rattle.combine_base.specs.declared.stream.Kind.{Kind}
@@ -24,7 +26,7 @@ use Rattle.combine_iterate.specs.declared.repeat.Turn.TheVariants.{Gives, Over, 
 
 -- The turns that are left, of which the first begins afresh or goes on from a state: these blocks, as `many` divides the list, and then a place where the turns stop so. A turn that goes on is a block also if it takes nothing more.
 abbrev pub remains : {P T R A S : Type 0} → (P → T → P) → Meaning P T R A S → Bool → S → View P T → List (Block A) → Outcome (Unit {0}) → Type 0
-remains step m first s v bs l = Divides step until_refused (λ _. m.whole) l (begun m first s) (place_of first) bs v
+remains step m first s v bs l = Divides step (bounded Any never) (λ _. m.whole) l (begun m first s) (place_of first) bs v
 
 -- these blocks, of which the first took n tokens more before
 abbrev pub longer : {A : Type 0} → ℕ → List (Block A) → List (Block A)

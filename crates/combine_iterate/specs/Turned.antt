@@ -5,9 +5,9 @@ use Rattle.combine_base.specs.Parser.Meaning.{Meaning, MeansSame}
 use Rattle.combine_base.specs.Parser.Answer.{Run, World, Answers, Accepts, Refuses, Leaves, world}
 use Rattle.combine_base.specs.Refusals.{Told}
 use Rattle.combine_base.specs.Stream.Calls.{Passes}
-use Rattle.combine_repeat.specs.Repetition.{goes_at}
-use Rattle.combine_repeat.specs.declared.repeat.turns.Place.{Place}
-use Rattle.combine_repeat.specs.declared.repeat.turns.Place.TheVariants.{Later}
+use Rattle.combine_turns.specs.Bounded.{goes_at}
+use Rattle.combine_turns.specs.declared.turns.Bounds.TheVariants.{Any}
+use Rattle.combine_turns.specs.declared.turns.Place.{Place}
 use Rattle.combine_base.specs.declared.parser.Parser as parser
 use Rattle.combine_base.specs.declared.stream.StreamOnce as stream
 use Rattle.combine_base.specs.declared.stream.Kind.TheVariants as kinds
@@ -17,13 +17,13 @@ use Rattle.combine_iterate.specs.declared.repeat.Turn.TheVariants.{Gives, Over, 
 
 -- The place of a turn: none is asked for, and one that resumes may have taken its tokens from an earlier piece.
 abbrev pub place_of : Bool → Place
-place_of first = Later (not first)
+place_of first = record { number = 0; begun = not first }
 
 module _ {P T R A S E : Type 0} (w : World P T S E) (m : Meaning P T R A S) (r : Run P T S) where
   -- the turn is accepted, committed or not, and is a block or takes nothing
   pub record Judged (a : A) (committed goes : Bool) : Type 0 where
     pub accepts : Accepts w m r a committed
-    pub says : goes_at (place_of r.first) accepts.count committed ≡ goes
+    pub says : goes_at Any (place_of r.first) accepts.count committed ≡ goes
 
   -- the turn is refused peeked and put back
   pub record IsOver : Type 0 where

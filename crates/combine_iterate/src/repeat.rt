@@ -1,7 +1,8 @@
 //! The values of a parser, one after another, and a parser for each item of a list.
 ghost use Rattle.std.specs.Prelude.{◌≡◌, ℕ};
 ghost use Rattle.combine_base.specs.Stream.View.{View, Takes};
-ghost use Rattle.combine_repeat.specs.Repetition.{goes_at};
+ghost use Rattle.combine_turns.specs.Bounded.{goes_at};
+ghost use Rattle.combine_turns.specs.declared.turns.Bounds.TheVariants.{Any};
 ghost use Rattle.combine_base.specs.Error.Results.{standard};
 ghost use Rattle.combine_iterate.specs.Iterated.{iterate_of};
 ghost use Rattle.combine_iterate.specs.Turned.{TurnCalled, place_of};
@@ -209,7 +210,7 @@ fn is_block<Input: Stream>(
     since: Input::Checkpoint,
     input: &Input,
 ) -> bool
-    ensures { (n : ℕ) (v : View Input.Position Input.Token) → Input.stands input.now since v → Takes Input.step n v (Input.view input.now) → result ≡ goes_at (place_of first) n committed }
+    ensures { (n : ℕ) (v : View Input.Position Input.Token) → Input.stands input.now since v → Takes Input.step n v (Input.view input.now) → result ≡ goes_at Any (place_of first) n committed }
 {
     committed && has_taken(!first, since, input)
 }

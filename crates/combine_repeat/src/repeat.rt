@@ -11,13 +11,13 @@ ghost use Rattle.std.specs.Prelude.{◌≡◌};
 ghost use Rattle.combine_repeat.specs.Built.{many_of, many1_of, skip_many_of, skip_many1_of};
 
 pub mod laws;
-mod turns;
 pub mod types;
 
 pub use combine_base::repeat::{Append, Sink};
+use combine_turns::each::Plain;
+pub use combine_turns::turns::TurnsState;
 use std::alloc::Global;
 use std::marker::PhantomData;
-pub use turns::TurnsState;
 use types::{Many, Many1, SkipMany, SkipMany1};
 
 /// Turns of `parser` until it is refused peeked, their values collected in order.
@@ -29,7 +29,7 @@ pub fn many<F, P>(alloc: Global, parser: P) -> Many<F, P>
 {
     Many {
         alloc,
-        parser,
+        turn: Plain(parser),
         collects: PhantomData,
     }
 }
@@ -43,7 +43,7 @@ pub fn many1<F, P>(alloc: Global, parser: P) -> Many1<F, P>
 {
     Many1 {
         alloc,
-        parser,
+        turn: Plain(parser),
         collects: PhantomData,
     }
 }
@@ -53,7 +53,7 @@ pub fn many1<F, P>(alloc: Global, parser: P) -> Many1<F, P>
 pub fn skip_many<P>(parser: P) -> SkipMany<P>
     ensures { result ≡ skip_many_of parser }
 {
-    SkipMany(parser)
+    SkipMany(Plain(parser))
 }
 
 /// As `many1`, with the values dropped; it takes no memory of its own, but for that of an error's message.
@@ -61,5 +61,5 @@ pub fn skip_many<P>(parser: P) -> SkipMany<P>
 pub fn skip_many1<P>(parser: P) -> SkipMany1<P>
     ensures { result ≡ skip_many1_of parser }
 {
-    SkipMany1(parser)
+    SkipMany1(Plain(parser))
 }

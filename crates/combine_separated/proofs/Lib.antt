@@ -1,3 +1,3 @@
 pub mod Placing
 pub mod Separating
-pub mod OneThenTurns
+pub mod ElementThenTurns

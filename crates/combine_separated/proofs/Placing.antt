@@ -1,6 +1,6 @@
 -- a call of a part from a state of its own, inside a call with other states: its answer is the answer, its value changed
-use Rattle.std.proofs.Common.{ℕ, ◌≡◌, ◌⊎◌, inl, inr, Bool, true, false, refl, ap, sym, subst, arith, zero-add}
-use Rattle.combine_base.specs.Stream.View.{View, Takes}
+use Rattle.std.proofs.Common.{ℕ, ◌≡◌, ◌⊎◌, inl, inr, Bool, false, refl, ap, sym, arith, zero-add}
+use Rattle.combine_base.specs.Stream.View.{View}
 use Rattle.combine_base.specs.Parser.Outcome.{Outcome, Accepted, Refused, Undecided}
 use Rattle.combine_base.specs.Parser.Meaning.{Meaning, Reading, begun}
 use Rattle.combine_base.specs.Sequence.Readings.{following}

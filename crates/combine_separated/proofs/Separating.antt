@@ -1,9 +1,8 @@
 -- a call of a separated turn: its first part, or a later separator and part, afresh or resumed
-use Rattle.std.proofs.Common.{◌≡◌, ◌⊎◌, inl, inr, Bool, true, false, refl, sym}
+use Rattle.std.proofs.Common.{◌≡◌, ◌⊎◌, inl, inr, Bool, true, false, refl}
 use Rattle.combine_base.specs.Stream.View.{View}
-use Rattle.combine_base.specs.Parser.Outcome.{Outcome}
-use Rattle.combine_base.specs.Parser.Meaning.{Meaning, IsMeaning, begun}
-use Rattle.combine_base.specs.Sequence.Readings.{following, following_same}
+use Rattle.combine_base.specs.Parser.Meaning.{Meaning, IsMeaning}
+use Rattle.combine_base.specs.Sequence.Readings.{following_same}
 use Rattle.combine_base.specs.Parser.Answer.{World, Answers}
 use Rattle.combine_base.specs.Parser.Judged.{NeedsMore}
 use Rattle.combine_base.proofs.Calls.{around}
@@ -11,8 +10,8 @@ use Rattle.combine_base.specs.declared.stream.Failures.{Failures}
 use Rattle.combine_base.specs.declared.error.ParseResult.{ParseResult}
 use Rattle.combine_turns.specs.Turn.{called}
 use Rattle.combine_separated.specs.Placed.{Ran}
-use Rattle.combine_separated.specs.Separated.{separated_fresh, separated_valid, first_then, later_turn}
-use Rattle.combine_separated.proofs.Placing.{Keeping, Stands, placed}
+use Rattle.combine_separated.specs.Separated.{separated_fresh, first_then, later_turn}
+use Rattle.combine_separated.proofs.Placing.{Keeping, placed}
 use Rattle.combine_separated.specs.declared.separated.SeparatedState.{SeparatedState}
 use Rattle.combine_separated.specs.declared.separated.SeparatedState.TheVariants.{First, Later}
 

@@ -10,6 +10,7 @@ pub use Rattle.combine_base.specs.Stream.Calls
 pub use Rattle.combine_base.specs.Stream.View
 pub use Rattle.combine_turns.specs.Bounded
 pub use Rattle.combine_turns.specs.Counts
+pub use Rattle.combine_turns.specs.OneThenTurns
 pub use Rattle.combine_turns.specs.Turn
 pub use Rattle.combine_turns.specs.Turns
 pub mod Placed
@@ -17,4 +18,4 @@ pub mod Separated
 pub mod Elements
 pub mod JoinedLaws
 pub mod SeparatedParsers
-pub mod OneThenTurns
+pub mod ElementThenTurns

@@ -1,8 +1,8 @@
 -- a first part, and then turns of another parser
-use Rattle.std.specs.Prelude.{◌≡◌, Bool, true, false, ◌↔◌}
+use Rattle.std.specs.Prelude.{false, ◌↔◌}
 use Rattle.combine_base.specs.Stream.View.{View}
 use Rattle.combine_base.specs.Parser.Outcome.{Outcome}
-use Rattle.combine_base.specs.Parser.Meaning.{Meaning, Reading, IsReading, IsSingle, IsMeaning, MeansOne, MeansSame}
+use Rattle.combine_base.specs.Parser.Meaning.{Meaning, Reading, IsReading, IsMeaning, MeansOne, MeansSame}
 use Rattle.combine_base.specs.Sequence.Readings.{following, following_is_reading, following_is_single, following_same}
 use Rattle.combine_turns.specs.Turn.{IsTurn, TurnsSame, EndsOnce, TurnsOnce, never_ends}
 use Rattle.combine_separated.specs.declared.separated.SeparatedState.{SeparatedState}

@@ -1,14 +1,14 @@
 -- a call whose first turn makes what is gathered
-use Rattle.std.proofs.Common.{ℕ, ◌≤◌, ◌≡◌, Bool, true, false, List, [], ◌∷◌, None, refl, sym, ◌∙◌, rules, arith}
-use Rattle.combine_base.specs.Stream.View.{View, advanced}
+use Rattle.std.proofs.Common.{◌≤◌, ◌≡◌, Bool, true, false, List, [], ◌∷◌, None, refl, ◌∙◌}
+use Rattle.combine_base.specs.Stream.View.{View}
 use Rattle.combine_base.specs.Parser.Outcome.{Outcome, Accepted, Refused, Undecided}
 use Rattle.combine_base.specs.Parser.Meaning.{Meaning, Reading, IsReading, begun}
-use Rattle.combine_base.specs.Parser.Answer.{Run, World, Answers, Accepts, Asks}
-use Rattle.combine_base.proofs.Progress.{progress_none, takes_open}
+use Rattle.combine_base.specs.Parser.Answer.{Run, World, Answers, Asks}
+use Rattle.combine_base.proofs.Progress.{progress_none}
 use Rattle.combine_base.proofs.Calls.{around, needs}
-use Rattle.combine_turns.specs.Turns.{Block, outcome, Collecting, SoFar, Divides, Turned}
+use Rattle.combine_turns.specs.Turns.{Block, outcome, Collecting, Divides, Turned}
 use Rattle.combine_turns.specs.Turn.{IsTurn, called}
-use Rattle.combine_turns.specs.Bounded.{judged, bounded, fresh_turns, running_turn, none_yet, so_far, turns_from}
+use Rattle.combine_turns.specs.Bounded.{judged, bounded, fresh_turns, none_yet, so_far, turns_from}
 use Rattle.combine_turns.specs.BoundedLaws.{bounded_is_rule}
 use Rattle.combine_turns.specs.FirstTurn.{FirstGoes, FirstMore, FirstFails, FirstInTurn, FirstUnstored}
 use Rattle.combine_turns.proofs.TurnCalls.{Reaches, Ends, turn_peeks, turn_unstored, turn_goes, turn_asks, turn_fails}

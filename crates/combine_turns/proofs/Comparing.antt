@@ -1,17 +1,13 @@
 -- repetitions beside one another: the proofs
-use Rattle.std.proofs.Common.{ℕ, ◌+◌, ◌≡◌, List, [], ◌∷◌, Bool, true, false, ◌||◌, None, arith, ap, sym, refl, ◌∙◌}
-use Rattle.combine_base.specs.Stream.View.{View, advanced}
-use Rattle.combine_base.specs.Parser.Outcome.{Outcome, Accepted, Refused, Undecided, after, shape}
-use Rattle.combine_base.specs.Parser.OutcomeFacts.{or_assoc, shape_after}
+use Rattle.std.proofs.Common.{◌≡◌, List, [], ◌∷◌, ap, sym, refl, ◌∙◌}
+use Rattle.combine_base.specs.Stream.View.{View}
+use Rattle.combine_base.specs.Parser.Outcome.{Outcome, Accepted, Refused, Undecided, shape}
 use Rattle.combine_base.specs.Parser.Meaning.{Meaning, Reading}
-use Rattle.combine_turns.specs.Turns.{Block, outcome, taken, values, any_committed, Stops, Collecting, Folds, Divides, Collects, Turned}
-use Rattle.combine_turns.specs.Bounded.{bounded, judged, none_yet}
+use Rattle.combine_turns.specs.Turns.{values, Folds, Collects, Turned}
+use Rattle.combine_turns.specs.Bounded.{bounded, none_yet}
 use Rattle.combine_turns.specs.Counts.{appended, dropped, never}
-use Rattle.combine_turns.specs.CountsCompared.{CountOrSkip}
-use Rattle.combine_turns.proofs.Turning.{collects_after}
+use Rattle.combine_turns.specs.CountsCompared.{DropsValues}
 use Rattle.combine_turns.specs.declared.turns.Bounds.{Bounds}
-use Rattle.combine_turns.specs.declared.turns.Bounds.TheVariants.{Counted}
-use Rattle.combine_turns.specs.declared.turns.Place.{Place}
 
 module _ {A V Held : Type 0} (held : V → Held) (none : Held) (more : Held → A → Held) (lean : Type 0) where
   folds_on : (h : Held) (xs : List A) → (i : Held) × Folds (λ h a i. i ≡ more h a) h xs i
@@ -48,6 +44,6 @@ module _ {P T R A V S Held : Type 0} (step : P → T → P) (held : V → Held) 
       let f = folds_on held none more lean none (values t.blocks) in
       (f.0, λ i j q. record { blocks = t.blocks; last = t.last; held = f.0; divided = t.divided; joined = sym (shape_twice i) ∙ ap shape j ∙ t.joined; folded = f.1; collected = q })
 
-module _ {P T R A V S Held : Type 0} (step : P → T → P) (held : V → Held) (none : Held) (more : Held → A → Held) (lean : Type 0) (m : Meaning P T R A S) where
-  pub count_or_skip : (least most : ℕ) → CountOrSkip step (appended held none more lean) m least most
-  count_or_skip least most = record { dropped = collected_is_dropped step held none more lean m (Counted least most); collected = dropped_is_collected step held none more lean m (Counted least most) }
+  -- repetitions that drop their values, beside those that collect them
+  pub repeated_or_skip : DropsValues (appended held none more lean) collecting dropping
+  repeated_or_skip = record { dropped = collected_is_dropped; collected = dropped_is_collected }

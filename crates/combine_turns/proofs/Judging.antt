@@ -1,5 +1,5 @@
 -- what one turn answers: whether it is a block, and a peeked refusal that is put back, or could not be
-use Rattle.std.proofs.Common.{ℕ, ◌+◌, ◌<◌, ◌≤◌, ◌≡◌, arith, Bool, true, false, Option, Some, None, ◌||◌, refl, sym, ◌∙◌}
+use Rattle.std.proofs.Common.{ℕ, ◌+◌, ◌<◌, ◌≤◌, ◌≡◌, arith, Bool, true, false, ◌||◌, refl, sym, ◌∙◌}
 use Rattle.combine_base.specs.Stream.View.{View, Takes, Moves}
 use Rattle.combine_base.specs.Parser.Outcome.{Outcome, Refused}
 use Rattle.combine_base.specs.Parser.Meaning.{Meaning, Reading, MeansSame, begun}

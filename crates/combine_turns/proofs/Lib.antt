@@ -6,3 +6,4 @@ pub mod Repeating
 pub mod Beginning
 pub mod Plain
 pub mod Comparing
+pub mod OneThenTurns

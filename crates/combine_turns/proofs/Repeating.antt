@@ -1,25 +1,23 @@
 -- one call of a repetition: where its turns begin, and each way out of them
-use Rattle.std.proofs.Common.{ℕ, ◌+◌, ◌-◌, ◌<◌, ◌≤◌, ◌≡◌, Bool, true, false, ◌&&◌, ◌||◌, not, if◌then◌else◌, nat_lt, Option, Some, None, length, drop, arith, ap, sym, refl, ◌∙◌, length-drop, ltb-true, ltb-false, lt-ltb, subst}
+use Rattle.std.proofs.Common.{ℕ, ◌+◌, ◌-◌, ◌<◌, ◌≤◌, ◌≡◌, Bool, true, false, ◌&&◌, ◌||◌, not, if◌then◌else◌, nat_lt, Some, None, length, drop, arith, ap, sym, refl, ◌∙◌, length-drop, ltb-true, ltb-false, subst}
 use Rattle.combine_base.specs.Stream.View.{View, Takes}
-use Rattle.combine_base.specs.Parser.Outcome.{Outcome, Accepted, Refused, Undecided, shape}
-use Rattle.combine_base.specs.Parser.Meaning.{Meaning, Reading, IsReading, IsMeaning, begun}
-use Rattle.combine_base.specs.Parser.Answer.{Run, World, Answers, Accepts, Asks, Refuses}
+use Rattle.combine_base.specs.Parser.Outcome.{Outcome, Accepted, Refused}
+use Rattle.combine_base.specs.Parser.Meaning.{Meaning, Reading, IsReading, begun}
+use Rattle.combine_base.specs.Parser.Answer.{Run, World, Answers, Accepts, Asks}
 use Rattle.combine_base.specs.Sequence.Parts.{accepted_as}
 use Rattle.combine_base.proofs.Progress.{progress_none, progress_outcome, takes_open, takes_more, takes_none}
 use Rattle.combine_base.proofs.Calls.{around, needs}
 use Rattle.combine_turns.specs.Turns.{Goes, Stops, Collecting, SoFar, Turned}
 use Rattle.combine_turns.specs.Turn.{IsTurn, called}
-use Rattle.combine_turns.specs.Bounded.{limit, counted, full_at, enough, goes_at, accepted_at, refused_at, next_of, bounded, fresh_turns, running_turn, kept_or, so_far, so_far_or, turns_from}
+use Rattle.combine_turns.specs.Bounded.{counted, full_at, goes_at, accepted_at, refused_at, next_of, bounded, fresh_turns, running_turn, kept_or, so_far, so_far_or, turns_from}
 use Rattle.combine_turns.specs.BoundedLaws.{bounded_is_rule}
-use Rattle.combine_turns.specs.OneTurn.{OneTurn, GoesOn, IsOver, Ended, PutBack, IsRefused, NeedsMore, HasFailed, InTurn, TakesNothing, Unstored, Untold, Unreset, halted, stopped_answer, stopped_state}
+use Rattle.combine_turns.specs.OneTurn.{GoesOn, IsOver, Ended, PutBack, IsRefused, NeedsMore, HasFailed, InTurn, TakesNothing, Unstored, Untold, Unreset, halted, stopped_answer, stopped_state}
 use Rattle.combine_turns.proofs.Turning.{turned_full}
 use Rattle.combine_turns.proofs.TurnCalls.{Reaches, Ends, turn_accepts, turn_ends, turn_peeks, turn_told, turn_unstored, turn_unreset, turn_goes, turn_asks, turn_fails}
-use Rattle.combine_base.specs.declared.stream.Kind.{Kind}
-use Rattle.combine_base.specs.declared.stream.Kind.TheVariants as kinds
 use Rattle.combine_base.specs.declared.stream.Failures.{Failures}
 use Rattle.combine_base.specs.declared.error.Tracked.{Tracked}
 use Rattle.combine_base.specs.declared.error.ParseResult.{ParseResult}
-use Rattle.combine_base.specs.declared.error.ParseResult.TheVariants.{CommitOk, PeekOk, CommitErr, PeekErr}
+use Rattle.combine_base.specs.declared.error.ParseResult.TheVariants.{CommitErr}
 use Rattle.combine_turns.specs.declared.turns.Bounds.{Bounds}
 use Rattle.combine_turns.specs.declared.turns.Bounds.TheVariants.{Any, Joined, Counted}
 use Rattle.combine_turns.specs.declared.turns.Place.{Place}

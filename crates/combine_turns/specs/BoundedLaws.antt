@@ -3,14 +3,14 @@ use Rattle.std.specs.Prelude.{ℕ, ◌+◌, ◌<◌, ◌≡◌, ◌⊎◌, Bool,
 use Rattle.std.proofs.Common.{arith, ap, sym, subst, ◌∙◌, lt-ltb, ltb-true, ltb-false, zero, suc, inl, inr}
 use Rattle.combine_base.specs.Stream.View.{View}
 use Rattle.combine_base.specs.Parser.Outcome.{Outcome, Accepted, Refused, Undecided, after, shape, IsDecided, IsCommitted}
-use Rattle.combine_base.specs.Parser.Meaning.{Meaning, Reading, IsReading, IsMeaning, MeansOne, MeansSame}
-use Rattle.combine_turns.specs.Turns.{Turn, Goes, Stops, IsRule, IsJudgedOnce, Collecting, SoFar, Turned}
+use Rattle.combine_base.specs.Parser.Meaning.{Meaning, Reading, IsMeaning, MeansOne, MeansSame}
+use Rattle.combine_turns.specs.Turns.{Goes, Stops, IsRule, IsJudgedOnce, Collecting, SoFar, Turned}
 use Rattle.combine_turns.specs.TurnLaws.{turned_is_reading, turned_is_single, turned_into}
 use Rattle.combine_turns.specs.Turn.{IsTurn, TurnsSame, EndsOnce, TurnsOnce}
 use Rattle.combine_turns.specs.Bounded.{enough, goes_at, accepted_at, refused_at, judged, cut_at, bounded, so_far_or, fresh_turns, running_turn, turns_from}
 use Rattle.combine_turns.specs.declared.turns.Bounds.{Bounds}
 use Rattle.combine_turns.specs.declared.turns.Bounds.TheVariants.{Any, Joined, Counted}
-use Rattle.std.specs.Prelude.{Option, Some, None}
+use Rattle.std.specs.Prelude.{Some, None}
 use Rattle.combine_turns.specs.declared.turns.Place.{Place}
 use Rattle.combine_turns.specs.declared.turns.TurnsState.{TurnsState}
 

@@ -16,6 +16,7 @@ pub mod BoundedLaws
 pub mod FirstTurn
 pub mod Plain
 pub mod Counts
+pub mod OneThenTurns
 pub mod CountLaws
 pub mod CountParsers
 pub mod CountsCompared

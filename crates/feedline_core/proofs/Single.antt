@@ -1,5 +1,5 @@
 -- a message has one outcome on a view, but for its value
-use Rattle.std.proofs.Common.{ℕ, ◌≡◌, Bool, false, [], ◌∷◌, ◌++◌}
+use Rattle.std.proofs.Common.{ℕ, ◌≡◌, Bool, None, [], ◌∷◌, ◌++◌}
 use Rattle.std.specs.Global.{Vec}
 use Rattle.combine_base.specs.Parser.Meaning.{Meaning, IsSingle, MeansOne}
 use Rattle.combine_base.specs.Parser.Mapped.{mapped_means_one}
@@ -9,10 +9,10 @@ use Rattle.combine_base.specs.Sequence.Tuples.{push_1, push_2, push_3, tuple_3, 
 use Rattle.combine_token.specs.Choice.{Either, refused, refused_is_single, either_is_single}
 use Rattle.combine_token.specs.OneToken.{of_function, of_function_is_predicate, satisfied, satisfied_is_test, takes_one_means_one}
 use Rattle.combine_map.specs.Attempt.{attempted_means_one}
-use Rattle.combine_repeat.specs.Repetition.{appended}
-use Rattle.combine_repeat.specs.RepetitionLaws.{turns_means_one}
-use Rattle.combine_repeat.specs.declared.repeat.turns.Place.TheVariants.{First}
-use Rattle.combine_repeat.specs.declared.repeat.turns.TurnsState.{TurnsState}
+use Rattle.combine_turns.specs.Counts.{appended}
+use Rattle.combine_turns.specs.CountLaws.{repeated_means_one}
+use Rattle.combine_turns.specs.declared.turns.Bounds.TheVariants.{Joined}
+use Rattle.combine_turns.specs.declared.turns.TurnsState.{TurnsState}
 use Rattle.feedline_core.specs.Messages.{step, byte_where, bytes_where, delete, set, message}
 use Rattle.feedline_core.specs.declared.message.Message.TheVariants.{Set, Delete}
 
@@ -24,7 +24,7 @@ byte_one : (f : ℕ → Bool) → MeansOne {State = Unit {0}} all (byte_where f)
 byte_one f = takes_one_means_one (satisfied (of_function f)) (Unit {0}) Nothing all (satisfied_is_test (of_function f) (of_function_is_predicate f))
 
 bytes_one : (f : ℕ → Bool) → MeansOne {State = TurnsState (Vec ℕ) (Unit {0})} all (bytes_where f)
-bytes_one f = turns_means_one step (appended (λ v. v.items) [] (λ bs b. bs ++ b ∷ []) ⊥) (record { mark = First; held = []; committed = false }) all (byte_where f) (byte_one f)
+bytes_one f = repeated_means_one step (Joined 1 None) (appended (λ v. v.items) [] (λ bs b. bs ++ b ∷ []) ⊥) all (byte_where f) (byte_one f)
 
 -- tuples whose parts have one outcome
 module _ {A B C U V W : Type 0} {f : U → Type 0} {g : V → Type 0} {h : W → Type 0} {m : Meaning ℕ ℕ (Unit {0}) A U} {n : Meaning ℕ ℕ (Unit {0}) B V} {p : Meaning ℕ ℕ (Unit {0}) C W} (one : MeansOne f m) (two : MeansOne g n) (three : MeansOne h p) where

@@ -11,11 +11,9 @@ ghost use Rattle.combine_turns.specs.Bounded.{begun_valid, running_turn};
 use crate::operands::{EachOperand, Operands};
 use combine_base::error::{ErrorOffset, ParseResult, Tracked};
 use combine_base::parser::{ParseMode, Parser};
-use combine_base::repeat::Sink;
 use combine_base::sequence::State2;
 use combine_base::stream::Stream;
 use combine_map::combinator::types::{Ignore, NoPartial};
-use combine_repeat::repeat::TurnsState as RepeatState;
 use combine_repeat::repeat::types::SkipMany;
 use combine_separated::separated::{Separated, SeparatedState};
 use combine_token::choice::OrState;
@@ -31,8 +29,8 @@ pub type Chainr1<P, S> = NoPartial<RightFold<P, S>>;
 pub type Escaped<Input, P, T, Q> = SkipMany<Or<Ignore<P>, Ignore<(Token<Input, T>, Q)>>>;
 
 /// What `escaped` keeps while more input is needed: whether a turn committed, whether the running one has taken a token, and which part of it runs, with its state.
-pub type EscapedState<Input, P, T, Q> = RepeatState<
-    Sink,
+pub type EscapedState<Input, P, T, Q> = TurnsState<
+    (),
     OrState<<P as Parser<Input>>::PartialState, State2<Input, Token<Input, T>, Q>>,
 >;
 

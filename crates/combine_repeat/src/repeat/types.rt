@@ -1,14 +1,16 @@
 //! The parsers that the functions of this module answer.
-ghost use Rattle.combine_base.specs.Parser.Mapped.{mapped_is_meaning, mapped_means_one};
 ghost use Rattle.combine_repeat.specs.Built.{repeated_by_many, repeated_by_many1, repeated_by_skip_many, repeated_by_skip_many1};
-ghost use Rattle.combine_repeat.specs.Repetition.{appended, many, many1, running_turn, skip_many, skip_many1};
-ghost use Rattle.combine_repeat.specs.RepetitionLaws.{turns_is_meaning, turns_means_one};
+ghost use Rattle.combine_repeat.specs.Repetition.{many, many1, skip_many, skip_many1};
+ghost use Rattle.combine_turns.specs.Bounded.{begun_valid, running_turn};
+ghost use Rattle.combine_turns.specs.CountLaws.{repeated_is_meaning, repeated_means_one};
+ghost use Rattle.combine_turns.specs.Counts.{appended, dropped};
 
-use crate::repeat::turns::{Place, Turns, TurnsState, take_turns};
 use combine_base::error::{ErrorOffset, ParseResult, Tracked};
 use combine_base::parser::{ParseMode, Parser};
-use combine_base::repeat::{Append, Sink};
+use combine_base::repeat::Append;
 use combine_base::stream::Stream;
+use combine_turns::each::{Dropped, Each, Plain};
+use combine_turns::turns::{Bounds, Starts, Turns, TurnsState, take_turns};
 use std::alloc::Global;
 use std::marker::PhantomData;
 
@@ -17,11 +19,13 @@ use std::marker::PhantomData;
 #[derive_where(Clone, Copy; P)]
 pub struct Many<F, P> {
     pub(super) alloc: Global,
-    pub(super) parser: P,
+    pub(super) turn: Plain<P>,
     pub(super) collects: PhantomData<F>,
 }
 
 impl<Input: Stream, P: Parser<Input>, F: Append<P::Output>> Parser<Input> for Many<F, P> {
+    ghost use Rattle.combine_turns.specs.declared.turns.Bounds.TheVariants.{Any};
+
     type Output = F;
 
     type PartialState = TurnsState<F, P::PartialState>;
@@ -36,11 +40,11 @@ impl<Input: Stream, P: Parser<Input>, F: Append<P::Output>> Parser<Input> for Ma
 
     ghost parts = { λ p. P.parts (repeated_by_many p) };
 
-    ghost default_valid = { λ s d. P.default_valid (running_turn s) d.1 };
+    ghost default_valid = { begun_valid P.PartialState.is_default P.valid P.default_valid };
 
-    ghost laws = { λ p l. turns_is_meaning _ _ _ P.PartialState.is_default _ (P.meaning (repeated_by_many p)) (P.laws (repeated_by_many p) l) };
+    ghost laws = { λ p l. repeated_is_meaning Input.step Any (appended F.held F.none F.more F.lean) P.PartialState.is_default P.valid (P.meaning (repeated_by_many p)) (P.laws (repeated_by_many p) l) };
 
-    ghost single = { λ p l d. turns_means_one _ _ _ _ (P.meaning (repeated_by_many p)) (P.single (repeated_by_many p) l d) };
+    ghost single = { λ p l d. repeated_means_one Input.step Any (appended F.held F.none F.more F.lean) P.valid (P.meaning (repeated_by_many p)) (P.single (repeated_by_many p) l d) };
 
     #[inline(always)]
     fn parse_mode<M: ParseMode>(
@@ -49,20 +53,21 @@ impl<Input: Stream, P: Parser<Input>, F: Append<P::Output>> Parser<Input> for Ma
         input: &mut Input,
         state: &mut Self::PartialState,
     ) -> ParseResult<F, Input::Error> {
-        let none_yet = Turns::none_yet(F::empty(self.alloc), Place::Later(false));
-        take_turns(&mut self.parser, none_yet, mode, input, state)
+        let start = Turns::none_yet(F::empty(self.alloc));
+        let bounds = Bounds::Any;
+        take_turns::<Each<F>, Input, Plain<P>, M>(&mut self.turn, bounds, start, mode, input, state)
     }
 
     /// What the parser of a turn adds.
     #[inline]
     fn add_error(&mut self, error: &mut Tracked<Input::Error>) {
-        self.parser.add_error(error);
+        self.turn.0.add_error(error);
     }
 
     /// As for the parser of a turn.
     #[inline]
     fn parser_count(&self) -> ErrorOffset {
-        self.parser.parser_count()
+        self.turn.0.parser_count()
     }
 }
 
@@ -71,11 +76,14 @@ impl<Input: Stream, P: Parser<Input>, F: Append<P::Output>> Parser<Input> for Ma
 #[derive_where(Clone, Copy; P)]
 pub struct Many1<F, P> {
     pub(super) alloc: Global,
-    pub(super) parser: P,
+    pub(super) turn: Plain<P>,
     pub(super) collects: PhantomData<F>,
 }
 
 impl<Input: Stream, P: Parser<Input>, F: Append<P::Output>> Parser<Input> for Many1<F, P> {
+    ghost use Rattle.std.specs.Prelude.{None};
+    ghost use Rattle.combine_turns.specs.declared.turns.Bounds.TheVariants.{Joined};
+
     type Output = F;
 
     type PartialState = TurnsState<F, P::PartialState>;
@@ -90,11 +98,11 @@ impl<Input: Stream, P: Parser<Input>, F: Append<P::Output>> Parser<Input> for Ma
 
     ghost parts = { λ p. P.parts (repeated_by_many1 p) };
 
-    ghost default_valid = { λ s d. P.default_valid (running_turn s) d.1 };
+    ghost default_valid = { begun_valid P.PartialState.is_default P.valid P.default_valid };
 
-    ghost laws = { λ p l. turns_is_meaning _ _ _ P.PartialState.is_default _ (P.meaning (repeated_by_many1 p)) (P.laws (repeated_by_many1 p) l) };
+    ghost laws = { λ p l. repeated_is_meaning Input.step (Joined 1 None) (appended F.held F.none F.more F.lean) P.PartialState.is_default P.valid (P.meaning (repeated_by_many1 p)) (P.laws (repeated_by_many1 p) l) };
 
-    ghost single = { λ p l d. turns_means_one _ _ _ _ (P.meaning (repeated_by_many1 p)) (P.single (repeated_by_many1 p) l d) };
+    ghost single = { λ p l d. repeated_means_one Input.step (Joined 1 None) (appended F.held F.none F.more F.lean) P.valid (P.meaning (repeated_by_many1 p)) (P.single (repeated_by_many1 p) l d) };
 
     #[inline(always)]
     fn parse_mode<M: ParseMode>(
@@ -103,31 +111,37 @@ impl<Input: Stream, P: Parser<Input>, F: Append<P::Output>> Parser<Input> for Ma
         input: &mut Input,
         state: &mut Self::PartialState,
     ) -> ParseResult<F, Input::Error> {
-        let none_yet = Turns::none_yet(F::empty(self.alloc), Place::First);
-        take_turns(&mut self.parser, none_yet, mode, input, state)
+        let start = Turns::none_yet(F::empty(self.alloc));
+        let bounds = Bounds::Joined {
+            least: 1,
+            most: None,
+        };
+        take_turns::<Each<F>, Input, Plain<P>, M>(&mut self.turn, bounds, start, mode, input, state)
     }
 
     /// What the parser adds, as for `many`.
     #[inline]
     fn add_error(&mut self, error: &mut Tracked<Input::Error>) {
-        self.parser.add_error(error);
+        self.turn.0.add_error(error);
     }
 
     /// As for `many`.
     #[inline]
     fn parser_count(&self) -> ErrorOffset {
-        self.parser.parser_count()
+        self.turn.0.parser_count()
     }
 }
 
 /// What `skip_many` answers.
 #[derive(Drop)]
-pub struct SkipMany<P>(pub(super) P);
+pub struct SkipMany<P>(pub(super) Plain<P>);
 
 impl<Input: Stream, P: Parser<Input>> Parser<Input> for SkipMany<P> {
+    ghost use Rattle.combine_turns.specs.declared.turns.Bounds.TheVariants.{Any};
+
     type Output = ();
 
-    type PartialState = TurnsState<Sink, P::PartialState>;
+    type PartialState = TurnsState<(), P::PartialState>;
 
     ghost lawful = { λ p. P.lawful (repeated_by_skip_many p) };
 
@@ -139,11 +153,11 @@ impl<Input: Stream, P: Parser<Input>> Parser<Input> for SkipMany<P> {
 
     ghost parts = { λ _. 1 };
 
-    ghost default_valid = { λ s d. P.default_valid (running_turn s) d.1 };
+    ghost default_valid = { begun_valid P.PartialState.is_default P.valid P.default_valid };
 
-    ghost laws = { λ p l. mapped_is_meaning _ _ _ _ (turns_is_meaning _ _ _ P.PartialState.is_default _ (P.meaning (repeated_by_skip_many p)) (P.laws (repeated_by_skip_many p) l)) };
+    ghost laws = { λ p l. repeated_is_meaning Input.step Any dropped P.PartialState.is_default P.valid (P.meaning (repeated_by_skip_many p)) (P.laws (repeated_by_skip_many p) l) };
 
-    ghost single = { λ p l d. mapped_means_one _ _ _ (turns_means_one _ _ _ _ (P.meaning (repeated_by_skip_many p)) (P.single (repeated_by_skip_many p) l d)) };
+    ghost single = { λ p l d. repeated_means_one Input.step Any dropped P.valid (P.meaning (repeated_by_skip_many p)) (P.single (repeated_by_skip_many p) l d) };
 
     #[inline(always)]
     fn parse_mode<M: ParseMode>(
@@ -152,14 +166,15 @@ impl<Input: Stream, P: Parser<Input>> Parser<Input> for SkipMany<P> {
         input: &mut Input,
         state: &mut Self::PartialState,
     ) -> ParseResult<(), Input::Error> {
-        let none_yet = Turns::none_yet(Sink, Place::Later(false));
-        take_turns(&mut self.0, none_yet, mode, input, state).map(|_sink| ())
+        let start = Turns::none_yet(());
+        let any = Bounds::Any;
+        take_turns::<Dropped, Input, Plain<P>, M>(&mut self.0, any, start, mode, input, state)
     }
 
     /// What the parser adds, as for `many`.
     #[inline]
     fn add_error(&mut self, error: &mut Tracked<Input::Error>) {
-        self.0.add_error(error);
+        self.0.0.add_error(error);
     }
 
     /// A skipping form counts as one parser.
@@ -171,12 +186,15 @@ impl<Input: Stream, P: Parser<Input>> Parser<Input> for SkipMany<P> {
 
 /// What `skip_many1` answers.
 #[derive(Drop)]
-pub struct SkipMany1<P>(pub(super) P);
+pub struct SkipMany1<P>(pub(super) Plain<P>);
 
 impl<Input: Stream, P: Parser<Input>> Parser<Input> for SkipMany1<P> {
+    ghost use Rattle.std.specs.Prelude.{None};
+    ghost use Rattle.combine_turns.specs.declared.turns.Bounds.TheVariants.{Joined};
+
     type Output = ();
 
-    type PartialState = TurnsState<Sink, P::PartialState>;
+    type PartialState = TurnsState<(), P::PartialState>;
 
     ghost lawful = { λ p. P.lawful (repeated_by_skip_many1 p) };
 
@@ -188,11 +206,11 @@ impl<Input: Stream, P: Parser<Input>> Parser<Input> for SkipMany1<P> {
 
     ghost parts = { λ _. 1 };
 
-    ghost default_valid = { λ s d. P.default_valid (running_turn s) d.1 };
+    ghost default_valid = { begun_valid P.PartialState.is_default P.valid P.default_valid };
 
-    ghost laws = { λ p l. mapped_is_meaning _ _ _ _ (turns_is_meaning _ _ _ P.PartialState.is_default _ (P.meaning (repeated_by_skip_many1 p)) (P.laws (repeated_by_skip_many1 p) l)) };
+    ghost laws = { λ p l. repeated_is_meaning Input.step (Joined 1 None) dropped P.PartialState.is_default P.valid (P.meaning (repeated_by_skip_many1 p)) (P.laws (repeated_by_skip_many1 p) l) };
 
-    ghost single = { λ p l d. mapped_means_one _ _ _ (turns_means_one _ _ _ _ (P.meaning (repeated_by_skip_many1 p)) (P.single (repeated_by_skip_many1 p) l d)) };
+    ghost single = { λ p l d. repeated_means_one Input.step (Joined 1 None) dropped P.valid (P.meaning (repeated_by_skip_many1 p)) (P.single (repeated_by_skip_many1 p) l d) };
 
     #[inline(always)]
     fn parse_mode<M: ParseMode>(
@@ -201,14 +219,18 @@ impl<Input: Stream, P: Parser<Input>> Parser<Input> for SkipMany1<P> {
         input: &mut Input,
         state: &mut Self::PartialState,
     ) -> ParseResult<(), Input::Error> {
-        let none_yet = Turns::none_yet(Sink, Place::First);
-        take_turns(&mut self.0, none_yet, mode, input, state).map(|_sink| ())
+        let start = Turns::none_yet(());
+        let joined = Bounds::Joined {
+            least: 1,
+            most: None,
+        };
+        take_turns::<Dropped, Input, Plain<P>, M>(&mut self.0, joined, start, mode, input, state)
     }
 
     /// What the parser adds, as for `many`.
     #[inline]
     fn add_error(&mut self, error: &mut Tracked<Input::Error>) {
-        self.0.add_error(error);
+        self.0.0.add_error(error);
     }
 
     /// A skipping form counts as one parser.

@@ -1,5 +1,5 @@
 //! What separated repetitions mean in the words of others. The functions do nothing: their contracts are the laws.
-ghost use Rattle.combine_separated.specs.OneThenTurns.{SepBy1IsOneThenTurns};
+ghost use Rattle.combine_separated.specs.ElementThenTurns.{SepBy1IsOneThenTurns};
 ghost use Rattle.combine_turns.specs.Counts.{appended};
 
 use combine_base::parser::Parser;

@@ -1,5 +1,5 @@
 use Rattle.combine_base.proofs.Same.{passes_more}
-use Rattle.combine_repeat.proofs.Judging.{put_back}
+use Rattle.combine_turns.proofs.Judging.{put_back}
 use Rattle.combine_iterate.specs.Turned.{InTurn, TakesNothing}
 use Rattle.combine_iterate.proofs.Judging.{judged_by, block_commits, not_put_back}
 use Rattle.combine_iterate.proofs.repeat.one_turn.Goals as goal

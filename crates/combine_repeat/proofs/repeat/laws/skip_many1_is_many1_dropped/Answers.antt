@@ -1,5 +1,7 @@
-use Rattle.combine_repeat.proofs.Comparing.{many1_or_skip}
+use Rattle.std.specs.Prelude.{None}
+use Rattle.combine_turns.proofs.Comparing.{repeated_or_skip}
+use Rattle.combine_turns.specs.declared.turns.Bounds.TheVariants.{Joined}
 use Rattle.combine_repeat.proofs.repeat.laws.skip_many1_is_many1_dropped.Goals as goal
 
 pub returns : goal.returns
-returns g c = many1_or_skip _ _ _ _ _ (g.P.Parser.meaning c.args.parser.now)
+returns g c = repeated_or_skip _ _ _ _ _ (g.P.Parser.meaning c.args.parser.now) (Joined 1 None)

@@ -1,4 +1,4 @@
-use Rattle.combine_separated.proofs.OneThenTurns.{sep_by1_is_one_then_turns}
+use Rattle.combine_separated.proofs.ElementThenTurns.{sep_by1_is_one_then_turns}
 use Rattle.combine_separated.proofs.repeat.laws.sep_by1_is_one_then_turns.Goals as goal
 
 pub returns : goal.returns

@@ -1,4 +1,4 @@
-use Rattle.std.proofs.Common.{refl, sym, ◌∙◌}
+use Rattle.std.proofs.Common.{sym, ◌∙◌}
 use Rattle.combine_base.specs.Sequence.Places.{begins_2, first_fresh, place_2, valid_2}
 use Rattle.combine_base.specs.Sequence.Tuples.{followed_is_meaning, followed_means_same, push_1, tuple_1_is_meaning, tuple_1_means_same, tuple_2}
 use Rattle.combine_base.proofs.Same.{same_none}

@@ -1,5 +1,10 @@
-use Rattle.combine_repeat.specs.RepetitionLaws.{turns_means_same}
+use Rattle.std.specs.Prelude.{None}
+use Rattle.combine_turns.specs.CountLaws.{repeated_means_same}
+use Rattle.combine_turns.specs.declared.turns.Bounds.TheVariants.{Joined}
 use Rattle.combine_repeat.proofs.repeat.types.Many1Parser.parse_mode.Goals as goal
 
 pub returns-clause-same : goal.returns-clause-same
-returns-clause-same g c = turns_means_same _ _ _ _ _ c.take_turns.ensures.same
+returns-clause-same g c = repeated_means_same _ (Joined 1 None) _ _ _ c.take_turns.ensures.same.meaning
+
+pub returns-clause-answers : goal.returns-clause-answers
+returns-clause-answers g c = rw (c.none_yet-start.ensures, c.empty.ensures) at c.take_turns.ensures.answers

@@ -1,6 +1,7 @@
-use Rattle.combine_base.specs.Parser.Mapped.{mapped_means_same}
-use Rattle.combine_repeat.specs.RepetitionLaws.{turns_means_same}
+use Rattle.std.specs.Prelude.{None}
+use Rattle.combine_turns.specs.CountLaws.{repeated_means_same}
+use Rattle.combine_turns.specs.declared.turns.Bounds.TheVariants.{Joined}
 use Rattle.combine_repeat.proofs.repeat.types.SkipMany1Parser.add_error.Goals as goal
 
 pub returns-clause-same : goal.returns-clause-same
-returns-clause-same g c = mapped_means_same _ _ _ (turns_means_same _ _ _ _ _ c.add_error.ensures.same)
+returns-clause-same g c = repeated_means_same _ (Joined 1 None) _ _ _ c.add_error.ensures.same

@@ -3,16 +3,12 @@ use Rattle.std.proofs.Common.{ℕ, ◌+◌, ◌≡◌, List, [], ◌∷◌, Bool
 use Rattle.combine_base.specs.Stream.View.{View, advanced}
 use Rattle.combine_base.specs.Parser.Outcome.{Outcome, Accepted, Refused, Undecided, after, shape}
 use Rattle.combine_base.specs.Parser.OutcomeFacts.{or_assoc, shape_after}
-use Rattle.combine_base.specs.Parser.Meaning.{Meaning, Reading}
-use Rattle.combine_base.specs.Sequence.Readings.{following}
-use Rattle.combine_base.specs.Sequence.Tuples.{tuple_2}
-use Rattle.combine_turns.specs.Turns.{Block, outcome, taken, values, any_committed, Goes, Stops, Collecting, Folds, Divides, Collects, Turned}
+use Rattle.combine_base.specs.Parser.Meaning.{Reading}
+use Rattle.combine_turns.specs.Turns.{Block, outcome, taken, values, any_committed, Stops, Collecting, Folds, Divides, Collects, Turned}
 use Rattle.combine_turns.specs.Bounded.{bounded, judged, none_yet}
 use Rattle.combine_turns.specs.Counts.{never}
 use Rattle.combine_turns.proofs.Turning.{collects_after}
-use Rattle.combine_separated.specs.Elements.{elements}
-use Rattle.combine_separated.specs.OneThenTurns.{SepBy1IsOneThenTurns, one_then_turns, then_turns}
-use Rattle.combine_separated.specs.Separated.{first_element, later_turn, then_element}
+use Rattle.combine_turns.specs.OneThenTurns.{one_then_turns, then_turns}
 use Rattle.combine_turns.specs.declared.turns.Bounds.TheVariants.{Any, Joined}
 use Rattle.combine_turns.specs.declared.turns.Place.{Place}
 
@@ -107,8 +103,5 @@ module _ {P T A V : Type 0} (step : P → T → P) (c : Collecting A V) (first l
   back v o (Refused false) r z = record { blocks = []; last = Refused false; held = c.none; divided = (Refused false, r, refl); joined = rw z refl; folded = refl; collected = rw z tt }
   back v o Undecided r z = record { blocks = []; last = Undecided; held = c.none; divided = (Undecided, r, refl); joined = rw z refl; folded = refl; collected = rw z tt }
 
-pub sep_by1_is_one_then_turns : {P T R O A V U W : Type 0} (step : P → T → P) (c : Collecting A V) (m : Meaning P T R A U) (s : Meaning P T R O W) → SepBy1IsOneThenTurns step c m s
-sep_by1_is_one_then_turns step c m s v o =
-    let first = following false first_element m.whole in
-    let later = later_turn then_element (tuple_2 step s m) in
-    (forth step (elements c) first later v o, λ p. back step (elements c) first later v o p.0 p.1 p.2)
+  pub joined_is_one_then_turns : (v : View P T) (o : Outcome V) → joined_turns v o ↔ one_then_turns step c first later v o
+  joined_is_one_then_turns v o = (forth v o, λ p. back v o p.0 p.1 p.2)

@@ -1,7 +1,0 @@
-pub mod Turning
-pub mod TurnCalls
-pub mod OwnState
-pub mod Judging
-pub mod Repeating
-pub mod Mapping
-pub mod Comparing

@@ -1,4 +1,0 @@
-use Rattle.combine_repeat.proofs.repeat.turns.Place.goes.Goals as goal
-
-pub returns-then-committed : goal.returns-then-committed
-returns-then-committed g c n v s t = rw (c.in-Later.is, c.if-committed.true) (c.has_taken.ensures n v s t)
