@@ -1,6 +1,7 @@
 //! The method forms of the constructors.
 ghost use Rattle.std.specs.Prelude.{◌≡◌};
 ghost use Rattle.combine_token.specs.Or.{or_parser};
+ghost use Rattle.combine_iterate.specs.Nexts.{Begins, may_go_on};
 ghost use Rattle.combine_map.specs.Parsers.{map_of, picked_of};
 ghost use Rattle.combine_functions.specs.Parsers.{and_then_of, flat_map_of, map_input_of};
 ghost use Rattle.combine_errors.specs.Shaped.{expected_of, message_of, silent_of};
@@ -8,12 +9,13 @@ ghost use Rattle.combine_spanned.specs.Spanned.{spanned_of};
 ghost use Rattle.combine_sequence.specs.Answered.{then_of, then_partial_of, then_ref_of};
 
 use combine_base::error::Info;
-use combine_base::parser::Parser;
+use combine_base::parser::{Calls, FirstMode, ParseMode, Parser};
 use combine_base::stream::Stream;
 use combine_errors::error;
 use combine_errors::error::types::{Expected, Message, Silent};
 use combine_functions::combinator as changes;
 use combine_functions::combinator::types::{AndThen, FlatMap, MapInput};
+use combine_iterate::repeat::Iter;
 use combine_map::combinator;
 use combine_map::combinator::types::Map;
 use combine_sequence::sequence;
@@ -191,6 +193,41 @@ pub trait ParserExt<Input: Stream>: Parser<Input> {
         ensures { result ≡ map_of self f }
     {
         combinator::map(self, f)
+    }
+
+    /// The values of this parser, one after another, on a stream that is lent, with a state that is lent. The first turn begins afresh.
+    final fn iter<'a>(
+        self,
+        input: &'a mut Input,
+        state: &'a mut Self::PartialState,
+    ) -> Iter<'a, Input, Self, FirstMode>
+    where
+        Self: Sized,
+        requires ready { ⟦<Self as Calls<Input>>⟧.ready self state.old }
+        ensures begins { Begins result self (record {}) input.old state.old }
+        ensures ready { may_go_on ⟦<Self as Parser<Input>>⟧ Input.StreamOnce ⟦<FirstMode as ParseMode>⟧.first result }
+        ensures same_input { result.input.ghost_name ≡ input.entry.ghost_name }
+        ensures same_state { result.state.ghost_name ≡ state.entry.ghost_name }
+    {
+        self.partial_iter(FirstMode, input, state)
+    }
+
+    /// The values of this parser, one after another, on a stream that is lent, with a state that is lent. The first turn begins afresh or goes on from the state, as the mode says.
+    final fn partial_iter<'a, M: ParseMode>(
+        self,
+        mode: M,
+        input: &'a mut Input,
+        state: &'a mut Self::PartialState,
+    ) -> Iter<'a, Input, Self, M>
+    where
+        Self: Sized,
+        requires ready { ⟦<Self as Calls<Input>>⟧.ready self state.old }
+        ensures begins { Begins result self mode input.old state.old }
+        ensures ready { may_go_on ⟦<Self as Parser<Input>>⟧ Input.StreamOnce M.first result }
+        ensures same_input { result.input.ghost_name ≡ input.entry.ghost_name }
+        ensures same_state { result.state.ghost_name ≡ state.entry.ghost_name }
+    {
+        Iter::new(self, mode, input, state)
     }
 }
 

@@ -5,3 +5,5 @@
 mod chains;
 #[cfg(test)]
 mod repetitions;
+#[cfg(test)]
+mod values;
