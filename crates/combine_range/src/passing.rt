@@ -68,7 +68,7 @@ where
     Input::Range: Range,
     ensures { (result ≡ true) ↔ (((Input.view input.now).is_open ≡ true) × ((Input.view input.now).unread ≡ [])) }
 {
-    input.is_partial() && input.range().len() == 0
+    input.range().len() == 0 && input.is_partial()
 }
 
 /// Need of more: puts the stream back, and keeps the distance from there. `Reset` where the stream could not be put back.

@@ -1,3 +1,4 @@
+mod Blocks
 pub mod Indexing
 pub mod Marked
 pub mod Passing

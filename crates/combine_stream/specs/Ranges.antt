@@ -1,6 +1,6 @@
 -- ranges of tokens, which are measured in items, and what the calls of a stream that hands them out promise
-use Rattle.std.specs.Prelude.{ℕ, zero, suc, ◌+◌, ◌<◌, ◌≤◌, ◌≡◌, List, [], ◌∷◌, Bool, true, false, take, drop, length, Result, Ok, Err}
-use Rattle.combine_base.specs.Stream.View.{View, Takes, after_all}
+use Rattle.std.specs.Prelude.{ℕ, zero, suc, ◌+◌, ◌<◌, ◌≤◌, ◌≡◌, List, [], ◌∷◌, Bool, true, false, take, length, Result, Ok, Err}
+use Rattle.combine_base.specs.Stream.View.{View, Takes}
 use Rattle.combine_base.specs.declared.stream.Kind.{Kind}
 use Rattle.combine_base.specs.declared.stream.Kind.TheVariants as kinds
 use Rattle.combine_base.specs.declared.stream.Failures.{Failures}

@@ -212,8 +212,10 @@ impl<'a, T: Copy> RangeStream for Indexed<'a, T> {
 
     #[inline(always)]
     fn uncons_while<F: Test<T>>(&mut self, f: &F) -> Result<&'a [T], Kind> {
-        let n = count_while(self.unread(), f);
-        self.uncons_range(n)
+        let unread = self.unread();
+        let n = count_while(unread, f);
+        self.at += n;
+        Ok(&unread[..n])
     }
 
     #[inline(always)]

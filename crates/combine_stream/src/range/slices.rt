@@ -53,7 +53,9 @@ impl<'a, T: Copy> RangeStream for &'a [T] {
     #[inline(always)]
     fn uncons_while<F: Test<T>>(&mut self, f: &F) -> Result<&'a [T], Kind> {
         let n = count_while(self, f);
-        self.uncons_range(n)
+        let (range, rest) = self.split_at(n);
+        *self = rest;
+        Ok(range)
     }
 
     #[inline(always)]
@@ -67,9 +69,35 @@ impl<'a, T: Copy> RangeStream for &'a [T] {
     }
 }
 
+// So many tokens are looked through between two looks at the length.
+const BLOCK: usize = 8;
+
 // How many tokens the longest beginning under a test has.
 #[inline(always)]
 pub(crate) fn count_while<T: Copy, F: Test<T>>(tokens: &[T], f: &F) -> usize
+    requires { F.callable f.now }
+    ensures { LongestItems (λ t. 1) (F.answers f.now) tokens.now result }
+{
+    let mut n = 0;
+    let mut rest = tokens;
+    'walk: loop {
+        match rest.split_at_checked(BLOCK) {
+            Some((block, behind)) => {
+                let passed = count_each(block, f);
+                n += passed;
+                if passed < BLOCK {
+                    return n;
+                }
+                rest = behind;
+            }
+            None => return n + count_each(rest, f),
+        }
+    }
+}
+
+// The same, token by token.
+#[inline(always)]
+fn count_each<T: Copy, F: Test<T>>(tokens: &[T], f: &F) -> usize
     requires { F.callable f.now }
     ensures { LongestItems (λ t. 1) (F.answers f.now) tokens.now result }
 {

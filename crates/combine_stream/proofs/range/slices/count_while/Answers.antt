@@ -1,21 +1,41 @@
-use Rattle.std.proofs.Common.{refl, arith, ap, sym, ◌∙◌, ◌∷◌, ◌+◌, drop}
-use Rattle.std.proofs.lemmas.List.{drop_more, drop_all}
-use Rattle.combine_stream.proofs.Passing.{passed_none, passed_more, passed_stop, passed_end}
+use Rattle.std.proofs.Common.{length, arith, ap, ◌∙◌, length-drop, length-take-le}
+use Rattle.combine_stream.proofs.Blocks.{few, passed_block, passed_inside, passed_rest, within}
+use Rattle.combine_stream.proofs.Passing.{passed_none}
 use Rattle.combine_stream.proofs.range.slices.count_while.Goals as goal
 
-pub loop-token-init : goal.loop-token-init
-loop-token-init g c = record { count = refl; passed = passed_none _ _ _ }
+pub walk-init : goal.walk-init
+walk-init g c = passed_none _ _ _
 
-pub returns-then-not-test : goal.returns-then-not-test
-returns-then-not-test g c =
-    let at = drop_more c.args.tokens.now c.loop-token.token-index c.token-item.result c.loop-token-test.true ∙ ap (λ t. t ∷ drop (c.loop-token.token-index + 1) c.args.tokens.now) (sym c.token-item.is) in
-    passed_stop _ _ _ _ _ c.loop-token.invariant.passed _ _ at (c.if-not-test.ensures)
+pub overflow_add-n : goal.overflow_add-n
+overflow_add-n g c =
+    let split = c.in-Some.ensures.cases in
+    let block = rw split.1 at c.count_each-passed.ensures in
+    let m = few _ _ _ block in
+    let e = length-take-le 8 c.walk.rest.now split.0 in
+    let w = within _ _ _ _ c.walk.invariant c.count_each-passed.result (omega arith) in
+    omega arith
 
-pub loop-token-preserved : goal.loop-token-preserved
-loop-token-preserved g c =
-    let at = drop_more c.args.tokens.now c.loop-token.token-index c.token-item.result c.loop-token-test.true ∙ ap (λ t. t ∷ drop (c.loop-token.token-index + 1) c.args.tokens.now) (sym c.token-item.is) in
-    record { count = ap (λ n. n + 1) c.loop-token.invariant.count; passed = passed_more _ _ _ _ _ c.loop-token.invariant.passed _ _ at (c.if-not-test.ensures) }
+pub returns-then-passed-lt-BLOCK : goal.returns-then-passed-lt-BLOCK
+returns-then-passed-lt-BLOCK g c =
+    let split = c.in-Some.ensures.cases in
+    passed_inside _ _ _ _ c.walk.invariant 8 _ split.0 (rw split.1 at c.count_each-passed.ensures) c.if-passed-lt-BLOCK.true
 
-pub returns : goal.returns
-returns g c =
-    passed_end _ _ _ _ _ c.loop-token.invariant.passed (drop_all c.loop-token.token-index c.args.tokens.now (omega arith))
+pub walk-smaller : goal.walk-smaller
+walk-smaller g c =
+    let split = c.in-Some.ensures.cases in
+    let e = ap length split.2 ∙ length-drop 8 c.walk.rest.now in
+    omega arith
+
+pub walk-preserved : goal.walk-preserved
+walk-preserved g c =
+    let split = c.in-Some.ensures.cases in
+    rw split.2 (passed_block _ _ _ _ c.walk.invariant 8 _ split.0 (rw split.1 at c.count_each-passed.ensures) (λ i. let x = c.if-passed-lt-BLOCK.false in omega arith))
+
+pub overflow_add-result : goal.overflow_add-result
+overflow_add-result g c =
+    let m = few _ _ _ c.count_each.ensures in
+    let w = within _ _ _ _ c.walk.invariant c.count_each.result m in
+    omega arith
+
+pub returns-in-None : goal.returns-in-None
+returns-in-None g c = passed_rest _ _ _ _ c.walk.invariant _ c.count_each.ensures

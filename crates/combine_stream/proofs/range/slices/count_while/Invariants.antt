@@ -1,9 +1,9 @@
-use Rattle.std.proofs.Common.{◌≡◌, drop}
+use Rattle.std.proofs.Common.{length}
 use Rattle.combine_stream.proofs.Passing.{Passed}
 use Rattle.combine_stream.proofs.range.slices.count_while.Given as goal
 
-abbrev pub invariant-loop-token : goal.invariant-loop-token
-invariant-loop-token g l = record {
-  count : l.n ≡ l.token-index;
-  passed : Passed (λ t. 1) (g.F.Test.answers l.fn.f) l.fn.tokens (drop l.token-index l.fn.tokens) l.n;
-}
+abbrev pub invariant-walk : goal.invariant-walk
+invariant-walk g l = Passed (λ t. 1) (g.F.Test.answers l.fn.f) l.fn.tokens l.rest l.n
+
+abbrev pub decreases-walk : goal.decreases-walk
+decreases-walk g l = length l.rest

@@ -1,7 +1,24 @@
-use Rattle.std.proofs.Common.{arith}
-use Rattle.combine_stream.proofs.Indexing.{longest_same}
+use Rattle.std.proofs.Common.{arith, ap, refl, sym, length, length-drop, take}
+use Rattle.std.proofs.lemmas.List.{length-take-le}
+use Rattle.combine_stream.proofs.Blocks.{few}
+use Rattle.combine_stream.proofs.Indexing.{index_takes, longest_same}
 use Rattle.combine_stream.proofs.Passing.{while_by_range}
+use Rattle.combine_stream.proofs.Slicing.{slice_place}
 use Rattle.combine_stream.proofs.position.indexed.IndexedRangeStream.uncons_while.Goals as goal
 
+pub overflow_add-self : goal.overflow_add-self
+overflow_add-self g c =
+    let m = few _ _ _ c.count_while-n.ensures in
+    let l = ap length c.unread-unread.ensures in
+    let d = length-drop c.args.self.now.at c.args.self.now.tokens.now in
+    let i = c.type_inv.self in
+    omega arith
+
+pub slice_bounds-result-end : goal.slice_bounds-result-end
+slice_bounds-result-end g c = sym (length-take-le c.count_while-n.result c.unread-unread.result.now (few _ _ _ c.count_while-n.ensures))
+
 pub returns-clause-read : goal.returns-clause-read
-returns-clause-read g c = while_by_range _ _ _ (λ t. omega arith) _ _ _ _ _ _ _ _ (longest_same (g.F.Test.answers c.args.f.now) _ _ _ c.unread.ensures c.count_while-n.ensures) c.uncons_range.ensures.read
+returns-clause-read g c =
+    let longest = longest_same (g.F.Test.answers c.args.f.now) _ _ _ c.unread-unread.ensures c.count_while-n.ensures in
+    let m = few _ _ _ longest in
+    while_by_range _ _ _ (λ t. omega arith) _ _ _ _ _ _ _ _ longest (record { is = (_, slice_place _ _ m, record { taken = index_takes c.args.self.now _ m; spelled = ap (take c.count_while-n.result) c.unread-unread.ensures; failures = λ s. refl }) })

@@ -1,6 +1,13 @@
-use Rattle.std.proofs.Common.{arith}
+use Rattle.std.proofs.Common.{arith, refl}
+use Rattle.combine_stream.proofs.Blocks.{few}
 use Rattle.combine_stream.proofs.Passing.{while_by_range}
+use Rattle.combine_stream.proofs.Slicing.{slice_place, slice_takes}
 use Rattle.combine_stream.proofs.range.slices.RefSliceRangeStream.uncons_while.Goals as goal
 
+pub split_at-requires : goal.split_at-requires
+split_at-requires g c = few _ _ _ c.count_while-n.ensures
+
 pub returns-clause-read : goal.returns-clause-read
-returns-clause-read g c = while_by_range _ _ _ (λ t. omega arith) _ _ _ _ _ _ _ _ c.count_while-n.ensures c.uncons_range.ensures.read
+returns-clause-read g c =
+    let m = few _ _ _ c.count_while-n.ensures in
+    while_by_range _ _ _ (λ t. omega arith) _ _ _ _ _ _ _ _ c.count_while-n.ensures (record { is = (_, slice_place _ _ m, record { taken = slice_takes _ _ _ m c.split_at.ensures.back; spelled = c.split_at.ensures.front; failures = λ s. refl }) })
