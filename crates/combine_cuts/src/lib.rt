@@ -36,37 +36,55 @@ struct Run<S, P> {
     taken: usize,
 }
 
-// One call of a parser on the window from the first unread token to a place.
+// What is parsed of a window.
+type Parsed<T, S> = Result<
+    Answer<T, <<S as DefaultPositioned>::Placed as StreamOnce>::Error>,
+    Kind,
+>;
+
+// One call of a parser on the window from the first unread token to a place. The run is given and handed back by value, so that the stream is a local while the parser reads.
 fn parse_window<S: Windowed, P: Parser<MaybePartialStream<Stream<S, S::Placed>>>>(
     parser: &mut P,
     state: &mut P::PartialState,
-    run: &mut Run<S, S::Placed>,
+    run: Run<S, S::Placed>,
     whole: S,
     to: usize,
     is_open: bool,
-) -> Result<Answer<P::Output, <S::Placed as StreamOnce>::Error>, Kind>
+) -> (Run<S, S::Placed>, Parsed<P::Output, S>)
     requires lawful { P.lawful parser.old }
     requires valid { P.valid state.old }
-    requires place { S.places whole run.old.place }
-    requires index { S.index whole run.old.place ≡ run.old.taken }
-    requires position { (⟦<MaybePartialStream<Stream<S, S::Placed>> as StreamOnce>⟧.view run.old.stream).position ≡ S.DefaultPositioned.behind whole run.old.taken }
+    requires place { S.places whole run.place }
+    requires index { S.index whole run.place ≡ run.taken }
+    requires position { (⟦<MaybePartialStream<Stream<S, S::Placed>> as StreamOnce>⟧.view run.stream).position ≡ S.DefaultPositioned.behind whole run.taken }
     requires to { S.places whole to }
-    requires order { run.old.place ≤ to }
+    requires order { run.place ≤ to }
     ensures lawful { P.lawful parser.new }
     ensures valid { P.valid state.new }
     ensures same { MeansSame (P.meaning parser.old) (P.meaning parser.new) }
-    ensures place { S.places whole run.new.place }
-    ensures index { S.index whole run.new.place ≡ run.new.taken }
-    ensures position { (⟦<MaybePartialStream<Stream<S, S::Placed>> as StreamOnce>⟧.view run.new.stream).position ≡ S.DefaultPositioned.behind whole run.new.taken }
-    ensures parses { ParsesWindow S.Placed.Error.seen.frugal S.Placed.steady S.Placed.step S.Placed.Error.seen.kind P.PartialState.is_default (S.DefaultPositioned.whole whole).position (P.meaning parser.old) state.old state.new (S.DefaultPositioned.whole whole).unread run.old.taken (S.index whole to) is_open run.new.taken result }
+    ensures place { S.places whole result.0.place }
+    ensures index { S.index whole result.0.place ≡ result.0.taken }
+    ensures position { (⟦<MaybePartialStream<Stream<S, S::Placed>> as StreamOnce>⟧.view result.0.stream).position ≡ S.DefaultPositioned.behind whole result.0.taken }
+    ensures parses { ParsesWindow S.Placed.Error.seen.frugal S.Placed.steady S.Placed.step S.Placed.Error.seen.kind P.PartialState.is_default (S.DefaultPositioned.whole whole).position (P.meaning parser.old) state.old state.new (S.DefaultPositioned.whole whole).unread run.taken (S.index whole to) is_open result.0.taken result.1 }
 {
-    run.stream.0.widen(whole, run.place, to);
-    run.stream.1 = is_open;
-    let parsed = parser.parse_mode(PartialMode { first: false }, &mut run.stream, state);
-    let place = run.stream.0.place_before(whole, to);
-    run.taken = whole.count_to(place, run.place, run.taken);
-    run.place = place;
-    judge(&run.stream, parsed, run.taken as u64)
+    let Run {
+        mut stream,
+        place: from,
+        taken: before,
+    } = run;
+    stream.0.widen(whole, from, to);
+    stream.1 = is_open;
+    let parsed = parser.parse_mode(PartialMode { first: false }, &mut stream, state);
+    let place = stream.0.place_before(whole, to);
+    let taken = whole.count_to(place, from, before);
+    let answer = judge(&stream, parsed, taken as u64);
+    (
+        Run {
+            stream,
+            place,
+            taken,
+        },
+        answer,
+    )
 }
 
 /// Parses a whole input window by window: each goes from the first unread token to the next cut and is open, and the last goes to the end, ended. It stops at the first decision; the number says how many windows asked for more. No window begins again: the state and the position go on.
@@ -93,13 +111,14 @@ pub fn parse_cuts<S: Windowed, P: Parser<MaybePartialStream<Stream<S, S::Placed>
     };
     let mut asked = 0;
     for cut in cuts {
-        let parsed = parse_window(parser, &mut state, &mut run, whole, *cut, true);
+        let (next, parsed) = parse_window(parser, &mut state, run, whole, *cut, true);
+        run = next;
         match parsed? {
             Answer::More => asked += 1,
             answer => return Ok((asked, answer)),
         }
     }
     let end = whole.end();
-    let parsed = parse_window(parser, &mut state, &mut run, whole, end, false);
+    let (_run, parsed) = parse_window(parser, &mut state, run, whole, end, false);
     Ok((asked, parsed?))
 }

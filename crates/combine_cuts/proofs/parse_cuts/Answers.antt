@@ -19,14 +19,14 @@ loop-cut-init g c =
       so_far = at_first _ _ _ _ _ _ _ _ _ _ law c.default-state.ensures;
     }
 
-pub parse_window-parsed-requires-clause-to : goal.parse_window-parsed-requires-clause-to
-parse_window-parsed-requires-clause-to g c = c.requires.fit.placed c.loop-cut.cut-index c.loop-cut-test.true
+pub parse_window-next-requires-clause-to : goal.parse_window-next-requires-clause-to
+parse_window-next-requires-clause-to g c = c.requires.fit.placed c.loop-cut.cut-index c.loop-cut-test.true
 
-pub parse_window-parsed-requires-clause-position : goal.parse_window-parsed-requires-clause-position
-parse_window-parsed-requires-clause-position g c = c.loop-cut.invariant.position
+pub parse_window-next-requires-clause-position : goal.parse_window-next-requires-clause-position
+parse_window-next-requires-clause-position g c = c.loop-cut.invariant.position
 
-pub parse_window-parsed-requires-clause-order : goal.parse_window-parsed-requires-clause-order
-parse_window-parsed-requires-clause-order g c =
+pub parse_window-next-requires-clause-order : goal.parse_window-next-requires-clause-order
+parse_window-next-requires-clause-order g c =
     let law = (g.met.P.Parser.laws _ c.requires.lawful).whole in
     let fit = fits_in_tokens _ _ _ _ (g.met.S.Windowed.rises c.args.whole) c.requires.fit in
     let within = fits _ _ _ _ _ _ _ law fit _ _ _ c.loop-cut.invariant.so_far c.loop-cut-test.true in
@@ -37,7 +37,7 @@ pub returns-in_err-answer-clause-runs : goal.returns-in_err-answer-clause-runs
 returns-in_err-answer-clause-runs g c =
     let law = (g.met.P.Parser.laws _ c.requires.lawful).whole in
     let fit = fits_in_tokens _ _ _ _ (g.met.S.Windowed.rises c.args.whole) c.requires.fit in
-    let p = window_same _ _ _ _ _ _ _ _ _ _ _ _ _ _ _ _ c.loop-cut.invariant.same c.parse_window-parsed.ensures.parses in
+    let p = window_same _ _ _ _ _ _ _ _ _ _ _ _ _ _ _ _ c.loop-cut.invariant.same c.parse_window-next.ensures.parses in
     let e = err_from_is_err_and c.from_residual.result c.from_residual.ensures.1 in
     rw (e.1, e.2) (stops_by _ _ _ _ _ _ _ law fit _ _ _ c.loop-cut.invariant.so_far c.loop-cut-test.true _ _ _ _ _ _ _ c.in_err-answer.was p)
 
@@ -45,10 +45,10 @@ pub returns-in_default : goal.returns-in_default
 returns-in_default g c =
     let law = (g.met.P.Parser.laws _ c.requires.lawful).whole in
     let fit = fits_in_tokens _ _ _ _ (g.met.S.Windowed.rises c.args.whole) c.requires.fit in
-    let p = window_same _ _ _ _ _ _ _ _ _ _ _ _ _ _ _ _ c.loop-cut.invariant.same c.parse_window-parsed.ensures.parses in
+    let p = window_same _ _ _ _ _ _ _ _ _ _ _ _ _ _ _ _ c.loop-cut.invariant.same c.parse_window-next.ensures.parses in
     record {
-      lawful = c.parse_window-parsed.ensures.lawful;
-      same = same_more _ _ _ c.loop-cut.invariant.same c.parse_window-parsed.ensures.same;
+      lawful = c.parse_window-next.ensures.lawful;
+      same = same_more _ _ _ c.loop-cut.invariant.same c.parse_window-next.ensures.same;
       runs = stops _ _ _ _ _ _ _ law fit _ _ _ c.loop-cut.invariant.so_far c.loop-cut-test.true _ _ _ _ _ c.loop-cut.asked c.loop-cut.invariant.asked _ _ c.in_default.not-More c.in_ok-answer.was p;
     }
 
@@ -56,26 +56,26 @@ pub loop-cut-preserved : goal.loop-cut-preserved
 loop-cut-preserved g c =
     let law = (g.met.P.Parser.laws _ c.requires.lawful).whole in
     let fit = fits_in_tokens _ _ _ _ (g.met.S.Windowed.rises c.args.whole) c.requires.fit in
-    let p = window_same _ _ _ _ _ _ _ _ _ _ _ _ _ _ _ _ c.loop-cut.invariant.same c.parse_window-parsed.ensures.parses in
+    let p = window_same _ _ _ _ _ _ _ _ _ _ _ _ _ _ _ _ c.loop-cut.invariant.same c.parse_window-next.ensures.parses in
     record {
-      lawful = c.parse_window-parsed.ensures.lawful;
-      valid = c.parse_window-parsed.ensures.valid;
-      same = same_more _ _ _ c.loop-cut.invariant.same c.parse_window-parsed.ensures.same;
+      lawful = c.parse_window-next.ensures.lawful;
+      valid = c.parse_window-next.ensures.valid;
+      same = same_more _ _ _ c.loop-cut.invariant.same c.parse_window-next.ensures.same;
       asked = ap (λ n. n + 1) c.loop-cut.invariant.asked;
-      place = c.parse_window-parsed.ensures.place;
-      index = c.parse_window-parsed.ensures.index;
-      position = c.parse_window-parsed.ensures.position;
+      place = c.parse_window-next.ensures.place;
+      index = c.parse_window-next.ensures.index;
+      position = c.parse_window-next.ensures.position;
       so_far = goes_on _ _ _ _ _ _ _ law fit _ _ _ c.loop-cut.invariant.so_far c.loop-cut-test.true _ _ _ _ _ _ (c.in_ok-answer.was ∙ ap Ok c.in-More.is) p;
     }
 
-pub parse_window-parsed-requires-2-clause-to : goal.parse_window-parsed-requires-2-clause-to
-parse_window-parsed-requires-2-clause-to g c = c.end-end.ensures.place
+pub parse_window-run-requires-clause-to : goal.parse_window-run-requires-clause-to
+parse_window-run-requires-clause-to g c = c.end-end.ensures.place
 
-pub parse_window-parsed-requires-2-clause-position : goal.parse_window-parsed-requires-2-clause-position
-parse_window-parsed-requires-2-clause-position g c = c.loop-cut.invariant.position
+pub parse_window-run-requires-clause-position : goal.parse_window-run-requires-clause-position
+parse_window-run-requires-clause-position g c = c.loop-cut.invariant.position
 
-pub parse_window-parsed-requires-2-clause-order : goal.parse_window-parsed-requires-2-clause-order
-parse_window-parsed-requires-2-clause-order g c =
+pub parse_window-run-requires-clause-order : goal.parse_window-run-requires-clause-order
+parse_window-run-requires-clause-order g c =
     let law = (g.met.P.Parser.laws _ c.requires.lawful).whole in
     let fit = fits_in_tokens _ _ _ _ (g.met.S.Windowed.rises c.args.whole) c.requires.fit in
     let within = fits_last _ _ _ _ _ _ _ law fit _ _ c.loop-cut.cut-index (omega arith) c.loop-cut.invariant.so_far in
@@ -85,7 +85,7 @@ pub returns-in_err-parsed-clause-runs : goal.returns-in_err-parsed-clause-runs
 returns-in_err-parsed-clause-runs g c =
     let law = (g.met.P.Parser.laws _ c.requires.lawful).whole in
     let fit = fits_in_tokens _ _ _ _ (g.met.S.Windowed.rises c.args.whole) c.requires.fit in
-    let p = window_same _ _ _ _ _ _ _ _ _ _ _ _ _ _ _ _ c.loop-cut.invariant.same c.parse_window-parsed-2.ensures.parses in
+    let p = window_same _ _ _ _ _ _ _ _ _ _ _ _ _ _ _ _ c.loop-cut.invariant.same c.parse_window-run.ensures.parses in
     let e = err_from_is_err_and c.from_residual-in_err-parsed.result c.from_residual-in_err-parsed.ensures.1 in
     rw (e.1, e.2) (ends_by _ _ _ _ _ _ _ law fit _ _ c.loop-cut.cut-index (omega arith) c.loop-cut.invariant.so_far _ _ _ _ _ _ _ c.in_err-parsed.was (rw c.end-end.ensures.all at p))
 
@@ -93,6 +93,6 @@ pub returns-clause-runs : goal.returns-clause-runs
 returns-clause-runs g c =
     let law = (g.met.P.Parser.laws _ c.requires.lawful).whole in
     let fit = fits_in_tokens _ _ _ _ (g.met.S.Windowed.rises c.args.whole) c.requires.fit in
-    let p = window_same _ _ _ _ _ _ _ _ _ _ _ _ _ _ _ _ c.loop-cut.invariant.same c.parse_window-parsed-2.ensures.parses in
+    let p = window_same _ _ _ _ _ _ _ _ _ _ _ _ _ _ _ _ c.loop-cut.invariant.same c.parse_window-run.ensures.parses in
     let all : c.loop-cut.cut-index ≡ length c.args.cuts.now = omega arith in
     ends _ _ _ _ _ _ _ law fit _ _ c.loop-cut.cut-index (omega arith) c.loop-cut.invariant.so_far _ _ _ _ _ all c.loop-cut.asked c.loop-cut.invariant.asked _ _ c.in_ok-parsed.was (rw c.end-end.ensures.all at p)
