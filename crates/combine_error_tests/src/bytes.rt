@@ -1,320 +1,156 @@
-//! What the classes of bytes say, and what is made of them.
+//! What the classes of bytes say, what is made of them, and lists of bytes.
 
-use crate::calls::{Legible, check};
 use combine_base::error::ParseError;
 use combine_base::stream::Stream;
+use combine_error_calls::calls::Legible;
+use combine_error_calls::rows::Rows;
 use combine_repeat::repeat::many1;
 use combine_text::byte::{
     alpha_num, byte, bytes, bytes_cmp, crlf, digit, hex_digit, letter, lower, newline, oct_digit,
     space, spaces, tab, upper,
 };
 use combine_text::byte_list::ShowsBytes;
-use combine_token::token::{none_of, token};
+use combine_token::token::{none_of, token, tokens, tokens_cmp};
 use std::alloc::{AllocError, Global};
 
 /// A byte, digits and white space.
 pub fn digits_and_space<Input: Legible + Stream<Token = u8>>(
-    alloc: Global,
-    wrong: &mut Vec<String>,
+    rows: &mut Rows<Input>,
 ) -> Result<(), AllocError>
 where
-    Input::Range: ShowsBytes,
     Input::Error: ParseError<u8, Input::Range, Input::Position>,
 {
-    check::<Input, _>(
-        alloc,
-        wrong,
-        byte(b'c'),
-        &[
-            ("c", true, ""),
-            (
-                "?",
-                false,
-                "Parse error at 0\nUnexpected `?`\nExpected `c`\n",
-            ),
-            (
-                "",
-                false,
-                "Parse error at 0\nUnexpected end of input\nExpected `c`\n",
-            ),
-        ],
-    )?;
-    check::<Input, _>(
-        alloc,
-        wrong,
-        digit(),
-        &[
-            ("7", true, ""),
-            (
-                "?",
-                false,
-                "Parse error at 0\nUnexpected `?`\nExpected digit\n",
-            ),
-            (
-                "",
-                false,
-                "Parse error at 0\nUnexpected end of input\nExpected digit\n",
-            ),
-        ],
-    )?;
-    check::<Input, _>(
-        alloc,
-        wrong,
-        oct_digit(),
-        &[
-            ("7", true, ""),
-            (
-                "?",
-                false,
-                "Parse error at 0\nUnexpected `?`\nExpected octal digit\n",
-            ),
-            (
-                "",
-                false,
-                "Parse error at 0\nUnexpected end of input\nExpected octal digit\n",
-            ),
-        ],
-    )?;
-    check::<Input, _>(
-        alloc,
-        wrong,
-        hex_digit(),
-        &[
-            ("f", true, ""),
-            (
-                "?",
-                false,
-                "Parse error at 0\nUnexpected `?`\nExpected hex_digit\n",
-            ),
-            (
-                "",
-                false,
-                "Parse error at 0\nUnexpected end of input\nExpected hex_digit\n",
-            ),
-        ],
-    )?;
-    check::<Input, _>(
-        alloc,
-        wrong,
-        space(),
-        &[
-            (" ", true, ""),
-            (
-                "?",
-                false,
-                "Parse error at 0\nUnexpected `?`\nExpected space\n",
-            ),
-            (
-                "",
-                false,
-                "Parse error at 0\nUnexpected end of input\nExpected space\n",
-            ),
-        ],
-    )?;
-    check::<Input, _>(
-        alloc,
-        wrong,
-        newline(),
-        &[
-            ("\n", true, ""),
-            (
-                "?",
-                false,
-                "Parse error at 0\nUnexpected `?`\nExpected lf newline\n",
-            ),
-            (
-                "",
-                false,
-                "Parse error at 0\nUnexpected end of input\nExpected lf newline\n",
-            ),
-        ],
-    )
+    rows.check_named(byte(b'c'), "c", "`c`")?;
+    rows.check_named(digit(), "7", "digit")?;
+    rows.check_named(oct_digit(), "7", "octal digit")?;
+    rows.check_named(hex_digit(), "f", "hex_digit")?;
+    rows.check_named(space(), " ", "space")?;
+    rows.check_named(newline(), "\n", "lf newline")
 }
 
 /// A tab and letters.
 pub fn letters<Input: Legible + Stream<Token = u8>>(
-    alloc: Global,
-    wrong: &mut Vec<String>,
+    rows: &mut Rows<Input>,
 ) -> Result<(), AllocError>
 where
-    Input::Range: ShowsBytes,
     Input::Error: ParseError<u8, Input::Range, Input::Position>,
 {
-    check::<Input, _>(
-        alloc,
-        wrong,
-        tab(),
+    rows.check_named(tab(), "\t", "tab")?;
+    rows.check_named(upper(), "A", "upper")?;
+    rows.check_named(lower(), "a", "lower")?;
+    rows.check_named(letter(), "a", "letter")?;
+    rows.check_named(alpha_num(), "7", "alpha_num")
+}
+
+/// A line end of two bytes, white space that is passed over, and bytes that are none of these.
+pub fn blanks<Input: Legible + Stream<Token = u8>>(
+    alloc: Global,
+    rows: &mut Rows<Input>,
+) -> Result<(), AllocError>
+where
+    Input::Error: ParseError<u8, Input::Range, Input::Position>,
+{
+    rows.check(
+        crlf(),
         &[
-            ("\t", true, ""),
+            ("\r\n", true, "", ""),
+            ("\n", false, "0", "Unexpected `\n`\nExpected crlf newline\n"),
             (
-                "?",
-                false,
-                "Parse error at 0\nUnexpected `?`\nExpected tab\n",
-            ),
-            (
-                "",
-                false,
-                "Parse error at 0\nUnexpected end of input\nExpected tab\n",
+                "\r",
+                true,
+                "1",
+                "Unexpected end of input\nExpected lf newline\n",
             ),
         ],
     )?;
-    check::<Input, _>(
-        alloc,
-        wrong,
-        upper(),
+    rows.check(
+        (spaces(), token(b'a')),
         &[
-            ("A", true, ""),
+            (" a", true, "", ""),
             (
-                "?",
+                "b",
                 false,
-                "Parse error at 0\nUnexpected `?`\nExpected upper\n",
+                "0",
+                "Unexpected `b`\nExpected `a` or whitespaces\n",
             ),
-            (
-                "",
-                false,
-                "Parse error at 0\nUnexpected end of input\nExpected upper\n",
-            ),
+            (" b", true, "1", "Unexpected `b`\nExpected `a`\n"),
         ],
     )?;
-    check::<Input, _>(
-        alloc,
-        wrong,
-        lower(),
+    rows.check(
+        many1::<Vec<u8>, _>(alloc, none_of([b'a', b'b', b'c'])),
         &[
-            ("a", true, ""),
-            (
-                "?",
-                false,
-                "Parse error at 0\nUnexpected `?`\nExpected lower\n",
-            ),
-            (
-                "",
-                false,
-                "Parse error at 0\nUnexpected end of input\nExpected lower\n",
-            ),
-        ],
-    )?;
-    check::<Input, _>(
-        alloc,
-        wrong,
-        letter(),
-        &[
-            ("a", true, ""),
-            (
-                "?",
-                false,
-                "Parse error at 0\nUnexpected `?`\nExpected letter\n",
-            ),
-            (
-                "",
-                false,
-                "Parse error at 0\nUnexpected end of input\nExpected letter\n",
-            ),
-        ],
-    )?;
-    check::<Input, _>(
-        alloc,
-        wrong,
-        alpha_num(),
-        &[
-            ("7", true, ""),
-            (
-                "?",
-                false,
-                "Parse error at 0\nUnexpected `?`\nExpected alpha_num\n",
-            ),
-            (
-                "",
-                false,
-                "Parse error at 0\nUnexpected end of input\nExpected alpha_num\n",
-            ),
+            ("xyb", true, "", ""),
+            ("ab", false, "0", "Unexpected `a`\n"),
         ],
     )
 }
 
-/// A line end of two bytes, white space that is passed over, lists of bytes, and bytes that are none of these.
-pub fn named<Input: Legible + Stream<Token = u8>>(
-    alloc: Global,
-    wrong: &mut Vec<String>,
-) -> Result<(), AllocError>
+/// Lists of bytes.
+pub fn lists<Input: Legible + Stream<Token = u8>>(rows: &mut Rows<Input>) -> Result<(), AllocError>
 where
     Input::Range: ShowsBytes,
     Input::Error: ParseError<u8, Input::Range, Input::Position>,
 {
-    check::<Input, _>(
-        alloc,
-        wrong,
-        crlf(),
-        &[
-            ("\r\n", true, ""),
-            (
-                "\n",
-                false,
-                "Parse error at 0\nUnexpected `\n`\nExpected crlf newline\n",
-            ),
-            (
-                "\r",
-                true,
-                "Parse error at 1\nUnexpected end of input\nExpected lf newline\n",
-            ),
-        ],
-    )?;
-    check::<Input, _>(
-        alloc,
-        wrong,
-        (spaces(), token(b'a')),
-        &[
-            (" a", true, ""),
-            (
-                "b",
-                false,
-                "Parse error at 0\nUnexpected `b`\nExpected `a` or whitespaces\n",
-            ),
-            (
-                " b",
-                true,
-                "Parse error at 1\nUnexpected `b`\nExpected `a`\n",
-            ),
-        ],
-    )?;
-    check::<Input, _>(
-        alloc,
-        wrong,
+    rows.check(
         bytes(b"abc"),
         &[
-            ("abc", true, ""),
-            (
-                "bc",
-                false,
-                "Parse error at 0\nUnexpected `b`\nExpected `abc`\n",
-            ),
-            ("ax", true, "Parse error at 0\nUnexpected `x`\n"),
+            ("abc", true, "", ""),
+            ("bc", false, "0", "Unexpected `b`\nExpected `abc`\n"),
+            ("ax", true, "0", "Unexpected `x`\n"),
         ],
     )?;
-    check::<Input, _>(
-        alloc,
-        wrong,
+    rows.check(
         bytes_cmp(
             b"abc",
             |wanted: u8, read: u8| wanted.eq_ignore_ascii_case(&read),
         ),
         &[
-            ("AbC", true, ""),
-            (
-                "bc",
-                false,
-                "Parse error at 0\nUnexpected `b`\nExpected `abc`\n",
-            ),
-            ("Ax", true, "Parse error at 0\nUnexpected `x`\n"),
+            ("AbC", true, "", ""),
+            ("bc", false, "0", "Unexpected `b`\nExpected `abc`\n"),
+            ("Ax", true, "0", "Unexpected `x`\n"),
         ],
-    )?;
-    check::<Input, _>(
-        alloc,
-        wrong,
-        many1::<Vec<u8>, _>(alloc, none_of([b'a', b'b', b'c'])),
+    )
+}
+
+/// Tokens one after another: a mismatch behind others stands where the list began.
+pub fn in_order<Input: Legible + Stream<Token = u8>>(
+    rows: &mut Rows<Input>,
+) -> Result<(), AllocError>
+where
+    Input::Error: ParseError<u8, Input::Range, Input::Position>,
+{
+    rows.check(
+        tokens(
+            |wanted: &u8, read: u8| *wanted == read,
+            "list",
+            b"abc".as_slice(),
+        ),
         &[
-            ("xyb", true, ""),
-            ("ab", false, "Parse error at 0\nUnexpected `a`\n"),
+            ("abc", true, "", ""),
+            ("x", false, "0", "Unexpected `x`\nExpected list\n"),
+            ("", false, "0", "Unexpected end of input\nExpected list\n"),
+            ("abx", true, "0", "Unexpected `x`\nExpected list\n"),
+        ],
+    )
+}
+
+/// The same by a function that compares, of which nothing is said to be expected.
+pub fn in_order_by<Input: Legible + Stream<Token = u8>>(
+    rows: &mut Rows<Input>,
+) -> Result<(), AllocError>
+where
+    Input::Error: ParseError<u8, Input::Range, Input::Position>,
+{
+    rows.check(
+        tokens_cmp(
+            b"abc".as_slice(),
+            |wanted: &u8, read: u8| wanted.eq_ignore_ascii_case(&read),
+        ),
+        &[
+            ("AbC", true, "", ""),
+            ("x", false, "0", "Unexpected `x`\n"),
+            ("", false, "0", "Unexpected end of input\n"),
+            ("Abx", true, "0", "Unexpected `x`\n"),
         ],
     )
 }

@@ -1,122 +1,46 @@
-//! What choices, sequences and look-ahead say.
+//! What choices and look-ahead say.
 
-use crate::calls::{Legible, check};
 use combine_base::error::ParseError;
 use combine_base::stream::Stream;
-use combine_choice::choice::choice;
+use combine_choice::choice::{Slice, choice};
+use combine_error_calls::calls::Legible;
+use combine_error_calls::rows::{COLUMN_1, COLUMN_2, Rows};
 use combine_map::combinator::{attempt, ignore, look_ahead, not_followed_by};
-use combine_text::char::{newline, string};
+use combine_text::char::string;
 use combine_token::choice::{optional, or};
 use combine_token::token::token;
 use combine_token::token::types::Token;
-use std::alloc::{AllocError, Global};
-
-/// Parts after the first: which of them was refused, and where.
-pub fn sequences<Input: Legible + Stream<Token = char>>(
-    alloc: Global,
-    wrong: &mut Vec<String>,
-) -> Result<(), AllocError>
-where
-    Input::Error: ParseError<char, Input::Range, Input::Position>,
-{
-    check::<Input, _>(
-        alloc,
-        wrong,
-        (token('a'), token('b')),
-        &[
-            ("ab", true, ""),
-            (
-                "ac",
-                true,
-                "Parse error at line: 1, column: 2\nUnexpected `c`\nExpected `b`\n",
-            ),
-            (
-                "c",
-                false,
-                "Parse error at line: 1, column: 1\nUnexpected `c`\nExpected `a`\n",
-            ),
-            (
-                "a",
-                true,
-                "Parse error at line: 1, column: 2\nUnexpected end of input\nExpected `b`\n",
-            ),
-        ],
-    )?;
-    check::<Input, _>(
-        alloc,
-        wrong,
-        (token('a'), newline(), token('b')),
-        &[(
-            "a\nc",
-            true,
-            "Parse error at line: 2, column: 1\nUnexpected `c`\nExpected `b`\n",
-        )],
-    )?;
-    check::<Input, _>(
-        alloc,
-        wrong,
-        attempt((token('a'), token('b'))),
-        &[
-            ("ab", true, ""),
-            (
-                "ac",
-                false,
-                "Parse error at line: 1, column: 2\nUnexpected `c`\nUnexpected `a`\nExpected `b` or `a`\n",
-            ),
-        ],
-    )
-}
+use std::alloc::AllocError;
 
 /// Choices: the errors of their alternatives, merged.
 pub fn alternatives<Input: Legible + Stream<Token = char>>(
-    alloc: Global,
-    wrong: &mut Vec<String>,
+    rows: &mut Rows<Input>,
 ) -> Result<(), AllocError>
 where
     Input::Error: ParseError<char, Input::Range, Input::Position>,
 {
-    check::<Input, _>(
-        alloc,
-        wrong,
-        or(token('a'), token('b')),
-        &[
-            ("b", true, ""),
-            (
-                "c",
-                false,
-                "Parse error at line: 1, column: 1\nUnexpected `c`\nExpected `a` or `b`\n",
-            ),
-        ],
-    )?;
-    check::<Input, _>(
-        alloc,
-        wrong,
+    rows.check_named(or(token('a'), token('b')), "b", "`a` or `b`")?;
+    rows.check_named(or(token('a'), token('a')), "a", "`a`")?;
+    rows.check_named(
         choice([token('a'), token('b'), token('c')]),
-        &[
-            ("c", true, ""),
-            (
-                "x",
-                false,
-                "Parse error at line: 1, column: 1\nUnexpected `x`\nExpected `a`, `b` or `c`\n",
-            ),
-        ],
+        "c",
+        "`a`, `b` or `c`",
     )?;
-    check::<Input, _>(
-        alloc,
-        wrong,
+    let mut letters = [token('a'), token('b')];
+    rows.check_named(choice(Slice(&mut letters)), "b", "`a` or `b`")?;
+    rows.check(
         choice((ignore(attempt(string("ab"))), ignore(token('c')))),
         &[
-            ("c", true, ""),
+            ("c", true, "", ""),
             (
                 "ax",
                 false,
-                "Parse error at line: 1, column: 1\nUnexpected `x`\nUnexpected `a`\nExpected ab or `c`\n",
+                COLUMN_1,
+                "Unexpected `x`\nUnexpected `a`\nExpected ab or `c`\n",
             ),
         ],
     )?;
-    check::<Input, _>(
-        alloc,
-        wrong,
+    rows.check(
         or(
             ignore(attempt((token('a'), token('b')))),
             ignore(token('c')),
@@ -124,87 +48,77 @@ where
         &[(
             "ac",
             false,
-            "Parse error at line: 1, column: 2\nUnexpected `c`\nUnexpected `a`\nExpected `b`, `a` or `c`\n",
+            COLUMN_2,
+            "Unexpected `c`\nUnexpected `a`\nExpected `b`, `a` or `c`\n",
         )],
-    )?;
-    check::<Input, _>(
-        alloc,
-        wrong,
+    )
+}
+
+/// Choices over nothing.
+pub fn nothing<Input: Legible + Stream<Token = char>>(
+    rows: &mut Rows<Input>,
+) -> Result<(), AllocError>
+where
+    Input::Error: ParseError<char, Input::Range, Input::Position>,
+{
+    rows.check(
         choice::<[Token<Input, char>; 0]>([]),
         &[
             (
                 "x",
                 false,
-                "Parse error at line: 1, column: 1\nUnexpected `x`\nparser choice is empty\n",
+                COLUMN_1,
+                "Unexpected `x`\nparser choice is empty\n",
             ),
-            (
-                "",
-                false,
-                "Parse error at line: 1, column: 1\nparser choice is empty\n",
-            ),
+            ("", false, COLUMN_1, "parser choice is empty\n"),
         ],
     )
 }
 
-/// A part that may be missing, and look-ahead.
-pub fn looks<Input: Legible + Stream<Token = char>>(
-    alloc: Global,
-    wrong: &mut Vec<String>,
+/// A part that may be missing.
+pub fn optional_parts<Input: Legible + Stream<Token = char>>(
+    rows: &mut Rows<Input>,
 ) -> Result<(), AllocError>
 where
     Input::Error: ParseError<char, Input::Range, Input::Position>,
 {
-    check::<Input, _>(
-        alloc,
-        wrong,
+    rows.check(
         optional(string("hello")),
         &[
-            ("world", false, ""),
-            ("hello", true, ""),
-            (
-                "heya",
-                true,
-                "Parse error at line: 1, column: 1\nUnexpected `y`\n",
-            ),
+            ("world", false, "", ""),
+            ("hello", true, "", ""),
+            ("heya", true, COLUMN_1, "Unexpected `y`\n"),
         ],
     )?;
-    check::<Input, _>(
-        alloc,
-        wrong,
+    rows.check_named((optional(token('a')), token('b')), "ab", "`b` or `a`")
+}
+
+/// Look-ahead.
+pub fn looks<Input: Legible + Stream<Token = char>>(
+    rows: &mut Rows<Input>,
+) -> Result<(), AllocError>
+where
+    Input::Error: ParseError<char, Input::Range, Input::Position>,
+{
+    rows.check(
         look_ahead(token('a')),
         &[
-            ("a", false, ""),
-            (
-                "b",
-                false,
-                "Parse error at line: 1, column: 1\nUnexpected `b`\nExpected `a`\n",
-            ),
+            ("a", false, "", ""),
+            ("b", false, COLUMN_1, "Unexpected `b`\nExpected `a`\n"),
         ],
     )?;
-    check::<Input, _>(
-        alloc,
-        wrong,
+    rows.check(
         look_ahead(string("test")),
         &[
-            ("test str", false, ""),
-            (
-                "tex",
-                true,
-                "Parse error at line: 1, column: 1\nUnexpected `x`\n",
-            ),
+            ("test str", false, "", ""),
+            ("tex", true, COLUMN_1, "Unexpected `x`\n"),
         ],
     )?;
-    check::<Input, _>(
-        alloc,
-        wrong,
+    rows.check(
         not_followed_by(token('a')),
         &[
-            ("b", false, ""),
-            (
-                "a",
-                false,
-                "Parse error at line: 1, column: 1\nUnexpected `a`\n",
-            ),
+            ("b", false, "", ""),
+            ("a", false, COLUMN_1, "Unexpected `a`\n"),
         ],
     )
 }

@@ -1,8 +1,9 @@
 //! What the parsers that shape errors make of those of another, and what functions say.
 
-use crate::calls::{Legible, check, check_lasting};
 use combine_base::error::ParseError;
 use combine_base::stream::Stream;
+use combine_error_calls::calls::Legible;
+use combine_error_calls::rows::{COLUMN_1, COLUMN_2, Rows};
 use combine_errors::error::{expected, message, silent};
 use combine_functions::combinator::from_str;
 use combine_functions::error::unexpected;
@@ -15,177 +16,133 @@ use std::alloc::{AllocError, Global};
 
 /// Refusals that are peeked.
 pub fn shaped<Input: Legible + Stream<Token = char>>(
-    alloc: Global,
-    wrong: &mut Vec<String>,
+    rows: &mut Rows<Input>,
 ) -> Result<(), AllocError>
 where
     Input::Error: ParseError<char, Input::Range, Input::Position>,
 {
-    check_lasting::<Input, _, _>(
-        alloc,
-        wrong,
+    rows.check(
         unexpected("token"),
-        &[(
-            "a",
-            false,
-            "Parse error at line: 1, column: 1\nUnexpected `a`\nUnexpected token\n",
-        )],
+        &[("a", false, COLUMN_1, "Unexpected `a`\nUnexpected token\n")],
     )?;
-    check_lasting::<Input, _, _>(
-        alloc,
-        wrong,
+    rows.check(
         expected(token('a'), "letter a"),
         &[
-            ("a", true, ""),
-            (
-                "b",
-                false,
-                "Parse error at line: 1, column: 1\nUnexpected `b`\nExpected letter a\n",
-            ),
+            ("a", true, "", ""),
+            ("b", false, COLUMN_1, "Unexpected `b`\nExpected letter a\n"),
         ],
     )?;
-    check_lasting::<Input, _, _>(
-        alloc,
-        wrong,
+    rows.check(
         message(token('a'), "need a"),
         &[
-            ("a", true, ""),
+            ("a", true, "", ""),
             (
                 "b",
                 false,
-                "Parse error at line: 1, column: 1\nUnexpected `b`\nExpected `a`\nneed a\n",
+                COLUMN_1,
+                "Unexpected `b`\nExpected `a`\nneed a\n",
             ),
         ],
     )?;
-    check_lasting::<Input, _, _>(
-        alloc,
-        wrong,
+    rows.check(
         silent(token('a')),
         &[
-            ("a", true, ""),
-            (
-                "b",
-                false,
-                "Parse error at line: 1, column: 1\nUnexpected `b`\n",
-            ),
+            ("a", true, "", ""),
+            ("b", false, COLUMN_1, "Unexpected `b`\n"),
         ],
     )?;
-    check_lasting::<Input, _, _>(
-        alloc,
-        wrong,
+    rows.check_named(
         or(token('a'), expected(token('b'), "letter b")),
-        &[(
-            "c",
-            false,
-            "Parse error at line: 1, column: 1\nUnexpected `c`\nExpected `a` or letter b\n",
-        )],
+        "b",
+        "`a` or letter b",
     )?;
-    check_lasting::<Input, _, _>(
-        alloc,
-        wrong,
-        or(silent(token('a')), token('b')),
-        &[(
-            "c",
-            false,
-            "Parse error at line: 1, column: 1\nUnexpected `c`\nExpected `b`\n",
-        )],
-    )
+    rows.check_named(or(silent(token('a')), token('b')), "b", "`b`")
 }
 
 /// Refusals that are committed, and one that was made peeked.
 pub fn shaped_committed<Input: Legible + Stream<Token = char>>(
-    alloc: Global,
-    wrong: &mut Vec<String>,
+    rows: &mut Rows<Input>,
 ) -> Result<(), AllocError>
 where
     Input::Error: ParseError<char, Input::Range, Input::Position>,
 {
-    check_lasting::<Input, _, _>(
-        alloc,
-        wrong,
+    rows.check(
         message((token('a'), token('b')), "need ab"),
         &[(
             "ac",
             true,
-            "Parse error at line: 1, column: 2\nUnexpected `c`\nExpected `b`\nneed ab\n",
+            COLUMN_2,
+            "Unexpected `c`\nExpected `b`\nneed ab\n",
         )],
     )?;
-    check_lasting::<Input, _, _>(
-        alloc,
-        wrong,
+    rows.check(
         expected((token('a'), token('b')), "pair"),
+        &[
+            ("ac", true, COLUMN_2, "Unexpected `c`\nExpected `b`\n"),
+            ("c", false, COLUMN_1, "Unexpected `c`\nExpected pair\n"),
+        ],
+    )?;
+    rows.check(
+        silent((token('a'), token('b'))),
+        &[
+            ("ac", true, COLUMN_2, "Unexpected `c`\n"),
+            ("ab", true, "", ""),
+        ],
+    )?;
+    rows.check(
+        silent(attempt((token('a'), token('b')))),
+        &[("ac", false, COLUMN_2, "Unexpected `c`\nUnexpected `a`\n")],
+    )
+}
+
+/// Texts that the caller owns.
+pub fn texts_of_callers<Input: Legible + Stream<Token = char>>(
+    alloc: Global,
+    rows: &mut Rows<Input>,
+) -> Result<(), AllocError>
+where
+    Input::Error: ParseError<char, Input::Range, Input::Position>,
+{
+    let name = String::from_str(alloc, "letter a")?;
+    rows.check_named(expected(token('a'), name), "a", "letter a")?;
+    let need = String::from_str(alloc, "need ab")?;
+    rows.check(
+        message((token('a'), token('b')), need),
         &[
             (
                 "ac",
                 true,
-                "Parse error at line: 1, column: 2\nUnexpected `c`\nExpected `b`\n",
+                COLUMN_2,
+                "Unexpected `c`\nExpected `b`\nneed ab\n",
             ),
             (
                 "c",
                 false,
-                "Parse error at line: 1, column: 1\nUnexpected `c`\nExpected pair\n",
+                COLUMN_1,
+                "Unexpected `c`\nExpected `a`\nneed ab\n",
             ),
         ],
-    )?;
-    check_lasting::<Input, _, _>(
-        alloc,
-        wrong,
-        silent((token('a'), token('b'))),
-        &[
-            (
-                "ac",
-                true,
-                "Parse error at line: 1, column: 2\nUnexpected `c`\n",
-            ),
-            ("ab", true, ""),
-        ],
-    )?;
-    check_lasting::<Input, _, _>(
-        alloc,
-        wrong,
-        silent(attempt((token('a'), token('b')))),
-        &[(
-            "ac",
-            false,
-            "Parse error at line: 1, column: 2\nUnexpected `c`\nUnexpected `a`\n",
-        )],
     )
 }
 
 /// Texts that stand for no value.
 pub fn functions<Input: Legible + Stream<Token = char>>(
     alloc: Global,
-    wrong: &mut Vec<String>,
+    rows: &mut Rows<Input>,
 ) -> Result<(), AllocError>
 where
     Input::Error: ParseError<char, Input::Range, Input::Position>,
 {
-    check::<Input, _>(
-        alloc,
-        wrong,
+    rows.check(
         from_str::<_, i32>(many1::<String, _>(alloc, digit())),
         &[
-            ("12345", true, ""),
-            (
-                "99999999999",
-                true,
-                "Parse error at line: 1, column: 1\ninvalid value\n",
-            ),
-            (
-                "x",
-                false,
-                "Parse error at line: 1, column: 1\nUnexpected `x`\nExpected digit\n",
-            ),
+            ("12345", true, "", ""),
+            ("99999999999", true, COLUMN_1, "invalid value\n"),
+            ("x", false, COLUMN_1, "Unexpected `x`\nExpected digit\n"),
         ],
     )?;
-    check::<Input, _>(
-        alloc,
-        wrong,
+    rows.check(
         from_str::<_, u32>(many1::<Vec<u8>, _>(alloc, map(any(), |_character: char| 0xff_u8))),
-        &[(
-            "a",
-            true,
-            "Parse error at line: 1, column: 1\nExpected UTF-8\n",
-        )],
+        &[("a", true, COLUMN_1, "Expected UTF-8\n")],
     )
 }

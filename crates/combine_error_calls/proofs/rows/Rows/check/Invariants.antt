@@ -1,4 +1,4 @@
-use Rattle.combine_error_tests.proofs.calls.check_lasting.Given as goal
+use Rattle.combine_error_calls.proofs.rows.Rows.check.Given as goal
 
 -- the parser may be called again
 abbrev pub invariant-loop-row : goal.invariant-loop-row

@@ -1,9 +1,10 @@
 //! Every row. One call for each kind of input names a stream that wraps another, which is dear.
 
-use crate::calls::Legible;
-use crate::{bytes, choices, classes, repetitions, shapes, tokens};
+use crate::{bytes, choices, classes, shapes, tokens};
 use combine_base::error::ParseError;
 use combine_base::stream::Stream;
+use combine_error_calls::calls::Legible;
+use combine_error_calls::rows::Rows;
 use combine_text::byte_list::ShowsBytes;
 use std::alloc::{AllocError, Global};
 
@@ -14,22 +15,22 @@ pub fn wrong_of_texts<Input: Legible + Stream<Token = char>>(
 where
     Input::Error: ParseError<char, Input::Range, Input::Position>,
 {
-    let mut wrong: Vec<String> = Vec::new(alloc);
-    tokens::unnamed::<Input>(alloc, &mut wrong)?;
-    tokens::these::<Input>(alloc, &mut wrong)?;
-    classes::digits_and_space::<Input>(alloc, &mut wrong)?;
-    classes::letters::<Input>(alloc, &mut wrong)?;
-    classes::named::<Input>(alloc, &mut wrong)?;
-    choices::sequences::<Input>(alloc, &mut wrong)?;
-    choices::alternatives::<Input>(alloc, &mut wrong)?;
-    choices::looks::<Input>(alloc, &mut wrong)?;
-    repetitions::turns::<Input>(alloc, &mut wrong)?;
-    repetitions::counts::<Input>(alloc, &mut wrong)?;
-    repetitions::separated::<Input>(alloc, &mut wrong)?;
-    shapes::shaped::<Input>(alloc, &mut wrong)?;
-    shapes::shaped_committed::<Input>(alloc, &mut wrong)?;
-    shapes::functions::<Input>(alloc, &mut wrong)?;
-    Ok(wrong)
+    let mut rows: Rows<Input> = Rows::new(alloc);
+    tokens::unnamed(&mut rows)?;
+    tokens::these(&mut rows)?;
+    classes::digits_and_space(&mut rows)?;
+    classes::letters(&mut rows)?;
+    classes::blanks(&mut rows)?;
+    classes::texts(&mut rows)?;
+    choices::alternatives(&mut rows)?;
+    choices::optional_parts(&mut rows)?;
+    choices::nothing(&mut rows)?;
+    choices::looks(&mut rows)?;
+    shapes::shaped(&mut rows)?;
+    shapes::shaped_committed(&mut rows)?;
+    shapes::texts_of_callers(alloc, &mut rows)?;
+    shapes::functions(alloc, &mut rows)?;
+    Ok(rows.into_wrong())
 }
 
 /// What was answered to bytes other than the rows say.
@@ -40,11 +41,14 @@ where
     Input::Range: ShowsBytes,
     Input::Error: ParseError<u8, Input::Range, Input::Position>,
 {
-    let mut wrong: Vec<String> = Vec::new(alloc);
-    bytes::digits_and_space::<Input>(alloc, &mut wrong)?;
-    bytes::letters::<Input>(alloc, &mut wrong)?;
-    bytes::named::<Input>(alloc, &mut wrong)?;
-    Ok(wrong)
+    let mut rows: Rows<Input> = Rows::new(alloc);
+    bytes::digits_and_space(&mut rows)?;
+    bytes::letters(&mut rows)?;
+    bytes::blanks(alloc, &mut rows)?;
+    bytes::lists(&mut rows)?;
+    bytes::in_order(&mut rows)?;
+    bytes::in_order_by(&mut rows)?;
+    Ok(rows.into_wrong())
 }
 
 #[cfg(test)]

@@ -1,0 +1,53 @@
+//! Every row. One call names a stream that wraps another, which is dear.
+
+use crate::{insides, places, ranges, repetitions, sequences};
+use combine_base::error::ParseError;
+use combine_base::stream::Stream;
+use combine_error_calls::calls::Legible;
+use combine_error_calls::rows::Rows;
+use combine_stream::range::{Range, RangeStream};
+use std::alloc::{AllocError, Global};
+
+/// What was answered other than the rows say.
+///
+/// `hello` is the range of these characters.
+pub fn wrong<Input: Legible + Stream<Token = char> + RangeStream>(
+    alloc: Global,
+    hello: Input::Range,
+) -> Result<Vec<String>, AllocError>
+where
+    Input::Range: Range + PartialEq,
+    Input::Error: ParseError<char, Input::Range, Input::Position>,
+{
+    let mut rows: Rows<Input> = Rows::new(alloc);
+    sequences::tuples(&mut rows)?;
+    sequences::one_value(&mut rows)?;
+    sequences::answered(&mut rows)?;
+    repetitions::turns(alloc, &mut rows)?;
+    repetitions::counts(alloc, &mut rows)?;
+    repetitions::separated(alloc, &mut rows)?;
+    repetitions::chains(alloc, &mut rows)?;
+    places::up_to_a_place(alloc, &mut rows)?;
+    places::escapes(&mut rows)?;
+    insides::one_inside(alloc, &mut rows)?;
+    insides::turns_inside(alloc, &mut rows)?;
+    insides::made(&mut rows)?;
+    ranges::these(&mut rows, hello)?;
+    ranges::others(&mut rows)?;
+    Ok(rows.into_wrong())
+}
+
+#[cfg(test)]
+mod tests {
+    use super::*;
+    use combine_errors::easy;
+    use combine_stream::position;
+
+    #[test]
+    fn texts_say(rt: HostRuntime) -> Result<(), AllocError> {
+        for row in wrong::<easy::Stream<position::Stream<&'static str>>>(rt.alloc(), "hello")? {
+            assert_eq!(rt; row.as_str(), "");
+        }
+        Ok(())
+    }
+}
