@@ -4,4 +4,6 @@
 #[cfg(test)]
 mod notes;
 #[cfg(test)]
+mod rows;
+#[cfg(test)]
 mod windows;

@@ -4,6 +4,7 @@
 pub mod answers;
 pub mod cuts;
 pub mod faults;
+pub mod feeding;
 pub mod pieces;
 pub mod sessions;
 pub mod slices;

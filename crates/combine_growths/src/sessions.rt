@@ -3,9 +3,12 @@
 use combine_base::error::UnexpectedParse;
 use combine_base::parser::{Answer, Parser, Session, SessionError};
 use combine_base::stream::{Kind, fed};
+use combine_chains::repeat::chainr1;
+use combine_map::combinator::map;
 use combine_repeat::repeat::{many1, skip_many};
 use combine_token::token::token;
 use std::alloc::Global;
+use std::fmt::Debug;
 use std::process::Abort;
 
 /// Feeds a piece, and once more where it found no room: what is unread is then as before.
@@ -24,11 +27,33 @@ fn feed_again<P: Parser<fed::Stream<u8>>>(
     }
 }
 
-/// What the sessions below are fed.
-const PIECES: [&str; 3] = ["aa", "a", "aaaaaaaaaaaaaaaaaaaa"];
+/// What a session of letters is fed.
+const LETTERS: [&str; 3] = ["aa", "a", "aaaaaaaaaaaaaaaaaaaa"];
 
-/// All that was fed is accepted.
-fn assert_all_accepted(rt: &impl Abort, answer: Answer<Vec<u8>, UnexpectedParse>) {
+/// What a session of powers is fed.
+const ONES: [&str; 3] = ["1^1", "^1", "^1^1^1^1^1^1^1^1^1"];
+
+/// The value of all that a session is fed.
+trait OfAll: Debug + PartialEq + Drop {
+    fn is_of_all(&self) -> bool;
+}
+
+/// The letters.
+impl OfAll for Vec<u8> {
+    fn is_of_all(&self) -> bool {
+        self.as_slice() == [b'a'; 23].as_slice()
+    }
+}
+
+/// The power.
+impl OfAll for u32 {
+    fn is_of_all(&self) -> bool {
+        *self == 1
+    }
+}
+
+/// All 23 bytes are accepted.
+fn assert_all_accepted<V: OfAll>(rt: &impl Abort, answer: Answer<V, UnexpectedParse>) {
     let Answer::Accepted {
         value,
         taken,
@@ -38,20 +63,23 @@ fn assert_all_accepted(rt: &impl Abort, answer: Answer<Vec<u8>, UnexpectedParse>
         assert!(rt; false, "accepted where memory is ample");
         return;
     };
-    assert_eq!(rt; value.as_slice(), [b'a'; 23].as_slice());
+    assert!(rt; value.is_of_all());
     assert_eq!(rt; (taken, committed), (23, true));
 }
 
-/// A session of `many1(token(b'a'))`, fed all pieces.
-fn feed_all<P: Parser<fed::Stream<u8>, Output = Vec<u8>> + Drop>(
+/// A session, fed all pieces.
+fn feed_all<P: Parser<fed::Stream<u8>> + Drop>(
     rt: &impl Abort,
     alloc: Global,
     parser: P,
+    pieces: [&str; 3],
 )
+where
+    P::Output: OfAll,
     requires { P.lawful parser }
 {
     let mut session = Session::new(alloc, parser);
-    for piece in PIECES {
+    for piece in pieces {
         assert_eq!(rt; session.feed(piece.as_bytes()), Ok(Answer::More));
     }
     match session.end() {
@@ -61,15 +89,18 @@ fn feed_all<P: Parser<fed::Stream<u8>, Output = Vec<u8>> + Drop>(
 }
 
 /// The same where growths may be refused.
-fn feed_all_or_fail<P: Parser<fed::Stream<u8>, Output = Vec<u8>> + Drop>(
+fn feed_all_or_fail<P: Parser<fed::Stream<u8>> + Drop>(
     rt: &impl Abort,
     alloc: Global,
     parser: P,
+    pieces: [&str; 3],
 )
+where
+    P::Output: OfAll,
     requires { P.lawful parser }
 {
     let mut session = Session::new(alloc, parser);
-    for piece in PIECES {
+    for piece in pieces {
         match feed_again(rt, &mut session, piece.as_bytes()) {
             Ok(answer) => assert_eq!(rt; answer, Answer::More),
             Err(why) => {
@@ -92,6 +123,7 @@ fn a_session_with_ample_memory(rt: HostRuntime) {
         &rt,
         rt.alloc(),
         many1::<Vec<u8>, _>(rt.alloc(), token(b'a')),
+        LETTERS,
     );
 }
 
@@ -102,7 +134,30 @@ fn a_session_with_any_growth_refused(rt: HostRuntime) {
         &rt,
         rt.alloc(),
         many1::<Vec<u8>, _>(rt.alloc(), token(b'a')),
+        LETTERS,
     );
+}
+
+/// Powers from the right, whose operands are kept in a growing list.
+#[test]
+fn a_chain_with_ample_memory(rt: HostRuntime) {
+    let one = map(token(b'1'), |_one: u8| 1_u32);
+    let caret = map(
+        token(b'^'),
+        |_caret: u8| |left: u32, right: u32| left.saturating_pow(right),
+    );
+    feed_all(&rt, rt.alloc(), chainr1(rt.alloc(), one, caret), ONES);
+}
+
+/// The same where growths may be refused.
+#[test]
+fn a_chain_with_any_growth_refused(rt: HostRuntime) {
+    let one = map(token(b'1'), |_one: u8| 1_u32);
+    let caret = map(
+        token(b'^'),
+        |_caret: u8| |left: u32, right: u32| left.saturating_pow(right),
+    );
+    feed_all_or_fail(&rt, rt.alloc(), chainr1(rt.alloc(), one, caret), ONES);
 }
 
 /// A session of `skip_many(token(b'a'))`.

@@ -6,10 +6,12 @@ use crate::num::{
 use combine_base::error::UnexpectedParse;
 use combine_base::parser::{Answer, Parser, Session, SessionError, parse_pieces};
 use combine_base::stream::{Kind, fed};
-use std::alloc::Global;
+use std::alloc::{AllocError, Global};
 use std::process::Abort;
 
 type Parsed<'a, T> = Result<(T, &'a [u8]), UnexpectedParse>;
+
+type InPieces<T> = Result<Answer<T, UnexpectedParse>, SessionError>;
 
 const TOO_FEW: UnexpectedParse = UnexpectedParse(Kind::End);
 
@@ -61,11 +63,93 @@ fn of_le_i64(input: &[u8]) -> Parsed<'_, i64> {
     le_i64().parse(input)
 }
 
-fn be_u32_of_pieces(
-    alloc: Global,
-    pieces: &[&[u8]],
-) -> Result<Answer<u32, UnexpectedParse>, SessionError> {
+fn be_u16_of_pieces(alloc: Global, pieces: &[&[u8]]) -> InPieces<u16> {
+    parse_pieces(alloc, be_u16(), pieces)
+}
+
+fn le_i16_of_pieces(alloc: Global, pieces: &[&[u8]]) -> InPieces<i16> {
+    parse_pieces(alloc, le_i16(), pieces)
+}
+
+fn be_u32_of_pieces(alloc: Global, pieces: &[&[u8]]) -> InPieces<u32> {
     parse_pieces(alloc, be_u32(), pieces)
+}
+
+fn le_u32_of_pieces(alloc: Global, pieces: &[&[u8]]) -> InPieces<u32> {
+    parse_pieces(alloc, le_u32(), pieces)
+}
+
+fn be_i64_of_pieces(alloc: Global, pieces: &[&[u8]]) -> InPieces<i64> {
+    parse_pieces(alloc, be_i64(), pieces)
+}
+
+/// The number that is accepted of an input, committed and with so many bytes taken; none where it is refused peeked.
+type Row<'a, T> = (&'a [u8], Option<(T, u64)>);
+
+/// Whether the answer to an input is that of its row.
+fn agrees<T: PartialEq + Drop>(answer: InPieces<T>, wanted: &Option<(T, u64)>) -> bool {
+    match answer {
+        Ok(
+            Answer::Accepted {
+                value,
+                taken,
+                committed,
+            },
+        ) => { committed && *wanted == Some((value, taken)) }
+        Ok(
+            Answer::Refused {
+                error: _,
+                committed,
+            },
+        ) => !committed && wanted.is_none(),
+        _ => false,
+    }
+}
+
+/// The pieces of an input that is cut behind each byte whose bit is set in `places`, the lowest bit first, an empty piece before each.
+fn pieces(alloc: Global, input: &[u8], places: u32) -> Result<Vec<&[u8]>, AllocError> {
+    let mut pieces = Vec::new(alloc);
+    let mut rest = input;
+    let mut places = places;
+    let mut len: usize = 0;
+    for _byte in input {
+        len = len.saturating_add(1);
+        if places % 2 == 1 {
+            if let Some((piece, behind)) = rest.split_at_checked(len) {
+                pieces.push(b"".as_slice())?;
+                pieces.push(piece)?;
+                rest = behind;
+            }
+            len = 0;
+        }
+        places /= 2;
+    }
+    pieces.push(b"".as_slice())?;
+    pieces.push(rest)?;
+    Ok(pieces)
+}
+
+/// The answers are those of the rows, however the inputs are cut.
+fn over_every_cut<T: PartialEq + Drop, F: Fn(Global, &[&[u8]]) -> InPieces<T> + Drop>(
+    rt: &impl Abort,
+    alloc: Global,
+    parse: F,
+    rows: &[Row<T>],
+) -> Result<(), AllocError>
+    requires { F.IsAlwaysCallable parse }
+{
+    for (input, wanted) in rows {
+        let mut sets: u32 = 1;
+        for _byte in input.iter().skip(1) {
+            sets = sets.saturating_mul(2);
+        }
+        for places in 0..sets {
+            let cut = pieces(alloc, input, places)?;
+            let answer = parse(alloc, cut.as_slice());
+            assert!(rt; agrees(answer, wanted), "{input:?} cut at {places:b}");
+        }
+    }
+    Ok(())
 }
 
 #[test]
@@ -145,33 +229,29 @@ fn of_eight_bytes(rt: HostRuntime) {
     assert_eq!(rt; of_le_u64(&[0; 7]), Err(TOO_FEW));
 }
 
-/// Four bytes over cuts, with an empty piece.
 #[test]
-fn of_pieces(rt: HostRuntime) {
-    let input: &[u8] = &[0x12, 0x34, 0x56, 0x78];
-    for first in 0..=4 {
-        for second in 0..=4 {
-            let (head, rest) = input.split_at(input.len().min(first));
-            let (middle, last) = rest.split_at(rest.len().min(second));
-            let accepted = Answer::Accepted {
-                value: 305_419_896,
-                taken: 4,
-                committed: true,
-            };
-            assert_eq!(rt;
-                be_u32_of_pieces(rt.alloc(), &[head, b"", middle, last]),
-                Ok(accepted)
-            );
-        }
-    }
-    let refused = Answer::Refused {
-        error: TOO_FEW,
-        committed: false,
-    };
-    assert_eq!(rt;
-        be_u32_of_pieces(rt.alloc(), &[b"\x00", b"\x01", b"\x00"]),
-        Ok(refused)
-    );
+fn of_pieces(rt: HostRuntime) -> Result<(), AllocError> {
+    let alloc = rt.alloc();
+    let shorts: [Row<'_, u16>; 3] = [
+        (&[0x01, 0x02], Some((258, 2))),
+        (&[0x01, 0x02, 0x03], Some((258, 2))),
+        (&[0x01], None),
+    ];
+    over_every_cut(&rt, alloc, be_u16_of_pieces, &shorts)?;
+    let ones: [Row<'_, i16>; 2] = [(&[0xff, 0xff], Some((-1, 2))), (&[], None)];
+    over_every_cut(&rt, alloc, le_i16_of_pieces, &ones)?;
+    let high_first: [Row<'_, u32>; 2] = [
+        (&[0x12, 0x34, 0x56, 0x78], Some((305_419_896, 4))),
+        (&[0x00, 0x01, 0x00], None),
+    ];
+    over_every_cut(&rt, alloc, be_u32_of_pieces, &high_first)?;
+    let low_first: [Row<'_, u32>; 1] = [(&[0x78, 0x56, 0x34, 0x12], Some((305_419_896, 4)))];
+    over_every_cut(&rt, alloc, le_u32_of_pieces, &low_first)?;
+    let least: [Row<'_, i64>; 1] = [(
+        &[0x80, 0, 0, 0, 0, 0, 0, 0],
+        Some((-9_223_372_036_854_775_808, 8)),
+    )];
+    over_every_cut(&rt, alloc, be_i64_of_pieces, &least)
 }
 
 /// What is left unread: all bytes, where there are too few.

@@ -46,7 +46,7 @@ fn is_refused<T: Drop>(answer: Answered<T>, committed: bool) -> bool {
 }
 
 /// The pieces of an input that is cut behind each byte whose bit is set in `places`, the lowest bit first, an empty piece before each.
-fn pieces(alloc: Global, input: &[u8], places: u32) -> Result<Vec<&[u8]>, AllocError> {
+pub fn pieces(alloc: Global, input: &[u8], places: u32) -> Result<Vec<&[u8]>, AllocError> {
     let mut pieces = Vec::new(alloc);
     let mut rest = input;
     let mut places = places;
@@ -85,15 +85,20 @@ fn a_parser_for_each_item(rt: HostRuntime) -> Result<(), AllocError> {
 #[test]
 fn no_items(rt: HostRuntime) -> Result<(), AllocError> {
     let alloc = rt.alloc();
-    assert_eq!(rt;
-        more_each_time(alloc, 0, &[b"a".as_slice()]),
-        accepted(Vec::new(alloc), 0, false)
-    );
-    let nothing = vec![in alloc; Vec::new(alloc)]?;
-    assert_eq!(rt;
-        more_each_time(alloc, 1, &[b"a".as_slice()]),
-        accepted(nothing, 0, false)
-    );
+    for input in ["", "a", "ab"] {
+        for places in 0..2 {
+            let cut = pieces(alloc, input.as_bytes(), places)?;
+            assert_eq!(rt;
+                more_each_time(alloc, 0, cut.as_slice()),
+                accepted(Vec::new(alloc), 0, false)
+            );
+            let nothing = vec![in alloc; Vec::new(alloc)]?;
+            assert_eq!(rt;
+                more_each_time(alloc, 1, cut.as_slice()),
+                accepted(nothing, 0, false)
+            );
+        }
+    }
     Ok(())
 }
 

@@ -1,4 +1,5 @@
 //! Plain callers of `Iter`, over a stream that is fed.
+use crate::items::pieces;
 use combine_base::error::{Commit, Tracked, UnexpectedParse};
 use combine_base::parser::{FirstMode, PartialMode};
 use combine_base::stream::{Kind, fed};
@@ -9,6 +10,26 @@ use std::alloc::{AllocError, Global};
 
 fn is_digit(byte: u8) -> bool {
     byte.is_ascii_digit()
+}
+
+/// Feeds a piece; want of memory where it finds no room.
+fn feed(stream: &mut fed::Stream<u8>, piece: &[u8]) -> Result<(), AllocError> {
+    if stream.room() < piece.len() as u64 {
+        return Err(AllocError);
+    }
+    stream.feed(piece)
+}
+
+/// Goes on with the digits of what is unread.
+fn more_digits(
+    input: &mut fed::Stream<u8>,
+    state: &mut (),
+    given: &mut Vec<u8>,
+) -> Result<(), AllocError> {
+    for digit in Iter::new(satisfy(is_digit), PartialMode::default(), input, state) {
+        given.push(digit)?;
+    }
+    Ok(())
 }
 
 /// A stream of these bytes, which ends behind them.
@@ -97,5 +118,38 @@ fn a_turn_over_a_cut(rt: HostRuntime) -> Result<(), AllocError> {
     assert_eq!(rt; pairs.next(), None);
     assert!(rt; is_accepted(pairs.into_result(()), true));
     assert_eq!(rt; input.unread(), b"c".as_slice());
+    Ok(())
+}
+
+/// Each digit is given once, however the input is cut, and its token is taken: nothing is unread where more is asked for.
+#[test]
+fn digits_over_every_cut(rt: HostRuntime) -> Result<(), AllocError> {
+    let alloc = rt.alloc();
+    for places in 0..4 {
+        let mut input = fed::Stream::new(alloc);
+        let mut given = Vec::new(alloc);
+        for piece in pieces(alloc, b"12a", places)? {
+            assert_eq!(rt; input.unread(), b"".as_slice());
+            feed(&mut input, piece)?;
+            more_digits(&mut input, &mut (), &mut given)?;
+        }
+        assert_eq!(rt; given.as_slice(), b"12".as_slice());
+        assert_eq!(rt; input.unread(), b"a".as_slice());
+    }
+    Ok(())
+}
+
+/// Behind two digits an open input asks for more, with their tokens taken.
+#[test]
+fn digits_of_an_open_input(rt: HostRuntime) -> Result<(), AllocError> {
+    let mut input = fed::Stream::new(rt.alloc());
+    feed(&mut input, b"12")?;
+    let mut state = Default::default();
+    let mut digits = Iter::new(satisfy(is_digit), FirstMode, &mut input, &mut state);
+    assert_eq!(rt; digits.next(), Some(b'1'));
+    assert_eq!(rt; digits.next(), Some(b'2'));
+    assert_eq!(rt; digits.next(), None);
+    assert!(rt; is_error(digits.into_result(()), Kind::End));
+    assert_eq!(rt; input.unread(), b"".as_slice());
     Ok(())
 }

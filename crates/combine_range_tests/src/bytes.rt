@@ -1,9 +1,10 @@
 //! Parsers of ranges over bytes.
 use crate::calls::{Answered, Called};
 use crate::parsers::{
-    before, before_in_turn, before_over, first, first_over, some_beginning_in_turn, this,
+    before, before_in_turn, before_over, beginning_over, first, first_over, some_beginning_in_turn,
+    some_beginning_over, this, this_over,
 };
-use crate::windows::{bytes, windows};
+use crate::windows::{bytes, sets_of_places, windows};
 use combine_base::stream::Kind;
 use std::alloc::AllocError;
 
@@ -67,9 +68,43 @@ fn lengths(rt: HostRuntime) -> Result<(), AllocError> {
     ] {
         assert_eq!(rt; first(count, bytes(input, is_open)), wanted);
     }
-    for places in 0..64 {
-        let answered = first_over(4, windows(alloc, b"123abc", places)?);
-        assert_eq!(rt; answered, Some(accepted(b"123a".as_slice(), true, 4)));
+    for (count, input, wanted) in [
+        (
+            4,
+            b"123abc".as_slice(),
+            accepted(b"123a".as_slice(), true, 4),
+        ),
+        (4, b"abc", refused()),
+        (usize::MAX, b"abc", refused()),
+    ] {
+        for places in 0..sets_of_places(input.len()) {
+            let answered = first_over(count, windows(alloc, input, places)?);
+            assert_eq!(rt; answered.as_ref(), Some(&wanted));
+        }
+    }
+    Ok(())
+}
+
+/// However the bytes are cut.
+#[test]
+fn beginnings_over_windows(rt: HostRuntime) -> Result<(), AllocError> {
+    let alloc = rt.alloc();
+    for (input, wanted, wanted_or_none) in [
+        (
+            b"123abc".as_slice(),
+            accepted(b"123".as_slice(), true, 3),
+            accepted(b"123".as_slice(), true, 3),
+        ),
+        (b"abc", refused(), accepted(b"", false, 0)),
+        (b"12", accepted(b"12", true, 2), accepted(b"12", true, 2)),
+        (b"", refused(), accepted(b"", false, 0)),
+    ] {
+        for places in 0..sets_of_places(input.len()) {
+            let some = some_beginning_over(is_digit, windows(alloc, input, places)?);
+            assert_eq!(rt; some.as_ref(), Some(&wanted));
+            let any = beginning_over(is_digit, windows(alloc, input, places)?);
+            assert_eq!(rt; any.as_ref(), Some(&wanted_or_none));
+        }
     }
     Ok(())
 }
@@ -92,6 +127,27 @@ fn given_ranges(rt: HostRuntime) {
     ] {
         assert_eq!(rt; this(range, bytes(input, is_open)), wanted);
     }
+}
+
+/// However the bytes are cut.
+#[test]
+fn given_ranges_over_windows(rt: HostRuntime) -> Result<(), AllocError> {
+    for (range, input, wanted) in [
+        (
+            b"hello".as_slice(),
+            b"hello!".as_slice(),
+            accepted(b"hello".as_slice(), true, 5),
+        ),
+        (b"hello", b"help!", refused()),
+        (b"hello", b"hel", refused()),
+        (b"", b"a", accepted(b"", true, 0)),
+    ] {
+        for places in 0..sets_of_places(input.len()) {
+            let answered = this_over(range, windows(rt.alloc(), input, places)?);
+            assert_eq!(rt; answered.as_ref(), Some(&wanted));
+        }
+    }
+    Ok(())
 }
 
 #[test]
@@ -117,9 +173,19 @@ fn first_occurrences(rt: HostRuntime) -> Result<(), AllocError> {
     ] {
         assert_eq!(rt; before(range, bytes(input, is_open)), wanted);
     }
-    for places in 0..128 {
-        let answered = before_over(b"\r\n".as_slice(), windows(alloc, b"abc\rd\r\n", places)?);
-        assert_eq!(rt; answered, Some(accepted(b"abc\rd".as_slice(), true, 5)));
+    for (range, input, wanted) in [
+        (
+            b"\r\n".as_slice(),
+            b"abc\rd\r\n".as_slice(),
+            accepted(b"abc\rd".as_slice(), true, 5),
+        ),
+        (b"\r\n", b"abc\r", refused()),
+        (b"x", b"", refused()),
+    ] {
+        for places in 0..sets_of_places(input.len()) {
+            let answered = before_over(range, windows(alloc, input, places)?);
+            assert_eq!(rt; answered.as_ref(), Some(&wanted));
+        }
     }
     Ok(())
 }

@@ -16,7 +16,7 @@ pub enum Called<V> {
     Fault(Kind),
 }
 
-/// What a call answers, and how many items it took.
+/// What a call answers, and how many items it took; of a refusal and of a fault none is said.
 pub type Answered<V> = (Called<V>, usize);
 
 /// One call from a state.
@@ -50,6 +50,9 @@ where
             kind => Called::Fault(kind),
         },
     };
+    if matches!(called, Called::Refused(_) | Called::Fault(_)) {
+        return (called, 0);
+    }
     (called, whole.saturating_sub(input.range().len()))
 }
 

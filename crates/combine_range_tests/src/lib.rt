@@ -12,4 +12,6 @@ mod parsers;
 #[cfg(test)]
 mod searches;
 #[cfg(test)]
+mod texts;
+#[cfg(test)]
 mod windows;

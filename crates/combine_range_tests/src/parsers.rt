@@ -2,7 +2,7 @@
 ghost use Rattle.combine_range.specs.Wanted.{Fair};
 
 use crate::calls::{Answered, in_turn, once, over_windows};
-use combine_range::range::{range, take, take_until_range, take_while1};
+use combine_range::range::{range, take, take_until_range, take_while, take_while1};
 use combine_stream::range::{Range, RangeStream};
 
 /// The longest beginning, at least one token, on three inputs with one state.
@@ -15,6 +15,30 @@ where
     requires { F.IsAlwaysCallable predicate }
 {
     in_turn(take_while1(predicate), inputs)
+}
+
+/// The same over windows.
+pub fn some_beginning_over<Input: RangeStream, F: Fn(Input::Token) -> bool + Drop>(
+    predicate: F,
+    windows: Vec<Input>,
+) -> Option<Answered<Input::Range>>
+where
+    Input::Range: Range,
+    requires { F.IsAlwaysCallable predicate }
+{
+    over_windows(take_while1(predicate), windows)
+}
+
+/// The longest beginning, which may be empty, over windows.
+pub fn beginning_over<Input: RangeStream, F: Fn(Input::Token) -> bool + Drop>(
+    predicate: F,
+    windows: Vec<Input>,
+) -> Option<Answered<Input::Range>>
+where
+    Input::Range: Range,
+    requires { F.IsAlwaysCallable predicate }
+{
+    over_windows(take_while(predicate), windows)
 }
 
 /// So many items.
@@ -42,6 +66,17 @@ where
     Input::Range: Range + PartialEq + Drop,
 {
     once(range(wanted), input)
+}
+
+/// The same over windows.
+pub fn this_over<Input: RangeStream>(
+    wanted: Input::Range,
+    windows: Vec<Input>,
+) -> Option<Answered<Input::Range>>
+where
+    Input::Range: Range + PartialEq + Drop,
+{
+    over_windows(range(wanted), windows)
 }
 
 /// What stands before a range.

@@ -1,7 +1,7 @@
 //! Searches, in plain functions over bytes and texts, and over windows.
 use crate::bytes::{accepted, more, refused};
 use crate::calls::{Answered, Called, in_turn, once, over_windows};
-use crate::windows::{bytes, text, windows};
+use crate::windows::{bytes, sets_of_places, text, windows};
 use combine_base::stream::Kind;
 use combine_range::range::{range, take, take_until_range};
 use combine_searches::byte::{
@@ -30,6 +30,10 @@ fn before_bytes<'a>(needle: &[u8], input: &'a [u8]) -> Answered<&'a [u8]> {
 
 fn before_byte_of_text(wanted: u8, input: &str) -> Answered<&str> {
     once(take_until_byte(wanted), input)
+}
+
+fn before_bytes_of_text<'a>(needle: &[u8], input: &'a str) -> Answered<&'a str> {
+    once(take_until_bytes(needle), input)
 }
 
 /// The third byte, if there is one.
@@ -124,19 +128,54 @@ fn places_of_a_function(rt: HostRuntime) {
 fn texts(rt: HostRuntime) {
     assert_eq!(rt; before_byte_of_text(0xa9, "\u{e9}"), refused());
     assert_eq!(rt;
+        before_bytes_of_text(b"c12", "abc123"),
+        accepted("ab", true, 2)
+    );
+    assert_eq!(rt; before_bytes_of_text(b"", "\u{e9}"), accepted("", false, 0));
+    assert_eq!(rt;
         before_byte_of_text(0xc3, "a\u{e9}"),
         accepted("a", true, 1)
     );
 }
 
+/// However the bytes are cut.
 #[test]
 fn needles_over_windows(rt: HostRuntime) -> Result<(), AllocError> {
-    for places in 0..32 {
-        let answered = over_windows(
-            take_until_bytes(b"\r\n"),
-            windows(rt.alloc(), b"abc\r\n", places)?,
-        );
-        assert_eq!(rt; answered, Some(accepted(b"abc".as_slice(), true, 3)));
+    for (needle, input, wanted) in [
+        (
+            b"\r\n".as_slice(),
+            b"abc\r\n".as_slice(),
+            accepted(b"abc".as_slice(), true, 3),
+        ),
+        (b"aaaa", b"aaabaaaa", accepted(b"aaab", true, 4)),
+        (b"c12", b"abc123", accepted(b"ab", true, 2)),
+        (b"", b"abc123", accepted(b"", false, 0)),
+        (b"ab", b"", refused()),
+        (b"ab", b"ba", refused_committed()),
+    ] {
+        for places in 0..sets_of_places(input.len()) {
+            let answered = over_windows(
+                take_until_bytes(needle),
+                windows(rt.alloc(), input, places)?,
+            );
+            assert_eq!(rt; answered.as_ref(), Some(&wanted));
+        }
+    }
+    Ok(())
+}
+
+#[test]
+fn bytes_over_windows(rt: HostRuntime) -> Result<(), AllocError> {
+    for (input, wanted) in [
+        (b"".as_slice(), refused()),
+        (b"abc", refused_committed()),
+        (b"abxcx", accepted(b"ab".as_slice(), true, 2)),
+        (b"x", accepted(b"", false, 0)),
+    ] {
+        for places in 0..sets_of_places(input.len()) {
+            let answered = over_windows(take_until_byte(b'x'), windows(rt.alloc(), input, places)?);
+            assert_eq!(rt; answered.as_ref(), Some(&wanted));
+        }
     }
     Ok(())
 }
@@ -177,8 +216,8 @@ fn hello(input: &str) -> Answered<&str> {
     once(range("hello"), input)
 }
 
-fn before_crab(input: &str) -> Answered<&str> {
-    once(take_until_range("\u{1F980}"), input)
+fn before_text<'a>(wanted: &'a str, input: &'a str) -> Answered<&'a str> {
+    once(take_until_range(wanted), input)
 }
 
 /// Too few bytes, and a length inside a character.
@@ -186,9 +225,19 @@ fn before_crab(input: &str) -> Answered<&str> {
 fn ranges_of_texts(rt: HostRuntime) {
     assert_eq!(rt; hello("hell\u{ee} world"), refused());
     assert_eq!(rt; hello("hello!"), accepted("hello", true, 5));
-    assert_eq!(rt;
-        before_crab("\u{1F603} a \u{1F980}"),
-        accepted("\u{1F603} a ", true, 7)
-    );
+    for (wanted, input, before) in [
+        ("\u{1F980}", "\u{1F603} a \u{1F980}", "\u{1F603} a "),
+        ("\"", "Foo baz bar quux\"", "Foo baz bar quux"),
+        (
+            "===",
+            "if ((pointless_comparison == 3) === true) {",
+            "if ((pointless_comparison == 3) ",
+        ),
+    ] {
+        assert_eq!(rt;
+            before_text(wanted, input),
+            accepted(before, true, before.len())
+        );
+    }
     assert_eq!(rt; once(take(1), text("\u{ee}", true)), refused());
 }

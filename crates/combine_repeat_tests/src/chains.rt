@@ -1,7 +1,8 @@
-//! Plain callers of lists whose last separator may stand alone, of chains that are folded from the right, and of texts with escapes, over pieces.
+//! Plain callers of lists whose last separator may stand alone, of chains that are folded from the right, of words, and of texts with escapes, over pieces.
 use combine::error::UnexpectedParse;
+use combine::parser::char::{letter, space};
 use combine::parser::combinator::map;
-use combine::parser::repeat::{chainr1, escaped, many, sep_end_by, sep_end_by1};
+use combine::parser::repeat::{chainr1, escaped, many, many1, sep_by, sep_end_by, sep_end_by1};
 use combine::parser::token::{one_of, satisfy, token, value};
 use combine::parser::{Parser, parse_pieces};
 use combine_examples::answers::InPieces;
@@ -37,6 +38,14 @@ pub fn power(alloc: Global, pieces: &[&[u8]]) -> InPieces<u32> {
     parse_pieces(alloc, chainr1(alloc, digit, caret), pieces)
 }
 
+/// The last of the words that have a space between them.
+pub fn last_word(alloc: Global, pieces: &[&[char]]) -> InPieces<Option<String>> {
+    let word = many1::<String, _>(alloc, letter());
+    let words = sep_by::<Vec<String>, _, _>(alloc, word, space());
+    let last = map(words, |mut words: Vec<String>| words.pop());
+    parse_pieces(alloc, last, pieces)
+}
+
 /// The characters of a text up to `;`, collected in one.
 pub fn characters(alloc: Global, text: &str) -> Result<(String, &str), UnexpectedParse> {
     many::<String, _>(alloc, satisfy(|character: char| character != ';')).parse(text)
@@ -51,131 +60,41 @@ pub fn escaped_letters(alloc: Global, pieces: &[&[u8]]) -> InPieces<()> {
 #[cfg(test)]
 mod tests {
     use super::*;
-    use combine::parser::repeat::Append;
-    use combine::parser::{Answer, SessionError};
-    use combine::stream::Kind;
+    use crate::rows::over_every_cut;
+    use combine::parser::Answer;
+    use combine_examples::cuts::cut;
     use std::alloc::AllocError;
-
-    fn accepted<T>(value: T, taken: u64, committed: bool) -> InPieces<T> {
-        Ok(Answer::Accepted {
-            value,
-            taken,
-            committed,
-        })
-    }
-
-    fn is_refused<T: Drop>(answer: InPieces<T>, committed: bool) -> bool {
-        match answer {
-            Ok(
-                Answer::Refused {
-                    error: _,
-                    committed: found,
-                },
-            ) => found == committed,
-            _ => false,
-        }
-    }
-
-    /// The pieces of an input that is cut behind each byte whose bit is set in `places`, the lowest bit first, an empty piece before each.
-    fn pieces(alloc: Global, input: &[u8], places: u32) -> Result<Vec<&[u8]>, AllocError> {
-        let mut pieces = Vec::new(alloc);
-        let mut rest = input;
-        let mut places = places;
-        let mut len: usize = 0;
-        for _byte in input {
-            len = len.saturating_add(1);
-            if places % 2 == 1 {
-                if let Some((piece, behind)) = rest.split_at_checked(len) {
-                    pieces.push(b"".as_slice())?;
-                    pieces.push(piece)?;
-                    rest = behind;
-                }
-                len = 0;
-            }
-            places /= 2;
-        }
-        pieces.push(b"".as_slice())?;
-        pieces.push(rest)?;
-        Ok(pieces)
-    }
 
     #[test]
     fn a_last_separator_alone(rt: HostRuntime) -> Result<(), AllocError> {
         let alloc = rt.alloc();
-        for places in 0..32 {
-            let cut = pieces(alloc, b"1;2;3;", places)?;
-            assert_eq!(rt;
-                any_lines(alloc, cut.as_slice()),
-                accepted(b"123".to_vec(alloc)?, 6, true)
-            );
-            assert_eq!(rt;
-                lines(alloc, cut.as_slice()),
-                accepted(b"123".to_vec(alloc)?, 6, true)
-            );
-        }
-        for places in 0..8 {
-            let cut = pieces(alloc, b"1;;2", places)?;
-            assert_eq!(rt;
-                any_lines(alloc, cut.as_slice()),
-                accepted(b"1".to_vec(alloc)?, 2, true)
-            );
-        }
-        assert_eq!(rt; any_lines(alloc, &[]), accepted(Vec::new(alloc), 0, false));
-        assert_eq!(rt;
-            any_lines(alloc, &[b";".as_slice()]),
-            accepted(Vec::new(alloc), 0, false)
-        );
-        assert!(rt; is_refused(lines(alloc, &[b";".as_slice()]), false));
-        assert!(rt; is_refused(given_lines(alloc, &[b"x".as_slice()]), true));
-        Ok(())
-    }
-
-    /// A collection with no room.
-    #[derive(Drop)]
-    struct Full;
-
-    impl Append<u8> for Full {
-        ghost Held = { Unit {0} };
-
-        ghost held = { λ _. tt };
-
-        ghost none = { tt };
-
-        ghost more = { λ _ _. tt };
-
-        ghost lean = { ⊥ };
-
-        fn empty(_alloc: Global) -> Full {
-            Full
-        }
-
-        fn append(&mut self, _value: u8) -> Result<(), AllocError> {
-            Err(AllocError)
-        }
-    }
-
-    #[test]
-    fn a_refused_growth(rt: HostRuntime) {
-        let alloc = rt.alloc();
-        let digits = sep_end_by::<Full, _, _>(alloc, satisfy(is_digit), token(b';'));
-        match parse_pieces(alloc, digits, &[b"1;".as_slice()]) {
-            Err(why) => assert_eq!(rt; why, SessionError::Fault(Kind::Memory)),
-            Ok(_answer) => assert!(rt; false, "a growth was refused"),
-        }
+        let any = [
+            ("1;2;3;", Some(("123", 6)), true),
+            ("1;;2", Some(("1", 2)), true),
+            ("", Some(("", 0)), false),
+            (";", Some(("", 0)), false),
+        ];
+        over_every_cut(&rt, alloc, any_lines, &any)?;
+        let some = [
+            ("1;2;3;", Some(("123", 6)), true),
+            ("1;;2", Some(("1", 2)), true),
+            ("", None, false),
+            (";", None, false),
+        ];
+        over_every_cut(&rt, alloc, lines, &some)?;
+        let given = [("", None, true), ("x", None, true)];
+        over_every_cut(&rt, alloc, given_lines, &given)
     }
 
     #[test]
     fn powers_from_the_right(rt: HostRuntime) -> Result<(), AllocError> {
-        let alloc = rt.alloc();
-        for places in 0..16 {
-            let cut = pieces(alloc, b"2^3^2", places)?;
-            assert_eq!(rt; power(alloc, cut.as_slice()), accepted(512, 5, true));
-        }
-        assert!(rt; is_refused(power(alloc, &[b"2^".as_slice()]), true));
-        assert!(rt; is_refused(power(alloc, &[b"2".as_slice(), b"^".as_slice()]), true));
-        assert!(rt; is_refused(power(alloc, &[b"^".as_slice()]), false));
-        assert_eq!(rt; power(alloc, &[b"2".as_slice()]), accepted(2, 1, true));
-        Ok(())
+        let rows = [
+            ("2^3^2", Some((512, 5)), true),
+            ("2", Some((2, 1)), true),
+            ("2^", None, true),
+            ("^", None, false),
+        ];
+        over_every_cut(&rt, rt.alloc(), power, &rows)
     }
 
     /// `1`, and behind it `^1` so many times.
@@ -193,10 +112,38 @@ mod tests {
     fn many_operands(rt: HostRuntime) -> Result<(), AllocError> {
         let alloc = rt.alloc();
         let text = ones(alloc, 99_999)?;
-        assert_eq!(rt;
-            power(alloc, &[text.as_slice()]),
-            accepted(1, 199_999, true)
-        );
+        let accepted = Answer::Accepted {
+            value: 1,
+            taken: 199_999,
+            committed: true,
+        };
+        assert_eq!(rt; power(alloc, &[text.as_slice()]), Ok(accepted));
+        Ok(())
+    }
+
+    /// In one piece, and over each cut.
+    #[test]
+    fn words(rt: HostRuntime) -> Result<(), AllocError> {
+        let alloc = rt.alloc();
+        let mut characters = Vec::new(alloc);
+        for character in "Pick up that word!".chars() {
+            characters.push(character)?;
+        }
+        let mut places: u32 = 0;
+        for _character in &characters {
+            let pieces = cut(alloc, characters.as_slice(), places)?;
+            let accepted = Answer::Accepted {
+                value: Some(String::from_str(alloc, "word")?),
+                taken: 17,
+                committed: true,
+            };
+            assert_eq!(rt; last_word(alloc, pieces.as_slice()), Ok(accepted));
+            places = if places == 0 {
+                1
+            } else {
+                places.wrapping_mul(2)
+            };
+        }
         Ok(())
     }
 
@@ -210,20 +157,12 @@ mod tests {
 
     #[test]
     fn escapes(rt: HostRuntime) -> Result<(), AllocError> {
-        let alloc = rt.alloc();
-        for places in 0..32 {
-            let cut = pieces(alloc, b"ab\\nc\"", places)?;
-            assert_eq!(rt;
-                escaped_letters(alloc, cut.as_slice()),
-                accepted((), 5, true)
-            );
-        }
-        assert_eq!(rt;
-            escaped_letters(alloc, &[b"\"".as_slice()]),
-            accepted((), 0, false)
-        );
-        assert!(rt; is_refused(escaped_letters(alloc, &[b"\\".as_slice()]), true));
-        assert!(rt; is_refused(escaped_letters(alloc, &[b"a\\x".as_slice()]), true));
-        Ok(())
+        let rows = [
+            ("ab\\nc\"", Some(((), 5)), true),
+            ("\"", Some(((), 0)), false),
+            ("\\", None, true),
+            ("a\\x", None, true),
+        ];
+        over_every_cut(&rt, rt.alloc(), escaped_letters, &rows)
     }
 }

@@ -6,4 +6,8 @@ mod chains;
 #[cfg(test)]
 mod repetitions;
 #[cfg(test)]
+mod rows;
+#[cfg(test)]
+mod sessions;
+#[cfg(test)]
 mod values;

@@ -88,117 +88,117 @@ pub fn difference(alloc: Global, pieces: &[&[u8]]) -> InPieces<i64> {
     parse_pieces(alloc, chainl1(digit, minus), pieces)
 }
 
+/// Elements and separators that read nothing, at least one and at most three.
+pub fn some_given_elements(alloc: Global, pieces: &[&[u8]]) -> InPieces<Vec<u8>> {
+    let elements = sep_count_min_max::<Vec<u8>, _, _>(alloc, 1, 3, value(b'a'), value(b'b'));
+    parse_pieces(alloc, elements, pieces)
+}
+
 #[cfg(test)]
 mod tests {
     use super::*;
-    use combine::parser::Answer;
+    use crate::rows::over_every_cut;
     use std::alloc::AllocError;
-
-    fn accepted<T>(value: T, taken: u64, committed: bool) -> InPieces<T> {
-        Ok(Answer::Accepted {
-            value,
-            taken,
-            committed,
-        })
-    }
-
-    fn is_refused<T: Drop>(answer: InPieces<T>, committed: bool) -> bool {
-        match answer {
-            Ok(
-                Answer::Refused {
-                    error: _,
-                    committed: found,
-                },
-            ) => found == committed,
-            _ => false,
-        }
-    }
 
     #[test]
     fn counts(rt: HostRuntime) -> Result<(), AllocError> {
         let alloc = rt.alloc();
-        let whole = [b"aaab".as_slice()];
-        let cut = [
-            b"a".as_slice(),
-            b"".as_slice(),
-            b"a".as_slice(),
-            b"ab".as_slice(),
+        let two = [
+            ("aaab", Some(("aa", 2)), true),
+            ("ab", None, true),
+            ("a", None, true),
+            ("b", None, false),
+            ("", None, false),
         ];
-        assert_eq!(rt;
-            two_as(alloc, &whole),
-            accepted(b"aa".to_vec(alloc)?, 2, true)
-        );
-        assert_eq!(rt;
-            two_as(alloc, &cut),
-            accepted(b"aa".to_vec(alloc)?, 2, true)
-        );
-        assert!(rt; is_refused(two_as(alloc, &[b"ab".as_slice()]), true));
-        assert!(rt; is_refused(two_as(alloc, &[b"a".as_slice(), b"b".as_slice()]), true));
-        assert!(rt; is_refused(two_as(alloc, &[b"b".as_slice()]), false));
-        assert_eq!(rt; skip_some_as(alloc, &whole), accepted((), 3, true));
-        assert_eq!(rt; skip_some_as(alloc, &cut), accepted((), 3, true));
-        assert!(rt; is_refused(skip_some_as(alloc, &[b"ab".as_slice()]), true));
-        assert_eq!(rt;
-            at_most_as(alloc, 0, &whole),
-            accepted(Vec::new(alloc), 0, false)
-        );
-        assert_eq!(rt;
-            at_most_as(alloc, 5, &[b"b".as_slice()]),
-            accepted(Vec::new(alloc), 0, false)
-        );
-        assert_eq!(rt; skip_as(alloc, 5, &cut), accepted((), 3, true));
-        assert_eq!(rt;
-            given_twice(alloc, &[b"x".as_slice()]),
-            accepted([1_u8, 1_u8].to_vec(alloc)?, 0, false)
-        );
-        Ok(())
+        over_every_cut(&rt, alloc, two_as, &two)?;
+        let some = [
+            ("aaab", Some(((), 3)), true),
+            ("aab", Some(((), 2)), true),
+            ("ab", None, true),
+            ("b", None, false),
+        ];
+        over_every_cut(&rt, alloc, skip_some_as, &some)?;
+        let twice = [
+            ("", Some(("\x01\x01", 0)), false),
+            ("x", Some(("\x01\x01", 0)), false),
+        ];
+        over_every_cut(&rt, alloc, given_twice, &twice)
+    }
+
+    #[test]
+    fn counts_at_most(rt: HostRuntime) -> Result<(), AllocError> {
+        let alloc = rt.alloc();
+        let none = |alloc: Global, pieces: &[&[u8]]| at_most_as(alloc, 0, pieces);
+        over_every_cut(&rt, alloc, none, &[("aaab", Some(("", 0)), false)])?;
+        let five = |alloc: Global, pieces: &[&[u8]]| at_most_as(alloc, 5, pieces);
+        let rows = [
+            ("aaab", Some(("aaa", 3)), true),
+            ("aaaaaaa", Some(("aaaaa", 5)), true),
+            ("b", Some(("", 0)), false),
+        ];
+        over_every_cut(&rt, alloc, five, &rows)?;
+        let skip_five = |alloc: Global, pieces: &[&[u8]]| skip_as(alloc, 5, pieces);
+        let rows = [
+            ("aaab", Some(((), 3)), true),
+            ("aaaaaaa", Some(((), 5)), true),
+            ("b", Some(((), 0)), false),
+        ];
+        over_every_cut(&rt, alloc, skip_five, &rows)
+    }
+
+    #[test]
+    fn separated_counts(rt: HostRuntime) -> Result<(), AllocError> {
+        let alloc = rt.alloc();
+        let two_or_three = |alloc: Global, pieces: &[&[u8]]| some_digits(alloc, 2, 3, pieces);
+        let rows = [
+            ("1,2,3,4", Some(("123", 5)), true),
+            ("1,2", Some(("12", 3)), true),
+            ("1", None, true),
+            ("", None, false),
+            ("x", None, false),
+        ];
+        over_every_cut(&rt, alloc, two_or_three, &rows)?;
+        let one_to_three = |alloc: Global, pieces: &[&[u8]]| some_digits(alloc, 1, 3, pieces);
+        let rows = [("1,", None, true), ("1,x", None, true), ("", None, false)];
+        over_every_cut(&rt, alloc, one_to_three, &rows)?;
+        let none = |alloc: Global, pieces: &[&[u8]]| some_digits(alloc, 0, 0, pieces);
+        over_every_cut(&rt, alloc, none, &[("1", Some(("", 0)), false)])?;
+        let rows = [("", None, true), ("x", None, true), ("xy", None, true)];
+        over_every_cut(&rt, alloc, some_given_elements, &rows)
     }
 
     #[test]
     fn separated(rt: HostRuntime) -> Result<(), AllocError> {
         let alloc = rt.alloc();
-        assert_eq!(rt;
-            some_digits(alloc, 2, 3, &[b"1,2,3,4".as_slice()]),
-            accepted(b"123".to_vec(alloc)?, 5, true)
-        );
-        assert!(rt; is_refused(some_digits(alloc, 2, 3, &[b"1".as_slice()]), true));
-        assert!(rt; is_refused(some_digits(alloc, 1, 3, &[b"1,x".as_slice()]), true));
-        assert_eq!(rt;
-            some_digits(alloc, 0, 0, &[b"1".as_slice()]),
-            accepted(Vec::new(alloc), 0, false)
-        );
-        assert_eq!(rt;
-            some_digits(
-                alloc,
-                2,
-                3,
-                &[b"1".as_slice(), b",".as_slice(), b"2".as_slice()]
-            ),
-            accepted(b"12".to_vec(alloc)?, 3, true)
-        );
-        assert_eq!(rt;
-            digits(alloc, &[b"1".as_slice(), b",2".as_slice()]),
-            accepted(b"12".to_vec(alloc)?, 3, true)
-        );
-        assert!(rt; is_refused(digits(alloc, &[b"x".as_slice()]), false));
-        assert_eq!(rt; any_digits(alloc, &[]), accepted(Vec::new(alloc), 0, false));
-        assert!(rt; is_refused(any_digits(alloc, &[b"1,x".as_slice()]), true));
-        assert!(rt; is_refused(any_digits(alloc, &[b"1".as_slice(), b",".as_slice()]), true));
-        assert!(rt; is_refused(some_digits(alloc, 2, 3, &[]), false));
-        assert!(rt; is_refused(some_digits(alloc, 1, 3, &[b"1,".as_slice()]), true));
-        assert!(rt; is_refused(given_elements(alloc, &[b"x".as_slice()]), true));
-        Ok(())
+        let some = [
+            ("1,2", Some(("12", 3)), true),
+            ("1,2;", Some(("12", 3)), true),
+            ("1,", None, true),
+            ("1,x", None, true),
+            ("x", None, false),
+            ("", None, false),
+        ];
+        over_every_cut(&rt, alloc, digits, &some)?;
+        let any = [
+            ("1,2", Some(("12", 3)), true),
+            ("1,", None, true),
+            ("1,x", None, true),
+            ("x", Some(("", 0)), false),
+            ("", Some(("", 0)), false),
+        ];
+        over_every_cut(&rt, alloc, any_digits, &any)?;
+        let given = [("", None, true), ("x", None, true), ("xy", None, true)];
+        over_every_cut(&rt, alloc, given_elements, &given)
     }
 
     #[test]
     fn chains(rt: HostRuntime) -> Result<(), AllocError> {
-        let alloc = rt.alloc();
-        assert_eq!(rt;
-            difference(alloc, &[b"9-3-5".as_slice()]),
-            accepted(1, 5, true)
-        );
-        let cut = [b"9-".as_slice(), b"3".as_slice(), b"-5".as_slice()];
-        assert_eq!(rt; difference(alloc, &cut), accepted(1, 5, true));
-        Ok(())
+        let rows = [
+            ("9-3-5", Some((1, 5)), true),
+            ("9", Some((9, 1)), true),
+            ("9-", None, true),
+            ("-", None, false),
+        ];
+        over_every_cut(&rt, rt.alloc(), difference, &rows)
     }
 }

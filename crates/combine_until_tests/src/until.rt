@@ -1,11 +1,12 @@
 //! Plain callers of repetitions up to a place, over pieces.
-use combine_base::error::UnexpectedParse;
-use combine_base::parser::{Answer, Parser, SessionError, parse_pieces};
+use combine_base::error::{ParseResult, UnexpectedParse};
+use combine_base::parser::{Answer, Parser, Session, SessionError, parse_pieces};
 use combine_base::stream::{Kind, fed};
 use combine_map::combinator::attempt;
 use combine_token::token::{satisfy, token};
 use combine_until::repeat::{repeat_skip_until, repeat_until, skip_until, take_until};
 use std::alloc::{AllocError, Global};
+use std::process::Abort;
 
 type Answered<T> = Result<Answer<T, UnexpectedParse>, SessionError>;
 
@@ -20,6 +21,25 @@ fn up_to_a_digit(alloc: Global, pieces: &[&[u8]]) -> Answered<Vec<u8>> {
         take_until::<Vec<u8>, _, _, _>(alloc, satisfy(is_digit)),
         pieces,
     )
+}
+
+/// The bytes before the first that is `wanted`.
+fn up_to(alloc: Global, wanted: u8, pieces: &[&[u8]]) -> Answered<Vec<u8>> {
+    parse_pieces(
+        alloc,
+        take_until::<Vec<u8>, _, _, _>(alloc, token(wanted)),
+        pieces,
+    )
+}
+
+/// The bytes before the first `a`.
+fn up_to_an_a(alloc: Global, pieces: &[&[u8]]) -> Answered<Vec<u8>> {
+    up_to(alloc, b'a', pieces)
+}
+
+/// The bytes before the first `;`.
+fn up_to_a_semicolon(alloc: Global, pieces: &[&[u8]]) -> Answered<Vec<u8>> {
+    up_to(alloc, b';', pieces)
 }
 
 /// The bytes before the first `T`, which has to be that of `TAG`.
@@ -54,24 +74,59 @@ fn skip_digits_up_to_semicolon(alloc: Global, pieces: &[&[u8]]) -> Answered<()> 
     )
 }
 
-fn accepted<T>(value: T, taken: u64, committed: bool) -> Answered<T> {
-    Ok(Answer::Accepted {
-        value,
-        taken,
-        committed,
-    })
+/// What was collected of the first bytes of an input.
+trait Collected: Drop {
+    /// Whether these bytes were.
+    fn is(&self, bytes: &[u8]) -> bool;
 }
 
-fn is_refused<T: Drop>(answer: Answered<T>, committed: bool) -> bool {
+impl Collected for Vec<u8> {
+    fn is(&self, bytes: &[u8]) -> bool {
+        self.as_slice() == bytes
+    }
+}
+
+/// Nothing is kept.
+impl Collected for () {
+    fn is(&self, _bytes: &[u8]) -> bool {
+        true
+    }
+}
+
+/// An input; how many of its bytes are accepted, and none where it is refused; and whether that is committed.
+type Row = (&'static str, Option<u64>, bool);
+
+/// Whether the answer to an input is that of its row.
+fn agrees<V: Collected>(answer: Answered<V>, row: Row) -> bool {
+    let (input, wanted, is_committed) = row;
     match answer {
+        Ok(
+            Answer::Accepted {
+                value,
+                taken,
+                committed,
+            },
+        ) => match input.as_bytes().get(..taken as usize) {
+            Some(bytes) => { value.is(bytes) && wanted == Some(taken) && committed == is_committed }
+            None => false,
+        },
         Ok(
             Answer::Refused {
                 error: _,
-                committed: found,
+                committed,
             },
-        ) => found == committed,
+        ) => wanted.is_none() && committed == is_committed,
         _ => false,
     }
+}
+
+/// How many sets of places there are between the bytes of an input.
+fn sets_of_places(input: &str) -> u32 {
+    let mut sets: u32 = 1;
+    for _byte in input.bytes().skip(1) {
+        sets = sets.saturating_mul(2);
+    }
+    sets
 }
 
 /// The pieces of an input that is cut behind each byte whose bit is set in `places`, the lowest bit first, an empty piece before each.
@@ -97,61 +152,83 @@ fn pieces(alloc: Global, input: &[u8], places: u32) -> Result<Vec<&[u8]>, AllocE
     Ok(pieces)
 }
 
-#[test]
-fn tokens_up_to_a_place(rt: HostRuntime) -> Result<(), AllocError> {
-    let alloc = rt.alloc();
-    for places in 0..4 {
-        let cut = pieces(alloc, b"abc", places)?;
-        assert!(rt; is_refused(up_to_a_digit(alloc, cut.as_slice()), false));
-    }
-    for places in 0..128 {
-        let cut = pieces(alloc, b"123TATAG", places)?;
-        assert_eq!(rt;
-            up_to_whole_tag(alloc, cut.as_slice()),
-            accepted(b"123TA".to_vec(alloc)?, 5, true)
-        );
-        assert!(rt; is_refused(up_to_tag(alloc, cut.as_slice()), true));
-    }
-    assert_eq!(rt;
-        up_to_a_digit(alloc, &[b"1".as_slice()]),
-        accepted(Vec::new(alloc), 0, true)
-    );
-    for places in 0..4 {
-        let cut = pieces(alloc, b"ab;", places)?;
-        assert_eq!(rt;
-            skip_up_to_semicolon(alloc, cut.as_slice()),
-            accepted((), 2, true)
-        );
+/// The answers are those of the rows, however the inputs are cut.
+fn over_every_cut<V: Collected, F: Fn(Global, &[&[u8]]) -> Answered<V> + Drop>(
+    rt: &impl Abort,
+    alloc: Global,
+    parse: F,
+    rows: &[Row],
+) -> Result<(), AllocError>
+    requires { F.IsAlwaysCallable parse }
+{
+    for row in rows {
+        let (input, _wanted, _committed) = *row;
+        for places in 0..sets_of_places(input) {
+            let cut = pieces(alloc, input.as_bytes(), places)?;
+            let answer = parse(alloc, cut.as_slice());
+            assert!(rt; agrees(answer, *row), "{input} cut at {places:b}");
+        }
     }
     Ok(())
 }
 
 #[test]
-fn blocks_up_to_a_place(rt: HostRuntime) -> Result<(), AllocError> {
+fn tokens_up_to_a_place(rt: HostRuntime) -> Result<(), AllocError> {
     let alloc = rt.alloc();
-    for places in 0..4 {
-        let cut = pieces(alloc, b"12;", places)?;
-        assert_eq!(rt;
-            digits_up_to_semicolon(alloc, cut.as_slice()),
-            accepted(b"12".to_vec(alloc)?, 2, true)
-        );
-        assert_eq!(rt;
-            skip_digits_up_to_semicolon(alloc, cut.as_slice()),
-            accepted((), 2, true)
-        );
-        let cut = pieces(alloc, b"12x", places)?;
-        assert!(rt; is_refused(digits_up_to_semicolon(alloc, cut.as_slice()), false));
-        assert!(rt; is_refused(skip_digits_up_to_semicolon(alloc, cut.as_slice()), false));
+    let digits = [
+        ("abc", None, false),
+        ("", None, false),
+        ("1", Some(0), true),
+        ("ab1", Some(2), true),
+    ];
+    over_every_cut(&rt, alloc, up_to_a_digit, &digits)?;
+    over_every_cut(&rt, alloc, up_to_an_a, &[("a", Some(0), true)])?;
+    over_every_cut(&rt, alloc, up_to_whole_tag, &[("123TATAG", Some(5), true)])?;
+    over_every_cut(&rt, alloc, up_to_tag, &[("123TATAG", None, true)])?;
+    let semicolons = [
+        ("ab;", Some(2), true),
+        (";", Some(0), true),
+        ("ab", None, false),
+        ("", None, false),
+    ];
+    over_every_cut(&rt, alloc, up_to_a_semicolon, &semicolons)?;
+    over_every_cut(&rt, alloc, skip_up_to_semicolon, &semicolons)
+}
+
+/// The forms that drop what they read answer as those that collect it.
+#[test]
+fn blocks_up_to_a_place(rt: HostRuntime) -> Result<(), AllocError> {
+    let rows = [
+        ("12;", Some(2), true),
+        (";", Some(0), true),
+        ("12x", None, false),
+        ("12", None, false),
+        ("", None, false),
+    ];
+    over_every_cut(&rt, rt.alloc(), digits_up_to_semicolon, &rows)?;
+    over_every_cut(&rt, rt.alloc(), skip_digits_up_to_semicolon, &rows)
+}
+
+/// How many bytes are unread where a parser asks for more behind this piece.
+fn unread_behind<P: Parser<fed::Stream<u8>> + Drop>(
+    alloc: Global,
+    parser: P,
+    piece: &[u8],
+) -> Option<usize>
+    requires { P.lawful parser }
+{
+    let mut session = Session::new(alloc, parser);
+    match session.feed(piece) {
+        Ok(Answer::More) => Some(session.unread().len()),
+        _ => None,
     }
-    for places in 0..2 {
-        let cut = pieces(alloc, b"12", places)?;
-        assert!(rt; is_refused(digits_up_to_semicolon(alloc, cut.as_slice()), false));
-    }
-    assert_eq!(rt;
-        digits_up_to_semicolon(alloc, &[b";".as_slice()]),
-        accepted(Vec::new(alloc), 0, true)
-    );
-    Ok(())
+}
+
+#[test]
+fn all_is_put_back(rt: HostRuntime) {
+    let alloc = rt.alloc();
+    let digit = take_until::<Vec<u8>, _, _, _>(alloc, satisfy(is_digit));
+    assert_eq!(rt; unread_behind(alloc, digit, b"ab"), Some(2));
 }
 
 /// A stream that was fed that piece.
@@ -164,31 +241,49 @@ fn fed_with(alloc: Global, piece: &[u8]) -> Result<fed::Stream<u8>, AllocError> 
     Ok(stream)
 }
 
-/// After `ab`, with one state: what another input answers, and what of it is unread.
-fn resumed(alloc: Global, second: &[u8]) -> Result<(Result<Vec<u8>, Kind>, usize), AllocError> {
-    let mut parser = take_until::<Vec<u8>, _, _, _>(alloc, token(b';'));
+/// Asks for more of one input, with all of it unread, and then parses another with the same state: the value, if it is accepted committed, or the kind of a committed error; and how much is unread.
+fn resumed<P: Parser<fed::Stream<u8>> + Drop>(
+    rt: &impl Abort,
+    alloc: Global,
+    parser: P,
+    inputs: (&[u8], &[u8]),
+) -> Result<Option<(Result<P::Output, Kind>, usize)>, AllocError>
+    requires { P.lawful parser }
+{
+    let mut parser = parser;
     let mut state = Default::default();
-    let mut first = fed_with(alloc, b"ab")?;
-    let _more = parser.parse_with_state(&mut first, &mut state);
-    let mut stream = fed_with(alloc, second)?;
-    let answer = match parser.parse_with_state(&mut stream, &mut state) {
-        Ok(value) => Ok(value),
-        Err(UnexpectedParse(kind)) => Err(kind),
+    let mut first = fed_with(alloc, inputs.0)?;
+    let more = parser.parse_with_state(&mut first, &mut state);
+    assert!(rt; matches!(more, Err(UnexpectedParse(Kind::End))));
+    assert_eq!(rt; first.unread(), inputs.0);
+    let mut second = fed_with(alloc, inputs.1)?;
+    let answer = match parser.parse_partial(&mut second, &mut state) {
+        ParseResult::CommitOk(value) => Ok(value),
+        ParseResult::CommitErr(UnexpectedParse(kind)) => Err(kind),
+        ParseResult::PeekOk(_) | ParseResult::PeekErr(_) => return Ok(None),
     };
-    Ok((answer, stream.unread().len()))
+    Ok(Some((answer, second.unread().len())))
 }
 
+/// The state in which more was asked for of `ab` knows what was read: an input that is longer goes on behind it, and one that is shorter is lost.
 #[test]
 fn put_back_but_not_begun_again(rt: HostRuntime) -> Result<(), AllocError> {
     let alloc = rt.alloc();
-    let mut parser = take_until::<Vec<u8>, _, _, _>(alloc, token(b';'));
-    let mut state = Default::default();
-    let mut first = fed_with(alloc, b"ab")?;
-    let more = parser.parse_with_state(&mut first, &mut state);
-    assert_eq!(rt; more, Err(UnexpectedParse(Kind::End)));
-    assert_eq!(rt; first.unread(), b"ab".as_slice());
-    assert_eq!(rt; resumed(alloc, b"ab;")?, (Ok(b"ab".to_vec(alloc)?), 1));
-    let (lost, _unread) = resumed(alloc, b"a")?;
-    assert_eq!(rt; lost, Err(Kind::Lost));
+    for (second, wanted) in [
+        ("ab;", Ok(b"ab".to_vec(alloc)?)),
+        ("abc;", Ok(b"abc".to_vec(alloc)?)),
+        ("a", Err(Kind::Lost)),
+        ("", Err(Kind::Lost)),
+    ] {
+        let up_to = take_until::<Vec<u8>, _, _, _>(alloc, token(b';'));
+        let inputs = (b"ab".as_slice(), second.as_bytes());
+        match resumed(&rt, alloc, up_to, inputs)? {
+            Some((answer, unread)) => {
+                assert!(rt; answer.is_err() || unread == 1, "on {second}");
+                assert_eq!(rt; answer, wanted, "on {second}");
+            }
+            None => assert!(rt; false, "on {second}: peeked"),
+        }
+    }
     Ok(())
 }
