@@ -202,3 +202,11 @@ pub fn lines_of_80(size: usize) -> Vec<u8> {
 pub fn lines_of_4096(size: usize) -> Vec<u8> {
     lines_of(4096, size)
 }
+
+/// Frames of 64 bytes: a length of two bytes, the larger first, and 62 visible bytes.
+pub fn prefixed(size: usize) -> Vec<u8> {
+    repeated(size, |dice, all| {
+        all.extend_from_slice(&62_u16.to_be_bytes());
+        dice.push(all, 62, b'!', b'~');
+    })
+}

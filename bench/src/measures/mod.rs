@@ -30,6 +30,7 @@ measures! {
     separated_skip
     separated_collect
     counted_frames
+    prefixed_frames
     chained_sum
     marked_text
     words

@@ -20,6 +20,7 @@ mod measure;
 mod messages_collect;
 mod messages_skip;
 mod one_token;
+mod prefixed_frames;
 mod run;
 mod separated_collect;
 mod separated_skip;
