@@ -1,12 +1,49 @@
 //! Parsers of bytes and of characters in sessions: what they answer, however the input is cut, and how many tokens are unread where they ask for more.
 
+use combine::error::UnexpectedParse;
+use combine::parser::{Answer, Parser, Session, SessionError};
+use combine::stream::fed;
+use std::alloc::Global;
+
+/// What a session answered, and how many tokens were unread each time that it asked for more.
+#[derive(Drop)]
+pub struct Fed<V> {
+    pub unread: Vec<usize>,
+    pub answer: Answer<V, UnexpectedParse>,
+}
+
+/// What a parser answers to these pieces, and then the end.
+pub fn fed_in_pieces<T: Copy + 'static, P: Parser<fed::Stream<T>> + Drop>(
+    alloc: Global,
+    parser: P,
+    pieces: &[&[T]],
+) -> Result<Fed<P::Output>, SessionError>
+    requires { P.lawful parser }
+{
+    let mut unread = Vec::new(alloc);
+    let mut session = Session::new(alloc, parser);
+    for piece in pieces {
+        match session.feed(piece)? {
+            Answer::More => {
+                let left = session.unread().len();
+                if unread.push(left).is_err() {
+                    return Err(SessionError::Memory);
+                }
+            }
+            answer => return Ok(Fed { unread, answer }),
+        }
+    }
+    let answer = session.end()?;
+    Ok(Fed { unread, answer })
+}
+
 #[cfg(test)]
 mod tests {
+    use super::*;
     use combine::parser::choice::{optional, or};
     use combine::parser::combinator::attempt;
-    use combine::parser::{Answer, SessionError, byte, char};
+    use combine::parser::{byte, char};
     use combine_examples::cuts::{cut, sets_of_places};
-    use combine_examples::feeding::{Fed, fed_in_pieces};
     use std::alloc::AllocError;
 
     /// An input, and what is answered to it, however it is cut: the number of tokens taken of an acceptance, and whether the answer is committed.
