@@ -1,5 +1,4 @@
 //! Errors at spans.
-ghost use Rattle.std.specs.Prelude.{◌≡◌, IfErr};
 
 use combine_base::error::{Info, ParseResult, StreamError};
 use combine_base::parser::Parser;
@@ -18,9 +17,7 @@ type Item = Error<u8, &'static [u8]>;
 type Spans = easy::Stream<span::Stream<position::Stream<&'static [u8]>>>;
 
 /// Refuses any pair.
-fn bad(_pair: (u8, u8)) -> Result<(), Item>
-    ensures { IfErr result (λ e. Item.StreamError.kind e ≡ Kind.Refused) }
-{
+fn bad(_pair: (u8, u8)) -> Result<(), Item> {
     Err(Error::Message(Info::Static("bad")))
 }
 

@@ -18,17 +18,16 @@ fn asks_with_nothing_unread<V: Drop>(
     asked: usize,
     wanted: u64,
 ) -> bool {
-    match fed {
-        Ok(
-            Fed {
-                unread,
-                answer: Answer::Accepted {
-                    taken,
-                    committed,
-                    ..
-                },
-            },
-        ) => {
+    let Ok(fed) = fed else {
+        return false;
+    };
+    let Fed { unread, answer } = fed;
+    match answer {
+        Answer::Accepted {
+            taken,
+            committed,
+            ..
+        } => {
             unread.len() == asked
                 && unread.iter().all(|left| *left == 0)
                 && taken == wanted
