@@ -17,5 +17,3 @@ mod ranges;
 mod repetitions;
 #[cfg(test)]
 mod sequences;
-#[cfg(test)]
-mod spans;
