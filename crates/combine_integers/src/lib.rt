@@ -5,6 +5,4 @@
 
 pub mod num;
 pub mod order;
-#[cfg(test)]
-mod tests;
 pub mod whole;

@@ -1,10 +1,9 @@
 //! `easy_parse` in plain functions.
 
-use combine_base::error::Info;
 use combine_base::stream::{Kind, Left};
-use combine_errors::easy::{EasyParser, Error, Errors};
+use combine_errors::easy::{EasyParser, Errors};
 use combine_text::char::{char, digit};
-use std::alloc::Global;
+use std::alloc::{AllocError, Global};
 
 /// A sum of two digits.
 fn sum(
@@ -15,19 +14,27 @@ fn sum(
 }
 
 #[test]
-fn of_a_text(rt: HostRuntime) {
-    assert_eq!(rt; sum(rt.alloc(), "1+2;"), Ok((('1', '+', '2'), ";")));
-    let Err(error) = sum(rt.alloc(), "1+?") else {
+fn of_a_text(rt: HostRuntime) -> Result<(), AllocError> {
+    let alloc = rt.alloc();
+    let Ok((values, rest)) = sum(alloc, "1+2;") else {
+        panic!(rt; "the sum is accepted");
+    };
+    assert_eq!(rt; values, ('1', '+', '2'));
+    assert_eq!(rt; rest, ";");
+    let Err(error) = sum(alloc, "1+?") else {
         panic!(rt; "there is no digit");
     };
-    assert_eq!(rt; error.position, Left(1));
-    assert_eq!(rt; error.kind, Kind::Refused);
-    assert_eq!(rt;
-        error.errors.as_slice(),
-        [
-            Error::Unexpected(Info::Token('?')),
-            Error::Expected(Info::Static("digit"))
-        ]
-        .as_slice()
-    );
+    let Errors {
+        position,
+        errors,
+        kind,
+    } = error;
+    assert_eq!(rt; position, Left(1));
+    assert_eq!(rt; kind, Kind::Refused);
+    assert_eq!(rt; errors.len(), 2);
+    for (item, wanted) in errors.iter().zip(["Unexpected `?`", "Expected digit"]) {
+        let said = format!(in alloc; "{item}")?;
+        assert_eq!(rt; said.as_str(), wanted);
+    }
+    Ok(())
 }
