@@ -1,11 +1,11 @@
 //! A plain function for each integer, and what each answers.
 
-use combine_integers::num::{
-    be_i16, be_i32, be_i64, be_u16, be_u32, be_u64, le_i16, le_i32, le_i64, le_u16, le_u32, le_u64,
-};
 use combine_base::error::UnexpectedParse;
 use combine_base::parser::{Answer, Parser, Session, SessionError, parse_pieces};
 use combine_base::stream::{Kind, fed};
+use combine_integers::num::{
+    be_i16, be_i32, be_i64, be_u16, be_u32, be_u64, le_i16, le_i32, le_i64, le_u16, le_u32, le_u64,
+};
 use std::alloc::{AllocError, Global};
 use std::process::Abort;
 
