@@ -4,6 +4,4 @@
 #[cfg(test)]
 mod notes;
 #[cfg(test)]
-mod rows;
-#[cfg(test)]
 mod windows;

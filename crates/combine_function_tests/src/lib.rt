@@ -2,8 +2,6 @@
 #![tactic(auto)]
 
 #[cfg(test)]
-mod changed;
-#[cfg(test)]
 mod functions;
 #[cfg(test)]
 mod made;

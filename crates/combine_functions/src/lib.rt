@@ -4,3 +4,5 @@
 pub mod combinator;
 pub mod error;
 pub mod function;
+#[cfg(test)]
+mod tests;
