@@ -168,7 +168,10 @@ mod tests {
     use combine_base::error::UnexpectedParse;
     use combine_base::parser::{Answer, Session, SessionError, parse_pieces};
     use combine_base::stream::Kind;
-    use std::alloc::Global;
+    use combine_error_calls::rows::Rows;
+    use combine_errors::easy;
+    use combine_stream::position;
+    use std::alloc::{AllocError, Global};
 
     type InPieces = Result<Answer<u32, UnexpectedParse>, SessionError>;
 
@@ -247,5 +250,22 @@ mod tests {
         assert_eq!(rt; session.unread(), b"((".as_slice());
         assert_eq!(rt; session.feed(b"))"), accepted(2, 4));
         assert_eq!(rt; session.unread(), b"".as_slice());
+    }
+
+    /// The bracket that is too deep is named where it stands.
+    #[test]
+    fn says_how_deep(rt: HostRuntime) -> Result<(), AllocError> {
+        let mut rows: Rows<easy::Stream<position::Stream<&'static [u8]>>> = Rows::new(rt.alloc());
+        rows.check(
+            Nest(1),
+            &[
+                ("()", true, "", ""),
+                ("((", true, "1", "recursion too deep\n"),
+            ],
+        )?;
+        for row in rows.into_wrong() {
+            assert_eq!(rt; row.as_str(), "");
+        }
+        Ok(())
     }
 }

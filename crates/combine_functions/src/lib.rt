@@ -4,5 +4,3 @@
 pub mod combinator;
 pub mod error;
 pub mod function;
-#[cfg(test)]
-mod tests;

@@ -1,11 +1,11 @@
-//! A plain function for each parser, and what each answers.
+//! What is made of a value: changed, refused, read from a text. A plain function for each parser, and what each answers.
 ghost use Rattle.std.specs.Prelude.{◌≡◌, IfErr};
 
-use crate::combinator::{and_then, flat_map, from_str};
-use crate::error::unexpected;
 use combine_base::error::UnexpectedParse;
 use combine_base::parser::{Answer, Parser, SessionError, parse_pieces};
 use combine_base::stream::Kind;
+use combine_functions::combinator::{and_then, flat_map, from_str};
+use combine_functions::error::unexpected;
 use combine_token::token::{any, value};
 use std::alloc::Global;
 
