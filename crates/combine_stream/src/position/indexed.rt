@@ -1,18 +1,32 @@
 //! A slice whose position is an index.
-ghost use Rattle.std.specs.Prelude.{◌≡◌, false};
+ghost use Rattle.std.specs.Prelude.{◌≡◌, ◌≤◌, false, length};
 
 use crate::position::{DefaultPositioned, Windowed};
 use crate::range::slices::count_while;
 use crate::range::{RangeStream, Test};
 use combine_base::error::UnexpectedParse;
 use combine_base::stream::{Failures, Kind, Positioned, ResetStream, StreamOnce};
+use std::alloc::AllocError;
 
 /// The tokens of a slice, and how many of them are taken.
-#[derive_where(Clone, Copy)]
 pub struct Indexed<'a, T> {
     tokens: &'a [T],
     at: usize,
+    ghost within: { at ≤ length tokens.now },
 }
+
+impl<'a, T> Clone for Indexed<'a, T> {
+    ghost is_clone = { λ x y. y ≡ x };
+
+    ghost is_infallible = { λ _. Unit {0} };
+
+    #[inline]
+    fn clone(&self) -> Result<Indexed<'a, T>, AllocError> {
+        Ok(*self)
+    }
+}
+
+impl<'a, T> Copy for Indexed<'a, T> {}
 
 impl<'a, T: Copy> Indexed<'a, T> {
     ghost use Rattle.combine_stream.specs.Indices.{indexed_view};
@@ -22,11 +36,7 @@ impl<'a, T: Copy> Indexed<'a, T> {
     fn unread(&self) -> &'a [T]
         ensures { result.now ≡ (indexed_view self.now).unread }
     {
-        if self.at <= self.tokens.len() {
-            &self.tokens[self.at..]
-        } else {
-            &[]
-        }
+        &self.tokens[self.at..]
     }
 }
 
@@ -162,7 +172,9 @@ impl<'a, T: Copy> ResetStream for Indexed<'a, T> {
 
     #[inline(always)]
     fn reset(&mut self, checkpoint: Indexed<'a, T>) -> Result<(), Kind> {
-        *self = checkpoint;
+        // It's the checkpoint, and the compiler sees that it is in bounds.
+        self.at = checkpoint.at.min(checkpoint.tokens.len());
+        self.tokens = checkpoint.tokens;
         Ok(())
     }
 
@@ -225,6 +237,10 @@ impl<'a, T: Copy> RangeStream for Indexed<'a, T> {
 
     #[inline(always)]
     fn range(&self) -> &'a [T] {
-        self.unread()
+        if self.at < self.tokens.len() {
+            self.unread()
+        } else {
+            &[]
+        }
     }
 }

@@ -25,6 +25,21 @@ pub struct CountMinMax<F, P> {
     pub(super) collects: PhantomData<F>,
 }
 
+/// Room is asked for no more values at once, since how many there must be may be a number that was read.
+const MOST_ROOM: usize = 1024;
+
+/// An empty collection; where a call begins, with room for so many values.
+#[inline(always)]
+fn room_for<A, F: Append<A>>(alloc: Global, begins: bool, values: usize) -> F
+    ensures { F.held result ≡ F.none }
+{
+    if begins {
+        F::with_capacity(alloc, values.min(MOST_ROOM))
+    } else {
+        F::empty(alloc)
+    }
+}
+
 impl<Input: Stream, P: Parser<Input>, F: Append<P::Output>> Parser<Input> for CountMinMax<F, P> {
     ghost use Rattle.std.specs.Prelude.{None};
     ghost use Rattle.combine_turns.specs.declared.turns.Bounds.TheVariants.{Counted};
@@ -56,7 +71,8 @@ impl<Input: Stream, P: Parser<Input>, F: Append<P::Output>> Parser<Input> for Co
         input: &mut Input,
         state: &mut Self::PartialState,
     ) -> ParseResult<F, Input::Error> {
-        let start = Turns::none_yet(F::empty(self.alloc));
+        let empty = room_for(self.alloc, mode.is_first(), self.least);
+        let start = Turns::none_yet(empty);
         let bounds = Bounds::Counted {
             least: self.least,
             most: self.most,

@@ -1,17 +1,19 @@
-use Rattle.std.proofs.Common.{arith, ap, refl, sym, length, length-drop, take}
+use Rattle.std.proofs.Common.{arith, ap, refl, sym, take}
 use Rattle.std.proofs.lemmas.List.{length-take-le}
 use Rattle.combine_stream.proofs.Blocks.{few}
-use Rattle.combine_stream.proofs.Indexing.{index_takes, longest_same}
+use Rattle.combine_stream.proofs.Indexing.{index_takes, index_within, longest_same}
 use Rattle.combine_stream.proofs.Passing.{while_by_range}
 use Rattle.combine_stream.proofs.Slicing.{slice_place}
 use Rattle.combine_stream.proofs.position.indexed.IndexedRangeStream.uncons_while.Goals as goal
 
 pub overflow_add-self : goal.overflow_add-self
 overflow_add-self g c =
-    let m = few _ _ _ c.count_while-n.ensures in
-    let l = ap length c.unread-unread.ensures in
-    let d = length-drop c.args.self.now.at c.args.self.now.tokens.now in
-    let i = c.type_inv.self in
+    let h = index_within c.args.self.now _ _ c.unread-unread.ensures (few _ _ _ c.count_while-n.ensures) in
+    omega arith
+
+pub invariant_of-self : goal.invariant_of-self
+invariant_of-self g c =
+    let h = index_within c.args.self.now _ _ c.unread-unread.ensures (few _ _ _ c.count_while-n.ensures) in
     omega arith
 
 pub slice_bounds-result-end : goal.slice_bounds-result-end
