@@ -277,6 +277,7 @@ impl<T: Copy + PartialEq, R: Copy + PartialEq, P: Ord + Copy> ParseError<T, R, P
         }
     }
 
+    #[inline(always)]
     fn merge(self, other: Self) -> Self {
         let mut first = self;
         let mut second = other;
