@@ -1,0 +1,4 @@
+pub mod Calls
+pub mod Evaluated
+pub mod Folds
+pub mod Rules
