@@ -157,7 +157,14 @@ impl Call for Group {
         <BetweenCall<
             TokenCall<b'('>,
             TokenCall<b')'>,
-            MapCall<SepBy1Call<InFold<Total>, OrCall<ApartCall<Literal>, ApartCall<Name>>, TokenCall<b'+'>>, Value>,
+            MapCall<
+                SepBy1Call<
+                    InFold<Total>,
+                    OrCall<ApartCall<Literal>, ApartCall<Name>>,
+                    TokenCall<b'+'>,
+                >,
+                Value,
+            >,
         > as Call>::accept(alloc, visitor)
     }
 }
@@ -180,7 +187,11 @@ impl Call for Term {
         Input::Error: ParseError<u8, Input::Range, Input::Position>,
     {
         <MapCall<
-            SepBy1Call<InFold<Product>, ChoiceCall<ApartCall<Literal>, ApartCall<Group>, ApartCall<Name>>, TokenCall<b'*'>>,
+            SepBy1Call<
+                InFold<Product>,
+                ChoiceCall<ApartCall<Literal>, ApartCall<Group>, ApartCall<Name>>,
+                TokenCall<b'*'>,
+            >,
             Value,
         > as Call>::accept(alloc, visitor)
     }
@@ -203,9 +214,10 @@ impl Call for Sum {
     where
         Input::Error: ParseError<u8, Input::Range, Input::Position>,
     {
-        <MapCall<SepBy1Call<InFold<Total>, ApartCall<Term>, TokenCall<b'+'>>, Value> as Call>::accept(
-            alloc, visitor,
-        )
+        <MapCall<
+            SepBy1Call<InFold<Total>, ApartCall<Term>, TokenCall<b'+'>>,
+            Value,
+        > as Call>::accept(alloc, visitor)
     }
 }
 
@@ -282,9 +294,10 @@ impl Call for Program {
     where
         Input::Error: ParseError<u8, Input::Range, Input::Position>,
     {
-        <MapCall<ManyCall<InFold<Tally>, OrCall<ApartCall<Binding>, ApartCall<Command>>>, Value> as Call>::accept(
-            alloc, visitor,
-        )
+        <MapCall<
+            ManyCall<InFold<Tally>, OrCall<ApartCall<Binding>, ApartCall<Command>>>,
+            Value,
+        > as Call>::accept(alloc, visitor)
     }
 }
 
