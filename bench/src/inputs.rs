@@ -210,3 +210,74 @@ pub fn prefixed(size: usize) -> Vec<u8> {
         dice.push(all, 62, b'!', b'~');
     })
 }
+
+/// Statements of the measured grammar: `let NAME=SUM;` (two in three) and `NAME(SUM,..);`.
+pub fn statements(size: usize) -> Vec<u8> {
+    repeated(size, |dice, all| {
+        if dice.between(0, 2) == 0 {
+            push_word(dice, all, b'a', b'z', 8);
+            all.push(b'(');
+            let most = dice.between(0, 3);
+            push_joined(dice, all, b',', most, push_sum);
+            all.extend_from_slice(b");");
+        } else {
+            all.extend_from_slice(b"let ");
+            push_word(dice, all, b'a', b'z', 8);
+            all.push(b'=');
+            push_sum(dice, all);
+            all.push(b';');
+        }
+    })
+}
+
+fn push_word(dice: &mut Dice, all: &mut Vec<u8>, first: u8, last: u8, most: u64) {
+    let count = dice.between(1, most);
+    dice.push(all, count, first, last);
+}
+
+fn push_joined(dice: &mut Dice, all: &mut Vec<u8>, between: u8, count: u64, one: fn(&mut Dice, &mut Vec<u8>)) {
+    for at in 0..count {
+        if at > 0 {
+            all.push(between);
+        }
+        one(dice, all);
+    }
+}
+
+fn push_sum(dice: &mut Dice, all: &mut Vec<u8>) {
+    let products = dice.between(1, 3);
+    push_joined(dice, all, b'+', products, |dice, all| {
+        let operands = dice.between(1, 2);
+        push_joined(dice, all, b'*', operands, push_operand);
+    });
+}
+
+/// Three in four are literals or names; else a group of them.
+fn push_operand(dice: &mut Dice, all: &mut Vec<u8>) {
+    if dice.between(0, 3) != 0 {
+        return push_simple(dice, all);
+    }
+    all.push(b'(');
+    let count = dice.between(1, 3);
+    push_joined(dice, all, b'+', count, push_simple);
+    all.push(b')');
+}
+
+fn push_simple(dice: &mut Dice, all: &mut Vec<u8>) {
+    match dice.between(0, 7) {
+        0 => {
+            all.push(b'"');
+            let letters = dice.between(0, 12);
+            dice.push(all, letters, b'#', b'~');
+            all.push(b'"');
+        }
+        1 => {
+            all.push(b'[');
+            let count = dice.between(0, 4);
+            push_joined(dice, all, b',', count, |dice, all| push_word(dice, all, b'0', b'9', 5));
+            all.push(b']');
+        }
+        2..=4 => push_word(dice, all, b'a', b'z', 8),
+        _ => push_word(dice, all, b'0', b'9', 5),
+    }
+}

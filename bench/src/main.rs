@@ -9,6 +9,7 @@ mod by_combine;
 mod by_hand;
 mod by_nom;
 mod classes;
+mod grammar;
 mod inputs;
 mod keywords;
 mod lines;

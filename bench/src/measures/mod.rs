@@ -37,4 +37,6 @@ measures! {
     lines_of_16
     lines_of_80
     lines_of_4096
+    grammar
+    grammar_easy
 }

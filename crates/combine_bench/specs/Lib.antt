@@ -1,4 +1,5 @@
 pub mod Given
 pub mod Measures
+pub mod Programs
 pub mod Tagged
 pub mod Tally

@@ -6,6 +6,7 @@ mod classes;
 mod counted_frames;
 mod del;
 mod digits_collect;
+mod grammar;
 mod keywords;
 mod keywords_array;
 mod keywords_slice;

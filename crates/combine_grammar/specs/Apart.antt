@@ -1,0 +1,58 @@
+-- a rule that stands apart: its parser is run once by a function, from which nothing goes on
+use Rattle.std.specs.Prelude.{◌≡◌, List, Bool, true, false}
+use Rattle.std.specs.Borrow.{MutBor}
+use Rattle.combine_base.specs.Error.Errors.{Errors, Nothing, Says}
+use Rattle.combine_base.specs.Error.Items.{Item}
+use Rattle.combine_base.specs.Parser.Answer.{World, world}
+use Rattle.combine_base.specs.Parser.Drivers.{Starts}
+use Rattle.combine_base.specs.Parser.Meaning.{IsMeaning, IsReading, IsSingle, Meaning, MeansOne, Reading}
+use Rattle.combine_base.specs.Stream.Calls.{Passes}
+use Rattle.combine_base.specs.Stream.View.{View}
+use Rattle.combine_base.specs.declared.error.ParseResult.{ParseResult}
+use Rattle.combine_base.specs.declared.error.Tracked.{Tracked}
+use Rattle.combine_base.specs.declared.stream.Failures.{Failures}
+use Rattle.combine_token.specs.Stateless.{stateless, stateless_is_meaning, stateless_means_one}
+
+-- whatever items
+abbrev pub Anything : {T R : Type 0} → List (Item T R) → Type 0
+Anything is = Unit {0}
+
+-- what is left, unless more was asked for
+abbrev pub unless_stopped : {P T V : Type 0} → Reading P T V → Bool → Reading P T V
+unless_stopped read true v o = ⊥
+unless_stopped read false v o = read v o
+
+abbrev pub once : {P T R V : Type 0} → Reading P T V → Meaning P T R V Bool
+once read = record { whole = read; rest = unless_stopped read; lost = λ s v. ⊥; keeps = ⊥; puts_back = ⊥; lean = ⊥; adds = Nothing }
+
+module _ {P T R E : Type 0} (step : P → T → P) (errors : Errors T R P E) (steady : Type 0) where
+  abbrev pub once_world : World P T Bool E
+  once_world = world step errors steady (λ s. s ≡ false)
+
+  module _ {I C : Type 0} (view : I → View P T) (marks : I → C → View P T → Type 0) (failures : I → Failures) where
+    -- such a run, and what it answers
+    pub record RunsOnce {V : Type 0} (read : Reading P T V) (input left : I) (answer : ParseResult V E) : Type 0 where
+      pub passes : Passes (marks input) (marks left) (failures input) (failures left)
+      pub answers : Starts once_world (once {R = R} read) (view input) (view left) (failures input) (failures left) answer
+
+    -- the same, with the stream given back behind its own reference
+    pub record RunsBehind {V : Type 0} (read : Reading P T V) (input : MutBor I) (answered : ParseResult V E × MutBor I) : Type 0 where
+      pub runs : RunsOnce read input.now answered.1.now answered.0
+      pub same_reference : answered.1.ghost_name ≡ input.ghost_name
+
+module _ {P T R E : Type 0} (errors : Errors T R P E) where
+  -- some items were added to the error, which is given back behind its own reference
+  pub record SaysBehind (error back : MutBor (Tracked E)) : Type 0 where
+    pub says : Says errors ⊥ Anything error.now.error back.now.error
+    pub same_reference : back.ghost_name ≡ error.ghost_name
+
+-- each call begins again, for which it may take memory
+module _ {P T R V S : Type 0} (read : Reading P T V) where
+  abbrev pub apart : Meaning P T R V S
+  apart = stateless read ⊥ ⊥ Anything
+
+  pub apart_is_meaning : (fresh valid : S → Type 0) → IsReading read → IsMeaning fresh valid apart
+  apart_is_meaning fresh valid h = stateless_is_meaning fresh valid read ⊥ ⊥ Anything h
+
+  pub apart_means_one : (valid : S → Type 0) → IsSingle read → MeansOne valid apart
+  apart_means_one valid h = stateless_means_one valid read ⊥ ⊥ Anything h
