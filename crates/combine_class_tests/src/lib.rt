@@ -1,7 +1,11 @@
-//! A plain function for each class of bytes and characters, and what each answers. They are built for the tests alone, so that they are proved once.
+//! What each class of bytes and characters answers, and what is made of classes; over slices, texts, streams that count positions, and pieces. They are built for the tests alone, so that they are proved once.
 #![tactic(auto)]
 
 #[cfg(test)]
 mod classes;
 #[cfg(test)]
-mod classes_in_pieces;
+mod in_pieces;
+#[cfg(test)]
+mod makers;
+#[cfg(test)]
+mod several;
