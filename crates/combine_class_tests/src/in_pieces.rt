@@ -1,8 +1,6 @@
 //! Parsers of bytes and of characters in sessions: what they answer, however the input is cut, and how many tokens are unread where they ask for more.
 
-use crate::makers::{
-    CharCrLf, CharSpaces, ClassOf, Feeding, LetOrLex, LetText, MaybeA, MaybeHello, OfBytes, OfChars,
-};
+use crate::makers::{ClassOf, Feeding, LetOrLex, LetText, MaybeA, MaybeHello, OfBytes, OfChars};
 use combine::parser::{Answer, SessionError, byte, char};
 use combine::stream::fed;
 use combine_examples::cuts::{cut, sets_of_places};
@@ -63,9 +61,19 @@ fn fed_crlf(alloc: Global, pieces: &[&[u8]]) -> Result<Fed<u8>, SessionError> {
     fed_in_pieces(alloc, byte::crlf(), pieces)
 }
 
+/// The same of characters.
+fn fed_char_crlf(alloc: Global, pieces: &[&[char]]) -> Result<Fed<char>, SessionError> {
+    fed_in_pieces(alloc, char::crlf(), pieces)
+}
+
 /// What a session answers to these pieces, whose white space it passes over.
 fn fed_spaces(alloc: Global, pieces: &[&[u8]]) -> Result<Fed<()>, SessionError> {
     fed_in_pieces(alloc, byte::spaces(), pieces)
+}
+
+/// The same of characters.
+fn fed_char_spaces(alloc: Global, pieces: &[&[char]]) -> Result<Fed<()>, SessionError> {
+    fed_in_pieces(alloc, char::spaces(), pieces)
 }
 
 /// What a session answers to these pieces of a text that is to begin with `let` in either case.
@@ -135,7 +143,8 @@ fn line_ends(rt: HostRuntime) -> Result<(), AllocError> {
         (&['\r', 'x'], None, true),
         (&['\n'], None, false),
     ];
-    check_chars::<CharCrLf>(&rt, alloc, &characters)
+    let answer = |pieces: &[&[char]]| fed_char_crlf(alloc, pieces);
+    over_every_cut(&rt, alloc, answer, &characters)
 }
 
 #[test]
@@ -152,7 +161,8 @@ fn spaces(rt: HostRuntime) -> Result<(), AllocError> {
         (&[' ', '\u{3000}', '\n', '\u{2028}', 'x'], Some(4), true),
         (&['x'], Some(0), false),
     ];
-    check_chars::<CharSpaces>(&rt, alloc, &characters)
+    let answer = |pieces: &[&[char]]| fed_char_spaces(alloc, pieces);
+    over_every_cut(&rt, alloc, answer, &characters)
 }
 
 #[test]
