@@ -1,0 +1,112 @@
+//! Errors at spans, of parsers over any stream whose errors can be looked at.
+ghost use Rattle.std.specs.Prelude.{◌≡◌, IfErr};
+ghost use Rattle.combine_base.specs.declared.stream.Kind.{Kind};
+
+use combine_base::error::{Info, ParseError, StreamError};
+use combine_base::parser::Parser;
+use combine_base::stream::{Stream, StreamOnce};
+use combine_errors::easy::{Error, Errors};
+use combine_errors::span::Span;
+use combine_errors::{easy, span};
+use combine_functions::combinator::and_then;
+use combine_spanned::combinator::spanned;
+use combine_stream::position;
+use combine_token::choice::optional;
+use combine_token::token::any;
+use std::alloc::Global;
+
+/// What an error of a stream says.
+type Item<Input> = <<Input as StreamOnce>::Error as ParseError<
+    u8,
+    <Input as StreamOnce>::Range,
+    Span<usize>,
+>>::StreamError;
+
+type Wrong = Errors<u8, &'static [u8], Span<usize>>;
+
+/// A stream of bytes whose errors stand at spans of indices.
+trait Spans: Stream<Token = u8, Position = Span<usize>>
+where
+    Self::Error: ParseError<u8, Self::Range, Span<usize>>,
+{
+    /// The stream at the beginning of the bytes.
+    fn begin(alloc: Global, bytes: &'static [u8]) -> Self;
+
+    /// The error, to be looked at.
+    fn into_wrong(error: Self::Error) -> Wrong;
+}
+
+impl Spans for easy::Stream<span::Stream<position::Stream<&'static [u8]>>> {
+    fn begin(alloc: Global, bytes: &'static [u8]) -> Self {
+        easy::Stream::new(alloc, span::Stream(position::Stream::new(bytes)))
+    }
+
+    fn into_wrong(error: Wrong) -> Wrong {
+        error
+    }
+}
+
+/// Refuses any pair.
+fn bad<Input: Spans>(_pair: (u8, u8)) -> Result<(), Item<Input>>
+where
+    Input::Error: ParseError<u8, Input::Range, Span<usize>>,
+    ensures { IfErr result (λ e. Input.Error.StreamError.kind e ≡ Kind.Refused) }
+{
+    Err(Item::<Input>::message(Info::Static("bad")))
+}
+
+/// A pair that is refused, whose error stands at the span that it was read from.
+fn bad_pair<Input: Spans>(alloc: Global, bytes: &'static [u8]) -> Option<Wrong>
+where
+    Input::Error: ParseError<u8, Input::Range, Span<usize>>,
+{
+    match spanned(and_then((any(), any()), bad::<Input>)).parse(Input::begin(alloc, bytes)) {
+        Ok(((), _left)) => None,
+        Err(error) => Some(Input::into_wrong(error)),
+    }
+}
+
+/// The same where there need be none: a committed refusal stays.
+fn no_bad_pair<Input: Spans>(alloc: Global, bytes: &'static [u8]) -> Option<Wrong>
+where
+    Input::Error: ParseError<u8, Input::Range, Span<usize>>,
+{
+    match optional(spanned(and_then((any(), any()), bad::<Input>))).parse(Input::begin(
+        alloc, bytes,
+    )) {
+        Ok((_none, _left)) => None,
+        Err(error) => Some(Input::into_wrong(error)),
+    }
+}
+
+#[cfg(test)]
+mod tests {
+    use super::*;
+    use combine_base::stream::Kind;
+
+    #[test]
+    fn of_a_pair(rt: HostRuntime) {
+        type Input = easy::Stream<span::Stream<position::Stream<&'static [u8]>>>;
+        for error in [
+            bad_pair::<Input>(rt.alloc(), b"xy"),
+            no_bad_pair::<Input>(rt.alloc(), b"xy"),
+        ] {
+            let Some(
+                Errors {
+                    position,
+                    errors,
+                    kind,
+                },
+            ) = error
+            else {
+                panic!(rt; "the pair is refused, committed");
+            };
+            assert_eq!(rt; position, Span { start: 0, end: 2 });
+            assert_eq!(rt;
+                errors.as_slice(),
+                [Error::Message(Info::Static("bad"))].as_slice()
+            );
+            assert_eq!(rt; kind, Kind::Refused);
+        }
+    }
+}
