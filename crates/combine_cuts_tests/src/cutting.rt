@@ -7,13 +7,25 @@ use combine_stream::MaybePartialStream;
 use combine_stream::position::{Stream, Windowed};
 use std::alloc::{AllocError, Global};
 
+/// A text that stays as long as the program runs: `&'static str`. It is a type parameter to `check`, since the language refuses a call where a type argument names several lifetimes, as that of a parser with a needle does, and the signature names `'static`.
+pub trait Lasting: Copy + Drop {
+    /// The text.
+    fn text(self) -> &'static str;
+}
+
+impl Lasting for &'static str {
+    fn text(self) -> &'static str {
+        self
+    }
+}
+
 /// An input that a text writes.
 pub trait Written: Windowed {
     /// The input.
     fn written(text: &'static str) -> Self;
 
-    /// The range of these characters.
-    fn range_of(text: &'static str) -> <Self::Placed as StreamOnce>::Range;
+    /// The characters of a range.
+    fn text_of(range: <Self::Placed as StreamOnce>::Range) -> &'static str;
 }
 
 impl Written for &'static str {
@@ -21,8 +33,8 @@ impl Written for &'static str {
         text
     }
 
-    fn range_of(text: &'static str) -> &'static str {
-        text
+    fn text_of(range: &'static str) -> &'static str {
+        range
     }
 }
 
@@ -31,15 +43,15 @@ impl Written for &'static [u8] {
         text.as_bytes()
     }
 
-    fn range_of(text: &'static str) -> &'static [u8] {
-        text.as_bytes()
+    fn text_of(range: &'static [u8]) -> &'static str {
+        str::from_utf8(range).unwrap_or("no text")
     }
 }
 
 /// A stream of the windows of an input that a text writes.
 pub trait Cut: AnyStream {
-    /// The range of these characters.
-    fn range_of(text: &'static str) -> Self::Range;
+    /// The characters of a range.
+    fn text_of(range: Self::Range) -> &'static str;
 
     /// What a parser answers to the input that the text writes; `None` where the cuts don't fit, and of a fault.
     fn found<P: Parser<Self>>(
@@ -52,8 +64,8 @@ pub trait Cut: AnyStream {
 }
 
 impl<S: Written> Cut for MaybePartialStream<Stream<S, S::Placed>> {
-    fn range_of(text: &'static str) -> <S::Placed as StreamOnce>::Range {
-        S::range_of(text)
+    fn text_of(range: <S::Placed as StreamOnce>::Range) -> &'static str {
+        S::text_of(range)
     }
 
     fn found<P: Parser<Self>>(
@@ -102,28 +114,53 @@ fn cuts(
     Ok(cuts)
 }
 
-/// Goes through the rows of a parser over every set of windows, with and without empty ones. A row has an input, and what is to be found; the input and the cuts of each other answer are written to `wrong`.
-pub fn check<Input: Cut, P: Parser<Input> + Drop>(
+/// Whether a parser answers that, its value told by a function.
+fn answers<Input: Cut, P: Parser<Input>, V: PartialEq + Drop, F: Fn(P::Output) -> V>(
+    parser: &mut P,
+    told: &F,
+    text: &'static str,
+    cuts: &[usize],
+    wanted: &Found<V>,
+) -> bool
+    requires lawful { P.lawful parser.old }
+    requires callable { F.IsAlwaysCallable told.now }
+    ensures { P.lawful parser.new }
+{
+    let found = match Input::found(parser, text, cuts) {
+        Some(Found::Accepted(value, taken, committed)) => {
+            Found::Accepted(told(value), taken, committed)
+        }
+        Some(Found::Refused(committed)) => Found::Refused(committed),
+        Some(Found::More) => Found::More,
+        None => return false,
+    };
+    found == *wanted
+}
+
+/// Goes through the rows of a parser over every set of windows, with and without empty ones. A row has an input, and what is to be found, its value as `told` tells it; the input and the cuts of each other answer are written to `wrong`.
+pub fn check<
+    Input: Cut,
+    P: Parser<Input> + Drop,
+    T: Lasting,
+    V: PartialEq + Drop,
+    F: Fn(P::Output) -> V + Drop,
+>(
     alloc: Global,
     parser: P,
-    rows: &[(&'static str, Found<P::Output>)],
+    told: F,
+    rows: &[(T, Found<V>)],
     wrong: &mut Vec<String>,
 ) -> Result<(), AllocError>
-where
-    P::Output: PartialEq,
-    requires { P.lawful parser }
+    requires lawful { P.lawful parser }
+    requires callable { F.IsAlwaysCallable told }
 {
     let mut parser = parser;
     for row in rows {
-        for places in 0..sets_of_places(row.0.chars().count()) {
+        let text = row.0.text();
+        for places in 0..sets_of_places(text.chars().count()) {
             for with_empty in [false, true] {
-                let cuts = cuts(alloc, row.0, places, with_empty)?;
-                let is_wanted = match Input::found(&mut parser, row.0, &cuts) {
-                    Some(found) => found == row.1,
-                    None => false,
-                };
-                if !is_wanted {
-                    let text = row.0;
+                let cuts = cuts(alloc, text, places, with_empty)?;
+                if !answers::<Input, P, V, F>(&mut parser, &told, text, &cuts, &row.1) {
                     wrong.push(format!(in alloc; "{text}: {cuts:?}")?)?;
                 }
             }
