@@ -46,22 +46,16 @@ impl Spans for easy::Stream<span::Stream<position::Stream<&'static [u8]>>> {
     }
 }
 
-/// Refuses any pair.
-fn bad<Input: Spans>(_pair: (u8, u8)) -> Result<(), Item<Input>>
-where
-    Input::Error: ParseError<u8, Input::Range, Span<usize>>,
-    ensures { IfErr result (λ e. Input.Error.StreamError.kind e ≡ Kind.Refused) }
-{
-    Err(Item::<Input>::message(Info::Static("bad")))
-}
-
-/// A pair that is refused, whose error stands at the span that it was read from.
+/// The error of a pair that is refused, which stands at the span that it was read from.
 fn bad_pair<Input: Spans>(alloc: Global, bytes: &'static [u8]) -> Option<Wrong>
 where
     Input::Error: ParseError<u8, Input::Range, Span<usize>>,
 {
-    match spanned(and_then((any(), any()), bad::<Input>)).parse(Input::begin(alloc, bytes)) {
-        Ok(((), _left)) => None,
+    let bad = |_pair: (u8, u8)| -> Result<(), Item<Input>>
+        ensures { IfErr result (λ e. Input.Error.StreamError.kind e ≡ Kind.Refused) }
+    { Err(Item::<Input>::message(Info::Static("bad"))) };
+    match spanned(and_then((any(), any()), bad)).parse(Input::begin(alloc, bytes)) {
+        Ok((_none, _left)) => None,
         Err(error) => Some(Input::into_wrong(error)),
     }
 }
@@ -71,9 +65,10 @@ fn no_bad_pair<Input: Spans>(alloc: Global, bytes: &'static [u8]) -> Option<Wron
 where
     Input::Error: ParseError<u8, Input::Range, Span<usize>>,
 {
-    match optional(spanned(and_then((any(), any()), bad::<Input>))).parse(Input::begin(
-        alloc, bytes,
-    )) {
+    let bad = |_pair: (u8, u8)| -> Result<(), Item<Input>>
+        ensures { IfErr result (λ e. Input.Error.StreamError.kind e ≡ Kind.Refused) }
+    { Err(Item::<Input>::message(Info::Static("bad"))) };
+    match optional(spanned(and_then((any(), any()), bad))).parse(Input::begin(alloc, bytes)) {
         Ok((_none, _left)) => None,
         Err(error) => Some(Input::into_wrong(error)),
     }
