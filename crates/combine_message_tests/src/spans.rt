@@ -1,10 +1,10 @@
 //! Errors at spans, of parsers over any stream whose errors can be looked at.
 ghost use Rattle.std.specs.Prelude.{◌≡◌, IfErr};
-ghost use Rattle.combine_base.specs.declared.stream.Kind.{Kind};
+ghost use Rattle.combine_base.specs.declared.stream.Kind.TheVariants as kinds;
 
 use combine_base::error::{Info, ParseError, StreamError};
 use combine_base::parser::Parser;
-use combine_base::stream::{Stream, StreamOnce};
+use combine_base::stream::{Kind, Stream, StreamOnce};
 use combine_errors::easy::{Error, Errors};
 use combine_errors::span::Span;
 use combine_errors::{easy, span};
@@ -22,7 +22,13 @@ type Item<Input> = <<Input as StreamOnce>::Error as ParseError<
     Span<usize>,
 >>::StreamError;
 
-type Wrong = Errors<u8, &'static [u8], Span<usize>>;
+/// An error that says one fixed message and nothing else: where it stands, the message, and its kind.
+#[derive(Debug, PartialEq, Drop)]
+struct Told {
+    position: Span<usize>,
+    message: &'static str,
+    kind: Kind,
+}
 
 /// A stream of bytes whose errors stand at spans of indices.
 trait Spans: Stream<Token = u8, Position = Span<usize>>
@@ -32,8 +38,8 @@ where
     /// The stream at the beginning of the bytes.
     fn begin(alloc: Global, bytes: &'static [u8]) -> Self;
 
-    /// The error, to be looked at.
-    fn into_wrong(error: Self::Error) -> Wrong;
+    /// The error, if it says one fixed message and nothing else.
+    fn told(error: Self::Error) -> Option<Told>;
 }
 
 impl Spans for easy::Stream<span::Stream<position::Stream<&'static [u8]>>> {
@@ -41,67 +47,73 @@ impl Spans for easy::Stream<span::Stream<position::Stream<&'static [u8]>>> {
         easy::Stream::new(alloc, span::Stream(position::Stream::new(bytes)))
     }
 
-    fn into_wrong(error: Wrong) -> Wrong {
-        error
+    fn told(error: Errors<u8, &'static [u8], Span<usize>>) -> Option<Told> {
+        let Errors {
+            position,
+            errors,
+            kind,
+        } = error;
+        let mut errors = errors;
+        let last = errors.pop();
+        if errors.len() > 0 {
+            return None;
+        }
+        match last {
+            Some(Error::Message(Info::Static(message))) => Some(Told {
+                position,
+                message,
+                kind,
+            }),
+            _ => None,
+        }
     }
 }
 
 /// The error of a pair that is refused, which stands at the span that it was read from.
-fn bad_pair<Input: Spans>(alloc: Global, bytes: &'static [u8]) -> Option<Wrong>
+fn bad_pair<Input: Spans>(alloc: Global, bytes: &'static [u8]) -> Option<Told>
 where
     Input::Error: ParseError<u8, Input::Range, Span<usize>>,
 {
     let bad = |_pair: (u8, u8)| -> Result<(), Item<Input>>
-        ensures { IfErr result (λ e. Input.Error.StreamError.kind e ≡ Kind.Refused) }
+        ensures { IfErr result (λ e. Input.Error.StreamError.kind e ≡ kinds.Refused) }
     { Err(Item::<Input>::message(Info::Static("bad"))) };
     match spanned(and_then((any(), any()), bad)).parse(Input::begin(alloc, bytes)) {
         Ok((_none, _left)) => None,
-        Err(error) => Some(Input::into_wrong(error)),
+        Err(error) => Input::told(error),
     }
 }
 
 /// The same where there need be none: a committed refusal stays.
-fn no_bad_pair<Input: Spans>(alloc: Global, bytes: &'static [u8]) -> Option<Wrong>
+fn no_bad_pair<Input: Spans>(alloc: Global, bytes: &'static [u8]) -> Option<Told>
 where
     Input::Error: ParseError<u8, Input::Range, Span<usize>>,
 {
     let bad = |_pair: (u8, u8)| -> Result<(), Item<Input>>
-        ensures { IfErr result (λ e. Input.Error.StreamError.kind e ≡ Kind.Refused) }
+        ensures { IfErr result (λ e. Input.Error.StreamError.kind e ≡ kinds.Refused) }
     { Err(Item::<Input>::message(Info::Static("bad"))) };
     match optional(spanned(and_then((any(), any()), bad))).parse(Input::begin(alloc, bytes)) {
         Ok((_none, _left)) => None,
-        Err(error) => Some(Input::into_wrong(error)),
+        Err(error) => Input::told(error),
     }
 }
 
 #[cfg(test)]
 mod tests {
     use super::*;
-    use combine_base::stream::Kind;
 
     #[test]
     fn of_a_pair(rt: HostRuntime) {
         type Input = easy::Stream<span::Stream<position::Stream<&'static [u8]>>>;
-        for error in [
+        for told in [
             bad_pair::<Input>(rt.alloc(), b"xy"),
             no_bad_pair::<Input>(rt.alloc(), b"xy"),
         ] {
-            let Some(
-                Errors {
-                    position,
-                    errors,
-                    kind,
-                },
-            ) = error
-            else {
-                panic!(rt; "the pair is refused, committed");
+            let Some(told) = told else {
+                panic!(rt; "the pair is refused, committed, with one message");
             };
-            assert_eq!(rt; position, Span { start: 0, end: 2 });
-            assert_eq!(rt;
-                errors.as_slice(),
-                [Error::Message(Info::Static("bad"))].as_slice()
-            );
-            assert_eq!(rt; kind, Kind::Refused);
+            assert_eq!(rt; told.position, Span { start: 0, end: 2 });
+            assert_eq!(rt; told.message, "bad");
+            assert_eq!(rt; told.kind, Kind::Refused);
         }
     }
 }
