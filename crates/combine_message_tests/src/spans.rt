@@ -97,6 +97,17 @@ where
     }
 }
 
+/// Both. One call names a stream that wraps others, which is dear.
+fn both<Input: Spans>(alloc: Global, bytes: &'static [u8]) -> [Option<Told>; 2]
+where
+    Input::Error: ParseError<u8, Input::Range, Span<usize>>,
+{
+    [
+        bad_pair::<Input>(alloc, bytes),
+        no_bad_pair::<Input>(alloc, bytes),
+    ]
+}
+
 #[cfg(test)]
 mod tests {
     use super::*;
@@ -104,10 +115,7 @@ mod tests {
     #[test]
     fn of_a_pair(rt: HostRuntime) {
         type Input = easy::Stream<span::Stream<position::Stream<&'static [u8]>>>;
-        for told in [
-            bad_pair::<Input>(rt.alloc(), b"xy"),
-            no_bad_pair::<Input>(rt.alloc(), b"xy"),
-        ] {
+        for told in both::<Input>(rt.alloc(), b"xy") {
             let Some(told) = told else {
                 panic!(rt; "the pair is refused, committed, with one message");
             };
