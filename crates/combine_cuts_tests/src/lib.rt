@@ -2,6 +2,10 @@
 #![tactic(auto)]
 
 #[cfg(test)]
+mod cutting;
+#[cfg(test)]
 mod notes;
+#[cfg(test)]
+mod rows;
 #[cfg(test)]
 mod windows;

@@ -17,3 +17,5 @@ mod ranges;
 mod repetitions;
 #[cfg(test)]
 mod sequences;
+#[cfg(test)]
+mod spans;

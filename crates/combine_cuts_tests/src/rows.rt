@@ -1,0 +1,185 @@
+//! Parsers over every set of windows.
+
+use crate::cutting::{Cut, check};
+use crate::windows::Found;
+use combine_base::error::ParseError;
+use combine_base::stream::Stream;
+use combine_chains::repeat::escaped;
+use combine_lengths::range::length_prefix;
+use combine_map::combinator::{attempt, map};
+use combine_range::range::{recognize_with_value, take_while1};
+use combine_repeat::repeat::skip_many1;
+use combine_searches::byte::take_until_bytes;
+use combine_searches::bytes::ByteStream;
+use combine_stream::range::{ByteRange, Range, RangeStream};
+use combine_token::choice::optional;
+use combine_token::token::{one_of, satisfy, token, value};
+use std::alloc::{AllocError, Global};
+
+/// A number as it stands there, and whether it has a point and digits behind it.
+fn numbers<Input: Cut + RangeStream, F: Fn(Input::Token) -> bool + Copy + Drop>(
+    alloc: Global,
+    is_digit: F,
+    point: Input::Token,
+    wrong: &mut Vec<String>,
+) -> Result<(), AllocError>
+where
+    Input::Range: Range,
+    Input::Token: PartialEq,
+    requires { F.IsAlwaysCallable is_digit }
+{
+    let fraction = (attempt(token(point)), skip_many1(satisfy(is_digit)));
+    let digits = (skip_many1(satisfy(is_digit)), optional(fraction));
+    let has_fraction = map(digits, |parts: ((), Option<(Input::Token, ())>)| {
+        parts.1.is_some()
+    });
+    check::<Input, _, _, _, _>(
+        alloc,
+        recognize_with_value(has_fraction),
+        |number: (Input::Range, bool)| (Input::text_of(number.0), number.1),
+        &[
+            ("1234.0001!", Found::Accepted(("1234.0001", true), 9, true)),
+            ("1234!", Found::Accepted(("1234", false), 4, true)),
+            ("1234.", Found::Refused(true)),
+            (".5", Found::Refused(false)),
+        ],
+        wrong,
+    )
+}
+
+/// What stands before the end of a line.
+fn lines<Input: Cut + ByteStream>(alloc: Global, wrong: &mut Vec<String>) -> Result<(), AllocError>
+where
+    Input::Range: ByteRange,
+{
+    check::<Input, _, _, _, _>(
+        alloc,
+        take_until_bytes(b"\r\n"),
+        |range: Input::Range| Input::text_of(range),
+        &[("abc\r\n", Found::Accepted("abc", 3, true))],
+        wrong,
+    )
+}
+
+/// As many items as no input has: a value that is no length.
+fn too_many<Input: Cut + RangeStream>(
+    alloc: Global,
+    wrong: &mut Vec<String>,
+) -> Result<(), AllocError>
+where
+    Input::Range: Range,
+{
+    check::<Input, _, _, _, _>(
+        alloc,
+        length_prefix(value(u128::MAX)),
+        |range: Input::Range| Input::text_of(range),
+        &[("a", Found::Refused(false)), ("", Found::Refused(false))],
+        wrong,
+    )
+}
+
+/// Two bytes of text, behind a `2`: a length that may end inside a character.
+fn twos<Input: Cut + Stream<Token = char> + RangeStream>(
+    alloc: Global,
+    wrong: &mut Vec<String>,
+) -> Result<(), AllocError>
+where
+    Input::Range: Range,
+    Input::Error: ParseError<char, Input::Range, Input::Position>,
+{
+    check::<Input, _, _, _, _>(
+        alloc,
+        length_prefix(map(token('2'), |_two: char| 2_usize)),
+        |range: Input::Range| Input::text_of(range),
+        &[
+            ("2a\u{e9}", Found::Refused(true)),
+            ("2ab", Found::Accepted("ab", 3, true)),
+            ("2\u{e9}a", Found::Accepted("\u{e9}", 2, true)),
+            ("2a", Found::Refused(true)),
+            ("a", Found::Refused(false)),
+        ],
+        wrong,
+    )
+}
+
+/// A text up to a quotation mark, with escapes.
+fn quoted<Input: Cut + Stream<Token = char> + RangeStream>(
+    alloc: Global,
+    wrong: &mut Vec<String>,
+) -> Result<(), AllocError>
+where
+    Input::Range: Range,
+    Input::Error: ParseError<char, Input::Range, Input::Position>,
+{
+    let plain = take_while1(|character: char| character != '"' && character != '\\');
+    check::<Input, _, _, _, _>(
+        alloc,
+        escaped(plain, '\\', one_of(['n', 'r', '"', '\\'])),
+        |nothing: ()| nothing,
+        &[
+            ("\\", Found::Refused(true)),
+            ("a\\nb\"", Found::Accepted((), 4, true)),
+            ("\"", Found::Accepted((), 0, false)),
+        ],
+        wrong,
+    )
+}
+
+/// What was answered other than the rows say, over texts. One call names a stream that wraps another, which is dear.
+fn wrong_of_texts<Input: Cut + Stream<Token = char> + RangeStream>(
+    alloc: Global,
+) -> Result<Vec<String>, AllocError>
+where
+    Input::Range: Range,
+    Input::Error: ParseError<char, Input::Range, Input::Position>,
+{
+    let mut wrong = Vec::new(alloc);
+    numbers::<Input, _>(
+        alloc,
+        |character: char| character.is_ascii_digit(),
+        '.',
+        &mut wrong,
+    )?;
+    twos::<Input>(alloc, &mut wrong)?;
+    quoted::<Input>(alloc, &mut wrong)?;
+    Ok(wrong)
+}
+
+/// The same, over bytes.
+fn wrong_of_bytes<Input: Cut + Stream<Token = u8> + ByteStream>(
+    alloc: Global,
+) -> Result<Vec<String>, AllocError>
+where
+    Input::Range: ByteRange,
+    Input::Error: ParseError<u8, Input::Range, Input::Position>,
+{
+    let mut wrong = Vec::new(alloc);
+    numbers::<Input, _>(alloc, |byte: u8| byte.is_ascii_digit(), b'.', &mut wrong)?;
+    lines::<Input>(alloc, &mut wrong)?;
+    too_many::<Input>(alloc, &mut wrong)?;
+    Ok(wrong)
+}
+
+#[cfg(test)]
+mod tests {
+    use super::*;
+    use combine_stream::{MaybePartialStream, position};
+
+    #[test]
+    fn of_texts(rt: HostRuntime) -> Result<(), AllocError> {
+        type Texts = MaybePartialStream<position::Stream<&'static str>>;
+        for row in wrong_of_texts::<Texts>(rt.alloc())? {
+            assert_eq!(rt; row.as_str(), "");
+        }
+        Ok(())
+    }
+
+    #[test]
+    fn of_bytes(rt: HostRuntime) -> Result<(), AllocError> {
+        type Bytes = MaybePartialStream<position::Stream<&'static [u8]>>;
+        for row in wrong_of_bytes::<Bytes>(rt.alloc())? {
+            assert_eq!(rt; row.as_str(), "");
+        }
+        Ok(())
+    }
+}
