@@ -1,5 +1,5 @@
 -- the answers of a parser whose errors are shaped, and the errors of its refusals
-use Rattle.std.proofs.Common.{◌≡◌, ◌⊎◌, inl, inr, List, ◌∷◌, [], Bool, true, false, sym, subst, refl, ap, ◌∙◌}
+use Rattle.std.proofs.Common.{◌≡◌, ◌⊎◌, inl, inr, List, Bool, true, false, sym, subst}
 use Rattle.combine_base.specs.Error.Items.{Item}
 use Rattle.combine_base.specs.Error.Errors.{Errors, Only, Says, Added, Unstored, Cleared}
 use Rattle.combine_base.specs.Parser.Meaning.{Meaning}
@@ -12,7 +12,6 @@ use Rattle.combine_base.proofs.Reasoning.{reasons_committed, reasons_ok, reasons
 use Rattle.combine_base.proofs.Same.{answers_alike}
 use Rattle.combine_base.specs.declared.stream.Kind.{Kind}
 use Rattle.combine_base.specs.declared.stream.Kind.TheVariants as kinds
-use Rattle.combine_base.specs.declared.error.Tracked.{Tracked}
 use Rattle.combine_base.specs.declared.error.ParseResult.{ParseResult}
 use Rattle.combine_base.specs.declared.error.ParseResult.TheVariants.{CommitOk, PeekOk, CommitErr, PeekErr}
 use Rattle.combine_errors.specs.Saying.{saying, saying_alike, Tells, tells, Hushes, hushes, ToldLess, ToldMore, told_more}

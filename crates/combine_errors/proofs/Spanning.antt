@@ -1,12 +1,12 @@
 -- calls of a stream are calls of that stream with spans
-use Rattle.std.proofs.Common.{ℕ, List, Bool, nat_lt, take, ap, sym, subst, refl, ◌≡◌, ◌∙◌}
+use Rattle.std.proofs.Common.{ℕ, List, Bool, nat_lt, take, ap, sym, subst, ◌≡◌, ◌∙◌}
 use Rattle.std.specs.Prelude.{Result, Ok, Err}
 use Rattle.combine_base.specs.Stream.View.{View, Ahead, Takes, Moves, advanced}
 use Rattle.combine_base.specs.Stream.Calls.{Passes, Uncons, ResetTo, unconses, no_token}
 use Rattle.combine_base.specs.declared.stream.Kind.{Kind}
 use Rattle.combine_base.specs.declared.stream.Kind.TheVariants as kinds
 use Rattle.combine_base.specs.declared.stream.Failures.{Failures}
-use Rattle.combine_stream.specs.Ranges.{FailsRead, Stays, TakesRange, UnconsRange, UnconsWhile, no_range, size_of, unconses_range, unconses_while}
+use Rattle.combine_stream.specs.Ranges.{FailsRead, Stays, TakesRange, UnconsRange, UnconsWhile, no_range, size_of, unconses_range}
 use Rattle.combine_errors.specs.Spans.{at, span_after, span_marks, span_step, spanned_view, Spanned}
 use Rattle.combine_errors.specs.declared.span.Span.{Span}
 

@@ -1,5 +1,5 @@
 -- a stream whose positions are spans
-use Rattle.std.specs.Prelude.{ℕ, ◌<◌, ◌≤◌, ◌≡◌, List, [], ◌∷◌, length, take, refl}
+use Rattle.std.specs.Prelude.{ℕ, ◌≡◌, List, [], ◌∷◌, take, refl}
 use Rattle.std.proofs.Common.{ap, subst, sym}
 use Rattle.std.specs.Ordering.{then_cmp, on}
 use Rattle.std.specs.declared.cmp.Ordering.{Ordering}

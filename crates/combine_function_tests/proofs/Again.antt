@@ -1,11 +1,10 @@
 -- a run that is put back on need of more is a call that begins again
-use Rattle.std.proofs.Common.{◌+◌, ◌≤◌, ◌≡◌, ◌||◌, Bool, true, false, Ok, Err, arith, sym, subst, refl, ◌∙◌}
+use Rattle.std.proofs.Common.{◌+◌, ◌≡◌, Bool, true, false, Ok, Err, arith, sym, subst, ◌∙◌}
 use Rattle.std.proofs.lemmas.Bool.{false≢true}
 use Rattle.combine_base.specs.Error.Errors.{Errors, Nothing}
-use Rattle.combine_base.specs.Parser.Answer.{Answers, Asks, Leaves, Run, World, ends, world}
-use Rattle.combine_base.specs.Parser.Drivers.{Starts, afresh}
+use Rattle.combine_base.specs.Parser.Answer.{Answers, Asks, Run, World, ends, world}
+use Rattle.combine_base.specs.Parser.Drivers.{afresh}
 use Rattle.combine_base.specs.Parser.Meaning.{Meaning, Reading}
-use Rattle.combine_base.specs.Parser.Outcome.{Accepted, Refused, Undecided}
 use Rattle.combine_base.specs.Stream.Calls.{ResetTo}
 use Rattle.combine_base.specs.Stream.View.{View}
 use Rattle.combine_base.proofs.Calls.{need_of_more, same_mark, unreset}

@@ -1,6 +1,5 @@
 -- what stands behind an opening bracket, by how deep it may be
 use Rattle.std.proofs.Common.{ℕ, zero, suc, ◌-◌, ◌≡◌, Option, Some, None, arith, refl}
-use Rattle.combine_base.specs.Parser.Meaning.{Reading}
 use Rattle.combine_base.specs.Sequence.Readings.{sequel}
 use Rattle.combine_function_tests.specs.Nests.{closed, inside, nest, none_there, second, too_deep}
 

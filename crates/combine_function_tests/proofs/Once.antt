@@ -1,5 +1,5 @@
 -- runs of a function, one after another
-use Rattle.std.proofs.Common.{ℕ, ◌+◌, ◌≤◌, ◌≡◌, ◌⊎◌, ◌||◌, inl, inr, Bool, true, false, arith, ap, sym, subst, refl, zero-add, ◌∙◌}
+use Rattle.std.proofs.Common.{ℕ, ◌≤◌, ◌≡◌, ◌⊎◌, ◌||◌, inl, inr, Bool, true, false, arith, ap, sym, subst, refl, zero-add}
 use denote.Ref.{MutBor}
 use Rattle.std.proofs.lemmas.Bool.{false≢true}
 use Rattle.combine_base.specs.Error.Errors.{Errors}
@@ -7,13 +7,12 @@ use Rattle.combine_base.specs.Error.Results.{from_standard, standard}
 use Rattle.combine_base.specs.Parser.Answer.{Accepts, Answers, Run, World, fails, world}
 use Rattle.combine_base.specs.Parser.Drivers.{Starts, afresh}
 use Rattle.combine_base.specs.Parser.Meaning.{Meaning, Reading, IsReading}
-use Rattle.combine_base.specs.Parser.Outcome.{Accepted, Outcome, Refused, Undecided}
+use Rattle.combine_base.specs.Parser.Outcome.{Accepted, Refused, Undecided}
 use Rattle.combine_base.specs.Refusals.{Told}
-use Rattle.combine_base.specs.Sequence.Parts.{accepted_as, joined_answer, refused_as}
+use Rattle.combine_base.specs.Sequence.Parts.{joined_answer, refused_as}
 use Rattle.combine_base.specs.Sequence.Readings.{following, sequel}
-use Rattle.combine_base.specs.Stream.Calls.{Passes, ResetTo}
+use Rattle.combine_base.specs.Stream.Calls.{Passes}
 use Rattle.combine_base.specs.Stream.View.{View}
-use Rattle.combine_base.proofs.Calls.{unreset}
 use Rattle.combine_base.proofs.Inside.{Inside, Keeps, inside_asks, inside_commits, inside_fails, inside_peeks, inside_refuses}
 use Rattle.combine_base.proofs.Progress.{Progress, progress_none, takes_none}
 use Rattle.combine_base.proofs.Same.{passes_more, passes_none}
@@ -23,7 +22,6 @@ use Rattle.combine_base.specs.declared.error.ParseResult.{ParseResult}
 use Rattle.combine_base.specs.declared.error.ParseResult.TheVariants.{CommitOk, PeekOk, CommitErr, PeekErr}
 use Rattle.combine_base.specs.declared.error.Tracked.{Tracked}
 use Rattle.combine_base.specs.declared.stream.Failures.{Failures}
-use Rattle.combine_base.specs.declared.stream.Kind.{Kind}
 use Rattle.combine_base.specs.declared.stream.Kind.TheVariants as kinds
 use Rattle.combine_functions.specs.Functions.{AnswersAt, AnswersWith, IsFunction, KeepsLaws}
 use Rattle.combine_functions.specs.Running.{run_keeps_laws}

@@ -1,7 +1,7 @@
 -- a function that runs a parser from its start keeps the laws of a parser
-use Rattle.std.specs.Prelude.{ℕ, ◌≡◌, Bool, true, false}
+use Rattle.std.specs.Prelude.{Bool, true, false}
 use Rattle.combine_base.specs.Error.Errors.{Errors}
-use Rattle.combine_base.specs.Parser.Answer.{Asks, Leaves, Refuses, Run, World, answers, ends, fails, peeks, world}
+use Rattle.combine_base.specs.Parser.Answer.{Leaves, Refuses, Run, World, answers, ends, fails, peeks, world}
 use Rattle.combine_base.specs.Parser.Drivers.{Starts, afresh}
 use Rattle.combine_base.specs.Parser.Meaning.{IsMeaning, Meaning}
 use Rattle.combine_base.specs.Stream.Calls.{Passes}

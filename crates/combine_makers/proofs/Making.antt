@@ -1,15 +1,13 @@
 -- the answers of `lazy` and `factory`, by those of the parser that was made
-use Rattle.std.proofs.Common.{ℕ, ◌≡◌, ◌≤◌, ◌⊎◌, inl, inr, Bool, true, false, List, refl, sym, ap, subst, arith, ◌∙◌, Some, None}
+use Rattle.std.proofs.Common.{◌≡◌, ◌⊎◌, inl, inr, Bool, true, false, List, refl, sym, subst, arith, Some, None}
 use Rattle.combine_base.specs.Error.Errors.{Errors}
 use Rattle.combine_base.specs.Error.Items.{Item}
 use Rattle.combine_base.specs.Parser.Answer.{World, Run, Answers, Resumes, world}
 use Rattle.combine_base.specs.Parser.Judged.{NeedsMore}
-use Rattle.combine_base.specs.Parser.Meaning.{Meaning, Reading, IsMeaning, MeansSame}
-use Rattle.combine_base.specs.Parser.Outcome.{Outcome, after}
+use Rattle.combine_base.specs.Parser.Meaning.{Meaning, Reading, IsMeaning}
 use Rattle.combine_base.specs.Parser.Reasons.{Reasoned, kept_from}
 use Rattle.combine_base.specs.Sequence.Parts.{RunsFrom, run_from}
-use Rattle.combine_base.specs.Stream.View.{View, Takes, extended}
-use Rattle.combine_base.proofs.Calls.{around}
+use Rattle.combine_base.specs.Stream.View.{View, extended}
 use Rattle.combine_base.proofs.Inside.{Inside, Keeps, inside_asks, inside_commits, inside_fails, inside_peeks, inside_refuses}
 use Rattle.combine_base.proofs.Progress.{Progress, after_none, takes_none}
 use Rattle.combine_base.proofs.Starting.{progress_here}
@@ -19,7 +17,7 @@ use Rattle.combine_base.specs.declared.parser.Parser as parser
 use Rattle.combine_base.specs.declared.stream.StreamOnce as stream
 use Rattle.combine_base.specs.declared.stream.Failures.{Failures}
 use Rattle.combine_makers.specs.Calling.{CalledMade}
-use Rattle.combine_makers.specs.Made.{Lasts, Makes, RefusesMade, is_unmade, made, made_is_meaning, made_rest, valid_made}
+use Rattle.combine_makers.specs.Made.{Lasts, Makes, RefusesMade, is_unmade, made, made_rest, valid_made}
 use Rattle.combine_makers.specs.declared.combinator.made.Made.{Made}
 use Rattle.combine_makers.specs.declared.combinator.made.MadeState.{MadeState}
 use Rattle.combine_makers.specs.declared.combinator.made.MadeState.TheVariants.{Unmade, Kept}

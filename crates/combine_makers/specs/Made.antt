@@ -1,16 +1,14 @@
 -- parsers that a maker answers where a call begins; the state is the one that runs, and its state
-use Rattle.std.specs.Prelude.{ℕ, ◌≤◌, ◌≡◌, List, [], ◌++◌, Bool, true, false, Option, Some, None, refl, ◌↔◌}
+use Rattle.std.specs.Prelude.{◌≡◌, List, [], ◌++◌, Bool, true, false, Option, Some, None, refl, ◌↔◌}
 use Rattle.std.proofs.Common.{ap, sym, ◌∙◌, append_assoc}
-use Rattle.std.proofs.lemmas.List.{append-nil}
 use denote.Ref.{MutBor}
 use Rattle.combine_base.specs.Stream.View.{View, Follows, extended}
 use Rattle.combine_base.specs.Stream.Advance.{extended_none, follows_none, open_follows}
 use Rattle.combine_base.specs.Stream.Calls.{Passes}
 use Rattle.combine_base.specs.Error.Items.{Item}
-use Rattle.combine_base.specs.Parser.Outcome.{Outcome, Accepted, Undecided, shape, IsDecided}
+use Rattle.combine_base.specs.Parser.Outcome.{Outcome, shape}
 use Rattle.combine_base.specs.Parser.Meaning.{Meaning, Reading, IsReading, IsSingle, IsMeaning, MeansOne}
 use Rattle.combine_base.specs.declared.stream.Failures.{Failures}
-use Rattle.combine_makers.specs.declared.combinator.made.Made.{Made}
 use Rattle.combine_makers.specs.declared.combinator.made.MadeState.{MadeState}
 use Rattle.combine_makers.specs.declared.combinator.made.MadeState.TheVariants.{Unmade, Kept}
 use Rattle.combine_makers.specs.declared.combinator.types.Factory.{Factory}

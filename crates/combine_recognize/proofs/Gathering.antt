@@ -3,8 +3,7 @@ use Rattle.std.proofs.Common.{ℕ, ◌+◌, ◌<◌, ◌≤◌, ◌≡◌, List,
 use Rattle.std.proofs.Math.Seq.{take-add}
 use Rattle.std.proofs.lemmas.List.{take-append-le, drop-append-le}
 use Rattle.combine_base.specs.Stream.View.{View, Takes, Moves}
-use Rattle.combine_base.specs.Stream.Calls.{TakesToken, no_token}
-use Rattle.combine_base.specs.Distances.{Counts, PassesOver}
+use Rattle.combine_base.specs.Stream.Calls.{no_token}
 use Rattle.combine_base.proofs.Distances.{count_stopped}
 use Rattle.combine_base.proofs.Progress.{moves_more}
 use Rattle.combine_recognize.specs.Gathered.{Collects, all_more, collects, hinders}

@@ -1,9 +1,9 @@
 -- the answers of `recognize`, by those of its part
-use Rattle.std.proofs.Common.{ℕ, ◌+◌, ◌<◌, ◌≤◌, ◌≡◌, List, [], ◌++◌, Bool, true, false, length, take, drop, arith, ap, sym, subst, refl, ◌∙◌, Ok, Err, Option, Some, None}
-use Rattle.combine_base.specs.Stream.View.{View, Takes, Follows, extended, advanced}
+use Rattle.std.proofs.Common.{ℕ, ◌+◌, ◌<◌, ◌≤◌, ◌≡◌, List, ◌++◌, Bool, true, false, take, drop, arith, ap, sym, subst, refl, ◌∙◌, Ok, Err}
+use Rattle.combine_base.specs.Stream.View.{View, Follows, extended}
 use Rattle.combine_base.specs.Parser.Outcome.{Outcome, Accepted, Refused, Undecided, after, IsCommitted}
 use Rattle.combine_base.specs.Parser.Meaning.{Meaning, Reading, IsReading}
-use Rattle.combine_base.specs.Parser.Answer.{Run, World, Answers, Accepts, Asks, fails, Leaves}
+use Rattle.combine_base.specs.Parser.Answer.{Run, World, Answers, Asks, fails, Leaves}
 use Rattle.combine_base.specs.Parser.Reasons.{kept_from}
 use Rattle.combine_base.specs.Sequence.Parts.{RunsFrom, run_from}
 use Rattle.combine_base.proofs.Calls.{around, needs}

@@ -1,6 +1,6 @@
 -- the tokens that a parser takes, collected; the state is the tokens taken before a cut, and the part's state
-use Rattle.std.specs.Prelude.{ℕ, ◌<◌, ◌≤◌, ◌≡◌, List, [], ◌∷◌, ◌++◌, Bool, true, false, length, take, Option, Some, None, Result, Ok, Err, refl, ◌↔◌}
-use Rattle.std.proofs.Common.{ap, subst, sym, ◌∙◌}
+use Rattle.std.specs.Prelude.{ℕ, ◌<◌, ◌≡◌, List, [], ◌∷◌, Bool, true, take, Option, Some, None, Result, Ok, Err, refl, ◌↔◌}
+use Rattle.std.proofs.Common.{ap, sym, ◌∙◌}
 use Rattle.std.proofs.lemmas.List.{take-append-le}
 use Rattle.std.specs.declared.alloc.Global.{Global}
 use Rattle.combine_base.specs.Stream.View.{View, Takes, Moves, extended}

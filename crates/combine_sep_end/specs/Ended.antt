@@ -10,7 +10,7 @@ use Rattle.combine_base.specs.Sequence.Places.{place_2, valid_1, valid_2, in_pla
 use Rattle.combine_base.specs.Sequence.Readings.{following, following_is_single, sequel, continues}
 use Rattle.combine_base.specs.Sequence.Meanings.{rest_at, independent}
 use Rattle.combine_base.specs.Sequence.Tuples.{tuple_1, tuple_2, tuple_1_means_one, tuple_2_means_one, push_1}
-use Rattle.combine_token.specs.Choice.{Either, Here, Later as Passed, IsFirm}
+use Rattle.combine_token.specs.Choice.{Either, Here, Later as Passed}
 use Rattle.combine_token.specs.Optional.{optional, optional_means_one, is_some, nothing, optional_parser}
 use Rattle.combine_base.specs.declared.sequence.PartialState1.{PartialState1}
 use Rattle.combine_base.specs.declared.sequence.PartialState2.{PartialState2}

@@ -1,5 +1,5 @@
 -- the answers of `spanned`, by those of its part, and the errors of its refusals
-use Rattle.std.proofs.Common.{◌≡◌, ◌⊎◌, inl, inr, ℕ, Bool, true, false, Option, Some, None, sym, subst, refl, ◌∙◌}
+use Rattle.std.proofs.Common.{◌≡◌, inl, inr, Bool, true, false, Some, None, sym, subst, refl, ◌∙◌}
 use Rattle.std.specs.declared.cmp.Ordering.{Ordering}
 use Rattle.std.specs.declared.cmp.Ordering.TheVariants.{Less, Equal, Greater}
 use Rattle.std.specs.Ordering.{is_eq}
@@ -8,13 +8,11 @@ use Rattle.combine_base.specs.Parser.Answer.{Answers, Leaves, Run, World, fails,
 use Rattle.combine_base.specs.Parser.Judged.{IsRefusal}
 use Rattle.combine_base.specs.Parser.Meaning.{Meaning}
 use Rattle.combine_base.specs.Parser.Reasons.{Reasoned}
-use Rattle.combine_base.specs.Stream.View.{View}
 use Rattle.combine_base.proofs.Calls.{left_by, peeked_refusal, same_mark}
 use Rattle.combine_base.proofs.Explaining.{reason_committed, reason_peeked}
 use Rattle.combine_base.proofs.Reasoning.{reasons_committed, reasons_ok, reasons_peek_ok, reasons_peeked}
 use Rattle.combine_base.specs.declared.error.ParseResult.{ParseResult}
 use Rattle.combine_base.specs.declared.error.ParseResult.TheVariants.{CommitOk, PeekOk, CommitErr, PeekErr}
-use Rattle.combine_base.specs.declared.error.Tracked.{Tracked}
 use Rattle.combine_base.specs.declared.stream.Kind.{Kind}
 use Rattle.combine_errors.specs.declared.span.Span.{Span}
 use Rattle.combine_spanned.specs.Spanned.{Spans, SpansAnswer, SpansReason, spans, spans_answer}

@@ -1,12 +1,11 @@
 -- repetitions up to a place beside one another: the proofs
-use Rattle.std.proofs.Common.{ℕ, ◌≡◌, List, [], ◌∷◌, Bool, Option, Some, None, ap, sym, refl, ◌∙◌}
+use Rattle.std.proofs.Common.{◌≡◌, List, [], ◌∷◌, Option, Some, None, refl, ◌∙◌}
 use Rattle.combine_base.specs.Stream.View.{View}
 use Rattle.combine_base.specs.Parser.Outcome.{Outcome, Accepted, Refused, Undecided, shape}
 use Rattle.combine_base.specs.Parser.Meaning.{Meaning}
 use Rattle.combine_base.specs.declared.repeat.Sink.{Sink}
 use Rattle.combine_turns.specs.Turns.{values, Folds, Collects}
-use Rattle.combine_until.specs.Next.{next}
-use Rattle.combine_until.specs.Until.{Until, no_blocks, some_appended, some_dropped, some_more}
+use Rattle.combine_until.specs.Until.{some_appended, some_dropped, some_more}
 use Rattle.combine_until.specs.UntilCompared.{RepeatOrSkip, repeat_skip_until}
 use Rattle.combine_until.specs.UntilParsers.{repeat_until}
 

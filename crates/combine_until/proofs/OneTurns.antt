@@ -1,5 +1,5 @@
 -- what one turn of blocks up to a place did
-use Rattle.std.proofs.Common.{ℕ, ◌+◌, ◌<◌, ◌≤◌, ◌≡◌, Bool, true, false, ◌||◌, ◌&&◌, nat_lt, if◌then◌else◌, Option, Some, None, length, drop, arith, ap, sym, subst, refl, ◌∙◌, length-drop, ltb-true}
+use Rattle.std.proofs.Common.{ℕ, ◌+◌, ◌<◌, ◌≤◌, ◌≡◌, Bool, true, false, ◌||◌, ◌&&◌, nat_lt, if◌then◌else◌, Option, length, drop, arith, ap, ◌∙◌, length-drop, ltb-true}
 use Rattle.combine_base.specs.Stream.View.{View, Takes, Moves}
 use Rattle.combine_base.specs.Parser.Meaning.{Meaning}
 use Rattle.combine_base.specs.Parser.Answer.{Run, World, Accepts}
@@ -9,7 +9,6 @@ use Rattle.combine_base.specs.declared.stream.Kind.{Kind}
 use Rattle.combine_base.specs.declared.stream.Kind.TheVariants as kinds
 use Rattle.combine_base.specs.declared.stream.Failures.{Failures}
 use Rattle.combine_turns.specs.Turns.{Collecting}
-use Rattle.combine_until.specs.Until.{blocks_so_far}
 use Rattle.combine_until.specs.UntilTurn.{GoesOn, HasFailed, Unreset}
 use Rattle.combine_until.specs.declared.until.Blocks.{Blocks}
 

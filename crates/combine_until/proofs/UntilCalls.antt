@@ -1,29 +1,28 @@
 -- a call of blocks up to a place: each turn goes on, and each way out is an answer of the call
-use Rattle.std.proofs.Common.{ℕ, ◌+◌, ◌<◌, ◌≤◌, ◌≡◌, ◌⊎◌, inl, inr, List, [], ◌∷◌, Bool, true, false, ◌||◌, ◌&&◌, Option, Some, None, Result, Ok, Err, length, arith, ap, sym, subst, refl, ◌∙◌, length-append, length-drop, nat_lt, lt-ltb, ltb-true, ltb-false}
+use Rattle.std.proofs.Common.{ℕ, ◌+◌, ◌<◌, ◌≤◌, ◌≡◌, ◌⊎◌, inl, inr, List, [], ◌∷◌, Bool, true, false, ◌||◌, ◌&&◌, Option, Some, None, length, arith, ap, sym, subst, refl, ◌∙◌, length-append, nat_lt, lt-ltb, ltb-true}
 use Rattle.combine_base.specs.Stream.View.{View, Takes, Moves, advanced, extended, Follows}
 use Rattle.combine_base.specs.Stream.Advance.{advanced_twice, advanced_extended, extended_none, follows_none, stands}
 use Rattle.combine_base.specs.Parser.Outcome.{Outcome, Accepted, Refused, Undecided, after, shape}
 use Rattle.combine_base.specs.Parser.OutcomeFacts.{or_true, or_false, or_assoc}
 use Rattle.combine_base.specs.Parser.Meaning.{Meaning, Reading, IsReading, IsMeaning, MeansSame, begun}
-use Rattle.combine_base.specs.Parser.Answer.{Run, World, Answers, Accepts, Refuses, Asks, Leaves, fails, peeks, ends, loses}
+use Rattle.combine_base.specs.Parser.Answer.{Run, World, Answers, Accepts, Refuses, Asks, Leaves, fails, peeks, loses}
 use Rattle.combine_base.specs.Parser.Drivers.{Broke}
 use Rattle.combine_base.specs.Distances.{stops}
-use Rattle.combine_base.specs.Refusals.{Told}
 use Rattle.combine_base.specs.Sequence.Parts.{accepted_as}
 use Rattle.combine_base.proofs.Progress.{takes_more, takes_none, takes_open, after_none}
-use Rattle.combine_base.proofs.Calls.{around, need_of_more, needs, same_mark as marks_same, Settles, settles}
+use Rattle.combine_base.proofs.Calls.{around, need_of_more, needs, same_mark as marks_same, settles}
 use Rattle.combine_base.proofs.Same.{answers_same}
 use Rattle.combine_base.specs.declared.stream.Kind.{Kind}
 use Rattle.combine_base.specs.declared.stream.Kind.TheVariants as kinds
 use Rattle.combine_base.specs.declared.stream.Failures.{Failures}
 use Rattle.combine_base.specs.declared.error.Tracked.{Tracked}
 use Rattle.combine_base.specs.declared.error.ParseResult.{ParseResult}
-use Rattle.combine_base.specs.declared.error.ParseResult.TheVariants.{CommitOk, PeekOk, CommitErr, PeekErr}
+use Rattle.combine_base.specs.declared.error.ParseResult.TheVariants.{CommitErr, PeekErr}
 use Rattle.combine_map.specs.Attempt.{Loses, Short, Within, losing}
-use Rattle.combine_turns.specs.Turns.{Block, outcome, taken, values, any_committed, Turn, Goes, Stops, Collecting, SoFar, Folds, Divides, Collects}
-use Rattle.combine_until.specs.Until.{block_at, until_judged, until_rule, stop_at, stopped_at, Until, no_blocks, blocks_so_far, until_fresh, until_valid, until_rest, until_lost, until}
+use Rattle.combine_turns.specs.Turns.{Block, outcome, taken, values, any_committed, Goes, Stops, Collecting, SoFar, Folds, Divides, Collects}
+use Rattle.combine_until.specs.Until.{block_at, until_judged, until_rule, stop_at, stopped_at, Until, no_blocks, blocks_so_far, until_fresh, until_valid, until_lost, until}
 use Rattle.combine_until.specs.UntilLaws.{until_is_rule, until_into}
-use Rattle.combine_until.specs.UntilTurn.{Afresh, HandsOut, handed, Comes, GoesOn, EndsHere, NeedsMore, HasFailed, InTurn, TakesNothing, Unstored, Unreset, OneTurn, halted, turned, HasKept, HasBroken, Keeps, KeepsRunning, Stays, settled, Settled}
+use Rattle.combine_until.specs.UntilTurn.{Afresh, HandsOut, handed, Comes, GoesOn, EndsHere, NeedsMore, HasFailed, InTurn, TakesNothing, Unstored, Unreset, OneTurn, halted, turned, HasKept, HasBroken, Keeps, KeepsRunning, Settled}
 use Rattle.combine_until.specs.declared.until.Blocks.{Blocks}
 use Rattle.combine_until.specs.declared.until.Kept.{Kept}
 use Rattle.combine_until.specs.declared.until.Step.{Step}

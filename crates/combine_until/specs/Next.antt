@@ -2,12 +2,12 @@
 use Rattle.std.specs.Prelude.{ℕ, ◌≡◌, Bool, true, false, Option, Some, None, refl}
 use Rattle.std.proofs.Common.{sym, ◌∙◌}
 use Rattle.combine_base.specs.Stream.View.{View}
-use Rattle.combine_base.specs.Parser.Outcome.{Outcome, Accepted, Refused, Undecided, shape}
+use Rattle.combine_base.specs.Parser.Outcome.{Accepted, Refused}
 use Rattle.combine_base.specs.Parser.Mapped.{mapped, mapped_reading, mapped_means_one, mapped_is_meaning}
 use Rattle.combine_base.specs.Parser.Meaning.{Meaning, Reading, IsSingle, IsMeaning, MeansOne}
 use Rattle.combine_map.specs.Picks.{Picks}
 use Rattle.combine_token.specs.Choice.{Either, Here, Later, refused}
-use Rattle.combine_token.specs.Or.{either_of, or_is_meaning, or_means_one, or_rest, or_valid}
+use Rattle.combine_token.specs.Or.{either_of, or_is_meaning, or_means_one, or_valid}
 use Rattle.combine_token.specs.declared.choice.OrState.{OrState}
 use Rattle.combine_token.specs.declared.choice.OrState.TheVariants as running
 use Rattle.combine_turns.specs.Turn.{EndsOnce, TurnsOnce}

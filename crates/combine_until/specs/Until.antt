@@ -7,7 +7,6 @@ use Rattle.combine_map.specs.Attempt.{Loses}
 use Rattle.combine_turns.specs.Bounded.{gathered}
 use Rattle.combine_turns.specs.Turns.{Block, taken, values, any_committed, Turn, Goes, Stops, Rule, Collecting, SoFar, Folds, Divides, Collects}
 use Rattle.combine_until.specs.declared.until.Blocks.{Blocks}
-use Rattle.combine_until.specs.declared.until.Kept.{Kept}
 use Rattle.combine_until.specs.declared.until.UntilState.{UntilState}
 use Rattle.combine_until.specs.declared.until.UntilState.TheVariants.{Begin, At}
 

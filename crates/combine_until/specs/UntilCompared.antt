@@ -1,5 +1,5 @@
 -- repetitions up to a place beside one another
-use Rattle.std.specs.Prelude.{◌≡◌, Option}
+use Rattle.std.specs.Prelude.{Option}
 use Rattle.combine_base.specs.Parser.Mapped.{mapped}
 use Rattle.combine_base.specs.Parser.Meaning.{Meaning}
 use Rattle.combine_base.specs.declared.repeat.Sink.{Sink}

@@ -1,6 +1,6 @@
 -- the laws of blocks up to a place
 use Rattle.std.specs.Prelude.{ℕ, ◌+◌, ◌<◌, ◌≤◌, ◌≡◌, ◌⊎◌, Bool, true, false, ◌||◌, ◌&&◌, nat_lt, List, [], ◌∷◌, length, Option, Some, None, refl, ◌↔◌}
-use Rattle.std.proofs.Common.{arith, ap, sym, subst, ◌∙◌, inl, inr, length-append, length-drop, ltb-false}
+use Rattle.std.proofs.Common.{arith, ap, sym, subst, ◌∙◌, inr, length-append, length-drop, ltb-false}
 use Rattle.combine_base.specs.Stream.View.{View, advanced, extended}
 use Rattle.combine_base.specs.Stream.Advance.{advanced_extended, open_follows}
 use Rattle.combine_base.specs.Parser.Outcome.{Outcome, Accepted, Refused, Undecided, after, shape, IsDecided, IsCommitted}
@@ -9,7 +9,7 @@ use Rattle.combine_base.specs.Parser.Meaning.{Meaning, Reading, IsReading, IsSin
 use Rattle.combine_map.specs.Attempt.{Loses, Short, Within}
 use Rattle.combine_turns.specs.BoundedLaws.{begun_over}
 use Rattle.combine_turns.specs.Turn.{EndsOnce, TurnsOnce}
-use Rattle.combine_turns.specs.Turns.{Block, taken, any_committed, Turn, Goes, Stops, Rule, IsRule, IsJudgedOnce, Collecting, SoFar, Divides}
+use Rattle.combine_turns.specs.Turns.{Block, taken, any_committed, Goes, Stops, IsRule, IsJudgedOnce, Collecting, SoFar, Divides}
 use Rattle.combine_turns.specs.TurnLaws.{divides_one, divides_ended, divides_stands, divides_within, divides_into}
 use Rattle.combine_until.specs.Until.{is_none, block_at, until_judged, until_rule, stop_at, stopped_at, Until, no_blocks, blocks_so_far, until_fresh, until_valid, until_rest, until_lost, until}
 use Rattle.combine_until.specs.declared.until.UntilState.{UntilState}

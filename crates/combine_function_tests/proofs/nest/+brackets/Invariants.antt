@@ -1,4 +1,4 @@
-use Rattle.std.proofs.Common.{ℕ, ◌+◌, ◌*◌}
+use Rattle.std.proofs.Common.{◌+◌, ◌*◌}
 use Rattle.combine_function_tests.proofs.nest.+brackets.Given as goal
 
 abbrev pub decreases-brackets : goal.decreases-brackets

@@ -1,4 +1,4 @@
-use Rattle.std.proofs.Common.{rules, refl}
+use Rattle.std.proofs.Common.{rules}
 use Rattle.combine_iterate.proofs.Ranges.{range_lists}
 use Rattle.combine_iterate_tests.proofs.items.more_each_time.Goals as goal
 

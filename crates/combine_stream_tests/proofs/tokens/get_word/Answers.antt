@@ -1,4 +1,4 @@
-use Rattle.std.proofs.Common.{rules, arith, ◌∙◌, ap}
+use Rattle.std.proofs.Common.{rules, arith}
 use Rattle.combine_token.proofs.StdLists.{slice_is_iterated}
 use Rattle.combine_stream_tests.proofs.tokens.get_word.Goals as goal
 

@@ -1,4 +1,4 @@
-use Rattle.std.proofs.Common.{refl, inl, inr}
+use Rattle.std.proofs.Common.{refl, inr}
 use Rattle.combine_base.proofs.Progress.{moves_more}
 use Rattle.combine_until.proofs.until.keep.Goals as goal
 

@@ -1,4 +1,4 @@
-use Rattle.std.proofs.Common.{true, refl}
+use Rattle.std.proofs.Common.{refl}
 use Rattle.combine_base.proofs.Same.{passes_more, same_more}
 use Rattle.combine_until.proofs.OneTurns.{blocks_shrink}
 use Rattle.combine_until.proofs.UntilCalls.{begun_reads, handed_valid, reaches_first, reaches_on, running_valid, turn_back, until_settled}

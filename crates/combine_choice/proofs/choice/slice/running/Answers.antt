@@ -1,4 +1,3 @@
-use Rattle.std.proofs.Common.{refl}
 use Rattle.combine_choice.specs.OneTurn.{PastLast}
 use Rattle.combine_choice.proofs.choice.slice.running.Goals as goal
 

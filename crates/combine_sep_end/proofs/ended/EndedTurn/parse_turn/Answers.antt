@@ -1,6 +1,6 @@
 use Rattle.combine_token.specs.Optional.{optional, optional_is_meaning, optional_means_same}
 use Rattle.combine_sep_end.specs.Ended.{closer_of, ended_part, some_of}
-use Rattle.std.proofs.Common.{refl, sym, ◌∙◌}
+use Rattle.std.proofs.Common.{sym, ◌∙◌}
 use Rattle.combine_base.specs.Sequence.Places.{begins_2, first_fresh, place_2, valid_2}
 use Rattle.combine_base.specs.Sequence.Tuples.{followed_is_meaning, followed_means_same, push_1, tuple_1_is_meaning, tuple_1_means_same, tuple_2}
 use Rattle.combine_base.proofs.Same.{same_none}

@@ -1,4 +1,3 @@
-use Rattle.std.specs.Prelude.{◌↔◌}
 use Rattle.combine_base.specs.Error.Errors.{Nothing}
 use Rattle.combine_errors.proofs.Shapes.{hushed, hushed_reasons}
 use Rattle.combine_errors.specs.Saying.{saying_means_same}

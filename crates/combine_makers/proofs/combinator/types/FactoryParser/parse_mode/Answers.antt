@@ -1,4 +1,3 @@
-use Rattle.std.proofs.Common.{refl}
 use Rattle.combine_base.proofs.Starting.{in_mode}
 use Rattle.combine_base.specs.Error.Errors.{Nothing}
 use Rattle.combine_makers.specs.Made.{MadeAt, factory_maker, made_at_lasts, made_is_meaning}

@@ -1,4 +1,3 @@
-use Rattle.std.proofs.Common.{refl}
 use Rattle.combine_base.proofs.Starting.{in_mode}
 use Rattle.combine_makers.specs.Made.{Adds, at_any, at_any_lasts, lazy_maker, made_is_meaning}
 use Rattle.combine_makers.proofs.Making.{begins_made, kept_valid, resumes_made}

@@ -1,9 +1,8 @@
-use Rattle.std.proofs.Common.{refl, sym, ◌∙◌, false, true, subst}
-use Rattle.std.proofs.lemmas.Bool.{false≢true}
-use Rattle.combine_base.specs.Parser.Answer.{World, world}
+use Rattle.std.proofs.Common.{refl}
+use Rattle.combine_base.specs.Parser.Answer.{world}
 use Rattle.combine_base.proofs.Starting.{at_rest, in_mode}
-use Rattle.combine_recognize.specs.Gathered.{HasValid, IsFresh, recognized_is_meaning, recognized_means_same}
-use Rattle.combine_recognize.proofs.Recognizing.{part_begins, part_valid, recognize_asks, recognize_commits, recognize_fails, recognize_hindered, recognize_peeks, recognize_refuses}
+use Rattle.combine_recognize.specs.Gathered.{recognized_is_meaning}
+use Rattle.combine_recognize.proofs.Recognizing.{part_valid, recognize_asks, recognize_peeks}
 use Rattle.combine_recognize.proofs.combinator.types.RecognizeParser.parse_mode.Goals as goal
 
 pub returns-in-PeekOk-clause-answers : goal.returns-in-PeekOk-clause-answers
