@@ -57,22 +57,6 @@ impl<T: Copy + 'static, V: Drop> User<fed::Stream<T>, V> for Feeding<'_, T> {
     }
 }
 
-/// The beginning of an input, and what is behind it.
-#[derive(Drop)]
-pub struct Whole<Input>(pub Input);
-
-impl<Input: Stream, V: Drop> User<Input, V> for Whole<Input> {
-    type Answer = Result<(V, Input), Input::Error>;
-
-    fn with<P: Parser<Input, Output = V> + Drop>(
-        self,
-        parser: P,
-    ) -> Result<(V, Input), Input::Error> {
-        let mut parser = parser;
-        parser.parse(self.0)
-    }
-}
-
 /// The beginning of an input, and where what is behind it stands.
 #[derive(Drop)]
 pub struct Beginning<Input>(pub Input);
@@ -182,23 +166,6 @@ impl OfChars for LetText {
         Input::Error: ParseError<char, Input::Range, Input::Position>,
     {
         user.with(char::string("let"))
-    }
-}
-
-/// The text `let` in either case.
-pub struct LetTextAnyCase;
-
-impl OfChars for LetTextAnyCase {
-    type Output = &'static str;
-
-    fn make<Input: Stream<Token = char>, U: User<Input, &'static str>>(user: U) -> U::Answer
-    where
-        Input::Error: ParseError<char, Input::Range, Input::Position>,
-    {
-        user.with(char::string_cmp(
-            "let",
-            |wanted: char, char: char| wanted.eq_ignore_ascii_case(&char),
-        ))
     }
 }
 

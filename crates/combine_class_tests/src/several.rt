@@ -1,9 +1,6 @@
-//! A plain function for each parser of several bytes or characters, over a slice or a text; and where what is behind some of them stands. The larger parsers are made over any stream: composed over a slice each costs the prover several times as much.
+//! A plain function for each parser of several bytes or characters, over a slice or a text; and where what is behind some of them stands.
 
-use crate::makers::{
-    Beginning, ByteCrLf, ByteSpaces, CharCrLf, CharSpaces, LetText, LetTextAnyCase, OfBytes,
-    OfChars, Whole,
-};
+use crate::makers::{Beginning, ByteCrLf, CharSpaces, OfBytes, OfChars};
 use combine::error::{ErrorOffset, UnexpectedParse};
 use combine::parser::{Parser, byte, char};
 use combine::stream::position::{self, SourcePosition};
@@ -17,7 +14,7 @@ pub fn byte_this(wanted: u8, input: &[u8]) -> Parsed<'_, u8> {
 
 /// A carriage return and a line feed.
 pub fn byte_crlf(input: &[u8]) -> Parsed<'_, u8> {
-    ByteCrLf::make(Whole(input))
+    byte::crlf().parse(input)
 }
 
 /// How many parsers `crlf` counts as.
@@ -29,7 +26,7 @@ pub fn crlf_counts() -> (ErrorOffset, ErrorOffset) {
 
 /// White space, passed over.
 pub fn byte_spaces(input: &[u8]) -> Parsed<'_, ()> {
-    ByteSpaces::make(Whole(input))
+    byte::spaces().parse(input)
 }
 
 /// The bytes `let`.
@@ -52,12 +49,12 @@ pub fn char_this(wanted: char, input: &str) -> ParsedText<'_, char> {
 
 /// A carriage return and a line feed.
 pub fn char_crlf(input: &str) -> ParsedText<'_, char> {
-    CharCrLf::make(Whole(input))
+    char::crlf().parse(input)
 }
 
 /// White space, passed over.
 pub fn char_spaces(input: &str) -> ParsedText<'_, ()> {
-    CharSpaces::make(Whole(input))
+    char::spaces().parse(input)
 }
 
 /// The text `let`.
@@ -67,7 +64,10 @@ pub fn char_let(input: &str) -> ParsedText<'_, &'static str> {
 
 /// The text `let` in either case.
 pub fn char_let_any_case(input: &str) -> ParsedText<'_, &'static str> {
-    LetTextAnyCase::make(Whole(input))
+    char::string_cmp("let", |wanted: char, char: char| {
+        wanted.eq_ignore_ascii_case(&char)
+    })
+    .parse(input)
 }
 
 /// The line and column behind what a parser takes of a text.
@@ -78,6 +78,12 @@ fn behind_chars<M: OfChars>(input: &str) -> Result<SourcePosition, UnexpectedPar
 /// The index behind what a parser takes of bytes.
 fn behind_bytes<M: OfBytes>(input: &[u8]) -> Result<usize, UnexpectedParse> {
     M::make(Beginning(position::Stream::new(input)))
+}
+
+/// The line and column behind the text `let`.
+pub fn behind_let(input: &str) -> Result<SourcePosition, UnexpectedParse> {
+    let (_, rest) = char::string("let").parse(position::Stream::new(input))?;
+    Ok(rest.position())
 }
 
 /// The index behind the bytes `let`.
@@ -129,7 +135,7 @@ fn positions(rt: HostRuntime) {
         Ok(SourcePosition { line: 2, column: 2 })
     );
     assert_eq!(rt;
-        behind_chars::<LetText>("letx"),
+        behind_let("letx"),
         Ok(SourcePosition { line: 1, column: 4 })
     );
     assert_eq!(rt; behind_let_bytes(b"letx"), Ok(3));

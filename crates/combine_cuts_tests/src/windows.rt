@@ -108,10 +108,44 @@ pub fn frame<'a>(whole: &'a [u8], cuts: &[usize]) -> Option<(usize, Found<&'a [u
     over(&mut parser, whole, cuts)
 }
 
+/// How many windows ask for more before the letter `a` of a text is read, and whether it is there; `None` where the cuts don't fit.
+pub fn letter_a(whole: &str, cuts: &[usize]) -> Option<(usize, bool)> {
+    if !cuts_fit(whole, cuts) {
+        return None;
+    }
+    match parse_cuts(&mut token('a'), whole, cuts) {
+        Ok((asked, answer)) => Some((asked, matches!(answer, Answer::Accepted { .. }))),
+        Err(_memory) => None,
+    }
+}
+
+/// The same of the byte `a`.
+pub fn byte_a(whole: &[u8], cuts: &[usize]) -> Option<(usize, bool)> {
+    if !cuts_fit(whole, cuts) {
+        return None;
+    }
+    match parse_cuts(&mut token(b'a'), whole, cuts) {
+        Ok((asked, answer)) => Some((asked, matches!(answer, Answer::Accepted { .. }))),
+        Err(_memory) => None,
+    }
+}
+
 #[cfg(test)]
 mod tests {
     use super::*;
     use std::alloc::AllocError;
+
+    #[test]
+    fn one_token_in_plain_functions(rt: HostRuntime) {
+        for (cuts, asked) in [(&[] as &[usize], 0), (&[0], 1), (&[0, 0, 1], 2), (&[1], 0)] {
+            assert_eq!(rt; letter_a("ab", cuts), Some((asked, true)));
+            assert_eq!(rt; byte_a(b"ab", cuts), Some((asked, true)));
+            assert_eq!(rt; letter_a("b", cuts), Some((asked, false)));
+            assert_eq!(rt; byte_a(b"b", cuts), Some((asked, false)));
+        }
+        assert_eq!(rt; letter_a("a", &[2]), None);
+        assert_eq!(rt; byte_a(b"a", &[2]), None);
+    }
 
     #[test]
     fn cuts_that_fit(rt: HostRuntime) {
