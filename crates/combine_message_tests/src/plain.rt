@@ -20,20 +20,20 @@ fn sum(
 }
 
 /// What is answered of a text whose errors can be read.
-type Told = Result<(char, &'static str), Errors<char, &'static str, Left>>;
+type Told<'a> = Result<(char, &'a str), Errors<char, &'a str, Left>>;
 
 /// An `a`, by another name.
-fn named(alloc: Global, text: &'static str) -> Told {
+fn named<'a>(alloc: Global, text: &'a str) -> Told<'a> {
     expected(token('a'), "letter a").easy_parse(alloc, text)
 }
 
 /// An `a`, with a message where there is none.
-fn explained(alloc: Global, text: &'static str) -> Told {
+fn explained<'a>(alloc: Global, text: &'a str) -> Told<'a> {
     message(token('a'), "need a").easy_parse(alloc, text)
 }
 
 /// An `a`, of which is not said that it was expected.
-fn hushed(alloc: Global, text: &'static str) -> Told {
+fn hushed<'a>(alloc: Global, text: &'a str) -> Told<'a> {
     silent(token('a')).easy_parse(alloc, text)
 }
 
@@ -43,7 +43,7 @@ fn placed(input: &[u8]) -> Result<(u8, span::Stream<&[u8]>), UnexpectedParse> {
 }
 
 // Whether it is accepted, or refused with an error at the beginning that says these items.
-fn says(alloc: Global, told: Told, wanted: &[&str]) -> Result<bool, AllocError> {
+fn says(alloc: Global, told: Told<'_>, wanted: &[&str]) -> Result<bool, AllocError> {
     let Err(error) = told else {
         return Ok(wanted.is_empty());
     };
