@@ -1,21 +1,22 @@
 -- what one turn answers: whether it is a block, and a peeked refusal that is put back, or could not be
-use Rattle.std.proofs.Common.{ℕ, ◌+◌, ◌<◌, ◌≤◌, ◌≡◌, arith, Bool, true, false, ◌||◌, refl, sym, ◌∙◌}
+use Rattle.std.proofs.Common.{ℕ, ◌+◌, ◌<◌, ◌≤◌, ◌≡◌, arith, Bool, true, false, ◌||◌, ap, refl, sym, ◌∙◌}
 use Rattle.combine_base.specs.Stream.View.{View, Takes, Moves}
 use Rattle.combine_base.specs.Parser.Outcome.{Outcome, Refused}
 use Rattle.combine_base.specs.Parser.Meaning.{Meaning, Reading, MeansSame, begun}
 use Rattle.combine_base.specs.Parser.Answer.{Run, World, Answers, Accepts, Refuses}
-use Rattle.combine_base.proofs.Calls.{peeked_refusal}
+use Rattle.combine_base.proofs.Calls.{peeked_refusal, need_of_more, same_mark}
 use Rattle.combine_base.proofs.Progress.{takes_none, takes_more}
 use Rattle.combine_base.proofs.Same.{answers_same, same_none, same_more}
 use Rattle.combine_base.specs.declared.stream.Kind.{Kind}
 use Rattle.combine_base.specs.declared.stream.Kind.TheVariants as kinds
 use Rattle.combine_base.specs.declared.stream.Failures.{Failures}
 use Rattle.combine_base.specs.declared.error.Tracked.{Tracked}
+use Rattle.combine_base.specs.declared.error.ParseResult.{ParseResult}
 use Rattle.combine_base.specs.declared.error.ParseResult.TheVariants.{CommitErr, PeekErr}
 use Rattle.combine_turns.specs.Turns.{Collecting}
 use Rattle.combine_turns.specs.Turn.{called, TurnsSame}
-use Rattle.combine_turns.specs.Bounded.{goes_at, limit, next_of, so_far}
-use Rattle.combine_turns.specs.OneTurn.{IsGathered, Judged, OneTurn, IsOver, Ended, PutBack, HasFailed, InTurn, TakesNothing, Unstored, Untold, Unreset, halted}
+use Rattle.combine_turns.specs.Bounded.{cut_at, goes_at, limit, next_of, so_far}
+use Rattle.combine_turns.specs.OneTurn.{IsGathered, Judged, OneTurn, IsOver, Ended, PutBack, NeedsMore, HasFailed, InTurn, TakesNothing, Unstored, Untold, Unreset, halted, Ran, then_left}
 use Rattle.combine_turns.specs.declared.turns.Bounds.{Bounds}
 use Rattle.combine_turns.specs.declared.turns.Place.{Place}
 use Rattle.combine_turns.specs.declared.turns.Step.{Step}
@@ -49,6 +50,18 @@ module _ {P T R A S E : Type 0} (w : World P T S E) (m : Meaning P T R A S) wher
   put_back first state left old now new before later after e p n f =
       let y = peeked_refusal w m _ (w.kind e.error) p.is in
       record { meant = y.meant; leaves = record { count = 0; taken = rw n (takes_none w.step old); state = y.leaves.state }; failures = λ s. f s ∙ y.failures s }
+
+-- a call, as it is where it is judged
+module _ {P T R A S E : Type 0} (w : World P T S E) (m : Meaning P T R A S) (stands : View P T → Type 0) (now : View P T) (after : Failures) (r : Run P T S) (n : Ran stands now after r) where
+  pub ran_answers : (x : ParseResult A E) → Answers w m r x → Answers w m (then_left r now after) x
+  ran_answers x p = rw (sym n.new, sym n.failures) p
+
+module _ {P T R A V S E : Type 0} (w : World P T S E) (b : Bounds) (ending : A → Bool) (c : Collecting A V) (m : Meaning P T R A S) (stands : View P T → Type 0) (now : View P T) (after : Failures) (r : Run P T S) (n : Ran stands now after r) where
+  pub ran_needs : (t i : Kept V) (e : E) → (w.kind e ≡ kinds.End) × (now.is_open ≡ true) → Answers w m (then_left r now after) (CommitErr e) → ((k : ℕ) (v : View P T) → stands v → Takes w.step k v now → i ≡ record { into = t.into; committed = t.committed; place = cut_at t.place k }) → NeedsMore w b ending c m (then_left r now after) t i e
+  ran_needs t i e q p h =
+      let a = need_of_more w m (then_left r now after) e q.0 (sym (same_mark w m (then_left r now after) e p) ∙ q.1) p in
+      let x = h a.count r.old n.begun_at a.taken in
+      record { needs = q; answers = p; place = i.place; cut = λ k y. ap (λ (z : Kept V). z.place) (h k r.old n.begun_at y); turns = rw x refl }
 
 module _ {P T R A V S E : Type 0} (w : World P T S E) (b : Bounds) (ending : A → Bool) (c : Collecting A V) (m : Meaning P T R A S) (t : Kept V) where
   -- the same where the stream could not be put back

@@ -6,10 +6,23 @@ use Rattle.combine_turns.specs.Turns.{Turn, Goes, Stops, Rule, Collecting, SoFar
 use Rattle.combine_turns.specs.declared.turns.Bounds.{Bounds}
 use Rattle.combine_turns.specs.declared.turns.Bounds.TheVariants.{Any, Joined, Counted}
 use Rattle.combine_turns.specs.declared.turns.Place.{Place}
+use Rattle.combine_turns.specs.declared.turns.limits.JoinedFrom.{JoinedFrom}
+use Rattle.combine_turns.specs.declared.turns.limits.JoinedBetween.{JoinedBetween}
+use Rattle.combine_turns.specs.declared.turns.limits.Between.{Between}
 use Rattle.combine_turns.specs.declared.turns.Turns.{Turns as Kept}
 use Rattle.combine_turns.specs.declared.turns.TurnsState.{TurnsState}
 use Rattle.combine_turns.specs.declared.turns.Earlier.{Earlier}
 use Rattle.combine_turns.specs.declared.turns.Earlier.TheVariants.{Nothing, Turns}
+
+-- what bounds that are types of their own say
+abbrev pub joined_from : JoinedFrom → Bounds
+joined_from b = Joined b.least None
+
+abbrev pub joined_between : JoinedBetween → Bounds
+joined_between b = Joined b.least (Some b.most)
+
+abbrev pub between : Between → Bounds
+between b = Counted b.least b.most
 
 -- how far turns are counted
 abbrev pub limit : Bounds → ℕ
@@ -44,10 +57,18 @@ owns Any g = false
 owns (Joined least most) g = nat_lt g.number 1
 owns (Counted least most) g = false
 
--- an accepted turn that took n tokens is a block: it has to take a token, now or before a cut, but for a first part of its own, and for turns that are counted
+-- an accepted turn that took n tokens took one, now or before a cut
+abbrev pub takes_token : Place → ℕ → Bool → Bool
+takes_token g n k = k && (g.begun || nat_lt 0 n)
+
+-- the same, but for a first part of its own
+abbrev pub goes_joined : Place → ℕ → Bool → Bool
+goes_joined g n k = if nat_lt g.number 1 then true else takes_token g n k
+
+-- it is a block; turns that are counted may take nothing
 abbrev pub goes_at : Bounds → Place → ℕ → Bool → Bool
-goes_at Any g n k = k && (g.begun || nat_lt 0 n)
-goes_at (Joined least most) g n k = if nat_lt g.number 1 then true else (k && (g.begun || nat_lt 0 n))
+goes_at Any g n k = takes_token g n k
+goes_at (Joined least most) g n k = goes_joined g n k
 goes_at (Counted least most) g n k = true
 
 -- what an accepted turn does: its value ends the turns, or it is a block, or it takes nothing and is refused, committed

@@ -1,12 +1,13 @@
 -- what one turn of a call does: it is a block and the next one runs, or it is said why none does
-use Rattle.std.specs.Prelude.{ℕ, ◌<◌, ◌≡◌, Bool, true, false, ◌||◌}
-use Rattle.combine_base.specs.Stream.View.{Takes}
+use Rattle.std.specs.Prelude.{ℕ, ◌<◌, ◌≤◌, ◌≡◌, Bool, true, false, ◌||◌}
+use Rattle.combine_base.specs.Stream.View.{View, Takes}
 use Rattle.combine_base.specs.Parser.Meaning.{Meaning}
 use Rattle.combine_base.specs.Parser.Answer.{Run, World, Answers, Accepts, Refuses, Leaves}
 use Rattle.combine_base.specs.Sequence.Parts.{accepted_as, refused_as}
 use Rattle.combine_base.specs.Refusals.{Told}
 use Rattle.combine_turns.specs.Turns.{Collecting}
 use Rattle.combine_turns.specs.Bounded.{counted, enough, goes_at, cut_at, next_of, so_far}
+use Rattle.combine_base.specs.declared.stream.Failures.{Failures}
 use Rattle.combine_base.specs.declared.stream.Kind.TheVariants as kinds
 use Rattle.combine_base.specs.declared.error.Tracked.{Tracked}
 use Rattle.combine_base.specs.declared.error.ParseResult.{ParseResult}
@@ -81,6 +82,17 @@ module _ {P T R A V S E : Type 0} (w : World P T S E) (b : Bounds) (ending : A �
 
   pub record OneTurn (result : Step V E) : Type 0 where
     pub is : turned result
+
+-- what was known of a call at its answer, where it left the stream so
+pub record Ran {P T S : Type 0} (stands : View P T → Type 0) (now : View P T) (after : Failures) (r : Run P T S) : Type 0 where
+  pub begun_at : stands r.old
+  pub new : r.new ≡ now
+  pub failures : r.after ≡ after
+  pub resets : r.before.resets ≤ r.after.resets
+
+-- a call whose stream stands otherwise by then
+abbrev pub then_left : {P T S : Type 0} → Run P T S → View P T → Failures → Run P T S
+then_left r now after = record { first = r.first; state = r.state; left = r.left; old = r.old; new = now; before = r.before; after = after }
 
 -- turns with one more value gathered, of which the next one runs
 pub record IsGathered {A V Held : Type 0} (held : V → Held) (more : Held → A → Held → Type 0) (old : Kept V) (value : A) (most : ℕ) (new : Kept V) : Type 0 where

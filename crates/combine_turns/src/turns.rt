@@ -1,21 +1,25 @@
 //! The loop that all repetitions run, and what it keeps.
-ghost use Rattle.std.specs.Prelude.{◌≡◌, ◌||◌, ℕ, nat_lt, not, false, true, MatchResult, if◌then◌else◌};
+ghost use Rattle.std.specs.Prelude.{◌≡◌, ◌-◌, ◌||◌, ℕ, Bool, false, true, nat_lt, not, MatchResult, if◌then◌else◌};
 ghost use Rattle.combine_base.specs.Stream.View.{View, Takes};
-ghost use Rattle.combine_base.specs.Parser.Answer.{Answers, world};
+ghost use Rattle.combine_base.specs.Parser.Answer.{Answers, Run, world};
 ghost use Rattle.combine_base.specs.Stream.Calls.{Passes};
 ghost use Rattle.combine_base.specs.Refusals.{Told};
 ghost use Rattle.combine_base.specs.Sequence.Parts.{accepted_as, refused_as};
 ghost use Rattle.std.specs.Prelude.{None};
 ghost use Rattle.combine_turns.specs.FirstTurn.{FirstTurn};
-ghost use Rattle.combine_turns.specs.OneTurn.{IsGathered, OneTurn, stopped_answer, stopped_state};
+ghost use Rattle.combine_turns.specs.OneTurn.{IsGathered, OneTurn, Ran, halted, stopped_answer, stopped_state, then_left};
 ghost use Rattle.combine_turns.specs.Turn.{TurnsSame, called};
-ghost use Rattle.combine_turns.specs.Bounded.{gathered, cut_at, counted, enough, fresh_turns, full_at, goes_at, kept_or, limit, missing, none_yet, owns, running_turn, so_far, turns_from};
+ghost use Rattle.combine_turns.specs.Bounded.{gathered, cut_at, counted, fresh_turns, kept_or, none_yet, running_turn, so_far, turns_from};
+ghost use Rattle.combine_base.specs.declared.error.ParseResult.TheVariants.{PeekErr};
+
+pub mod limits;
 
 use combine_base::error::{Info, ParseError, ParseResult, Tracked};
 use combine_base::parser::{FirstMode, ParseMode, Parser};
 use combine_base::refusal::refusal_saying;
 use combine_base::sequence::{accepted_after, refused_after};
 use combine_base::stream::{Kind, Stream, has_taken, needs_more};
+use limits::{Bounded, JoinedFrom, is_enough};
 use std::alloc::AllocError;
 use std::mem;
 
@@ -129,7 +133,7 @@ pub trait Starts<A>: Gather<A> {
         ensures { Self.held result ≡ Self.none };
 }
 
-/// How many turns there are.
+/// How many turns there are, for contracts: a type of `limits` says which are meant.
 #[derive(Clone, Copy)]
 pub enum Bounds {
     /// Any number; each takes a token.
@@ -138,96 +142,6 @@ pub enum Bounds {
     Joined { least: usize, most: Option<usize> },
     /// A number; they may take nothing.
     Counted { least: usize, most: usize },
-}
-
-impl Bounds {
-    #[inline(always)]
-    fn limit(self) -> usize
-        ensures { result ≡ limit self }
-    {
-        match self {
-            Bounds::Any => 0,
-            Bounds::Joined { least, most: None } => if least < 1 { 1 } else { least },
-            Bounds::Joined {
-                least: _,
-                most: Some(most),
-            } => most,
-            Bounds::Counted { least: _, most } => most,
-        }
-    }
-
-    #[inline(always)]
-    fn is_full(self, place: Place) -> bool
-        ensures { result ≡ full_at self place }
-    {
-        match self {
-            Bounds::Any => false,
-            Bounds::Joined {
-                least: _,
-                most: None,
-            } => false,
-            Bounds::Joined {
-                least: _,
-                most: Some(most),
-            } => !(place.number < most),
-            Bounds::Counted { least: _, most } => !(place.number < most),
-        }
-    }
-
-    /// How many turns are still missing.
-    #[inline(always)]
-    fn missing(self, place: Place) -> usize
-        ensures { result ≡ missing self place }
-    {
-        match self {
-            Bounds::Any => 0,
-            Bounds::Joined { least, most: _ } => least.saturating_sub(place.number),
-            Bounds::Counted { least, most: _ } => least.saturating_sub(place.number),
-        }
-    }
-
-    #[inline(always)]
-    fn is_enough(self, place: Place) -> bool
-        ensures { result ≡ enough self place }
-    {
-        let missing = self.missing(place);
-        !(0 < missing)
-    }
-
-    /// Whether a refusal of this turn is its own answer.
-    #[inline(always)]
-    fn owns(self, place: Place) -> bool
-        ensures { result ≡ owns self place }
-    {
-        match self {
-            Bounds::Any => false,
-            Bounds::Joined { least: _, most: _ } => place.number < 1,
-            Bounds::Counted { least: _, most: _ } => false,
-        }
-    }
-
-    /// Whether a turn is a block that is accepted so, this piece's part of it begun at that checkpoint.
-    #[inline(always)]
-    fn goes<Input: Stream>(
-        self,
-        place: Place,
-        committed: bool,
-        since: Input::Checkpoint,
-        input: &Input,
-    ) -> bool
-        ensures { (n : ℕ) (v : View Input.Position Input.Token) → Input.stands input.now since v → Takes Input.step n v (Input.view input.now) → result ≡ goes_at self place n committed }
-    {
-        match self {
-            Bounds::Any => committed && has_taken(place.begun, since, input),
-            Bounds::Joined { least: _, most: _ } => {
-                if place.number < 1 {
-                    return true;
-                }
-                committed && has_taken(place.begun, since, input)
-            }
-            Bounds::Counted { least: _, most: _ } => true,
-        }
-    }
 }
 
 /// Which turn runs: how many were before, as far as that matters, and whether it took a token in an earlier piece.
@@ -247,6 +161,22 @@ impl Place {
             number: 0,
             begun: false,
         }
+    }
+
+    /// Whether so many turns were before it.
+    #[inline(always)]
+    fn reaches(self, most: usize) -> bool
+        ensures { result ≡ not (nat_lt self.number most) }
+    {
+        !(self.number < most)
+    }
+
+    /// How many turns are missing before it, if there must be so many.
+    #[inline(always)]
+    fn short_of(self, least: usize) -> usize
+        ensures { result ≡ least - self.number }
+    {
+        least.saturating_sub(self.number)
     }
 
     /// The next turn.
@@ -435,9 +365,38 @@ pub enum Stop<F, E> {
 
 /// A turn that begins afresh is a first-mode call, so that the mode is known where it is compiled, and has a state of its own, which is stored on need of more alone.
 #[inline(always)]
-fn parse_turn<Input: Stream, P: Turn<Input>, M: ParseMode>(
+fn begin_turn<Input: Stream, P: Turn<Input>>(
     parser: &mut P,
     later: bool,
+    input: &mut Input,
+    state: &mut P::Running,
+) -> ParseResult<P::Value, Input::Error>
+    requires lawful { P.lawful parser.old }
+    requires valid { P.valid state.old }
+    requires fresh { P.Running.is_default state.old }
+    ensures lawful { P.lawful parser.new }
+    ensures valid { P.valid state.new }
+    ensures same { TurnsSame (P.meaning parser.old) (P.again parser.old) (P.meaning parser.new) (P.again parser.new) }
+    ensures passes { Passes (Input.marks input.old) (Input.marks input.new) (Input.failures input.old) (Input.failures input.new) }
+    ensures answers { Answers (world Input.step Input.Error.seen Input.steady P.Running.is_default)
+        (called (P.meaning parser.old) (P.again parser.old) later)
+        (record { first = true; state = state.old; left = state.new; old = Input.view input.old; new = Input.view input.new; before = Input.failures input.old; after = Input.failures input.new })
+        result }
+{
+    let mut own = P::Running::default();
+    let answer = parser.parse_turn(later, FirstMode, input, &mut own);
+    if let ParseResult::CommitErr(error) = &answer {
+        if needs_more(input, error) {
+            *state = own;
+        }
+    }
+    answer
+}
+
+/// The first turn, which begins afresh or resumes.
+#[inline(always)]
+fn parse_turn<Input: Stream, P: Turn<Input>, M: ParseMode>(
+    parser: &mut P,
     mode: M,
     input: &mut Input,
     state: &mut P::Running,
@@ -450,21 +409,14 @@ fn parse_turn<Input: Stream, P: Turn<Input>, M: ParseMode>(
     ensures same { TurnsSame (P.meaning parser.old) (P.again parser.old) (P.meaning parser.new) (P.again parser.new) }
     ensures passes { Passes (Input.marks input.old) (Input.marks input.new) (Input.failures input.old) (Input.failures input.new) }
     ensures answers { Answers (world Input.step Input.Error.seen Input.steady P.Running.is_default)
-        (called (P.meaning parser.old) (P.again parser.old) later)
+        (called (P.meaning parser.old) (P.again parser.old) false)
         (record { first = M.first mode; state = state.old; left = state.new; old = Input.view input.old; new = Input.view input.new; before = Input.failures input.old; after = Input.failures input.new })
         result }
 {
     if mode.is_first() {
-        let mut own = P::Running::default();
-        let answer = parser.parse_turn(later, FirstMode, input, &mut own);
-        if let ParseResult::CommitErr(error) = &answer {
-            if needs_more(input, error) {
-                *state = own;
-            }
-        }
-        return answer;
+        return begin_turn(parser, false, input, state);
     }
-    parser.parse_turn(later, mode, input, state)
+    parser.parse_turn(false, mode, input, state)
 }
 
 /// A refusal that says how many turns are missing.
@@ -499,12 +451,119 @@ fn gather_turn<A, G: Gather<A>>(
     })
 }
 
-/// One turn.
+/// What a turn does that is refused peeked, the stream having stood at that checkpoint and position where it began.
 #[inline(always)]
-fn one_turn<G: Gather<P::Value>, Input: Stream, P: Turn<Input>, M: ParseMode>(
+fn judge_refusal<G: Gather<P::Value>, Input: Stream, P: Turn<Input>, B: Bounded>(
+    bounds: B,
+    turns: Turns<G::Into>,
+    since: Input::Checkpoint,
+    position: Input::Position,
+    refusal: Tracked<Input::Error>,
+    input: &mut Input,
+) -> Stop<G::Into, Input::Error>
+    ensures passes { Passes (Input.marks input.old) (Input.marks input.new) (Input.failures input.old) (Input.failures input.new) }
+    ensures halted { (p : P) (later : Bool)
+        (r : Run Input.Position Input.Token P.Running) → Ran (Input.stands input.old since) (Input.view input.old) (Input.failures input.old) r →
+        Answers (world Input.step Input.Error.seen Input.steady P.Running.is_default) (called (P.meaning p) (P.again p) later) r (PeekErr refusal) →
+        halted (world Input.step Input.Error.seen Input.steady P.Running.is_default) (B.bounds bounds) P.ending (gathered G.held G.none G.more G.lean) (called (P.meaning p) (P.again p) later)
+        (then_left r (Input.view input.new) (Input.failures input.new)) turns result }
+{
+    if is_enough(bounds, turns.place) {
+        if let Err(kind) = input.reset(since) {
+            return Stop::Failed(input.new_error(kind, position));
+        }
+        return Stop::Over(turns);
+    }
+    if bounds.owns(turns.place) {
+        return Stop::Refused(turns, refusal);
+    }
+    let error = too_few(input, position, bounds.missing(turns.place));
+    if error.kind() == Kind::Memory {
+        return Stop::Failed(error);
+    }
+    Stop::Refused(turns, Tracked::from(error))
+}
+
+/// What a turn does that answers so, the stream having stood at that checkpoint and position where it began.
+#[inline(always)]
+fn judge_turn<G: Gather<P::Value>, Input: Stream, P: Turn<Input>, B: Bounded>(
+    bounds: B,
+    turns: Turns<G::Into>,
+    since: Input::Checkpoint,
+    position: Input::Position,
+    answer: ParseResult<P::Value, Input::Error>,
+    input: &mut Input,
+) -> Step<G::Into, Input::Error>
+    requires able { G.able }
+    ensures passes { Passes (Input.marks input.old) (Input.marks input.new) (Input.failures input.old) (Input.failures input.new) }
+    ensures turned { (p : P) (later : Bool)
+        (r : Run Input.Position Input.Token P.Running) → Ran (Input.stands input.old since) (Input.view input.old) (Input.failures input.old) r →
+        Answers (world Input.step Input.Error.seen Input.steady P.Running.is_default) (called (P.meaning p) (P.again p) later) r answer →
+        OneTurn (world Input.step Input.Error.seen Input.steady P.Running.is_default) (B.bounds bounds) P.ending (gathered G.held G.none G.more G.lean) (called (P.meaning p) (P.again p) later)
+        (then_left r (Input.view input.new) (Input.failures input.new)) turns result }
+{
+    let (value, committed) = match answer {
+        ParseResult::CommitOk(value) => (value, true),
+        ParseResult::PeekOk(value) => (value, false),
+        ParseResult::PeekErr(refusal) => {
+            return Step::Stops(judge_refusal::<G, Input, P, B>(
+                bounds, turns, since, position, refusal, input,
+            ));
+        }
+        ParseResult::CommitErr(error) => {
+            if needs_more(input, &error) {
+                return Step::Stops(Stop::More(turns.cut(since, input), error));
+            }
+            return Step::Stops(Stop::Failed(error));
+        }
+    };
+    if P::ends(&value) {
+        return Step::Stops(Stop::Over(turns.joined(committed)));
+    }
+    if !bounds.goes(turns.place, committed, since, input) {
+        let error = refusal_saying(input, position, "repetition takes nothing");
+        return Step::Stops(Stop::Failed(error));
+    }
+    match gather_turn::<P::Value, G>(turns.joined(committed), value, bounds.limit()) {
+        Ok(turns) => Step::Goes(turns),
+        Err(_refused) => Step::Stops(Stop::Failed(input.new_error(Kind::Memory, position))),
+    }
+}
+
+/// One turn that begins afresh.
+#[inline(always)]
+fn one_turn<G: Gather<P::Value>, Input: Stream, P: Turn<Input>, B: Bounded>(
     parser: &mut P,
-    bounds: Bounds,
+    bounds: B,
     later: bool,
+    turns: Turns<G::Into>,
+    input: &mut Input,
+    running: &mut P::Running,
+) -> Step<G::Into, Input::Error>
+    requires able { G.able }
+    requires lawful { P.lawful parser.old }
+    requires valid { P.valid running.old }
+    requires fresh { P.Running.is_default running.old }
+    ensures lawful { P.lawful parser.new }
+    ensures valid { P.valid running.new }
+    ensures same { TurnsSame (P.meaning parser.old) (P.again parser.old) (P.meaning parser.new) (P.again parser.new) }
+    ensures passes { Passes (Input.marks input.old) (Input.marks input.new) (Input.failures input.old) (Input.failures input.new) }
+    ensures turned { OneTurn (world Input.step Input.Error.seen Input.steady P.Running.is_default)
+        (B.bounds bounds) P.ending (gathered G.held G.none G.more G.lean) (called (P.meaning parser.old) (P.again parser.old) later)
+        (record { first = true; state = running.old; left = running.new; old = Input.view input.old; new = Input.view input.new; before = Input.failures input.old; after = Input.failures input.new })
+        turns result }
+{
+    let since = input.checkpoint();
+    let position = input.position();
+    let answer = begin_turn(parser, later, input, running);
+    judge_turn::<G, Input, P, B>(bounds, turns, since, position, answer, input)
+}
+
+/// As `one_turn`, for a call that may resume.
+#[inline(always)]
+fn resume_turn<G: Gather<P::Value>, Input: Stream, P: Turn<Input>, B: Bounded, M: ParseMode>(
+    parser: &mut P,
+    bounds: B,
     mode: M,
     turns: Turns<G::Into>,
     input: &mut Input,
@@ -519,49 +578,14 @@ fn one_turn<G: Gather<P::Value>, Input: Stream, P: Turn<Input>, M: ParseMode>(
     ensures same { TurnsSame (P.meaning parser.old) (P.again parser.old) (P.meaning parser.new) (P.again parser.new) }
     ensures passes { Passes (Input.marks input.old) (Input.marks input.new) (Input.failures input.old) (Input.failures input.new) }
     ensures turned { OneTurn (world Input.step Input.Error.seen Input.steady P.Running.is_default)
-        bounds P.ending (gathered G.held G.none G.more G.lean) (called (P.meaning parser.old) (P.again parser.old) later)
+        (B.bounds bounds) P.ending (gathered G.held G.none G.more G.lean) (called (P.meaning parser.old) (P.again parser.old) false)
         (record { first = M.first mode; state = running.old; left = running.new; old = Input.view input.old; new = Input.view input.new; before = Input.failures input.old; after = Input.failures input.new })
         turns result }
 {
-    let checkpoint = input.checkpoint();
+    let since = input.checkpoint();
     let position = input.position();
-    let (value, committed) = match parse_turn(parser, later, mode, input, running) {
-        ParseResult::CommitOk(value) => (value, true),
-        ParseResult::PeekOk(value) => (value, false),
-        ParseResult::PeekErr(refusal) => {
-            if bounds.is_enough(turns.place) {
-                if let Err(kind) = input.reset(checkpoint) {
-                    return Step::Stops(Stop::Failed(input.new_error(kind, position)));
-                }
-                return Step::Stops(Stop::Over(turns));
-            }
-            if bounds.owns(turns.place) {
-                return Step::Stops(Stop::Refused(turns, refusal));
-            }
-            let error = too_few(input, position, bounds.missing(turns.place));
-            if error.kind() == Kind::Memory {
-                return Step::Stops(Stop::Failed(error));
-            }
-            return Step::Stops(Stop::Refused(turns, Tracked::from(error)));
-        }
-        ParseResult::CommitErr(error) => {
-            if needs_more(input, &error) {
-                return Step::Stops(Stop::More(turns.cut(checkpoint, input), error));
-            }
-            return Step::Stops(Stop::Failed(error));
-        }
-    };
-    if P::ends(&value) {
-        return Step::Stops(Stop::Over(turns.joined(committed)));
-    }
-    if !bounds.goes(turns.place, committed, checkpoint, input) {
-        let error = refusal_saying(input, position, "repetition takes nothing");
-        return Step::Stops(Stop::Failed(error));
-    }
-    match gather_turn::<P::Value, G>(turns.joined(committed), value, bounds.limit()) {
-        Ok(turns) => Step::Goes(turns),
-        Err(_refused) => Step::Stops(Stop::Failed(input.new_error(Kind::Memory, position))),
-    }
+    let answer = parser.parse_turn(false, mode, input, running);
+    judge_turn::<G, Input, P, B>(bounds, turns, since, position, answer, input)
 }
 
 /// What the first turn did, where it makes what is gathered.
@@ -597,7 +621,7 @@ fn first_turn<G: Gather<P::Value>, Input: Stream, P: Turn<Input>, M: ParseMode>(
         result }
 {
     let position = input.position();
-    let (value, committed) = match parse_turn(parser, false, mode, input, running) {
+    let (value, committed) = match parse_turn(parser, mode, input, running) {
         ParseResult::CommitOk(value) => (value, true),
         ParseResult::PeekOk(value) => (value, false),
         ParseResult::PeekErr(refusal) => return First::Refused(refusal),
@@ -619,31 +643,6 @@ fn first_turn<G: Gather<P::Value>, Input: Stream, P: Turn<Input>, M: ParseMode>(
         }),
         Err(_refused) => First::Failed(input.new_error(Kind::Memory, position)),
     }
-}
-
-/// As `one_turn`, for a call that resumes: apart from the code of calls that begin afresh, which holds the turn once.
-fn resume_turn<G: Gather<P::Value>, Input: Stream, P: Turn<Input>, M: ParseMode>(
-    parser: &mut P,
-    bounds: Bounds,
-    mode: M,
-    turns: Turns<G::Into>,
-    input: &mut Input,
-    running: &mut P::Running,
-) -> Step<G::Into, Input::Error>
-    requires able { G.able }
-    requires lawful { P.lawful parser.old }
-    requires valid { P.valid running.old }
-    requires fresh { M.first mode ≡ true → P.Running.is_default running.old }
-    ensures lawful { P.lawful parser.new }
-    ensures valid { P.valid running.new }
-    ensures same { TurnsSame (P.meaning parser.old) (P.again parser.old) (P.meaning parser.new) (P.again parser.new) }
-    ensures passes { Passes (Input.marks input.old) (Input.marks input.new) (Input.failures input.old) (Input.failures input.new) }
-    ensures turned { OneTurn (world Input.step Input.Error.seen Input.steady P.Running.is_default)
-        bounds P.ending (gathered G.held G.none G.more G.lean) (called (P.meaning parser.old) (P.again parser.old) false)
-        (record { first = M.first mode; state = running.old; left = running.new; old = Input.view input.old; new = Input.view input.new; before = Input.failures input.old; after = Input.failures input.new })
-        turns result }
-{
-    one_turn::<G, Input, P, M>(parser, bounds, false, mode, turns, input, running)
 }
 
 /// What turns answer that stop so; on need of more they are kept.
@@ -668,9 +667,9 @@ fn stopped<F: Drop, S: Drop, E: Drop>(
 
 /// One call of turns, which begin so where nothing is kept.
 #[inline(always)]
-pub fn take_turns<G: Gather<P::Value>, Input: Stream, P: Turn<Input>, M: ParseMode>(
+pub fn take_turns<G: Gather<P::Value>, Input: Stream, P: Turn<Input>, M: ParseMode, B: Bounded>(
     parser: &mut P,
-    bounds: Bounds,
+    bounds: B,
     start: Turns<G::Into>,
     mode: M,
     input: &mut Input,
@@ -684,7 +683,7 @@ pub fn take_turns<G: Gather<P::Value>, Input: Stream, P: Turn<Input>, M: ParseMo
     ensures same { TurnsSame (P.meaning parser.old) (P.again parser.old) (P.meaning parser.new) (P.again parser.new) }
     ensures passes { Passes (Input.marks input.old) (Input.marks input.new) (Input.failures input.old) (Input.failures input.new) }
     ensures answers { Answers (world Input.step Input.Error.seen Input.steady (fresh_turns P.Running.is_default))
-        (turns_from Input.step bounds P.ending (gathered G.held G.none G.more G.lean) (so_far G.held start) (P.meaning parser.old) (P.again parser.old))
+        (turns_from Input.step (B.bounds bounds) P.ending (gathered G.held G.none G.more G.lean) (so_far G.held start) (P.meaning parser.old) (P.again parser.old))
         (record { first = M.first mode; state = state.old; left = state.new; old = Input.view input.old; new = Input.view input.new; before = Input.failures input.old; after = Input.failures input.new })
         result }
 {
@@ -695,7 +694,7 @@ pub fn take_turns<G: Gather<P::Value>, Input: Stream, P: Turn<Input>, M: ParseMo
             state.running = P::Running::default();
             return turns.end();
         }
-        match resume_turn::<G, Input, P, M>(
+        match resume_turn::<G, Input, P, B, M>(
             parser,
             bounds,
             mode,
@@ -714,15 +713,7 @@ pub fn take_turns<G: Gather<P::Value>, Input: Stream, P: Turn<Input>, M: ParseMo
         if bounds.is_full(turns.place) {
             return turns.end();
         }
-        match one_turn::<G, Input, P, FirstMode>(
-            parser,
-            bounds,
-            later,
-            FirstMode,
-            turns,
-            input,
-            &mut state.running,
-        ) {
+        match one_turn::<G, Input, P, B>(parser, bounds, later, turns, input, &mut state.running) {
             Step::Stops(why) => return stopped(why, state),
             Step::Goes(next) => {
                 turns = next;
@@ -754,15 +745,12 @@ pub fn take_joined<G: Gather<P::Value>, Input: Stream, P: Turn<Input>, M: ParseM
         (record { first = M.first mode; state = state.old; left = state.new; old = Input.view input.old; new = Input.view input.new; before = Input.failures input.old; after = Input.failures input.new })
         result }
 {
-    let bounds = Bounds::Joined {
-        least: 1,
-        most: None,
-    };
+    let bounds = JoinedFrom { least: 1 };
     let mut turns: Turns<G::Into>;
     let given = state.hand_out(mode.is_first());
     match given {
         Earlier::Turns(kept) => {
-            match resume_turn::<G, Input, P, M>(
+            match resume_turn::<G, Input, P, JoinedFrom, M>(
                 parser,
                 bounds,
                 mode,
@@ -784,11 +772,10 @@ pub fn take_joined<G: Gather<P::Value>, Input: Stream, P: Turn<Input>, M: ParseM
         }
     }
     'turns: loop {
-        match one_turn::<G, Input, P, FirstMode>(
+        match one_turn::<G, Input, P, JoinedFrom>(
             parser,
             bounds,
             true,
-            FirstMode,
             turns,
             input,
             &mut state.running,

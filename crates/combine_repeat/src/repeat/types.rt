@@ -10,7 +10,8 @@ use combine_base::parser::{ParseMode, Parser};
 use combine_base::repeat::Append;
 use combine_base::stream::Stream;
 use combine_turns::each::{Dropped, Each, Plain};
-use combine_turns::turns::{Bounds, Starts, Turns, TurnsState, take_turns};
+use combine_turns::turns::limits::{AnyNumber, JoinedFrom};
+use combine_turns::turns::{Starts, Turns, TurnsState, take_turns};
 use std::alloc::Global;
 use std::marker::PhantomData;
 
@@ -54,8 +55,15 @@ impl<Input: Stream, P: Parser<Input>, F: Append<P::Output>> Parser<Input> for Ma
         state: &mut Self::PartialState,
     ) -> ParseResult<F, Input::Error> {
         let start = Turns::none_yet(F::empty(self.alloc));
-        let bounds = Bounds::Any;
-        take_turns::<Each<F>, Input, Plain<P>, M>(&mut self.turn, bounds, start, mode, input, state)
+        let bounds = AnyNumber;
+        take_turns::<Each<F>, Input, Plain<P>, M, _>(
+            &mut self.turn,
+            bounds,
+            start,
+            mode,
+            input,
+            state,
+        )
     }
 
     /// What the parser of a turn adds.
@@ -112,11 +120,15 @@ impl<Input: Stream, P: Parser<Input>, F: Append<P::Output>> Parser<Input> for Ma
         state: &mut Self::PartialState,
     ) -> ParseResult<F, Input::Error> {
         let start = Turns::none_yet(F::empty(self.alloc));
-        let bounds = Bounds::Joined {
-            least: 1,
-            most: None,
-        };
-        take_turns::<Each<F>, Input, Plain<P>, M>(&mut self.turn, bounds, start, mode, input, state)
+        let bounds = JoinedFrom { least: 1 };
+        take_turns::<Each<F>, Input, Plain<P>, M, _>(
+            &mut self.turn,
+            bounds,
+            start,
+            mode,
+            input,
+            state,
+        )
     }
 
     /// What the parser adds, as for `many`.
@@ -167,8 +179,8 @@ impl<Input: Stream, P: Parser<Input>> Parser<Input> for SkipMany<P> {
         state: &mut Self::PartialState,
     ) -> ParseResult<(), Input::Error> {
         let start = Turns::none_yet(());
-        let any = Bounds::Any;
-        take_turns::<Dropped, Input, Plain<P>, M>(&mut self.0, any, start, mode, input, state)
+        let any = AnyNumber;
+        take_turns::<Dropped, Input, Plain<P>, M, _>(&mut self.0, any, start, mode, input, state)
     }
 
     /// What the parser adds, as for `many`.
@@ -220,11 +232,8 @@ impl<Input: Stream, P: Parser<Input>> Parser<Input> for SkipMany1<P> {
         state: &mut Self::PartialState,
     ) -> ParseResult<(), Input::Error> {
         let start = Turns::none_yet(());
-        let joined = Bounds::Joined {
-            least: 1,
-            most: None,
-        };
-        take_turns::<Dropped, Input, Plain<P>, M>(&mut self.0, joined, start, mode, input, state)
+        let joined = JoinedFrom { least: 1 };
+        take_turns::<Dropped, Input, Plain<P>, M, _>(&mut self.0, joined, start, mode, input, state)
     }
 
     /// What the parser adds, as for `many`.

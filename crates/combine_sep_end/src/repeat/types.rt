@@ -14,7 +14,8 @@ use combine_base::sequence::State2;
 use combine_base::stream::Stream;
 use combine_separated::separated::SeparatedState;
 use combine_token::choice::types::Optional;
-use combine_turns::turns::{Bounds, Turns, TurnsState, take_turns};
+use combine_turns::turns::limits::JoinedFrom;
+use combine_turns::turns::{Turns, TurnsState, take_turns};
 use std::alloc::Global;
 use std::marker::PhantomData;
 
@@ -63,11 +64,8 @@ impl<Input: Stream, P: Parser<Input>, S: Parser<Input>, F: Append<P::Output>> Pa
         state: &mut Self::PartialState,
     ) -> ParseResult<F, Input::Error> {
         let start = Turns::none_yet(F::empty(self.alloc));
-        let bounds = Bounds::Joined {
-            least: 0,
-            most: None,
-        };
-        take_turns::<EachSome<F>, Input, Ended<P, S>, M>(
+        let bounds = JoinedFrom { least: 0 };
+        take_turns::<EachSome<F>, Input, Ended<P, S>, M, _>(
             &mut self.turn,
             bounds,
             start,
@@ -135,11 +133,8 @@ impl<Input: Stream, P: Parser<Input>, S: Parser<Input>, F: Append<P::Output>> Pa
         state: &mut Self::PartialState,
     ) -> ParseResult<F, Input::Error> {
         let start = Turns::none_yet(F::empty(self.alloc));
-        let bounds = Bounds::Joined {
-            least: 1,
-            most: None,
-        };
-        take_turns::<EachSome<F>, Input, Ended<P, S>, M>(
+        let bounds = JoinedFrom { least: 1 };
+        take_turns::<EachSome<F>, Input, Ended<P, S>, M, _>(
             &mut self.turn,
             bounds,
             start,

@@ -15,7 +15,8 @@ use combine_base::parser::{ParseMode, Parser};
 use combine_base::repeat::Append;
 use combine_base::sequence::State2;
 use combine_base::stream::Stream;
-use combine_turns::turns::{Bounds, Turns, TurnsState, take_joined, take_turns};
+use combine_turns::turns::limits::{JoinedBetween, JoinedFrom};
+use combine_turns::turns::{Turns, TurnsState, take_joined, take_turns};
 use std::alloc::Global;
 use std::marker::PhantomData;
 
@@ -62,11 +63,11 @@ impl<Input: Stream, P: Parser<Input>, S: Parser<Input>, F: Append<P::Output>> Pa
         state: &mut Self::PartialState,
     ) -> ParseResult<F, Input::Error> {
         let start = Turns::none_yet(F::empty(self.alloc));
-        let bounds = Bounds::Joined {
+        let bounds = JoinedBetween {
             least: self.least,
-            most: Some(self.most),
+            most: self.most,
         };
-        take_turns::<EachElement<F>, Input, Separated<P, S>, M>(
+        take_turns::<EachElement<F>, Input, Separated<P, S>, M, _>(
             &mut self.turn,
             bounds,
             start,
@@ -131,11 +132,8 @@ impl<Input: Stream, P: Parser<Input>, S: Parser<Input>, F: Append<P::Output>> Pa
         state: &mut Self::PartialState,
     ) -> ParseResult<F, Input::Error> {
         let start = Turns::none_yet(F::empty(self.alloc));
-        let bounds = Bounds::Joined {
-            least: 0,
-            most: None,
-        };
-        take_turns::<EachElement<F>, Input, Separated<P, S>, M>(
+        let bounds = JoinedFrom { least: 0 };
+        take_turns::<EachElement<F>, Input, Separated<P, S>, M, _>(
             &mut self.turn,
             bounds,
             start,
@@ -200,11 +198,8 @@ impl<Input: Stream, P: Parser<Input>, S: Parser<Input>, F: Append<P::Output>> Pa
         state: &mut Self::PartialState,
     ) -> ParseResult<F, Input::Error> {
         let start = Turns::none_yet(F::empty(self.alloc));
-        let bounds = Bounds::Joined {
-            least: 1,
-            most: None,
-        };
-        take_turns::<EachElement<F>, Input, Separated<P, S>, M>(
+        let bounds = JoinedFrom { least: 1 };
+        take_turns::<EachElement<F>, Input, Separated<P, S>, M, _>(
             &mut self.turn,
             bounds,
             start,

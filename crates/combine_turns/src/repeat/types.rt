@@ -6,7 +6,8 @@ ghost use Rattle.combine_turns.specs.Counts.{appended, count, count_min_max, dro
 ghost use Rattle.combine_turns.specs.CountLaws.{repeated_is_meaning, repeated_means_one};
 
 use crate::each::{Dropped, Each, Plain};
-use crate::turns::{Bounds, Starts, Turns, TurnsState, take_turns};
+use crate::turns::limits::Between;
+use crate::turns::{Starts, Turns, TurnsState, take_turns};
 use combine_base::error::{ErrorOffset, ParseResult, Tracked};
 use combine_base::parser::{ParseMode, Parser};
 use combine_base::repeat::Append;
@@ -73,11 +74,18 @@ impl<Input: Stream, P: Parser<Input>, F: Append<P::Output>> Parser<Input> for Co
     ) -> ParseResult<F, Input::Error> {
         let empty = room_for(self.alloc, mode.is_first(), self.least);
         let start = Turns::none_yet(empty);
-        let bounds = Bounds::Counted {
+        let bounds = Between {
             least: self.least,
             most: self.most,
         };
-        take_turns::<Each<F>, Input, Plain<P>, M>(&mut self.turn, bounds, start, mode, input, state)
+        take_turns::<Each<F>, Input, Plain<P>, M, _>(
+            &mut self.turn,
+            bounds,
+            start,
+            mode,
+            input,
+            state,
+        )
     }
 
     /// What the parser of a turn adds.
@@ -133,11 +141,18 @@ impl<Input: Stream, P: Parser<Input>> Parser<Input> for SkipCountMinMax<P> {
         state: &mut Self::PartialState,
     ) -> ParseResult<(), Input::Error> {
         let start = Turns::none_yet(());
-        let bounds = Bounds::Counted {
+        let bounds = Between {
             least: self.least,
             most: self.most,
         };
-        take_turns::<Dropped, Input, Plain<P>, M>(&mut self.turn, bounds, start, mode, input, state)
+        take_turns::<Dropped, Input, Plain<P>, M, _>(
+            &mut self.turn,
+            bounds,
+            start,
+            mode,
+            input,
+            state,
+        )
     }
 
     /// What the parser of a turn adds.
@@ -194,11 +209,18 @@ impl<Input: Stream, P: Parser<Input>, F: Append<P::Output>> Parser<Input> for Co
         state: &mut Self::PartialState,
     ) -> ParseResult<F, Input::Error> {
         let start = Turns::none_yet(F::empty(self.alloc));
-        let bounds = Bounds::Counted {
+        let bounds = Between {
             least: 0,
             most: self.most,
         };
-        take_turns::<Each<F>, Input, Plain<P>, M>(&mut self.turn, bounds, start, mode, input, state)
+        take_turns::<Each<F>, Input, Plain<P>, M, _>(
+            &mut self.turn,
+            bounds,
+            start,
+            mode,
+            input,
+            state,
+        )
     }
 
     /// What the parser of a turn adds.
@@ -253,11 +275,18 @@ impl<Input: Stream, P: Parser<Input>> Parser<Input> for SkipCount<P> {
         state: &mut Self::PartialState,
     ) -> ParseResult<(), Input::Error> {
         let start = Turns::none_yet(());
-        let bounds = Bounds::Counted {
+        let bounds = Between {
             least: 0,
             most: self.most,
         };
-        take_turns::<Dropped, Input, Plain<P>, M>(&mut self.turn, bounds, start, mode, input, state)
+        take_turns::<Dropped, Input, Plain<P>, M, _>(
+            &mut self.turn,
+            bounds,
+            start,
+            mode,
+            input,
+            state,
+        )
     }
 
     /// What the parser of a turn adds.

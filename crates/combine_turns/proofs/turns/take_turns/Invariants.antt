@@ -20,15 +20,15 @@ invariant-turns g l = record {
   reaches : Reaches
       (world g.Input.StreamOnce.step g.Input.Error.ParseError.seen g.Input.StreamOnce.steady g.P.Running.Default.is_default)
       (fresh_turns g.P.Running.Default.is_default)
-      (bounded l.fn.bounds g.P.Turn.ending) (bounded_is_rule l.fn.bounds g.P.Turn.ending)
+      (bounded (g.B.Bounded.bounds l.fn.bounds) g.P.Turn.ending) (bounded_is_rule (g.B.Bounded.bounds l.fn.bounds) g.P.Turn.ending)
       (gathered g.G.Gather.held g.G.Gather.none g.G.Gather.more g.G.Gather.lean)
       (λ _. g.P.Turn.again l.fn.parser)
       (called (g.P.Turn.meaning l.fn.parser) (g.P.Turn.again l.fn.parser) l.later)
-      (turns_from g.Input.StreamOnce.step l.fn.bounds g.P.Turn.ending (gathered g.G.Gather.held g.G.Gather.none g.G.Gather.more g.G.Gather.lean) (so_far g.G.Gather.held l.fn.start) (g.P.Turn.meaning l.fn.parser) (g.P.Turn.again l.fn.parser))
+      (turns_from g.Input.StreamOnce.step (g.B.Bounded.bounds l.fn.bounds) g.P.Turn.ending (gathered g.G.Gather.held g.G.Gather.none g.G.Gather.more g.G.Gather.lean) (so_far g.G.Gather.held l.fn.start) (g.P.Turn.meaning l.fn.parser) (g.P.Turn.again l.fn.parser))
       (g.M.ParseMode.first l.fn.mode) l.fn.state (g.Input.StreamOnce.view l.fn.input) (g.Input.StreamOnce.failures l.fn.input)
       true l.state.running (g.Input.StreamOnce.view l.input) (g.Input.StreamOnce.failures l.input)
       (so_far g.G.Gather.held l.turns);
 }
 
 abbrev pub decreases-turns : goal.decreases-turns
-decreases-turns g l = length (g.Input.StreamOnce.view l.input).unread + idle_turns l.fn.bounds l.turns.place
+decreases-turns g l = length (g.Input.StreamOnce.view l.input).unread + idle_turns (g.B.Bounded.bounds l.fn.bounds) l.turns.place
