@@ -11,7 +11,7 @@ pub const MEASURE: Measure = Measure {
     what: "`skip_many(count_min_max(60, 60, any()))`, each frame collected into a `Vec`",
     input: inputs::frames,
     pieces: &[0, 4096],
-    sides: &[("hand", hand), ("combine", combine), ("nom", nom)],
+    sides: &[("hand", hand), ("hand by byte", by_byte), ("combine", combine), ("nom", nom)],
 };
 
 fn hand(bytes: &[u8], piece: usize) -> u64 {
@@ -24,6 +24,24 @@ fn hand(bytes: &[u8], piece: usize) -> u64 {
             rest = later;
             if frame.len() == SIZE {
                 drop(black_box(std::mem::take(&mut frame)));
+            }
+        }
+    }
+    if frame.is_empty() {
+        bytes.len() as u64
+    } else {
+        REFUSED
+    }
+}
+
+/// Each byte taken alone, as a parser of one token takes it, into a frame with room for all.
+fn by_byte(bytes: &[u8], piece: usize) -> u64 {
+    let mut frame = Vec::with_capacity(SIZE);
+    for piece in bytes.chunks(if piece == 0 { bytes.len().max(1) } else { piece }) {
+        for byte in piece {
+            frame.push(*byte);
+            if frame.len() == SIZE {
+                drop(black_box(std::mem::replace(&mut frame, Vec::with_capacity(SIZE))));
             }
         }
     }

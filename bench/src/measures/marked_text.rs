@@ -9,7 +9,7 @@ pub const MEASURE: Measure = Measure {
     what: "`skip_many((take_until(attempt(\"--\")), \"--\"))`, each text collected into a `Vec`",
     input: inputs::marked,
     pieces: &[0, 4096],
-    sides: &[("hand", hand), ("combine", combine), ("nom", nom)],
+    sides: &[("hand", hand), ("hand by byte", by_byte), ("combine", combine), ("nom", nom)],
 };
 
 fn hand(bytes: &[u8], piece: usize) -> u64 {
@@ -27,6 +27,30 @@ fn hand(bytes: &[u8], piece: usize) -> u64 {
             }
         }
         text.extend_from_slice(rest);
+    }
+    if text.is_empty() && marks == 0 {
+        bytes.len() as u64
+    } else {
+        REFUSED
+    }
+}
+
+/// Each byte taken alone, as a parser of one token takes it.
+fn by_byte(bytes: &[u8], piece: usize) -> u64 {
+    let mut text = Vec::new();
+    let mut marks = 0;
+    for piece in bytes.chunks(if piece == 0 { bytes.len().max(1) } else { piece }) {
+        for byte in piece {
+            if *byte != b'-' {
+                text.push(*byte);
+                continue;
+            }
+            marks += 1;
+            if marks == 2 {
+                drop(black_box(std::mem::take(&mut text)));
+                marks = 0;
+            }
+        }
     }
     if text.is_empty() && marks == 0 {
         bytes.len() as u64
