@@ -1,15 +1,17 @@
 -- what one turn of blocks up to a place did
-use Rattle.std.proofs.Common.{ℕ, ◌+◌, ◌<◌, ◌≤◌, ◌≡◌, Bool, true, false, ◌||◌, ◌&&◌, nat_lt, if◌then◌else◌, Option, length, drop, arith, ap, ◌∙◌, length-drop, ltb-true}
+use Rattle.std.proofs.Common.{ℕ, ◌+◌, ◌<◌, ◌≤◌, ◌≡◌, Bool, true, false, ◌||◌, ◌&&◌, nat_lt, if◌then◌else◌, Option, length, drop, arith, ap, refl, sym, ◌∙◌, length-drop, ltb-true}
 use Rattle.combine_base.specs.Stream.View.{View, Takes, Moves}
 use Rattle.combine_base.specs.Parser.Meaning.{Meaning}
-use Rattle.combine_base.specs.Parser.Answer.{Run, World, Accepts}
+use Rattle.combine_base.specs.Parser.Answer.{Run, World, Answers, Accepts}
 use Rattle.combine_base.specs.Distances.{stops}
+use Rattle.combine_base.proofs.Calls.{need_of_more, same_mark}
 use Rattle.combine_base.proofs.Progress.{takes_more}
+use Rattle.combine_base.specs.declared.error.ParseResult.TheVariants.{CommitErr}
 use Rattle.combine_base.specs.declared.stream.Kind.{Kind}
 use Rattle.combine_base.specs.declared.stream.Kind.TheVariants as kinds
 use Rattle.combine_base.specs.declared.stream.Failures.{Failures}
 use Rattle.combine_turns.specs.Turns.{Collecting}
-use Rattle.combine_until.specs.UntilTurn.{GoesOn, HasFailed, Unreset}
+use Rattle.combine_until.specs.UntilTurn.{GoesOn, NeedsMore, HasFailed, Unreset}
 use Rattle.combine_until.specs.declared.until.Blocks.{Blocks}
 
 module _ {P T R A S E : Type 0} (w : World P T S E) (m : Meaning P T R (Option A) S) where
@@ -24,6 +26,13 @@ module _ {P T R A S E : Type 0} (w : World P T S E) (m : Meaning P T R (Option A
       Unreset (q ∙ h.0) (omega arith) (record { count = p.count + x.count; taken = takes_more w.step p.count x.count old now new p.taken x.taken; state = p.state })
 
 module _ {P T R A V S E : Type 0} (w : World P T S E) (m : Meaning P T R (Option A) S) (c : Collecting (Option A) V) (r : Run P T S) (marked : View P T → Type 0) (old new : Blocks V) where
+  -- its parser needs more, and the blocks are those of the next piece
+  pub needs_more : (e : E) → (w.kind e ≡ kinds.End) × (r.new.is_open ≡ true) → Answers w m r (CommitErr e) → ((n : ℕ) → Takes w.step n r.old r.new → new ≡ record { into = old.into; committed = old.committed; begun = old.begun || nat_lt 0 n }) → NeedsMore w m c r marked old new e
+  needs_more e q p h =
+      let a = need_of_more w m r e q.0 (sym (same_mark w m r e p) ∙ q.1) p in
+      let x = h a.count a.taken in
+      record { needs = q; answers = p; begun_so = new.begun; cut = λ n t. ap (λ (b : Blocks V). b.begun) (h n t); blocks = rw x refl }
+
   -- a block takes a token, or took one before a cut, which the next one didn't
   pub blocks_shrink : GoesOn w m c r marked old new → length r.new.unread + (if new.begun then 1 else 0) < length r.old.unread + (if old.begun then 1 else 0)
   blocks_shrink g = rw (ap (λ s. s.mark) g.blocks) (by_begun old.begun g.takes)

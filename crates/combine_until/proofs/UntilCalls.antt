@@ -119,6 +119,22 @@ module _ {P T R A V S E : Type 0} (w : World P T S E) (c : Collecting (Option A)
       resets = y;
     }
 
+  -- a turn that begins afresh runs so in each mode
+  pub reaches_afresh : (fresh valid : S → Type 0) → IsMeaning fresh valid m → (first : Bool) (state : UntilState V S) (old : View P T) (earlier : Failures) (mode : Bool) (s : S) (place now : View P T) (later : Failures) (f : SoFar Bool c.Held) → fresh s → Reaches first state old earlier true s place now later f → Reaches first state old earlier mode s place now later f
+  reaches_afresh fresh valid h first state old earlier true s place now later f d z = z
+  reaches_afresh fresh valid h first state old earlier false s place now later f d z = record {
+    before = z.before;
+    beyond = z.beyond;
+    there = z.there;
+    on = z.on;
+    leads = λ x b o l u. z.leads x b o l (until_into w.step c m.whole m.whole (λ v o x. x) z.before z.beyond (m.rest s) m.whole (λ v o x. (h.start s v o d).0 x) f (extended x b old) o u);
+    counted = z.counted;
+    lost = λ e l. absurd (h.found s _ d l);
+    failures = z.failures;
+    reads = z.reads;
+    resets = z.resets;
+  }
+
   -- what is known of the turns that came before, and of the one that runs
   module _ (u : Run P T (UntilState V S)) (r : Run P T S) (place : View P T) (b : Blocks V) (z : Reaches u.first u.state u.old u.before r.first r.state place r.old r.before (blocks_so_far c.held b)) where
     come : Takes w.step (z.before + z.beyond) u.old r.old

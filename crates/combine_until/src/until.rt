@@ -4,18 +4,18 @@ ghost use Rattle.combine_base.specs.Parser.Answer.{Answers, world};
 ghost use Rattle.combine_base.specs.Parser.Meaning.{MeansSame};
 ghost use Rattle.combine_base.specs.Sequence.Parts.{accepted_as};
 ghost use Rattle.combine_base.specs.Stream.Calls.{Passes};
-ghost use Rattle.combine_base.specs.Stream.View.{Takes};
+ghost use Rattle.combine_base.specs.Stream.View.{Takes, View};
 ghost use Rattle.combine_map.specs.Attempt.{losing};
 ghost use Rattle.combine_until.specs.Until.{blocks_so_far, some_appended, until, until_fresh, until_valid};
 ghost use Rattle.combine_until.specs.UntilTurn.{ComesTo, HandsOut, Keeps, KeepsRunning, OneTurn, Settled};
 
 use combine_base::distance::{measure, pass_over};
 use combine_base::error::{ParseResult, Tracked};
-use combine_base::parser::{FirstMode, ParseMode, Parser};
+use combine_base::parser::{ParseMode, Parser};
 use combine_base::refusal::refusal_saying;
 use combine_base::repeat::Append;
 use combine_base::sequence::accepted_after;
-use combine_base::stream::{Kind, Stream, needs_more};
+use combine_base::stream::{Kind, Stream, has_taken, needs_more};
 use std::alloc::AllocError;
 use std::mem::replace;
 
@@ -58,8 +58,8 @@ impl<F> Blocks<F> {
 
     /// The same blocks in the next piece.
     #[inline(always)]
-    fn cut<Input: Stream>(self, since: Input::Position, input: &Input) -> Blocks<F>
-        ensures { (n : ℕ) (old : Input) → since ≡ (Input.view old).position → Takes Input.step n (Input.view old) (Input.view input.now) → result ≡ record { into = self.into; committed = self.committed; begun = self.begun || nat_lt 0 n } }
+    fn cut<Input: Stream>(self, since: Input::Checkpoint, input: &Input) -> Blocks<F>
+        ensures { (n : ℕ) (v : View Input.Position Input.Token) → Input.stands input.now since v → Takes Input.step n v (Input.view input.now) → result ≡ record { into = self.into; committed = self.committed; begun = self.begun || nat_lt 0 n } }
     {
         let Blocks {
             into,
@@ -219,22 +219,15 @@ fn pass_to<Input: Stream>(
     Ok(place)
 }
 
-/// Whether a token was taken since that position, or, as `begun` says, before it.
-fn has_taken<Input: Stream>(begun: bool, since: Input::Position, input: &Input) -> bool
-    ensures { (n : ℕ) (old : Input) → since ≡ (Input.view old).position → Takes Input.step n (Input.view old) (Input.view input.now) → result ≡ (begun || nat_lt 0 n) }
-{
-    begun || since.cmp(&input.position()).is_lt()
-}
-
-/// Whether a turn that is accepted so is a block, this piece's part of it begun at that position.
+/// Whether a turn that is accepted so is a block, this piece's part of it begun at that checkpoint.
 #[inline(always)]
 fn is_block<Input: Stream>(
     begun: bool,
     committed: bool,
-    since: Input::Position,
+    since: Input::Checkpoint,
     input: &Input,
 ) -> bool
-    ensures { (n : ℕ) (old : Input) → since ≡ (Input.view old).position → Takes Input.step n (Input.view old) (Input.view input.now) → result ≡ (committed && (begun || nat_lt 0 n)) }
+    ensures { (n : ℕ) (v : View Input.Position Input.Token) → Input.stands input.now since v → Takes Input.step n v (Input.view input.now) → result ≡ (committed && (begun || nat_lt 0 n)) }
 {
     committed && has_taken(begun, since, input)
 }
@@ -266,13 +259,14 @@ fn one_turn<
         (Input.stands input.old place) blocks result }
 {
     let position = input.position();
+    let since = input.checkpoint();
     let (value, committed) = match parser.parse_explained(mode, input, running) {
         ParseResult::CommitOk(value) => (value, true),
         ParseResult::PeekOk(value) => (value, false),
         ParseResult::PeekErr(refusal) => return Step::Stops(Stop::Refused(refusal)),
         ParseResult::CommitErr(error) => {
             if needs_more(input, &error) {
-                return Step::Stops(Stop::More(blocks.cut(position, input), error));
+                return Step::Stops(Stop::More(blocks.cut(since, input), error));
             }
             return Step::Stops(Stop::Failed(error));
         }
@@ -283,7 +277,7 @@ fn one_turn<
             Err(kind) => Step::Stops(Stop::Failed(input.new_error(kind, position))),
         },
         Some(value) => {
-            if !is_block(blocks.begun, committed, position, input) {
+            if !is_block(blocks.begun, committed, since, input) {
                 let error = refusal_saying(input, position, "repetition takes nothing");
                 return Step::Stops(Stop::Failed(error));
             }
@@ -399,22 +393,12 @@ pub fn take_blocks<
         Ok(place) => place,
         Err(kind) => return ParseResult::CommitErr(input.new_error(lost(kind), position)),
     };
-    let mut blocks = match one_turn(
-        parser,
-        place,
-        mode,
-        blocks.joined(before > 0),
-        input,
-        &mut running,
-    ) {
-        Step::Goes(blocks) => blocks,
-        Step::Stops(why) => return settle(why, start, place, position, input, running, state),
-    };
+    let mut blocks = blocks.joined(before > 0);
     'turns: loop {
-        place = input.checkpoint();
-        match one_turn(parser, place, FirstMode, blocks, input, &mut running) {
+        match one_turn(parser, place, mode, blocks, input, &mut running) {
             Step::Goes(next) => blocks = next,
             Step::Stops(why) => return settle(why, start, place, position, input, running, state),
         }
+        place = input.checkpoint();
     }
 }

@@ -1,4 +1,5 @@
-use Rattle.std.proofs.Common.{◌≡◌, ◌+◌, length, true, if◌then◌else◌}
+use Rattle.std.proofs.Common.{◌≡◌, ◌+◌, length, if◌then◌else◌}
+use Rattle.combine_base.specs.Stream.View.{View}
 use Rattle.combine_base.specs.Parser.Answer.{world}
 use Rattle.combine_base.specs.Parser.Meaning.{MeansSame}
 use Rattle.combine_base.specs.Stream.Calls.{Passes}
@@ -14,13 +15,13 @@ invariant-turns g l = record {
   same : MeansSame (g.N.Parser.meaning l.fn.parser) (g.N.Parser.meaning l.parser);
   passes : Passes (g.Input.StreamOnce.marks l.fn.input) (g.Input.StreamOnce.marks l.input) (g.Input.StreamOnce.failures l.fn.input) (g.Input.StreamOnce.failures l.input);
   cleared : l.state ≡ Begin;
-  reaches : Reaches
+  there : (at : View _ _) × (g.Input.ResetStream.stands l.input l.place at) × (Reaches
       (world g.Input.StreamOnce.step g.Input.Error.ParseError.seen g.Input.StreamOnce.steady g.N.PartialState.Default.is_default)
       (some_appended g.F.Append.held g.F.Append.none g.F.Append.more g.F.Append.lean)
       (g.N.Parser.meaning l.fn.parser)
       (g.M.ParseMode.first l.fn.mode) l.fn.state (g.Input.StreamOnce.view l.fn.input) (g.Input.StreamOnce.failures l.fn.input)
-      true l.running (g.Input.StreamOnce.view l.input) (g.Input.StreamOnce.view l.input) (g.Input.StreamOnce.failures l.input)
-      (blocks_so_far g.F.Append.held l.blocks);
+      (g.M.ParseMode.first l.fn.mode) l.running at (g.Input.StreamOnce.view l.input) (g.Input.StreamOnce.failures l.input)
+      (blocks_so_far g.F.Append.held l.blocks));
 }
 
 abbrev pub decreases-turns : goal.decreases-turns
