@@ -43,15 +43,11 @@ is_not true e = refl
 is_not false e = absurd (cc)
 
 counted_one : (most n : ℕ) → nat_lt n most ≡ true → counted most n ≡ n + 1
-counted_one most n e = by_test (nat_lt (n + 1) most) refl
-  where
-    by_test : (b : Bool) → nat_lt (n + 1) most ≡ b → (if b then n + 1 else most) ≡ n + 1
-    by_test true i = refl
-    by_test false i = let x = ltb-true n most e in let y = ltb-false (n + 1) most i in omega arith
+counted_one most n e = rw e refl
 
 -- after a turn there was one
 after_one : (most n : ℕ) → 1 ≤ most → nat_lt (counted most n) 1 ≡ false
-after_one most n h = by_test (nat_lt (n + 1) most) refl
+after_one most n h = by_test (nat_lt n most) refl
   where
     at_least : (i : ℕ) → 1 ≤ i → nat_lt i 1 ≡ false
     at_least i l = by_lt (nat_lt i 1) refl
@@ -60,7 +56,7 @@ after_one most n h = by_test (nat_lt (n + 1) most) refl
         by_lt true e = absurd (let x = ltb-true i 1 e in omega arith)
         by_lt false e = refl
 
-    by_test : (b : Bool) → nat_lt (n + 1) most ≡ b → nat_lt (if b then n + 1 else most) 1 ≡ false
+    by_test : (b : Bool) → nat_lt n most ≡ b → nat_lt (if b then n + 1 else most) 1 ≡ false
     by_test true e = at_least (n + 1) (omega arith)
     by_test false e = at_least most h
 

@@ -33,7 +33,7 @@ limit (Counted least most) = most
 
 -- one more, up to a limit
 abbrev pub counted : ℕ → ℕ → ℕ
-counted most n = if nat_lt (n + 1) most then n + 1 else most
+counted most n = if nat_lt n most then n + 1 else most
 
 -- there are as many turns as there may be
 abbrev pub full_at : Bounds → Place → Bool

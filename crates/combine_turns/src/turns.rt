@@ -184,7 +184,7 @@ impl Place {
     fn next(self, limit: usize) -> Place
         ensures { result ≡ record { number = counted limit self.number; begun = false } }
     {
-        if self.number < limit.saturating_sub(1) {
+        if self.number < limit {
             return Place {
                 number: self.number + 1,
                 begun: false,
