@@ -61,11 +61,19 @@ impl ParseMode for PartialMode {
     }
 }
 
+/// What a parser answers over a stream, apart from how it parses.
+///
+/// It stands apart from [`Parser`] so that the compiler finds the value of a nested parser without going through all of its bounds; an implementation names a part once at most.
+pub trait Outputs<Input> {
+    /// The value of an acceptance.
+    type Output: Drop;
+}
+
 /// A parser over a stream.
 ///
 /// An implementation writes `parse_mode`, `add_error` and `parser_count`; the other calls have bodies over them.
 /// It gives its meaning, the laws of that meaning, and what its calls need.
-pub trait Parser<Input: Stream> {
+pub trait Parser<Input: Stream>: Outputs<Input> {
     ghost use Rattle.std.specs.Prelude.{◌≡◌, ℕ, true, false, Bool, Option, Some, None};
     ghost use Rattle.combine_base.specs.Stream.View.{View};
     ghost use Rattle.combine_base.specs.Parser.Meaning.{Meaning, IsMeaning, IsSingle, MeansOne, MeansSame, begun};
@@ -75,9 +83,6 @@ pub trait Parser<Input: Stream> {
     ghost use Rattle.combine_base.specs.Parser.Reasons.{Reasoned, kept_from};
     ghost use Rattle.combine_base.specs.Stream.Calls.{Passes};
     ghost use Rattle.combine_base.specs.declared.stream.Failures.{Failures};
-
-    /// The value of an acceptance.
-    type Output: Drop;
 
     /// What is kept while more input is needed.
     type PartialState: Default + Drop;

@@ -51,7 +51,7 @@ valid_from {S} {fresh} {valid} {first} {given} {s} h r v = by_mode first r
     by_mode true r = h s (r.afresh refl)
     by_mode false r = subst valid (sym (r.kept refl)) v
 
-module _ {N Input It I B C H U Checkpoint T R P E X : Type 0} (p : parser.Ghosts N Input B U Checkpoint T R P E X) (i : stream.Ghosts Input T R P E X) (seen : Errors T R P E) (fresh : U → Type 0) (answers : I → N → Type 0) (held : C → H) (none : H) (more : H → B → H) (at : It → List I → Type 0) (lists : List I → Type 0) (lean spared : Type 0) where
+module _ {N Input It I B C H U Checkpoint T R P E X : Type 0} (p : parser.Ghosts N Input U B Checkpoint T R P E X) (i : stream.Ghosts Input T R P E X) (seen : Errors T R P E) (fresh : U → Type 0) (answers : I → N → Type 0) (held : C → H) (none : H) (more : H → B → H) (at : It → List I → Type 0) (lists : List I → Type 0) (lean spared : Type 0) where
   abbrev all : Meaning P T R C (IterateState C It N U)
   all = iterated i.step answers p.lawful p.meaning held none more at lists spared
 
@@ -249,7 +249,7 @@ module _ {N Input It I B C H U Checkpoint T R P E X : Type 0} (p : parser.Ghosts
         by_answer (PeekErr t) a d k = absurd (let x : items.Goes next ≡ items.Stops (refused_as l.before.committed t) = d in cc)
 
 -- the state that is left is valid
-module _ {N Input It I B C H U Checkpoint T R P E X : Type 0} (p : parser.Ghosts N Input B U Checkpoint T R P E X) (i : stream.Ghosts Input T R P E X) (seen : Errors T R P E) (fresh : U → Type 0) (held : C → H) (more : H → B → H) (lean : Type 0) (at : It → List I → Type 0) where
+module _ {N Input It I B C H U Checkpoint T R P E X : Type 0} (p : parser.Ghosts N Input U B Checkpoint T R P E X) (i : stream.Ghosts Input T R P E X) (seen : Errors T R P E) (fresh : U → Type 0) (held : C → H) (more : H → B → H) (lean : Type 0) (at : It → List I → Type 0) where
   pub item_leaves : {input left : Input} {l : RunningItem C It N U} {state : IterateState C It N U} {y : Item C It E} → ((xs : List I) × at l.before.items xs) → CalledItem p i seen fresh held more lean input left l state y → valid_item p.lawful p.valid at state
   item_leaves {input} {left} {l} {state} {y} given g = by_need g.keeps
     where

@@ -106,7 +106,7 @@ module _ {Self Input Mode Checkpoint Token Range Position Error StreamError Outp
     pub given : it.given ≡ false
     pub stage : it.stage ≡ stages.Running
 
-module _ {Self Input Mode Checkpoint Token Range Position Error StreamError Output State : Type 0} (p : parser.Ghosts Self Input Output State Checkpoint Token Range Position Error StreamError) (i : stream.Ghosts Input Token Range Position Error StreamError) (first : Mode → Bool) where
+module _ {Self Input Mode Checkpoint Token Range Position Error StreamError Output State : Type 0} (p : parser.Ghosts Self Input State Output Checkpoint Token Range Position Error StreamError) (i : stream.Ghosts Input Token Range Position Error StreamError) (first : Mode → Bool) where
   -- the parser may be called from the state
   abbrev pub may_go_on : Iter Input Self Mode Checkpoint Token Range Position Error StreamError Output State → Type 0
   may_go_on it = Ready p it.parser it.state.now

@@ -30,7 +30,7 @@ kept_valid {N} {U} lawful valid {first} {given} {l} r v = by_mode first r
     by_mode true r = absurd (let e = r.afresh refl in cc)
     by_mode false r = subst (valid_made lawful valid) (sym (r.kept refl)) v
 
-module _ {N Input V U Checkpoint T R P E X : Type 0} (p : parser.Ghosts N Input V U Checkpoint T R P E X) (i : stream.Ghosts Input T R P E X) (seen : Errors T R P E) (fresh : U → Type 0) (makes : Makes P T N) (adds : List (Item T R) → Type 0) where
+module _ {N Input V U Checkpoint T R P E X : Type 0} (p : parser.Ghosts N Input U V Checkpoint T R P E X) (i : stream.Ghosts Input T R P E X) (seen : Errors T R P E) (fresh : U → Type 0) (makes : Makes P T N) (adds : List (Item T R) → Type 0) where
   abbrev all : Meaning P T R V (MadeState N U)
   all = made makes p.lawful p.meaning adds
 

@@ -31,7 +31,7 @@ valid_from {S} {fresh} {valid} {first} {given} {s} h r v = by_mode first r
     by_mode true r = h s (r.afresh refl)
     by_mode false r = subst valid (sym (r.kept refl)) v
 
-module _ {N Input V A B C S U Checkpoint T R P E X : Type 0} (p : parser.Ghosts N Input B U Checkpoint T R P E X) (i : stream.Ghosts Input T R P E X) (seen : Errors T R P E) (last_fresh : U → Type 0) (fresh valid : S → Type 0) (keep : A → V) (join : V → B → C) (answers : A → N → Type 0) (m : Meaning P T R A S) where
+module _ {N Input V A B C S U Checkpoint T R P E X : Type 0} (p : parser.Ghosts N Input U B Checkpoint T R P E X) (i : stream.Ghosts Input T R P E X) (seen : Errors T R P E) (last_fresh : U → Type 0) (fresh valid : S → Type 0) (keep : A → V) (join : V → B → C) (answers : A → N → Type 0) (m : Meaning P T R A S) where
   abbrev both : Meaning P T R C (AnsweredState S V N U)
   both = then i.step keep join answers p.lawful m p.meaning
 

@@ -8,7 +8,7 @@ use Rattle.combine_base.specs.declared.error.ParseResult.{ParseResult}
 use Rattle.combine_base.specs.declared.parser.Parser as parser
 use Rattle.combine_base.specs.declared.stream.StreamOnce as stream
 
-module _ {Self Input Output State Checkpoint Token Range Position Error StreamError : Type 0} (p : parser.Ghosts Self Input Output State Checkpoint Token Range Position Error StreamError) where
+module _ {Self Input Output State Checkpoint Token Range Position Error StreamError : Type 0} (p : parser.Ghosts Self Input State Output Checkpoint Token Range Position Error StreamError) where
   -- what a call from a state needs
   pub record Ready (self : Self) (state : State) : Type 0 where
     pub lawful : p.lawful self

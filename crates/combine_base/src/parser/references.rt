@@ -1,13 +1,15 @@
 //! A parser behind a reference.
 
 use crate::error::{ErrorOffset, ParseResult, Tracked};
-use crate::parser::{ParseMode, Parser};
+use crate::parser::{Outputs, ParseMode, Parser};
 use crate::stream::Stream;
+
+impl<Input, P: Outputs<Input>> Outputs<Input> for &mut P {
+    type Output = P::Output;
+}
 
 /// A reference to a parser parses as the parser does.
 impl<Input: Stream, P: Parser<Input>> Parser<Input> for &mut P {
-    type Output = P::Output;
-
     type PartialState = P::PartialState;
 
     ghost lawful = { λ p. P.lawful p.now };

@@ -5,7 +5,7 @@ ghost use Rattle.combine_base.specs.Sequence.Places.{begins_valid_1, begins_vali
 ghost use Rattle.combine_base.specs.Sequence.Tuples.{tuple_1, tuple_1_is_meaning, tuple_1_means_one, tuple_2, tuple_2_is_meaning, tuple_2_means_one, tuple_3, tuple_3_is_meaning, tuple_3_means_one, tuple_4, tuple_4_is_meaning, tuple_4_means_one};
 
 use crate::error::{ErrorOffset, ParseResult, Tracked};
-use crate::parser::{Calls, ParseMode, Parser};
+use crate::parser::{Calls, Outputs, ParseMode, Parser};
 use crate::sequence::part::{parse_rest, resume_last, take_state};
 use crate::sequence::{
     PartialState1, PartialState2, PartialState3, PartialState4, Placed, SequencePlace,
@@ -19,30 +19,30 @@ pub type State1<Input, A> = PartialState1<SequenceState<(), <A as Parser<Input>>
 
 pub type State2<Input, A, B> = PartialState2<
     SequenceState<(), <A as Parser<Input>>::PartialState>,
-    SequenceState<(<A as Parser<Input>>::Output,), <B as Parser<Input>>::PartialState>,
+    SequenceState<(<A as Outputs<Input>>::Output,), <B as Parser<Input>>::PartialState>,
 >;
 
 type State3<Input, A, B, C> = PartialState3<
     SequenceState<(), <A as Parser<Input>>::PartialState>,
-    SequenceState<(<A as Parser<Input>>::Output,), <B as Parser<Input>>::PartialState>,
+    SequenceState<(<A as Outputs<Input>>::Output,), <B as Parser<Input>>::PartialState>,
     SequenceState<
-        (<A as Parser<Input>>::Output, <B as Parser<Input>>::Output),
+        (<A as Outputs<Input>>::Output, <B as Outputs<Input>>::Output),
         <C as Parser<Input>>::PartialState,
     >,
 >;
 
 type State4<Input, A, B, C, D> = PartialState4<
     SequenceState<(), <A as Parser<Input>>::PartialState>,
-    SequenceState<(<A as Parser<Input>>::Output,), <B as Parser<Input>>::PartialState>,
+    SequenceState<(<A as Outputs<Input>>::Output,), <B as Parser<Input>>::PartialState>,
     SequenceState<
-        (<A as Parser<Input>>::Output, <B as Parser<Input>>::Output),
+        (<A as Outputs<Input>>::Output, <B as Outputs<Input>>::Output),
         <C as Parser<Input>>::PartialState,
     >,
     SequenceState<
         (
-            <A as Parser<Input>>::Output,
-            <B as Parser<Input>>::Output,
-            <C as Parser<Input>>::Output,
+            <A as Outputs<Input>>::Output,
+            <B as Outputs<Input>>::Output,
+            <C as Outputs<Input>>::Output,
         ),
         <D as Parser<Input>>::PartialState,
     >,
@@ -176,9 +176,11 @@ fn parse_4<
     }
 }
 
-impl<Input: Stream, A: Parser<Input>> Parser<Input> for (A,) {
+impl<Input, A: Outputs<Input>> Outputs<Input> for (A,) {
     type Output = (A::Output,);
+}
 
+impl<Input: Stream, A: Parser<Input>> Parser<Input> for (A,) {
     type PartialState = State1<Input, A>;
 
     ghost lawful = { λ p. A.lawful p.0 };
@@ -219,9 +221,11 @@ impl<Input: Stream, A: Parser<Input>> Parser<Input> for (A,) {
     ghost single = { λ p l d. tuple_1_means_one (A.single p.0 l d) };
 }
 
-impl<Input: Stream, A: Parser<Input>, B: Parser<Input>> Parser<Input> for (A, B) {
+impl<Input, A: Outputs<Input>, B: Outputs<Input>> Outputs<Input> for (A, B) {
     type Output = (A::Output, B::Output);
+}
 
+impl<Input: Stream, A: Parser<Input>, B: Parser<Input>> Parser<Input> for (A, B) {
     type PartialState = State2<Input, A, B>;
 
     ghost lawful = { λ p. A.lawful p.0 × B.lawful p.1 };
@@ -262,10 +266,12 @@ impl<Input: Stream, A: Parser<Input>, B: Parser<Input>> Parser<Input> for (A, B)
     ghost single = { λ p l d. tuple_2_means_one Input.step (A.single p.0 l.0 d.0) (B.single p.1 l.1 d.1) };
 }
 
+impl<Input, A: Outputs<Input>, B: Outputs<Input>, C: Outputs<Input>> Outputs<Input> for (A, B, C) {
+    type Output = (A::Output, B::Output, C::Output);
+}
+
 impl<Input: Stream, A: Parser<Input>, B: Parser<Input>, C: Parser<Input>> Parser<Input>
     for (A, B, C) {
-    type Output = (A::Output, B::Output, C::Output);
-
     type PartialState = State3<Input, A, B, C>;
 
     ghost lawful = { λ p. A.lawful p.0 × B.lawful p.1 × C.lawful p.2 };
@@ -317,11 +323,15 @@ impl<Input: Stream, A: Parser<Input>, B: Parser<Input>, C: Parser<Input>> Parser
     ghost single = { λ p l d. tuple_3_means_one Input.step (A.single p.0 l.0 d.0) (B.single p.1 l.1 d.1) (C.single p.2 l.2 d.2) };
 }
 
-impl<Input: Stream, A: Parser<Input>, B: Parser<Input>, C: Parser<Input>, D: Parser<Input>> Parser<
+impl<Input, A: Outputs<Input>, B: Outputs<Input>, C: Outputs<Input>, D: Outputs<Input>> Outputs<
     Input,
 > for (A, B, C, D) {
     type Output = (A::Output, B::Output, C::Output, D::Output);
+}
 
+impl<Input: Stream, A: Parser<Input>, B: Parser<Input>, C: Parser<Input>, D: Parser<Input>> Parser<
+    Input,
+> for (A, B, C, D) {
     type PartialState = State4<Input, A, B, C, D>;
 
     ghost lawful = { λ p. A.lawful p.0 × B.lawful p.1 × C.lawful p.2 × D.lawful p.3 };

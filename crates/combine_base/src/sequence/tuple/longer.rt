@@ -6,7 +6,7 @@ ghost use Rattle.combine_base.specs.Sequence.Places.{begins, begins_4, begins_va
 ghost use Rattle.combine_base.specs.Sequence.Tuples.{followed, tuple_4, tuple_4_is_meaning};
 
 use crate::error::{ErrorOffset, ParseResult, Tracked};
-use crate::parser::{ParseMode, Parser};
+use crate::parser::{Outputs, ParseMode, Parser};
 use crate::sequence::part::{Push, parse_rest, resume_last, take_state};
 use crate::sequence::tuple::{State4, add_counts, parse_4};
 use crate::sequence::{
@@ -279,29 +279,40 @@ fn parse_four_after<
 
 type State5<Input, A, B, C, D, E> = PartialState5<
     SequenceState<(), <A as Parser<Input>>::PartialState>,
-    SequenceState<(<A as Parser<Input>>::Output,), <B as Parser<Input>>::PartialState>,
+    SequenceState<(<A as Outputs<Input>>::Output,), <B as Parser<Input>>::PartialState>,
     SequenceState<
-        (<A as Parser<Input>>::Output, <B as Parser<Input>>::Output),
+        (<A as Outputs<Input>>::Output, <B as Outputs<Input>>::Output),
         <C as Parser<Input>>::PartialState,
     >,
     SequenceState<
         (
-            <A as Parser<Input>>::Output,
-            <B as Parser<Input>>::Output,
-            <C as Parser<Input>>::Output,
+            <A as Outputs<Input>>::Output,
+            <B as Outputs<Input>>::Output,
+            <C as Outputs<Input>>::Output,
         ),
         <D as Parser<Input>>::PartialState,
     >,
     SequenceState<
         (
-            <A as Parser<Input>>::Output,
-            <B as Parser<Input>>::Output,
-            <C as Parser<Input>>::Output,
-            <D as Parser<Input>>::Output,
+            <A as Outputs<Input>>::Output,
+            <B as Outputs<Input>>::Output,
+            <C as Outputs<Input>>::Output,
+            <D as Outputs<Input>>::Output,
         ),
         <E as Parser<Input>>::PartialState,
     >,
 >;
+
+impl<
+    Input,
+    A: Outputs<Input>,
+    B: Outputs<Input>,
+    C: Outputs<Input>,
+    D: Outputs<Input>,
+    E: Outputs<Input>,
+> Outputs<Input> for (A, B, C, D, E) {
+    type Output = (A::Output, B::Output, C::Output, D::Output, E::Output);
+}
 
 impl<
     Input: Stream,
@@ -311,8 +322,6 @@ impl<
     D: Parser<Input>,
     E: Parser<Input>,
 > Parser<Input> for (A, B, C, D, E) {
-    type Output = (A::Output, B::Output, C::Output, D::Output, E::Output);
-
     type PartialState = State5<Input, A, B, C, D, E>;
 
     ghost lawful = { λ p. A.lawful p.0 × B.lawful p.1 × C.lawful p.2 × D.lawful p.3 × E.lawful p.4 };
@@ -365,39 +374,58 @@ impl<
 
 type State6<Input, A, B, C, D, E, F> = PartialState6<
     SequenceState<(), <A as Parser<Input>>::PartialState>,
-    SequenceState<(<A as Parser<Input>>::Output,), <B as Parser<Input>>::PartialState>,
+    SequenceState<(<A as Outputs<Input>>::Output,), <B as Parser<Input>>::PartialState>,
     SequenceState<
-        (<A as Parser<Input>>::Output, <B as Parser<Input>>::Output),
+        (<A as Outputs<Input>>::Output, <B as Outputs<Input>>::Output),
         <C as Parser<Input>>::PartialState,
     >,
     SequenceState<
         (
-            <A as Parser<Input>>::Output,
-            <B as Parser<Input>>::Output,
-            <C as Parser<Input>>::Output,
+            <A as Outputs<Input>>::Output,
+            <B as Outputs<Input>>::Output,
+            <C as Outputs<Input>>::Output,
         ),
         <D as Parser<Input>>::PartialState,
     >,
     SequenceState<
         (
-            <A as Parser<Input>>::Output,
-            <B as Parser<Input>>::Output,
-            <C as Parser<Input>>::Output,
-            <D as Parser<Input>>::Output,
+            <A as Outputs<Input>>::Output,
+            <B as Outputs<Input>>::Output,
+            <C as Outputs<Input>>::Output,
+            <D as Outputs<Input>>::Output,
         ),
         <E as Parser<Input>>::PartialState,
     >,
     SequenceState<
         (
-            <A as Parser<Input>>::Output,
-            <B as Parser<Input>>::Output,
-            <C as Parser<Input>>::Output,
-            <D as Parser<Input>>::Output,
-            <E as Parser<Input>>::Output,
+            <A as Outputs<Input>>::Output,
+            <B as Outputs<Input>>::Output,
+            <C as Outputs<Input>>::Output,
+            <D as Outputs<Input>>::Output,
+            <E as Outputs<Input>>::Output,
         ),
         <F as Parser<Input>>::PartialState,
     >,
 >;
+
+impl<
+    Input,
+    A: Outputs<Input>,
+    B: Outputs<Input>,
+    C: Outputs<Input>,
+    D: Outputs<Input>,
+    E: Outputs<Input>,
+    F: Outputs<Input>,
+> Outputs<Input> for (A, B, C, D, E, F) {
+    type Output = (
+        A::Output,
+        B::Output,
+        C::Output,
+        D::Output,
+        E::Output,
+        F::Output,
+    );
+}
 
 impl<
     Input: Stream,
@@ -408,15 +436,6 @@ impl<
     E: Parser<Input>,
     F: Parser<Input>,
 > Parser<Input> for (A, B, C, D, E, F) {
-    type Output = (
-        A::Output,
-        B::Output,
-        C::Output,
-        D::Output,
-        E::Output,
-        F::Output,
-    );
-
     type PartialState = State6<Input, A, B, C, D, E, F>;
 
     ghost lawful = { λ p. A.lawful p.0 × B.lawful p.1 × C.lawful p.2 × D.lawful p.3 × E.lawful p.4 × F.lawful p.5 };
@@ -480,50 +499,71 @@ impl<
 
 type State7<Input, A, B, C, D, E, F, G> = PartialState7<
     SequenceState<(), <A as Parser<Input>>::PartialState>,
-    SequenceState<(<A as Parser<Input>>::Output,), <B as Parser<Input>>::PartialState>,
+    SequenceState<(<A as Outputs<Input>>::Output,), <B as Parser<Input>>::PartialState>,
     SequenceState<
-        (<A as Parser<Input>>::Output, <B as Parser<Input>>::Output),
+        (<A as Outputs<Input>>::Output, <B as Outputs<Input>>::Output),
         <C as Parser<Input>>::PartialState,
     >,
     SequenceState<
         (
-            <A as Parser<Input>>::Output,
-            <B as Parser<Input>>::Output,
-            <C as Parser<Input>>::Output,
+            <A as Outputs<Input>>::Output,
+            <B as Outputs<Input>>::Output,
+            <C as Outputs<Input>>::Output,
         ),
         <D as Parser<Input>>::PartialState,
     >,
     SequenceState<
         (
-            <A as Parser<Input>>::Output,
-            <B as Parser<Input>>::Output,
-            <C as Parser<Input>>::Output,
-            <D as Parser<Input>>::Output,
+            <A as Outputs<Input>>::Output,
+            <B as Outputs<Input>>::Output,
+            <C as Outputs<Input>>::Output,
+            <D as Outputs<Input>>::Output,
         ),
         <E as Parser<Input>>::PartialState,
     >,
     SequenceState<
         (
-            <A as Parser<Input>>::Output,
-            <B as Parser<Input>>::Output,
-            <C as Parser<Input>>::Output,
-            <D as Parser<Input>>::Output,
-            <E as Parser<Input>>::Output,
+            <A as Outputs<Input>>::Output,
+            <B as Outputs<Input>>::Output,
+            <C as Outputs<Input>>::Output,
+            <D as Outputs<Input>>::Output,
+            <E as Outputs<Input>>::Output,
         ),
         <F as Parser<Input>>::PartialState,
     >,
     SequenceState<
         (
-            <A as Parser<Input>>::Output,
-            <B as Parser<Input>>::Output,
-            <C as Parser<Input>>::Output,
-            <D as Parser<Input>>::Output,
-            <E as Parser<Input>>::Output,
-            <F as Parser<Input>>::Output,
+            <A as Outputs<Input>>::Output,
+            <B as Outputs<Input>>::Output,
+            <C as Outputs<Input>>::Output,
+            <D as Outputs<Input>>::Output,
+            <E as Outputs<Input>>::Output,
+            <F as Outputs<Input>>::Output,
         ),
         <G as Parser<Input>>::PartialState,
     >,
 >;
+
+impl<
+    Input,
+    A: Outputs<Input>,
+    B: Outputs<Input>,
+    C: Outputs<Input>,
+    D: Outputs<Input>,
+    E: Outputs<Input>,
+    F: Outputs<Input>,
+    G: Outputs<Input>,
+> Outputs<Input> for (A, B, C, D, E, F, G) {
+    type Output = (
+        A::Output,
+        B::Output,
+        C::Output,
+        D::Output,
+        E::Output,
+        F::Output,
+        G::Output,
+    );
+}
 
 impl<
     Input: Stream,
@@ -535,16 +575,6 @@ impl<
     F: Parser<Input>,
     G: Parser<Input>,
 > Parser<Input> for (A, B, C, D, E, F, G) {
-    type Output = (
-        A::Output,
-        B::Output,
-        C::Output,
-        D::Output,
-        E::Output,
-        F::Output,
-        G::Output,
-    );
-
     type PartialState = State7<Input, A, B, C, D, E, F, G>;
 
     ghost lawful = { λ p. A.lawful p.0 × B.lawful p.1 × C.lawful p.2 × D.lawful p.3 × E.lawful p.4 × F.lawful p.5 × G.lawful p.6 };
@@ -612,62 +642,85 @@ impl<
 
 type State8<Input, A, B, C, D, E, F, G, H> = PartialState8<
     SequenceState<(), <A as Parser<Input>>::PartialState>,
-    SequenceState<(<A as Parser<Input>>::Output,), <B as Parser<Input>>::PartialState>,
+    SequenceState<(<A as Outputs<Input>>::Output,), <B as Parser<Input>>::PartialState>,
     SequenceState<
-        (<A as Parser<Input>>::Output, <B as Parser<Input>>::Output),
+        (<A as Outputs<Input>>::Output, <B as Outputs<Input>>::Output),
         <C as Parser<Input>>::PartialState,
     >,
     SequenceState<
         (
-            <A as Parser<Input>>::Output,
-            <B as Parser<Input>>::Output,
-            <C as Parser<Input>>::Output,
+            <A as Outputs<Input>>::Output,
+            <B as Outputs<Input>>::Output,
+            <C as Outputs<Input>>::Output,
         ),
         <D as Parser<Input>>::PartialState,
     >,
     SequenceState<
         (
-            <A as Parser<Input>>::Output,
-            <B as Parser<Input>>::Output,
-            <C as Parser<Input>>::Output,
-            <D as Parser<Input>>::Output,
+            <A as Outputs<Input>>::Output,
+            <B as Outputs<Input>>::Output,
+            <C as Outputs<Input>>::Output,
+            <D as Outputs<Input>>::Output,
         ),
         <E as Parser<Input>>::PartialState,
     >,
     SequenceState<
         (
-            <A as Parser<Input>>::Output,
-            <B as Parser<Input>>::Output,
-            <C as Parser<Input>>::Output,
-            <D as Parser<Input>>::Output,
-            <E as Parser<Input>>::Output,
+            <A as Outputs<Input>>::Output,
+            <B as Outputs<Input>>::Output,
+            <C as Outputs<Input>>::Output,
+            <D as Outputs<Input>>::Output,
+            <E as Outputs<Input>>::Output,
         ),
         <F as Parser<Input>>::PartialState,
     >,
     SequenceState<
         (
-            <A as Parser<Input>>::Output,
-            <B as Parser<Input>>::Output,
-            <C as Parser<Input>>::Output,
-            <D as Parser<Input>>::Output,
-            <E as Parser<Input>>::Output,
-            <F as Parser<Input>>::Output,
+            <A as Outputs<Input>>::Output,
+            <B as Outputs<Input>>::Output,
+            <C as Outputs<Input>>::Output,
+            <D as Outputs<Input>>::Output,
+            <E as Outputs<Input>>::Output,
+            <F as Outputs<Input>>::Output,
         ),
         <G as Parser<Input>>::PartialState,
     >,
     SequenceState<
         (
-            <A as Parser<Input>>::Output,
-            <B as Parser<Input>>::Output,
-            <C as Parser<Input>>::Output,
-            <D as Parser<Input>>::Output,
-            <E as Parser<Input>>::Output,
-            <F as Parser<Input>>::Output,
-            <G as Parser<Input>>::Output,
+            <A as Outputs<Input>>::Output,
+            <B as Outputs<Input>>::Output,
+            <C as Outputs<Input>>::Output,
+            <D as Outputs<Input>>::Output,
+            <E as Outputs<Input>>::Output,
+            <F as Outputs<Input>>::Output,
+            <G as Outputs<Input>>::Output,
         ),
         <H as Parser<Input>>::PartialState,
     >,
 >;
+
+impl<
+    Input,
+    A: Outputs<Input>,
+    B: Outputs<Input>,
+    C: Outputs<Input>,
+    D: Outputs<Input>,
+    E: Outputs<Input>,
+    F: Outputs<Input>,
+    G: Outputs<Input>,
+    H: Outputs<Input>,
+> Outputs<Input> for (A, B, C, D, E, F, G, H) {
+    type Output = (
+        A::Output,
+        B::Output,
+        C::Output,
+        D::Output,
+        E::Output,
+        F::Output,
+        G::Output,
+        H::Output,
+    );
+}
 
 impl<
     Input: Stream,
@@ -680,17 +733,6 @@ impl<
     G: Parser<Input>,
     H: Parser<Input>,
 > Parser<Input> for (A, B, C, D, E, F, G, H) {
-    type Output = (
-        A::Output,
-        B::Output,
-        C::Output,
-        D::Output,
-        E::Output,
-        F::Output,
-        G::Output,
-        H::Output,
-    );
-
     type PartialState = State8<Input, A, B, C, D, E, F, G, H>;
 
     ghost lawful = { λ p. A.lawful p.0 × B.lawful p.1 × C.lawful p.2 × D.lawful p.3 × E.lawful p.4 × F.lawful p.5 × G.lawful p.6 × H.lawful p.7 };
