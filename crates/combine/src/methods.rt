@@ -50,7 +50,7 @@ pub trait ParserExt<Input: Stream>: Parser<Input> {
     }
 
     /// This parser and then another: the value of the other.
-    final fn with<Q>(self, other: Q) -> With<Self, Q>
+    final fn with<Q, B>(self, other: Q) -> With<Self, Q, B>
     where
         Self: Sized,
         ensures { result ≡ picked_of (self, other) }
@@ -59,7 +59,7 @@ pub trait ParserExt<Input: Stream>: Parser<Input> {
     }
 
     /// This parser and then another: the value of this one.
-    final fn skip<Q>(self, other: Q) -> Skip<Self, Q>
+    final fn skip<Q, A>(self, other: Q) -> Skip<Self, Q, A>
     where
         Self: Sized,
         ensures { result ≡ picked_of (self, other) }
@@ -68,7 +68,7 @@ pub trait ParserExt<Input: Stream>: Parser<Input> {
     }
 
     /// This parser and then the one that the function answers for its value.
-    final fn then<F>(self, f: F) -> Then<Self, F>
+    final fn then<F, B>(self, f: F) -> Then<Self, F, B>
     where
         Self: Sized,
         ensures { result ≡ then_of self f }
@@ -77,7 +77,7 @@ pub trait ParserExt<Input: Stream>: Parser<Input> {
     }
 
     /// This parser and then the one that the function answers for a mutable reference to its value.
-    final fn then_partial<F>(self, f: F) -> ThenPartial<Self, F>
+    final fn then_partial<F, B>(self, f: F) -> ThenPartial<Self, F, B>
     where
         Self: Sized,
         ensures { result ≡ then_partial_of self f }
@@ -86,7 +86,7 @@ pub trait ParserExt<Input: Stream>: Parser<Input> {
     }
 
     /// This parser and then the one that the function answers for a reference to its value: the pair of both values.
-    final fn then_ref<F>(self, f: F) -> ThenRef<Self, F>
+    final fn then_ref<F, B>(self, f: F) -> ThenRef<Self, F, B>
     where
         Self: Sized,
         ensures { result ≡ then_ref_of self f }
@@ -122,7 +122,7 @@ pub trait ParserExt<Input: Stream>: Parser<Input> {
     }
 
     /// This parser with its value changed or refused by the function, which answers what its error says.
-    final fn and_then<F>(self, f: F) -> AndThen<Self, F>
+    final fn and_then<F, B>(self, f: F) -> AndThen<Self, F, B>
     where
         Self: Sized,
         ensures { result ≡ and_then_of self f }
@@ -131,7 +131,7 @@ pub trait ParserExt<Input: Stream>: Parser<Input> {
     }
 
     /// This parser with its value changed or refused by the function, which answers the error.
-    final fn flat_map<F>(self, f: F) -> FlatMap<Self, F>
+    final fn flat_map<F, B>(self, f: F) -> FlatMap<Self, F, B>
     where
         Self: Sized,
         ensures { result ≡ flat_map_of self f }
@@ -140,7 +140,7 @@ pub trait ParserExt<Input: Stream>: Parser<Input> {
     }
 
     /// This parser with its value changed by the function, which is given the stream too.
-    final fn map_input<F>(self, f: F) -> MapInput<Self, F>
+    final fn map_input<F, B>(self, f: F) -> MapInput<Self, F, B>
     where
         Self: Sized,
         ensures { result ≡ map_input_of self f }
@@ -187,7 +187,7 @@ pub trait ParserExt<Input: Stream>: Parser<Input> {
     }
 
     /// This parser with its value changed by the function.
-    final fn map<F>(self, f: F) -> Map<Self, F>
+    final fn map<F, B>(self, f: F) -> Map<Self, F, B>
     where
         Self: Sized,
         ensures { result ≡ map_of self f }

@@ -16,10 +16,16 @@ pub use combine_token::choice::{OrState, optional, or, or_is_associative};
 pub use slice::{Slice, SliceState};
 use types::Choice;
 
+/// What a choice of these alternatives answers over a stream, as [`Outputs`](combine_base::parser::Outputs) has it for a parser.
+pub trait ChoiceOutputs<Input> {
+    /// The value of an acceptance.
+    type Output: Drop;
+}
+
 /// Alternatives of which the first, in order, that isn't refused peeked gives the answer; if all are refused peeked so is the choice, and their errors are merged in order.
 ///
 /// A committed refusal of an alternative ends the choice, and so does a fault. On need of more the running alternative is kept; where it is then refused peeked, the later ones are still tried, which the crate's choice doesn't do.
-pub trait ChoiceParser<Input: Stream> {
+pub trait ChoiceParser<Input: Stream>: ChoiceOutputs<Input> {
     ghost use Rattle.std.specs.Prelude.{◌≡◌, true, false, Bool, Option, Some, None};
     ghost use Rattle.combine_base.specs.Stream.View.{View};
     ghost use Rattle.combine_base.specs.Parser.Meaning.{Meaning, IsMeaning, MeansOne, MeansSame};
@@ -27,9 +33,6 @@ pub trait ChoiceParser<Input: Stream> {
     ghost use Rattle.combine_base.specs.Parser.Reasons.{Reasoned, kept_from};
     ghost use Rattle.combine_base.specs.Error.Errors.{Says};
     ghost use Rattle.combine_base.specs.Stream.Calls.{Passes};
-
-    /// The value of an acceptance.
-    type Output: Drop;
 
     /// What is kept while more input is needed: the running alternative and its state.
     type PartialState: Default + Drop;
@@ -124,10 +127,12 @@ pub trait ChoiceParser<Input: Stream> {
     ghost single: { (p : Self) → lawful p → determined p → MeansOne valid (meaning p) };
 }
 
+impl<'a, Input, P: ChoiceOutputs<Input>> ChoiceOutputs<Input> for &'a mut P {
+    type Output = P::Output;
+}
+
 /// A reference to alternatives chooses as they do.
 impl<'a, Input: Stream, P: ChoiceParser<Input>> ChoiceParser<Input> for &'a mut P {
-    type Output = P::Output;
-
     type PartialState = P::PartialState;
 
     ghost lawful = { λ p. P.lawful p.now };

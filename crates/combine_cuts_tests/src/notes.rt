@@ -2,7 +2,7 @@
 ghost use Rattle.std.specs.Prelude.{◌≡◌};
 
 use combine_base::error::{ErrorOffset, ParseResult, Tracked};
-use combine_base::parser::{ParseMode, Parser};
+use combine_base::parser::{Outputs, ParseMode, Parser};
 use combine_base::stream::Stream;
 use combine_stream::position::SourcePosition;
 
@@ -75,12 +75,14 @@ impl<P> Noting<P> {
     }
 }
 
+impl<Input, P: Outputs<Input>> Outputs<Input> for Noting<P> {
+    type Output = P::Output;
+}
+
 impl<Input: Stream, P: Parser<Input>> Parser<Input> for Noting<P>
 where
     Input::Position: Count,
 {
-    type Output = P::Output;
-
     type PartialState = P::PartialState;
 
     ghost lawful = { λ p. P.lawful p.part };

@@ -5,7 +5,7 @@ ghost use Rattle.combine_function_tests.specs.Nests.{closed as closed_round, ins
 ghost use Rattle.combine_function_tests.specs.Once.{RunsOnce};
 
 use combine_base::error::{ErrorOffset, ParseError, ParseResult, Tracked};
-use combine_base::parser::{ParseMode, Parser};
+use combine_base::parser::{Outputs, ParseMode, Parser};
 use combine_base::refusal::refusal_saying;
 use combine_base::stream::{Positioned, ResetStream, Stream, StreamOnce, needs_more};
 use combine_map::combinator::map;
@@ -106,12 +106,14 @@ where
     }
 }
 
+impl<Input> Outputs<Input> for Nest {
+    type Output = u32;
+}
+
 impl<Input: Stream<Token = u8>> Parser<Input> for Nest
 where
     Input::Error: ParseError<u8, Input::Range, Input::Position>,
 {
-    type Output = u32;
-
     type PartialState = ();
 
     ghost lawful = { λ p. Unit {0} };

@@ -5,7 +5,7 @@ ghost use Rattle.combine_base.specs.Parser.Meaning.{IsReading, IsSingle};
 ghost use Rattle.combine_grammar.specs.Apart.{Anything, RunsBehind, RunsOnce, SaysBehind, apart, apart_is_meaning, apart_means_one};
 
 use combine_base::error::{ErrorOffset, ParseError, ParseResult, Tracked};
-use combine_base::parser::{ParseMode, Parser};
+use combine_base::parser::{Outputs, ParseMode, Parser};
 use combine_base::stream::{Positioned, ResetStream, Stream, StreamOnce, asks_for_more};
 use combine_calls::{Call, Visitor};
 use std::alloc::Global;
@@ -122,12 +122,14 @@ where
     <C as Call>::accept::<Input, Laws>(alloc, Laws)
 }
 
+impl<Input, C: Call> Outputs<Input> for Apart<C> {
+    type Output = C::Output;
+}
+
 impl<Input: Stream<Token = u8>, C: Call> Parser<Input> for Apart<C>
 where
     Input::Error: ParseError<u8, Input::Range, Input::Position>,
 {
-    type Output = C::Output;
-
     type PartialState = ();
 
     ghost lawful = { λ p. IsReading (C.reading Input.Position Input.step) };

@@ -7,7 +7,7 @@ ghost use Rattle.combine_integers.specs.WholeNumbers.{RefusesShort, TooFew, numb
 
 use crate::order::Order;
 use combine_base::error::{ErrorOffset, ParseResult, Tracked};
-use combine_base::parser::{ParseMode, Parser};
+use combine_base::parser::{Outputs, ParseMode, Parser};
 use combine_base::refusal::no_token;
 use combine_base::stream::{Kind, Stream};
 use std::marker::PhantomData;
@@ -166,9 +166,11 @@ fn too_few<V, Input: Stream>(
     no_token(input, Kind::End, position)
 }
 
-impl<Input: Stream, O: Order<Input::Token>, N: Number> Parser<Input> for WholeNumber<Input, O, N> {
+impl<Input, O, N: Drop> Outputs<Input> for WholeNumber<Input, O, N> {
     type Output = N;
+}
 
+impl<Input: Stream, O: Order<Input::Token>, N: Number> Parser<Input> for WholeNumber<Input, O, N> {
     type PartialState = ();
 
     ghost lawful = { λ p. Unit {0} };

@@ -1,4 +1,5 @@
 -- `length_prefix` of a parser
+use Rattle.std.specs.Prelude.{ℕ}
 use Rattle.combine_functions.specs.Parsers.{changed_of}
 use Rattle.combine_functions.specs.declared.combinator.changed.Changed.{Changed}
 use Rattle.combine_lengths.specs.declared.range.prefix.AsLength.{AsLength}
@@ -8,5 +9,5 @@ use Rattle.combine_map.specs.declared.combinator.look.NoPartial.{NoPartial}
 use Rattle.combine_sequence.specs.Answered.{answered_of}
 use Rattle.combine_sequence.specs.declared.sequence.answered.Answered.{Answered}
 
-abbrev pub length_prefix_of : {Input Q : Type 0} → Q → NoPartial (Answered (Changed Q AsLength) (Taking Input))
+abbrev pub length_prefix_of : {Input Q R : Type 0} → Q → NoPartial (Answered (Changed Q AsLength ℕ) (Taking Input) R)
 length_prefix_of q = no_partial_of (answered_of (changed_of q (record {})) (record { 0 = record {} }))

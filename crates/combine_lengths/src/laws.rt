@@ -16,7 +16,7 @@ where
     Input::Range: Range,
     P::Output: TryInto<usize>,
     <P::Output as TryInto<usize>>::Error: Drop,
-    ensures { (v : View Input.Position Input.Token) (o : Outcome Input.Range) → (⟦<LengthPrefix<Input, P> as Parser<Input>>⟧.meaning (length_prefix_of p.now)).whole v o ↔ prefixed Input.step Input.size Input.spells P.Output.try_into_gives (P.meaning p.now).whole v o }
+    ensures { (v : View Input.Position Input.Token) (o : Outcome Input.Range) → (⟦<LengthPrefix<Input, P, Input::Range> as Parser<Input>>⟧.meaning (length_prefix_of p.now)).whole v o ↔ prefixed Input.step Input.size Input.spells P.Output.try_into_gives (P.meaning p.now).whole v o }
 {}
 
 /// It has one outcome where the part has one, and the values that the part may have at one place are the same length.
@@ -29,5 +29,5 @@ where
     requires determined { P.determined p.now }
     requires whole { OneLength P.Output.try_into_gives (P.meaning p.now).whole }
     requires rest { (s : P.PartialState) → P.valid s → OneLength P.Output.try_into_gives ((P.meaning p.now).rest s) }
-    ensures { ⟦<LengthPrefix<Input, P> as Parser<Input>>⟧.determined (length_prefix_of p.now) }
+    ensures { ⟦<LengthPrefix<Input, P, Input::Range> as Parser<Input>>⟧.determined (length_prefix_of p.now) }
 {}

@@ -18,7 +18,7 @@ use types::LengthPrefix;
 ///
 /// On need of more the stream is put back to where the parser began, and the next call begins again, with `p` too; the crate's keeps the length. Faults: those of `p`, `Read` and `Reset` where the stream failed, `Memory` where an error found none for its text. It counts as one parser.
 #[inline]
-pub fn length_prefix<Input, P>(p: P) -> LengthPrefix<Input, P>
+pub fn length_prefix<Input, P, R>(p: P) -> LengthPrefix<Input, P, R>
     ensures { result ≡ length_prefix_of p }
 {
     no_partial(Answered::new(Changed::new(p, AsLength), Taking(PhantomData)))

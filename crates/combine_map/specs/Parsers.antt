@@ -7,14 +7,14 @@ use Rattle.combine_map.specs.declared.combinator.types.Try.{Try}
 use Rattle.combine_map.specs.declared.combinator.values.Picked.{Picked}
 
 -- `map` of a parser and a function
-abbrev pub map_of : {P F : Type 0} → P → F → Map P F
-map_of p f = record { 0 = p; 1 = f }
+abbrev pub map_of : {P F B : Type 0} → P → F → Map P F B
+map_of p f = record { part = p; function = f; gives = record {} }
 
-abbrev pub map_part : {P F : Type 0} → Map P F → P
-map_part m = m.0
+abbrev pub map_part : {P F B : Type 0} → Map P F B → P
+map_part m = m.part
 
-abbrev pub map_function : {P F : Type 0} → Map P F → F
-map_function m = m.1
+abbrev pub map_function : {P F B : Type 0} → Map P F B → F
+map_function m = m.function
 
 -- `attempt` of a parser
 abbrev pub attempt_of : {P : Type 0} → P → Try P
@@ -24,10 +24,10 @@ abbrev pub attempt_part : {P : Type 0} → Try P → P
 attempt_part t = t.0
 
 -- the parser of this part, of whose value W says what is kept
-abbrev pub picked_of : {P W : Type 0} → P → Picked P W
-picked_of p = record { part = p; pick = record {} }
+abbrev pub picked_of : {P W B : Type 0} → P → Picked P W B
+picked_of p = record { part = p; pick = record {}; gives = record {} }
 
-abbrev pub picked_part : {P W : Type 0} → Picked P W → P
+abbrev pub picked_part : {P W B : Type 0} → Picked P W B → P
 picked_part t = t.part
 
 -- `look_ahead`, `not_followed_by` and `no_partial` of a parser

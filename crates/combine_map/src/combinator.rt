@@ -14,10 +14,10 @@ use types::{Ignore, LookAhead, Map, NoPartial, NotFollowedBy, Try};
 ///
 /// What is taken, refusals, faults and need of more are those of `p`, and so is the state. The crate takes an `FnMut`.
 #[inline]
-pub fn map<P, F>(p: P, f: F) -> Map<P, F>
+pub fn map<P, F, B>(p: P, f: F) -> Map<P, F, B>
     ensures { result ≡ map_of p f }
 {
-    Map(p, f)
+    Map::new(p, f)
 }
 
 /// As `p`, but every refusal is peeked, with the stream put back to where the parser began. Faults stay committed.

@@ -6,7 +6,7 @@ ghost use Rattle.combine_searches.specs.Searches.{IsOneSearch, IsSearch, Search,
 
 use crate::passing::{is_nothing, may_grow, not_found, pass_up_to};
 use combine_base::error::{ErrorOffset, ParseResult, Tracked};
-use combine_base::parser::{ParseMode, Parser};
+use combine_base::parser::{Outputs, ParseMode, Parser};
 use combine_base::stream::{Positioned, ResetStream, Stream, StreamOnce};
 use combine_range::passing::{begin, hand_out, keep_distance, no_range, not_passed, pass_items};
 use combine_stream::range::{Range, RangeStream};
@@ -69,12 +69,14 @@ pub struct Searching<Input, S> {
     pub(crate) reads: PhantomData<Input>,
 }
 
+impl<Input: Stream, S> Outputs<Input> for Searching<Input, S> {
+    type Output = Input::Range;
+}
+
 impl<Input: RangeStream, S: Searcher<Input>> Parser<Input> for Searching<Input, S>
 where
     Input::Range: Range,
 {
-    type Output = Input::Range;
-
     type PartialState = usize;
 
     ghost lawful = { λ p. S.callable p.searcher };

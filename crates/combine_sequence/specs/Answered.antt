@@ -19,23 +19,23 @@ use Rattle.combine_sequence.specs.declared.sequence.answered.asked.ByRef.{ByRef}
 use Rattle.combine_sequence.specs.declared.sequence.answered.asked.ByValue.{ByValue}
 
 -- the parsers of this crate, of their parts
-abbrev pub answered_of : {Q K : Type 0} → Q → K → Answered Q K
-answered_of q k = record { 0 = q; 1 = k }
+abbrev pub answered_of : {Q K B : Type 0} → Q → K → Answered Q K B
+answered_of q k = record { first = q; asked = k; gives = record {} }
 
-abbrev pub then_of : {Q F : Type 0} → Q → F → Answered Q (ByValue F)
+abbrev pub then_of : {Q F B : Type 0} → Q → F → Answered Q (ByValue F) B
 then_of q f = answered_of q (record { 0 = f })
 
-abbrev pub then_partial_of : {Q F : Type 0} → Q → F → Answered Q (ByMut F)
+abbrev pub then_partial_of : {Q F B : Type 0} → Q → F → Answered Q (ByMut F) B
 then_partial_of q f = answered_of q (record { 0 = f })
 
-abbrev pub then_ref_of : {Q F : Type 0} → Q → F → Answered Q (ByRef F)
+abbrev pub then_ref_of : {Q F B : Type 0} → Q → F → Answered Q (ByRef F) B
 then_ref_of q f = answered_of q (record { 0 = f })
 
-abbrev pub first_part : {Q K : Type 0} → Answered Q K → Q
-first_part p = p.0
+abbrev pub first_part : {Q K B : Type 0} → Answered Q K B → Q
+first_part p = p.first
 
-abbrev pub asked_part : {Q K : Type 0} → Answered Q K → K
-asked_part p = p.1
+abbrev pub asked_part : {Q K B : Type 0} → Answered Q K B → K
+asked_part p = p.asked
 
 -- nothing is kept of the first value, and the second is the value of both
 abbrev pub forget : {A : Type 0} → A → Unit {0}

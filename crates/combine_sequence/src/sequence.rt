@@ -15,7 +15,7 @@ use types::{Answered, Between, Skip, Then, ThenPartial, ThenRef, With};
 
 /// `p` and then `q`, with the value of `q`.
 #[inline]
-pub fn with<P, Q>(p: P, q: Q) -> With<P, Q>
+pub fn with<P, Q, B>(p: P, q: Q) -> With<P, Q, B>
     ensures { result ≡ picked_of (p, q) }
 {
     With::new((p, q))
@@ -23,7 +23,7 @@ pub fn with<P, Q>(p: P, q: Q) -> With<P, Q>
 
 /// `p` and then `q`, with the value of `p`.
 #[inline]
-pub fn skip<P, Q>(p: P, q: Q) -> Skip<P, Q>
+pub fn skip<P, Q, A>(p: P, q: Q) -> Skip<P, Q, A>
     ensures { result ≡ picked_of (p, q) }
 {
     Skip::new((p, q))
@@ -31,7 +31,7 @@ pub fn skip<P, Q>(p: P, q: Q) -> Skip<P, Q>
 
 /// `l`, then `p`, then `r`, with the value of `p`. It counts as one parser.
 #[inline]
-pub fn between<L, R, P>(l: L, r: R, p: P) -> Between<L, R, P>
+pub fn between<L, R, P, A>(l: L, r: R, p: P) -> Between<L, R, P, A>
     ensures { result ≡ picked_of (l, p, r) }
 {
     Between::new((l, p, r))
@@ -41,7 +41,7 @@ pub fn between<L, R, P>(l: L, r: R, p: P) -> Between<L, R, P>
 ///
 /// `f` is asked once, where `parser` is accepted: on need of more the state keeps the parser that it answered, and the next call goes on with that one. It is committed if one of the two is. A peeked refusal of the second is put back to where the second began, and says what stands there and what the second expects; it is committed if the first was. Every parser that `f` may answer has to be lawful. The crate takes an `FnMut`.
 #[inline]
-pub fn then<P, F>(parser: P, f: F) -> Then<P, F>
+pub fn then<P, F, B>(parser: P, f: F) -> Then<P, F, B>
     ensures { result ≡ then_of parser f }
 {
     Answered::new(parser, ByValue(f))
@@ -49,7 +49,7 @@ pub fn then<P, F>(parser: P, f: F) -> Then<P, F>
 
 /// As `then`, where the function takes a mutable reference to the value. The crate's hands its function the value as it stands in the state.
 #[inline]
-pub fn then_partial<P, F>(parser: P, f: F) -> ThenPartial<P, F>
+pub fn then_partial<P, F, B>(parser: P, f: F) -> ThenPartial<P, F, B>
     ensures { result ≡ then_partial_of parser f }
 {
     Answered::new(parser, ByMut(f))
@@ -57,7 +57,7 @@ pub fn then_partial<P, F>(parser: P, f: F) -> ThenPartial<P, F>
 
 /// As `then`, where the function takes a reference to the value: the value of both is the pair of both values.
 #[inline]
-pub fn then_ref<P, F>(parser: P, f: F) -> ThenRef<P, F>
+pub fn then_ref<P, F, B>(parser: P, f: F) -> ThenRef<P, F, B>
     ensures { result ≡ then_ref_of parser f }
 {
     Answered::new(parser, ByRef(f))

@@ -15,7 +15,7 @@ ghost use Rattle.combine_text.specs.Spelled.{SaysRange, listed_compares_once, li
 
 use crate::fits::Fits;
 use combine_base::error::{ErrorOffset, Info, ParseError, ParseResult, Tracked};
-use combine_base::parser::{ParseMode, Parser};
+use combine_base::parser::{Outputs, ParseMode, Parser};
 use combine_base::stream::Stream;
 use combine_token::token::{TokensState, match_list};
 use std::marker::PhantomData;
@@ -104,13 +104,15 @@ pub fn in_bytes<Input, F, S>(bytes: S, fits: F) -> InBytes<Input, F, S>
     }
 }
 
+impl<Input: Stream, F, S: Drop> Outputs<Input> for InBytes<Input, F, S> {
+    type Output = S;
+}
+
 impl<Input: Stream, F: Fits<u8, Input::Token>, S: LastingBytes> Parser<Input>
     for InBytes<Input, F, S>
 where
     Input::Range: ShowsBytes,
 {
-    type Output = S;
-
     type PartialState = TokensState;
 
     ghost lawful = { λ p. F.ready (fits_of_bytes p) };

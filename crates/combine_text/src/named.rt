@@ -5,7 +5,7 @@ ghost use Rattle.combine_text.specs.Named.{named, named_is_meaning, named_means_
 
 use crate::class::Text;
 use combine_base::error::{ErrorOffset, Info, ParseError, ParseResult, Tracked};
-use combine_base::parser::{ParseMode, Parser};
+use combine_base::parser::{Outputs, ParseMode, Parser};
 use combine_base::stream::Stream;
 use std::marker::PhantomData;
 
@@ -27,9 +27,11 @@ pub fn naming<P, N>(parser: P) -> Named<P, N>
     }
 }
 
-impl<Input: Stream, P: Parser<Input>, N: Text> Parser<Input> for Named<P, N> {
+impl<Input, P: Outputs<Input>, N> Outputs<Input> for Named<P, N> {
     type Output = P::Output;
+}
 
+impl<Input: Stream, P: Parser<Input>, N: Text> Parser<Input> for Named<P, N> {
     type PartialState = P::PartialState;
 
     ghost lawful = { λ p. P.lawful (parser_named p) };

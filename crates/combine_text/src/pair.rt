@@ -8,7 +8,7 @@ ghost use Rattle.combine_text.specs.Again.{BeginsAgain, whole_pair, whole_pair_i
 ghost use Rattle.combine_text.specs.TextParsers.{pair_of, whole_pair_parser};
 
 use combine_base::error::{ErrorOffset, ParseResult, Tracked};
-use combine_base::parser::{ParseMode, Parser};
+use combine_base::parser::{Outputs, ParseMode, Parser};
 use combine_base::stream::{Positioned, ResetStream, Stream, StreamOnce, needs_more};
 
 /// As its part, a parser of pairs, with the second value. It keeps no state: on need of more the stream is put back, and the next call begins again.
@@ -23,10 +23,12 @@ pub fn whole_pair<P>(pair: P) -> WholePair<P>
     WholePair(pair)
 }
 
+impl<Input, A: Drop, B: Drop, P: Outputs<Input, Output = (A, B)>> Outputs<Input> for WholePair<P> {
+    type Output = B;
+}
+
 impl<Input: Stream, A: Drop, B: Drop, P: Parser<Input, Output = (A, B)>> Parser<Input>
     for WholePair<P> {
-    type Output = B;
-
     type PartialState = ();
 
     ghost lawful = { λ p. P.lawful (pair_of p) };

@@ -17,7 +17,7 @@ ghost use Rattle.combine_text.specs.Spelled.{listed_compares_once, listed_ends_o
 
 use crate::fits::Fits;
 use combine_base::error::{ErrorOffset, Info, ParseError, ParseResult, Tracked};
-use combine_base::parser::{ParseMode, Parser};
+use combine_base::parser::{Outputs, ParseMode, Parser};
 use combine_base::stream::Stream;
 use combine_token::token::{TokensState, match_list};
 use std::marker::PhantomData;
@@ -79,10 +79,12 @@ pub fn in_text<Input, F, S>(text: S, fits: F) -> InText<Input, F, S>
     }
 }
 
+impl<Input: Stream, F, S: Drop> Outputs<Input> for InText<Input, F, S> {
+    type Output = S;
+}
+
 impl<Input: Stream, F: Fits<char, Input::Token>, S: LastingText> Parser<Input>
     for InText<Input, F, S> {
-    type Output = S;
-
     type PartialState = TokensState;
 
     ghost lawful = { λ p. F.ready (fits_of_text p) };

@@ -5,7 +5,7 @@ ghost use Rattle.combine_until.specs.Next.{next, next_is_meaning, next_means_one
 ghost use Rattle.combine_until.specs.UntilParsers.{next_end, next_of, next_part};
 
 use combine_base::error::{ErrorOffset, ParseResult, Tracked};
-use combine_base::parser::{ParseMode, Parser};
+use combine_base::parser::{Outputs, ParseMode, Parser};
 use combine_base::stream::Stream;
 use combine_map::combinator::types::{Pick, Picked};
 use combine_token::choice::OrState;
@@ -65,8 +65,8 @@ impl<A: Drop, B: Drop> Pick<B> for Absent<A> {
 #[derive(Drop)]
 #[derive_where(Clone, Copy; P, E)]
 pub struct Next<A, P, E> {
-    pub(crate) end: Picked<E, Absent<A>>,
-    pub(crate) part: Picked<P, Present>,
+    pub(crate) end: Picked<E, Absent<A>, Option<A>>,
+    pub(crate) part: Picked<P, Present, Option<A>>,
 }
 
 impl<A, P, E> Next<A, P, E> {
@@ -88,10 +88,12 @@ pub type NextState<Input, P, E> = OrState<
     <P as Parser<Input>>::PartialState,
 >;
 
+impl<Input, A: Drop, P, E> Outputs<Input> for Next<A, P, E> {
+    type Output = Option<A>;
+}
+
 impl<Input: Stream, A: Drop, P: Parser<Input, Output = A>, E: Parser<Input>> Parser<Input>
     for Next<A, P, E> {
-    type Output = Option<A>;
-
     type PartialState = NextState<Input, P, E>;
 
     ghost lawful = { λ p. E.lawful (next_end p) × P.lawful (next_part p) };

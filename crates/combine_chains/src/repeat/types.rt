@@ -10,7 +10,7 @@ ghost use Rattle.combine_turns.specs.Bounded.{begun_valid, running_turn};
 
 use crate::operands::{EachOperand, Operands};
 use combine_base::error::{ErrorOffset, ParseResult, Tracked};
-use combine_base::parser::{ParseMode, Parser};
+use combine_base::parser::{Outputs, ParseMode, Parser};
 use combine_base::sequence::State2;
 use combine_base::stream::Stream;
 use combine_map::combinator::types::{Ignore, NoPartial};
@@ -41,14 +41,16 @@ pub struct RightFold<P, S> {
     pub(super) turn: Separated<P, S>,
 }
 
+impl<Input, P: Outputs<Input>, S> Outputs<Input> for RightFold<P, S> {
+    type Output = P::Output;
+}
+
 impl<Input: Stream, P: Parser<Input>, S: Parser<Input>> Parser<Input> for RightFold<P, S>
 where
     S::Output: FnOnce(P::Output, P::Output) -> P::Output,
 {
     ghost use Rattle.std.specs.Prelude.{None};
     ghost use Rattle.combine_turns.specs.declared.turns.Bounds.TheVariants.{Joined};
-
-    type Output = P::Output;
 
     type PartialState = TurnsState<
         Operands<S::Output, P::Output>,

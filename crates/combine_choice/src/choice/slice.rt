@@ -10,9 +10,9 @@ ghost use Rattle.combine_choice.specs.Chosen.{AllSame, choice_of, slice_valid};
 ghost use Rattle.combine_choice.specs.Merged.{RefusesChoice, tried_refuses};
 ghost use Rattle.combine_choice.specs.OneTurn.{NoAlternative, Resumes, Turn};
 
-use super::ChoiceParser;
+use super::{ChoiceOutputs, ChoiceParser};
 use combine_base::error::{ParseResult, Tracked};
-use combine_base::parser::{FirstMode, ParseMode, Parser, PartialMode};
+use combine_base::parser::{FirstMode, Outputs, ParseMode, Parser, PartialMode};
 use combine_base::refusal::{peeked, refusal_saying};
 use combine_base::stream::{Stream, asks_for_more};
 use combine_token::choice::after_refusal;
@@ -234,13 +234,15 @@ fn add_errors<Input: Stream, P: Parser<Input>>(
     }
 }
 
+impl<'a, Input, P: Outputs<Input>> ChoiceOutputs<Input> for Slice<'a, P> {
+    type Output = P::Output;
+}
+
 impl<'a, Input: Stream, P: Parser<Input>> ChoiceParser<Input> for Slice<'a, P> {
     ghost use Rattle.std.specs.List.{All};
     ghost use Rattle.combine_base.specs.Parser.Meaning.{IsMeaning, MeansOne};
     ghost use Rattle.combine_choice.specs.Chosen.{chosen_is_meaning, chosen_means_one, choice_of, every_all, every_both, slice_valid};
     ghost use Rattle.combine_choice.specs.Merged.{RefusesChoice};
-
-    type Output = P::Output;
 
     type PartialState = SliceState<P::PartialState>;
 
@@ -275,14 +277,16 @@ impl<'a, Input: Stream, P: Parser<Input>> ChoiceParser<Input> for Slice<'a, P> {
     }
 }
 
+impl<Input, P: Outputs<Input>, const N: usize> ChoiceOutputs<Input> for [P; N] {
+    type Output = P::Output;
+}
+
 /// An array is parsed as the slice of its alternatives.
 impl<Input: Stream, P: Parser<Input>, const N: usize> ChoiceParser<Input> for [P; N] {
     ghost use Rattle.std.specs.List.{All};
     ghost use Rattle.combine_base.specs.Parser.Meaning.{IsMeaning, MeansOne};
     ghost use Rattle.combine_choice.specs.Chosen.{chosen_is_meaning, chosen_means_one, choice_of, every_all, every_both, slice_valid};
     ghost use Rattle.combine_choice.specs.Merged.{RefusesChoice};
-
-    type Output = P::Output;
 
     type PartialState = SliceState<P::PartialState>;
 

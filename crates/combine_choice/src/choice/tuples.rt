@@ -1,19 +1,21 @@
 //! Choices over the parsers of a tuple of 1 to 8.
 
-use super::ChoiceParser;
 use super::lent::{
     State3, State4, State5, State6, State7, State8, choose_3, choose_4, choose_5, choose_6,
     choose_7, choose_8,
 };
+use super::{ChoiceOutputs, ChoiceParser};
 use combine_base::error::{ParseResult, Tracked};
-use combine_base::parser::{ParseMode, Parser};
+use combine_base::parser::{Outputs, ParseMode, Parser};
 use combine_base::stream::Stream;
 use combine_token::choice::lent::{State2, choose_2};
 
+impl<Input, A: Outputs<Input>> ChoiceOutputs<Input> for (A,) {
+    type Output = A::Output;
+}
+
 /// The choice of one parser is that parser.
 impl<Input: Stream, A: Parser<Input>> ChoiceParser<Input> for (A,) {
-    type Output = A::Output;
-
     type PartialState = A::PartialState;
 
     ghost lawful = { λ p. A.lawful p.0 };
@@ -47,6 +49,10 @@ impl<Input: Stream, A: Parser<Input>> ChoiceParser<Input> for (A,) {
     }
 }
 
+impl<Input, A: Outputs<Input>, B> ChoiceOutputs<Input> for (A, B) {
+    type Output = A::Output;
+}
+
 impl<Input: Stream, A: Parser<Input>, B: Parser<Input, Output = A::Output>> ChoiceParser<Input>
     for (A, B) {
     ghost use Rattle.std.specs.Prelude.{◌≡◌};
@@ -54,8 +60,6 @@ impl<Input: Stream, A: Parser<Input>, B: Parser<Input, Output = A::Output>> Choi
     ghost use Rattle.combine_token.specs.Reasons.{RefusesOr};
     ghost use Rattle.combine_token.specs.declared.choice.OrState.TheVariants.{Peek};
     ghost use Rattle.combine_choice.specs.Nested.{nest_laws, nest_one};
-
-    type Output = A::Output;
 
     type PartialState = State2<Input, A, B>;
 
@@ -91,6 +95,10 @@ impl<Input: Stream, A: Parser<Input>, B: Parser<Input, Output = A::Output>> Choi
     }
 }
 
+impl<Input, A: Outputs<Input>, B, C> ChoiceOutputs<Input> for (A, B, C) {
+    type Output = A::Output;
+}
+
 impl<
     Input: Stream,
     A: Parser<Input>,
@@ -102,8 +110,6 @@ impl<
     ghost use Rattle.combine_token.specs.Reasons.{RefusesOr};
     ghost use Rattle.combine_token.specs.declared.choice.OrState.TheVariants.{Peek};
     ghost use Rattle.combine_choice.specs.Nested.{nest_laws, nest_one};
-
-    type Output = A::Output;
 
     type PartialState = State3<Input, A, B, C>;
 
@@ -140,6 +146,10 @@ impl<
     }
 }
 
+impl<Input, A: Outputs<Input>, B, C, D> ChoiceOutputs<Input> for (A, B, C, D) {
+    type Output = A::Output;
+}
+
 impl<
     Input: Stream,
     A: Parser<Input>,
@@ -152,8 +162,6 @@ impl<
     ghost use Rattle.combine_token.specs.Reasons.{RefusesOr};
     ghost use Rattle.combine_token.specs.declared.choice.OrState.TheVariants.{Peek};
     ghost use Rattle.combine_choice.specs.Nested.{nest_laws, nest_one};
-
-    type Output = A::Output;
 
     type PartialState = State4<Input, A, B, C, D>;
 
@@ -199,6 +207,10 @@ impl<
     }
 }
 
+impl<Input, A: Outputs<Input>, B, C, D, E> ChoiceOutputs<Input> for (A, B, C, D, E) {
+    type Output = A::Output;
+}
+
 impl<
     Input: Stream,
     A: Parser<Input>,
@@ -212,8 +224,6 @@ impl<
     ghost use Rattle.combine_token.specs.Reasons.{RefusesOr};
     ghost use Rattle.combine_token.specs.declared.choice.OrState.TheVariants.{Peek};
     ghost use Rattle.combine_choice.specs.Nested.{nest_laws, nest_one};
-
-    type Output = A::Output;
 
     type PartialState = State5<Input, A, B, C, D, E>;
 
@@ -261,6 +271,10 @@ impl<
     }
 }
 
+impl<Input, A: Outputs<Input>, B, C, D, E, F> ChoiceOutputs<Input> for (A, B, C, D, E, F) {
+    type Output = A::Output;
+}
+
 impl<
     Input: Stream,
     A: Parser<Input>,
@@ -275,8 +289,6 @@ impl<
     ghost use Rattle.combine_token.specs.Reasons.{RefusesOr};
     ghost use Rattle.combine_token.specs.declared.choice.OrState.TheVariants.{Peek};
     ghost use Rattle.combine_choice.specs.Nested.{nest_laws, nest_one};
-
-    type Output = A::Output;
 
     type PartialState = State6<Input, A, B, C, D, E, F>;
 
@@ -326,6 +338,10 @@ impl<
     }
 }
 
+impl<Input, A: Outputs<Input>, B, C, D, E, F, G> ChoiceOutputs<Input> for (A, B, C, D, E, F, G) {
+    type Output = A::Output;
+}
+
 impl<
     Input: Stream,
     A: Parser<Input>,
@@ -341,8 +357,6 @@ impl<
     ghost use Rattle.combine_token.specs.Reasons.{RefusesOr};
     ghost use Rattle.combine_token.specs.declared.choice.OrState.TheVariants.{Peek};
     ghost use Rattle.combine_choice.specs.Nested.{nest_laws, nest_one};
-
-    type Output = A::Output;
 
     type PartialState = State7<Input, A, B, C, D, E, F, G>;
 
@@ -394,6 +408,11 @@ impl<
     }
 }
 
+impl<Input, A: Outputs<Input>, B, C, D, E, F, G, H> ChoiceOutputs<Input>
+    for (A, B, C, D, E, F, G, H) {
+    type Output = A::Output;
+}
+
 impl<
     Input: Stream,
     A: Parser<Input>,
@@ -410,8 +429,6 @@ impl<
     ghost use Rattle.combine_token.specs.Reasons.{RefusesOr};
     ghost use Rattle.combine_token.specs.declared.choice.OrState.TheVariants.{Peek};
     ghost use Rattle.combine_choice.specs.Nested.{nest_laws, nest_one};
-
-    type Output = A::Output;
 
     type PartialState = State8<Input, A, B, C, D, E, F, G, H>;
 

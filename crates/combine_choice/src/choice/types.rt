@@ -1,8 +1,8 @@
 //! The parsers that the functions of `choice` answer.
 
-use super::ChoiceParser;
+use super::{ChoiceOutputs, ChoiceParser};
 use combine_base::error::{ErrorOffset, ParseResult, Tracked};
-use combine_base::parser::{ParseMode, Parser};
+use combine_base::parser::{Outputs, ParseMode, Parser};
 use combine_base::stream::Stream;
 pub use combine_token::choice::types::{Optional, Or};
 
@@ -10,9 +10,11 @@ pub use combine_token::choice::types::{Optional, Or};
 #[derive(Clone, Copy, Drop)]
 pub struct Choice<P>(pub(super) P);
 
-impl<Input: Stream, P: ChoiceParser<Input>> Parser<Input> for Choice<P> {
+impl<Input, P: ChoiceOutputs<Input>> Outputs<Input> for Choice<P> {
     type Output = P::Output;
+}
 
+impl<Input: Stream, P: ChoiceParser<Input>> Parser<Input> for Choice<P> {
     type PartialState = P::PartialState;
 
     ghost lawful = { λ p. P.lawful p.0 };

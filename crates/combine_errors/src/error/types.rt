@@ -10,7 +10,7 @@ ghost use Rattle.combine_errors.specs.Shaped.{hushed_part, named_info, named_par
 
 use crate::info::copied;
 use combine_base::error::{ErrorOffset, Info, ParseError, ParseResult, Tracked};
-use combine_base::parser::{ParseMode, Parser};
+use combine_base::parser::{Outputs, ParseMode, Parser};
 use combine_base::stream::{Kind, Stream, StreamOnce};
 use std::alloc::AllocError;
 
@@ -119,10 +119,13 @@ fn hush<O: Drop, Input: Stream>(
     }
 }
 
-impl<Input: Stream, P: Parser<Input>> Parser<Input>
+impl<Input: Stream, P: Outputs<Input>> Outputs<Input>
     for Message<P, Info<Input::Token, Input::Range>> {
     type Output = P::Output;
+}
 
+impl<Input: Stream, P: Parser<Input>> Parser<Input>
+    for Message<P, Info<Input::Token, Input::Range>> {
     type PartialState = P::PartialState;
 
     ghost lawful = { λ p. P.lawful (told_part p) };
@@ -166,9 +169,11 @@ impl<Input: Stream, P: Parser<Input>> Parser<Input>
     }
 }
 
-impl<Input: Stream, P: Parser<Input>> Parser<Input> for Silent<P> {
+impl<Input, P: Outputs<Input>> Outputs<Input> for Silent<P> {
     type Output = P::Output;
+}
 
+impl<Input: Stream, P: Parser<Input>> Parser<Input> for Silent<P> {
     type PartialState = P::PartialState;
 
     ghost lawful = { λ p. P.lawful (hushed_part p) };
@@ -209,10 +214,13 @@ impl<Input: Stream, P: Parser<Input>> Parser<Input> for Silent<P> {
     }
 }
 
-impl<Input: Stream, P: Parser<Input>> Parser<Input>
+impl<Input: Stream, P: Outputs<Input>> Outputs<Input>
     for Expected<P, Info<Input::Token, Input::Range>> {
     type Output = P::Output;
+}
 
+impl<Input: Stream, P: Parser<Input>> Parser<Input>
+    for Expected<P, Info<Input::Token, Input::Range>> {
     type PartialState = P::PartialState;
 
     ghost lawful = { λ p. P.lawful (named_part p) };

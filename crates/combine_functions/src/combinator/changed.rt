@@ -4,9 +4,10 @@ ghost use Rattle.combine_functions.specs.Changes.{DecidesOne, RefusesChanged, ch
 ghost use Rattle.combine_functions.specs.Parsers.{changed_of, changed_part, change_part};
 
 use combine_base::error::{ErrorOffset, ParseResult, Tracked};
-use combine_base::parser::{ParseMode, Parser};
+use combine_base::parser::{Outputs, ParseMode, Parser};
 use combine_base::refusal::peeked;
 use combine_base::stream::{Positioned, Stream, StreamOnce};
+use std::marker::PhantomData;
 
 /// How a value is changed, or refused. Our own: the crate writes each of its parsers by itself.
 pub trait Change<Input: Stream, A> {
@@ -45,26 +46,36 @@ pub trait Change<Input: Stream, A> {
         ensures changes { Changes Input.Error.seen (gives self.now (Input.view input.old).position value) (denies self.now value) (starves self.now value) (says self.now began value) result };
 }
 
-/// As its part, the value changed, or refused; the state is that of the part.
-#[derive(Clone, Copy, Drop)]
-pub struct Changed<P, C> {
+/// As its part, the value changed into a `B`, or refused; the state is that of the part.
+#[derive(Drop)]
+#[derive_where(Clone, Copy; P, C)]
+pub struct Changed<P, C, B> {
     part: P,
     change: C,
+    gives: PhantomData<B>,
 }
 
-impl<P, C> Changed<P, C> {
+impl<P, C, B> Changed<P, C, B> {
     /// The parser of this part and this change.
     #[inline]
     pub fn new(part: P, change: C) -> Self
         ensures { result ≡ changed_of part change }
     {
-        Changed { part, change }
+        Changed {
+            part,
+            change,
+            gives: PhantomData,
+        }
     }
 }
 
-impl<Input: Stream, P: Parser<Input>, C: Change<Input, P::Output>> Parser<Input> for Changed<P, C> {
-    type Output = C::Output;
+impl<Input, P, C, B: Drop> Outputs<Input> for Changed<P, C, B> {
+    type Output = B;
+}
 
+impl<Input: Stream, P: Parser<Input>, B: Drop, C: Change<Input, P::Output, Output = B>> Parser<
+    Input,
+> for Changed<P, C, B> {
     type PartialState = P::PartialState;
 
     ghost lawful = { λ p. P.lawful (changed_part p) × C.callable (change_part p) };
@@ -91,7 +102,7 @@ impl<Input: Stream, P: Parser<Input>, C: Change<Input, P::Output>> Parser<Input>
         mode: M,
         input: &mut Input,
         state: &mut Self::PartialState,
-    ) -> ParseResult<C::Output, Input::Error> {
+    ) -> ParseResult<B, Input::Error> {
         let began = input.position();
         match self.part.parse_mode(mode, input, state) {
             ParseResult::CommitOk(value) => match self.change.change(value, began, input) {

@@ -4,13 +4,13 @@ pub use super::changed::Changed;
 pub use super::changes::{Answering, Read, Seeing, Trying};
 
 /// The parser of [`and_then`](crate::combinator::and_then).
-pub type AndThen<P, F> = Changed<P, Trying<F>>;
+pub type AndThen<P, F, B> = Changed<P, Trying<F>, B>;
 
 /// The parser of [`flat_map`](crate::combinator::flat_map).
-pub type FlatMap<P, F> = Changed<P, Answering<F>>;
+pub type FlatMap<P, F, B> = Changed<P, Answering<F>, B>;
 
 /// The parser of [`map_input`](crate::combinator::map_input).
-pub type MapInput<P, F> = Changed<P, Seeing<F>>;
+pub type MapInput<P, F, B> = Changed<P, Seeing<F>, B>;
 
 /// The parser of [`from_str`](crate::combinator::from_str), which reads a `T`.
-pub type FromStr<P, T> = Changed<P, Read<T>>;
+pub type FromStr<P, T> = Changed<P, Read<T>, T>;

@@ -6,7 +6,7 @@ ghost use Rattle.combine_token.specs.ListAnswers.{NoText};
 ghost use Rattle.combine_functions.specs.Refusing.{RefusesThere, refuses_all, refuses_all_is_meaning, refuses_all_means_one, unexpected_info};
 
 use combine_base::error::{ErrorOffset, Info, ParseError, ParseResult, Tracked};
-use combine_base::parser::{ParseMode, Parser};
+use combine_base::parser::{Outputs, ParseMode, Parser};
 use combine_base::stream::{Kind, Positioned, Stream, StreamOnce};
 use std::alloc::AllocError;
 use std::marker::PhantomData;
@@ -46,10 +46,13 @@ fn copied<T: Copy, R: Copy>(info: &Info<T, R>) -> Result<Info<T, R>, AllocError>
     }
 }
 
-impl<Input: Stream, V: Drop> Parser<Input>
+impl<Input: Stream, V: Drop> Outputs<Input>
     for Unexpected<Input, V, Info<Input::Token, Input::Range>> {
     type Output = V;
+}
 
+impl<Input: Stream, V: Drop> Parser<Input>
+    for Unexpected<Input, V, Info<Input::Token, Input::Range>> {
     type PartialState = ();
 
     ghost lawful = { λ p. Unit {0} };

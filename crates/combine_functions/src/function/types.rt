@@ -5,7 +5,7 @@ ghost use Rattle.combine_base.specs.Parser.Meaning.{IsSingle};
 ghost use Rattle.combine_functions.specs.Functions.{AnswersAt, AnswersWith, FunctionReading, IsFunction, NeedsNoMemory, RefusesCalled, as_function, as_function_is_meaning, as_function_means_one, call_of};
 
 use combine_base::error::{ErrorOffset, ParseResult, StdParseResult, Tracked};
-use combine_base::parser::{ParseMode, Parser};
+use combine_base::parser::{Outputs, ParseMode, Parser};
 use combine_base::stream::{Kind, Positioned, ResetStream, Stream, StreamOnce, needs_more};
 use std::marker::PhantomData;
 
@@ -96,9 +96,11 @@ pub type FnParser<Input, F> = Called<Input, Plain<F>>;
 /// The parser of [`env_parser`](crate::function::env_parser), with the type of the function as `F`, where the crate has that of the value.
 pub type EnvParser<E, Input, F> = Called<Input, WithEnv<E, F>>;
 
-impl<Input: Stream, C: Call<Input>> Parser<Input> for Called<Input, C> {
+impl<Input: Stream, C: Call<Input>> Outputs<Input> for Called<Input, C> {
     type Output = C::Value;
+}
 
+impl<Input: Stream, C: Call<Input>> Parser<Input> for Called<Input, C> {
     type PartialState = ();
 
     ghost lawful = { λ p. C.callable (call_of p) × IsFunction Input.step Input.Error.seen.kind Input.view (C.answers (call_of p)) Input.marks Input.failures Input.steady };

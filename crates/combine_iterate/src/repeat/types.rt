@@ -6,7 +6,7 @@ ghost use Rattle.combine_iterate.specs.Items.{AnswersOne, iterated, iterated_is_
 use super::items::{Collected, Item, parse_item, resume_item};
 pub use super::items::{IterateState, RunningItem};
 use combine_base::error::{ErrorOffset, ParseResult, Tracked};
-use combine_base::parser::{FirstMode, ParseMode, Parser};
+use combine_base::parser::{FirstMode, Outputs, ParseMode, Parser};
 use combine_base::repeat::Append;
 use combine_base::sequence::{accepted_after, take_state};
 use combine_base::stream::{Kind, Stream};
@@ -24,6 +24,10 @@ pub struct Iterate<C, J, F> {
     pub(super) collects: PhantomData<C>,
 }
 
+impl<Input, C: Drop, J, F> Outputs<Input> for Iterate<C, J, F> {
+    type Output = C;
+}
+
 impl<
     Input: Stream,
     J: Clone + IntoIterator,
@@ -35,8 +39,6 @@ where
     J::Item: Drop,
     J::IntoIter: Drop,
 {
-    type Output = C;
-
     type PartialState = IterateState<C, J::IntoIter, N, N::PartialState>;
 
     ghost lawful = { λ p. F.IsAlwaysCallable (asked_part p) × InPlace (λ a i n l. F.post (asked_part p) a i n l) Input.view Input.marks Input.failures × ((a : J.Item) (n : N) → AskedFor (λ a i n l. F.post (asked_part p) a i n l) a n → N.lawful n) × ((is : List J.Item) × Lists J.IntoIter.can_next J.IntoIter.remaining J.IntoIter.next_gives J.is_clone J.into_iter_gives (items_part p) is) };

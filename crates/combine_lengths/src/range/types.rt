@@ -5,5 +5,7 @@ use combine_functions::combinator::Changed;
 use combine_map::combinator::types::NoPartial;
 use combine_sequence::sequence::types::Answered;
 
-/// The parser of [`length_prefix`](crate::range::length_prefix): no type of its own, but one that is composed of others.
-pub type LengthPrefix<Input, P> = NoPartial<Answered<Changed<P, AsLength>, Taking<Input>>>;
+/// The parser of [`length_prefix`](crate::range::length_prefix): no type of its own, but one that is composed of others, with the stream's ranges as `R`.
+pub type LengthPrefix<Input, P, R> = NoPartial<
+    Answered<Changed<P, AsLength, usize>, Taking<Input>, R>,
+>;

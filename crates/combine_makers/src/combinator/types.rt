@@ -8,7 +8,7 @@ ghost use Rattle.combine_makers.specs.Made.{Adds, InPlace, MadeAt, MakesOne, Ref
 pub use super::made::{Made, MadeState};
 use super::made::{resume_made, run_made};
 use combine_base::error::{ErrorOffset, ParseResult, Tracked};
-use combine_base::parser::{ParseMode, Parser};
+use combine_base::parser::{Outputs, ParseMode, Parser};
 use combine_base::sequence::take_state;
 use combine_base::stream::Stream;
 
@@ -16,9 +16,11 @@ use combine_base::stream::Stream;
 #[derive(Clone, Copy, Drop)]
 pub struct Lazy<F>(pub(super) F);
 
-impl<Input: Stream, N: Parser<Input> + Drop, F: Fn() -> N> Parser<Input> for Lazy<F> {
+impl<Input, N: Outputs<Input> + Drop, F: Fn() -> N> Outputs<Input> for Lazy<F> {
     type Output = N::Output;
+}
 
+impl<Input: Stream, N: Parser<Input> + Drop, F: Fn() -> N> Parser<Input> for Lazy<F> {
     type PartialState = MadeState<N, N::PartialState>;
 
     ghost lawful = { λ p. F.IsAlwaysCallable (lazy_maker p) × ((n : N) → F.post (lazy_maker p) n → N.lawful n) };
@@ -88,9 +90,11 @@ fn ask<Input: Stream, N, F: Fn(&mut Input) -> N>(maker: &F, input: &mut Input) -
 #[derive(Clone, Copy, Drop)]
 pub struct Factory<F>(pub(super) F);
 
-impl<Input: Stream, N: Parser<Input> + Drop, F: Fn(&mut Input) -> N> Parser<Input> for Factory<F> {
+impl<Input, N: Outputs<Input> + Drop, F: Fn(&mut Input) -> N> Outputs<Input> for Factory<F> {
     type Output = N::Output;
+}
 
+impl<Input: Stream, N: Parser<Input> + Drop, F: Fn(&mut Input) -> N> Parser<Input> for Factory<F> {
     type PartialState = MadeState<N, N::PartialState>;
 
     ghost lawful = { λ p. F.IsAlwaysCallable (factory_maker p) × InPlace Input.view Input.marks Input.failures (λ i n l. F.post (factory_maker p) i n l) × ((v : View Input.Position Input.Token) (n : N) → MadeAt Input.view (λ i n l. F.post (factory_maker p) i n l) v n → N.lawful n) };

@@ -24,5 +24,5 @@ pub fn map_twice_is_map_of_the_composition<
     G: Fn(B) -> C,
     H: Fn(P::Output) -> C,
 >(parser: &P, first: &F, second: &G, both: &H)
-    ensures { IsComposition (F.post first.now) (G.post second.now) (H.post both.now) → MeansSame (⟦<Map<Map<P, F>, G> as Parser<Input>>⟧.meaning (map_of (map_of parser.now first.now) second.now)) (⟦<Map<P, H> as Parser<Input>>⟧.meaning (map_of parser.now both.now)) }
+    ensures { IsComposition (F.post first.now) (G.post second.now) (H.post both.now) → MeansSame (⟦<Map<Map<P, F, B>, G, C> as Parser<Input>>⟧.meaning (map_of (map_of parser.now first.now) second.now)) (⟦<Map<P, H, C> as Parser<Input>>⟧.meaning (map_of parser.now both.now)) }
 {}

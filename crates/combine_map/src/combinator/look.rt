@@ -8,7 +8,7 @@ ghost use Rattle.combine_map.specs.Tables.{by_table, is_not, looks, looks_is_tab
 
 use super::types::refuses;
 use combine_base::error::{ErrorOffset, ParseError, ParseResult, Tracked};
-use combine_base::parser::{ParseMode, Parser};
+use combine_base::parser::{Outputs, ParseMode, Parser};
 use combine_base::stream::{Kind, Positioned, ResetStream, Stream, StreamOnce, needs_more};
 
 /// The value of its part, peeked, and nothing is taken.
@@ -40,9 +40,11 @@ fn put_back<O: Drop, Input: Stream>(
     }
 }
 
-impl<Input: Stream, P: Parser<Input>> Parser<Input> for LookAhead<P> {
+impl<Input, P: Outputs<Input>> Outputs<Input> for LookAhead<P> {
     type Output = P::Output;
+}
 
+impl<Input: Stream, P: Parser<Input>> Parser<Input> for LookAhead<P> {
     type PartialState = ();
 
     ghost lawful = { λ p. P.lawful (look_part p) };
@@ -102,9 +104,11 @@ impl<Input: Stream, P: Parser<Input>> Parser<Input> for LookAhead<P> {
     }
 }
 
-impl<Input: Stream, P: Parser<Input>> Parser<Input> for NotFollowedBy<P> {
+impl<Input, P> Outputs<Input> for NotFollowedBy<P> {
     type Output = ();
+}
 
+impl<Input: Stream, P: Parser<Input>> Parser<Input> for NotFollowedBy<P> {
     type PartialState = ();
 
     ghost lawful = { λ p. P.lawful (denied_part p) };
@@ -179,9 +183,11 @@ impl<Input: Stream, P: Parser<Input>> Parser<Input> for NotFollowedBy<P> {
     }
 }
 
-impl<Input: Stream, P: Parser<Input>> Parser<Input> for NoPartial<P> {
+impl<Input, P: Outputs<Input>> Outputs<Input> for NoPartial<P> {
     type Output = P::Output;
+}
 
+impl<Input: Stream, P: Parser<Input>> Parser<Input> for NoPartial<P> {
     type PartialState = ();
 
     ghost lawful = { λ p. P.lawful (whole_part p) };

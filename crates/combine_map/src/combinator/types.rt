@@ -1,7 +1,7 @@
 //! The parsers that the functions of `combinator` answer.
 ghost use Rattle.std.specs.Prelude.{◌≡◌};
 ghost use Rattle.combine_map.specs.Attempt.{HasValid, attempt_refuses, attempted, attempted_is_meaning, attempted_means_one, losing, refusing};
-ghost use Rattle.combine_map.specs.Parsers.{attempt_part, map_function, map_part};
+ghost use Rattle.combine_map.specs.Parsers.{attempt_part, map_function, map_of, map_part};
 ghost use Rattle.combine_map.specs.PutBack.{KeepsDistance, PutsBack};
 ghost use Rattle.combine_base.specs.Parser.Mapped.{mapped, mapped_is_meaning, mapped_means_one};
 ghost use Rattle.combine_base.specs.Stream.Calls.{Passes};
@@ -11,17 +11,40 @@ pub use super::look::{LookAhead, NoPartial, NotFollowedBy};
 pub use super::values::{Ignore, Nothing, Pick, Picked};
 use combine_base::distance::{measure, pass_over};
 use combine_base::error::{ErrorOffset, ParseError, ParseResult, Tracked};
-use combine_base::parser::{ParseMode, Parser};
+use combine_base::parser::{Outputs, ParseMode, Parser};
 use combine_base::sequence::accepted_after;
 use combine_base::stream::{Kind, Positioned, ResetStream, Stream, StreamOnce, needs_more};
+use std::marker::PhantomData;
 
-/// As its part, the value changed by its function; the state is that of the part.
-#[derive(Clone, Copy, Drop)]
-pub struct Map<P, F>(pub(super) P, pub(super) F);
+/// As its part, the value changed by its function into a `B`; the state is that of the part.
+#[derive(Drop)]
+#[derive_where(Clone, Copy; P, F)]
+pub struct Map<P, F, B> {
+    part: P,
+    function: F,
+    gives: PhantomData<B>,
+}
 
-impl<Input: Stream, P: Parser<Input>, B: Drop, F: Fn(P::Output) -> B> Parser<Input> for Map<P, F> {
+impl<P, F, B> Map<P, F, B> {
+    /// The parser of this part and this function.
+    #[inline]
+    pub(super) fn new(part: P, function: F) -> Self
+        ensures { result ≡ map_of part function }
+    {
+        Map {
+            part,
+            function,
+            gives: PhantomData,
+        }
+    }
+}
+
+impl<Input, P, F, B: Drop> Outputs<Input> for Map<P, F, B> {
     type Output = B;
+}
 
+impl<Input: Stream, P: Parser<Input>, B: Drop, F: Fn(P::Output) -> B> Parser<Input>
+    for Map<P, F, B> {
     type PartialState = P::PartialState;
 
     ghost lawful = { λ p. P.lawful (map_part p) × F.IsAlwaysCallable (map_function p) };
@@ -49,9 +72,9 @@ impl<Input: Stream, P: Parser<Input>, B: Drop, F: Fn(P::Output) -> B> Parser<Inp
         input: &mut Input,
         state: &mut Self::PartialState,
     ) -> ParseResult<B, Input::Error> {
-        match self.0.parse_mode(mode, input, state) {
-            ParseResult::CommitOk(value) => ParseResult::CommitOk((self.1)(value)),
-            ParseResult::PeekOk(value) => ParseResult::PeekOk((self.1)(value)),
+        match self.part.parse_mode(mode, input, state) {
+            ParseResult::CommitOk(value) => ParseResult::CommitOk((self.function)(value)),
+            ParseResult::PeekOk(value) => ParseResult::PeekOk((self.function)(value)),
             ParseResult::CommitErr(error) => ParseResult::CommitErr(error),
             ParseResult::PeekErr(refusal) => ParseResult::PeekErr(refusal),
         }
@@ -60,13 +83,13 @@ impl<Input: Stream, P: Parser<Input>, B: Drop, F: Fn(P::Output) -> B> Parser<Inp
     /// What the parser adds whose value is changed.
     #[inline]
     fn add_error(&mut self, error: &mut Tracked<Input::Error>) {
-        self.0.add_error(error);
+        self.part.add_error(error);
     }
 
     /// As for the parser whose value is changed.
     #[inline]
     fn parser_count(&self) -> ErrorOffset {
-        self.0.parser_count()
+        self.part.parser_count()
     }
 }
 
@@ -74,9 +97,11 @@ impl<Input: Stream, P: Parser<Input>, B: Drop, F: Fn(P::Output) -> B> Parser<Inp
 #[derive(Clone, Copy, Drop)]
 pub struct Try<P>(pub(super) P);
 
-impl<Input: Stream, P: Parser<Input>> Parser<Input> for Try<P> {
+impl<Input, P: Outputs<Input>> Outputs<Input> for Try<P> {
     type Output = P::Output;
+}
 
+impl<Input: Stream, P: Parser<Input>> Parser<Input> for Try<P> {
     type PartialState = TryState<P::PartialState>;
 
     ghost lawful = { λ p. P.lawful (attempt_part p) };

@@ -5,7 +5,7 @@ ghost use Rattle.combine_map.specs.Parsers.{picked_of, picked_part};
 ghost use Rattle.combine_map.specs.Picks.{Picks};
 
 use combine_base::error::{ErrorOffset, ParseResult, Tracked};
-use combine_base::parser::{ParseMode, Parser};
+use combine_base::parser::{Outputs, ParseMode, Parser};
 use combine_base::stream::Stream;
 use std::marker::PhantomData;
 
@@ -27,15 +27,16 @@ pub trait Pick<A> {
         ensures { result.0 ≡ counted inside.0 };
 }
 
-/// As its part, of whose value `W` says what is kept; the state is that of the part.
+/// As its part, of whose value `W` says what is kept, a `B`; the state is that of the part.
 #[derive(Drop)]
 #[derive_where(Clone, Copy; P)]
-pub struct Picked<P, W> {
+pub struct Picked<P, W, B> {
     part: P,
     pick: PhantomData<W>,
+    gives: PhantomData<B>,
 }
 
-impl<P, W> Picked<P, W> {
+impl<P, W, B> Picked<P, W, B> {
     /// The parser of this part.
     #[inline]
     pub fn new(part: P) -> Self
@@ -44,6 +45,7 @@ impl<P, W> Picked<P, W> {
         Picked {
             part,
             pick: PhantomData,
+            gives: PhantomData,
         }
     }
 }
@@ -53,7 +55,7 @@ impl<P, W> Picked<P, W> {
 pub struct Nothing;
 
 /// The parser of [`ignore`](crate::combinator::ignore).
-pub type Ignore<P> = Picked<P, Nothing>;
+pub type Ignore<P> = Picked<P, Nothing, ()>;
 
 impl<A: Drop> Pick<A> for Nothing {
     type Output = ();
@@ -73,9 +75,12 @@ impl<A: Drop> Pick<A> for Nothing {
     }
 }
 
-impl<Input: Stream, P: Parser<Input>, W: Pick<P::Output>> Parser<Input> for Picked<P, W> {
-    type Output = W::Output;
+impl<Input, P, W, B: Drop> Outputs<Input> for Picked<P, W, B> {
+    type Output = B;
+}
 
+impl<Input: Stream, P: Parser<Input>, B: Drop, W: Pick<P::Output, Output = B>> Parser<Input>
+    for Picked<P, W, B> {
     type PartialState = P::PartialState;
 
     ghost lawful = { λ p. P.lawful (picked_part p) };
@@ -102,7 +107,7 @@ impl<Input: Stream, P: Parser<Input>, W: Pick<P::Output>> Parser<Input> for Pick
         mode: M,
         input: &mut Input,
         state: &mut Self::PartialState,
-    ) -> ParseResult<W::Output, Input::Error> {
+    ) -> ParseResult<B, Input::Error> {
         match self.part.parse_mode(mode, input, state) {
             ParseResult::CommitOk(value) => ParseResult::CommitOk(W::pick(value)),
             ParseResult::PeekOk(value) => ParseResult::PeekOk(W::pick(value)),

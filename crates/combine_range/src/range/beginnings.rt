@@ -11,7 +11,7 @@ use crate::passing::{
     begin, hand_out, keep_distance, may_go_on, not_passed, pass_items, refused_here,
 };
 use combine_base::error::{ErrorOffset, ParseResult, Tracked};
-use combine_base::parser::{ParseMode, Parser};
+use combine_base::parser::{Outputs, ParseMode, Parser};
 use combine_base::stream::{Kind, Positioned, ResetStream, Stream, StreamOnce};
 use combine_stream::range::{Range, RangeStream, Test};
 use std::marker::PhantomData;
@@ -74,12 +74,14 @@ where
     }
 }
 
+impl<Input: Stream, F> Outputs<Input> for TakeWhile<Input, F> {
+    type Output = Input::Range;
+}
+
 impl<Input: RangeStream, F: Fn(Input::Token) -> bool> Parser<Input> for TakeWhile<Input, F>
 where
     Input::Range: Range,
 {
-    type Output = Input::Range;
-
     type PartialState = usize;
 
     ghost lawful = { λ p. F.IsAlwaysCallable p.predicate };
@@ -117,12 +119,14 @@ where
     ghost single = { λ p l d. kept_means_one _ _ _ _ (beginning_is_single _ _ _ false Input.filled d) };
 }
 
+impl<Input: Stream, F> Outputs<Input> for TakeWhile1<Input, F> {
+    type Output = Input::Range;
+}
+
 impl<Input: RangeStream, F: Fn(Input::Token) -> bool> Parser<Input> for TakeWhile1<Input, F>
 where
     Input::Range: Range,
 {
-    type Output = Input::Range;
-
     type PartialState = usize;
 
     ghost lawful = { λ p. F.IsAlwaysCallable p.predicate };

@@ -8,7 +8,7 @@ ghost use Rattle.combine_range.specs.Wanted.{Fair, given};
 
 use crate::passing::no_range;
 use combine_base::error::{ErrorOffset, Info, ParseError, ParseResult, Tracked};
-use combine_base::parser::{ParseMode, Parser};
+use combine_base::parser::{Outputs, ParseMode, Parser};
 use combine_base::stream::{Kind, Positioned, ResetStream, Stream, StreamOnce};
 use combine_stream::range::{Range as _, RangeStream};
 use std::marker::PhantomData;
@@ -27,12 +27,14 @@ pub struct Range<Input, R> {
     pub(super) reads: PhantomData<Input>,
 }
 
+impl<Input: Stream> Outputs<Input> for Take<Input> {
+    type Output = Input::Range;
+}
+
 impl<Input: RangeStream> Parser<Input> for Take<Input>
 where
     Input::Range: combine_stream::range::Range,
 {
-    type Output = Input::Range;
-
     type PartialState = ();
 
     ghost lawful = { λ p. Unit {0} };
@@ -81,12 +83,14 @@ where
     ghost single = { λ p l d. stateless_means_one _ _ _ _ _ (taking_is_single _ _ Input.filled _) };
 }
 
+impl<Input: Stream> Outputs<Input> for Range<Input, Input::Range> {
+    type Output = Input::Range;
+}
+
 impl<Input: RangeStream> Parser<Input> for Range<Input, Input::Range>
 where
     Input::Range: combine_stream::range::Range + PartialEq,
 {
-    type Output = Input::Range;
-
     type PartialState = ();
 
     ghost lawful = { λ p. Unit {0} };

@@ -7,7 +7,7 @@ ghost use Rattle.combine_range.specs.Recognized.{HasValid, IsFresh, beside, reco
 
 use crate::passing::{hand_out, not_passed, pass_items};
 use combine_base::error::{ErrorOffset, ParseResult, Tracked};
-use combine_base::parser::{ParseMode, Parser};
+use combine_base::parser::{Outputs, ParseMode, Parser};
 use combine_base::stream::{Positioned, ResetStream, Stream, StreamOnce, needs_more};
 use combine_stream::range::{Range, RangeStream};
 
@@ -60,12 +60,14 @@ fn with_value<R, V: Drop, E>(answer: ParseResult<R, E>, value: V) -> ParseResult
 #[derive(Clone, Drop)]
 pub struct RecognizeWithValue<P>(pub(super) P);
 
+impl<Input: Stream, P: Outputs<Input>> Outputs<Input> for RecognizeWithValue<P> {
+    type Output = (Input::Range, P::Output);
+}
+
 impl<Input: RangeStream, P: Parser<Input>> Parser<Input> for RecognizeWithValue<P>
 where
     Input::Range: Range,
 {
-    type Output = (Input::Range, P::Output);
-
     type PartialState = RecognizeState<P::PartialState>;
 
     ghost lawful = { λ p. P.lawful p.0 };
@@ -133,12 +135,14 @@ where
 #[derive(Clone, Drop)]
 pub struct Recognize<P>(pub(super) RecognizeWithValue<P>);
 
+impl<Input: Stream, P> Outputs<Input> for Recognize<P> {
+    type Output = Input::Range;
+}
+
 impl<Input: RangeStream, P: Parser<Input>> Parser<Input> for Recognize<P>
 where
     Input::Range: Range,
 {
-    type Output = Input::Range;
-
     type PartialState = RecognizeState<P::PartialState>;
 
     ghost lawful = { λ p. P.lawful p.0.0 };

@@ -8,9 +8,9 @@ ghost use Rattle.combine_range.specs.Wanted.{Fair, given};
 use crate::passing::{begin, hand_out, keep_distance, not_passed, pass_items};
 use crate::places::seek;
 use combine_base::error::{ErrorOffset, ParseResult, Tracked};
-use combine_base::parser::{ParseMode, Parser};
+use combine_base::parser::{Outputs, ParseMode, Parser};
 use combine_base::refusal::no_token;
-use combine_base::stream::{Kind, Positioned, ResetStream, StreamOnce};
+use combine_base::stream::{Kind, Positioned, ResetStream, Stream, StreamOnce};
 use combine_stream::range::{Range, RangeStream};
 use std::marker::PhantomData;
 
@@ -21,12 +21,14 @@ pub struct TakeUntilRange<Input, R> {
     pub(super) reads: PhantomData<Input>,
 }
 
+impl<Input: Stream> Outputs<Input> for TakeUntilRange<Input, Input::Range> {
+    type Output = Input::Range;
+}
+
 impl<Input: RangeStream> Parser<Input> for TakeUntilRange<Input, Input::Range>
 where
     Input::Range: Range + PartialEq,
 {
-    type Output = Input::Range;
-
     type PartialState = usize;
 
     /// Ranges of the same tokens are the same to `==`.

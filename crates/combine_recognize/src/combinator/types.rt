@@ -4,7 +4,7 @@ ghost use Rattle.combine_recognize.specs.Gathered.{HasValid, IsFresh, begins_wit
 
 use crate::collecting::collect_since;
 use combine_base::error::{ErrorOffset, ParseResult, Tracked};
-use combine_base::parser::{ParseMode, Parser};
+use combine_base::parser::{Outputs, ParseMode, Parser};
 use combine_base::repeat::Append;
 use combine_base::sequence::take_state;
 use combine_base::stream::{Positioned, ResetStream, Stream, StreamOnce, needs_more};
@@ -62,9 +62,11 @@ pub struct Recognize<F, P> {
     pub(super) collects: PhantomData<F>,
 }
 
-impl<Input: Stream, P: Parser<Input>, F: Append<Input::Token>> Parser<Input> for Recognize<F, P> {
+impl<Input, F: Drop, P> Outputs<Input> for Recognize<F, P> {
     type Output = F;
+}
 
+impl<Input: Stream, P: Parser<Input>, F: Append<Input::Token>> Parser<Input> for Recognize<F, P> {
     type PartialState = RecognizeState<F, P::PartialState>;
 
     ghost lawful = { λ p. P.lawful (parser_of p) };

@@ -6,7 +6,7 @@ ghost use Rattle.combine_turns.specs.CountLaws.{repeated_is_meaning, repeated_me
 ghost use Rattle.combine_turns.specs.Counts.{appended, dropped};
 
 use combine_base::error::{ErrorOffset, ParseResult, Tracked};
-use combine_base::parser::{ParseMode, Parser};
+use combine_base::parser::{Outputs, ParseMode, Parser};
 use combine_base::repeat::Append;
 use combine_base::stream::Stream;
 use combine_turns::each::{Dropped, Each, Plain};
@@ -24,10 +24,12 @@ pub struct Many<F, P> {
     pub(super) collects: PhantomData<F>,
 }
 
+impl<Input, F: Drop, P> Outputs<Input> for Many<F, P> {
+    type Output = F;
+}
+
 impl<Input: Stream, P: Parser<Input>, F: Append<P::Output>> Parser<Input> for Many<F, P> {
     ghost use Rattle.combine_turns.specs.declared.turns.Bounds.TheVariants.{Any};
-
-    type Output = F;
 
     type PartialState = TurnsState<F, P::PartialState>;
 
@@ -88,11 +90,13 @@ pub struct Many1<F, P> {
     pub(super) collects: PhantomData<F>,
 }
 
+impl<Input, F: Drop, P> Outputs<Input> for Many1<F, P> {
+    type Output = F;
+}
+
 impl<Input: Stream, P: Parser<Input>, F: Append<P::Output>> Parser<Input> for Many1<F, P> {
     ghost use Rattle.std.specs.Prelude.{None};
     ghost use Rattle.combine_turns.specs.declared.turns.Bounds.TheVariants.{Joined};
-
-    type Output = F;
 
     type PartialState = TurnsState<F, P::PartialState>;
 
@@ -148,10 +152,12 @@ impl<Input: Stream, P: Parser<Input>, F: Append<P::Output>> Parser<Input> for Ma
 #[derive(Drop)]
 pub struct SkipMany<P>(pub(super) Plain<P>);
 
+impl<Input, P> Outputs<Input> for SkipMany<P> {
+    type Output = ();
+}
+
 impl<Input: Stream, P: Parser<Input>> Parser<Input> for SkipMany<P> {
     ghost use Rattle.combine_turns.specs.declared.turns.Bounds.TheVariants.{Any};
-
-    type Output = ();
 
     type PartialState = TurnsState<(), P::PartialState>;
 
@@ -200,11 +206,13 @@ impl<Input: Stream, P: Parser<Input>> Parser<Input> for SkipMany<P> {
 #[derive(Drop)]
 pub struct SkipMany1<P>(pub(super) Plain<P>);
 
+impl<Input, P> Outputs<Input> for SkipMany1<P> {
+    type Output = ();
+}
+
 impl<Input: Stream, P: Parser<Input>> Parser<Input> for SkipMany1<P> {
     ghost use Rattle.std.specs.Prelude.{None};
     ghost use Rattle.combine_turns.specs.declared.turns.Bounds.TheVariants.{Joined};
-
-    type Output = ();
 
     type PartialState = TurnsState<(), P::PartialState>;
 

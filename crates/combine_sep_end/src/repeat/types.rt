@@ -8,7 +8,7 @@ ghost use Rattle.combine_turns.specs.Counts.{appended};
 
 use crate::ended::{EachSome, Ended};
 use combine_base::error::{ErrorOffset, ParseResult, Tracked};
-use combine_base::parser::{ParseMode, Parser};
+use combine_base::parser::{Outputs, ParseMode, Parser};
 use combine_base::repeat::Append;
 use combine_base::sequence::State2;
 use combine_base::stream::Stream;
@@ -28,12 +28,14 @@ pub struct SepEndBy<F, P, S> {
     pub(super) collects: PhantomData<F>,
 }
 
+impl<Input, F: Drop, P, S> Outputs<Input> for SepEndBy<F, P, S> {
+    type Output = F;
+}
+
 impl<Input: Stream, P: Parser<Input>, S: Parser<Input>, F: Append<P::Output>> Parser<Input>
     for SepEndBy<F, P, S> {
     ghost use Rattle.std.specs.Prelude.{None};
     ghost use Rattle.combine_turns.specs.declared.turns.Bounds.TheVariants.{Joined};
-
-    type Output = F;
 
     type PartialState = TurnsState<
         F,
@@ -97,12 +99,14 @@ pub struct SepEndBy1<F, P, S> {
     pub(super) collects: PhantomData<F>,
 }
 
+impl<Input, F: Drop, P, S> Outputs<Input> for SepEndBy1<F, P, S> {
+    type Output = F;
+}
+
 impl<Input: Stream, P: Parser<Input>, S: Parser<Input>, F: Append<P::Output>> Parser<Input>
     for SepEndBy1<F, P, S> {
     ghost use Rattle.std.specs.Prelude.{None};
     ghost use Rattle.combine_turns.specs.declared.turns.Bounds.TheVariants.{Joined};
-
-    type Output = F;
 
     type PartialState = TurnsState<
         F,

@@ -11,7 +11,7 @@ ghost use Rattle.combine_separated.specs.Separated.{separated_default, separated
 use crate::elements::{EachElement, Folded};
 use crate::separated::{Separated, SeparatedState};
 use combine_base::error::{ErrorOffset, ParseResult, Tracked};
-use combine_base::parser::{ParseMode, Parser};
+use combine_base::parser::{Outputs, ParseMode, Parser};
 use combine_base::repeat::Append;
 use combine_base::sequence::State2;
 use combine_base::stream::Stream;
@@ -30,12 +30,14 @@ pub struct SepCountMinMax<F, P, S> {
     pub(super) collects: PhantomData<F>,
 }
 
+impl<Input, F: Drop, P, S> Outputs<Input> for SepCountMinMax<F, P, S> {
+    type Output = F;
+}
+
 impl<Input: Stream, P: Parser<Input>, S: Parser<Input>, F: Append<P::Output>> Parser<Input>
     for SepCountMinMax<F, P, S> {
     ghost use Rattle.std.specs.Prelude.{None, Some};
     ghost use Rattle.combine_turns.specs.declared.turns.Bounds.TheVariants.{Joined};
-
-    type Output = F;
 
     type PartialState = TurnsState<F, SeparatedState<P::PartialState, State2<Input, S, P>>>;
 
@@ -99,12 +101,14 @@ pub struct SepBy<F, P, S> {
     pub(super) collects: PhantomData<F>,
 }
 
+impl<Input, F: Drop, P, S> Outputs<Input> for SepBy<F, P, S> {
+    type Output = F;
+}
+
 impl<Input: Stream, P: Parser<Input>, S: Parser<Input>, F: Append<P::Output>> Parser<Input>
     for SepBy<F, P, S> {
     ghost use Rattle.std.specs.Prelude.{None, Some};
     ghost use Rattle.combine_turns.specs.declared.turns.Bounds.TheVariants.{Joined};
-
-    type Output = F;
 
     type PartialState = TurnsState<F, SeparatedState<P::PartialState, State2<Input, S, P>>>;
 
@@ -165,12 +169,14 @@ pub struct SepBy1<F, P, S> {
     pub(super) collects: PhantomData<F>,
 }
 
+impl<Input, F: Drop, P, S> Outputs<Input> for SepBy1<F, P, S> {
+    type Output = F;
+}
+
 impl<Input: Stream, P: Parser<Input>, S: Parser<Input>, F: Append<P::Output>> Parser<Input>
     for SepBy1<F, P, S> {
     ghost use Rattle.std.specs.Prelude.{None, Some};
     ghost use Rattle.combine_turns.specs.declared.turns.Bounds.TheVariants.{Joined};
-
-    type Output = F;
 
     type PartialState = TurnsState<F, SeparatedState<P::PartialState, State2<Input, S, P>>>;
 
@@ -226,14 +232,16 @@ impl<Input: Stream, P: Parser<Input>, S: Parser<Input>, F: Append<P::Output>> Pa
 #[derive(Clone, Copy, Drop)]
 pub struct Chainl1<P, S>(pub(super) Separated<P, S>);
 
+impl<Input, P: Outputs<Input>, S> Outputs<Input> for Chainl1<P, S> {
+    type Output = P::Output;
+}
+
 impl<Input: Stream, P: Parser<Input>, S: Parser<Input>> Parser<Input> for Chainl1<P, S>
 where
     S::Output: FnOnce(P::Output, P::Output) -> P::Output,
 {
     ghost use Rattle.std.specs.Prelude.{None};
     ghost use Rattle.combine_turns.specs.declared.turns.Bounds.TheVariants.{Joined};
-
-    type Output = P::Output;
 
     type PartialState = TurnsState<P::Output, SeparatedState<P::PartialState, State2<Input, S, P>>>;
 

@@ -8,48 +8,58 @@ pub(super) mod state;
 
 use asked::{Asked, ByMut, ByRef, ByValue, Join};
 use combine_base::error::{ErrorOffset, ParseResult, Tracked};
-use combine_base::parser::{Calls, ParseMode, Parser};
+use combine_base::parser::{Calls, Outputs, ParseMode, Parser};
 use combine_base::sequence::{accepted_after, refused_after, take_state};
 use combine_base::stream::{Stream, needs_more};
 use state::{AnsweredState, Answering};
+use std::marker::PhantomData;
 
 /// A parser, and then the one that a function answers for its value.
 ///
 /// The state keeps the answered parser, which is not asked for again.
-#[derive(Clone, Copy, Drop)]
-pub struct Answered<P, K>(P, K);
+#[derive(Drop)]
+#[derive_where(Clone, Copy; P, K)]
+pub struct Answered<P, K, B> {
+    first: P,
+    asked: K,
+    gives: PhantomData<B>,
+}
 
-impl<P, K> Answered<P, K> {
+impl<P, K, B> Answered<P, K, B> {
     /// This parser, and then one that is asked for so.
     #[inline]
-    pub fn new(parser: P, asked: K) -> Self
-        ensures { result ≡ answered_of parser asked }
+    pub fn new(first: P, asked: K) -> Self
+        ensures { result ≡ answered_of first asked }
     {
-        Answered(parser, asked)
+        Answered {
+            first,
+            asked,
+            gives: PhantomData,
+        }
     }
 }
 
 /// The parser of [`then`](crate::sequence::then).
-pub type Then<P, F> = Answered<P, ByValue<F>>;
+pub type Then<P, F, B> = Answered<P, ByValue<F>, B>;
 
 /// The parser of [`then_partial`](crate::sequence::then_partial).
-pub type ThenPartial<P, F> = Answered<P, ByMut<F>>;
+pub type ThenPartial<P, F, B> = Answered<P, ByMut<F>, B>;
 
 /// The parser of [`then_ref`](crate::sequence::then_ref).
-pub type ThenRef<P, F> = Answered<P, ByRef<F>>;
+pub type ThenRef<P, F, B> = Answered<P, ByRef<F>, B>;
+
+impl<Input, P, K, B: Drop> Outputs<Input> for Answered<P, K, B> {
+    type Output = B;
+}
 
 impl<
     Input: Stream,
     P: Parser<Input>,
     N: Parser<Input> + Drop,
-    V: Join<N::Output> + Drop,
+    B: Drop,
+    V: Join<N::Output, Joined = B> + Drop,
     K: Asked<P::Output, Parser = N, Kept = V>,
-> Parser<Input> for Answered<P, K>
-where
-    V::Joined: Drop,
-{
-    type Output = V::Joined;
-
+> Parser<Input> for Answered<P, K, B> {
     type PartialState = AnsweredState<P::PartialState, V, N, N::PartialState>;
 
     ghost lawful = { λ p. P.lawful (first_part p) × K.callable (asked_part p) × ((a : P.Output) (n : N) → K.answers (asked_part p) a n → N.lawful n) };
@@ -76,12 +86,12 @@ where
         mode: M,
         input: &mut Input,
         state: &mut Self::PartialState,
-    ) -> ParseResult<V::Joined, Input::Error> {
+    ) -> ParseResult<B, Input::Error> {
         let mut at = match take_state(mode, state) {
             AnsweredState::First(at) => at,
             AnsweredState::Second(at) => return resume_answered(mode, input, at, state),
         };
-        let (value, committed) = match self.0.parse_mode(mode, input, &mut at) {
+        let (value, committed) = match self.first.parse_mode(mode, input, &mut at) {
             ParseResult::CommitOk(value) => (value, true),
             ParseResult::PeekOk(value) => (value, false),
             ParseResult::CommitErr(error) => {
@@ -90,7 +100,7 @@ where
             }
             ParseResult::PeekErr(refusal) => return ParseResult::PeekErr(refusal),
         };
-        let (value, parser) = self.1.ask(value);
+        let (value, parser) = self.asked.ask(value);
         let next = Answering {
             value,
             parser,
@@ -103,7 +113,7 @@ where
     /// What the first parser adds.
     #[inline]
     fn add_error(&mut self, error: &mut Tracked<Input::Error>) {
-        self.0.add_error(error);
+        self.first.add_error(error);
     }
 
     /// One, whatever the two parsers count.

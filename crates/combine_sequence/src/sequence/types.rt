@@ -19,13 +19,13 @@ pub struct Second;
 pub struct Middle;
 
 /// The parser of [`with`](crate::sequence::with).
-pub type With<P, Q> = Picked<(P, Q), Second>;
+pub type With<P, Q, B> = Picked<(P, Q), Second, B>;
 
 /// The parser of [`skip`](crate::sequence::skip).
-pub type Skip<P, Q> = Picked<(P, Q), First>;
+pub type Skip<P, Q, B> = Picked<(P, Q), First, B>;
 
 /// The parser of [`between`](crate::sequence::between).
-pub type Between<L, R, P> = Picked<(L, P, R), Middle>;
+pub type Between<L, R, P, B> = Picked<(L, P, R), Middle, B>;
 
 impl<A: Drop, B: Drop> Pick<(A, B)> for First {
     type Output = A;

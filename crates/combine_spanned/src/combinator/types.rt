@@ -3,7 +3,7 @@ ghost use Rattle.std.specs.Prelude.{◌≡◌};
 ghost use Rattle.combine_spanned.specs.Spanned.{Spans, SpansAnswer, SpansReason, spanned_part};
 
 use combine_base::error::{ErrorOffset, ParseError, ParseResult, Tracked};
-use combine_base::parser::{ParseMode, Parser};
+use combine_base::parser::{Outputs, ParseMode, Parser};
 use combine_base::stream::{Positioned, Stream, StreamOnce};
 use combine_errors::span::Span;
 
@@ -47,13 +47,15 @@ fn at_span<O, T, R, Q: Ord + Copy, E: ParseError<T, R, Span<Q>>>(
     }
 }
 
+impl<Input, P: Outputs<Input>> Outputs<Input> for Spanned<P> {
+    type Output = P::Output;
+}
+
 impl<Q: Ord + Copy, Input: Stream<Position = Span<Q>>, P: Parser<Input>> Parser<Input>
     for Spanned<P>
 where
     Input::Error: ParseError<Input::Token, Input::Range, Span<Q>>,
 {
-    type Output = P::Output;
-
     type PartialState = P::PartialState;
 
     ghost lawful = { λ p. P.lawful (spanned_part p) };

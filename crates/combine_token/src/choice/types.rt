@@ -7,17 +7,19 @@ ghost use Rattle.combine_token.specs.Or.{either_of, or_is_meaning, or_means_one,
 use super::OrState;
 use super::lent::choose_2;
 use combine_base::error::{ErrorOffset, ParseResult, Tracked};
-use combine_base::parser::{ParseMode, Parser};
+use combine_base::parser::{Outputs, ParseMode, Parser};
 use combine_base::stream::Stream;
 
 /// The choice of two parsers, as `or` makes it.
 #[derive(Clone, Copy, Drop)]
 pub struct Or<P, Q>(pub(super) P, pub(super) Q);
 
+impl<Input, P: Outputs<Input>, Q> Outputs<Input> for Or<P, Q> {
+    type Output = P::Output;
+}
+
 impl<Input: Stream, P: Parser<Input>, Q: Parser<Input, Output = P::Output>> Parser<Input>
     for Or<P, Q> {
-    type Output = P::Output;
-
     type PartialState = OrState<P::PartialState, Q::PartialState>;
 
     ghost lawful = { λ p. P.lawful p.0 × Q.lawful p.1 };
@@ -64,9 +66,11 @@ impl<Input: Stream, P: Parser<Input>, Q: Parser<Input, Output = P::Output>> Pars
 #[derive(Clone, Copy, Drop)]
 pub struct Optional<P>(pub P);
 
-impl<Input: Stream, P: Parser<Input>> Parser<Input> for Optional<P> {
+impl<Input, P: Outputs<Input>> Outputs<Input> for Optional<P> {
     type Output = Option<P::Output>;
+}
 
+impl<Input: Stream, P: Parser<Input>> Parser<Input> for Optional<P> {
     type PartialState = P::PartialState;
 
     ghost lawful = { λ p. P.lawful p.0 };

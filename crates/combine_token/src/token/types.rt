@@ -10,7 +10,7 @@ pub use crate::token::among::types::{NoneOf, OneOf};
 pub use crate::token::lists::types::{Tokens, TokensCmp};
 use crate::token::reading::{one_token, token_if, token_map};
 use combine_base::error::{ErrorOffset, Info, ParseError, ParseResult, Tracked};
-use combine_base::parser::{ParseMode, Parser};
+use combine_base::parser::{Outputs, ParseMode, Parser};
 use combine_base::stream::{Kind, Stream};
 use std::marker::PhantomData;
 
@@ -75,9 +75,11 @@ pub struct Eof<Input> {
     pub(super) reads: PhantomData<Input>,
 }
 
-impl<Input: Stream> Parser<Input> for Any<Input> {
+impl<Input: Stream> Outputs<Input> for Any<Input> {
     type Output = Input::Token;
+}
 
+impl<Input: Stream> Parser<Input> for Any<Input> {
     type PartialState = ();
 
     ghost lawful = { λ p. Unit {0} };
@@ -122,9 +124,11 @@ impl<Input: Stream> Parser<Input> for Any<Input> {
     ghost single = { λ p l d. takes_one_means_one (satisfied (of_function (λ t. true))) _ _ _ (satisfied_is_test _ (of_function_is_predicate (λ t. true))) };
 }
 
-impl<Input: Stream, F: Fn(Input::Token) -> bool> Parser<Input> for Satisfy<Input, F> {
+impl<Input: Stream, F> Outputs<Input> for Satisfy<Input, F> {
     type Output = Input::Token;
+}
 
+impl<Input: Stream, F: Fn(Input::Token) -> bool> Parser<Input> for Satisfy<Input, F> {
     type PartialState = ();
 
     ghost lawful = { λ p. F.IsAlwaysCallable p.predicate };
@@ -164,10 +168,13 @@ impl<Input: Stream, F: Fn(Input::Token) -> bool> Parser<Input> for Satisfy<Input
     ghost single = { λ p l d. takes_one_means_one (satisfied (F.post p.predicate)) _ _ _ (satisfied_is_test _ d) };
 }
 
-impl<Input: Stream, B: Drop, F: Fn(Input::Token) -> Option<B>> Parser<Input>
+impl<Input: Stream, B: Drop, F: Fn(Input::Token) -> Option<B>> Outputs<Input>
     for SatisfyMap<Input, F> {
     type Output = B;
+}
 
+impl<Input: Stream, B: Drop, F: Fn(Input::Token) -> Option<B>> Parser<Input>
+    for SatisfyMap<Input, F> {
     type PartialState = ();
 
     ghost lawful = { λ p. F.IsAlwaysCallable p.predicate };
@@ -207,12 +214,14 @@ impl<Input: Stream, B: Drop, F: Fn(Input::Token) -> Option<B>> Parser<Input>
     ghost single = { λ p l d. takes_one_means_one (of_token (F.post p.predicate)) _ _ _ (of_token_is_test _ d) };
 }
 
+impl<Input: Stream> Outputs<Input> for Token<Input, Input::Token> {
+    type Output = Input::Token;
+}
+
 impl<Input: Stream> Parser<Input> for Token<Input, Input::Token>
 where
     Input::Token: PartialEq,
 {
-    type Output = Input::Token;
-
     type PartialState = ();
 
     ghost lawful = { λ p. Unit {0} };
@@ -260,9 +269,11 @@ where
     ghost single = { λ p l d. takes_one_means_one (satisfied (of_function (λ t. Input.Token.eq t p.token))) _ _ _ (satisfied_is_test _ (of_function_is_predicate (λ t. Input.Token.eq t p.token))) };
 }
 
-impl<Input: Stream> Parser<Input> for Position<Input> {
+impl<Input: Stream> Outputs<Input> for Position<Input> {
     type Output = Input::Position;
+}
 
+impl<Input: Stream> Parser<Input> for Position<Input> {
     type PartialState = ();
 
     ghost lawful = { λ p. Unit {0} };
@@ -302,9 +313,11 @@ impl<Input: Stream> Parser<Input> for Position<Input> {
     ghost single = { λ p l d. gives_means_one (λ at v. v ≡ at) _ _ _ };
 }
 
-impl<Input: Stream, T: Clone> Parser<Input> for Value<Input, T> {
+impl<Input, T: Drop> Outputs<Input> for Value<Input, T> {
     type Output = T;
+}
 
+impl<Input: Stream, T: Clone> Parser<Input> for Value<Input, T> {
     type PartialState = ();
 
     ghost lawful = { λ p. Unit {0} };
@@ -347,9 +360,11 @@ impl<Input: Stream, T: Clone> Parser<Input> for Value<Input, T> {
     ghost single = { λ p l d. gives_means_one (λ at v. T.is_clone p.value v) _ _ _ };
 }
 
-impl<Input: Stream, B: Drop, F: Fn() -> B> Parser<Input> for Produce<Input, F> {
+impl<Input, B: Drop, F: Fn() -> B> Outputs<Input> for Produce<Input, F> {
     type Output = B;
+}
 
+impl<Input: Stream, B: Drop, F: Fn() -> B> Parser<Input> for Produce<Input, F> {
     type PartialState = ();
 
     ghost lawful = { λ p. F.IsAlwaysCallable p.function };
@@ -389,9 +404,11 @@ impl<Input: Stream, B: Drop, F: Fn() -> B> Parser<Input> for Produce<Input, F> {
     ghost single = { λ p l d. gives_means_one (λ at v. F.post p.function v) _ _ _ };
 }
 
-impl<Input: Stream> Parser<Input> for Eof<Input> {
+impl<Input> Outputs<Input> for Eof<Input> {
     type Output = ();
+}
 
+impl<Input: Stream> Parser<Input> for Eof<Input> {
     type PartialState = ();
 
     ghost lawful = { λ p. Unit {0} };

@@ -9,7 +9,7 @@ use crate::each::{Dropped, Each, Plain};
 use crate::turns::limits::Between;
 use crate::turns::{Starts, Turns, TurnsState, take_turns};
 use combine_base::error::{ErrorOffset, ParseResult, Tracked};
-use combine_base::parser::{ParseMode, Parser};
+use combine_base::parser::{Outputs, ParseMode, Parser};
 use combine_base::repeat::Append;
 use combine_base::stream::Stream;
 use std::alloc::Global;
@@ -41,11 +41,13 @@ fn room_for<A, F: Append<A>>(alloc: Global, begins: bool, values: usize) -> F
     }
 }
 
+impl<Input, F: Drop, P> Outputs<Input> for CountMinMax<F, P> {
+    type Output = F;
+}
+
 impl<Input: Stream, P: Parser<Input>, F: Append<P::Output>> Parser<Input> for CountMinMax<F, P> {
     ghost use Rattle.std.specs.Prelude.{None};
     ghost use Rattle.combine_turns.specs.declared.turns.Bounds.TheVariants.{Counted};
-
-    type Output = F;
 
     type PartialState = TurnsState<F, P::PartialState>;
 
@@ -109,11 +111,13 @@ pub struct SkipCountMinMax<P> {
     pub(super) turn: Plain<P>,
 }
 
+impl<Input, P> Outputs<Input> for SkipCountMinMax<P> {
+    type Output = ();
+}
+
 impl<Input: Stream, P: Parser<Input>> Parser<Input> for SkipCountMinMax<P> {
     ghost use Rattle.std.specs.Prelude.{None};
     ghost use Rattle.combine_turns.specs.declared.turns.Bounds.TheVariants.{Counted};
-
-    type Output = ();
 
     type PartialState = TurnsState<(), P::PartialState>;
 
@@ -177,11 +181,13 @@ pub struct Count<F, P> {
     pub(super) collects: PhantomData<F>,
 }
 
+impl<Input, F: Drop, P> Outputs<Input> for Count<F, P> {
+    type Output = F;
+}
+
 impl<Input: Stream, P: Parser<Input>, F: Append<P::Output>> Parser<Input> for Count<F, P> {
     ghost use Rattle.std.specs.Prelude.{None};
     ghost use Rattle.combine_turns.specs.declared.turns.Bounds.TheVariants.{Counted};
-
-    type Output = F;
 
     type PartialState = TurnsState<F, P::PartialState>;
 
@@ -243,11 +249,13 @@ pub struct SkipCount<P> {
     pub(super) turn: Plain<P>,
 }
 
+impl<Input, P> Outputs<Input> for SkipCount<P> {
+    type Output = ();
+}
+
 impl<Input: Stream, P: Parser<Input>> Parser<Input> for SkipCount<P> {
     ghost use Rattle.std.specs.Prelude.{None};
     ghost use Rattle.combine_turns.specs.declared.turns.Bounds.TheVariants.{Counted};
-
-    type Output = ();
 
     type PartialState = TurnsState<(), P::PartialState>;
 

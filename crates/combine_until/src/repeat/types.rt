@@ -8,7 +8,7 @@ ghost use Rattle.combine_until.specs.UntilParsers.{blocks_end, blocks_part, repe
 use crate::next::{Next, NextState};
 use crate::until::{UntilState, take_blocks};
 use combine_base::error::{ErrorOffset, ParseResult, Tracked};
-use combine_base::parser::{ParseMode, Parser};
+use combine_base::parser::{Outputs, ParseMode, Parser};
 use combine_base::repeat::{Append, Sink};
 use combine_base::stream::Stream;
 use combine_map::combinator::types::Ignore;
@@ -34,11 +34,13 @@ pub struct RepeatUntil<F, A, P, E> {
     pub(super) collects: PhantomData<F>,
 }
 
+impl<Input, F: Drop, A, P, E> Outputs<Input> for RepeatUntil<F, A, P, E> {
+    type Output = F;
+}
+
 impl<Input: Stream, A: Drop, P: Parser<Input, Output = A>, E: Parser<Input>, F: Append<A>> Parser<
     Input,
 > for RepeatUntil<F, A, P, E> {
-    type Output = F;
-
     type PartialState = UntilState<F, NextState<Input, P, E>>;
 
     ghost lawful = { λ p. E.lawful (blocks_end p) × P.lawful (blocks_part p) };
@@ -88,10 +90,12 @@ pub struct Skips<A, P, E> {
     pub(super) turn: Next<A, P, E>,
 }
 
+impl<Input, A, P, E> Outputs<Input> for Skips<A, P, E> {
+    type Output = Sink;
+}
+
 impl<Input: Stream, A: Drop, P: Parser<Input, Output = A>, E: Parser<Input>> Parser<Input>
     for Skips<A, P, E> {
-    type Output = Sink;
-
     type PartialState = UntilState<Sink, NextState<Input, P, E>>;
 
     ghost lawful = { λ p. E.lawful (skipped_end p) × P.lawful (skipped_part p) };

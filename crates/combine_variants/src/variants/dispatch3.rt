@@ -4,7 +4,7 @@ ghost use Rattle.combine_variants.specs.Variants3.{each_3, pick_a, pick_b, pick_
 
 use super::start;
 use combine_base::error::{ErrorOffset, ParseResult, Tracked};
-use combine_base::parser::{ParseMode, Parser};
+use combine_base::parser::{Outputs, ParseMode, Parser};
 use combine_base::stream::Stream;
 use std::mem::take;
 
@@ -58,6 +58,10 @@ impl<A: Drop, B: Drop, C: Drop> Dispatch3<A, B, C> {
     }
 }
 
+impl<Input, A: Outputs<Input>, B, C> Outputs<Input> for Dispatch3<A, B, C> {
+    type Output = A::Output;
+}
+
 impl<
     Input: Stream,
     A: Parser<Input>,
@@ -65,8 +69,6 @@ impl<
     C: Parser<Input, Output = A::Output>,
 > Parser<Input> for Dispatch3<A, B, C> {
     ghost use Rattle.combine_variants.specs.Variants3.{each_3, each_3_into, said_3, variant_3, variant_3_is_meaning, variant_3_means_one, variant_3_refuses};
-
-    type Output = A::Output;
 
     type PartialState = Dispatch3<A::PartialState, B::PartialState, C::PartialState>;
 

@@ -4,7 +4,7 @@ ghost use Rattle.combine_variants.specs.Variants4.{each_4, pick_a, pick_b, pick_
 
 use super::start;
 use combine_base::error::{ErrorOffset, ParseResult, Tracked};
-use combine_base::parser::{ParseMode, Parser};
+use combine_base::parser::{Outputs, ParseMode, Parser};
 use combine_base::stream::Stream;
 use std::mem::take;
 
@@ -69,6 +69,10 @@ impl<A: Drop, B: Drop, C: Drop, D: Drop> Dispatch4<A, B, C, D> {
     }
 }
 
+impl<Input, A: Outputs<Input>, B, C, D> Outputs<Input> for Dispatch4<A, B, C, D> {
+    type Output = A::Output;
+}
+
 impl<
     Input: Stream,
     A: Parser<Input>,
@@ -77,8 +81,6 @@ impl<
     D: Parser<Input, Output = A::Output>,
 > Parser<Input> for Dispatch4<A, B, C, D> {
     ghost use Rattle.combine_variants.specs.Variants4.{each_4, each_4_into, said_4, variant_4, variant_4_is_meaning, variant_4_means_one, variant_4_refuses};
-
-    type Output = A::Output;
 
     type PartialState = Dispatch4<
         A::PartialState,

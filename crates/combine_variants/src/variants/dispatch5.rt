@@ -4,7 +4,7 @@ ghost use Rattle.combine_variants.specs.Variants5.{each_5, pick_a, pick_b, pick_
 
 use super::start;
 use combine_base::error::{ErrorOffset, ParseResult, Tracked};
-use combine_base::parser::{ParseMode, Parser};
+use combine_base::parser::{Outputs, ParseMode, Parser};
 use combine_base::stream::Stream;
 use std::mem::take;
 
@@ -81,6 +81,10 @@ impl<A: Drop, B: Drop, C: Drop, D: Drop, E: Drop> Dispatch5<A, B, C, D, E> {
     }
 }
 
+impl<Input, A: Outputs<Input>, B, C, D, E> Outputs<Input> for Dispatch5<A, B, C, D, E> {
+    type Output = A::Output;
+}
+
 impl<
     Input: Stream,
     A: Parser<Input>,
@@ -90,8 +94,6 @@ impl<
     E: Parser<Input, Output = A::Output>,
 > Parser<Input> for Dispatch5<A, B, C, D, E> {
     ghost use Rattle.combine_variants.specs.Variants5.{each_5, each_5_into, said_5, variant_5, variant_5_is_meaning, variant_5_means_one, variant_5_refuses};
-
-    type Output = A::Output;
 
     type PartialState = Dispatch5<
         A::PartialState,

@@ -4,7 +4,7 @@ ghost use Rattle.combine_variants.specs.Variants6.{each_6, pick_a, pick_b, pick_
 
 use super::start;
 use combine_base::error::{ErrorOffset, ParseResult, Tracked};
-use combine_base::parser::{ParseMode, Parser};
+use combine_base::parser::{Outputs, ParseMode, Parser};
 use combine_base::stream::Stream;
 use std::mem::take;
 
@@ -116,6 +116,10 @@ impl<A: Drop, B: Drop, C: Drop, D: Drop, E: Drop, F: Drop> Dispatch6<A, B, C, D,
     }
 }
 
+impl<Input, A: Outputs<Input>, B, C, D, E, F> Outputs<Input> for Dispatch6<A, B, C, D, E, F> {
+    type Output = A::Output;
+}
+
 impl<
     Input: Stream,
     A: Parser<Input>,
@@ -126,8 +130,6 @@ impl<
     F: Parser<Input, Output = A::Output>,
 > Parser<Input> for Dispatch6<A, B, C, D, E, F> {
     ghost use Rattle.combine_variants.specs.Variants6.{each_6, each_6_into, said_6, variant_6, variant_6_is_meaning, variant_6_means_one, variant_6_refuses};
-
-    type Output = A::Output;
 
     type PartialState = Dispatch6<
         A::PartialState,

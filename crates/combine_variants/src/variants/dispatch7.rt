@@ -4,7 +4,7 @@ ghost use Rattle.combine_variants.specs.Variants7.{each_7, pick_a, pick_b, pick_
 
 use super::start;
 use combine_base::error::{ErrorOffset, ParseResult, Tracked};
-use combine_base::parser::{ParseMode, Parser};
+use combine_base::parser::{Outputs, ParseMode, Parser};
 use combine_base::stream::Stream;
 use std::mem::take;
 
@@ -138,6 +138,10 @@ impl<A: Drop, B: Drop, C: Drop, D: Drop, E: Drop, F: Drop, G: Drop> Dispatch7<A,
     }
 }
 
+impl<Input, A: Outputs<Input>, B, C, D, E, F, G> Outputs<Input> for Dispatch7<A, B, C, D, E, F, G> {
+    type Output = A::Output;
+}
+
 impl<
     Input: Stream,
     A: Parser<Input>,
@@ -149,8 +153,6 @@ impl<
     G: Parser<Input, Output = A::Output>,
 > Parser<Input> for Dispatch7<A, B, C, D, E, F, G> {
     ghost use Rattle.combine_variants.specs.Variants7.{each_7, each_7_into, said_7, variant_7, variant_7_is_meaning, variant_7_means_one, variant_7_refuses};
-
-    type Output = A::Output;
 
     type PartialState = Dispatch7<
         A::PartialState,

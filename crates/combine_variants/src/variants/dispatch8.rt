@@ -4,7 +4,7 @@ ghost use Rattle.combine_variants.specs.Variants8.{each_8, pick_a, pick_b, pick_
 
 use super::start;
 use combine_base::error::{ErrorOffset, ParseResult, Tracked};
-use combine_base::parser::{ParseMode, Parser};
+use combine_base::parser::{Outputs, ParseMode, Parser};
 use combine_base::stream::Stream;
 use std::mem::take;
 
@@ -179,6 +179,11 @@ impl<A: Drop, B: Drop, C: Drop, D: Drop, E: Drop, F: Drop, G: Drop, H: Drop> Dis
     }
 }
 
+impl<Input, A: Outputs<Input>, B, C, D, E, F, G, H> Outputs<Input>
+    for Dispatch8<A, B, C, D, E, F, G, H> {
+    type Output = A::Output;
+}
+
 impl<
     Input: Stream,
     A: Parser<Input>,
@@ -191,8 +196,6 @@ impl<
     H: Parser<Input, Output = A::Output>,
 > Parser<Input> for Dispatch8<A, B, C, D, E, F, G, H> {
     ghost use Rattle.combine_variants.specs.Variants8.{each_8, each_8_into, said_8, variant_8, variant_8_is_meaning, variant_8_means_one, variant_8_refuses};
-
-    type Output = A::Output;
 
     type PartialState = Dispatch8<
         A::PartialState,

@@ -4,7 +4,7 @@ ghost use Rattle.combine_variants.specs.Variants2.{each_2, pick_left, pick_right
 
 use super::start;
 use combine_base::error::{ErrorOffset, ParseResult, Tracked};
-use combine_base::parser::{ParseMode, Parser};
+use combine_base::parser::{Outputs, ParseMode, Parser};
 use combine_base::stream::Stream;
 use std::mem::take;
 
@@ -47,11 +47,13 @@ impl<L: Drop, R: Drop> Either<L, R> {
     }
 }
 
+impl<Input, L: Outputs<Input>, R> Outputs<Input> for Either<L, R> {
+    type Output = L::Output;
+}
+
 impl<Input: Stream, L: Parser<Input>, R: Parser<Input, Output = L::Output>> Parser<Input>
     for Either<L, R> {
     ghost use Rattle.combine_variants.specs.Variants2.{each_2, each_2_into, said_2, variant_2, variant_2_is_meaning, variant_2_means_one, variant_2_refuses};
-
-    type Output = L::Output;
 
     type PartialState = Either<L::PartialState, R::PartialState>;
 

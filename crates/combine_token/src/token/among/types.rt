@@ -9,7 +9,7 @@ ghost use Rattle.combine_token.specs.Reasons.{RefusesToken};
 use crate::token::among::{expect_each, is_among};
 use crate::token::reading::token_if;
 use combine_base::error::{ErrorOffset, ParseError, ParseResult, Tracked};
-use combine_base::parser::{ParseMode, Parser};
+use combine_base::parser::{Outputs, ParseMode, Parser};
 use combine_base::stream::{Kind, Stream};
 use std::marker::PhantomData;
 
@@ -29,12 +29,14 @@ pub struct NoneOf<T, Input> {
     pub(super) reads: PhantomData<Input>,
 }
 
+impl<Input: Stream, T> Outputs<Input> for OneOf<T, Input> {
+    type Output = Input::Token;
+}
+
 impl<Input: Stream, T: Clone + IntoIterator<Item = Input::Token>> Parser<Input> for OneOf<T, Input>
 where
     Input::Token: PartialEq,
 {
-    type Output = Input::Token;
-
     type PartialState = ();
 
     ghost lawful = { λ p. EndsAlways T.is_clone T.into_iter_gives T.IntoIter.next_gives p.tokens T.IntoIter.can_next T.IntoIter.remaining };
@@ -91,12 +93,14 @@ where
     ghost single = { λ p l d. takes_one_means_one (satisfied (among T.is_clone T.into_iter_gives T.IntoIter.next_gives p.tokens Input.Token.eq)) _ _ _ (satisfied_is_test _ d) };
 }
 
+impl<Input: Stream, T> Outputs<Input> for NoneOf<T, Input> {
+    type Output = Input::Token;
+}
+
 impl<Input: Stream, T: Clone + IntoIterator<Item = Input::Token>> Parser<Input> for NoneOf<T, Input>
 where
     Input::Token: PartialEq,
 {
-    type Output = Input::Token;
-
     type PartialState = ();
 
     ghost lawful = { λ p. EndsAlways T.is_clone T.into_iter_gives T.IntoIter.next_gives p.tokens T.IntoIter.can_next T.IntoIter.remaining };

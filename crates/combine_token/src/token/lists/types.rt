@@ -10,7 +10,7 @@ ghost use Rattle.combine_token.specs.Iterated.{IsIterated, iterated, iterated_en
 
 use crate::token::lists::match_list;
 use combine_base::error::{ErrorOffset, Info, ParseError, ParseResult, Tracked};
-use combine_base::parser::{ParseMode, Parser};
+use combine_base::parser::{Outputs, ParseMode, Parser};
 use combine_base::stream::Stream;
 use std::alloc::AllocError;
 use std::marker::PhantomData;
@@ -74,13 +74,16 @@ impl TokensState {
     }
 }
 
+impl<Input: Stream, C, T: Drop> Outputs<Input>
+    for Tokens<C, Info<Input::Token, Input::Range>, T, Input> {
+    type Output = T;
+}
+
 impl<Input: Stream, C: Fn(T::Item, Input::Token) -> bool, T: Clone + IntoIterator> Parser<Input>
     for Tokens<C, Info<Input::Token, Input::Range>, T, Input>
 where
     T::Item: Drop,
 {
-    type Output = T;
-
     type PartialState = TokensState;
 
     ghost lawful = { λ p. C.IsAlwaysCallable p.cmp × IsIterated T.is_clone T.into_iter_gives T.IntoIter.next_gives p.tokens T.IntoIter.can_next T.IntoIter.remaining };
@@ -140,13 +143,15 @@ pub struct TokensCmp<C, T, Input> {
     pub(super) reads: PhantomData<Input>,
 }
 
+impl<Input, C, T: Drop> Outputs<Input> for TokensCmp<C, T, Input> {
+    type Output = T;
+}
+
 impl<Input: Stream, C: Fn(T::Item, Input::Token) -> bool, T: Clone + IntoIterator> Parser<Input>
     for TokensCmp<C, T, Input>
 where
     T::Item: Drop,
 {
-    type Output = T;
-
     type PartialState = TokensState;
 
     ghost lawful = { λ p. C.IsAlwaysCallable p.cmp × IsIterated T.is_clone T.into_iter_gives T.IntoIter.next_gives p.tokens T.IntoIter.can_next T.IntoIter.remaining };
