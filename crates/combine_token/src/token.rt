@@ -43,12 +43,13 @@ pub fn satisfy<Input, F>(predicate: F) -> Satisfy<Input, F>
 ///
 /// Another token is put back and refused peeked, as is the end of an ended list; nothing is said to be expected. The function is an `Fn`, where the crate takes an `FnMut`.
 #[inline]
-pub fn satisfy_map<Input, F>(predicate: F) -> SatisfyMap<Input, F>
+pub fn satisfy_map<Input, F, B>(predicate: F) -> SatisfyMap<Input, F, B>
     ensures { result ≡ satisfy_map_parser predicate }
 {
     SatisfyMap {
         predicate,
         reads: PhantomData,
+        gives: PhantomData,
     }
 }
 
@@ -90,12 +91,13 @@ pub fn value<Input, T>(value: T) -> Value<Input, T>
 ///
 /// The function is an `Fn`, where the crate takes an `FnMut`.
 #[inline]
-pub fn produce<Input, F>(f: F) -> Produce<Input, F>
+pub fn produce<Input, F, B>(f: F) -> Produce<Input, F, B>
     ensures { result ≡ produce_parser f }
 {
     Produce {
         function: f,
         reads: PhantomData,
+        gives: PhantomData,
     }
 }
 

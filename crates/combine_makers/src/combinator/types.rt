@@ -11,16 +11,21 @@ use combine_base::error::{ErrorOffset, ParseResult, Tracked};
 use combine_base::parser::{Outputs, ParseMode, Parser};
 use combine_base::sequence::take_state;
 use combine_base::stream::Stream;
+use std::marker::PhantomData;
 
-/// The parser of [`lazy`](crate::combinator::lazy).
-#[derive(Clone, Copy, Drop)]
-pub struct Lazy<F>(pub(super) F);
+/// The parser of [`lazy`](crate::combinator::lazy), whose maker answers an `N`.
+#[derive(Drop)]
+#[derive_where(Clone, Copy; F)]
+pub struct Lazy<F, N> {
+    pub(super) maker: F,
+    pub(super) makes: PhantomData<N>,
+}
 
-impl<Input, N: Outputs<Input> + Drop, F: Fn() -> N> Outputs<Input> for Lazy<F> {
+impl<Input, N: Outputs<Input>, F> Outputs<Input> for Lazy<F, N> {
     type Output = N::Output;
 }
 
-impl<Input: Stream, N: Parser<Input> + Drop, F: Fn() -> N> Parser<Input> for Lazy<F> {
+impl<Input: Stream, N: Parser<Input> + Drop, F: Fn() -> N> Parser<Input> for Lazy<F, N> {
     type PartialState = MadeState<N, N::PartialState>;
 
     ghost lawful = { λ p. F.IsAlwaysCallable (lazy_maker p) × ((n : N) → F.post (lazy_maker p) n → N.lawful n) };
@@ -51,7 +56,7 @@ impl<Input: Stream, N: Parser<Input> + Drop, F: Fn() -> N> Parser<Input> for Laz
         if let MadeState::Kept(made) = take_state(mode, state) {
             return resume_made(mode, input, made, state);
         }
-        let parser = (self.0)();
+        let parser = (self.maker)();
         let made = Made {
             parser,
             state: N::PartialState::default(),
@@ -62,7 +67,7 @@ impl<Input: Stream, N: Parser<Input> + Drop, F: Fn() -> N> Parser<Input> for Laz
     /// What a parser of the maker adds.
     #[inline]
     fn add_error(&mut self, error: &mut Tracked<Input::Error>) {
-        let mut parser = (self.0)();
+        let mut parser = (self.maker)();
         parser.add_error(error);
     }
 
@@ -86,15 +91,20 @@ fn ask<Input: Stream, N, F: Fn(&mut Input) -> N>(maker: &F, input: &mut Input) -
     maker(input)
 }
 
-/// The parser of [`factory`](crate::combinator::factory).
-#[derive(Clone, Copy, Drop)]
-pub struct Factory<F>(pub(super) F);
+/// The parser of [`factory`](crate::combinator::factory), whose maker answers an `N`.
+#[derive(Drop)]
+#[derive_where(Clone, Copy; F)]
+pub struct Factory<F, N> {
+    pub(super) maker: F,
+    pub(super) makes: PhantomData<N>,
+}
 
-impl<Input, N: Outputs<Input> + Drop, F: Fn(&mut Input) -> N> Outputs<Input> for Factory<F> {
+impl<Input, N: Outputs<Input>, F> Outputs<Input> for Factory<F, N> {
     type Output = N::Output;
 }
 
-impl<Input: Stream, N: Parser<Input> + Drop, F: Fn(&mut Input) -> N> Parser<Input> for Factory<F> {
+impl<Input: Stream, N: Parser<Input> + Drop, F: Fn(&mut Input) -> N> Parser<Input>
+    for Factory<F, N> {
     type PartialState = MadeState<N, N::PartialState>;
 
     ghost lawful = { λ p. F.IsAlwaysCallable (factory_maker p) × InPlace Input.view Input.marks Input.failures (λ i n l. F.post (factory_maker p) i n l) × ((v : View Input.Position Input.Token) (n : N) → MadeAt Input.view (λ i n l. F.post (factory_maker p) i n l) v n → N.lawful n) };
@@ -125,7 +135,7 @@ impl<Input: Stream, N: Parser<Input> + Drop, F: Fn(&mut Input) -> N> Parser<Inpu
         if let MadeState::Kept(kept) = take_state(mode, state) {
             return resume_made(mode, input, kept, state);
         }
-        let parser = ask(&self.0, input);
+        let parser = ask(&self.maker, input);
         let made = Made {
             parser,
             state: N::PartialState::default(),

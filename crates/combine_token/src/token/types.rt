@@ -32,9 +32,10 @@ pub struct Satisfy<Input, F> {
 /// The parser of [`satisfy_map`](crate::token::satisfy_map).
 #[derive(Drop)]
 #[derive_where(Clone, Copy; F)]
-pub struct SatisfyMap<Input, F> {
+pub struct SatisfyMap<Input, F, B> {
     pub(super) predicate: F,
     pub(super) reads: PhantomData<Input>,
+    pub(super) gives: PhantomData<B>,
 }
 
 /// The parser of [`token`](crate::token::token), with the stream's tokens as `T`. The crate's has no such parameter; a type that holds an associated type could be neither `Copy` nor used over a borrowed slice.
@@ -63,9 +64,10 @@ pub struct Value<Input, T> {
 /// The parser of [`produce`](crate::token::produce).
 #[derive(Drop)]
 #[derive_where(Clone, Copy; F)]
-pub struct Produce<Input, F> {
+pub struct Produce<Input, F, B> {
     pub(super) function: F,
     pub(super) reads: PhantomData<Input>,
+    pub(super) gives: PhantomData<B>,
 }
 
 /// The parser of [`eof`](crate::token::eof).
@@ -168,13 +170,12 @@ impl<Input: Stream, F: Fn(Input::Token) -> bool> Parser<Input> for Satisfy<Input
     ghost single = { λ p l d. takes_one_means_one (satisfied (F.post p.predicate)) _ _ _ (satisfied_is_test _ d) };
 }
 
-impl<Input: Stream, B: Drop, F: Fn(Input::Token) -> Option<B>> Outputs<Input>
-    for SatisfyMap<Input, F> {
+impl<Input, B: Drop, F> Outputs<Input> for SatisfyMap<Input, F, B> {
     type Output = B;
 }
 
 impl<Input: Stream, B: Drop, F: Fn(Input::Token) -> Option<B>> Parser<Input>
-    for SatisfyMap<Input, F> {
+    for SatisfyMap<Input, F, B> {
     type PartialState = ();
 
     ghost lawful = { λ p. F.IsAlwaysCallable p.predicate };
@@ -360,11 +361,11 @@ impl<Input: Stream, T: Clone> Parser<Input> for Value<Input, T> {
     ghost single = { λ p l d. gives_means_one (λ at v. T.is_clone p.value v) _ _ _ };
 }
 
-impl<Input, B: Drop, F: Fn() -> B> Outputs<Input> for Produce<Input, F> {
+impl<Input, B: Drop, F> Outputs<Input> for Produce<Input, F, B> {
     type Output = B;
 }
 
-impl<Input: Stream, B: Drop, F: Fn() -> B> Parser<Input> for Produce<Input, F> {
+impl<Input: Stream, B: Drop, F: Fn() -> B> Parser<Input> for Produce<Input, F, B> {
     type PartialState = ();
 
     ghost lawful = { λ p. F.IsAlwaysCallable p.function };
