@@ -66,6 +66,6 @@ impl<Input: Stream, O: Drop, W: Pick<O>, V: Visitor<Input, W::Output>> Visitor<I
 
     #[inline(always)]
     fn visit<P: Parser<Input, Output = O> + Drop>(self, parser: P) -> V::Answer {
-        self.next.visit(Picked::<P, W>::new(parser))
+        self.next.visit(Picked::<P, W, _>::new(parser))
     }
 }
