@@ -28,10 +28,10 @@ pub returns-in-PeekErr-clause-refuses : goal.returns-in-PeekErr-clause-refuses
 returns-in-PeekErr-clause-refuses g c = reasons_peek_err _ _ _ _ c.in-PeekErr.ensures.refuses
 
 pub returns-in-CommitOk-clause-answers : goal.returns-in-CommitOk-clause-answers
-returns-in-CommitOk-clause-answers g c = mapped_ok _ _ _ _ _ _ c.call.ensures c.in-CommitOk.ensures.answers
+returns-in-CommitOk-clause-answers g c = mapped_ok _ _ _ _ _ _ c.function.ensures c.in-CommitOk.ensures.answers
 
 pub returns-in-PeekOk-clause-answers : goal.returns-in-PeekOk-clause-answers
-returns-in-PeekOk-clause-answers g c = mapped_peek_ok _ _ _ _ _ _ c.call-in-PeekOk.ensures c.in-PeekOk.ensures.answers
+returns-in-PeekOk-clause-answers g c = mapped_peek_ok _ _ _ _ _ _ c.function-in-PeekOk.ensures c.in-PeekOk.ensures.answers
 
 pub returns-in-CommitOk-clause-refuses : goal.returns-in-CommitOk-clause-refuses
 returns-in-CommitOk-clause-refuses g c = λ committed e h. absurd h.is
