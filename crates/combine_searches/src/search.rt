@@ -69,7 +69,7 @@ pub struct Searching<Input, S> {
     pub(crate) reads: PhantomData<Input>,
 }
 
-impl<Input: Stream, S> Outputs<Input> for Searching<Input, S> {
+impl<Input: StreamOnce, S> Outputs<Input> for Searching<Input, S> {
     type Output = Input::Range;
 }
 

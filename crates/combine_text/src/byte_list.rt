@@ -104,7 +104,7 @@ pub fn in_bytes<Input, F, S>(bytes: S, fits: F) -> InBytes<Input, F, S>
     }
 }
 
-impl<Input: Stream, F, S: Drop> Outputs<Input> for InBytes<Input, F, S> {
+impl<Input, F, S: Drop> Outputs<Input> for InBytes<Input, F, S> {
     type Output = S;
 }
 

@@ -79,7 +79,7 @@ pub fn in_text<Input, F, S>(text: S, fits: F) -> InText<Input, F, S>
     }
 }
 
-impl<Input: Stream, F, S: Drop> Outputs<Input> for InText<Input, F, S> {
+impl<Input, F, S: Drop> Outputs<Input> for InText<Input, F, S> {
     type Output = S;
 }
 

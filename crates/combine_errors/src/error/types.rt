@@ -119,8 +119,7 @@ fn hush<O: Drop, Input: Stream>(
     }
 }
 
-impl<Input: Stream, P: Outputs<Input>> Outputs<Input>
-    for Message<P, Info<Input::Token, Input::Range>> {
+impl<Input, P: Outputs<Input>, I> Outputs<Input> for Message<P, I> {
     type Output = P::Output;
 }
 
@@ -214,8 +213,7 @@ impl<Input: Stream, P: Parser<Input>> Parser<Input> for Silent<P> {
     }
 }
 
-impl<Input: Stream, P: Outputs<Input>> Outputs<Input>
-    for Expected<P, Info<Input::Token, Input::Range>> {
+impl<Input, P: Outputs<Input>, I> Outputs<Input> for Expected<P, I> {
     type Output = P::Output;
 }
 

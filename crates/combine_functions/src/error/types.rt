@@ -46,8 +46,7 @@ fn copied<T: Copy, R: Copy>(info: &Info<T, R>) -> Result<Info<T, R>, AllocError>
     }
 }
 
-impl<Input: Stream, V: Drop> Outputs<Input>
-    for Unexpected<Input, V, Info<Input::Token, Input::Range>> {
+impl<Input, V: Drop, I> Outputs<Input> for Unexpected<Input, V, I> {
     type Output = V;
 }
 

@@ -74,7 +74,7 @@ where
     }
 }
 
-impl<Input: Stream, F> Outputs<Input> for TakeWhile<Input, F> {
+impl<Input: StreamOnce, F> Outputs<Input> for TakeWhile<Input, F> {
     type Output = Input::Range;
 }
 
@@ -119,7 +119,7 @@ where
     ghost single = { λ p l d. kept_means_one _ _ _ _ (beginning_is_single _ _ _ false Input.filled d) };
 }
 
-impl<Input: Stream, F> Outputs<Input> for TakeWhile1<Input, F> {
+impl<Input: StreamOnce, F> Outputs<Input> for TakeWhile1<Input, F> {
     type Output = Input::Range;
 }
 

@@ -27,7 +27,7 @@ pub struct Range<Input, R> {
     pub(super) reads: PhantomData<Input>,
 }
 
-impl<Input: Stream> Outputs<Input> for Take<Input> {
+impl<Input: StreamOnce> Outputs<Input> for Take<Input> {
     type Output = Input::Range;
 }
 
@@ -83,8 +83,8 @@ where
     ghost single = { λ p l d. stateless_means_one _ _ _ _ _ (taking_is_single _ _ Input.filled _) };
 }
 
-impl<Input: Stream> Outputs<Input> for Range<Input, Input::Range> {
-    type Output = Input::Range;
+impl<Input, R: Drop> Outputs<Input> for Range<Input, R> {
+    type Output = R;
 }
 
 impl<Input: RangeStream> Parser<Input> for Range<Input, Input::Range>

@@ -60,7 +60,7 @@ fn with_value<R, V: Drop, E>(answer: ParseResult<R, E>, value: V) -> ParseResult
 #[derive(Clone, Drop)]
 pub struct RecognizeWithValue<P>(pub(super) P);
 
-impl<Input: Stream, P: Outputs<Input>> Outputs<Input> for RecognizeWithValue<P> {
+impl<Input: StreamOnce, P: Outputs<Input>> Outputs<Input> for RecognizeWithValue<P> {
     type Output = (Input::Range, P::Output);
 }
 
@@ -135,7 +135,7 @@ where
 #[derive(Clone, Drop)]
 pub struct Recognize<P>(pub(super) RecognizeWithValue<P>);
 
-impl<Input: Stream, P> Outputs<Input> for Recognize<P> {
+impl<Input: StreamOnce, P> Outputs<Input> for Recognize<P> {
     type Output = Input::Range;
 }
 

@@ -10,7 +10,7 @@ use crate::places::seek;
 use combine_base::error::{ErrorOffset, ParseResult, Tracked};
 use combine_base::parser::{Outputs, ParseMode, Parser};
 use combine_base::refusal::no_token;
-use combine_base::stream::{Kind, Positioned, ResetStream, Stream, StreamOnce};
+use combine_base::stream::{Kind, Positioned, ResetStream, StreamOnce};
 use combine_stream::range::{Range, RangeStream};
 use std::marker::PhantomData;
 
@@ -21,8 +21,8 @@ pub struct TakeUntilRange<Input, R> {
     pub(super) reads: PhantomData<Input>,
 }
 
-impl<Input: Stream> Outputs<Input> for TakeUntilRange<Input, Input::Range> {
-    type Output = Input::Range;
+impl<Input, R: Drop> Outputs<Input> for TakeUntilRange<Input, R> {
+    type Output = R;
 }
 
 impl<Input: RangeStream> Parser<Input> for TakeUntilRange<Input, Input::Range>

@@ -8,7 +8,7 @@ ghost use Rattle.combine_token.specs.Reasons.{RefusesToken};
 use crate::class::Class;
 use combine_base::error::{ErrorOffset, Info, ParseError, ParseResult, Tracked};
 use combine_base::parser::{Outputs, ParseMode, Parser};
-use combine_base::stream::Stream;
+use combine_base::stream::{Stream, StreamOnce};
 use combine_token::token::reading::token_if;
 use std::marker::PhantomData;
 
@@ -20,7 +20,7 @@ pub struct InClass<Input, C> {
     pub(super) class: PhantomData<C>,
 }
 
-impl<Input: Stream, C> Outputs<Input> for InClass<Input, C> {
+impl<Input: StreamOnce, C> Outputs<Input> for InClass<Input, C> {
     type Output = Input::Token;
 }
 

@@ -11,7 +11,7 @@ pub use crate::token::lists::types::{Tokens, TokensCmp};
 use crate::token::reading::{one_token, token_if, token_map};
 use combine_base::error::{ErrorOffset, Info, ParseError, ParseResult, Tracked};
 use combine_base::parser::{Outputs, ParseMode, Parser};
-use combine_base::stream::{Kind, Stream};
+use combine_base::stream::{Kind, Stream, StreamOnce};
 use std::marker::PhantomData;
 
 /// The parser of [`any`](crate::token::any).
@@ -77,7 +77,7 @@ pub struct Eof<Input> {
     pub(super) reads: PhantomData<Input>,
 }
 
-impl<Input: Stream> Outputs<Input> for Any<Input> {
+impl<Input: StreamOnce> Outputs<Input> for Any<Input> {
     type Output = Input::Token;
 }
 
@@ -126,7 +126,7 @@ impl<Input: Stream> Parser<Input> for Any<Input> {
     ghost single = { λ p l d. takes_one_means_one (satisfied (of_function (λ t. true))) _ _ _ (satisfied_is_test _ (of_function_is_predicate (λ t. true))) };
 }
 
-impl<Input: Stream, F> Outputs<Input> for Satisfy<Input, F> {
+impl<Input: StreamOnce, F> Outputs<Input> for Satisfy<Input, F> {
     type Output = Input::Token;
 }
 
@@ -215,8 +215,8 @@ impl<Input: Stream, B: Drop, F: Fn(Input::Token) -> Option<B>> Parser<Input>
     ghost single = { λ p l d. takes_one_means_one (of_token (F.post p.predicate)) _ _ _ (of_token_is_test _ d) };
 }
 
-impl<Input: Stream> Outputs<Input> for Token<Input, Input::Token> {
-    type Output = Input::Token;
+impl<Input, T: Drop> Outputs<Input> for Token<Input, T> {
+    type Output = T;
 }
 
 impl<Input: Stream> Parser<Input> for Token<Input, Input::Token>
@@ -270,7 +270,7 @@ where
     ghost single = { λ p l d. takes_one_means_one (satisfied (of_function (λ t. Input.Token.eq t p.token))) _ _ _ (satisfied_is_test _ (of_function_is_predicate (λ t. Input.Token.eq t p.token))) };
 }
 
-impl<Input: Stream> Outputs<Input> for Position<Input> {
+impl<Input: StreamOnce> Outputs<Input> for Position<Input> {
     type Output = Input::Position;
 }
 

@@ -10,7 +10,7 @@ use crate::token::among::{expect_each, is_among};
 use crate::token::reading::token_if;
 use combine_base::error::{ErrorOffset, ParseError, ParseResult, Tracked};
 use combine_base::parser::{Outputs, ParseMode, Parser};
-use combine_base::stream::{Kind, Stream};
+use combine_base::stream::{Kind, Stream, StreamOnce};
 use std::marker::PhantomData;
 
 /// The parser of [`one_of`](crate::token::one_of).
@@ -29,7 +29,7 @@ pub struct NoneOf<T, Input> {
     pub(super) reads: PhantomData<Input>,
 }
 
-impl<Input: Stream, T> Outputs<Input> for OneOf<T, Input> {
+impl<Input: StreamOnce, T> Outputs<Input> for OneOf<T, Input> {
     type Output = Input::Token;
 }
 
@@ -93,7 +93,7 @@ where
     ghost single = { λ p l d. takes_one_means_one (satisfied (among T.is_clone T.into_iter_gives T.IntoIter.next_gives p.tokens Input.Token.eq)) _ _ _ (satisfied_is_test _ d) };
 }
 
-impl<Input: Stream, T> Outputs<Input> for NoneOf<T, Input> {
+impl<Input: StreamOnce, T> Outputs<Input> for NoneOf<T, Input> {
     type Output = Input::Token;
 }
 

@@ -74,8 +74,7 @@ impl TokensState {
     }
 }
 
-impl<Input: Stream, C, T: Drop> Outputs<Input>
-    for Tokens<C, Info<Input::Token, Input::Range>, T, Input> {
+impl<Input, C, E, T: Drop> Outputs<Input> for Tokens<C, E, T, Input> {
     type Output = T;
 }
 
