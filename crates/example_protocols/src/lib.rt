@@ -1,0 +1,9 @@
+//! Decoders of protocols, as their users write them. They are built for the tests alone, so that they are proved once.
+#![tactic(auto)]
+
+#[cfg(test)]
+mod messages;
+#[cfg(test)]
+mod record;
+#[cfg(test)]
+mod resp;
