@@ -11,7 +11,7 @@ returns-in-Second-clause-answers g c =
     let laws = g.met.P.Parser.laws _ c.requires.lawful.0 in
     let from = c.in-Second.ensures.from in
     let v = valid_from (starts_valid g.N.Parser.lawful g.N.Parser.valid g.met.P.Parser.default_valid) from c.requires.valid in
-    let call = then_resumes _ _ _ _ _ g.P.Parser.valid g.K.Asked.keeps _ answers (g.P.Parser.meaning c.args.self.now.0) refl v.0 c.resume_answered.ensures in
+    let call = then_resumes _ _ _ _ _ g.P.Parser.valid g.K.Asked.keeps _ answers (g.P.Parser.meaning c.args.self.now.first) refl v.0 c.resume_answered.ensures in
     in_mode _ _ _ (then_is_meaning _ g.K.Asked.keeps g.V.Join.joined answers g.N.Parser.lawful laws g.met.N.Parser.laws c.requires.lawful.2) _ _ _ _ from _ _ _ _ _ call
 
 pub returns-in-CommitErr-clause-same : goal.returns-in-CommitErr-clause-same
