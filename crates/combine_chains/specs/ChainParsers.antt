@@ -25,5 +25,5 @@ abbrev pub right_operator : {P S : Type 0} → RightFold P S → S
 right_operator p = p.turn.separator
 
 -- turns of a parser, or of a token and another parser
-abbrev pub escaped_of : {I P T Q : Type 0} → P → T → Q → SkipMany (Or (Picked P Nothing) (Picked (Token I T × Q) Nothing))
+abbrev pub escaped_of : {I P T Q : Type 0} → P → T → Q → SkipMany (Or (Picked P Nothing (Unit {0})) (Picked (Token I T × Q) Nothing (Unit {0})))
 escaped_of parser escape escaped = skip_many_of (or_parser (picked_of parser) (picked_of (token_parser escape, escaped)))

@@ -31,10 +31,10 @@ repeat_until_of alloc part end = record { alloc = alloc; turn = next_of part end
 abbrev pub take_until_of : {F I A Y : Type 0} → Global → Y → RepeatUntil F A (Any I) Y
 take_until_of alloc end = repeat_until_of alloc any_parser end
 
-abbrev pub repeat_skip_until_of : {A X Y : Type 0} → X → Y → Picked (Skips A X Y) Nothing
+abbrev pub repeat_skip_until_of : {A X Y : Type 0} → X → Y → Picked (Skips A X Y) Nothing (Unit {0})
 repeat_skip_until_of part end = picked_of (record { turn = next_of part end })
 
-abbrev pub skip_until_of : {I A Y : Type 0} → Y → Picked (Skips A (Any I) Y) Nothing
+abbrev pub skip_until_of : {I A Y : Type 0} → Y → Picked (Skips A (Any I) Y) Nothing (Unit {0})
 skip_until_of end = repeat_skip_until_of any_parser end
 
 abbrev pub skipped_end : {A X Y : Type 0} → Skips A X Y → Y
