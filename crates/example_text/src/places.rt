@@ -1,0 +1,24 @@
+//! The places at which the tests cut their inputs.
+
+use combine_examples::cuts::sets_of_places;
+use std::alloc::{AllocError, Global};
+
+/// Behind each byte.
+const ONES: u32 = 0xffff_ffff;
+
+/// Behind each second byte.
+const TWOS: u32 = 0xaaaa_aaaa;
+
+/// Each set of places, for an input of at most nine bytes; for a longer one single bytes, and bytes in twos.
+pub fn places_in(alloc: Global, input: &[u8]) -> Result<Vec<u32>, AllocError> {
+    let mut sets = Vec::new(alloc);
+    if input.len() > 9 {
+        sets.push(ONES)?;
+        sets.push(TWOS)?;
+        return Ok(sets);
+    }
+    for places in 0..sets_of_places(input) {
+        sets.push(places)?;
+    }
+    Ok(sets)
+}
