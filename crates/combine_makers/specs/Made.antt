@@ -15,17 +15,17 @@ use Rattle.combine_makers.specs.declared.combinator.types.Factory.{Factory}
 use Rattle.combine_makers.specs.declared.combinator.types.Lazy.{Lazy}
 
 -- the parsers of this crate, of their makers
-abbrev pub lazy_of : {F N : Type 0} → F → Lazy F N
-lazy_of f = record { maker = f; makes = record {} }
+abbrev pub lazy_of : {F : Type 0} → F → Lazy F
+lazy_of f = record { 0 = f }
 
-abbrev pub lazy_maker : {F N : Type 0} → Lazy F N → F
-lazy_maker p = p.maker
+abbrev pub lazy_maker : {F : Type 0} → Lazy F → F
+lazy_maker p = p.0
 
-abbrev pub factory_of : {F N : Type 0} → F → Factory F N
-factory_of f = record { maker = f; makes = record {} }
+abbrev pub factory_of : {F : Type 0} → F → Factory F
+factory_of f = record { 0 = f }
 
-abbrev pub factory_maker : {F N : Type 0} → Factory F N → F
-factory_maker p = p.maker
+abbrev pub factory_maker : {F : Type 0} → Factory F → F
+factory_maker p = p.0
 
 -- no parser is kept
 abbrev pub is_unmade : {N U : Type 0} → MadeState N U → Type 0

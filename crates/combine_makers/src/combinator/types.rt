@@ -11,21 +11,71 @@ use combine_base::error::{ErrorOffset, ParseResult, Tracked};
 use combine_base::parser::{Outputs, ParseMode, Parser};
 use combine_base::sequence::take_state;
 use combine_base::stream::Stream;
-use std::marker::PhantomData;
 
-/// The parser of [`lazy`](crate::combinator::lazy), whose maker answers an `N`.
-#[derive(Drop)]
-#[derive_where(Clone, Copy; F)]
-pub struct Lazy<F, N> {
-    pub(super) maker: F,
-    pub(super) makes: PhantomData<N>,
+/// A function that makes a parser. Our own: by it the value of a [`Lazy`] is known without its maker's signature, of which an impl of `Outputs` can say nothing.
+pub trait Makes {
+    ghost use Rattle.std.specs.Prelude.{◌≡◌};
+
+    /// The parser that it makes.
+    type Made;
+
+    ghost callable: { Self → Type 0 };
+
+    /// Which parsers it may make.
+    ghost makes: { Self → Self.Made → Type 0 };
+
+    fn make(&self) -> Self::Made
+        requires { callable self.now }
+        ensures { makes self.now result };
 }
 
-impl<Input, N: Outputs<Input>, F> Outputs<Input> for Lazy<F, N> {
-    type Output = N::Output;
+impl<N, F: Fn() -> N> Makes for F {
+    type Made = N;
+
+    ghost callable = { λ f. F.IsAlwaysCallable f };
+
+    ghost makes = { λ f. F.post f };
+
+    #[inline(always)]
+    fn make(&self) -> N {
+        self()
+    }
 }
 
-impl<Input: Stream, N: Parser<Input> + Drop, F: Fn() -> N> Parser<Input> for Lazy<F, N> {
+/// A function that makes a parser for a stream. Our own, as [`Makes`].
+pub trait MakesAt<Input> {
+    /// The parser that it makes.
+    type Made;
+
+    ghost callable: { Self → Type 0 };
+
+    fn make_at(&self, input: &mut Input) -> Self::Made
+        requires { callable self.now };
+}
+
+impl<Input, N, F: Fn(&mut Input) -> N> MakesAt<Input> for F {
+    type Made = N;
+
+    ghost callable = { λ f. F.IsAlwaysCallable f };
+
+    #[inline(always)]
+    fn make_at(&self, input: &mut Input) -> N {
+        self(input)
+    }
+}
+
+/// The parser of [`lazy`](crate::combinator::lazy).
+#[derive(Clone, Copy, Drop)]
+pub struct Lazy<F>(pub(super) F);
+
+impl<Input, F: Makes> Outputs<Input> for Lazy<F>
+where
+    F::Made: Outputs<Input>,
+{
+    type Output = <F::Made as Outputs<Input>>::Output;
+}
+
+impl<Input: Stream, N: Parser<Input> + Drop, F: Fn() -> N> Parser<Input> for Lazy<F> {
     type PartialState = MadeState<N, N::PartialState>;
 
     ghost lawful = { λ p. F.IsAlwaysCallable (lazy_maker p) × ((n : N) → F.post (lazy_maker p) n → N.lawful n) };
@@ -56,7 +106,7 @@ impl<Input: Stream, N: Parser<Input> + Drop, F: Fn() -> N> Parser<Input> for Laz
         if let MadeState::Kept(made) = take_state(mode, state) {
             return resume_made(mode, input, made, state);
         }
-        let parser = (self.maker)();
+        let parser = (self.0)();
         let made = Made {
             parser,
             state: N::PartialState::default(),
@@ -67,7 +117,7 @@ impl<Input: Stream, N: Parser<Input> + Drop, F: Fn() -> N> Parser<Input> for Laz
     /// What a parser of the maker adds.
     #[inline]
     fn add_error(&mut self, error: &mut Tracked<Input::Error>) {
-        let mut parser = (self.maker)();
+        let mut parser = (self.0)();
         parser.add_error(error);
     }
 
@@ -91,20 +141,18 @@ fn ask<Input: Stream, N, F: Fn(&mut Input) -> N>(maker: &F, input: &mut Input) -
     maker(input)
 }
 
-/// The parser of [`factory`](crate::combinator::factory), whose maker answers an `N`.
-#[derive(Drop)]
-#[derive_where(Clone, Copy; F)]
-pub struct Factory<F, N> {
-    pub(super) maker: F,
-    pub(super) makes: PhantomData<N>,
+/// The parser of [`factory`](crate::combinator::factory).
+#[derive(Clone, Copy, Drop)]
+pub struct Factory<F>(pub(super) F);
+
+impl<Input, F: MakesAt<Input>> Outputs<Input> for Factory<F>
+where
+    F::Made: Outputs<Input>,
+{
+    type Output = <F::Made as Outputs<Input>>::Output;
 }
 
-impl<Input, N: Outputs<Input>, F> Outputs<Input> for Factory<F, N> {
-    type Output = N::Output;
-}
-
-impl<Input: Stream, N: Parser<Input> + Drop, F: Fn(&mut Input) -> N> Parser<Input>
-    for Factory<F, N> {
+impl<Input: Stream, N: Parser<Input> + Drop, F: Fn(&mut Input) -> N> Parser<Input> for Factory<F> {
     type PartialState = MadeState<N, N::PartialState>;
 
     ghost lawful = { λ p. F.IsAlwaysCallable (factory_maker p) × InPlace Input.view Input.marks Input.failures (λ i n l. F.post (factory_maker p) i n l) × ((v : View Input.Position Input.Token) (n : N) → MadeAt Input.view (λ i n l. F.post (factory_maker p) i n l) v n → N.lawful n) };
@@ -135,7 +183,7 @@ impl<Input: Stream, N: Parser<Input> + Drop, F: Fn(&mut Input) -> N> Parser<Inpu
         if let MadeState::Kept(kept) = take_state(mode, state) {
             return resume_made(mode, input, kept, state);
         }
-        let parser = ask(&self.maker, input);
+        let parser = ask(&self.0, input);
         let made = Made {
             parser,
             state: N::PartialState::default(),

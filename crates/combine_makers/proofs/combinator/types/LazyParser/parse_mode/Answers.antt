@@ -16,5 +16,5 @@ returns-clause-answers g c =
     let from = c.in_default.ensures.from in
     let every = c.requires.lawful.1 in
     let laws = made_is_meaning (at_any answers) g.N.Parser.lawful g.N.Parser.meaning (Adds answers g.N.Parser.meaning) (at_any_lasts answers) g.met.N.Parser.laws (λ v. every) in
-    let lawful = every c.maker-parser.result c.maker-parser.ensures in
-    in_mode _ _ _ laws _ _ _ _ from _ _ _ _ _ (begins_made g.N.Parser g.Input.StreamOnce g.Input.Error.ParseError.seen g.N.PartialState.Default.is_default (at_any answers) (Adds answers g.N.Parser.meaning) lawful c.run_made.ensures (at_any_lasts answers) (g.met.N.Parser.laws _ lawful) c.default.ensures c.maker-parser.ensures)
+    let lawful = every c.call-parser.result c.call-parser.ensures in
+    in_mode _ _ _ laws _ _ _ _ from _ _ _ _ _ (begins_made g.N.Parser g.Input.StreamOnce g.Input.Error.ParseError.seen g.N.PartialState.Default.is_default (at_any answers) (Adds answers g.N.Parser.meaning) lawful c.run_made.ensures (at_any_lasts answers) (g.met.N.Parser.laws _ lawful) c.default.ensures c.call-parser.ensures)
