@@ -5,5 +5,3 @@
 mod messages;
 #[cfg(test)]
 mod record;
-#[cfg(test)]
-mod resp;
