@@ -3,6 +3,7 @@ pub mod Characters
 pub mod Distances
 pub mod Explaining
 pub mod Following
+pub mod Giving
 pub mod Inside
 pub mod Mapped
 pub mod Moved

@@ -1,0 +1,14 @@
+-- the values that a parser gives
+use Rattle.std.specs.Prelude.{ℕ, Bool}
+use Rattle.combine_base.specs.Stream.View.{View}
+use Rattle.combine_base.specs.Parser.Outcome.{Accepted}
+use Rattle.combine_base.specs.Parser.Meaning.{Meaning, Reading}
+
+-- each value of an acceptance is good
+pub record ReadsOnly {Position Token Value : Type 0} (r : Reading Position Token Value) (good : Value → Type 0) : Type 0 where
+  pub one : (v : View Position Token) (a : Value) (n : ℕ) (c : Bool) → r v (Accepted a n c) → good a
+
+-- each value that is accepted from the start, or from a valid state, is good
+pub record GivesOnly {Position Token Range Value State : Type 0} (valid : State → Type 0) (m : Meaning Position Token Range Value State) (good : Value → Type 0) : Type 0 where
+  pub whole : ReadsOnly m.whole good
+  pub rest : (s : State) → valid s → ReadsOnly (m.rest s) good
