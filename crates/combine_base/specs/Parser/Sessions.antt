@@ -87,6 +87,7 @@ module _ {Parser Token Range Value State : Type 0} (meaning : Parser → Meaning
         pub within : count ≤ length (old.seen.unread ++ piece)
         pub unread : new.seen.unread ≡ drop count (old.seen.unread ++ piece)
         pub taken : new.seen.position ≡ old.seen.position + count
+        pub is_open : new.seen.is_open ≡ more
 
       pub record Asks : Type 0 where
         pub is_open : more ≡ true
@@ -159,3 +160,21 @@ module _ {Parser Token Range Value State : Type 0} (meaning : Parser → Meaning
       -- what the call that says the end promises
       pub record Ends (result : Result (Answer Value UnexpectedParse) SessionError) : Type 0 where
         pub is : by_stage ends old.stage result
+
+    -- what the call promises that begins again with this parser on what is unread
+    module _ (determined : Parser → Type 0) (p : Parser) (old new : Course Parser Token State) (result : Result (Answer Value UnexpectedParse) SessionError) where
+      -- a session that begins is fed what was unread, open or ended as before; room is never wanted
+      pub record Anew : Type 0 where
+        pub begun : Course Parser Token State
+        pub begins : Begins determined p begun
+        pub fits : length old.seen.unread < 2 ^ 64
+        pub parses : ends begun new old.seen.unread old.seen.is_open result
+
+      -- after a fault nothing changes any more
+      abbrev pub anew_by_stage : Stage → Type 0
+      anew_by_stage stages.Running = Anew
+      anew_by_stage stages.Decided = Anew
+      anew_by_stage stages.Failed = (result ≡ Err errors.Failed) × (new ≡ old)
+
+      pub record BeginsAgain : Type 0 where
+        pub is : anew_by_stage old.stage
