@@ -1,7 +1,10 @@
 //! An input that stands in pieces.
+ghost use Rattle.std.specs.Char.{is_ascii_digit};
+ghost use Rattle.std.specs.Prelude.{◌≡◌, true};
 
 use crate::slices::{is_digit, is_letter};
 use combine::error::UnexpectedParse;
+use combine::parser::combinator::map;
 use combine::parser::repeat::many1;
 use combine::parser::token::{satisfy, token};
 use combine::parser::{Answer, SessionError, parse_pieces};
@@ -17,6 +20,18 @@ pub fn setting(
     let word = many1::<Vec<u8>, _>(alloc, satisfy(is_letter));
     let digits = many1::<Vec<u8>, _>(alloc, satisfy(is_digit));
     parse_pieces(alloc, (word, token(b'='), digits, token(b';')), pieces)
+}
+
+/// What a digit stands for; the closure is called on digits alone.
+pub fn digit_value(
+    alloc: Global,
+    pieces: &[&[u8]],
+) -> Result<Answer<u8, UnexpectedParse>, SessionError> {
+    let value = map(
+        satisfy(is_digit),
+        |digit: u8| -> u8 requires { is_ascii_digit digit ≡ true } { digit - b'0' },
+    );
+    parse_pieces(alloc, value, pieces)
 }
 
 #[cfg(test)]
@@ -43,5 +58,14 @@ mod tests {
             Ok(Answer::Refused { committed, .. }) => assert!(rt; committed),
             _ => assert!(rt; false, "refused, and committed"),
         }
+    }
+    #[test]
+    fn a_digit_in_pieces(rt: HostRuntime) {
+        let wanted = Answer::Accepted {
+            value: 7,
+            taken: 1,
+            committed: true,
+        };
+        assert_eq!(rt; digit_value(rt.alloc(), &[b"", b"7", b"b"]), Ok(wanted));
     }
 }

@@ -1,14 +1,17 @@
 -- a call of a part, and then a change of its value, is one of the parser whose value is changed
 use Rattle.std.proofs.Common.{ℕ, ◌+◌, ◌<◌, ◌≡◌, ◌⊎◌, inl, inr, List, Bool, true, false, Err, Ok, ap, sym, subst, ◌∙◌}
+use Rattle.std.specs.Prelude.{◌↔◌}
 use Rattle.combine_base.specs.Stream.View.{View, Takes, advanced, extended, Follows}
 use Rattle.combine_base.specs.Stream.Advance.{advanced_extended, advanced_twice}
 use Rattle.combine_base.specs.Error.Errors.{Added, Errors, New, Says, Unstored}
 use Rattle.combine_base.specs.Error.Items.{Item}
 use Rattle.combine_base.specs.Parser.Outcome.{Outcome, Accepted, Refused, Undecided, after, IsCommitted}
-use Rattle.combine_base.specs.Parser.Meaning.{Meaning, Reading, begun}
+use Rattle.combine_base.specs.Parser.Given.{GivesOnly}
+use Rattle.combine_base.specs.Parser.Meaning.{Meaning, MeansSame, Reading, begun}
 use Rattle.combine_base.specs.Parser.Answer.{Resumes, Run, World, Answers, Accepts, Refuses, Asks, Leaves, fails, peeks, ends, loses, world}
 use Rattle.combine_base.specs.Parser.Reasons.{kept_from}
 use Rattle.combine_base.specs.Refusals.{Peeked}
+use Rattle.combine_base.proofs.Giving.{good_ok, good_peek_ok}
 use Rattle.combine_base.specs.declared.stream.Kind.{Kind}
 use Rattle.combine_base.specs.declared.stream.Kind.TheVariants as kinds
 use Rattle.combine_base.specs.declared.stream.Failures.{Failures}
@@ -16,6 +19,23 @@ use Rattle.combine_base.specs.declared.error.Tracked.{Tracked}
 use Rattle.combine_base.specs.declared.error.ParseResult.{ParseResult}
 use Rattle.combine_base.specs.declared.error.ParseResult.TheVariants.{CommitOk, PeekOk, CommitErr, PeekErr}
 use Rattle.combine_functions.specs.Changes.{Changes, MadeSaying, changed, changed_reading, read_from, spares}
+
+-- what means the same gives the same values
+module _ {P T R A S : Type 0} (valid : S → Type 0) (good : A → Type 0) where
+  into_same : (m m' : Meaning P T R A S) → MeansSame m m' → GivesOnly valid m good → GivesOnly valid m' good
+  into_same m m' e h = record {
+    whole = record { one = λ v a n c p. h.whole.one v a n c ((e.whole v (Accepted a n c)).1 p) };
+    rest = λ s k. record { one = λ v a n c p. (h.rest s k).one v a n c ((e.rest s v (Accepted a n c)).1 p) };
+  }
+
+  from_same : (m m' : Meaning P T R A S) → MeansSame m m' → GivesOnly valid m' good → GivesOnly valid m good
+  from_same m m' e h = record {
+    whole = record { one = λ v a n c p. h.whole.one v a n c ((e.whole v (Accepted a n c)).0 p) };
+    rest = λ s k. record { one = λ v a n c p. (h.rest s k).one v a n c ((e.rest s v (Accepted a n c)).0 p) };
+  }
+
+  pub gives_same : (m m' : Meaning P T R A S) → MeansSame m m' → GivesOnly valid m good ↔ GivesOnly valid m' good
+  gives_same m m' e = (into_same m m' e, from_same m m' e)
 
 -- what is resumed is changed alike
 module _ {P T A B : Type 0} (step : P → T → P) (gives : P → A → B → Type 0) (denies : A → Type 0) (r c : Reading P T A) (n : ℕ) (old new : View P T) (t : Takes step n old new) (h : Resumes r c n old new) where
@@ -39,9 +59,9 @@ module _ {P T A B : Type 0} (step : P → T → P) (gives : P → A → B → Ty
   changed_resumes : Resumes (changed_reading step gives denies r) (changed_reading step gives denies c) n old new
   changed_resumes = record { gives = carried; committed = still_committed }
 
-module _ {P T R A B S E : Type 0} (w : World P T S E) (gives : P → A → B → Type 0) (denies starves : A → Type 0) (m : Meaning P T R A S) (r : Run P T S) where
+module _ {P T R A B S E : Type 0} (w : World P T S E) (valid : S → Type 0) (gives : P → A → B → Type 0) (denies starves : A → Type 0) (m : Meaning P T R A S) (r : Run P T S) where
   abbrev whole : Meaning P T R B S
-  whole = changed w.step gives denies (spares starves) m
+  whole = changed w.step gives denies (GivesOnly valid m (spares starves)) m
 
   meant_refused : (first : Bool) (s : S) (k : Bool) → begun m first s r.old (Refused k) → begun whole first s r.old (Refused k)
   meant_refused true s k p = inl p
@@ -116,38 +136,38 @@ module _ {P T R A B S E : Type 0} (w : World P T S E) (gives : P → A → B →
     denied : denies a → Refuses w whole behind k
     denied d = record { meant = meant_denied r.first r.state a p.count k p.meant d; leaves = leaves; failures = λ s. f ∙ p.failures s }
 
-    starved : (w.frugal → starves a) → fails w whole behind kinds.Memory
-    starved h = (λ x l. l.1 a (h x), leaves)
+    starved : (w.frugal → GivesOnly valid m (spares starves) → ⊥) → fails w whole behind kinds.Memory
+    starved h = (λ x l. h x l.1, leaves)
 
-module _ {P T R A B S E : Type 0} (s : Errors T R P E) (step : P → T → P) (steady : Type 0) (fresh : S → Type 0) (gives : P → A → B → Type 0) (denies starves : A → Type 0) (m : Meaning P T R A S) (r : Run P T S) (new : View P T) (later : Failures) (e : new ≡ r.new) (f : later ≡ r.after) (a : A) (says : E → Type 0) where
+module _ {P T R A B S E : Type 0} (s : Errors T R P E) (step : P → T → P) (steady : Type 0) (fresh valid : S → Type 0) (gives : P → A → B → Type 0) (denies starves : A → Type 0) (m : Meaning P T R A S) (r : Run P T S) (new : View P T) (later : Failures) (e : new ≡ r.new) (f : later ≡ r.after) (a : A) (says : E → Type 0) where
   abbrev w : World P T S E
   w = world step s steady fresh
 
-  pub commit_value : (b : B) → Answers w m r (CommitOk a) → Changes s (gives r.new.position a) (denies a) (starves a) says (Ok b) → Answers w (whole w gives denies starves m r) (record { first = r.first; state = r.state; left = r.left; old = r.old; new = new; before = r.before; after = later }) (CommitOk b)
-  commit_value b h c = record { is = gives_value w gives denies starves m r new later e f a true h.is b c.is }
+  pub commit_value : (b : B) → Answers w m r (CommitOk a) → Changes s (gives r.new.position a) (denies a) (starves a) says (Ok b) → Answers w (whole w valid gives denies starves m r) (record { first = r.first; state = r.state; left = r.left; old = r.old; new = new; before = r.before; after = later }) (CommitOk b)
+  commit_value b h c = record { is = gives_value w valid gives denies starves m r new later e f a true h.is b c.is }
 
-  pub peek_value : (b : B) → Answers w m r (PeekOk a) → Changes s (gives r.new.position a) (denies a) (starves a) says (Ok b) → Answers w (whole w gives denies starves m r) (record { first = r.first; state = r.state; left = r.left; old = r.old; new = new; before = r.before; after = later }) (PeekOk b)
-  peek_value b h c = record { is = gives_value w gives denies starves m r new later e f a false h.is b c.is }
+  pub peek_value : (b : B) → Answers w m r (PeekOk a) → Changes s (gives r.new.position a) (denies a) (starves a) says (Ok b) → Answers w (whole w valid gives denies starves m r) (record { first = r.first; state = r.state; left = r.left; old = r.old; new = new; before = r.before; after = later }) (PeekOk b)
+  peek_value b h c = record { is = gives_value w valid gives denies starves m r new later e f a false h.is b c.is }
 
-  pub commit_denial : (x : E) → Answers w m r (CommitOk a) → Changes s (gives r.new.position a) (denies a) (starves a) says (Err x) → Answers w (whole w gives denies starves m r) (record { first = r.first; state = r.state; left = r.left; old = r.old; new = new; before = r.before; after = later }) (CommitErr x)
-  commit_denial x h c = by_case c.is
+  pub commit_denial : valid r.state → (x : E) → Answers w m r (CommitOk a) → Changes s (gives r.new.position a) (denies a) (starves a) says (Err x) → Answers w (whole w valid gives denies starves m r) (record { first = r.first; state = r.state; left = r.left; old = r.old; new = new; before = r.before; after = later }) (CommitErr x)
+  commit_denial i x h c = by_case c.is
     where
-      by_case : ((s.kind x ≡ kinds.Refused) × denies a × says x) ⊎ ((s.kind x ≡ kinds.Memory) × (s.frugal → starves a)) → Answers w (whole w gives denies starves m r) (record { first = r.first; state = r.state; left = r.left; old = r.old; new = new; before = r.before; after = later }) (CommitErr x)
-      by_case (inl p) = record { is = rw p.0 (denied w gives denies starves m r new later e f a true h.is p.1) }
-      by_case (inr p) = record { is = rw p.0 (starved w gives denies starves m r new later e f a true h.is p.1) }
+      by_case : ((s.kind x ≡ kinds.Refused) × denies a × says x) ⊎ ((s.kind x ≡ kinds.Memory) × (s.frugal → starves a)) → Answers w (whole w valid gives denies starves m r) (record { first = r.first; state = r.state; left = r.left; old = r.old; new = new; before = r.before; after = later }) (CommitErr x)
+      by_case (inl p) = record { is = rw p.0 (denied w valid gives denies starves m r new later e f a true h.is p.1) }
+      by_case (inr p) = record { is = rw p.0 (starved w valid gives denies starves m r new later e f a true h.is (λ y l. good_ok valid m (spares starves) w r a l i h (p.1 y))) }
 
-  pub peek_denial : (x : E) (result : ParseResult B E) → Answers w m r (PeekOk a) → Changes s (gives r.new.position a) (denies a) (starves a) says (Err x) → Peeked s.kind x result → Answers w (whole w gives denies starves m r) (record { first = r.first; state = r.state; left = r.left; old = r.old; new = new; before = r.before; after = later }) result
-  peek_denial x (CommitOk b) h c q = absurd q.is
-  peek_denial x (PeekOk b) h c q = absurd q.is
-  peek_denial x (CommitErr y) h c q = by_case c.is
+  pub peek_denial : valid r.state → (x : E) (result : ParseResult B E) → Answers w m r (PeekOk a) → Changes s (gives r.new.position a) (denies a) (starves a) says (Err x) → Peeked s.kind x result → Answers w (whole w valid gives denies starves m r) (record { first = r.first; state = r.state; left = r.left; old = r.old; new = new; before = r.before; after = later }) result
+  peek_denial i x (CommitOk b) h c q = absurd q.is
+  peek_denial i x (PeekOk b) h c q = absurd q.is
+  peek_denial i x (CommitErr y) h c q = by_case c.is
     where
-      by_case : ((s.kind x ≡ kinds.Refused) × denies a × says x) ⊎ ((s.kind x ≡ kinds.Memory) × (s.frugal → starves a)) → Answers w (whole w gives denies starves m r) (record { first = r.first; state = r.state; left = r.left; old = r.old; new = new; before = r.before; after = later }) (CommitErr y)
-      by_case (inl p) = let i = p.0 in let j = q.is.1 in absurd (cc)
-      by_case (inr p) = record { is = rw (q.is.0, p.0) (starved w gives denies starves m r new later e f a false h.is p.1) }
-  peek_denial x (PeekErr t) h c q = by_case c.is
+      by_case : ((s.kind x ≡ kinds.Refused) × denies a × says x) ⊎ ((s.kind x ≡ kinds.Memory) × (s.frugal → starves a)) → Answers w (whole w valid gives denies starves m r) (record { first = r.first; state = r.state; left = r.left; old = r.old; new = new; before = r.before; after = later }) (CommitErr y)
+      by_case (inl p) = let k = p.0 in let j = q.is.1 in absurd (cc)
+      by_case (inr p) = record { is = rw (q.is.0, p.0) (starved w valid gives denies starves m r new later e f a false h.is (λ y l. good_peek_ok valid m (spares starves) w r a l i h (p.1 y))) }
+  peek_denial i x (PeekErr t) h c q = by_case c.is
     where
-      by_case : ((s.kind x ≡ kinds.Refused) × denies a × says x) ⊎ ((s.kind x ≡ kinds.Memory) × (s.frugal → starves a)) → Answers w (whole w gives denies starves m r) (record { first = r.first; state = r.state; left = r.left; old = r.old; new = new; before = r.before; after = later }) (PeekErr t)
-      by_case (inl p) = record { is = rw (q.is.0, p.0) (denied w gives denies starves m r new later e f a false h.is p.1) }
+      by_case : ((s.kind x ≡ kinds.Refused) × denies a × says x) ⊎ ((s.kind x ≡ kinds.Memory) × (s.frugal → starves a)) → Answers w (whole w valid gives denies starves m r) (record { first = r.first; state = r.state; left = r.left; old = r.old; new = new; before = r.before; after = later }) (PeekErr t)
+      by_case (inl p) = record { is = rw (q.is.0, p.0) (denied w valid gives denies starves m r new later e f a false h.is p.1) }
       by_case (inr p) = absurd (q.is.1 p.0)
 
 -- the reading of a call, by what it was given

@@ -23,9 +23,9 @@ module _ {T R P E B : Type 0} (s : Errors T R P E) (gives : B → Type 0) (denie
   pub record Changes (result : Result B E) : Type 0 where
     pub is : changes result
 
--- no value finds no memory
-abbrev pub spares : {A : Type 0} → (A → Type 0) → Type 0
-spares {A} starves = (a : A) → starves a → ⊥
+-- the value doesn't find that memory is short
+abbrev pub spares : {A : Type 0} → (A → Type 0) → A → Type 0
+spares starves a = starves a → ⊥
 
 -- a value that is accepted there is refused
 pub record Denied {P T A : Type 0} (denies : A → Type 0) (r : Reading P T A) (v : View P T) (committed : Bool) : Type 0 where
@@ -106,16 +106,16 @@ module _ {P T A B : Type 0} (step : P → T → P) (gives : P → A → B → Ty
       rest = λ s k. record { one = changed_one (m.rest s) (h.rest s k) (e s k) };
     }
 
-    pub changed_means_same : {m m' : Meaning P T R A S} → MeansSame m m' → MeansSame (changed spared m) (changed spared m')
-    changed_means_same {m} {m'} h = record {
-      whole = both_ways m.whole m'.whole h.whole;
-      rest = λ s. both_ways (m.rest s) (m'.rest s) (h.rest s);
-      lost = h.lost;
-      keeps = h.keeps;
-      puts_back = h.puts_back;
-      lean = (λ x. (h.lean.0 x.0, x.1), λ x. (h.lean.1 x.0, x.1));
-      adds = h.adds;
-    }
+  pub changed_means_same : {R S : Type 0} {spared spared' : Type 0} {m m' : Meaning P T R A S} → spared ↔ spared' → MeansSame m m' → MeansSame (changed spared m) (changed spared' m')
+  changed_means_same {R} {S} {spared} {spared'} {m} {m'} i h = record {
+    whole = both_ways m.whole m'.whole h.whole;
+    rest = λ s. both_ways (m.rest s) (m'.rest s) (h.rest s);
+    lost = h.lost;
+    keeps = h.keeps;
+    puts_back = h.puts_back;
+    lean = (λ x. (h.lean.0 x.0, i.0 x.1), λ x. (h.lean.1 x.0, i.1 x.1));
+    adds = h.adds;
+  }
 
 -- the reading that a call begins with, by what it was given
 abbrev pub read_from : {P T R A S : Type 0} → Meaning P T R A S → Option S → Reading P T A
@@ -134,28 +134,29 @@ module _ {P T R A S E : Type 0} (m : Meaning P T R A S) (part : Option S → Vie
   pub record RefusesChanged (from : Option S) (v : View P T) (committed : Bool) (e : E) : Type 0 where
     pub is : part from v committed e ⊎ RefusesValue from v committed e
 
--- a function's errors are refusals or want of memory
-module _ {A B E : Type 0} (kind : E → Kind) (post : A → Result B E → Type 0) where
+-- a function's errors for a value are refusals or want of memory
+module _ {B E : Type 0} (kind : E → Kind) (post : Result B E → Type 0) where
   pub record ErrorKinds : Type 0 where
-    pub one : (a : A) (e : E) → post a (Err e) → (kind e ≡ kinds.Refused) ⊎ (kind e ≡ kinds.Memory)
+    pub one : (e : E) → post (Err e) → (kind e ≡ kinds.Refused) ⊎ (kind e ≡ kinds.Memory)
 
-  -- it answers an error of that kind
-  pub record AnsweredKind (why : Kind) (a : A) : Type 0 where
-    pub error : E
-    pub met : post a (Err error)
-    pub kind_is : kind error ≡ why
+-- it answers an error of that kind
+pub record AnsweredKind {A B E : Type 0} (kind : E → Kind) (post : A → Result B E → Type 0) (why : Kind) (a : A) : Type 0 where
+  pub error : E
+  pub met : post a (Err error)
+  pub kind_is : kind error ≡ why
 
--- the same of what its errors are turned into
-module _ {A B E I : Type 0} (kind : I → Kind) (post : A → Result B E → Type 0) (turned : E → I → Type 0) where
+-- the same of what its errors for a value are turned into
+module _ {B E I : Type 0} (kind : I → Kind) (post : Result B E → Type 0) (turned : E → I → Type 0) where
   pub record ItemKinds : Type 0 where
-    pub one : (a : A) (e : E) (i : I) → post a (Err e) → turned e i → (kind i ≡ kinds.Refused) ⊎ (kind i ≡ kinds.Memory)
+    pub one : (e : E) (i : I) → post (Err e) → turned e i → (kind i ≡ kinds.Refused) ⊎ (kind i ≡ kinds.Memory)
 
-  pub record AnsweredItem (why : Kind) (a : A) : Type 0 where
-    pub error : E
-    pub item : I
-    pub met : post a (Err error)
-    pub turns : turned error item
-    pub kind_is : kind item ≡ why
+-- it answers an error that is turned into an item of that kind
+pub record AnsweredItem {A B E I : Type 0} (kind : I → Kind) (post : A → Result B E → Type 0) (turned : E → I → Type 0) (why : Kind) (a : A) : Type 0 where
+  pub error : E
+  pub item : I
+  pub met : post a (Err error)
+  pub turns : turned error item
+  pub kind_is : kind item ≡ why
 
 -- an error made at that place of what the function answered
 pub record MadeOf {T R P E A B X I : Type 0} (s : Errors T R P E) (items : I → List (Item T R)) (post : A → Result B X → Type 0) (turned : X → I → Type 0) (place : P) (a : A) (e : E) : Type 0 where
@@ -167,10 +168,9 @@ pub record MadeOf {T R P E A B X I : Type 0} (s : Errors T R P E) (items : I →
   pub new : New s kinds.Refused place own
   pub said : Says s (Unit {0}) (λ is. is ≡ items item) own e
 
-module _ {I P T A B C V : Type 0} (view : I → View P T) (marks : I → C → V → Type 0) (failures : I → Failures) (post : A → MutBor I → B → MutBor I → Type 0) where
-  -- a function that leaves the stream in place
-  pub record InPlace : Type 0 where
-    pub kept : (a : A) (i : MutBor I) (b : B) (l : MutBor I) → post a i b l → (view l.now ≡ view i.now) × Passes (marks i.now) (marks l.now) (failures i.now) (failures l.now) × (failures l.now ≡ failures i.now)
+-- a function that leaves the stream in place, as it answers for a value
+pub record InPlace {I P T B C V : Type 0} (view : I → View P T) (marks : I → C → V → Type 0) (failures : I → Failures) (post : MutBor I → B → MutBor I → Type 0) : Type 0 where
+  pub kept : (i : MutBor I) (b : B) (l : MutBor I) → post i b l → (view l.now ≡ view i.now) × Passes (marks i.now) (marks l.now) (failures i.now) (failures l.now) × (failures l.now ≡ failures i.now)
 
 -- what a function may answer for a value, at a stream that stands there
 pub record GivesAt {I P T A B : Type 0} (view : I → View P T) (post : A → MutBor I → B → MutBor I → Type 0) (place : P) (a : A) (b : B) : Type 0 where

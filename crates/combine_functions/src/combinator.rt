@@ -15,7 +15,7 @@ use types::{AndThen, FlatMap, FromStr, MapInput};
 
 /// As `p`, its value changed by `f`, or refused where `f` answers an error.
 ///
-/// What is taken, refusals, faults and need of more are those of `p`, and so is the state. A refusal by `f` is committed where `p` was; the tokens of `p` stay taken, also at the end of an open piece (the crate's puts them back there, committed). Its error stands at the position before `p`, and says what `f` answered. An error of `f` of kind `Memory`, or an item that finds no memory, is that fault. `f` answers errors of the kinds `Refused` and `Memory` alone, and is an `Fn`, where the crate takes an `FnMut`.
+/// What is taken, refusals, faults and need of more are those of `p`, and so is the state. A refusal by `f` is committed where `p` was; the tokens of `p` stay taken, also at the end of an open piece (the crate's puts them back there, committed). Its error stands at the position before `p`, and says what `f` answered. An error of `f` of kind `Memory`, or an item that finds no memory, is that fault. `f` answers errors of the kinds `Refused` and `Memory` alone, and need only be callable on the values that `p` gives; it is an `Fn`, where the crate takes an `FnMut`.
 #[inline]
 pub fn and_then<P, F, B>(p: P, f: F) -> AndThen<P, F, B>
     ensures { result ≡ and_then_of p f }
@@ -25,7 +25,7 @@ pub fn and_then<P, F, B>(p: P, f: F) -> AndThen<P, F, B>
 
 /// As `p`, its value changed by `f`, or refused with the error that `f` answers.
 ///
-/// What is taken, refusals, faults and need of more are those of `p`, and so is the state. A refusal by `f` is committed where `p` was; the tokens of `p` stay taken. An error of `f` of kind `Memory` is that fault; `f` answers errors of the kinds `Refused` and `Memory` alone, and is an `Fn`, where the crate takes an `FnMut`.
+/// What is taken, refusals, faults and need of more are those of `p`, and so is the state. A refusal by `f` is committed where `p` was; the tokens of `p` stay taken. An error of `f` of kind `Memory` is that fault; `f` answers errors of the kinds `Refused` and `Memory` alone, and need only be callable on the values that `p` gives; it is an `Fn`, where the crate takes an `FnMut`.
 #[inline]
 pub fn flat_map<P, F, B>(p: P, f: F) -> FlatMap<P, F, B>
     ensures { result ≡ flat_map_of p f }
@@ -35,7 +35,7 @@ pub fn flat_map<P, F, B>(p: P, f: F) -> FlatMap<P, F, B>
 
 /// As `p`, its value changed by `f`, which is given the stream too, as `p` left it.
 ///
-/// What is taken, refusals, faults and need of more are those of `p`, and so is the state. `f` leaves the stream in place; it is an `Fn`, where the crate takes an `FnMut`.
+/// What is taken, refusals, faults and need of more are those of `p`, and so is the state. `f` leaves the stream in place, and need only be callable on the values that `p` gives; it is an `Fn`, where the crate takes an `FnMut`.
 #[inline]
 pub fn map_input<P, F, B>(p: P, f: F) -> MapInput<P, F, B>
     ensures { result ≡ map_input_of p f }

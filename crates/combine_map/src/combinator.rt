@@ -12,7 +12,7 @@ use types::{Ignore, LookAhead, Map, NoPartial, NotFollowedBy, Try};
 
 /// As `p`, its value changed by `f`.
 ///
-/// What is taken, refusals, faults and need of more are those of `p`, and so is the state. The crate takes an `FnMut`.
+/// What is taken, refusals, faults and need of more are those of `p`, and so is the state. `f` need only be callable on the values that `p` gives. The crate takes an `FnMut`.
 #[inline]
 pub fn map<P, F, B>(p: P, f: F) -> Map<P, F, B>
     ensures { result ≡ map_of p f }

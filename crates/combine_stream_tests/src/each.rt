@@ -1,4 +1,6 @@
 //! A plain function for each of the first constructors, over a slice of bytes.
+ghost use Rattle.std.specs.Char.{is_ascii_digit};
+ghost use Rattle.std.specs.Prelude.{◌≡◌, true};
 
 use combine::ParserExt;
 use combine::parser::Parser;
@@ -55,9 +57,13 @@ pub fn maybe_digit(input: &[u8]) -> Parsed<'_, Option<u8>> {
     optional(satisfy(is_digit)).parse(input)
 }
 
-/// What a digit stands for.
+/// What a digit stands for, by a closure that is called on digits alone.
 pub fn digit_value(input: &[u8]) -> Parsed<'_, u8> {
-    map(satisfy(is_digit), |digit: u8| digit.saturating_sub(b'0')).parse(input)
+    map(
+        satisfy(is_digit),
+        |digit: u8| -> u8 requires { is_ascii_digit digit ≡ true } { digit - b'0' },
+    )
+    .parse(input)
 }
 
 /// `ab`, or nothing is taken.

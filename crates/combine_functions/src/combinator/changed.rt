@@ -1,5 +1,6 @@
 //! A parser whose value is changed, or refused.
 ghost use Rattle.std.specs.Prelude.{◌≡◌};
+ghost use Rattle.combine_base.specs.Parser.Given.{GivesOnly};
 ghost use Rattle.combine_functions.specs.Changes.{DecidesOne, RefusesChanged, changed, changed_is_meaning, changed_means_one, spares};
 ghost use Rattle.combine_functions.specs.Parsers.{changed_of, changed_part, change_part};
 
@@ -18,7 +19,8 @@ pub trait Change<Input: Stream, A> {
     /// What the value is changed into.
     type Output: Drop;
 
-    ghost callable: { Self → Type 0 };
+    /// What a call with that value needs.
+    ghost callable: { Self → A → Type 0 };
 
     /// What a value may be changed into, where the parser left the stream at that position.
     ghost gives: { Self → Input.Position → A → Self.Output → Type 0 };
@@ -39,7 +41,7 @@ pub trait Change<Input: Stream, A> {
         began: Input::Position,
         input: &mut Input,
     ) -> Result<Self::Output, Input::Error>
-        requires { callable self.now }
+        requires { callable self.now value }
         ensures passes { Passes (Input.marks input.old) (Input.marks input.new) (Input.failures input.old) (Input.failures input.new) }
         ensures view { Input.view input.new ≡ Input.view input.old }
         ensures failures { Input.failures input.new ≡ Input.failures input.old }
@@ -78,13 +80,13 @@ impl<Input: Stream, P: Parser<Input>, B: Drop, C: Change<Input, P::Output, Outpu
 > for Changed<P, C, B> {
     type PartialState = P::PartialState;
 
-    ghost lawful = { λ p. P.lawful (changed_part p) × C.callable (change_part p) };
+    ghost lawful = { λ p. P.lawful (changed_part p) × GivesOnly P.valid (P.meaning (changed_part p)) (C.callable (change_part p)) };
 
     ghost determined = { λ p. P.determined (changed_part p) × DecidesOne Input.step (P.meaning (changed_part p)).whole (C.gives (change_part p)) (C.denies (change_part p)) × ((s : P.PartialState) → P.valid s → DecidesOne Input.step ((P.meaning (changed_part p)).rest s) (C.gives (change_part p)) (C.denies (change_part p))) };
 
     ghost valid = { P.valid };
 
-    ghost meaning = { λ p. changed Input.step (C.gives (change_part p)) (C.denies (change_part p)) (spares (C.starves (change_part p))) (P.meaning (changed_part p)) };
+    ghost meaning = { λ p. changed Input.step (C.gives (change_part p)) (C.denies (change_part p)) (GivesOnly P.valid (P.meaning (changed_part p)) (spares (C.starves (change_part p)))) (P.meaning (changed_part p)) };
 
     ghost refuses = { λ p. RefusesChanged (P.meaning (changed_part p)) (P.refuses (changed_part p)) (C.says (change_part p)) };
 
@@ -92,9 +94,9 @@ impl<Input: Stream, P: Parser<Input>, B: Drop, C: Change<Input, P::Output, Outpu
 
     ghost default_valid = { P.default_valid };
 
-    ghost laws = { λ p l. changed_is_meaning Input.step (C.gives (change_part p)) (C.denies (change_part p)) (spares (C.starves (change_part p))) (P.laws (changed_part p) l.0) };
+    ghost laws = { λ p l. changed_is_meaning Input.step (C.gives (change_part p)) (C.denies (change_part p)) (GivesOnly P.valid (P.meaning (changed_part p)) (spares (C.starves (change_part p)))) (P.laws (changed_part p) l.0) };
 
-    ghost single = { λ p l d. changed_means_one Input.step (C.gives (change_part p)) (C.denies (change_part p)) (spares (C.starves (change_part p))) (P.single (changed_part p) l.0 d.0) d.1 d.2 };
+    ghost single = { λ p l d. changed_means_one Input.step (C.gives (change_part p)) (C.denies (change_part p)) (GivesOnly P.valid (P.meaning (changed_part p)) (spares (C.starves (change_part p)))) (P.single (changed_part p) l.0 d.0) d.1 d.2 };
 
     #[inline(always)]
     fn parse_mode<M: ParseMode>(

@@ -19,7 +19,7 @@ impl<Input: Stream, A, B: Drop, F: Fn(A) -> Result<B, Input::Error>> Change<Inpu
     for Answering<F> {
     type Output = B;
 
-    ghost callable = { λ f. F.IsAlwaysCallable f.0 × ErrorKinds Input.Error.seen.kind (F.post f.0) };
+    ghost callable = { λ f a. F.pre f.0 a × ErrorKinds Input.Error.seen.kind (F.post f.0 a) };
 
     ghost gives = { λ f at a b. F.post f.0 a (Ok b) };
 
@@ -53,7 +53,7 @@ impl<
 > Change<Input, A> for Trying<F> {
     type Output = B;
 
-    ghost callable = { λ f. F.IsAlwaysCallable f.0 × ItemKinds Input.Error.StreamError.kind (F.post f.0) E.converts };
+    ghost callable = { λ f a. F.pre f.0 a × ItemKinds Input.Error.StreamError.kind (F.post f.0 a) E.converts };
 
     ghost gives = { λ f at a b. F.post f.0 a (Ok b) };
 
@@ -89,7 +89,7 @@ pub struct Seeing<F>(pub(super) F);
 impl<Input: Stream, A, B: Drop, F: Fn(A, &mut Input) -> B> Change<Input, A> for Seeing<F> {
     type Output = B;
 
-    ghost callable = { λ f. F.IsAlwaysCallable f.0 × InPlace Input.view Input.marks Input.failures (λ a i b l. F.post f.0 a i b l) };
+    ghost callable = { λ f a. ((i : _) → F.pre f.0 a i) × InPlace Input.view Input.marks Input.failures (λ i b l. F.post f.0 a i b l) };
 
     ghost gives = { λ f. GivesAt Input.view (λ a i b l. F.post f.0 a i b l) };
 
@@ -121,7 +121,7 @@ where
 {
     type Output = T;
 
-    ghost callable = { λ f. Unit {0} };
+    ghost callable = { λ f a. Unit {0} };
 
     ghost gives = { λ f at a b. T.from_str_gives (A.bytes a) (Ok b) };
 

@@ -23,7 +23,7 @@ where
 {
     type Output = usize;
 
-    ghost callable = { λ c. Unit {0} };
+    ghost callable = { λ c a. Unit {0} };
 
     ghost gives = { λ c at a n. A.try_into_gives a (Ok n) };
 

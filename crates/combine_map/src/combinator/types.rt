@@ -3,6 +3,7 @@ ghost use Rattle.std.specs.Prelude.{◌≡◌};
 ghost use Rattle.combine_map.specs.Attempt.{HasValid, attempt_refuses, attempted, attempted_is_meaning, attempted_means_one, losing, refusing};
 ghost use Rattle.combine_map.specs.Parsers.{attempt_part, map_function, map_of, map_part};
 ghost use Rattle.combine_map.specs.PutBack.{KeepsDistance, PutsBack};
+ghost use Rattle.combine_base.specs.Parser.Given.{GivesOnly};
 ghost use Rattle.combine_base.specs.Parser.Mapped.{mapped, mapped_is_meaning, mapped_means_one};
 ghost use Rattle.combine_base.specs.Stream.Calls.{Passes};
 
@@ -47,7 +48,7 @@ impl<Input: Stream, P: Parser<Input>, B: Drop, F: Fn(P::Output) -> B> Parser<Inp
     for Map<P, F, B> {
     type PartialState = P::PartialState;
 
-    ghost lawful = { λ p. P.lawful (map_part p) × F.IsAlwaysCallable (map_function p) };
+    ghost lawful = { λ p. P.lawful (map_part p) × GivesOnly P.valid (P.meaning (map_part p)) (F.pre (map_function p)) };
 
     ghost determined = { λ p. P.determined (map_part p) };
 

@@ -1,7 +1,14 @@
+use Rattle.combine_base.proofs.Giving.{good_ok, good_peek_ok}
 use Rattle.combine_base.proofs.Mapped.{mapped_err, mapped_ok, mapped_peek_err, mapped_peek_ok}
 use Rattle.combine_base.specs.Parser.Mapped.{mapped_means_same}
 use Rattle.combine_base.proofs.Reasoning.{reasons_err, reasons_peek_err}
 use Rattle.combine_map.proofs.combinator.types.MapParser.parse_mode.Goals as goal
+
+pub function-requires : goal.function-requires
+function-requires g c = good_ok _ _ _ _ _ _ c.requires.lawful.1 c.requires.valid c.in-CommitOk.ensures.answers
+
+pub function-requires-in-PeekOk : goal.function-requires-in-PeekOk
+function-requires-in-PeekOk g c = good_peek_ok _ _ _ _ _ _ c.requires.lawful.1 c.requires.valid c.in-PeekOk.ensures.answers
 
 pub returns-in-CommitOk-clause-same : goal.returns-in-CommitOk-clause-same
 returns-in-CommitOk-clause-same g c = mapped_means_same _ _ _ c.parse_mode.ensures.same
