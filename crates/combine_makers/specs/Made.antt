@@ -2,11 +2,13 @@
 use Rattle.std.specs.Prelude.{◌≡◌, List, [], ◌++◌, Bool, true, false, Option, Some, None, refl, ◌↔◌}
 use Rattle.std.proofs.Common.{ap, sym, ◌∙◌, append_assoc}
 use denote.Ref.{MutBor}
+use Rattle.std.specs.Fn.{Shared, always_fn}
 use Rattle.combine_base.specs.Stream.View.{View, Follows, extended}
 use Rattle.combine_base.specs.Stream.Advance.{extended_none, follows_none, open_follows}
 use Rattle.combine_base.specs.Stream.Calls.{Passes}
 use Rattle.combine_base.specs.Error.Items.{Item}
 use Rattle.combine_base.specs.Parser.Outcome.{Outcome, shape}
+use Rattle.combine_base.specs.Parser.Kept.{KeptOf, means_one_as}
 use Rattle.combine_base.specs.Parser.Meaning.{Meaning, Reading, IsReading, IsSingle, IsMeaning, MeansOne}
 use Rattle.combine_base.specs.declared.stream.Failures.{Failures}
 use Rattle.combine_makers.specs.declared.combinator.made.MadeState.{MadeState}
@@ -31,14 +33,21 @@ factory_maker p = p.0
 abbrev pub is_unmade : {N U : Type 0} → MadeState N U → Type 0
 is_unmade s = s ≡ Unmade
 
--- a parser that is kept is lawful, and its state is valid
+-- which parsers may be kept, and their valid states
 abbrev pub valid_made : {N U : Type 0} → (N → Type 0) → (U → Type 0) → MadeState N U → Type 0
-valid_made lawful valid Unmade = Unit {0}
-valid_made lawful valid (Kept k) = lawful k.parser × valid k.state
+valid_made kept valid Unmade = Unit {0}
+valid_made kept valid (Kept k) = kept k.parser × valid k.state
 
-pub is_unmade_valid : {N U : Type 0} (lawful : N → Type 0) (valid : U → Type 0) (s : MadeState N U) → is_unmade s → valid_made lawful valid s
-is_unmade_valid lawful valid Unmade d = tt
-is_unmade_valid lawful valid (Kept k) d = absurd (cc)
+pub is_unmade_valid : {N U : Type 0} (kept : N → Type 0) (valid : U → Type 0) (s : MadeState N U) → is_unmade s → valid_made kept valid s
+is_unmade_valid kept valid Unmade d = tt
+is_unmade_valid kept valid (Kept k) d = absurd (cc)
+
+-- made by a maker that may be called, and whose parsers are all lawful
+pub record MadeBySome {F N : Type 0} (callable : F → Type 0) (makes : F → N → Type 0) (lawful : N → Type 0) (n : N) : Type 0 where
+  pub maker : F
+  pub is_callable : callable maker
+  pub all : (n : N) → makes maker n → lawful n
+  pub made : makes maker n
 
 -- which parsers may be made where the stream is so
 abbrev pub Makes : Type 0 → Type 0 → Type 0 → Type 1
@@ -59,6 +68,15 @@ module _ {I P T N C V : Type 0} (view : I → View P T) (marks : I → C → V �
   -- a maker that leaves the stream in place
   pub record InPlace : Type 0 where
     pub kept : (i : MutBor I) (n : N) (l : MutBor I) → post i n l → (view l.now ≡ view i.now) × Passes (marks i.now) (marks l.now) (failures i.now) (failures l.now) × (failures l.now ≡ failures i.now)
+
+-- made by a function of this type
+abbrev pub by_lazy : {F N : Type 0} → Shared F (Unit {0}) N → (N → Type 0) → N → Type 0
+by_lazy g lawful = MadeBySome (always_fn g) (λ f. g.post f tt) lawful
+
+module _ {I P T N C V F : Type 0} (view : I → View P T) (marks : I → C → V → Type 0) (failures : I → Failures) (g : Shared F (MutBor I × Unit {0}) (N × (MutBor I × Unit {0}))) where
+  -- made for some stream by a function of this type that leaves each in place
+  abbrev pub by_factory : (N → Type 0) → N → Type 0
+  by_factory lawful = MadeBySome (λ f. always_fn g f × InPlace view marks failures (λ i n l. g.post f (i, tt) (n, (l, tt)))) (λ f n. (i : MutBor I) × (l : MutBor I) × g.post f (i, tt) (n, (l, tt))) lawful
 
 module _ {I P T N : Type 0} (view : I → View P T) (post : MutBor I → N → MutBor I → Type 0) where
   -- answered for a stream that stands so, or for one that goes on so
@@ -98,7 +116,7 @@ pub record MakesOne {P T V N : Type 0} (makes : Makes P T N) (means : N → Read
 abbrev pub Adds : {P T R V N U : Type 0} → (N → Type 0) → (N → Meaning P T R V U) → List (Item T R) → Type 0
 Adds {N = N} answers means is = (n : N) × answers n × (means n).adds is
 
-module _ {P T R V N U : Type 0} (makes : Makes P T N) (lawful : N → Type 0) (means : N → Meaning P T R V U) (adds : List (Item T R) → Type 0) where
+module _ {P T R V N U : Type 0} (makes : Makes P T N) (makable : N → Type 0) (means : N → Meaning P T R V U) (adds : List (Item T R) → Type 0) where
   -- any parser that may be made there
   abbrev pub made_whole : Reading P T V
   made_whole v o = (n : N) × makes v n × (means n).whole v o
@@ -111,51 +129,56 @@ module _ {P T R V N U : Type 0} (makes : Makes P T N) (lawful : N → Type 0) (m
   made_lost Unmade v = ⊥
   made_lost (Kept k) v = (means k.parser).lost k.state v
 
+  -- a kept parser means what one that is makable does
   abbrev pub made : Meaning P T R V (MadeState N U)
   made = record {
     whole = made_whole;
     rest = made_rest;
     lost = made_lost;
-    keeps = (n : N) → lawful n → (means n).keeps;
-    puts_back = (n : N) → lawful n → (means n).puts_back;
-    lean = (n : N) → lawful n → (means n).lean;
+    keeps = (n : N) → makable n → (means n).keeps;
+    puts_back = (n : N) → makable n → (means n).puts_back;
+    lean = (n : N) → makable n → (means n).lean;
     adds = adds;
   }
 
-  module _ (lasts : Lasts makes) {fresh valid : U → Type 0} (laws : (n : N) → lawful n → IsMeaning fresh valid (means n)) (every : (v : View P T) (n : N) → makes v n → lawful n) where
-    whole_is_reading : IsReading made_whole
-    whole_is_reading = record {
-      ended = λ v e w. (laws w.0 (every v w.0 w.1)).whole.ended v e w.2;
-      stays = λ v x m o e d w. (w.0, lasts v x m w.0 (open_follows v.is_open x m e) w.1, (laws w.0 (every v w.0 w.1)).whole.stays v x m o e d w.2);
-      peeked = λ v a n w. (laws w.0 (every v w.0 w.1)).whole.peeked v a n w.2;
-      within = λ v a n k w. (laws w.0 (every v w.0 w.1)).whole.within v a n k w.2;
-    }
+  module _ (lawful : N → Type 0) where
+    abbrev kept : N → Type 0
+    kept = KeptOf lawful means makable
 
-    rest_is_reading : (s : MadeState N U) → valid_made lawful valid s → IsReading (made_rest s)
-    rest_is_reading Unmade k = whole_is_reading
-    rest_is_reading (Kept l) k = (laws l.parser k.0).rest l.state k.1
+    module _ (lasts : Lasts makes) {fresh valid : U → Type 0} (laws : (n : N) → lawful n → IsMeaning fresh valid (means n)) (every : (v : View P T) (n : N) → makes v n → lawful n) where
+      whole_is_reading : IsReading made_whole
+      whole_is_reading = record {
+        ended = λ v e w. (laws w.0 (every v w.0 w.1)).whole.ended v e w.2;
+        stays = λ v x m o e d w. (w.0, lasts v x m w.0 (open_follows v.is_open x m e) w.1, (laws w.0 (every v w.0 w.1)).whole.stays v x m o e d w.2);
+        peeked = λ v a n w. (laws w.0 (every v w.0 w.1)).whole.peeked v a n w.2;
+        within = λ v a n k w. (laws w.0 (every v w.0 w.1)).whole.within v a n k w.2;
+      }
 
-    starts : (s : MadeState N U) (v : View P T) (o : Outcome V) → is_unmade s → made_rest s v o ↔ made_whole v o
-    starts Unmade v o d = (λ p. p, λ p. p)
-    starts (Kept l) v o d = absurd (cc)
+      rest_is_reading : (s : MadeState N U) → valid_made kept valid s → IsReading (made_rest s)
+      rest_is_reading Unmade k = whole_is_reading
+      rest_is_reading (Kept l) k = (laws l.parser k.0.is_lawful).rest l.state k.1
 
-    finds : (s : MadeState N U) (v : View P T) → is_unmade s → made_lost s v → ⊥
-    finds Unmade v d l = l
-    finds (Kept k) v d l = absurd (cc)
+      starts : (s : MadeState N U) (v : View P T) (o : Outcome V) → is_unmade s → made_rest s v o ↔ made_whole v o
+      starts Unmade v o d = (λ p. p, λ p. p)
+      starts (Kept l) v o d = absurd (cc)
 
-    pub made_is_meaning : IsMeaning is_unmade (valid_made lawful valid) made
-    made_is_meaning = record { whole = whole_is_reading; rest = rest_is_reading; start = starts; found = finds }
+      finds : (s : MadeState N U) (v : View P T) → is_unmade s → made_lost s v → ⊥
+      finds Unmade v d l = l
+      finds (Kept k) v d l = absurd (cc)
 
-  module _ {valid : U → Type 0} (singles : (n : N) → lawful n → MeansOne valid (means n)) (one : MakesOne makes (λ n. (means n).whole)) where
-    whole_is_single : IsSingle made_whole
-    whole_is_single = record { one = λ v o o' p q. one.one v p.0 q.0 p.1 q.1 o o' p.2 q.2 }
+      pub made_is_meaning : IsMeaning is_unmade (valid_made kept valid) made
+      made_is_meaning = record { whole = whole_is_reading; rest = rest_is_reading; start = starts; found = finds }
 
-    rest_is_single : (s : MadeState N U) → valid_made lawful valid s → IsSingle (made_rest s)
-    rest_is_single Unmade k = whole_is_single
-    rest_is_single (Kept l) k = (singles l.parser k.0).rest l.state k.1
+    module _ {valid : U → Type 0} (singles : (n : N) → makable n → MeansOne valid (means n)) (one : MakesOne makes (λ n. (means n).whole)) where
+      whole_is_single : IsSingle made_whole
+      whole_is_single = record { one = λ v o o' p q. one.one v p.0 q.0 p.1 q.1 o o' p.2 q.2 }
 
-    pub made_means_one : MeansOne (valid_made lawful valid) made
-    made_means_one = record { whole = whole_is_single; rest = rest_is_single }
+      rest_is_single : (s : MadeState N U) → valid_made kept valid s → IsSingle (made_rest s)
+      rest_is_single Unmade k = whole_is_single
+      rest_is_single (Kept l) k = (means_one_as k.0.same (singles k.0.parser k.0.is_given)).rest l.state k.1
+
+      pub made_means_one : MeansOne (valid_made kept valid) made
+      made_means_one = record { whole = whole_is_single; rest = rest_is_single }
 
 -- a call begins afresh, or from some default state
 abbrev pub Begins : {U : Type 0} → (U → Type 0) → Option U → Type 0

@@ -3,8 +3,9 @@ use Rattle.std.specs.Prelude.{◌≡◌, ◌↔◌, refl}
 use Rattle.std.proofs.Common.{sym, subst}
 use Rattle.combine_base.specs.Stream.View.{View}
 use Rattle.combine_base.specs.Parser.Outcome.{Outcome}
+use Rattle.combine_base.specs.Parser.Given.{GivesOnly}
 use Rattle.combine_base.specs.Parser.Meaning.{Meaning, Reading, IsReading, IsSingle, IsMeaning, MeansOne, MeansSame}
-use Rattle.combine_base.specs.Sequence.Readings.{following, sequel, following_is_reading, following_is_single, following_same, FollowsOne, sequel_is_reading, sequel_is_single, sequel_same}
+use Rattle.combine_base.specs.Sequence.Readings.{following, sequel, following_is_reading, following_is_single, following_same, FollowsOne, sequel_is_single, sequel_reads, sequel_same}
 use Rattle.combine_base.specs.Sequence.Places.{in_place, begins, begins_before}
 use Rattle.combine_base.specs.declared.sequence.SequenceState.{SequenceState}
 use Rattle.combine_base.specs.declared.sequence.SequencePlace.{SequencePlace}
@@ -20,10 +21,10 @@ pub record Second (P T A B C L : Type 0) : Type 1 where
   pub keeps : Type 0
   pub lean : Type 0
 
--- its laws; valid are the kept states that a call may be given
-pub record IsSecond {P T A B C L : Type 0} (valid : L → Type 0) (q : Second P T A B C L) : Type 0 where
-  pub whole : (a : A) → IsReading (q.whole a)
-  pub rest : (l : L) → valid l → IsReading (q.rest l)
+-- its laws, after the values that the first gives; valid and valid_last are the kept states that a call may be given
+pub record IsSecond {P T R A B C S L : Type 0} (valid : S → Type 0) (m : Meaning P T R A S) (valid_last : L → Type 0) (q : Second P T A B C L) : Type 0 where
+  pub whole : GivesOnly valid m (λ a. IsReading (q.whole a))
+  pub rest : (l : L) → valid_last l → IsReading (q.rest l)
 
 pub record SecondSame {P T A B C L : Type 0} (q q' : Second P T A B C L) : Type 0 where
   pub join : q.join ≡ q'.join
@@ -51,8 +52,11 @@ module _ {P T R A B C U : Type 0} (f : A → B → C) where
     lean = m.lean;
   }
 
-  pub independent_is_second : (fresh valid : U → Type 0) (m : Meaning P T R B U) → IsMeaning fresh valid m → IsSecond (λ l. valid l.state) (independent m)
-  independent_is_second fresh valid m h = record { whole = λ a. h.whole; rest = λ l k. following_is_reading l.committed (f l.value) (m.rest l.state) (h.rest l.state k) }
+  pub independent_is_second : {S : Type 0} (before : S → Type 0) (m : Meaning P T R A S) (fresh valid : U → Type 0) (n : Meaning P T R B U) → IsMeaning fresh valid n → IsSecond before m (λ l. valid l.state) (independent n)
+  independent_is_second before m fresh valid n h = record {
+    whole = record { whole = record { one = λ v a i c w. h.whole }; rest = λ s d. record { one = λ v a i c w. h.whole } };
+    rest = λ l k. following_is_reading l.committed (f l.value) (n.rest l.state) (h.rest l.state k);
+  }
 
   pub independent_same : (m m' : Meaning P T R B U) → MeansSame m m' → SecondSame (independent m) (independent m')
   independent_same m m' h = record {
@@ -93,9 +97,9 @@ module _ {P T R A B C S L Z : Type 0} (step : P → T → P) (place : Z → Sequ
       adds = m.adds;
     }
 
-    module _ (fresh valid : S → Type 0) (valid_last : L → Type 0) (h : IsMeaning fresh valid m) (k : IsSecond valid_last q) where
+    module _ (fresh valid : S → Type 0) (valid_last : L → Type 0) (h : IsMeaning fresh valid m) (k : IsSecond valid m valid_last q) where
       rest_is_reading : (p : SequencePlace S L) → in_place valid valid_last p → IsReading (rest_at p)
-      rest_is_reading (Before s) d = sequel_is_reading step q.join (m.rest s) q.whole (h.rest s d) k.whole
+      rest_is_reading (Before s) d = sequel_reads step q.join (m.rest s) q.whole (h.rest s d) (k.whole.rest s d)
       rest_is_reading (Last l) d = k.rest l d
 
       starts_at : (p : SequencePlace S L) (s : S) → p ≡ Before s → fresh s → (v : View P T) (o : Outcome C) → rest_at p v o ↔ sequel step q.join m.whole q.whole v o
@@ -104,7 +108,7 @@ module _ {P T R A B C S L Z : Type 0} (step : P → T → P) (place : Z → Sequ
 
       pub sequence_is_meaning : IsMeaning (begins place fresh) (λ z. in_place valid valid_last (place z)) sequence
       sequence_is_meaning = record {
-        whole = sequel_is_reading step q.join m.whole q.whole h.whole k.whole;
+        whole = sequel_reads step q.join m.whole q.whole h.whole k.whole.whole;
         rest = λ z d. rest_is_reading (place z) d;
         start = λ z v o d. let s = begins_before place fresh z d in starts_at (place z) s.0 s.1 s.2 v o;
         found = λ z v d w. let s = begins_before place fresh z d in h.found s.0 v s.2 (subst (λ x. lost_at x v) s.1 w);

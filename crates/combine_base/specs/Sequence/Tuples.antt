@@ -68,7 +68,7 @@ module _ {P T R A B C S U Z : Type 0} (step : P → T → P) (place : Z → Sequ
   followed m n = sequence step place m (independent f n)
 
   pub followed_is_meaning : {fresh valid : S → Type 0} {m : Meaning P T R A S} {last_fresh last_valid : U → Type 0} {n : Meaning P T R B U} → IsMeaning fresh valid m → IsMeaning last_fresh last_valid n → IsMeaning (begins place fresh) (valid_in place valid last_valid) (followed m n)
-  followed_is_meaning {fresh} {valid} {m} {last_fresh} {last_valid} {n} h k = sequence_is_meaning step place m (independent f n) fresh valid (λ l. last_valid l.state) h (independent_is_second f last_fresh last_valid n k)
+  followed_is_meaning {fresh} {valid} {m} {last_fresh} {last_valid} {n} h k = sequence_is_meaning step place m (independent f n) fresh valid (λ l. last_valid l.state) h (independent_is_second f valid m last_fresh last_valid n k)
 
   pub followed_means_one : {valid : S → Type 0} {m : Meaning P T R A S} {last_valid : U → Type 0} {n : Meaning P T R B U} → MeansOne valid m → MeansOne last_valid n → MeansOne (valid_in place valid last_valid) (followed m n)
   followed_means_one {valid} {m} {last_valid} {n} h k = sequence_means_one step place m (independent f n) valid (λ l. last_valid l.state) h (independent_one f step valid last_valid m n k)

@@ -61,7 +61,7 @@ impl<Input> Asked<usize> for Taking<Input> {
 
     type Kept = ();
 
-    ghost callable = { λ t. Unit {0} };
+    ghost callable = { λ t n. Unit {0} };
 
     ghost answers = { λ t n p. p ≡ take_of n };
 

@@ -1,9 +1,10 @@
 //! The parsers that the functions of this module answer.
 ghost use Rattle.std.specs.Prelude.{◌≡◌};
 ghost use Rattle.combine_base.specs.Error.Errors.{Nothing};
+ghost use Rattle.combine_base.specs.Parser.Kept.{KeptOf};
 ghost use Rattle.combine_base.specs.Stream.Calls.{Passes};
 ghost use Rattle.combine_base.specs.Stream.View.{View};
-ghost use Rattle.combine_makers.specs.Made.{Adds, InPlace, MadeAt, MakesOne, RefusesMade, at_any, at_any_lasts, factory_maker, is_unmade_valid, lazy_maker, made, made_at_lasts, made_is_meaning, made_means_one, valid_made};
+ghost use Rattle.combine_makers.specs.Made.{Adds, InPlace, MadeAt, MakesOne, RefusesMade, at_any, at_any_lasts, by_factory, by_lazy, factory_maker, is_unmade_valid, lazy_maker, made, made_at_lasts, made_is_meaning, made_means_one, valid_made};
 
 pub use super::made::{Made, MadeState};
 use super::made::{resume_made, run_made};
@@ -80,21 +81,21 @@ impl<Input: Stream, N: Parser<Input> + Drop, F: Fn() -> N> Parser<Input> for Laz
 
     ghost lawful = { λ p. F.IsAlwaysCallable (lazy_maker p) × ((n : N) → F.post (lazy_maker p) n → N.lawful n) };
 
-    ghost determined = { λ p. ((n : N) → N.lawful n → N.determined n) × MakesOne (at_any (F.post (lazy_maker p))) (λ n. (N.meaning n).whole) };
+    ghost determined = { λ p. ((n : N) → by_lazy F.Fn N.lawful n → N.determined n) × MakesOne (at_any (F.post (lazy_maker p))) (λ n. (N.meaning n).whole) };
 
-    ghost valid = { valid_made N.lawful N.valid };
+    ghost valid = { valid_made (KeptOf N.lawful N.meaning (by_lazy F.Fn N.lawful)) N.valid };
 
-    ghost meaning = { λ p. made (at_any (F.post (lazy_maker p))) N.lawful N.meaning (Adds (F.post (lazy_maker p)) N.meaning) };
+    ghost meaning = { λ p. made (at_any (F.post (lazy_maker p))) (by_lazy F.Fn N.lawful) N.meaning (Adds (F.post (lazy_maker p)) N.meaning) };
 
     ghost refuses = { λ p. RefusesMade (at_any (F.post (lazy_maker p))) N.PartialState.is_default N.refuses };
 
     ghost parts = { λ p. 1 };
 
-    ghost default_valid = { is_unmade_valid N.lawful N.valid };
+    ghost default_valid = { is_unmade_valid (KeptOf N.lawful N.meaning (by_lazy F.Fn N.lawful)) N.valid };
 
-    ghost laws = { λ p l. made_is_meaning _ N.lawful N.meaning _ (at_any_lasts (F.post (lazy_maker p))) N.laws (λ v. l.1) };
+    ghost laws = { λ p l. made_is_meaning _ (by_lazy F.Fn N.lawful) N.meaning _ N.lawful (at_any_lasts (F.post (lazy_maker p))) N.laws (λ v. l.1) };
 
-    ghost single = { λ p l d. made_means_one _ N.lawful N.meaning _ (λ n i. N.single n i (d.0 n i)) d.1 };
+    ghost single = { λ p l d. made_means_one _ (by_lazy F.Fn N.lawful) N.meaning _ N.lawful (λ n i. N.single n (i.all n i.made) (d.0 n i)) d.1 };
 
     #[inline(always)]
     fn parse_mode<M: ParseMode>(
@@ -157,21 +158,21 @@ impl<Input: Stream, N: Parser<Input> + Drop, F: Fn(&mut Input) -> N> Parser<Inpu
 
     ghost lawful = { λ p. F.IsAlwaysCallable (factory_maker p) × InPlace Input.view Input.marks Input.failures (λ i n l. F.post (factory_maker p) i n l) × ((v : View Input.Position Input.Token) (n : N) → MadeAt Input.view (λ i n l. F.post (factory_maker p) i n l) v n → N.lawful n) };
 
-    ghost determined = { λ p. ((n : N) → N.lawful n → N.determined n) × MakesOne (MadeAt Input.view (λ i n l. F.post (factory_maker p) i n l)) (λ n. (N.meaning n).whole) };
+    ghost determined = { λ p. ((n : N) → by_factory Input.view Input.marks Input.failures F.Fn N.lawful n → N.determined n) × MakesOne (MadeAt Input.view (λ i n l. F.post (factory_maker p) i n l)) (λ n. (N.meaning n).whole) };
 
-    ghost valid = { valid_made N.lawful N.valid };
+    ghost valid = { valid_made (KeptOf N.lawful N.meaning (by_factory Input.view Input.marks Input.failures F.Fn N.lawful)) N.valid };
 
-    ghost meaning = { λ p. made (MadeAt Input.view (λ i n l. F.post (factory_maker p) i n l)) N.lawful N.meaning Nothing };
+    ghost meaning = { λ p. made (MadeAt Input.view (λ i n l. F.post (factory_maker p) i n l)) (by_factory Input.view Input.marks Input.failures F.Fn N.lawful) N.meaning Nothing };
 
     ghost refuses = { λ p. RefusesMade (MadeAt Input.view (λ i n l. F.post (factory_maker p) i n l)) N.PartialState.is_default N.refuses };
 
     ghost parts = { λ p. 1 };
 
-    ghost default_valid = { is_unmade_valid N.lawful N.valid };
+    ghost default_valid = { is_unmade_valid (KeptOf N.lawful N.meaning (by_factory Input.view Input.marks Input.failures F.Fn N.lawful)) N.valid };
 
-    ghost laws = { λ p l. made_is_meaning _ N.lawful N.meaning _ (made_at_lasts Input.view (λ i n l. F.post (factory_maker p) i n l)) N.laws l.2 };
+    ghost laws = { λ p l. made_is_meaning _ (by_factory Input.view Input.marks Input.failures F.Fn N.lawful) N.meaning _ N.lawful (made_at_lasts Input.view (λ i n l. F.post (factory_maker p) i n l)) N.laws l.2 };
 
-    ghost single = { λ p l d. made_means_one _ N.lawful N.meaning _ (λ n i. N.single n i (d.0 n i)) d.1 };
+    ghost single = { λ p l d. made_means_one _ (by_factory Input.view Input.marks Input.failures F.Fn N.lawful) N.meaning _ N.lawful (λ n i. N.single n (i.all n i.made) (d.0 n i)) d.1 };
 
     #[inline(always)]
     fn parse_mode<M: ParseMode>(

@@ -11,7 +11,8 @@ pub trait Asked<A> {
     /// What is kept of the value.
     type Kept;
 
-    ghost callable: { Self → Type 0 };
+    /// The values that it may be asked for.
+    ghost callable: { Self → A → Type 0 };
 
     /// Which parsers it may answer for a value.
     ghost answers: { Self → A → Self.Parser → Type 0 };
@@ -20,7 +21,7 @@ pub trait Asked<A> {
 
     /// What is kept of the value, and the parser.
     fn ask(&self, value: A) -> (Self::Kept, Self::Parser)
-        requires { callable self.now }
+        requires { callable self.now value }
         ensures kept { result.0 ≡ keeps value }
         ensures answers { answers self.now value result.1 };
 }
@@ -36,7 +37,7 @@ impl<A, N, F: Fn(A) -> N> Asked<A> for ByValue<F> {
 
     type Kept = ();
 
-    ghost callable = { λ f. F.IsAlwaysCallable f.0 };
+    ghost callable = { λ f. F.pre f.0 };
 
     ghost answers = { λ f. F.post f.0 };
 
@@ -54,13 +55,13 @@ impl<A, N, F: Fn(A) -> N> Asked<A> for ByValue<F> {
 pub struct ByMut<F>(pub(crate) F);
 
 impl<A: Drop, N, F: Fn(&mut A) -> N> Asked<A> for ByMut<F> {
-    ghost use Rattle.combine_sequence.specs.Answered.{ReturnsAtMut, forget};
+    ghost use Rattle.combine_sequence.specs.Answered.{ReturnsAtMut, TakesAtMut, forget};
 
     type Parser = N;
 
     type Kept = ();
 
-    ghost callable = { λ f. F.IsAlwaysCallable f.0 };
+    ghost callable = { λ f. TakesAtMut F.Fn f.0 };
 
     ghost answers = { λ f. ReturnsAtMut F.Fn f.0 };
 
@@ -80,13 +81,13 @@ pub struct ByRef<F>(pub(crate) F);
 
 impl<A, N, F: Fn(&A) -> N> Asked<A> for ByRef<F> {
     ghost use Rattle.std.specs.Fn.{FnReturnsAt};
-    ghost use Rattle.combine_sequence.specs.Answered.{keep_first};
+    ghost use Rattle.combine_sequence.specs.Answered.{TakesAt, keep_first};
 
     type Parser = N;
 
     type Kept = (A,);
 
-    ghost callable = { λ f. F.IsAlwaysCallable f.0 };
+    ghost callable = { λ f. TakesAt F.Fn f.0 };
 
     ghost answers = { λ f. FnReturnsAt F.Fn f.0 };
 
