@@ -5,8 +5,9 @@ use Rattle.combine_base.specs.Parser.Meaning.{Meaning}
 use Rattle.combine_map.specs.Tables.{by_table, stays}
 use Rattle.combine_turns.specs.Turns.{Collecting}
 use Rattle.combine_turns.specs.Bounded.{gathered}
-use Rattle.combine_separated.specs.Elements.{Turning, joined}
+use Rattle.combine_separated.specs.Elements.{joined}
 use Rattle.combine_separated.specs.declared.separated.Element.{Element}
+use Rattle.combine_separated.specs.declared.separated.SeparatedState.{SeparatedState}
 use Rattle.combine_separated.specs.declared.separated.Element.TheVariants.{First, Then}
 use Rattle.combine_turns.specs.declared.turns.Bounds.TheVariants.{Joined}
 use Rattle.combine_turns.specs.declared.turns.TurnsState.{TurnsState}
@@ -39,12 +40,12 @@ each_operand = gathered (λ z. Some (kept_operands z)) None keeps_operand ⊥
 
 module _ {P T R O V U W : Type 0} (step : P → T → P) where
   -- an operand, and then turns of an operator and an operand
-  abbrev pub operands : Meaning P T R V U → Meaning P T R O W → Meaning P T R (Operands O V) (TurnsState (Operands O V) (Turning O U W))
+  abbrev pub operands : Meaning P T R V U → Meaning P T R O W → Meaning P T R (Operands O V) (TurnsState (Operands O V) (SeparatedState O W U))
   operands = joined step (Joined 1 None) each_operand
 
   module _ (post : O → V → V → V → Type 0) where
     -- the same, folded from the right
-    abbrev pub right_fold : Meaning P T R V U → Meaning P T R O W → Meaning P T R V (TurnsState (Operands O V) (Turning O U W))
+    abbrev pub right_fold : Meaning P T R V U → Meaning P T R O W → Meaning P T R V (TurnsState (Operands O V) (SeparatedState O W U))
     right_fold m s = mapped (operands m s) (gives_right post)
 
     -- the same, of which each call begins again

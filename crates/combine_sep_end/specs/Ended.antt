@@ -6,22 +6,21 @@ use Rattle.combine_base.specs.Parser.Outcome.{Outcome, Accepted, Refused, Undeci
 use Rattle.combine_base.specs.Parser.Meaning.{Meaning, Reading, IsSingle, MeansOne, MeansSame}
 use Rattle.combine_base.specs.Parser.Mapped.{mapped_reading}
 use Rattle.combine_base.specs.Sequence.Joined.{joined}
-use Rattle.combine_base.specs.Sequence.Places.{place_2, valid_1, valid_2, in_place}
+use Rattle.combine_base.specs.Sequence.Places.{in_place}
 use Rattle.combine_base.specs.Sequence.Readings.{following, following_is_single, sequel, continues}
 use Rattle.combine_base.specs.Sequence.Meanings.{rest_at, independent}
-use Rattle.combine_base.specs.Sequence.Tuples.{tuple_1, tuple_2, tuple_1_means_one, tuple_2_means_one, push_1}
 use Rattle.combine_token.specs.Choice.{Either, Here, Later as Passed}
 use Rattle.combine_token.specs.Optional.{optional, optional_means_one, is_some, nothing, optional_parser}
-use Rattle.combine_base.specs.declared.sequence.PartialState1.{PartialState1}
-use Rattle.combine_base.specs.declared.sequence.PartialState2.{PartialState2}
 use Rattle.combine_base.specs.declared.sequence.SequenceState.{SequenceState}
 use Rattle.combine_base.specs.declared.sequence.SequencePlace.{SequencePlace}
 use Rattle.combine_base.specs.declared.sequence.SequencePlace.TheVariants.{Before, Last}
 use Rattle.combine_token.specs.declared.choice.types.Optional.{Optional}
 use Rattle.combine_turns.specs.Turn.{EndsOnce, TurnsOnce}
-use Rattle.combine_separated.specs.Separated.{first_then, later_turn, separated_valid}
-use Rattle.combine_separated.specs.declared.separated.SeparatedState.{SeparatedState}
-use Rattle.combine_separated.specs.declared.separated.SeparatedState.TheVariants.{First, Later}
+use Rattle.combine_separated.specs.Pair.{pair, pair_means_one, pair_place, pair_valid, put_to}
+use Rattle.combine_separated.specs.Separated.{first_then, kept_reading, later_turn, separated_valid, turn_place, valid_at}
+use Rattle.combine_separated.specs.declared.separated.TurnPlace.{TurnPlace}
+use Rattle.combine_separated.specs.declared.separated.TurnPlace.TheVariants.{First, Later}
+use Rattle.combine_separated.specs.declared.pair.PairState.{PairState}
 use Rattle.combine_sep_end.specs.declared.ended.Ended.{Ended}
 
 abbrev pub within : {X : Type 0} → Optional X → X
@@ -149,26 +148,26 @@ module _ {P T A : Type 0} where
     }
 
 module _ {P T R A B U W : Type 0} (step : P → T → P) (valid : U → Type 0) (valid' : W → Type 0) (m : Meaning P T R A U) (s : Meaning P T R B W) (h : MeansOne valid m) (k : MeansOne valid' s) where
-  abbrev pair : Meaning P T R (B × Option A) (PartialState2 (SequenceState (Unit {0}) W) (SequenceState (record { 0 : B }) U))
-  pair = tuple_2 step s (optional m)
+  abbrev last_pair : Meaning P T R (B × Option A) (PairState B W U)
+  last_pair = pair step s (optional m)
 
-  pair_one : MeansOne (valid_2 valid' valid) pair
-  pair_one = tuple_2_means_one step k (optional_means_one valid m h)
+  pair_one : MeansOne (pair_valid valid' valid) last_pair
+  pair_one = pair_means_one step k (optional_means_one valid m h)
 
-  ends_at : (p : SequencePlace (PartialState1 (SequenceState (Unit {0}) W)) (SequenceState (record { 0 : B }) U)) → in_place (valid_1 valid') (λ l. valid l.state) p → EndsAlike (λ x. is_none (last x)) (rest_at step place_2 (tuple_1 s) (independent push_1 (optional m)) p)
-  ends_at (Before z) d = sequel_alike step push_1 (λ x. is_none (last x)) is_none (λ a b. refl) ((tuple_1 s).rest z) (optional m).whole ((tuple_1_means_one k).rest z d) (optional_alike m.whole h.whole)
-  ends_at (Last l) d = following_alike l.committed (push_1 l.value) (λ x. is_none (last x)) ((optional m).rest l.state) (optional_alike (m.rest l.state) (h.rest l.state d))
+  ends_at : (p : SequencePlace W (SequenceState B U)) → in_place valid' (λ l. valid l.state) p → EndsAlike (λ x. is_none (last x)) (rest_at step pair_place s (independent put_to (optional m)) p)
+  ends_at (Before z) d = sequel_alike step put_to (λ x. is_none (last x)) is_none (λ a b. refl) (s.rest z) (optional m).whole (k.rest z d) (optional_alike m.whole h.whole)
+  ends_at (Last l) d = following_alike l.committed (put_to l.value) (λ x. is_none (last x)) ((optional m).rest l.state) (optional_alike (m.rest l.state) (h.rest l.state d))
 
-  pub ended_once : TurnsOnce (separated_valid valid (valid_2 valid' valid)) is_none (first_then some_of last m pair) (later_turn last pair)
+  pub ended_once : TurnsOnce (separated_valid valid (pair_valid valid' valid)) is_none (first_then some_of last m last_pair) (later_turn last last_pair)
   ended_once = record {
     whole = first m.whole h.whole;
-    rest = resting;
-    later = ends_once (following_is_single false last pair.whole pair_one.whole) (following_alike false last is_none pair.whole (sequel_alike step push_1 (λ x. is_none (last x)) is_none (λ a b. refl) (tuple_1 s).whole (optional m).whole (tuple_1_means_one k).whole (optional_alike m.whole h.whole)));
+    rest = λ z. resting (turn_place z);
+    later = ends_once (following_is_single false last last_pair.whole pair_one.whole) (following_alike false last is_none last_pair.whole (sequel_alike step put_to (λ x. is_none (last x)) is_none (λ a b. refl) s.whole (optional m).whole k.whole (optional_alike m.whole h.whole)));
   }
     where
       first : (r : Reading P T A) → IsSingle r → EndsOnce is_none (following false some_of r)
       first r g = ends_once (following_is_single false some_of r g) (following_alike false some_of is_none r (record { ends = λ v a a' n n' k k' p q. refl }))
 
-      resting : (z : SeparatedState U (PartialState2 (SequenceState (Unit {0}) W) (SequenceState (record { 0 : B }) U))) → separated_valid valid (valid_2 valid' valid) z → EndsOnce is_none ((first_then some_of last m pair).rest z)
+      resting : (z : TurnPlace U (PairState B W U)) → valid_at valid (pair_valid valid' valid) z → EndsOnce is_none (kept_reading some_of last m last_pair z)
       resting (First z) d = first (m.rest z) (h.rest z d)
-      resting (Later z) d = ends_once (following_is_single false last (pair.rest z) (pair_one.rest z d)) (following_alike false last is_none (pair.rest z) (ends_at (place_2 z) d))
+      resting (Later z) d = ends_once (following_is_single false last (last_pair.rest z) (pair_one.rest z d)) (following_alike false last is_none (last_pair.rest z) (ends_at (pair_place z) d))

@@ -2,20 +2,19 @@
 ghost use Rattle.std.specs.Prelude.{◌≡◌, false, true};
 ghost use Rattle.combine_base.specs.Parser.Answer.{world};
 ghost use Rattle.combine_base.specs.Parser.Meaning.{MeansSame};
-ghost use Rattle.combine_base.specs.Sequence.Places.{begins_2, first_fresh, valid_2};
-ghost use Rattle.combine_base.specs.Sequence.Tuples.{tuple_2, tuple_2_is_meaning};
 ghost use Rattle.combine_base.specs.Stream.Calls.{Passes};
+ghost use Rattle.combine_separated.specs.Pair.{pair, pair_begins, pair_is_meaning, pair_valid};
 ghost use Rattle.combine_separated.specs.Placed.{Ran};
-ghost use Rattle.combine_separated.specs.Separated.{first_then, later_turn, separated_default, separated_valid, then_is_turn};
+ghost use Rattle.combine_separated.specs.Separated.{first_then, later_kept, later_turn, separated_default, separated_valid, then_is_turn};
 ghost use Rattle.combine_sep_end.specs.Ended.{closer_of, ended_once, ended_part, is_none, last, some_more, some_of, within};
 ghost use Rattle.combine_token.specs.Optional.{optional, optional_is_meaning};
 
 use combine_base::error::{ParseResult, Tracked};
 use combine_base::parser::{FirstMode, ParseMode, Parser};
 use combine_base::repeat::Append;
-use combine_base::sequence::{PartialState2, State2, parse_2};
 use combine_base::stream::{Stream, needs_more};
-use combine_separated::separated::SeparatedState;
+use combine_separated::pair::{PairState, PairStateOf, parse_pair};
+use combine_separated::separated::{Lead, SeparatedState, TurnPlace};
 use combine_token::choice::types::Optional;
 use combine_turns::turns::{Gather, Starts, Turn};
 use std::alloc::{AllocError, Global};
@@ -84,19 +83,19 @@ impl<A: Drop, F: Append<A>> Starts<Option<A>> for EachSome<F> {
 
 /// Runs the first part, from what is kept of it.
 #[inline(always)]
-fn run_first<Input: Stream, P: Parser<Input>, B: Drop, M: ParseMode>(
+fn run_first<Input: Stream, P: Parser<Input>, O: Drop, W: Drop, M: ParseMode>(
     parser: &mut P,
     mode: M,
     kept: P::PartialState,
     input: &mut Input,
-    state: &mut SeparatedState<P::PartialState, B>,
+    state: &mut SeparatedState<O, W, P::PartialState>,
 ) -> ParseResult<Option<P::Output>, Input::Error>
     requires lawful { P.lawful parser.old }
     requires valid { P.valid kept }
     ensures lawful { P.lawful parser.new }
     ensures same { MeansSame (P.meaning parser.old) (P.meaning parser.new) }
     ensures passes { Passes (Input.marks input.old) (Input.marks input.new) (Input.failures input.old) (Input.failures input.new) }
-    ensures ran { Ran (world Input.step Input.Error.seen Input.steady P.PartialState.is_default) (P.meaning parser.old) P.valid some_of (λ s. SeparatedState.First s)
+    ensures ran { Ran (world Input.step Input.Error.seen Input.steady P.PartialState.is_default) (P.meaning parser.old) P.valid some_of (λ s. SeparatedState.Part Lead.Nothing s)
         (M.first mode) kept state.old state.new (Input.view input.old) (Input.view input.new) (Input.failures input.old) (Input.failures input.new) result }
 {
     let mut kept = kept;
@@ -105,7 +104,7 @@ fn run_first<Input: Stream, P: Parser<Input>, B: Drop, M: ParseMode>(
         ParseResult::PeekOk(value) => ParseResult::PeekOk(Some(value)),
         ParseResult::CommitErr(error) => {
             if needs_more(input, &error) {
-                *state = SeparatedState::First(kept);
+                *state = SeparatedState::Part(Lead::Nothing, kept);
                 return ParseResult::CommitErr(error);
             }
             ParseResult::CommitErr(error)
@@ -120,22 +119,22 @@ fn run_later<Input: Stream, P: Parser<Input>, S: Parser<Input>, M: ParseMode>(
     separator: &mut S,
     part: &mut Optional<P>,
     mode: M,
-    kept: State2<Input, S, Optional<P>>,
+    kept: PairStateOf<Input, S, Optional<P>>,
     input: &mut Input,
-    state: &mut SeparatedState<P::PartialState, State2<Input, S, Optional<P>>>,
+    state: &mut SeparatedState<S::Output, S::PartialState, P::PartialState>,
 ) -> ParseResult<Option<P::Output>, Input::Error>
     requires lawful { S.lawful separator.old × P.lawful (within part.old) }
-    requires valid { valid_2 S.valid P.valid kept }
-    requires starts { M.first mode ≡ true → begins_2 (first_fresh S.PartialState.is_default) kept }
+    requires valid { pair_valid S.valid P.valid kept }
+    requires starts { M.first mode ≡ true → pair_begins S.PartialState.is_default kept }
     ensures lawful { S.lawful separator.new × P.lawful (within part.new) }
     ensures parts { MeansSame (S.meaning separator.old) (S.meaning separator.new) × MeansSame (P.meaning (within part.old)) (P.meaning (within part.new)) }
-    ensures same { MeansSame (tuple_2 Input.step (S.meaning separator.old) (optional (P.meaning (within part.old)))) (tuple_2 Input.step (S.meaning separator.new) (optional (P.meaning (within part.new)))) }
+    ensures same { MeansSame (pair Input.step (S.meaning separator.old) (optional (P.meaning (within part.old)))) (pair Input.step (S.meaning separator.new) (optional (P.meaning (within part.new)))) }
     ensures passes { Passes (Input.marks input.old) (Input.marks input.new) (Input.failures input.old) (Input.failures input.new) }
-    ensures ran { Ran (world Input.step Input.Error.seen Input.steady (begins_2 (first_fresh S.PartialState.is_default))) (tuple_2 Input.step (S.meaning separator.old) (optional (P.meaning (within part.old)))) (valid_2 S.valid P.valid) last (λ s. SeparatedState.Later s)
+    ensures ran { Ran (world Input.step Input.Error.seen Input.steady (pair_begins S.PartialState.is_default)) (pair Input.step (S.meaning separator.old) (optional (P.meaning (within part.old)))) (pair_valid S.valid P.valid) last later_kept
         false kept state.old state.new (Input.view input.old) (Input.view input.new) (Input.failures input.old) (Input.failures input.new) result }
 {
-    let mut left = PartialState2::default();
-    match parse_2(separator, part, mode, input, kept, &mut left) {
+    let mut left = PairState::default();
+    match parse_pair(separator, part, mode, input, kept, &mut left) {
         ParseResult::CommitOk(pair) => {
             let (_separator, value) = pair;
             ParseResult::CommitOk(value)
@@ -146,7 +145,7 @@ fn run_later<Input: Stream, P: Parser<Input>, S: Parser<Input>, M: ParseMode>(
         }
         ParseResult::CommitErr(error) => {
             if needs_more(input, &error) {
-                *state = SeparatedState::Later(left);
+                *state = SeparatedState::later(left);
                 return ParseResult::CommitErr(error);
             }
             ParseResult::CommitErr(error)
@@ -158,17 +157,17 @@ fn run_later<Input: Stream, P: Parser<Input>, S: Parser<Input>, M: ParseMode>(
 impl<Input: Stream, P: Parser<Input>, S: Parser<Input>> Turn<Input> for Ended<P, S> {
     type Value = Option<P::Output>;
 
-    type Running = SeparatedState<P::PartialState, State2<Input, S, Optional<P>>>;
+    type Running = SeparatedState<S::Output, S::PartialState, P::PartialState>;
 
     ghost lawful = { λ p. S.lawful (closer_of p) × P.lawful (ended_part p) };
 
     ghost determined = { λ p. S.determined (closer_of p) × P.determined (ended_part p) };
 
-    ghost valid = { separated_valid P.valid (valid_2 S.valid P.valid) };
+    ghost valid = { separated_valid P.valid (pair_valid S.valid P.valid) };
 
-    ghost meaning = { λ p. first_then some_of last (P.meaning (ended_part p)) (tuple_2 Input.step (S.meaning (closer_of p)) (optional (P.meaning (ended_part p)))) };
+    ghost meaning = { λ p. first_then some_of last (P.meaning (ended_part p)) (pair Input.step (S.meaning (closer_of p)) (optional (P.meaning (ended_part p)))) };
 
-    ghost again = { λ p. later_turn last (tuple_2 Input.step (S.meaning (closer_of p)) (optional (P.meaning (ended_part p)))) };
+    ghost again = { λ p. later_turn last (pair Input.step (S.meaning (closer_of p)) (optional (P.meaning (ended_part p)))) };
 
     ghost ending = { is_none };
 
@@ -183,7 +182,7 @@ impl<Input: Stream, P: Parser<Input>, S: Parser<Input>> Turn<Input> for Ended<P,
         let given = mem::take(state);
         if mode.is_first() {
             if later {
-                let kept = PartialState2::default();
+                let kept = PairState::default();
                 return run_later(
                     &mut self.separator,
                     &mut self.part,
@@ -196,9 +195,9 @@ impl<Input: Stream, P: Parser<Input>, S: Parser<Input>> Turn<Input> for Ended<P,
             let kept = P::PartialState::default();
             return run_first(&mut self.part.0, FirstMode, kept, input, state);
         }
-        match given {
-            SeparatedState::First(kept) => run_first(&mut self.part.0, mode, kept, input, state),
-            SeparatedState::Later(kept) => run_later(
+        match given.into_place() {
+            TurnPlace::First(kept) => run_first(&mut self.part.0, mode, kept, input, state),
+            TurnPlace::Later(kept) => run_later(
                 &mut self.separator,
                 &mut self.part,
                 mode,
@@ -221,9 +220,9 @@ impl<Input: Stream, P: Parser<Input>, S: Parser<Input>> Turn<Input> for Ended<P,
         }
     }
 
-    ghost default_valid = { λ s d. separated_default P.PartialState.is_default P.valid (valid_2 S.valid P.valid) P.default_valid s d };
+    ghost default_valid = { λ s d. separated_default P.PartialState.is_default P.valid (pair_valid S.valid P.valid) P.default_valid s d };
 
-    ghost laws = { λ p l. then_is_turn some_of last (P.laws (ended_part p) l.1) (tuple_2_is_meaning Input.step (S.laws (closer_of p) l.0) (optional_is_meaning _ P.valid (P.meaning (ended_part p)) (P.laws (ended_part p) l.1))) };
+    ghost laws = { λ p l. then_is_turn some_of last (P.laws (ended_part p) l.1) (pair_is_meaning Input.step (S.laws (closer_of p) l.0) (optional_is_meaning _ P.valid (P.meaning (ended_part p)) (P.laws (ended_part p) l.1))) };
 
     ghost once = { λ p l d. ended_once Input.step P.valid S.valid (P.meaning (ended_part p)) (S.meaning (closer_of p)) (P.single (ended_part p) l.1 d.1) (S.single (closer_of p) l.0 d.0) };
 }

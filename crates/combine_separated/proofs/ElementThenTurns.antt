@@ -2,7 +2,7 @@
 use Rattle.std.specs.Prelude.{false}
 use Rattle.combine_base.specs.Parser.Meaning.{Meaning}
 use Rattle.combine_base.specs.Sequence.Readings.{following}
-use Rattle.combine_base.specs.Sequence.Tuples.{tuple_2}
+use Rattle.combine_separated.specs.Pair.{pair}
 use Rattle.combine_turns.specs.Turns.{Collecting}
 use Rattle.combine_turns.proofs.OneThenTurns.{joined_is_one_then_turns}
 use Rattle.combine_separated.specs.Elements.{elements}
@@ -10,4 +10,4 @@ use Rattle.combine_separated.specs.ElementThenTurns.{SepBy1IsOneThenTurns}
 use Rattle.combine_separated.specs.Separated.{first_element, later_turn, then_element}
 
 pub sep_by1_is_one_then_turns : {P T R O A V U W : Type 0} (step : P → T → P) (c : Collecting A V) (m : Meaning P T R A U) (s : Meaning P T R O W) → SepBy1IsOneThenTurns step c m s
-sep_by1_is_one_then_turns step c m s v o = joined_is_one_then_turns step (elements c) (following false first_element m.whole) (later_turn then_element (tuple_2 step s m)) v o
+sep_by1_is_one_then_turns step c m s v o = joined_is_one_then_turns step (elements c) (following false first_element m.whole) (later_turn then_element (pair step s m)) v o

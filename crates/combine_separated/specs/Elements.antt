@@ -1,13 +1,11 @@
 -- how elements are gathered
 use Rattle.std.specs.Prelude.{ℕ, ◌≡◌, Option, Some, None}
 use Rattle.combine_base.specs.Parser.Meaning.{Meaning}
-use Rattle.combine_base.specs.Sequence.Tuples.{tuple_2}
+use Rattle.combine_separated.specs.Pair.{pair}
 use Rattle.combine_turns.specs.Turns.{Collecting}
 use Rattle.combine_turns.specs.Bounded.{gathered, none_yet, turns_from}
 use Rattle.combine_turns.specs.Counts.{never}
 use Rattle.combine_separated.specs.Separated.{first_element, first_then, later_turn, then_element}
-use Rattle.combine_base.specs.declared.sequence.PartialState2.{PartialState2}
-use Rattle.combine_base.specs.declared.sequence.SequenceState.{SequenceState}
 use Rattle.combine_turns.specs.declared.turns.Bounds.{Bounds}
 use Rattle.combine_turns.specs.declared.turns.Bounds.TheVariants.{Joined}
 use Rattle.combine_turns.specs.declared.turns.TurnsState.{TurnsState}
@@ -34,27 +32,23 @@ elements c = record { Held = c.Held; held = c.held; none = c.none; more = each_e
 abbrev pub folded : {O V : Type 0} → (O → V → V → V → Type 0) → Collecting (Element O V) V
 folded post = gathered (λ v. Some v) None (folds post) (Unit {0})
 
--- the state of a turn
-abbrev pub Turning : Type 0 → Type 0 → Type 0 → Type 0
-Turning O U W = SeparatedState U (PartialState2 (SequenceState (Unit {0}) W) (SequenceState (record { 0 : O }) U))
-
 module _ {P T R O A V U W : Type 0} (step : P → T → P) (b : Bounds) (c : Collecting (Element O A) V) where
   -- an element, and then turns of a separator and an element, so many
-  abbrev pub joined : Meaning P T R A U → Meaning P T R O W → Meaning P T R V (TurnsState V (Turning O U W))
-  joined m s = turns_from step b never c (none_yet c.none) (first_then first_element then_element m (tuple_2 step s m)) (later_turn then_element (tuple_2 step s m))
+  abbrev pub joined : Meaning P T R A U → Meaning P T R O W → Meaning P T R V (TurnsState V (SeparatedState O W U))
+  joined m s = turns_from step b never c (none_yet c.none) (first_then first_element then_element m (pair step s m)) (later_turn then_element (pair step s m))
 
 module _ {P T R O A V U W : Type 0} (step : P → T → P) (c : Collecting A V) where
   -- at least so many elements, and at most so many if there is such a number
-  abbrev pub sep_count_min_max : ℕ → Option ℕ → Meaning P T R A U → Meaning P T R O W → Meaning P T R V (TurnsState V (Turning O U W))
+  abbrev pub sep_count_min_max : ℕ → Option ℕ → Meaning P T R A U → Meaning P T R O W → Meaning P T R V (TurnsState V (SeparatedState O W U))
   sep_count_min_max least most = joined step (Joined least most) (elements c)
 
-  abbrev pub sep_by : Meaning P T R A U → Meaning P T R O W → Meaning P T R V (TurnsState V (Turning O U W))
+  abbrev pub sep_by : Meaning P T R A U → Meaning P T R O W → Meaning P T R V (TurnsState V (SeparatedState O W U))
   sep_by = sep_count_min_max 0 None
 
-  abbrev pub sep_by1 : Meaning P T R A U → Meaning P T R O W → Meaning P T R V (TurnsState V (Turning O U W))
+  abbrev pub sep_by1 : Meaning P T R A U → Meaning P T R O W → Meaning P T R V (TurnsState V (SeparatedState O W U))
   sep_by1 = sep_count_min_max 1 None
 
 module _ {P T R O V U W : Type 0} (step : P → T → P) (post : O → V → V → V → Type 0) where
   -- an element, and then turns of an operator and an element, folded from the left
-  abbrev pub chainl1 : Meaning P T R V U → Meaning P T R O W → Meaning P T R V (TurnsState V (Turning O U W))
+  abbrev pub chainl1 : Meaning P T R V U → Meaning P T R O W → Meaning P T R V (TurnsState V (SeparatedState O W U))
   chainl1 = joined step (Joined 1 None) (folded post)

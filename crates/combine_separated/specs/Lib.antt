@@ -3,6 +3,7 @@ pub use Rattle.combine_base.specs.Parser.Meaning
 pub use Rattle.combine_base.specs.Parser.Outcome
 pub use Rattle.combine_base.specs.Refusals
 pub use Rattle.combine_base.specs.Sequence.Parts
+pub use Rattle.combine_base.specs.Sequence.Followed
 pub use Rattle.combine_base.specs.Sequence.Places
 pub use Rattle.combine_base.specs.Sequence.Readings
 pub use Rattle.combine_base.specs.Sequence.Tuples
@@ -14,6 +15,7 @@ pub use Rattle.combine_turns.specs.OneThenTurns
 pub use Rattle.combine_turns.specs.Turn
 pub use Rattle.combine_turns.specs.Turns
 pub mod Placed
+pub mod Pair
 pub mod Separated
 pub mod Elements
 pub mod JoinedLaws

@@ -2,5 +2,6 @@
 #![tactic(auto)]
 
 pub mod elements;
+pub mod pair;
 pub mod repeat;
 pub mod separated;

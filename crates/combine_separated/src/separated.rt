@@ -2,15 +2,14 @@
 ghost use Rattle.std.specs.Prelude.{◌≡◌, false, true};
 ghost use Rattle.combine_base.specs.Parser.Answer.{world};
 ghost use Rattle.combine_base.specs.Parser.Meaning.{MeansSame};
-ghost use Rattle.combine_base.specs.Sequence.Places.{begins_2, first_fresh, valid_2};
-ghost use Rattle.combine_base.specs.Sequence.Tuples.{tuple_2, tuple_2_is_meaning, tuple_2_means_one};
 ghost use Rattle.combine_base.specs.Stream.Calls.{Passes};
+ghost use Rattle.combine_separated.specs.Pair.{pair, pair_begins, pair_is_meaning, pair_means_one, pair_valid};
 ghost use Rattle.combine_separated.specs.Placed.{Ran};
-ghost use Rattle.combine_separated.specs.Separated.{first_element, first_then, later_turn, part_of, separated_default, separated_fresh, separated_valid, separator_of, then_element, then_is_turn, then_once};
+ghost use Rattle.combine_separated.specs.Separated.{first_element, first_then, later_kept, later_turn, part_of, separated_default, separated_fresh, separated_valid, separator_of, then_element, then_is_turn, then_once, turn_place};
 
+use crate::pair::{PairState, PairStateOf, parse_pair};
 use combine_base::error::{ParseResult, Tracked};
 use combine_base::parser::{FirstMode, ParseMode, Parser};
-use combine_base::sequence::{PartialState2, State2, parse_2};
 use combine_base::stream::{Stream, needs_more};
 use combine_turns::turns::Turn;
 use std::mem;
@@ -22,19 +21,66 @@ pub enum Element<O, V> {
     Then(O, V),
 }
 
-/// What is kept of a running turn: the state of the first part, or of a later separator and part.
+/// What stands before a part: nothing before the first, and before a later one what its separator gave, and whether that was committed.
 #[derive(Drop)]
-pub enum SeparatedState<A, B> {
-    First(A),
-    Later(B),
+pub enum Lead<O> {
+    Nothing,
+    Separator(O, bool),
 }
 
-impl<A: Default, B> Default for SeparatedState<A, B> {
-    ghost is_default = { separated_fresh A.is_default };
+/// What is kept of a running turn: the state of a later separator, or of a part, with what stands before it.
+///
+/// It holds the state of a part in one place, so that parts within parts make it grow by as much at each level.
+#[derive(Drop)]
+pub enum SeparatedState<O, W, U> {
+    Separator(W),
+    Part(Lead<O>, U),
+}
+
+/// Which turn runs: the first part, or a later separator and part.
+#[derive(Drop)]
+pub enum TurnPlace<U, Z> {
+    First(U),
+    Later(Z),
+}
+
+impl<O, W, U: Default> Default for SeparatedState<O, W, U> {
+    ghost is_default = { separated_fresh U.is_default };
 
     #[inline]
     fn default() -> Self {
-        SeparatedState::First(A::default())
+        SeparatedState::Part(Lead::Nothing, U::default())
+    }
+}
+
+impl<O, W, U> SeparatedState<O, W, U> {
+    /// Which turn runs, with what is kept of it.
+    #[inline(always)]
+    pub fn into_place(self) -> TurnPlace<U, PairState<O, W, U>>
+        ensures { result ≡ turn_place self }
+    {
+        match self {
+            SeparatedState::Separator(kept) => TurnPlace::Later(PairState::Separator(kept)),
+            SeparatedState::Part(lead, kept) => match lead {
+                Lead::Nothing => TurnPlace::First(kept),
+                Lead::Separator(value, committed) => {
+                    TurnPlace::Later(PairState::Part(value, committed, kept))
+                }
+            },
+        }
+    }
+
+    /// What is kept of a later separator and part.
+    #[inline(always)]
+    pub fn later(pair: PairState<O, W, U>) -> Self
+        ensures { result ≡ later_kept pair }
+    {
+        match pair {
+            PairState::Separator(kept) => SeparatedState::Separator(kept),
+            PairState::Part(value, committed, kept) => {
+                SeparatedState::Part(Lead::Separator(value, committed), kept)
+            }
+        }
     }
 }
 
@@ -47,19 +93,19 @@ pub struct Separated<P, S> {
 
 /// Runs the first part, from what is kept of it.
 #[inline(always)]
-fn run_first<Input: Stream, P: Parser<Input>, O: Drop, B: Drop, M: ParseMode>(
+fn run_first<Input: Stream, P: Parser<Input>, O: Drop, W: Drop, M: ParseMode>(
     parser: &mut P,
     mode: M,
     kept: P::PartialState,
     input: &mut Input,
-    state: &mut SeparatedState<P::PartialState, B>,
+    state: &mut SeparatedState<O, W, P::PartialState>,
 ) -> ParseResult<Element<O, P::Output>, Input::Error>
     requires lawful { P.lawful parser.old }
     requires valid { P.valid kept }
     ensures lawful { P.lawful parser.new }
     ensures same { MeansSame (P.meaning parser.old) (P.meaning parser.new) }
     ensures passes { Passes (Input.marks input.old) (Input.marks input.new) (Input.failures input.old) (Input.failures input.new) }
-    ensures ran { Ran (world Input.step Input.Error.seen Input.steady P.PartialState.is_default) (P.meaning parser.old) P.valid first_element (λ s. SeparatedState.First s)
+    ensures ran { Ran (world Input.step Input.Error.seen Input.steady P.PartialState.is_default) (P.meaning parser.old) P.valid first_element (λ s. SeparatedState.Part Lead.Nothing s)
         (M.first mode) kept state.old state.new (Input.view input.old) (Input.view input.new) (Input.failures input.old) (Input.failures input.new) result }
 {
     let mut kept = kept;
@@ -68,7 +114,7 @@ fn run_first<Input: Stream, P: Parser<Input>, O: Drop, B: Drop, M: ParseMode>(
         ParseResult::PeekOk(value) => ParseResult::PeekOk(Element::First(value)),
         ParseResult::CommitErr(error) => {
             if needs_more(input, &error) {
-                *state = SeparatedState::First(kept);
+                *state = SeparatedState::Part(Lead::Nothing, kept);
                 return ParseResult::CommitErr(error);
             }
             ParseResult::CommitErr(error)
@@ -83,22 +129,22 @@ fn run_later<Input: Stream, P: Parser<Input>, S: Parser<Input>, M: ParseMode>(
     separator: &mut S,
     parser: &mut P,
     mode: M,
-    kept: State2<Input, S, P>,
+    kept: PairStateOf<Input, S, P>,
     input: &mut Input,
-    state: &mut SeparatedState<P::PartialState, State2<Input, S, P>>,
+    state: &mut SeparatedState<S::Output, S::PartialState, P::PartialState>,
 ) -> ParseResult<Element<S::Output, P::Output>, Input::Error>
     requires lawful { S.lawful separator.old × P.lawful parser.old }
-    requires valid { valid_2 S.valid P.valid kept }
-    requires starts { M.first mode ≡ true → begins_2 (first_fresh S.PartialState.is_default) kept }
+    requires valid { pair_valid S.valid P.valid kept }
+    requires starts { M.first mode ≡ true → pair_begins S.PartialState.is_default kept }
     ensures lawful { S.lawful separator.new × P.lawful parser.new }
     ensures parts { MeansSame (S.meaning separator.old) (S.meaning separator.new) × MeansSame (P.meaning parser.old) (P.meaning parser.new) }
-    ensures same { MeansSame (tuple_2 Input.step (S.meaning separator.old) (P.meaning parser.old)) (tuple_2 Input.step (S.meaning separator.new) (P.meaning parser.new)) }
+    ensures same { MeansSame (pair Input.step (S.meaning separator.old) (P.meaning parser.old)) (pair Input.step (S.meaning separator.new) (P.meaning parser.new)) }
     ensures passes { Passes (Input.marks input.old) (Input.marks input.new) (Input.failures input.old) (Input.failures input.new) }
-    ensures ran { Ran (world Input.step Input.Error.seen Input.steady (begins_2 (first_fresh S.PartialState.is_default))) (tuple_2 Input.step (S.meaning separator.old) (P.meaning parser.old)) (valid_2 S.valid P.valid) then_element (λ s. SeparatedState.Later s)
+    ensures ran { Ran (world Input.step Input.Error.seen Input.steady (pair_begins S.PartialState.is_default)) (pair Input.step (S.meaning separator.old) (P.meaning parser.old)) (pair_valid S.valid P.valid) then_element later_kept
         false kept state.old state.new (Input.view input.old) (Input.view input.new) (Input.failures input.old) (Input.failures input.new) result }
 {
-    let mut left = PartialState2::default();
-    match parse_2(separator, parser, mode, input, kept, &mut left) {
+    let mut left = PairState::default();
+    match parse_pair(separator, parser, mode, input, kept, &mut left) {
         ParseResult::CommitOk(pair) => {
             let (separator, value) = pair;
             ParseResult::CommitOk(Element::Then(separator, value))
@@ -109,7 +155,7 @@ fn run_later<Input: Stream, P: Parser<Input>, S: Parser<Input>, M: ParseMode>(
         }
         ParseResult::CommitErr(error) => {
             if needs_more(input, &error) {
-                *state = SeparatedState::Later(left);
+                *state = SeparatedState::later(left);
                 return ParseResult::CommitErr(error);
             }
             ParseResult::CommitErr(error)
@@ -121,17 +167,17 @@ fn run_later<Input: Stream, P: Parser<Input>, S: Parser<Input>, M: ParseMode>(
 impl<Input: Stream, P: Parser<Input>, S: Parser<Input>> Turn<Input> for Separated<P, S> {
     type Value = Element<S::Output, P::Output>;
 
-    type Running = SeparatedState<P::PartialState, State2<Input, S, P>>;
+    type Running = SeparatedState<S::Output, S::PartialState, P::PartialState>;
 
     ghost lawful = { λ p. S.lawful (separator_of p) × P.lawful (part_of p) };
 
     ghost determined = { λ p. S.determined (separator_of p) × P.determined (part_of p) };
 
-    ghost valid = { separated_valid P.valid (valid_2 S.valid P.valid) };
+    ghost valid = { separated_valid P.valid (pair_valid S.valid P.valid) };
 
-    ghost meaning = { λ p. first_then first_element then_element (P.meaning (part_of p)) (tuple_2 Input.step (S.meaning (separator_of p)) (P.meaning (part_of p))) };
+    ghost meaning = { λ p. first_then first_element then_element (P.meaning (part_of p)) (pair Input.step (S.meaning (separator_of p)) (P.meaning (part_of p))) };
 
-    ghost again = { λ p. later_turn then_element (tuple_2 Input.step (S.meaning (separator_of p)) (P.meaning (part_of p))) };
+    ghost again = { λ p. later_turn then_element (pair Input.step (S.meaning (separator_of p)) (P.meaning (part_of p))) };
 
     ghost ending = { λ _. false };
 
@@ -146,7 +192,7 @@ impl<Input: Stream, P: Parser<Input>, S: Parser<Input>> Turn<Input> for Separate
         let given = mem::take(state);
         if mode.is_first() {
             if later {
-                let kept = PartialState2::default();
+                let kept = PairState::default();
                 return run_later(
                     &mut self.separator,
                     &mut self.parser,
@@ -159,9 +205,9 @@ impl<Input: Stream, P: Parser<Input>, S: Parser<Input>> Turn<Input> for Separate
             let kept = P::PartialState::default();
             return run_first(&mut self.parser, FirstMode, kept, input, state);
         }
-        match given {
-            SeparatedState::First(kept) => run_first(&mut self.parser, mode, kept, input, state),
-            SeparatedState::Later(kept) => run_later(
+        match given.into_place() {
+            TurnPlace::First(kept) => run_first(&mut self.parser, mode, kept, input, state),
+            TurnPlace::Later(kept) => run_later(
                 &mut self.separator,
                 &mut self.parser,
                 mode,
@@ -181,9 +227,9 @@ impl<Input: Stream, P: Parser<Input>, S: Parser<Input>> Turn<Input> for Separate
         false
     }
 
-    ghost default_valid = { λ s d. separated_default P.PartialState.is_default P.valid (valid_2 S.valid P.valid) P.default_valid s d };
+    ghost default_valid = { λ s d. separated_default P.PartialState.is_default P.valid (pair_valid S.valid P.valid) P.default_valid s d };
 
-    ghost laws = { λ p l. then_is_turn first_element then_element (P.laws (part_of p) l.1) (tuple_2_is_meaning Input.step (S.laws (separator_of p) l.0) (P.laws (part_of p) l.1)) };
+    ghost laws = { λ p l. then_is_turn first_element then_element (P.laws (part_of p) l.1) (pair_is_meaning Input.step (S.laws (separator_of p) l.0) (P.laws (part_of p) l.1)) };
 
-    ghost once = { λ p l d. then_once first_element then_element (P.single (part_of p) l.1 d.1) (tuple_2_means_one Input.step (S.single (separator_of p) l.0 d.0) (P.single (part_of p) l.1 d.1)) };
+    ghost once = { λ p l d. then_once first_element then_element (P.single (part_of p) l.1 d.1) (pair_means_one Input.step (S.single (separator_of p) l.0 d.0) (P.single (part_of p) l.1 d.1)) };
 }

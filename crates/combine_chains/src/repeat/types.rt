@@ -1,7 +1,7 @@
 //! The parsers that the functions of this module answer.
 ghost use Rattle.std.specs.Prelude.{◌≡◌};
 ghost use Rattle.combine_base.specs.Parser.Mapped.{mapped_is_meaning, mapped_means_one};
-ghost use Rattle.combine_base.specs.Sequence.Places.{valid_2};
+ghost use Rattle.combine_separated.specs.Pair.{pair_valid};
 ghost use Rattle.combine_chains.specs.ChainParsers.{right_operator, right_part};
 ghost use Rattle.combine_chains.specs.Chains.{each_operand, gives_right, operands, right_fold};
 ghost use Rattle.combine_separated.specs.JoinedLaws.{joined_is_meaning, joined_means_one};
@@ -54,20 +54,20 @@ where
 
     type PartialState = TurnsState<
         Operands<S::Output, P::Output>,
-        SeparatedState<P::PartialState, State2<Input, S, P>>,
+        SeparatedState<S::Output, S::PartialState, P::PartialState>,
     >;
 
     ghost lawful = { λ p. ((f : S.Output) → S.Output.IsAlwaysCallable f) × S.lawful (right_operator p) × P.lawful (right_part p) };
 
     ghost determined = { λ p. S.determined (right_operator p) × P.determined (right_part p) };
 
-    ghost valid = { λ s. separated_valid P.valid (valid_2 S.valid P.valid) (running_turn s) };
+    ghost valid = { λ s. separated_valid P.valid (pair_valid S.valid P.valid) (running_turn s) };
 
     ghost meaning = { λ p. right_fold Input.step (λ f x y r. S.Output.post f x y r) (P.meaning (right_part p)) (S.meaning (right_operator p)) };
 
     ghost parts = { λ _. 1 };
 
-    ghost default_valid = { begun_valid (separated_fresh P.PartialState.is_default) (separated_valid P.valid (valid_2 S.valid P.valid)) (separated_default P.PartialState.is_default P.valid (valid_2 S.valid P.valid) P.default_valid) };
+    ghost default_valid = { begun_valid (separated_fresh P.PartialState.is_default) (separated_valid P.valid (pair_valid S.valid P.valid)) (separated_default P.PartialState.is_default P.valid (pair_valid S.valid P.valid) P.default_valid) };
 
     ghost laws = { λ p l. mapped_is_meaning _ _ (operands Input.step (P.meaning (right_part p)) (S.meaning (right_operator p))) (gives_right (λ f x y r. S.Output.post f x y r)) (joined_is_meaning Input.step (Joined 1 None) each_operand P.PartialState.is_default P.valid S.PartialState.is_default S.valid (P.meaning (right_part p)) (S.meaning (right_operator p)) (P.laws (right_part p) l.2) (S.laws (right_operator p) l.1)) };
 

@@ -1,5 +1,5 @@
 //! The parsers that the functions of this module answer.
-ghost use Rattle.combine_base.specs.Sequence.Places.{valid_2};
+ghost use Rattle.combine_separated.specs.Pair.{pair_valid};
 ghost use Rattle.combine_separated.specs.Separated.{separated_default, separated_fresh, separated_valid};
 ghost use Rattle.combine_sep_end.specs.SepEnd.{sep_end_by, sep_end_by1, sep_end_is_meaning, sep_end_means_one};
 ghost use Rattle.combine_sep_end.specs.SepEndParsers.{ended_by_part, ended_by_separator, ended_by1_part, ended_by1_separator};
@@ -10,10 +10,8 @@ use crate::ended::{EachSome, Ended};
 use combine_base::error::{ErrorOffset, ParseResult, Tracked};
 use combine_base::parser::{Outputs, ParseMode, Parser};
 use combine_base::repeat::Append;
-use combine_base::sequence::State2;
 use combine_base::stream::Stream;
 use combine_separated::separated::SeparatedState;
-use combine_token::choice::types::Optional;
 use combine_turns::turns::limits::JoinedFrom;
 use combine_turns::turns::{Turns, TurnsState, take_turns};
 use std::alloc::Global;
@@ -39,20 +37,20 @@ impl<Input: Stream, P: Parser<Input>, S: Parser<Input>, F: Append<P::Output>> Pa
 
     type PartialState = TurnsState<
         F,
-        SeparatedState<P::PartialState, State2<Input, S, Optional<P>>>,
+        SeparatedState<S::Output, S::PartialState, P::PartialState>,
     >;
 
     ghost lawful = { λ p. S.lawful (ended_by_separator p) × P.lawful (ended_by_part p) };
 
     ghost determined = { λ p. S.determined (ended_by_separator p) × P.determined (ended_by_part p) };
 
-    ghost valid = { λ s. separated_valid P.valid (valid_2 S.valid P.valid) (running_turn s) };
+    ghost valid = { λ s. separated_valid P.valid (pair_valid S.valid P.valid) (running_turn s) };
 
     ghost meaning = { λ p. sep_end_by Input.step (appended F.held F.none F.more F.lean) (P.meaning (ended_by_part p)) (S.meaning (ended_by_separator p)) };
 
     ghost parts = { λ _. 1 };
 
-    ghost default_valid = { begun_valid (separated_fresh P.PartialState.is_default) (separated_valid P.valid (valid_2 S.valid P.valid)) (separated_default P.PartialState.is_default P.valid (valid_2 S.valid P.valid) P.default_valid) };
+    ghost default_valid = { begun_valid (separated_fresh P.PartialState.is_default) (separated_valid P.valid (pair_valid S.valid P.valid)) (separated_default P.PartialState.is_default P.valid (pair_valid S.valid P.valid) P.default_valid) };
 
     ghost laws = { λ p l. sep_end_is_meaning Input.step (Joined 0 None) (appended F.held F.none F.more F.lean) P.PartialState.is_default P.valid S.PartialState.is_default S.valid (P.meaning (ended_by_part p)) (S.meaning (ended_by_separator p)) (P.laws (ended_by_part p) l.1) (S.laws (ended_by_separator p) l.0) };
 
@@ -110,20 +108,20 @@ impl<Input: Stream, P: Parser<Input>, S: Parser<Input>, F: Append<P::Output>> Pa
 
     type PartialState = TurnsState<
         F,
-        SeparatedState<P::PartialState, State2<Input, S, Optional<P>>>,
+        SeparatedState<S::Output, S::PartialState, P::PartialState>,
     >;
 
     ghost lawful = { λ p. S.lawful (ended_by1_separator p) × P.lawful (ended_by1_part p) };
 
     ghost determined = { λ p. S.determined (ended_by1_separator p) × P.determined (ended_by1_part p) };
 
-    ghost valid = { λ s. separated_valid P.valid (valid_2 S.valid P.valid) (running_turn s) };
+    ghost valid = { λ s. separated_valid P.valid (pair_valid S.valid P.valid) (running_turn s) };
 
     ghost meaning = { λ p. sep_end_by1 Input.step (appended F.held F.none F.more F.lean) (P.meaning (ended_by1_part p)) (S.meaning (ended_by1_separator p)) };
 
     ghost parts = { λ _. 1 };
 
-    ghost default_valid = { begun_valid (separated_fresh P.PartialState.is_default) (separated_valid P.valid (valid_2 S.valid P.valid)) (separated_default P.PartialState.is_default P.valid (valid_2 S.valid P.valid) P.default_valid) };
+    ghost default_valid = { begun_valid (separated_fresh P.PartialState.is_default) (separated_valid P.valid (pair_valid S.valid P.valid)) (separated_default P.PartialState.is_default P.valid (pair_valid S.valid P.valid) P.default_valid) };
 
     ghost laws = { λ p l. sep_end_is_meaning Input.step (Joined 1 None) (appended F.held F.none F.more F.lean) P.PartialState.is_default P.valid S.PartialState.is_default S.valid (P.meaning (ended_by1_part p)) (S.meaning (ended_by1_separator p)) (P.laws (ended_by1_part p) l.1) (S.laws (ended_by1_separator p) l.0) };
 

@@ -2,7 +2,7 @@
 ghost use Rattle.std.specs.Prelude.{◌≡◌, Some, None};
 ghost use Rattle.combine_turns.specs.Bounded.{begun_valid, running_turn};
 ghost use Rattle.combine_turns.specs.Counts.{appended};
-ghost use Rattle.combine_base.specs.Sequence.Places.{valid_2};
+ghost use Rattle.combine_separated.specs.Pair.{pair_valid};
 ghost use Rattle.combine_separated.specs.SeparatedParsers.{chained_operator, chained_part, counted_part, counted_separator, least_of, most_of, separated_part, separated_separator, separated1_part, separated1_separator};
 ghost use Rattle.combine_separated.specs.Elements.{chainl1, elements, folded, sep_by, sep_by1, sep_count_min_max};
 ghost use Rattle.combine_separated.specs.JoinedLaws.{joined_is_meaning, joined_means_one};
@@ -13,7 +13,6 @@ use crate::separated::{Separated, SeparatedState};
 use combine_base::error::{ErrorOffset, ParseResult, Tracked};
 use combine_base::parser::{Outputs, ParseMode, Parser};
 use combine_base::repeat::Append;
-use combine_base::sequence::State2;
 use combine_base::stream::Stream;
 use combine_turns::turns::limits::{JoinedBetween, JoinedFrom};
 use combine_turns::turns::{Turns, TurnsState, take_joined, take_turns};
@@ -39,19 +38,19 @@ impl<Input: Stream, P: Parser<Input>, S: Parser<Input>, F: Append<P::Output>> Pa
     ghost use Rattle.std.specs.Prelude.{None, Some};
     ghost use Rattle.combine_turns.specs.declared.turns.Bounds.TheVariants.{Joined};
 
-    type PartialState = TurnsState<F, SeparatedState<P::PartialState, State2<Input, S, P>>>;
+    type PartialState = TurnsState<F, SeparatedState<S::Output, S::PartialState, P::PartialState>>;
 
     ghost lawful = { λ p. S.lawful (counted_separator p) × P.lawful (counted_part p) };
 
     ghost determined = { λ p. S.determined (counted_separator p) × P.determined (counted_part p) };
 
-    ghost valid = { λ s. separated_valid P.valid (valid_2 S.valid P.valid) (running_turn s) };
+    ghost valid = { λ s. separated_valid P.valid (pair_valid S.valid P.valid) (running_turn s) };
 
     ghost meaning = { λ p. sep_count_min_max Input.step (appended F.held F.none F.more F.lean) (least_of p) (Some (most_of p)) (P.meaning (counted_part p)) (S.meaning (counted_separator p)) };
 
     ghost parts = { λ _. 1 };
 
-    ghost default_valid = { begun_valid (separated_fresh P.PartialState.is_default) (separated_valid P.valid (valid_2 S.valid P.valid)) (separated_default P.PartialState.is_default P.valid (valid_2 S.valid P.valid) P.default_valid) };
+    ghost default_valid = { begun_valid (separated_fresh P.PartialState.is_default) (separated_valid P.valid (pair_valid S.valid P.valid)) (separated_default P.PartialState.is_default P.valid (pair_valid S.valid P.valid) P.default_valid) };
 
     ghost laws = { λ p l. joined_is_meaning Input.step (Joined (least_of p) (Some (most_of p))) (elements (appended F.held F.none F.more F.lean)) P.PartialState.is_default P.valid S.PartialState.is_default S.valid (P.meaning (counted_part p)) (S.meaning (counted_separator p)) (P.laws (counted_part p) l.1) (S.laws (counted_separator p) l.0) };
 
@@ -110,19 +109,19 @@ impl<Input: Stream, P: Parser<Input>, S: Parser<Input>, F: Append<P::Output>> Pa
     ghost use Rattle.std.specs.Prelude.{None, Some};
     ghost use Rattle.combine_turns.specs.declared.turns.Bounds.TheVariants.{Joined};
 
-    type PartialState = TurnsState<F, SeparatedState<P::PartialState, State2<Input, S, P>>>;
+    type PartialState = TurnsState<F, SeparatedState<S::Output, S::PartialState, P::PartialState>>;
 
     ghost lawful = { λ p. S.lawful (separated_separator p) × P.lawful (separated_part p) };
 
     ghost determined = { λ p. S.determined (separated_separator p) × P.determined (separated_part p) };
 
-    ghost valid = { λ s. separated_valid P.valid (valid_2 S.valid P.valid) (running_turn s) };
+    ghost valid = { λ s. separated_valid P.valid (pair_valid S.valid P.valid) (running_turn s) };
 
     ghost meaning = { λ p. sep_by Input.step (appended F.held F.none F.more F.lean) (P.meaning (separated_part p)) (S.meaning (separated_separator p)) };
 
     ghost parts = { λ p. P.parts (separated_part p) };
 
-    ghost default_valid = { begun_valid (separated_fresh P.PartialState.is_default) (separated_valid P.valid (valid_2 S.valid P.valid)) (separated_default P.PartialState.is_default P.valid (valid_2 S.valid P.valid) P.default_valid) };
+    ghost default_valid = { begun_valid (separated_fresh P.PartialState.is_default) (separated_valid P.valid (pair_valid S.valid P.valid)) (separated_default P.PartialState.is_default P.valid (pair_valid S.valid P.valid) P.default_valid) };
 
     ghost laws = { λ p l. joined_is_meaning Input.step (Joined 0 None) (elements (appended F.held F.none F.more F.lean)) P.PartialState.is_default P.valid S.PartialState.is_default S.valid (P.meaning (separated_part p)) (S.meaning (separated_separator p)) (P.laws (separated_part p) l.1) (S.laws (separated_separator p) l.0) };
 
@@ -178,19 +177,19 @@ impl<Input: Stream, P: Parser<Input>, S: Parser<Input>, F: Append<P::Output>> Pa
     ghost use Rattle.std.specs.Prelude.{None, Some};
     ghost use Rattle.combine_turns.specs.declared.turns.Bounds.TheVariants.{Joined};
 
-    type PartialState = TurnsState<F, SeparatedState<P::PartialState, State2<Input, S, P>>>;
+    type PartialState = TurnsState<F, SeparatedState<S::Output, S::PartialState, P::PartialState>>;
 
     ghost lawful = { λ p. S.lawful (separated1_separator p) × P.lawful (separated1_part p) };
 
     ghost determined = { λ p. S.determined (separated1_separator p) × P.determined (separated1_part p) };
 
-    ghost valid = { λ s. separated_valid P.valid (valid_2 S.valid P.valid) (running_turn s) };
+    ghost valid = { λ s. separated_valid P.valid (pair_valid S.valid P.valid) (running_turn s) };
 
     ghost meaning = { λ p. sep_by1 Input.step (appended F.held F.none F.more F.lean) (P.meaning (separated1_part p)) (S.meaning (separated1_separator p)) };
 
     ghost parts = { λ p. P.parts (separated1_part p) };
 
-    ghost default_valid = { begun_valid (separated_fresh P.PartialState.is_default) (separated_valid P.valid (valid_2 S.valid P.valid)) (separated_default P.PartialState.is_default P.valid (valid_2 S.valid P.valid) P.default_valid) };
+    ghost default_valid = { begun_valid (separated_fresh P.PartialState.is_default) (separated_valid P.valid (pair_valid S.valid P.valid)) (separated_default P.PartialState.is_default P.valid (pair_valid S.valid P.valid) P.default_valid) };
 
     ghost laws = { λ p l. joined_is_meaning Input.step (Joined 1 None) (elements (appended F.held F.none F.more F.lean)) P.PartialState.is_default P.valid S.PartialState.is_default S.valid (P.meaning (separated1_part p)) (S.meaning (separated1_separator p)) (P.laws (separated1_part p) l.1) (S.laws (separated1_separator p) l.0) };
 
@@ -243,19 +242,19 @@ where
     ghost use Rattle.std.specs.Prelude.{None};
     ghost use Rattle.combine_turns.specs.declared.turns.Bounds.TheVariants.{Joined};
 
-    type PartialState = TurnsState<P::Output, SeparatedState<P::PartialState, State2<Input, S, P>>>;
+    type PartialState = TurnsState<P::Output, SeparatedState<S::Output, S::PartialState, P::PartialState>>;
 
     ghost lawful = { λ p. ((f : S.Output) → S.Output.IsAlwaysCallable f) × S.lawful (chained_operator p) × P.lawful (chained_part p) };
 
     ghost determined = { λ p. S.determined (chained_operator p) × P.determined (chained_part p) };
 
-    ghost valid = { λ s. separated_valid P.valid (valid_2 S.valid P.valid) (running_turn s) };
+    ghost valid = { λ s. separated_valid P.valid (pair_valid S.valid P.valid) (running_turn s) };
 
     ghost meaning = { λ p. chainl1 Input.step (λ f x y r. S.Output.post f x y r) (P.meaning (chained_part p)) (S.meaning (chained_operator p)) };
 
     ghost parts = { λ _. 1 };
 
-    ghost default_valid = { begun_valid (separated_fresh P.PartialState.is_default) (separated_valid P.valid (valid_2 S.valid P.valid)) (separated_default P.PartialState.is_default P.valid (valid_2 S.valid P.valid) P.default_valid) };
+    ghost default_valid = { begun_valid (separated_fresh P.PartialState.is_default) (separated_valid P.valid (pair_valid S.valid P.valid)) (separated_default P.PartialState.is_default P.valid (pair_valid S.valid P.valid) P.default_valid) };
 
     ghost laws = { λ p l. joined_is_meaning Input.step (Joined 1 None) (folded (λ f x y r. S.Output.post f x y r)) P.PartialState.is_default P.valid S.PartialState.is_default S.valid (P.meaning (chained_part p)) (S.meaning (chained_operator p)) (P.laws (chained_part p) l.2) (S.laws (chained_operator p) l.1) };
 
