@@ -167,7 +167,7 @@ mod tests {
 
     #[test]
     fn of_texts(rt: HostRuntime) -> Result<(), AllocError> {
-        type Texts = MaybePartialStream<position::Stream<&'static str>>;
+        type Texts = MaybePartialStream<position::TextStream<'static>>;
         for row in wrong_of_texts::<Texts>(rt.alloc())? {
             assert_eq!(rt; row.as_str(), "");
         }
@@ -176,7 +176,7 @@ mod tests {
 
     #[test]
     fn of_bytes(rt: HostRuntime) -> Result<(), AllocError> {
-        type Bytes = MaybePartialStream<position::Stream<&'static [u8]>>;
+        type Bytes = MaybePartialStream<position::SliceStream<'static, u8>>;
         for row in wrong_of_bytes::<Bytes>(rt.alloc())? {
             assert_eq!(rt; row.as_str(), "");
         }

@@ -76,7 +76,7 @@ where
     }
 }
 
-impl Lettered for position::Stream<&'static str> {
+impl Lettered for position::TextStream<'static> {
     fn start() -> &'static str {
         "line: 1, column: 1"
     }
@@ -105,7 +105,7 @@ fn as_letters(info: &Info<u8, &'static [u8]>) -> Info<char, &'static str> {
 }
 
 /// Tokens and ranges are shown as the text that they stand for.
-impl Lettered for position::Stream<&'static [u8]> {
+impl Lettered for position::SliceStream<'static, u8> {
     fn start() -> &'static str {
         "0"
     }

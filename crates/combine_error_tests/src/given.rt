@@ -59,7 +59,7 @@ mod tests {
 
     #[test]
     fn texts_say(rt: HostRuntime) -> Result<(), AllocError> {
-        for row in wrong_of_texts::<easy::Stream<position::Stream<&'static str>>>(rt.alloc())? {
+        for row in wrong_of_texts::<easy::TextStream<'static>>(rt.alloc())? {
             assert_eq!(rt; row.as_str(), "");
         }
         Ok(())
@@ -67,7 +67,7 @@ mod tests {
 
     #[test]
     fn bytes_say(rt: HostRuntime) -> Result<(), AllocError> {
-        for row in wrong_of_bytes::<easy::Stream<position::Stream<&'static [u8]>>>(rt.alloc())? {
+        for row in wrong_of_bytes::<easy::SliceStream<'static, u8>>(rt.alloc())? {
             assert_eq!(rt; row.as_str(), "");
         }
         Ok(())

@@ -15,7 +15,7 @@ mod driver;
 mod stream;
 
 pub use driver::EasyParser;
-pub use stream::Stream;
+pub use stream::{SliceStream, Stream, TextStream};
 
 /// What an error says: an item.
 ///

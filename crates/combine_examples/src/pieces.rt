@@ -29,7 +29,9 @@ pub fn digit_value(
 ) -> Result<Answer<u8, UnexpectedParse>, SessionError> {
     let value = map(
         satisfy(is_digit),
-        |digit: u8| -> u8 requires { is_ascii_digit digit ≡ true } { digit - b'0' },
+        |digit: u8| -> u8
+            requires { is_ascii_digit digit ≡ true }
+        { digit - b'0' },
     );
     parse_pieces(alloc, value, pieces)
 }
@@ -59,6 +61,7 @@ mod tests {
             _ => assert!(rt; false, "refused, and committed"),
         }
     }
+
     #[test]
     fn a_digit_in_pieces(rt: HostRuntime) {
         let wanted = Answer::Accepted {

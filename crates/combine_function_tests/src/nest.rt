@@ -257,7 +257,7 @@ mod tests {
     /// The bracket that is too deep is named where it stands.
     #[test]
     fn says_how_deep(rt: HostRuntime) -> Result<(), AllocError> {
-        let mut rows: Rows<easy::Stream<position::Stream<&'static [u8]>>> = Rows::new(rt.alloc());
+        let mut rows: Rows<easy::SliceStream<'static, u8>> = Rows::new(rt.alloc());
         rows.check(
             Nest(1),
             &[

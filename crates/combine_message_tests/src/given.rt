@@ -45,7 +45,7 @@ mod tests {
 
     #[test]
     fn texts_say(rt: HostRuntime) -> Result<(), AllocError> {
-        for row in wrong::<easy::Stream<position::Stream<&'static str>>>(rt.alloc(), "hello")? {
+        for row in wrong::<easy::TextStream<'static>>(rt.alloc(), "hello")? {
             assert_eq!(rt; row.as_str(), "");
         }
         Ok(())

@@ -42,7 +42,7 @@ where
     fn told(error: Self::Error) -> Option<Told>;
 }
 
-impl Spans for easy::Stream<span::Stream<position::Stream<&'static [u8]>>> {
+impl Spans for easy::Stream<span::Stream<position::SliceStream<'static, u8>>> {
     fn begin(alloc: Global, bytes: &'static [u8]) -> Self {
         easy::Stream::new(alloc, span::Stream(position::Stream::new(bytes)))
     }
@@ -114,7 +114,7 @@ mod tests {
 
     #[test]
     fn of_a_pair(rt: HostRuntime) {
-        type Input = easy::Stream<span::Stream<position::Stream<&'static [u8]>>>;
+        type Input = easy::Stream<span::Stream<position::SliceStream<'static, u8>>>;
         for told in both::<Input>(rt.alloc(), b"xy") {
             let Some(told) = told else {
                 panic!(rt; "the pair is refused, committed, with one message");

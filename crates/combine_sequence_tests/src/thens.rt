@@ -1,6 +1,8 @@
 //! Parsers that a function answers: a plain function for each of `then` and its kin.
+ghost use Rattle.std.specs.Prelude.{◌≤◌};
 
 use combine::error::UnexpectedParse;
+use combine::parser::repeat::count_min_max;
 use combine::parser::sequence::{then, then_partial, then_ref};
 use combine::parser::token::{any, satisfy, token};
 use combine::parser::{Answer, Parser, SessionError, parse_pieces};
@@ -51,10 +53,23 @@ pub fn digit_twice(
     parse_pieces(alloc, twice, pieces)
 }
 
+/// A digit from 1 on, and as many bytes as it says, or fewer; the closure is called on such digits alone.
+pub fn counted(
+    alloc: Global,
+    pieces: &[&[u8]],
+) -> Result<Answer<Vec<u8>, UnexpectedParse>, SessionError> {
+    let bytes = move |digit: u8|
+        requires { 49 ≤ digit }
+    { count_min_max::<Vec<u8>, _>(alloc, 1, usize::from(digit - b'0'), any()) };
+    let digit = satisfy(|byte: u8| b'1' <= byte && byte <= b'9');
+    parse_pieces(alloc, then(digit, bytes), pieces)
+}
+
 #[cfg(test)]
 mod tests {
     use super::*;
     use combine::stream::Kind;
+    use std::test::Fail;
 
     const REFUSED: UnexpectedParse = UnexpectedParse(Kind::Refused);
 
@@ -75,6 +90,29 @@ mod tests {
             committed: true,
         };
         assert_eq!(rt; same_again_in_pieces(alloc, &[b"a", b"a"]), Ok(accepted));
+    }
+
+    #[test]
+    fn as_many_as_a_digit_says(rt: HostRuntime) -> Result<(), Fail> {
+        let alloc = rt.alloc();
+        let accepted = Answer::Accepted {
+            value: b"abc".to_vec(alloc)?,
+            taken: 4,
+            committed: true,
+        };
+        assert_eq!(rt; counted(alloc, &[b"3a", b"", b"bcd"]), Ok(accepted));
+        let accepted = Answer::Accepted {
+            value: b"a".to_vec(alloc)?,
+            taken: 2,
+            committed: true,
+        };
+        assert_eq!(rt; counted(alloc, &[b"2", b"a"]), Ok(accepted));
+        let refused = Answer::Refused {
+            error: REFUSED,
+            committed: false,
+        };
+        assert_eq!(rt; counted(alloc, &[b"0", b"a"]), Ok(refused));
+        Ok(())
     }
 
     #[test]

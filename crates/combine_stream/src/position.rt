@@ -100,12 +100,18 @@ pub trait Windowed: DefaultPositioned + Copy {
 
 /// An input whose position is counted: `Stream<&[T]>` has an index from 0, `Stream<&str>` a `SourcePosition` from line 1 and column 1. Both are ended.
 ///
-/// The position stays counted from where the input began, also after a reset. The second parameter follows from the first; in the crate it is what counts.
+/// The position stays counted from where the input began, also after a reset. The second parameter follows from the first, and the aliases below name it; in the crate it is what counts.
 #[derive(Drop)]
-pub struct Stream<S, P = <S as DefaultPositioned>::Placed> {
+pub struct Stream<S, P> {
     placed: P,
     input: PhantomData<S>,
 }
+
+/// A text whose position is counted, by lines and columns.
+pub type TextStream<'a> = Stream<&'a str, types::PlacedText<'a>>;
+
+/// A slice whose position is counted, by an index.
+pub type SliceStream<'a, T> = Stream<&'a [T], types::Indexed<'a, T>>;
 
 impl<S: DefaultPositioned> Stream<S, S::Placed> {
     /// The whole input, at the first position.

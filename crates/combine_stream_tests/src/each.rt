@@ -61,7 +61,9 @@ pub fn maybe_digit(input: &[u8]) -> Parsed<'_, Option<u8>> {
 pub fn digit_value(input: &[u8]) -> Parsed<'_, u8> {
     map(
         satisfy(is_digit),
-        |digit: u8| -> u8 requires { is_ascii_digit digit ≡ true } { digit - b'0' },
+        |digit: u8| -> u8
+            requires { is_ascii_digit digit ≡ true }
+        { digit - b'0' },
     )
     .parse(input)
 }

@@ -86,7 +86,7 @@ pub fn first(input: &str) -> Result<(char, &str), UnexpectedParse>
 }
 
 /// The same of a text whose position is counted.
-pub fn first_placed(input: &str) -> Result<(char, position::Stream<&str>), UnexpectedParse>
+pub fn first_placed(input: &str) -> Result<(char, position::TextStream<'_>), UnexpectedParse>
     ensures { NoStreamFaultIn (λ e. e.0) result }
 {
     any().parse(position::Stream::new(input))

@@ -2,6 +2,10 @@
 #![tactic(auto)]
 
 #[cfg(test)]
+mod http;
+#[cfg(test)]
 mod messages;
 #[cfg(test)]
 mod record;
+#[cfg(test)]
+mod resp;

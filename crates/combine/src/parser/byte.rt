@@ -10,3 +10,4 @@ pub use combine_text::byte::{
     alpha_num, byte, bytes, bytes_cmp, classes, crlf, digit, hex_digit, letter, lower, newline,
     oct_digit, space, spaces, tab, upper,
 };
+pub use combine_text::byte_list::ShowsBytes;

@@ -4,6 +4,7 @@ ghost use Rattle.combine_errors.specs.Easy.{inside};
 
 use crate::easy::Errors;
 use combine_base::stream::{Failures, Kind, Positioned, ResetStream, StreamOnce};
+use combine_stream::position;
 use combine_stream::range::{Range, RangeStream, Test};
 use std::alloc::Global;
 
@@ -15,6 +16,12 @@ pub struct Stream<S> {
     inner: S,
     alloc: Global,
 }
+
+/// A text whose errors keep items and stand at lines and columns.
+pub type TextStream<'a> = Stream<position::TextStream<'a>>;
+
+/// A slice whose errors keep items and stand at indexes.
+pub type SliceStream<'a, T> = Stream<position::SliceStream<'a, T>>;
 
 impl<S> Stream<S> {
     /// The stream, with errors whose items take their memory from there.

@@ -35,10 +35,7 @@ impl<Input: Stream, P: Parser<Input>, S: Parser<Input>, F: Append<P::Output>> Pa
     ghost use Rattle.std.specs.Prelude.{None};
     ghost use Rattle.combine_turns.specs.declared.turns.Bounds.TheVariants.{Joined};
 
-    type PartialState = TurnsState<
-        F,
-        SeparatedState<S::Output, S::PartialState, P::PartialState>,
-    >;
+    type PartialState = TurnsState<F, SeparatedState<S::Output, S::PartialState, P::PartialState>>;
 
     ghost lawful = { λ p. S.lawful (ended_by_separator p) × P.lawful (ended_by_part p) };
 
@@ -106,10 +103,7 @@ impl<Input: Stream, P: Parser<Input>, S: Parser<Input>, F: Append<P::Output>> Pa
     ghost use Rattle.std.specs.Prelude.{None};
     ghost use Rattle.combine_turns.specs.declared.turns.Bounds.TheVariants.{Joined};
 
-    type PartialState = TurnsState<
-        F,
-        SeparatedState<S::Output, S::PartialState, P::PartialState>,
-    >;
+    type PartialState = TurnsState<F, SeparatedState<S::Output, S::PartialState, P::PartialState>>;
 
     ghost lawful = { λ p. S.lawful (ended_by1_separator p) × P.lawful (ended_by1_part p) };
 

@@ -242,7 +242,10 @@ where
     ghost use Rattle.std.specs.Prelude.{None};
     ghost use Rattle.combine_turns.specs.declared.turns.Bounds.TheVariants.{Joined};
 
-    type PartialState = TurnsState<P::Output, SeparatedState<S::Output, S::PartialState, P::PartialState>>;
+    type PartialState = TurnsState<
+        P::Output,
+        SeparatedState<S::Output, S::PartialState, P::PartialState>,
+    >;
 
     ghost lawful = { λ p. ((f : S.Output) → S.Output.IsAlwaysCallable f) × S.lawful (chained_operator p) × P.lawful (chained_part p) };
 
