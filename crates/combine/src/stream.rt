@@ -1,4 +1,4 @@
-//! Streams: what parsers read. A slice and a text are streams, `fed::Stream` is fed piece by piece, `position::Stream` counts its position, that of `span::Stream` is where an error begins and ends, `easy::Stream` has errors that keep items, and a `MaybePartialStream` may go on.
+//! Streams: what parsers read. A slice and a text are streams, `fed::Stream` is fed piece by piece, `position::Stream` counts its position, that of `span::Stream` is where an error begins and ends, `easy::Stream` has errors that keep items, a `MaybePartialStream` may go on, and of a `Faulty` a read or a reset fails.
 
 pub use combine_base::stream::{
     Failures, Kind, Left, Positioned, ResetStream, Stream, StreamOnce, asks_for_more, ends_open,
@@ -7,4 +7,4 @@ pub use combine_base::stream::{
 pub use combine_errors::{easy, span};
 pub use combine_searches::bytes::ByteStream;
 pub use combine_stream::range::{ByteRange, Range, RangeStream, Test};
-pub use combine_stream::{MaybePartialStream, position};
+pub use combine_stream::{Faulty, MaybePartialStream, Unfailing, position};

@@ -194,7 +194,7 @@ pub trait Parser<Input: Stream>: Outputs<Input> {
         }
     }
 
-    /// As from a default state, whatever the state held.
+    /// Parses from the start, whatever the state holds.
     final fn parse_first(
         &mut self,
         input: &mut Input,
@@ -285,9 +285,9 @@ pub trait Parser<Input: Stream>: Outputs<Input> {
             .without_commit()
     }
 
-    /// From the start: the value and the input that is left, or the error.
+    /// Parses from the start: returns the value and the input that is left, or the error.
     ///
-    /// Where the caller's functions answer from their arguments alone (`determined`), the outcome is the only one.
+    /// Where the caller's functions answer from their arguments alone (`determined`), the outcome is the only one by its shape: its kind, its commitment and how many tokens it takes. Its value is any that the meaning allows.
     final fn parse(&mut self, input: Input) -> Result<(Self::Output, Input), Input::Error>
         requires { lawful self.old }
         ensures lawful { lawful self.new }

@@ -1,6 +1,6 @@
 -- operands folded from the right, the last operator first
 use Rattle.std.proofs.Common.{◌≡◌, ◌+◌, List, [], ◌∷◌, ◌++◌, length, refl, arith}
-use Rattle.combine_chains.specs.Chains.{folded_right}
+use Rattle.combine_chains.specs.Chains.{all_good, folded_right}
 use Rattle.combine_chains.specs.declared.operands.Left.{Left}
 
 module _ {O V : Type 0} (post : O → V → V → V → Type 0) where
@@ -13,3 +13,8 @@ module _ {O V : Type 0} (post : O → V → V → V → Type 0) where
   pub fold_none : (xs : List (Left O V)) (last : V) → length xs ≡ 0 → folded_right post xs last last
   fold_none [] last e = refl
   fold_none (x ∷ xs) last e = absurd (omega arith)
+
+-- the last operator is good, and those before it
+pub last_good : {O V : Type 0} (good : O → Type 0) (xs : List (Left O V)) (x : Left O V) → all_good good (xs ++ x ∷ []) → all_good good xs × good x.operator
+last_good good [] x d = (tt, d.0)
+last_good good (y ∷ xs) x d = let h = last_good good xs x d.1 in ((d.0, h.0), h.1)

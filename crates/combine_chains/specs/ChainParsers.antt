@@ -13,7 +13,7 @@ use Rattle.combine_token.specs.declared.token.types.Token.{Token}
 use Rattle.combine_chains.specs.declared.repeat.types.RightFold.{RightFold}
 
 abbrev pub right_fold_of : {P S : Type 0} → Global → P → S → RightFold P S
-right_fold_of alloc parser operator = record { alloc = alloc; turn = record { parser = parser; separator = operator } }
+right_fold_of alloc parser operator = record { alloc = alloc; turn = record { parser = parser; separator = operator; asks = record {} } }
 
 abbrev pub chainr1_of : {P S : Type 0} → Global → P → S → NoPartial (RightFold P S)
 chainr1_of alloc parser operator = no_partial_of (right_fold_of alloc parser operator)

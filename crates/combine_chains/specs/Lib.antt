@@ -1,4 +1,5 @@
 pub use Rattle.combine_base.specs.Parser.Answer
+pub use Rattle.combine_base.specs.Parser.Given
 pub use Rattle.combine_base.specs.Parser.Mapped
 pub use Rattle.combine_base.specs.Parser.Meaning
 pub use Rattle.combine_base.specs.Parser.Outcome
@@ -12,6 +13,7 @@ pub use Rattle.combine_separated.specs.Separated
 pub use Rattle.combine_token.specs.Or
 pub use Rattle.combine_token.specs.TokenParsers
 pub use Rattle.combine_turns.specs.Bounded
+pub use Rattle.combine_turns.specs.Sound
 pub use Rattle.combine_turns.specs.Turns
 pub mod Chains
 pub mod ChainParsers

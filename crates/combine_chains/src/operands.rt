@@ -1,7 +1,8 @@
 //! Operands and the operators between them, kept to be folded from the right.
 ghost use Rattle.std.specs.Prelude.{◌≡◌, List, []};
-ghost use Rattle.combine_chains.specs.Chains.{folded_right, keeps_operand, kept_operands};
+ghost use Rattle.combine_chains.specs.Chains.{all_good, folded_right, held_good, keeps_good, keeps_operand, kept_operands};
 ghost use Rattle.combine_chains.specs.declared.operands.Left.{Left};
+ghost use Rattle.combine_separated.specs.Separated.{lead_good};
 
 use combine_separated::separated::Element;
 use combine_turns::turns::Gather;
@@ -25,7 +26,7 @@ pub struct Operands<O, V> {
 impl<O: FnOnce(V, V) -> V + Drop, V: Drop> Operands<O, V> {
     /// The operands folded from the right.
     pub(crate) fn fold(self) -> V
-        requires callable { (f : O) → O.IsAlwaysCallable f }
+        requires callable { all_good (λ f. O.IsAlwaysCallable f) (kept_operands self).0 }
         ensures { folded_right (λ f x y r. O.post f x y r) (kept_operands self).0 (kept_operands self).1 result }
     {
         let Operands {
@@ -44,7 +45,7 @@ impl<O: FnOnce(V, V) -> V + Drop, V: Drop> Operands<O, V> {
 #[derive(Drop)]
 pub struct EachOperand<V>(PhantomData<V>);
 
-impl<V: Drop, O: Drop> Gather<Element<O, V>> for EachOperand<V> {
+impl<V: Drop, O: FnOnce(V, V) -> V + Drop> Gather<Element<O, V>> for EachOperand<V> {
     ghost use Rattle.std.specs.Prelude.{None, Option, Some};
 
     type Into = Operands<O, V>;
@@ -59,7 +60,9 @@ impl<V: Drop, O: Drop> Gather<Element<O, V>> for EachOperand<V> {
 
     ghost more = { keeps_operand };
 
-    ghost able = { Unit {0} };
+    ghost able = { lead_good (λ f. O.IsAlwaysCallable f) };
+
+    ghost sound = { held_good (λ f. O.IsAlwaysCallable f) };
 
     ghost lean = { ⊥ };
 
@@ -94,4 +97,6 @@ impl<V: Drop, O: Drop> Gather<Element<O, V>> for EachOperand<V> {
             }
         }
     }
+
+    ghost keeps_sound = { keeps_good (λ f. O.IsAlwaysCallable f) };
 }

@@ -12,6 +12,7 @@ use combine_separated::separated::Separated;
 use combine_token::choice::or;
 use combine_token::token::token;
 use std::alloc::Global;
+use std::marker::PhantomData;
 use types::{Chainr1, Escaped, RightFold};
 
 /// `parser`, and then turns of `operator` and `parser`: the values folded from the right, by the functions that `operator` gives.
@@ -26,6 +27,7 @@ pub fn chainr1<P, S>(alloc: Global, parser: P, operator: S) -> Chainr1<P, S>
         turn: Separated {
             parser,
             separator: operator,
+            asks: PhantomData,
         },
     })
 }

@@ -17,6 +17,11 @@ pub fn number_word(input: &str) -> ParsedText<'_, &'static str> {
     choice([string("one"), string("two"), string("three")]).parse(input)
 }
 
+/// One of four words that begin alike, by an array.
+pub fn first_word(input: &str) -> ParsedText<'_, &'static str> {
+    choice([string("le"), string("l"), string("lets"), string("let")]).parse(input)
+}
+
 /// One of three words, each put back where it is refused.
 pub fn whole_number_word(alloc: Global, pieces: &[&[char]]) -> InPieces<&'static str> {
     let words = [
@@ -118,6 +123,12 @@ mod tests {
         assert_eq!(rt; number_word("one!"), Ok(("one", "!")));
         assert_eq!(rt; number_word("two!"), Ok(("two", "!")));
         assert_eq!(rt; number_word("three"), Err(REFUSED));
+    }
+
+    /// The first word that is there is taken, though two later ones are longer.
+    #[test]
+    fn the_first_and_not_the_longest(rt: HostRuntime) {
+        assert_eq!(rt; first_word("lets"), Ok(("le", "ts")));
     }
 
     /// The second word takes the first letter of the third before a cut too.

@@ -2,8 +2,10 @@
 
 use crate::alternatives::{behind_an_a, check_letters};
 use combine::parser::choice::{Dispatch3, Dispatch4, Dispatch5, Dispatch6, Dispatch7, Dispatch8};
+use combine::parser::combinator::Either;
+use combine::parser::token::any;
 use combine::parser::{Parser, parse_pieces};
-use combine::stream::fed;
+use combine::stream::{Stream, fed};
 use combine_examples::answers::InPieces;
 use std::alloc::{AllocError, Global};
 
@@ -170,6 +172,27 @@ fn one_of_8<P: Parser<fed::Stream<u8>> + Drop>(
     requires { P.lawful part }
 {
     parse_pieces(alloc, held_by_8(place, part), pieces)
+}
+
+/// As how many parsers it counts.
+fn count_of<Input: Stream, P: Parser<Input> + Drop>(parser: P) -> u8 {
+    parser.parser_count().0
+}
+
+/// As how many parsers a parser counts that is held in one of two variants, on either side.
+fn counts_of_2<P: Parser<fed::Stream<u8>> + Copy>(part: P) -> (u8, u8) {
+    let left: Either<P, P> = Either::Left(part);
+    let right: Either<P, P> = Either::Right(part);
+    (count_of(left), count_of(right))
+}
+
+/// A pair, which counts as two, counts as one parser in a variant.
+#[test]
+fn a_variant_counts_as_one(rt: HostRuntime) {
+    let pair = (any(), any());
+    assert_eq!(rt; counts_of_2(pair), (1, 1));
+    assert_eq!(rt; count_of(held_by_3(1, pair)), 1);
+    assert_eq!(rt; count_of(held_by_8(7, pair)), 1);
 }
 
 #[test]

@@ -2,7 +2,7 @@
 #![tactic(auto)]
 
 ghost use Rattle.std.specs.Prelude.{◌≡◌, ◌↔◌, ℕ, ◌<◌, ◌≤◌, get_or, length, true};
-ghost use Rattle.combine_base.specs.Parser.Meaning.{MeansSame};
+ghost use Rattle.combine_base.specs.Parser.Meaning.{IsSingle, MeansSame};
 ghost use Rattle.combine_cuts.specs.Cuts.{Fit, ParsesWindow, RunsCuts};
 
 use combine_base::error::{ParseError, ParseResult};
@@ -99,6 +99,7 @@ pub fn parse_cuts<S: Windowed, P: Parser<MaybePartialStream<Stream<S, S::Placed>
     requires fit { Fit (S.places whole) cuts.now }
     ensures lawful { P.lawful parser.new }
     ensures same { MeansSame (P.meaning parser.old) (P.meaning parser.new) }
+    ensures single { P.determined parser.old → IsSingle (P.meaning parser.old).whole }
     ensures runs { RunsCuts S.Placed.Error.seen.frugal (S.DefaultPositioned.whole whole).position (P.meaning parser.old) (S.DefaultPositioned.whole whole).unread (length cuts.now) (λ i. S.index whole (get_or cuts.now i 0)) result }
 {
     let mut state = P::PartialState::default();

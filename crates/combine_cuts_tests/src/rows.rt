@@ -7,9 +7,11 @@ use combine_base::stream::Stream;
 use combine_chains::repeat::escaped;
 use combine_lengths::range::length_prefix;
 use combine_map::combinator::{attempt, map};
-use combine_range::range::{recognize_with_value, take_while1};
+use combine_range::range::{
+    range, recognize_with_value, take, take_until_range, take_while, take_while1,
+};
 use combine_repeat::repeat::skip_many1;
-use combine_searches::byte::take_until_bytes;
+use combine_searches::byte::{take_until_byte, take_until_byte2, take_until_bytes};
 use combine_searches::bytes::ByteStream;
 use combine_stream::range::{ByteRange, Range, RangeStream};
 use combine_token::choice::optional;
@@ -47,18 +49,127 @@ where
     )
 }
 
-/// What stands before the end of a line.
-fn lines<Input: Cut + ByteStream>(alloc: Global, wrong: &mut Vec<String>) -> Result<(), AllocError>
+/// What stands before some bytes, in one window or several.
+fn before_bytes<Input: Cut + ByteStream>(
+    alloc: Global,
+    wanted: &'static [u8],
+    rows: &[(&'static str, Found<&'static str>)],
+    wrong: &mut Vec<String>,
+) -> Result<(), AllocError>
 where
     Input::Range: ByteRange,
 {
+    let told = |range: Input::Range| Input::text_of(range);
+    check::<Input, _, _, _, _>(alloc, take_until_bytes(wanted), told, rows, wrong)
+}
+
+/// What stands before the end of a line, and before other bytes.
+fn searches<Input: Cut + ByteStream>(
+    alloc: Global,
+    wrong: &mut Vec<String>,
+) -> Result<(), AllocError>
+where
+    Input::Range: ByteRange,
+{
+    let line = [("abc\r\n", Found::Accepted("abc", 3, true))];
+    before_bytes::<Input>(alloc, b"\r\n", &line, wrong)?;
+    let letters = [("aaabaaaa", Found::Accepted("aaab", 4, true))];
+    before_bytes::<Input>(alloc, b"aaaa", &letters, wrong)?;
+    let digits = [("abc123", Found::Accepted("ab", 2, true))];
+    before_bytes::<Input>(alloc, b"c12", &digits, wrong)?;
+    let nothing = [("abc123", Found::Accepted("", 0, false))];
+    before_bytes::<Input>(alloc, b"", &nothing, wrong)?;
     check::<Input, _, _, _, _>(
         alloc,
-        take_until_bytes(b"\r\n"),
+        take_until_byte(b'x'),
         |range: Input::Range| Input::text_of(range),
-        &[("abc\r\n", Found::Accepted("abc", 3, true))],
+        &[("", Found::Refused(false)), ("abc", Found::Refused(true))],
+        wrong,
+    )?;
+    check::<Input, _, _, _, _>(
+        alloc,
+        take_until_byte2(b'\r', b'\n'),
+        |range: Input::Range| Input::text_of(range),
+        &[("Hello, world\n", Found::Accepted("Hello, world", 12, true))],
         wrong,
     )
+}
+
+/// The longest beginning under a test, and so many items.
+fn beginnings<Input: Cut + RangeStream, F: Fn(Input::Token) -> bool + Copy + Drop>(
+    alloc: Global,
+    is_digit: F,
+    wrong: &mut Vec<String>,
+) -> Result<(), AllocError>
+where
+    Input::Range: Range + PartialEq,
+    requires { F.IsAlwaysCallable is_digit }
+{
+    let told = |range: Input::Range| Input::text_of(range);
+    let some = [
+        ("123abc", Found::Accepted("123", 3, true)),
+        ("abc", Found::Refused(false)),
+    ];
+    check::<Input, _, _, _, _>(alloc, take_while1(is_digit), told, &some, wrong)?;
+    let any = [("abc", Found::Accepted("", 0, false))];
+    check::<Input, _, _, _, _>(alloc, take_while(is_digit), told, &any, wrong)?;
+    let four = [
+        ("123abc", Found::Accepted("123a", 4, true)),
+        ("abc", Found::Refused(false)),
+    ];
+    check::<Input, _, _, _, _>(alloc, take(4), told, &four, wrong)?;
+    let nothing = range(Input::range_of(""));
+    let accepted = [
+        ("abc", Found::Accepted("", 0, true)),
+        ("", Found::Accepted("", 0, true)),
+    ];
+    check::<Input, _, _, _, _>(alloc, nothing, told, &accepted, wrong)
+}
+
+/// What stands before some text.
+fn before_text<Input: Cut + RangeStream>(
+    alloc: Global,
+    wanted: &'static str,
+    row: (&'static str, Found<&'static str>),
+    wrong: &mut Vec<String>,
+) -> Result<(), AllocError>
+where
+    Input::Range: Range + PartialEq,
+    Input::Token: PartialEq,
+{
+    let before = take_until_range(Input::range_of(wanted));
+    let told = |range: Input::Range| Input::text_of(range);
+    check::<Input, _, _, _, _>(alloc, before, told, &[row], wrong)
+}
+
+/// A text that is found, or begins, inside a character.
+fn characters<Input: Cut + Stream<Token = char> + RangeStream>(
+    alloc: Global,
+    wrong: &mut Vec<String>,
+) -> Result<(), AllocError>
+where
+    Input::Range: Range + PartialEq,
+    Input::Error: ParseError<char, Input::Range, Input::Position>,
+{
+    let told = |range: Input::Range| Input::text_of(range);
+    let mark = (
+        "Foo baz bar quux\"",
+        Found::Accepted("Foo baz bar quux", 16, true),
+    );
+    before_text::<Input>(alloc, "\"", mark, wrong)?;
+    let crab = (
+        "\u{1f603} a \u{1f980}",
+        Found::Accepted("\u{1f603} a ", 4, true),
+    );
+    before_text::<Input>(alloc, "\u{1f980}", crab, wrong)?;
+    let condition = "if ((pointless_comparison == 3) === true) {";
+    let three = Found::Accepted("if ((pointless_comparison == 3) ", 32, true);
+    before_text::<Input>(alloc, "===", (condition, three), wrong)?;
+    let hello = range(Input::range_of("hello"));
+    let other = [("hell\u{ee} world", Found::Refused(false))];
+    check::<Input, _, _, _, _>(alloc, hello, told, &other, wrong)?;
+    let half = [("\u{ee}", Found::Refused(false))];
+    check::<Input, _, _, _, _>(alloc, take(1), told, &half, wrong)
 }
 
 /// As many items as no input has: a value that is no length.
@@ -130,7 +241,7 @@ fn wrong_of_texts<Input: Cut + Stream<Token = char> + RangeStream>(
     alloc: Global,
 ) -> Result<Vec<String>, AllocError>
 where
-    Input::Range: Range,
+    Input::Range: Range + PartialEq,
     Input::Error: ParseError<char, Input::Range, Input::Position>,
 {
     let mut wrong = Vec::new(alloc);
@@ -140,6 +251,7 @@ where
         '.',
         &mut wrong,
     )?;
+    characters::<Input>(alloc, &mut wrong)?;
     twos::<Input>(alloc, &mut wrong)?;
     quoted::<Input>(alloc, &mut wrong)?;
     Ok(wrong)
@@ -150,12 +262,13 @@ fn wrong_of_bytes<Input: Cut + Stream<Token = u8> + ByteStream>(
     alloc: Global,
 ) -> Result<Vec<String>, AllocError>
 where
-    Input::Range: ByteRange,
+    Input::Range: ByteRange + PartialEq,
     Input::Error: ParseError<u8, Input::Range, Input::Position>,
 {
     let mut wrong = Vec::new(alloc);
     numbers::<Input, _>(alloc, |byte: u8| byte.is_ascii_digit(), b'.', &mut wrong)?;
-    lines::<Input>(alloc, &mut wrong)?;
+    beginnings::<Input, _>(alloc, |byte: u8| byte.is_ascii_digit(), &mut wrong)?;
+    searches::<Input>(alloc, &mut wrong)?;
     too_many::<Input>(alloc, &mut wrong)?;
     Ok(wrong)
 }

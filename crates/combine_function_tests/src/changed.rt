@@ -3,9 +3,11 @@ ghost use Rattle.std.specs.Prelude.{◌≡◌, IfErr};
 
 use combine_base::error::UnexpectedParse;
 use combine_base::parser::{Answer, Parser, SessionError, parse_pieces};
-use combine_base::stream::Kind;
+use combine_base::stream::{Kind, Stream};
+use combine_functions::combinator::types::FromStr;
 use combine_functions::combinator::{and_then, flat_map, from_str};
 use combine_functions::error::unexpected;
+use combine_map::combinator::map;
 use combine_token::token::{any, value};
 use std::alloc::Global;
 
@@ -51,6 +53,34 @@ fn number_of_bytes<'a>(bytes: &'static [u8], input: &'a [u8]) -> Parsed<'a, i16>
 
 fn nothing(input: &[u8]) -> Parsed<'_, ()> {
     unexpected("token").parse(input)
+}
+
+/// As how many parsers it counts.
+fn count_of<Input: Stream, P: Parser<Input> + Drop>(parser: P) -> u8 {
+    parser.parser_count().0
+}
+
+/// As how many parsers a value counts that is refused by a function, of a part that counts as two.
+fn count_changed() -> u8 {
+    let pair = map((any(), any()), |pair: (u8, u8)| -> u8 { pair.0 });
+    count_of::<&[u8], _>(and_then(pair, digit_of))
+}
+
+fn text_of(pair: (u8, &'static str)) -> &'static str {
+    pair.1
+}
+
+/// As how many parsers a text counts that is read, of a part that counts as two.
+fn count_read() -> u8 {
+    let read: FromStr<_, u8> = from_str(map((any(), value("1")), text_of));
+    count_of::<&[u8], _>(read)
+}
+
+/// What reads a text counts as one parser, what changes a value as the part.
+#[test]
+fn counts(rt: HostRuntime) {
+    assert_eq!(rt; count_changed(), 2);
+    assert_eq!(rt; count_read(), 1);
 }
 
 #[test]

@@ -1,203 +1,393 @@
-//! Sessions with ample memory, and the same ones where growths may be refused.
+//! Sessions, each with ample memory, and again where any one growth may be refused.
 
 use combine_base::error::UnexpectedParse;
 use combine_base::parser::{Answer, Parser, Session, SessionError};
 use combine_base::stream::{Kind, fed};
 use combine_chains::repeat::chainr1;
-use combine_map::combinator::map;
-use combine_repeat::repeat::{many1, skip_many};
-use combine_token::token::token;
+use combine_map::combinator::{attempt, look_ahead, map, not_followed_by};
+use combine_repeat::repeat::{many, many1, skip_many};
+use combine_token::choice::{optional, or};
+use combine_token::token::{any, token};
 use std::alloc::Global;
-use std::fmt::Debug;
 use std::process::Abort;
 
-/// Feeds a piece, and once more where it found no room: what is unread is then as before.
+/// How much memory there is.
+#[derive(Clone, Copy, PartialEq)]
+enum Memory {
+    /// No growth is refused. Where a test with ample memory fails, `trials/run` sees that one was refused to its companion.
+    Ample,
+    /// A growth may be refused.
+    Scarce,
+}
+
+/// What a session is fed, and its decision where memory is ample.
+#[derive(Drop)]
+struct Row {
+    pieces: [&'static str; 3],
+    wanted: Answer<&'static str, UnexpectedParse>,
+    /// Whether the parser takes memory.
+    grows: bool,
+}
+
+/// A row of a parser that takes memory, and is accepted.
+fn accepted(pieces: [&'static str; 3], value: &'static str, taken: u64, committed: bool) -> Row {
+    Row {
+        pieces,
+        wanted: Answer::Accepted {
+            value,
+            taken,
+            committed,
+        },
+        grows: true,
+    }
+}
+
+/// A value that a row writes as a text.
+trait Written: Drop {
+    /// Whether the text writes it.
+    fn is(&self, text: &str) -> bool;
+}
+
+/// The bytes of the text.
+impl Written for Vec<u8> {
+    fn is(&self, text: &str) -> bool {
+        self.as_slice() == text.as_bytes()
+    }
+}
+
+/// Some bytes, those of the text.
+impl Written for Option<Vec<u8>> {
+    fn is(&self, text: &str) -> bool {
+        match self {
+            Some(bytes) => bytes.is(text),
+            None => false,
+        }
+    }
+}
+
+/// One list of bytes, those of the text.
+impl Written for Vec<Vec<u8>> {
+    fn is(&self, text: &str) -> bool {
+        match self.as_slice() {
+            [bytes] => bytes.is(text),
+            _ => false,
+        }
+    }
+}
+
+/// A number of one digit.
+impl Written for u32 {
+    fn is(&self, text: &str) -> bool {
+        *self < 10 && text.as_bytes() == [b'0'.saturating_add(*self as u8)].as_slice()
+    }
+}
+
+/// Nothing.
+impl Written for () {
+    fn is(&self, text: &str) -> bool {
+        text.is_empty()
+    }
+}
+
+/// Whether a decision is the one that is wanted.
+fn agrees<V: Written>(
+    found: Answer<V, UnexpectedParse>,
+    wanted: Answer<&'static str, UnexpectedParse>,
+) -> bool {
+    match (found, wanted) {
+        (
+            Answer::Accepted {
+                value,
+                taken,
+                committed,
+            },
+            Answer::Accepted {
+                value: text,
+                taken: count,
+                committed: kind,
+            },
+        ) => value.is(text) && taken == count && committed == kind,
+        (
+            Answer::Refused { error, committed },
+            Answer::Refused {
+                error: why,
+                committed: kind,
+            },
+        ) => error == why && committed == kind,
+        _ => false,
+    }
+}
+
+/// The first tokens, and how many there are.
+fn copied(tokens: &[u8]) -> ([u8; 24], usize) {
+    let mut copy = [0; 24];
+    for (to, from) in copy.iter_mut().zip(tokens) {
+        *to = *from;
+    }
+    (copy, tokens.len())
+}
+
+/// Feeds a piece, and once more where it found no room: what is unread is then, token by token, as before.
 fn feed_again<P: Parser<fed::Stream<u8>>>(
     rt: &impl Abort,
     session: &mut Session<P, u8>,
     piece: &[u8],
 ) -> Result<Answer<P::Output, UnexpectedParse>, SessionError> {
-    let unread = session.unread().len();
+    let before = copied(session.unread());
     match session.feed(piece) {
         Err(SessionError::Memory) => {
-            assert_eq!(rt; session.unread().len(), unread);
+            assert_eq!(rt; copied(session.unread()), before);
             session.feed(piece)
         }
         answer => answer,
     }
 }
 
-/// What a session of letters is fed.
-const LETTERS: [&str; 3] = ["aa", "a", "aaaaaaaaaaaaaaaaaaaa"];
-
-/// What a session of powers is fed.
-const ONES: [&str; 3] = ["1^1", "^1", "^1^1^1^1^1^1^1^1^1"];
-
-/// The value of all that a session is fed.
-trait OfAll: Debug + PartialEq + Drop {
-    fn is_of_all(&self) -> bool;
-}
-
-/// The letters.
-impl OfAll for Vec<u8> {
-    fn is_of_all(&self) -> bool {
-        self.as_slice() == [b'a'; 23].as_slice()
+/// A growth was refused within the parse, and the session answers nothing any more.
+fn assert_failed<P: Parser<fed::Stream<u8>>>(
+    rt: &impl Abort,
+    session: &mut Session<P, u8>,
+    why: SessionError,
+) {
+    assert_eq!(rt; why, SessionError::Fault(Kind::Memory));
+    for _ in 0..2 {
+        assert!(rt; matches!(session.feed(b"a"), Err(SessionError::Failed)));
+        assert!(rt; matches!(session.end(), Err(SessionError::Failed)));
     }
 }
 
-/// The power.
-impl OfAll for u32 {
-    fn is_of_all(&self) -> bool {
-        *self == 1
-    }
-}
-
-/// All 23 bytes are accepted.
-fn assert_all_accepted<V: OfAll>(rt: &impl Abort, answer: Answer<V, UnexpectedParse>) {
-    let Answer::Accepted {
-        value,
-        taken,
-        committed,
-    } = answer
-    else {
-        assert!(rt; false, "accepted where memory is ample");
-        return;
-    };
-    assert!(rt; value.is_of_all());
-    assert_eq!(rt; (taken, committed), (23, true));
-}
-
-/// A session, fed all pieces.
-fn feed_all<P: Parser<fed::Stream<u8>> + Drop>(
+/// Feeds a session all pieces, and then the end, until there is a decision: that of the row, or want of memory within the parse where memory is scarce and the parser takes some.
+fn run<P: Parser<fed::Stream<u8>> + Drop>(
     rt: &impl Abort,
     alloc: Global,
+    memory: Memory,
     parser: P,
-    pieces: [&str; 3],
+    row: Row,
 )
 where
-    P::Output: OfAll,
+    P::Output: Written,
     requires { P.lawful parser }
 {
+    let Row {
+        pieces,
+        wanted,
+        grows,
+    } = row;
     let mut session = Session::new(alloc, parser);
+    let mut answer = Ok(Answer::More);
     for piece in pieces {
-        assert_eq!(rt; session.feed(piece.as_bytes()), Ok(Answer::More));
-    }
-    match session.end() {
-        Ok(answer) => assert_all_accepted(rt, answer),
-        Err(_why) => assert!(rt; false, "accepted where memory is ample"),
-    }
-}
-
-/// The same where growths may be refused.
-fn feed_all_or_fail<P: Parser<fed::Stream<u8>> + Drop>(
-    rt: &impl Abort,
-    alloc: Global,
-    parser: P,
-    pieces: [&str; 3],
-)
-where
-    P::Output: OfAll,
-    requires { P.lawful parser }
-{
-    let mut session = Session::new(alloc, parser);
-    for piece in pieces {
-        match feed_again(rt, &mut session, piece.as_bytes()) {
-            Ok(answer) => assert_eq!(rt; answer, Answer::More),
-            Err(why) => {
-                assert_eq!(rt; why, SessionError::Fault(Kind::Memory));
-                assert_eq!(rt; session.end(), Err(SessionError::Failed));
-                return;
-            }
+        if matches!(answer, Ok(Answer::More)) {
+            answer = match memory {
+                Memory::Ample => session.feed(piece.as_bytes()),
+                Memory::Scarce => feed_again(rt, &mut session, piece.as_bytes()),
+            };
         }
     }
-    match session.end() {
-        Ok(answer) => assert_all_accepted(rt, answer),
-        Err(why) => assert_eq!(rt; why, SessionError::Fault(Kind::Memory)),
+    if matches!(answer, Ok(Answer::More)) {
+        answer = session.end();
+    }
+    match answer {
+        Ok(answer) => assert!(rt; agrees(answer, wanted)),
+        Err(why) => {
+            assert!(rt; memory == Memory::Scarce && grows);
+            assert_failed(rt, &mut session, why);
+        }
     }
 }
 
-/// With ample memory: where this fails, `trials/run` sees that a growth of the next test was refused.
-#[test]
-fn a_session_with_ample_memory(rt: HostRuntime) {
-    feed_all(
-        &rt,
-        rt.alloc(),
-        many1::<Vec<u8>, _>(rt.alloc(), token(b'a')),
-        LETTERS,
+/// Many `a`, collected.
+fn letters(rt: &impl Abort, alloc: Global, memory: Memory) {
+    let row = accepted(
+        ["aa", "a", "aaaaaaaaaaaaaaaaaaaa"],
+        "aaaaaaaaaaaaaaaaaaaaaaa",
+        23,
+        true,
+    );
+    run(
+        rt,
+        alloc,
+        memory,
+        many1::<Vec<u8>, _>(alloc, token(b'a')),
+        row,
     );
 }
 
-/// The answers are those of ample memory, or want of memory within the parse: also where `trials/run` has the allocator refuse.
 #[test]
-fn a_session_with_any_growth_refused(rt: HostRuntime) {
-    feed_all_or_fail(
-        &rt,
-        rt.alloc(),
-        many1::<Vec<u8>, _>(rt.alloc(), token(b'a')),
-        LETTERS,
-    );
+fn letters_with_ample_memory(rt: HostRuntime) {
+    letters(&rt, rt.alloc(), Memory::Ample);
+}
+
+#[test]
+fn letters_with_any_growth_refused(rt: HostRuntime) {
+    letters(&rt, rt.alloc(), Memory::Scarce);
 }
 
 /// Powers from the right, whose operands are kept in a growing list.
-#[test]
-fn a_chain_with_ample_memory(rt: HostRuntime) {
+fn powers(rt: &impl Abort, alloc: Global, memory: Memory) {
     let one = map(token(b'1'), |_one: u8| 1_u32);
     let caret = map(
         token(b'^'),
         |_caret: u8| |left: u32, right: u32| left.saturating_pow(right),
     );
-    feed_all(&rt, rt.alloc(), chainr1(rt.alloc(), one, caret), ONES);
+    let row = accepted(["1^1", "^1", "^1^1^1^1^1^1^1^1^1"], "1", 23, true);
+    run(rt, alloc, memory, chainr1(alloc, one, caret), row);
 }
 
-/// The same where growths may be refused.
 #[test]
-fn a_chain_with_any_growth_refused(rt: HostRuntime) {
-    let one = map(token(b'1'), |_one: u8| 1_u32);
-    let caret = map(
-        token(b'^'),
-        |_caret: u8| |left: u32, right: u32| left.saturating_pow(right),
-    );
-    feed_all_or_fail(&rt, rt.alloc(), chainr1(rt.alloc(), one, caret), ONES);
+fn powers_with_ample_memory(rt: HostRuntime) {
+    powers(&rt, rt.alloc(), Memory::Ample);
 }
 
-/// A session of `skip_many(token(b'a'))`.
-fn feed_skipping<P: Parser<fed::Stream<u8>, Output = ()> + Drop>(
-    rt: &impl Abort,
-    alloc: Global,
-    parser: P,
-)
-    requires { P.lawful parser }
-{
-    let mut session = Session::new(alloc, parser);
-    assert_eq!(rt; session.feed(b"aa"), Ok(Answer::More));
+#[test]
+fn powers_with_any_growth_refused(rt: HostRuntime) {
+    powers(&rt, rt.alloc(), Memory::Scarce);
 }
 
-/// The same where growths may be refused.
-fn feed_skipping_again<P: Parser<fed::Stream<u8>, Output = ()> + Drop>(
-    rt: &impl Abort,
-    alloc: Global,
-    parser: P,
-)
-    requires { P.lawful parser }
-{
-    let mut session = Session::new(alloc, parser);
-    assert_eq!(rt; feed_again(rt, &mut session, b"aa"), Ok(Answer::More));
-    let accepted = Answer::Accepted {
-        value: (),
-        taken: 2,
-        committed: true,
+/// Many `a`, passed over: a parser that takes no memory answers as ever, and only `feed` may be refused.
+fn skipping(rt: &impl Abort, alloc: Global, memory: Memory) {
+    let row = Row {
+        grows: false,
+        ..accepted(["aa", "", ""], "", 2, true)
     };
-    assert_eq!(rt; session.end(), Ok(accepted));
+    run(rt, alloc, memory, skip_many(token(b'a')), row);
 }
 
-/// With ample memory: where this fails, `trials/run` sees that a growth of the next test was refused.
 #[test]
-fn a_skipping_session_with_ample_memory(rt: HostRuntime) {
-    feed_skipping(&rt, rt.alloc(), skip_many(token(b'a')));
+fn skipping_with_ample_memory(rt: HostRuntime) {
+    skipping(&rt, rt.alloc(), Memory::Ample);
 }
 
-/// A parser that takes no memory answers as ever; only `feed` may be refused.
 #[test]
-fn a_skipping_session_with_any_growth_refused(rt: HostRuntime) {
-    feed_skipping_again(&rt, rt.alloc(), skip_many(token(b'a')));
+fn skipping_with_any_growth_refused(rt: HostRuntime) {
+    skipping(&rt, rt.alloc(), Memory::Scarce);
+}
+
+/// Bytes that are put back at the end of each piece: all are unread where a `feed` is refused.
+fn put_back(rt: &impl Abort, alloc: Global, memory: Memory) {
+    let row = accepted(
+        ["ab", "c", "defghijklmnopqrstuvw"],
+        "abcdefghijklmnopqrstuvw",
+        23,
+        true,
+    );
+    let bytes = attempt(many1::<Vec<u8>, _>(alloc, any()));
+    run(rt, alloc, memory, bytes, row);
+}
+
+#[test]
+fn put_back_with_ample_memory(rt: HostRuntime) {
+    put_back(&rt, rt.alloc(), Memory::Ample);
+}
+
+#[test]
+fn put_back_with_any_growth_refused(rt: HostRuntime) {
+    put_back(&rt, rt.alloc(), Memory::Scarce);
+}
+
+/// One `a`, before a `;`.
+const ONE: [&str; 3] = ["a", ";", ""];
+
+/// Want of memory is not `None`.
+fn an_option(rt: &impl Abort, alloc: Global, memory: Memory) {
+    let letters = many1::<Vec<u8>, _>(alloc, token(b'a'));
+    let row = accepted(ONE, "a", 1, true);
+    run(rt, alloc, memory, optional(letters), row);
+}
+
+#[test]
+fn an_option_with_ample_memory(rt: HostRuntime) {
+    an_option(&rt, rt.alloc(), Memory::Ample);
+}
+
+#[test]
+fn an_option_with_any_growth_refused(rt: HostRuntime) {
+    an_option(&rt, rt.alloc(), Memory::Scarce);
+}
+
+/// Want of memory doesn't end the turns.
+fn turns(rt: &impl Abort, alloc: Global, memory: Memory) {
+    let letters = many1::<Vec<u8>, _>(alloc, token(b'a'));
+    let row = accepted(ONE, "a", 1, true);
+    run(
+        rt,
+        alloc,
+        memory,
+        many::<Vec<Vec<u8>>, _>(alloc, letters),
+        row,
+    );
+}
+
+#[test]
+fn turns_with_ample_memory(rt: HostRuntime) {
+    turns(&rt, rt.alloc(), Memory::Ample);
+}
+
+#[test]
+fn turns_with_any_growth_refused(rt: HostRuntime) {
+    turns(&rt, rt.alloc(), Memory::Scarce);
+}
+
+/// Want of memory passes through where the tokens are put back.
+fn a_look_ahead(rt: &impl Abort, alloc: Global, memory: Memory) {
+    let letters = many1::<Vec<u8>, _>(alloc, token(b'a'));
+    let row = accepted(ONE, "a", 0, false);
+    run(rt, alloc, memory, look_ahead(letters), row);
+}
+
+#[test]
+fn a_look_ahead_with_ample_memory(rt: HostRuntime) {
+    a_look_ahead(&rt, rt.alloc(), Memory::Ample);
+}
+
+#[test]
+fn a_look_ahead_with_any_growth_refused(rt: HostRuntime) {
+    a_look_ahead(&rt, rt.alloc(), Memory::Scarce);
+}
+
+/// Want of memory is no refusal, which would be accepted.
+fn no_letters(rt: &impl Abort, alloc: Global, memory: Memory) {
+    let letters = many1::<Vec<u8>, _>(alloc, token(b'a'));
+    let row = Row {
+        pieces: ONE,
+        wanted: Answer::Refused {
+            error: UnexpectedParse(Kind::Refused),
+            committed: false,
+        },
+        grows: true,
+    };
+    run(rt, alloc, memory, not_followed_by(letters), row);
+}
+
+#[test]
+fn no_letters_with_ample_memory(rt: HostRuntime) {
+    no_letters(&rt, rt.alloc(), Memory::Ample);
+}
+
+#[test]
+fn no_letters_with_any_growth_refused(rt: HostRuntime) {
+    no_letters(&rt, rt.alloc(), Memory::Scarce);
+}
+
+/// Want of memory of the first alternative isn't followed by the second, which would be accepted.
+fn a_choice(rt: &impl Abort, alloc: Global, memory: Memory) {
+    let letters = many1::<Vec<u8>, _>(alloc, token(b'a'));
+    let first = map(attempt(letters), |_letters: Vec<u8>| 1_u32);
+    let second = map(token(b'a'), |_letter: u8| 2_u32);
+    run(
+        rt,
+        alloc,
+        memory,
+        or(first, second),
+        accepted(ONE, "1", 1, true),
+    );
+}
+
+#[test]
+fn a_choice_with_ample_memory(rt: HostRuntime) {
+    a_choice(&rt, rt.alloc(), Memory::Ample);
+}
+
+#[test]
+fn a_choice_with_any_growth_refused(rt: HostRuntime) {
+    a_choice(&rt, rt.alloc(), Memory::Scarce);
 }

@@ -2,6 +2,7 @@
 use Rattle.std.proofs.Common.{ℕ, ◌+◌, ◌≡◌, ◌≤◌, inl, inr, List, [], ◌∷◌, Bool, true, false, ◌||◌, refl, sym, ◌∙◌, ap, subst, arith, add-zero}
 use Rattle.combine_base.specs.Error.Errors.{Errors}
 use Rattle.combine_base.specs.Parser.Answer.{World, Run, Answers, Accepts, Resumes, Leaves, fails, world}
+use Rattle.combine_base.specs.Parser.Kept.{KeptOf}
 use Rattle.combine_base.specs.Parser.Meaning.{Meaning, Reading, IsMeaning, MeansSame}
 use Rattle.combine_base.specs.Parser.Outcome.{Outcome, Accepted, Refused, Undecided}
 use Rattle.combine_base.specs.Parser.OutcomeFacts.{or_false}
@@ -11,6 +12,7 @@ use Rattle.combine_base.specs.Sequence.Readings.{following}
 use Rattle.combine_base.specs.Stream.View.{View, Takes}
 use Rattle.combine_base.proofs.Inside.{Inside, Keeps, inside_asks, inside_fails, inside_refuses}
 use Rattle.combine_base.proofs.Progress.{Progress, progress_more, progress_outcome, takes_more, takes_none}
+use Rattle.combine_base.proofs.Same.{same_more, same_none}
 use Rattle.combine_base.proofs.SequenceResumes.{following_resumes, sequel_resumes, accepted_resumes}
 use Rattle.combine_base.proofs.Starting.{progress_here, progress_left}
 use Rattle.combine_base.specs.declared.error.ParseResult.{ParseResult}
@@ -51,15 +53,15 @@ valid_from {S} {fresh} {valid} {first} {given} {s} h r v = by_mode first r
     by_mode true r = h s (r.afresh refl)
     by_mode false r = subst valid (sym (r.kept refl)) v
 
-module _ {N Input It I B C H U Checkpoint T R P E X : Type 0} (p : parser.Ghosts N Input U B Checkpoint T R P E X) (i : stream.Ghosts Input T R P E X) (seen : Errors T R P E) (fresh : U → Type 0) (answers : I → N → Type 0) (held : C → H) (none : H) (more : H → B → H) (at : It → List I → Type 0) (lists : List I → Type 0) (lean spared : Type 0) where
+module _ {N Input It I B C H U Checkpoint T R P E X : Type 0} (p : parser.Ghosts N Input U B Checkpoint T R P E X) (i : stream.Ghosts Input T R P E X) (seen : Errors T R P E) (fresh : U → Type 0) (answers : I → N → Type 0) (some : N → Type 0) (held : C → H) (none : H) (more : H → B → H) (at : It → List I → Type 0) (lists : List I → Type 0) (lean spared : Type 0) where
   abbrev all : Meaning P T R C (IterateState C It N U)
-  all = iterated i.step answers p.lawful p.meaning held none more at lists spared
+  all = iterated i.step answers some p.meaning held none more at lists spared
 
   abbrev these : H → List I → Reading P T C
-  these h xs = each i.step answers p.lawful p.meaning held none more at lists spared h xs
+  these h xs = each i.step answers some p.meaning held none more at lists spared h xs
 
   abbrev these_from : Reading P T B → H → List I → Reading P T C
-  these_from r h xs = each_from i.step answers p.lawful p.meaning held none more at lists spared r h xs
+  these_from r h xs = each_from i.step answers some p.meaning held none more at lists spared r h xs
 
   abbrev part_world : World P T U E
   part_world = world i.step seen i.steady fresh
@@ -85,7 +87,7 @@ module _ {N Input It I B C H U Checkpoint T R P E X : Type 0} (p : parser.Ghosts
   pub record Runs (z : IterateState C It N U) (old now : View P T) (before later : Failures) (l : RunningItem C It N U) : Type 0 where
     pub left : List I
     pub given : at l.before.items left
-    pub lawful : p.lawful l.parser
+    pub kept : KeptOf p.lawful p.meaning some l.parser
     pub progress : Progress part_world (all.rest z) (left_in l left) old now before later
     pub lost : (p.meaning l.parser).lost l.state now → all.lost z old
 
@@ -103,11 +105,11 @@ module _ {N Input It I B C H U Checkpoint T R P E X : Type 0} (p : parser.Ghosts
       record { left = xs; given = g; progress = progress_here part_world (all.rest states.Start) (left_at l xs) v f to }
 
   -- from a kept state
-  pub runs_first : (l : RunningItem C It N U) (xs : List I) (v : View P T) (f : Failures) → p.lawful l.parser → at l.before.items xs → Runs (states.Running l) v v f f l
-  runs_first l xs v f k g = record { left = xs; given = g; lawful = k; progress = progress_here part_world (all.rest (states.Running l)) (left_in l xs) v f (λ u o w. (xs, g, w)); lost = λ x. x }
+  pub runs_first : (l : RunningItem C It N U) (xs : List I) (v : View P T) (f : Failures) → KeptOf p.lawful p.meaning some l.parser → at l.before.items xs → Runs (states.Running l) v v f f l
+  runs_first l xs v f k g = record { left = xs; given = g; kept = k; progress = progress_here part_world (all.rest (states.Running l)) (left_in l xs) v f (λ u o w. (xs, g, w)); lost = λ x. x }
 
   -- the next item's parser runs, the stream being where it was
-  pub runs_next : {valid : U → Type 0} (z : IterateState C It N U) (old now there : View P T) (before later then : Failures) (l : Collected C It) (r : Reaches z old now before later l) (x : I) (xs : List I) → r.left ≡ x ∷ xs → (n : N) → answers x n → p.lawful n → (u : U) → fresh u → IsMeaning fresh valid (p.meaning n) → (rest : It) → at rest xs → there ≡ now → then ≡ later → Runs z old there before then (record { before = record { values = l.values; committed = l.committed; items = rest }; parser = n; state = u })
+  pub runs_next : {valid : U → Type 0} (z : IterateState C It N U) (old now there : View P T) (before later then : Failures) (l : Collected C It) (r : Reaches z old now before later l) (x : I) (xs : List I) → r.left ≡ x ∷ xs → (n : N) → answers x n → KeptOf p.lawful p.meaning some n → (u : U) → fresh u → IsMeaning fresh valid (p.meaning n) → (rest : It) → at rest xs → there ≡ now → then ≡ later → Runs z old there before then (record { before = record { values = l.values; committed = l.committed; items = rest }; parser = n; state = u })
   runs_next z old now there before later then l r x xs is n j k u d laws rest g stays fails =
       let q : RunningItem C It N U = record { before = record { values = l.values; committed = l.committed; items = rest }; parser = n; state = u } in
       let to : (v : View P T) (o : Outcome C) → left_in q xs v o → left_at l (x ∷ xs) v o = λ v o w. (w.0, (w.1.0, (n, j, (laws.start u v w.1.0 d).0 w.1.1), w.1.2), w.2) in
@@ -115,7 +117,7 @@ module _ {N Input It I B C H U Checkpoint T R P E X : Type 0} (p : parser.Ghosts
       record {
         left = xs;
         given = g;
-        lawful = k;
+        kept = k;
         progress = rw (stays, fails) (progress_left part_world (all.rest z) (left_at l (x ∷ xs)) (left_in q xs) old now before later to h);
         lost = λ y. absurd (laws.found u there d y);
       }
@@ -160,7 +162,7 @@ module _ {N Input It I B C H U Checkpoint T R P E X : Type 0} (p : parser.Ghosts
       reads = reads;
       resets = resets;
       refuses = λ k x. (Refused k, (Refused k, x, refl), refl);
-      lean = λ x. x.0 l.parser r.lawful;
+      lean = λ x. r.kept.same.lean.0 (x.0 r.kept.parser r.kept.is_given);
       lost = λ d x. (refl, r.lost x);
     }
 
@@ -176,7 +178,7 @@ module _ {N Input It I B C H U Checkpoint T R P E X : Type 0} (p : parser.Ghosts
       undecided = λ x. (Undecided, (Undecided, x, refl), refl);
       resumes = λ k t x. subst (λ s. Resumes here (all.rest s) k (i.view input) (i.view left)) (sym e) (resumes_kept k t x);
       found = λ v x. (same.lost stopped v).1 (subst (λ s. all.lost s v) e x);
-      keeps = λ x. x l.parser r.lawful;
+      keeps = λ x. r.kept.same.keeps.0 (x r.kept.parser r.kept.is_given);
       puts_back = λ x. absurd x;
     }
       where
@@ -248,14 +250,24 @@ module _ {N Input It I B C H U Checkpoint T R P E X : Type 0} (p : parser.Ghosts
         by_answer (CommitErr e) a d k = absurd (let x : items.Goes next ≡ items.Stops (CommitErr e) = d in cc)
         by_answer (PeekErr t) a d k = absurd (let x : items.Goes next ≡ items.Stops (refused_as l.before.committed t) = d in cc)
 
+-- a parser that was just asked for may be kept
+pub asked_kept : {P T R B N U : Type 0} {lawful some : N → Type 0} (means : N → Meaning P T R B U) (n : N) → lawful n → some n → KeptOf lawful means some n
+asked_kept means n k s = record { is_lawful = k; parser = n; is_given = s; same = same_none (means n) }
+
 -- the state that is left is valid
-module _ {N Input It I B C H U Checkpoint T R P E X : Type 0} (p : parser.Ghosts N Input U B Checkpoint T R P E X) (i : stream.Ghosts Input T R P E X) (seen : Errors T R P E) (fresh : U → Type 0) (held : C → H) (more : H → B → H) (lean : Type 0) (at : It → List I → Type 0) where
-  pub item_leaves : {input left : Input} {l : RunningItem C It N U} {state : IterateState C It N U} {y : Item C It E} → ((xs : List I) × at l.before.items xs) → CalledItem p i seen fresh held more lean input left l state y → valid_item p.lawful p.valid at state
-  item_leaves {input} {left} {l} {state} {y} given g = by_need g.keeps
+module _ {N Input It I B C H U Checkpoint T R P E X : Type 0} (p : parser.Ghosts N Input U B Checkpoint T R P E X) (i : stream.Ghosts Input T R P E X) (seen : Errors T R P E) (fresh : U → Type 0) (some : N → Type 0) (held : C → H) (more : H → B → H) (lean : Type 0) (at : It → List I → Type 0) where
+  abbrev kept : N → Type 0
+  kept = KeptOf p.lawful p.meaning some
+
+  pub item_leaves : {input left : Input} {l : RunningItem C It N U} {state : IterateState C It N U} {y : Item C It E} → kept l.parser → ((xs : List I) × at l.before.items xs) → CalledItem p i seen fresh held more lean input left l state y → valid_item kept p.valid at state
+  item_leaves {input} {left} {l} {state} {y} given_parser given g = by_need g.keeps
     where
-      by_need : keeps_item p i seen fresh held more lean (i.view left).is_open l g.parser g.stopped state g.answer → valid_item p.lawful p.valid at state
-      by_need (inl k) = rw k.1 (g.lawful, k.2, given)
-      by_need (inr k) = starts_valid p.lawful p.valid at state k.1
+      still : kept g.parser
+      still = record { is_lawful = g.lawful; parser = given_parser.parser; is_given = given_parser.is_given; same = same_more _ _ _ given_parser.same g.same }
+
+      by_need : keeps_item p i seen fresh held more lean (i.view left).is_open l g.parser g.stopped state g.answer → valid_item kept p.valid at state
+      by_need (inl k) = rw k.1 (still, k.2, given)
+      by_need (inr k) = starts_valid kept p.valid at state k.1
 
   -- the items that are left are those that were left
   pub item_passes : {input left : Input} {l : RunningItem C It N U} {state : IterateState C It N U} {next : Collected C It} → CalledItem p i seen fresh held more lean input left l state (items.Goes next) → next.items ≡ l.before.items

@@ -3,6 +3,7 @@ use Rattle.std.specs.Prelude.{◌≡◌, List, [], ◌∷◌, false}
 use Rattle.std.proofs.Common.{sym, subst, arith}
 use Rattle.combine_base.specs.Stream.View.{View}
 use Rattle.combine_base.specs.Parser.Outcome.{Outcome, Accepted, Refused, Undecided, shape}
+use Rattle.combine_base.specs.Parser.Kept.{KeptOf, means_one_as}
 use Rattle.combine_base.specs.Parser.Meaning.{Meaning, Reading, IsReading, IsSingle, IsMeaning, MeansOne}
 use Rattle.combine_base.specs.Sequence.Readings.{following, sequel, continues, following_is_reading, following_is_single, sequel_is_reading, sequel_is_single, FollowsOne}
 use Rattle.combine_iterate.specs.declared.repeat.items.RunningItem.{RunningItem}
@@ -26,10 +27,10 @@ unchanged c = c
 pub record AnswersOne {P T I N B : Type 0} (answers : I → N → Type 0) (means : N → Reading P T B) : Type 0 where
   pub one : (x : I) (n n' : N) → answers x n → answers x n' → (v : View P T) (o o' : Outcome B) → means n v o → means n' v o' → shape o ≡ shape o'
 
--- a state is valid where the running item's parser is lawful, its state is valid, and the iterator gives some items
-module _ {C It I N U : Type 0} (lawful : N → Type 0) (valid : U → Type 0) (at : It → List I → Type 0) where
+-- a state is valid where the running item's parser is one that may be kept, its state is valid, and the iterator gives some items
+module _ {C It I N U : Type 0} (kept : N → Type 0) (valid : U → Type 0) (at : It → List I → Type 0) where
   abbrev pub valid_running : RunningItem C It N U → Type 0
-  valid_running l = lawful l.parser × valid l.state × ((xs : List I) × at l.before.items xs)
+  valid_running l = kept l.parser × valid l.state × ((xs : List I) × at l.before.items xs)
 
   abbrev pub valid_item : IterateState C It N U → Type 0
   valid_item states.Start = Unit {0}
@@ -39,7 +40,7 @@ module _ {C It I N U : Type 0} (lawful : N → Type 0) (valid : U → Type 0) (a
   starts_valid states.Start d = tt
   starts_valid (states.Running l) d = absurd d
 
-module _ {P T R I N It B C H U : Type 0} (step : P → T → P) (answers : I → N → Type 0) (lawful : N → Type 0) (means : N → Meaning P T R B U) (held : C → H) (none : H) (more : H → B → H) (at : It → List I → Type 0) (lists : List I → Type 0) (spared : Type 0) where
+module _ {P T R I N It B C H U : Type 0} (step : P → T → P) (answers : I → N → Type 0) (some : N → Type 0) (means : N → Meaning P T R B U) (held : C → H) (none : H) (more : H → B → H) (at : It → List I → Type 0) (lists : List I → Type 0) (spared : Type 0) where
   -- any parser that is answered for the item
   abbrev pub answered : I → Reading P T B
   answered x v o = (n : N) × answers x n × (means n).whole v o
@@ -65,15 +66,15 @@ module _ {P T R I N It B C H U : Type 0} (step : P → T → P) (answers : I →
   lost_of states.Start v = ⊥
   lost_of (states.Running l) v = (means l.parser).lost l.state v
 
-  -- the parsers of the items of a list, one after another
+  -- the parsers of the items of a list, one after another; some are those that may be answered by any function of the type
   abbrev pub iterated : Meaning P T R C (IterateState C It N U)
   iterated = record {
     whole = λ v o. (xs : List I) × lists xs × each none xs v o;
     rest = rest_of;
     lost = lost_of;
-    keeps = (n : N) → lawful n → (means n).keeps;
+    keeps = (n : N) → some n → (means n).keeps;
     puts_back = ⊥;
-    lean = ((n : N) → lawful n → (means n).lean) × spared;
+    lean = ((n : N) → some n → (means n).lean) × spared;
     adds = λ is. is ≡ [];
   }
 
@@ -85,7 +86,7 @@ module _ {P T R I N It B C H U : Type 0} (step : P → T → P) (answers : I →
     within = λ v a n k w. let i : n ≡ 0 = (let j = w.2 in cc) in omega arith;
   }
 
-  module _ {fresh valid : U → Type 0} (laws : (n : N) → lawful n → IsMeaning fresh valid (means n)) (every : (x : I) (n : N) → answers x n → lawful n) where
+  module _ (lawful : N → Type 0) {fresh valid : U → Type 0} (laws : (n : N) → lawful n → IsMeaning fresh valid (means n)) (every : (x : I) (n : N) → answers x n → lawful n) where
     pub answered_is_reading : (x : I) → IsReading (answered x)
     answered_is_reading x = record {
       ended = λ v e w. (laws w.0 (every x w.0 w.1)).whole.ended v e w.2;
@@ -98,11 +99,11 @@ module _ {P T R I N It B C H U : Type 0} (step : P → T → P) (answers : I →
     each_is_reading [] h = collected_is_reading h
     each_is_reading (x ∷ xs) h = sequel_is_reading step last_value (answered x) (λ b. each (more h b) xs) (answered_is_reading x) (λ b. each_is_reading xs (more h b))
 
-    pub running_is_reading : (l : RunningItem C It N U) (xs : List I) → valid_running lawful valid at l → IsReading (following l.before.committed unchanged (each_from ((means l.parser).rest l.state) (held l.before.values) xs))
+    pub running_is_reading : (l : RunningItem C It N U) (xs : List I) → valid_running (KeptOf lawful means some) valid at l → IsReading (following l.before.committed unchanged (each_from ((means l.parser).rest l.state) (held l.before.values) xs))
     running_is_reading l xs d =
         let h = held l.before.values in
         let r = (means l.parser).rest l.state in
-        following_is_reading l.before.committed unchanged (each_from r h xs) (sequel_is_reading step last_value r (λ b. each (more h b) xs) ((laws l.parser d.0).rest l.state d.1) (λ b. each_is_reading xs (more h b)))
+        following_is_reading l.before.committed unchanged (each_from r h xs) (sequel_is_reading step last_value r (λ b. each (more h b) xs) ((laws l.parser d.0.is_lawful).rest l.state d.1) (λ b. each_is_reading xs (more h b)))
 
     whole_is_reading : IsReading iterated.whole
     whole_is_reading = record {
@@ -112,7 +113,7 @@ module _ {P T R I N It B C H U : Type 0} (step : P → T → P) (answers : I →
       within = λ v a n k w. (each_is_reading w.0 none).within v a n k w.2;
     }
 
-    rest_is_reading : (z : IterateState C It N U) → valid_item lawful valid at z → IsReading (rest_of z)
+    rest_is_reading : (z : IterateState C It N U) → valid_item (KeptOf lawful means some) valid at z → IsReading (rest_of z)
     rest_is_reading states.Start d = whole_is_reading
     rest_is_reading (states.Running l) d = record {
       ended = λ v e w. (running_is_reading l w.0 d).ended v e w.2;
@@ -129,7 +130,7 @@ module _ {P T R I N It B C H U : Type 0} (step : P → T → P) (answers : I →
     finds states.Start v d w = w
     finds (states.Running l) v d w = d
 
-    pub iterated_is_meaning : IsMeaning begins_items (valid_item lawful valid at) iterated
+    pub iterated_is_meaning : IsMeaning begins_items (valid_item (KeptOf lawful means some) valid at) iterated
     iterated_is_meaning = record { whole = whole_is_reading; rest = rest_is_reading; start = starts; found = finds }
 
   -- what comes of the items, whatever is collected
@@ -162,22 +163,22 @@ module _ {P T R I N It B C H U : Type 0} (step : P → T → P) (answers : I →
         let s = sequel_is_single step last_value r (λ b. any_each xs) k (one_follows r xs (each_is_single xs)) in
         record { one = λ v o o' w w'. s.one v o o' (from_any r h xs v o w) (from_any r h xs v o' w') }
 
-    module _ {valid : U → Type 0} (laws : (n : N) → lawful n → MeansOne valid (means n)) (listed : (xs ys : List I) → lists xs → lists ys → xs ≡ ys) (given : (it : It) (xs ys : List I) → at it xs → at it ys → xs ≡ ys) where
+    module _ (lawful : N → Type 0) {valid : U → Type 0} (singles : (n : N) → some n → MeansOne valid (means n)) (listed : (xs ys : List I) → lists xs → lists ys → xs ≡ ys) (given : (it : It) (xs ys : List I) → at it xs → at it ys → xs ≡ ys) where
       whole_is_single : IsSingle iterated.whole
       whole_is_single = record { one = λ v o o' w w'. (each_is_single w.0).one v o o' (none, w.2) (none, subst (λ xs. each none xs v o') (sym (listed w.0 w'.0 w.1 w'.1)) w'.2) }
 
-      running_is_single : (l : RunningItem C It N U) (xs : List I) → valid_running lawful valid at l → IsSingle (following l.before.committed unchanged (each_from ((means l.parser).rest l.state) (held l.before.values) xs))
+      running_is_single : (l : RunningItem C It N U) (xs : List I) → valid_running (KeptOf lawful means some) valid at l → IsSingle (following l.before.committed unchanged (each_from ((means l.parser).rest l.state) (held l.before.values) xs))
       running_is_single l xs d =
           let h = held l.before.values in
           let r = (means l.parser).rest l.state in
-          following_is_single l.before.committed unchanged (each_from r h xs) (from_is_single r h xs ((laws l.parser d.0).rest l.state d.1))
+          following_is_single l.before.committed unchanged (each_from r h xs) (from_is_single r h xs ((means_one_as d.0.same (singles d.0.parser d.0.is_given)).rest l.state d.1))
 
-      rest_is_single : (z : IterateState C It N U) → valid_item lawful valid at z → IsSingle (rest_of z)
+      rest_is_single : (z : IterateState C It N U) → valid_item (KeptOf lawful means some) valid at z → IsSingle (rest_of z)
       rest_is_single states.Start d = whole_is_single
       rest_is_single (states.Running l) d =
           let h = held l.before.values in
           let r = (means l.parser).rest l.state in
           record { one = λ v o o' w w'. (running_is_single l w.0 d).one v o o' w.2 (subst (λ xs. following l.before.committed unchanged (each_from r h xs) v o') (sym (given l.before.items w.0 w'.0 w.1 w'.1)) w'.2) }
 
-      pub iterated_means_one : MeansOne (valid_item lawful valid at) iterated
+      pub iterated_means_one : MeansOne (valid_item (KeptOf lawful means some) valid at) iterated
       iterated_means_one = record { whole = whole_is_single; rest = rest_is_single }

@@ -1,6 +1,7 @@
 -- lists whose items are given one after another, and functions that are asked for a parser of each
 use denote.Ref.{Bor, MutBor}
 use Rattle.std.specs.Prelude.{◌≡◌, List, [], ◌∷◌, Option, Some, None, refl}
+use Rattle.std.specs.Fn.{Shared, always_fn}
 use Rattle.std.specs.Iterator.{Count, IsFinite}
 use Rattle.combine_base.specs.Stream.View.{View}
 use Rattle.combine_base.specs.Stream.Calls.{Passes}
@@ -55,6 +56,19 @@ module _ {I N Input : Type 0} (post : Bor I → MutBor Input → N → MutBor In
   -- a function that leaves the stream in place
   pub record InPlace {P T C V : Type 0} (view : Input → View P T) (marks : Input → C → V → Type 0) (failures : Input → Failures) : Type 0 where
     pub kept : (x : Bor I) (i : MutBor Input) (n : N) (l : MutBor Input) → post x i n l → (view l.now ≡ view i.now) × Passes (marks i.now) (marks l.now) (failures i.now) (failures l.now) × (failures l.now ≡ failures i.now)
+
+-- asked for by a function that is fit, and whose parsers are all lawful
+pub record AskedBySome {F I N : Type 0} (fit : F → Type 0) (answers : F → I → N → Type 0) (lawful : N → Type 0) (n : N) : Type 0 where
+  pub asked : F
+  pub is_fit : fit asked
+  pub all : (x : I) (m : N) → answers asked x m → lawful m
+  pub item : I
+  pub answered : answers asked item n
+
+module _ {F I N Input P T C V : Type 0} (view : Input → View P T) (marks : Input → C → V → Type 0) (failures : Input → Failures) (g : Shared F (Bor I × (MutBor Input × Unit {0})) (N × (MutBor Input × Unit {0}))) where
+  -- asked for by a function of this type that may always be called and leaves the stream in place
+  abbrev pub by_function : (N → Type 0) → N → Type 0
+  by_function lawful = AskedBySome (λ f. always_fn g f × InPlace (λ a i n l. g.post f (a, (i, tt)) (n, (l, tt))) view marks failures) (λ f. AskedFor (λ a i n l. g.post f (a, (i, tt)) (n, (l, tt)))) lawful
 
 module _ {It I : Type 0} (can_next : It → Type 0) (remaining : It → Count) (steps : It → Option I → It → Type 0) where
   same_steps : (it : It) (r s : Option I) (f g : It → Type 0) → GivesThen can_next remaining steps it r f → GivesThen can_next remaining steps it s g → r ≡ s

@@ -1,6 +1,7 @@
 pub use Rattle.combine_base.specs.Error.Results
 pub use Rattle.combine_base.specs.Parser.Answer
 pub use Rattle.combine_base.specs.Parser.Called
+pub use Rattle.combine_base.specs.Parser.Kept
 pub use Rattle.combine_base.specs.Parser.Meaning
 pub use Rattle.combine_base.specs.Parser.Outcome
 pub use Rattle.combine_base.specs.Stream.Calls

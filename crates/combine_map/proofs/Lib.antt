@@ -1,3 +1,4 @@
 pub mod Attempts
 pub mod Reasons
+mod Denying
 mod Looking

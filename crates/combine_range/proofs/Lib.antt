@@ -1,3 +1,4 @@
+mod Exact
 pub mod Kept
 pub mod Measuring
 pub mod Peeked

@@ -1,5 +1,6 @@
 pub use Rattle.combine_base.specs.Parser.Meaning
 pub mod Beginnings
+pub mod Exactly
 pub mod Fairness
 pub mod Kept
 pub mod Lengths

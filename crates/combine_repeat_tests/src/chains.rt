@@ -1,12 +1,14 @@
-//! Plain callers of lists whose last separator may stand alone, of chains that are folded from the right, of words, and of texts with escapes, over pieces.
+//! Plain callers of lists whose last separator may stand alone, of chains that are folded from the right, of words, of numbers, and of texts with escapes, over pieces.
+ghost use Rattle.std.specs.Prelude.{◌<◌};
+
 use combine::error::UnexpectedParse;
-use combine::parser::char::{letter, space};
-use combine::parser::combinator::map;
+use combine::parser::char::{digit, letter, space};
+use combine::parser::combinator::{from_str, map};
 use combine::parser::repeat::{chainr1, escaped, many, many1, sep_by, sep_end_by, sep_end_by1};
 use combine::parser::token::{one_of, satisfy, token, value};
 use combine::parser::{Parser, parse_pieces};
 use combine_examples::answers::InPieces;
-use combine_examples::slices::{is_digit, is_letter};
+use combine_examples::slices::is_digit;
 use std::alloc::Global;
 
 /// Digits with `;` between them, and perhaps behind the last; there may be none.
@@ -38,6 +40,19 @@ pub fn power(alloc: Global, pieces: &[&[u8]]) -> InPieces<u32> {
     parse_pieces(alloc, chainr1(alloc, digit, caret), pieces)
 }
 
+/// As `power`, each power modulo a number, which may not be 0.
+pub fn power_modulo(alloc: Global, modulus: u32, pieces: &[&[u8]]) -> InPieces<u32>
+    requires { 0 < modulus }
+{
+    let digit = map(satisfy(is_digit), |digit: u8| {
+        u32::from(digit.saturating_sub(b'0'))
+    });
+    let caret = map(token(b'^'), move |_caret: u8| {
+        move |left: u32, right: u32| left.wrapping_pow(right) % modulus
+    });
+    parse_pieces(alloc, chainr1(alloc, digit, caret), pieces)
+}
+
 /// The last of the words that have a space between them.
 pub fn last_word(alloc: Global, pieces: &[&[char]]) -> InPieces<Option<String>> {
     let word = many1::<String, _>(alloc, letter());
@@ -46,14 +61,19 @@ pub fn last_word(alloc: Global, pieces: &[&[char]]) -> InPieces<Option<String>> 
     parse_pieces(alloc, last, pieces)
 }
 
+/// A number that is read from digits.
+pub fn number(alloc: Global, pieces: &[&[char]]) -> InPieces<i32> {
+    parse_pieces(alloc, from_str(many1::<String, _>(alloc, digit())), pieces)
+}
+
 /// The characters of a text up to `;`, collected in one.
 pub fn characters(alloc: Global, text: &str) -> Result<(String, &str), UnexpectedParse> {
     many::<String, _>(alloc, satisfy(|character: char| character != ';')).parse(text)
 }
 
 /// Letters, and `n` or `r` behind a backslash.
-pub fn escaped_letters(alloc: Global, pieces: &[&[u8]]) -> InPieces<()> {
-    let letters = escaped(satisfy(is_letter), b'\\', one_of([b'n', b'r']));
+pub fn escaped_letters(alloc: Global, pieces: &[&[char]]) -> InPieces<()> {
+    let letters = escaped(letter(), '\\', one_of("nr".chars()));
     parse_pieces(alloc, letters, pieces)
 }
 
@@ -94,7 +114,19 @@ mod tests {
             ("2^", None, true),
             ("^", None, false),
         ];
-        over_every_cut(&rt, rt.alloc(), power, &rows)
+        over_every_cut(&rt, rt.alloc(), power, &rows)?;
+        let rows = [
+            ("2^3^2", Some((4, 5)), true),
+            ("9", Some((9, 1)), true),
+            ("2^", None, true),
+            ("^", None, false),
+        ];
+        over_every_cut(
+            &rt,
+            rt.alloc(),
+            |alloc: Global, pieces: &[&[u8]]| power_modulo(alloc, 7, pieces),
+            &rows,
+        )
     }
 
     /// `1`, and behind it `^1` so many times.
@@ -153,6 +185,17 @@ mod tests {
         let read = String::from_str(alloc, "ab\u{e9}")?;
         assert_eq!(rt; characters(alloc, "ab\u{e9};c"), Ok((read, ";c")));
         Ok(())
+    }
+
+    /// What is too large for the type is refused once all its digits are taken.
+    #[test]
+    fn numbers(rt: HostRuntime) -> Result<(), AllocError> {
+        let rows = [
+            ("12345\r\n", Some((12_345, 5)), true),
+            ("99999999999", None, true),
+            ("\r\n", None, false),
+        ];
+        over_every_cut(&rt, rt.alloc(), number, &rows)
     }
 
     #[test]

@@ -1,5 +1,5 @@
 //! Plain callers of counted and separated repetitions, and of chains, over pieces.
-ghost use Rattle.std.specs.Prelude.{◌≤◌};
+ghost use Rattle.std.specs.Prelude.{◌<◌, ◌≤◌};
 
 use combine::parser::combinator::map;
 use combine::parser::parse_pieces;
@@ -86,6 +86,19 @@ pub fn difference(alloc: Global, pieces: &[&[u8]]) -> InPieces<i64> {
         |left: i64, right: i64| left.saturating_sub(right)
     });
     parse_pieces(alloc, chainl1(digit, minus), pieces)
+}
+
+/// Digits with `+` between them, added modulo a number, which may not be 0.
+pub fn sum_modulo(alloc: Global, modulus: u32, pieces: &[&[u8]]) -> InPieces<u32>
+    requires { 0 < modulus }
+{
+    let digit = map(satisfy(is_digit), |digit: u8| {
+        u32::from(digit.saturating_sub(b'0'))
+    });
+    let plus = map(token(b'+'), move |_plus: u8| {
+        move |left: u32, right: u32| left.wrapping_add(right) % modulus
+    });
+    parse_pieces(alloc, chainl1(digit, plus), pieces)
 }
 
 /// Elements and separators that read nothing, at least one and at most three.
@@ -199,6 +212,18 @@ mod tests {
             ("9-", None, true),
             ("-", None, false),
         ];
-        over_every_cut(&rt, rt.alloc(), difference, &rows)
+        over_every_cut(&rt, rt.alloc(), difference, &rows)?;
+        let rows = [
+            ("9+3+5", Some((3, 5)), true),
+            ("9", Some((9, 1)), true),
+            ("9+", None, true),
+            ("+", None, false),
+        ];
+        over_every_cut(
+            &rt,
+            rt.alloc(),
+            |alloc: Global, pieces: &[&[u8]]| sum_modulo(alloc, 7, pieces),
+            &rows,
+        )
     }
 }

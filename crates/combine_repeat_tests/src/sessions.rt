@@ -1,6 +1,7 @@
 //! Repetitions in sessions: how many tokens are unread where they ask for more, and a state that was left by another call.
 ghost use Rattle.std.specs.Prelude.{◌≤◌};
 
+use crate::rows::Like;
 use combine::error::{ParseResult, UnexpectedParse};
 use combine::parser::combinator::map;
 use combine::parser::repeat::{chainl1, count_min_max, many, sep_by1, sep_count_min_max};
@@ -12,11 +13,11 @@ use combine_examples::slices::is_digit;
 use std::alloc::{AllocError, Global};
 use std::process::Abort;
 
-/// Each piece asks for more, with nothing unread, but perhaps the last; so many tokens are taken then, committed.
-fn asks_with_nothing_unread<V: Drop>(
+/// Each piece asks for more, with nothing unread, but perhaps the last; that value is accepted then, committed, with so many tokens taken.
+fn asks_with_nothing_unread<V: Like<W> + Drop, W: Drop>(
     fed: Result<Fed<V>, SessionError>,
     asked: usize,
-    wanted: u64,
+    wanted: (W, u64),
 ) -> bool {
     let Ok(fed) = fed else {
         return false;
@@ -24,13 +25,14 @@ fn asks_with_nothing_unread<V: Drop>(
     let Fed { unread, answer } = fed;
     match answer {
         Answer::Accepted {
+            value,
             taken,
             committed,
-            ..
         } => {
             unread.len() == asked
                 && unread.iter().all(|left| *left == 0)
-                && taken == wanted
+                && value.is_like(&wanted.0)
+                && taken == wanted.1
                 && committed
         }
         _ => false,
@@ -42,7 +44,7 @@ fn separated(rt: HostRuntime) {
     let alloc = rt.alloc();
     let digits = sep_by1::<Vec<u8>, _, _>(alloc, satisfy(is_digit), token(b','));
     let fed = fed_in_pieces(alloc, digits, &[b"1".as_slice(), b",2"]);
-    assert!(rt; asks_with_nothing_unread(fed, 2, 3));
+    assert!(rt; asks_with_nothing_unread(fed, 2, ("12", 3)));
 }
 
 /// Digits with `,` between them, at least `min` and at most `max`.
@@ -69,11 +71,11 @@ fn feed_digits(
 fn separated_counts(rt: HostRuntime) {
     let alloc = rt.alloc();
     let some = feed_digits(alloc, 2, 3, &[b"1".as_slice(), b",", b"2"]);
-    assert!(rt; asks_with_nothing_unread(some, 3, 3));
+    assert!(rt; asks_with_nothing_unread(some, 3, ("12", 3)));
     let one = feed_digits(alloc, 1, 1, &[b"1".as_slice()]);
-    assert!(rt; asks_with_nothing_unread(one, 0, 1));
+    assert!(rt; asks_with_nothing_unread(one, 0, ("1", 1)));
     let two = feed_digits(alloc, 2, 2, &[b"1".as_slice(), b",2"]);
-    assert!(rt; asks_with_nothing_unread(two, 1, 3));
+    assert!(rt; asks_with_nothing_unread(two, 1, ("12", 3)));
 }
 
 #[test]
@@ -86,7 +88,7 @@ fn chains(rt: HostRuntime) {
     });
     let pieces = [b"9-".as_slice(), b"3", b"-5"];
     let fed = fed_in_pieces(rt.alloc(), chainl1(digit, minus), &pieces);
-    assert!(rt; asks_with_nothing_unread(fed, 3, 5));
+    assert!(rt; asks_with_nothing_unread(fed, 3, (1, 5)));
 }
 
 /// An `a`, and a thousand empty pieces behind it.
@@ -99,7 +101,7 @@ fn empty_pieces(rt: HostRuntime) -> Result<(), AllocError> {
         pieces.push(b"".as_slice())?;
     }
     let fed = fed_in_pieces(alloc, many::<Vec<u8>, _>(alloc, token(b'a')), &pieces);
-    assert!(rt; asks_with_nothing_unread(fed, 1001, 1));
+    assert!(rt; asks_with_nothing_unread(fed, 1001, ("a", 1)));
     Ok(())
 }
 

@@ -1,7 +1,6 @@
 //! Each parser that collects, with a collection that has room for so many values.
-use crate::room::{Counted, Kept, Room, seen, unseen};
-use combine_base::parser::parse_pieces;
-use combine_base::repeat::Append;
+use crate::room::{Counted, Kept, Room, in_session, seen, unseen};
+use combine_base::repeat::{Append, Sink};
 use combine_map::combinator::{attempt, look_ahead, map, not_followed_by};
 use combine_recognize::combinator::recognize;
 use combine_repeat::repeat::{many, many1};
@@ -23,7 +22,7 @@ struct Many;
 
 impl Collects for Many {
     fn parse<F: Append<u8> + Counted>(alloc: Global, pieces: &[&[u8]]) -> Kept {
-        seen(parse_pieces(alloc, many::<F, _>(alloc, token(b'a')), pieces))
+        seen(in_session(alloc, many::<F, _>(alloc, token(b'a')), pieces))
     }
 }
 
@@ -31,7 +30,7 @@ struct Many1;
 
 impl Collects for Many1 {
     fn parse<F: Append<u8> + Counted>(alloc: Global, pieces: &[&[u8]]) -> Kept {
-        seen(parse_pieces(alloc, many1::<F, _>(alloc, token(b'a')), pieces))
+        seen(in_session(alloc, many1::<F, _>(alloc, token(b'a')), pieces))
     }
 }
 
@@ -39,7 +38,7 @@ struct Count;
 
 impl Collects for Count {
     fn parse<F: Append<u8> + Counted>(alloc: Global, pieces: &[&[u8]]) -> Kept {
-        seen(parse_pieces(alloc, count::<F, _>(alloc, 3, token(b'a')), pieces))
+        seen(in_session(alloc, count::<F, _>(alloc, 3, token(b'a')), pieces))
     }
 }
 
@@ -48,7 +47,7 @@ struct CountMinMax;
 impl Collects for CountMinMax {
     fn parse<F: Append<u8> + Counted>(alloc: Global, pieces: &[&[u8]]) -> Kept {
         let some = count_min_max::<F, _>(alloc, 2, 4, token(b'a'));
-        seen(parse_pieces(alloc, some, pieces))
+        seen(in_session(alloc, some, pieces))
     }
 }
 
@@ -57,7 +56,7 @@ struct SepBy;
 impl Collects for SepBy {
     fn parse<F: Append<u8> + Counted>(alloc: Global, pieces: &[&[u8]]) -> Kept {
         let letters = sep_by::<F, _, _>(alloc, token(b'a'), token(b','));
-        seen(parse_pieces(alloc, letters, pieces))
+        seen(in_session(alloc, letters, pieces))
     }
 }
 
@@ -66,7 +65,7 @@ struct SepBy1;
 impl Collects for SepBy1 {
     fn parse<F: Append<u8> + Counted>(alloc: Global, pieces: &[&[u8]]) -> Kept {
         let letters = sep_by1::<F, _, _>(alloc, token(b'a'), token(b','));
-        seen(parse_pieces(alloc, letters, pieces))
+        seen(in_session(alloc, letters, pieces))
     }
 }
 
@@ -75,7 +74,7 @@ struct SepCountMinMax;
 impl Collects for SepCountMinMax {
     fn parse<F: Append<u8> + Counted>(alloc: Global, pieces: &[&[u8]]) -> Kept {
         let letters = sep_count_min_max::<F, _, _>(alloc, 2, 4, token(b'a'), token(b','));
-        seen(parse_pieces(alloc, letters, pieces))
+        seen(in_session(alloc, letters, pieces))
     }
 }
 
@@ -84,7 +83,7 @@ struct SepEndBy;
 impl Collects for SepEndBy {
     fn parse<F: Append<u8> + Counted>(alloc: Global, pieces: &[&[u8]]) -> Kept {
         let letters = sep_end_by::<F, _, _>(alloc, token(b'a'), token(b','));
-        seen(parse_pieces(alloc, letters, pieces))
+        seen(in_session(alloc, letters, pieces))
     }
 }
 
@@ -93,7 +92,7 @@ struct SepEndBy1;
 impl Collects for SepEndBy1 {
     fn parse<F: Append<u8> + Counted>(alloc: Global, pieces: &[&[u8]]) -> Kept {
         let letters = sep_end_by1::<F, _, _>(alloc, token(b'a'), token(b','));
-        seen(parse_pieces(alloc, letters, pieces))
+        seen(in_session(alloc, letters, pieces))
     }
 }
 
@@ -102,7 +101,7 @@ struct TakeUntil;
 impl Collects for TakeUntil {
     fn parse<F: Append<u8> + Counted>(alloc: Global, pieces: &[&[u8]]) -> Kept {
         let before = take_until::<F, _, _, _>(alloc, token(b';'));
-        seen(parse_pieces(alloc, before, pieces))
+        seen(in_session(alloc, before, pieces))
     }
 }
 
@@ -111,7 +110,7 @@ struct RepeatUntil;
 impl Collects for RepeatUntil {
     fn parse<F: Append<u8> + Counted>(alloc: Global, pieces: &[&[u8]]) -> Kept {
         let before = repeat_until::<F, _, _, _>(alloc, token(b'a'), token(b';'));
-        seen(parse_pieces(alloc, before, pieces))
+        seen(in_session(alloc, before, pieces))
     }
 }
 
@@ -120,7 +119,17 @@ struct Recognize;
 impl Collects for Recognize {
     fn parse<F: Append<u8> + Counted>(alloc: Global, pieces: &[&[u8]]) -> Kept {
         let tokens = recognize::<F, _>(alloc, (any(), any(), any()));
-        seen(parse_pieces(alloc, tokens, pieces))
+        seen(in_session(alloc, tokens, pieces))
+    }
+}
+
+/// Turns of turns, which are dropped.
+struct ManyOfMany1;
+
+impl Collects for ManyOfMany1 {
+    fn parse<F: Append<u8> + Counted>(alloc: Global, pieces: &[&[u8]]) -> Kept {
+        let letters = many1::<F, _>(alloc, token(b'a'));
+        unseen(in_session(alloc, many::<Sink, _>(alloc, letters), pieces))
     }
 }
 
@@ -129,7 +138,7 @@ struct Attempt;
 impl Collects for Attempt {
     fn parse<F: Append<u8> + Counted>(alloc: Global, pieces: &[&[u8]]) -> Kept {
         let letters = attempt(many1::<F, _>(alloc, token(b'a')));
-        seen(parse_pieces(alloc, letters, pieces))
+        seen(in_session(alloc, letters, pieces))
     }
 }
 
@@ -138,7 +147,7 @@ struct LookAhead;
 impl Collects for LookAhead {
     fn parse<F: Append<u8> + Counted>(alloc: Global, pieces: &[&[u8]]) -> Kept {
         let letters = look_ahead(many1::<F, _>(alloc, token(b'a')));
-        seen(parse_pieces(alloc, letters, pieces))
+        seen(in_session(alloc, letters, pieces))
     }
 }
 
@@ -147,7 +156,7 @@ struct NotFollowedBy;
 impl Collects for NotFollowedBy {
     fn parse<F: Append<u8> + Counted>(alloc: Global, pieces: &[&[u8]]) -> Kept {
         let none = not_followed_by(many1::<F, _>(alloc, token(b'a')));
-        unseen(parse_pieces(alloc, none, pieces))
+        unseen(in_session(alloc, none, pieces))
     }
 }
 
@@ -156,7 +165,7 @@ struct Optional;
 impl Collects for Optional {
     fn parse<F: Append<u8> + Counted>(alloc: Global, pieces: &[&[u8]]) -> Kept {
         let letters = optional(many1::<F, _>(alloc, token(b'a')));
-        unseen(parse_pieces(alloc, letters, pieces))
+        unseen(in_session(alloc, letters, pieces))
     }
 }
 
@@ -168,7 +177,7 @@ impl Collects for Or {
         let letters = attempt(many1::<F, _>(alloc, token(b'a')));
         let first = map(letters, |_letters: F| 1_u8);
         let second = map(token(b'a'), |_letter: u8| 2_u8);
-        unseen(parse_pieces(alloc, or(first, second), pieces))
+        unseen(in_session(alloc, or(first, second), pieces))
     }
 }
 
@@ -260,6 +269,7 @@ fn up_to_a_place(rt: HostRuntime) -> Result<(), AllocError> {
 fn within_others(rt: HostRuntime) -> Result<(), AllocError> {
     let alloc = rt.alloc();
     over_every_cut::<Attempt>(&rt, alloc, "aaa;", THREE)?;
+    over_every_cut::<ManyOfMany1>(&rt, alloc, "aaa;", Kept::Unseen)?;
     over_every_cut::<LookAhead>(&rt, alloc, "aaa;", THREE)?;
     over_every_cut::<NotFollowedBy>(&rt, alloc, "aaa;", Kept::Refused)?;
     over_every_cut::<Optional>(&rt, alloc, "aaa;", Kept::Unseen)?;

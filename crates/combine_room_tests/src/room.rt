@@ -2,9 +2,9 @@
 ghost use Rattle.std.specs.Prelude.{ℕ, ◌+◌};
 
 use combine_base::error::UnexpectedParse;
-use combine_base::parser::{Answer, SessionError};
+use combine_base::parser::{Answer, Parser, Session, SessionError};
 use combine_base::repeat::Append;
-use combine_base::stream::Kind;
+use combine_base::stream::{Kind, fed};
 use std::alloc::{AllocError, Global};
 
 /// Counts values, at most N: it refuses the next growth.
@@ -50,6 +50,37 @@ impl<const N: usize> Counted for Room<N> {
 
 /// What a parser answers to an input that stands in pieces.
 pub type InPieces<T> = Result<Answer<T, UnexpectedParse>, SessionError>;
+
+/// What a session answers to these pieces, and then the end. Behind a fault every call must answer `Failed`; where one doesn't, this is `Closed`.
+pub fn in_session<P: Parser<fed::Stream<u8>> + Drop>(
+    alloc: Global,
+    parser: P,
+    pieces: &[&[u8]],
+) -> InPieces<P::Output>
+    requires { P.lawful parser }
+{
+    let mut session = Session::new(alloc, parser);
+    let mut answer = Ok(Answer::More);
+    for piece in pieces {
+        if matches!(answer, Ok(Answer::More)) {
+            answer = session.feed(piece);
+        }
+    }
+    if matches!(answer, Ok(Answer::More)) {
+        answer = session.end();
+    }
+    let has_failed = matches!(answer, Err(SessionError::Fault(_)));
+    if has_failed && !answers_failed(&mut session) {
+        return Err(SessionError::Closed);
+    }
+    answer
+}
+
+/// Whether every call of a session answers `Failed`.
+fn answers_failed<P: Parser<fed::Stream<u8>>>(session: &mut Session<P, u8>) -> bool {
+    matches!(session.feed(b"a"), Err(SessionError::Failed))
+        && matches!(session.end(), Err(SessionError::Failed))
+}
 
 /// What became of the values.
 #[derive(Clone, Copy, Debug, PartialEq)]

@@ -6,10 +6,12 @@ ghost use Rattle.combine_searches.specs.InBytes.{Finds, bytes_of, in_bytes, in_b
 use crate::find::{ByteTest, find_byte, find_bytes};
 use crate::search::{Searcher, TakeRange};
 use combine_base::stream::StreamOnce;
+use combine_errors::easy;
+use combine_errors::span::{self, SpannedError};
 use combine_stream::position::DefaultPositioned;
 use combine_stream::position::types::{Indexed, PlacedText};
 use combine_stream::range::{ByteRange, Range, RangeStream};
-use combine_stream::{MaybePartialStream, position};
+use combine_stream::{Faulty, MaybePartialStream, Unfailing, position};
 
 /// A stream whose ranges are bytes, some for each token. Our own: the crate asks for bytes of ranges alone.
 pub trait ByteStream: RangeStream
@@ -83,6 +85,41 @@ where
 }
 
 impl<S: ByteStream> ByteStream for MaybePartialStream<S>
+where
+    S::Range: ByteRange,
+{
+    ghost encoded = { S.encoded };
+
+    ghost sized = { S.sized };
+
+    ghost spelled = { S.spelled };
+}
+
+impl<S: ByteStream> ByteStream for easy::Stream<S>
+where
+    S::Token: PartialEq,
+    S::Range: ByteRange + PartialEq,
+{
+    ghost encoded = { S.encoded };
+
+    ghost sized = { S.sized };
+
+    ghost spelled = { S.spelled };
+}
+
+impl<S: ByteStream> ByteStream for span::Stream<S>
+where
+    S::Range: ByteRange,
+    S::Error: SpannedError<S::Token, S::Range, S::Position>,
+{
+    ghost encoded = { S.encoded };
+
+    ghost sized = { S.sized };
+
+    ghost spelled = { S.spelled };
+}
+
+impl<S: Unfailing + ByteStream> ByteStream for Faulty<S>
 where
     S::Range: ByteRange,
 {

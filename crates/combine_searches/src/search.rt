@@ -63,7 +63,8 @@ where
 }
 
 /// What stands before the place that a search finds. The state is the number of items that need not be searched again.
-#[derive(Clone, Drop)]
+#[derive(Drop)]
+#[derive_where(Clone; S)]
 pub struct Searching<Input, S> {
     pub(crate) searcher: S,
     pub(crate) reads: PhantomData<Input>,

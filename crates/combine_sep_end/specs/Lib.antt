@@ -10,6 +10,7 @@ pub use Rattle.combine_base.specs.Stream.Calls
 pub use Rattle.combine_base.specs.Stream.View
 pub use Rattle.combine_turns.specs.Bounded
 pub use Rattle.combine_turns.specs.Counts
+pub use Rattle.combine_turns.specs.Sound
 pub use Rattle.combine_turns.specs.Turn
 pub use Rattle.combine_turns.specs.Turns
 pub use Rattle.combine_separated.specs.Elements

@@ -8,6 +8,8 @@ ghost use Rattle.combine_separated.specs.Placed.{Ran};
 ghost use Rattle.combine_separated.specs.Separated.{first_then, later_kept, later_turn, separated_default, separated_valid, then_is_turn};
 ghost use Rattle.combine_sep_end.specs.Ended.{closer_of, ended_once, ended_part, is_none, last, some_more, some_of, within};
 ghost use Rattle.combine_token.specs.Optional.{optional, optional_is_meaning};
+ghost use Rattle.combine_turns.specs.Sound.{any_sound};
+ghost use Rattle.combine_turns.specs.Turn.{gives_any};
 
 use combine_base::error::{ParseResult, Tracked};
 use combine_base::parser::{FirstMode, ParseMode, Parser};
@@ -45,7 +47,9 @@ impl<A: Drop, F: Append<A>> Gather<Option<A>> for EachSome<F> {
 
     ghost more = { some_more (λ h a i. i ≡ F.more h a) };
 
-    ghost able = { Unit {0} };
+    ghost able = { λ _. Unit {0} };
+
+    ghost sound = { λ _. Unit {0} };
 
     ghost lean = { F.lean };
 
@@ -72,6 +76,8 @@ impl<A: Drop, F: Append<A>> Gather<Option<A>> for EachSome<F> {
             None => Ok(into),
         }
     }
+
+    ghost keeps_sound = { any_sound };
 }
 
 impl<A: Drop, F: Append<A>> Starts<Option<A>> for EachSome<F> {
@@ -171,6 +177,8 @@ impl<Input: Stream, P: Parser<Input>, S: Parser<Input>> Turn<Input> for Ended<P,
 
     ghost ending = { is_none };
 
+    ghost gives = { λ _. Unit {0} };
+
     #[inline(always)]
     fn parse_turn<M: ParseMode>(
         &mut self,
@@ -225,4 +233,6 @@ impl<Input: Stream, P: Parser<Input>, S: Parser<Input>> Turn<Input> for Ended<P,
     ghost laws = { λ p l. then_is_turn some_of last (P.laws (ended_part p) l.1) (pair_is_meaning Input.step (S.laws (closer_of p) l.0) (optional_is_meaning _ P.valid (P.meaning (ended_part p)) (P.laws (ended_part p) l.1))) };
 
     ghost once = { λ p l d. ended_once Input.step P.valid S.valid (P.meaning (ended_part p)) (S.meaning (closer_of p)) (P.single (ended_part p) l.1 d.1) (S.single (closer_of p) l.0 d.0) };
+
+    ghost gives_only = { λ p l. gives_any };
 }

@@ -1,3 +1,4 @@
 pub mod Placing
+pub mod Leading
 pub mod Separating
 pub mod ElementThenTurns

@@ -1,7 +1,9 @@
 pub use Rattle.combine_base.specs.Parser.Answer
+pub use Rattle.combine_base.specs.Parser.Given
 pub use Rattle.combine_base.specs.Parser.Meaning
 pub use Rattle.combine_base.specs.Parser.Outcome
 pub use Rattle.combine_base.specs.Refusals
+pub use Rattle.combine_base.specs.Sequence.Joined
 pub use Rattle.combine_base.specs.Sequence.Parts
 pub use Rattle.combine_base.specs.Sequence.Followed
 pub use Rattle.combine_base.specs.Sequence.Places
@@ -12,11 +14,13 @@ pub use Rattle.combine_base.specs.Stream.View
 pub use Rattle.combine_turns.specs.Bounded
 pub use Rattle.combine_turns.specs.Counts
 pub use Rattle.combine_turns.specs.OneThenTurns
+pub use Rattle.combine_turns.specs.Sound
 pub use Rattle.combine_turns.specs.Turn
 pub use Rattle.combine_turns.specs.Turns
 pub mod Placed
 pub mod Pair
 pub mod Separated
+pub mod Leads
 pub mod Elements
 pub mod JoinedLaws
 pub mod SeparatedParsers

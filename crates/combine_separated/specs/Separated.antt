@@ -16,10 +16,10 @@ use Rattle.combine_separated.specs.declared.separated.Element.{Element}
 use Rattle.combine_separated.specs.declared.separated.Element.TheVariants.{First, Then}
 use Rattle.combine_separated.specs.declared.separated.Separated.{Separated}
 
-abbrev pub part_of : {X Y : Type 0} → Separated X Y → X
+abbrev pub part_of : {X Y K : Type 0} → Separated X Y K → X
 part_of p = p.parser
 
-abbrev pub separator_of : {X Y : Type 0} → Separated X Y → Y
+abbrev pub separator_of : {X Y K : Type 0} → Separated X Y K → Y
 separator_of p = p.separator
 
 -- the first element, and a later one with what its separator gave
@@ -28,6 +28,15 @@ first_element v = First v
 
 abbrev pub then_element : {O V : Type 0} → O × V → Element O V
 then_element t = Then t.0 t.1
+
+-- nothing is asked of what a separator gives
+abbrev pub any_lead : {O : Type 0} → O → Type 0
+any_lead o = Unit {0}
+
+-- what the separator of a later element gave is good
+abbrev pub lead_good : {O V : Type 0} → (O → Type 0) → Element O V → Type 0
+lead_good good (First v) = Unit {0}
+lead_good good (Then o v) = good o
 
 -- the first part runs, or a later separator and part
 abbrev pub turn_place : {O W U : Type 0} → SeparatedState O W U → TurnPlace U (PairState O W U)

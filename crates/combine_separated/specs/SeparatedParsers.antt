@@ -7,16 +7,16 @@ use Rattle.combine_separated.specs.declared.repeat.types.SepBy1.{SepBy1}
 use Rattle.combine_separated.specs.declared.repeat.types.Chainl1.{Chainl1}
 
 abbrev pub sep_count_min_max_of : {F P S : Type 0} → Global → ℕ → ℕ → P → S → SepCountMinMax F P S
-sep_count_min_max_of alloc least most parser separator = record { alloc = alloc; least = least; most = most; turn = record { parser = parser; separator = separator }; collects = record {} }
+sep_count_min_max_of alloc least most parser separator = record { alloc = alloc; least = least; most = most; turn = record { parser = parser; separator = separator; asks = record {} }; collects = record {} }
 
 abbrev pub sep_by_of : {F P S : Type 0} → Global → P → S → SepBy F P S
-sep_by_of alloc parser separator = record { alloc = alloc; turn = record { parser = parser; separator = separator }; collects = record {} }
+sep_by_of alloc parser separator = record { alloc = alloc; turn = record { parser = parser; separator = separator; asks = record {} }; collects = record {} }
 
 abbrev pub sep_by1_of : {F P S : Type 0} → Global → P → S → SepBy1 F P S
-sep_by1_of alloc parser separator = record { alloc = alloc; turn = record { parser = parser; separator = separator }; collects = record {} }
+sep_by1_of alloc parser separator = record { alloc = alloc; turn = record { parser = parser; separator = separator; asks = record {} }; collects = record {} }
 
 abbrev pub chainl1_of : {P S : Type 0} → P → S → Chainl1 P S
-chainl1_of parser operator = record { 0 = record { parser = parser; separator = operator } }
+chainl1_of parser operator = record { 0 = record { parser = parser; separator = operator; asks = record {} } }
 
 abbrev pub least_of : {F P S : Type 0} → SepCountMinMax F P S → ℕ
 least_of p = p.least

@@ -1,6 +1,8 @@
 //! How elements are gathered: each appended, or folded from the left.
 ghost use Rattle.std.specs.Prelude.{◌≡◌};
 ghost use Rattle.combine_separated.specs.Elements.{each_element, folds};
+ghost use Rattle.combine_separated.specs.Separated.{lead_good};
+ghost use Rattle.combine_turns.specs.Sound.{any_sound};
 
 use crate::separated::Element;
 use combine_base::repeat::Append;
@@ -25,7 +27,9 @@ impl<O: Drop, A: Drop, F: Append<A>> Gather<Element<O, A>> for EachElement<F> {
 
     ghost more = { each_element (λ h a i. i ≡ F.more h a) };
 
-    ghost able = { Unit {0} };
+    ghost able = { λ _. Unit {0} };
+
+    ghost sound = { λ _. Unit {0} };
 
     ghost lean = { F.lean };
 
@@ -58,6 +62,8 @@ impl<O: Drop, A: Drop, F: Append<A>> Gather<Element<O, A>> for EachElement<F> {
             }
         }
     }
+
+    ghost keeps_sound = { any_sound };
 }
 
 impl<O: Drop, A: Drop, F: Append<A>> Starts<Element<O, A>> for EachElement<F> {
@@ -86,7 +92,9 @@ impl<V: Drop, O: FnOnce(V, V) -> V + Drop> Gather<Element<O, V>> for Folded<V> {
 
     ghost more = { folds (λ f x y r. O.post f x y r) };
 
-    ghost able = { (f : O) → O.IsAlwaysCallable f };
+    ghost able = { lead_good (λ f. O.IsAlwaysCallable f) };
+
+    ghost sound = { λ _. Unit {0} };
 
     ghost lean = { Unit {0} };
 
@@ -105,4 +113,6 @@ impl<V: Drop, O: FnOnce(V, V) -> V + Drop> Gather<Element<O, V>> for Folded<V> {
             Element::Then(operator, right) => Ok(operator(into, right)),
         }
     }
+
+    ghost keeps_sound = { any_sound };
 }

@@ -5,7 +5,7 @@ ghost use Rattle.std.specs.Prelude.{◌≡◌, true};
 ghost use Rattle.combine_base.specs.Parser.Meaning.{MeansSame};
 ghost use Rattle.combine_base.specs.Sequence.Followed.{Follows};
 ghost use Rattle.combine_base.specs.Sequence.Parts.{CalledLast, CalledRest};
-ghost use Rattle.combine_separated.specs.Pair.{pair_begins, pair_place, pair_valid, put_to};
+ghost use Rattle.combine_separated.specs.Pair.{LedBy, pair_begins, pair_place, pair_valid, put_to};
 
 use combine_base::error::ParseResult;
 use combine_base::parser::{Calls, Outputs, ParseMode, Parser};
@@ -52,6 +52,7 @@ pub fn parse_pair<Input: Stream, S: Parser<Input>, P: Parser<Input>, M: ParseMod
     ensures lawful { S.lawful separator.new × P.lawful part.new }
     ensures parts { MeansSame (S.meaning separator.old) (S.meaning separator.new) × MeansSame (P.meaning part.old) (P.meaning part.new) }
     ensures called { Follows pair_place put_to Input.StreamOnce Input.Error.seen S.PartialState.is_default S.valid P.Parser (S.meaning separator.old) (S.meaning separator.new) part.old part.new input.old input.new from state.new result }
+    ensures led { LedBy (S.meaning separator.old) from state.new }
 {
     match from {
         PairState::Separator(kept) => {

@@ -34,7 +34,11 @@ pub fn sep_count_min_max<F, P, S>(
         alloc,
         least: min,
         most: max,
-        turn: Separated { parser, separator },
+        turn: Separated {
+            parser,
+            separator,
+            asks: PhantomData,
+        },
         collects: PhantomData,
     }
 }
@@ -46,7 +50,11 @@ pub fn sep_by<F, P, S>(alloc: Global, parser: P, separator: S) -> SepBy<F, P, S>
 {
     SepBy {
         alloc,
-        turn: Separated { parser, separator },
+        turn: Separated {
+            parser,
+            separator,
+            asks: PhantomData,
+        },
         collects: PhantomData,
     }
 }
@@ -58,7 +66,11 @@ pub fn sep_by1<F, P, S>(alloc: Global, parser: P, separator: S) -> SepBy1<F, P, 
 {
     SepBy1 {
         alloc,
-        turn: Separated { parser, separator },
+        turn: Separated {
+            parser,
+            separator,
+            asks: PhantomData,
+        },
         collects: PhantomData,
     }
 }
@@ -73,5 +85,6 @@ pub fn chainl1<P, S>(parser: P, operator: S) -> Chainl1<P, S>
     Chainl1(Separated {
         parser,
         separator: operator,
+        asks: PhantomData,
     })
 }

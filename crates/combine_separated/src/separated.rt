@@ -1,17 +1,20 @@
 //! What runs in each turn: a part, and later a separator and the part.
 ghost use Rattle.std.specs.Prelude.{◌≡◌, false, true};
 ghost use Rattle.combine_base.specs.Parser.Answer.{world};
+ghost use Rattle.combine_base.specs.Parser.Given.{GivesOnly};
 ghost use Rattle.combine_base.specs.Parser.Meaning.{MeansSame};
 ghost use Rattle.combine_base.specs.Stream.Calls.{Passes};
-ghost use Rattle.combine_separated.specs.Pair.{pair, pair_begins, pair_is_meaning, pair_means_one, pair_valid};
+ghost use Rattle.combine_separated.specs.Pair.{LedBy, led_is_meaning, led_means_one, led_valid, pair, pair_begins, pair_is_meaning, pair_means_one, pair_valid};
+ghost use Rattle.combine_separated.specs.Leads.{separated_gives};
 ghost use Rattle.combine_separated.specs.Placed.{Ran};
-ghost use Rattle.combine_separated.specs.Separated.{first_element, first_then, later_kept, later_turn, part_of, separated_default, separated_fresh, separated_valid, separator_of, then_element, then_is_turn, then_once, turn_place};
+ghost use Rattle.combine_separated.specs.Separated.{first_element, first_then, later_kept, later_turn, lead_good, part_of, separated_default, separated_fresh, separated_valid, separator_of, then_element, then_is_turn, then_once, turn_place};
 
 use crate::pair::{PairState, PairStateOf, parse_pair};
 use combine_base::error::{ParseResult, Tracked};
 use combine_base::parser::{FirstMode, ParseMode, Parser};
 use combine_base::stream::{Stream, needs_more};
 use combine_turns::turns::Turn;
+use std::marker::PhantomData;
 use std::mem;
 
 /// What a turn gives: the first element, or what a separator gave and the element after it.
@@ -84,11 +87,48 @@ impl<O, W, U> SeparatedState<O, W, U> {
     }
 }
 
-/// A part, and later a separator and the part.
-#[derive(Clone, Copy, Drop)]
-pub struct Separated<P, S> {
+/// What is asked of each value that a separator gives, between values of this type.
+pub trait Leads<O, V> {
+    ghost good: { O → Type 0 };
+
+    /// Hands the value on. (A block with a bound on `FnOnce` needs a method, for now.)
+    fn hand_on(value: O) -> O
+        ensures { result ≡ value };
+}
+
+/// Nothing is asked of it.
+#[derive(Drop)]
+pub struct Anything;
+
+impl<O, V> Leads<O, V> for Anything {
+    ghost good = { λ _. Unit {0} };
+
+    #[inline(always)]
+    fn hand_on(value: O) -> O {
+        value
+    }
+}
+
+/// It is a function that can be called on any two operands.
+#[derive(Drop)]
+pub struct Operator;
+
+impl<O: FnOnce(V, V) -> V + Drop, V: Drop> Leads<O, V> for Operator {
+    ghost good = { λ f. O.IsAlwaysCallable f };
+
+    #[inline(always)]
+    fn hand_on(value: O) -> O {
+        value
+    }
+}
+
+/// A part, and later a separator and the part, where the separator gives what `L` asks for.
+#[derive(Drop)]
+#[derive_where(Clone, Copy; P, S)]
+pub struct Separated<P, S, L> {
     pub parser: P,
     pub separator: S,
+    pub asks: PhantomData<L>,
 }
 
 /// Runs the first part, from what is kept of it.
@@ -140,7 +180,7 @@ fn run_later<Input: Stream, P: Parser<Input>, S: Parser<Input>, M: ParseMode>(
     ensures parts { MeansSame (S.meaning separator.old) (S.meaning separator.new) × MeansSame (P.meaning parser.old) (P.meaning parser.new) }
     ensures same { MeansSame (pair Input.step (S.meaning separator.old) (P.meaning parser.old)) (pair Input.step (S.meaning separator.new) (P.meaning parser.new)) }
     ensures passes { Passes (Input.marks input.old) (Input.marks input.new) (Input.failures input.old) (Input.failures input.new) }
-    ensures ran { Ran (world Input.step Input.Error.seen Input.steady (pair_begins S.PartialState.is_default)) (pair Input.step (S.meaning separator.old) (P.meaning parser.old)) (pair_valid S.valid P.valid) then_element later_kept
+    ensures ran { Ran (world Input.step Input.Error.seen Input.steady (pair_begins S.PartialState.is_default)) (pair Input.step (S.meaning separator.old) (P.meaning parser.old)) (λ z. LedBy (S.meaning separator.old) kept z × pair_valid S.valid P.valid z) then_element later_kept
         false kept state.old state.new (Input.view input.old) (Input.view input.new) (Input.failures input.old) (Input.failures input.new) result }
 {
     let mut left = PairState::default();
@@ -164,22 +204,25 @@ fn run_later<Input: Stream, P: Parser<Input>, S: Parser<Input>, M: ParseMode>(
     }
 }
 
-impl<Input: Stream, P: Parser<Input>, S: Parser<Input>> Turn<Input> for Separated<P, S> {
+impl<Input: Stream, P: Parser<Input>, S: Parser<Input>, L: Leads<S::Output, P::Output>> Turn<Input>
+    for Separated<P, S, L> {
     type Value = Element<S::Output, P::Output>;
 
     type Running = SeparatedState<S::Output, S::PartialState, P::PartialState>;
 
-    ghost lawful = { λ p. S.lawful (separator_of p) × P.lawful (part_of p) };
+    ghost lawful = { λ p. GivesOnly S.valid (S.meaning (separator_of p)) L.good × S.lawful (separator_of p) × P.lawful (part_of p) };
 
     ghost determined = { λ p. S.determined (separator_of p) × P.determined (part_of p) };
 
-    ghost valid = { separated_valid P.valid (pair_valid S.valid P.valid) };
+    ghost valid = { separated_valid P.valid (led_valid L.good S.valid P.valid) };
 
     ghost meaning = { λ p. first_then first_element then_element (P.meaning (part_of p)) (pair Input.step (S.meaning (separator_of p)) (P.meaning (part_of p))) };
 
     ghost again = { λ p. later_turn then_element (pair Input.step (S.meaning (separator_of p)) (P.meaning (part_of p))) };
 
     ghost ending = { λ _. false };
+
+    ghost gives = { lead_good L.good };
 
     #[inline(always)]
     fn parse_turn<M: ParseMode>(
@@ -227,9 +270,11 @@ impl<Input: Stream, P: Parser<Input>, S: Parser<Input>> Turn<Input> for Separate
         false
     }
 
-    ghost default_valid = { λ s d. separated_default P.PartialState.is_default P.valid (pair_valid S.valid P.valid) P.default_valid s d };
+    ghost default_valid = { λ s d. separated_default P.PartialState.is_default P.valid (led_valid L.good S.valid P.valid) P.default_valid s d };
 
-    ghost laws = { λ p l. then_is_turn first_element then_element (P.laws (part_of p) l.1) (pair_is_meaning Input.step (S.laws (separator_of p) l.0) (P.laws (part_of p) l.1)) };
+    ghost laws = { λ p l. then_is_turn first_element then_element (P.laws (part_of p) l.2) (led_is_meaning L.good S.valid P.valid (pair_is_meaning Input.step (S.laws (separator_of p) l.1) (P.laws (part_of p) l.2))) };
 
-    ghost once = { λ p l d. then_once first_element then_element (P.single (part_of p) l.1 d.1) (pair_means_one Input.step (S.single (separator_of p) l.0 d.0) (P.single (part_of p) l.1 d.1)) };
+    ghost once = { λ p l d. then_once first_element then_element (P.single (part_of p) l.2 d.1) (led_means_one L.good S.valid P.valid (pair_means_one Input.step (S.single (separator_of p) l.1 d.0) (P.single (part_of p) l.2 d.1))) };
+
+    ghost gives_only = { λ p l. separated_gives Input.step P.valid (P.meaning (part_of p)) l.0 };
 }

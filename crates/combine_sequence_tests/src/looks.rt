@@ -1,10 +1,10 @@
 //! Look-ahead: a plain function for each parser whose calls begin again.
 
-use combine::error::UnexpectedParse;
+use combine::parser::char::string;
 use combine::parser::combinator::{look_ahead, no_partial, not_followed_by};
 use combine::parser::token::token;
-use combine::parser::{Answer, Parser, SessionError, parse_pieces};
-use combine_examples::answers::Parsed;
+use combine::parser::{Parser, parse_pieces};
+use combine_examples::answers::{InPieces, Parsed};
 use std::alloc::Global;
 
 /// An `a`, which is left there.
@@ -22,18 +22,24 @@ pub fn ab_at_once(input: &[u8]) -> Parsed<'_, (u8, u8)> {
     no_partial((token(b'a'), token(b'b'))).parse(input)
 }
 
-/// Anything but `ab`, of an input that stands in pieces.
-pub fn no_ab_in_pieces(
-    alloc: Global,
-    pieces: &[&[u8]],
-) -> Result<Answer<(), UnexpectedParse>, SessionError> {
-    parse_pieces(alloc, not_followed_by((token(b'a'), token(b'b'))), pieces)
+/// Anything but `let`, of an input that stands in pieces.
+pub fn no_let(alloc: Global, pieces: &[&[char]]) -> InPieces<()> {
+    parse_pieces(alloc, not_followed_by(string("let")), pieces)
+}
+
+/// `test`, which is left there, of an input that stands in pieces.
+pub fn test_ahead(alloc: Global, pieces: &[&[char]]) -> InPieces<&'static str> {
+    parse_pieces(alloc, look_ahead(string("test")), pieces)
 }
 
 #[cfg(test)]
 mod tests {
     use super::*;
+    use combine::error::UnexpectedParse;
+    use combine::parser::Answer;
     use combine::stream::Kind;
+    use combine_examples::cuts::{cut, sets_of_places};
+    use std::alloc::AllocError;
 
     const REFUSED: UnexpectedParse = UnexpectedParse(Kind::Refused);
 
@@ -48,18 +54,54 @@ mod tests {
         assert_eq!(rt; ab_at_once(b"ac"), Err(REFUSED));
     }
 
-    #[test]
-    fn of_pieces(rt: HostRuntime) {
-        let accepted = Answer::Accepted {
-            value: (),
+    /// Accepted, and nothing is taken.
+    fn accepted<V>(value: V) -> InPieces<V> {
+        Ok(Answer::Accepted {
+            value,
             taken: 0,
             committed: false,
-        };
-        let refused = Answer::Refused {
+        })
+    }
+
+    fn refused<V>(committed: bool) -> InPieces<V> {
+        Ok(Answer::Refused {
             error: REFUSED,
-            committed: false,
-        };
-        assert_eq!(rt; no_ab_in_pieces(rt.alloc(), &[b"a", b"c"]), Ok(accepted));
-        assert_eq!(rt; no_ab_in_pieces(rt.alloc(), &[b"a", b"b"]), Ok(refused));
+            committed,
+        })
+    }
+
+    #[test]
+    fn not_a_word_over_every_cut(rt: HostRuntime) -> Result<(), AllocError> {
+        let alloc = rt.alloc();
+        let rows: [(&[char], InPieces<()>); 4] = [
+            (&['l', 'e', 'x'], accepted(())),
+            (&['l', 'e'], accepted(())),
+            (&[], accepted(())),
+            (&['l', 'e', 't'], refused(false)),
+        ];
+        for (input, wanted) in rows {
+            for places in 0..sets_of_places(input) {
+                let pieces = cut(alloc, input, places)?;
+                assert_eq!(rt; no_let(alloc, pieces.as_slice()), wanted);
+            }
+        }
+        Ok(())
+    }
+
+    #[test]
+    fn a_word_ahead_over_every_cut(rt: HostRuntime) -> Result<(), AllocError> {
+        let alloc = rt.alloc();
+        let rows: [(&[char], InPieces<&'static str>); 3] = [
+            (&['t', 'e', 's', 't', ' ', 's', 't', 'r'], accepted("test")),
+            (&['t', 'e', 'x'], refused(true)),
+            (&['x'], refused(false)),
+        ];
+        for (input, wanted) in rows {
+            for places in 0..sets_of_places(input) {
+                let pieces = cut(alloc, input, places)?;
+                assert_eq!(rt; test_ahead(alloc, pieces.as_slice()), wanted);
+            }
+        }
+        Ok(())
     }
 }

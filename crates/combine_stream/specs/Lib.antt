@@ -1,4 +1,5 @@
 pub mod Counted
+pub mod Failing
 pub mod Indices
 pub mod Lines
 pub mod MaybePartial

@@ -2,6 +2,7 @@ pub mod Turning
 pub mod TurnCalls
 pub mod OwnState
 pub mod Judging
+pub mod Sounding
 pub mod Repeating
 pub mod Beginning
 pub mod Plain

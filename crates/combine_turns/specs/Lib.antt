@@ -1,5 +1,6 @@
 pub use Rattle.combine_base.specs.Stream.Advance
 pub use Rattle.combine_base.specs.Parser.Answer
+pub use Rattle.combine_base.specs.Parser.Given
 pub use Rattle.combine_base.specs.Parser.Mapped
 pub use Rattle.combine_base.specs.Parser.Meaning
 pub use Rattle.combine_base.specs.Parser.Outcome
@@ -10,6 +11,7 @@ pub use Rattle.combine_base.specs.Stream.View
 pub mod Turns
 pub mod TurnLaws
 pub mod Turn
+pub mod Sound
 pub mod Bounded
 pub mod OneTurn
 pub mod BoundedLaws

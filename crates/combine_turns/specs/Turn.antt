@@ -1,6 +1,7 @@
 -- what runs in a turn: a first one, and later ones, which may differ from it
 use Rattle.std.specs.Prelude.{ℕ, ◌≡◌, Bool, true, false, ◌↔◌, refl}
 use Rattle.combine_base.specs.Stream.View.{View}
+use Rattle.combine_base.specs.Parser.Given.{GivesOnly, ReadsOnly}
 use Rattle.combine_base.specs.Parser.Outcome.{Outcome, Accepted, shape}
 use Rattle.combine_base.specs.Parser.Meaning.{Meaning, Reading, IsReading, IsSingle, IsMeaning, MeansOne, MeansSame}
 
@@ -20,6 +21,18 @@ module _ {P T R A S : Type 0} where
   pub record TurnsSame (m : Meaning P T R A S) (again : Reading P T A) (m' : Meaning P T R A S) (again' : Reading P T A) : Type 0 where
     pub meaning : MeansSame m m'
     pub later : (v : View P T) (o : Outcome A) → again v o ↔ again' v o
+
+-- each value that a turn gives is good: from the start, as the first turn or a later one, and from each valid state
+pub record TurnsGive {P T R A S : Type 0} (valid : S → Type 0) (m : Meaning P T R A S) (again : Reading P T A) (good : A → Type 0) : Type 0 where
+  pub first : GivesOnly valid m good
+  pub later : ReadsOnly again good
+
+-- where nothing is asked of values, they may be any
+pub gives_any : {P T R A S : Type 0} {valid : S → Type 0} {m : Meaning P T R A S} {again : Reading P T A} → TurnsGive valid m again (λ _. Unit {0})
+gives_any = record {
+  first = record { whole = record { one = λ v a n c w. tt }; rest = λ s k. record { one = λ v a n c w. tt } };
+  later = record { one = λ v a n c w. tt };
+}
 
 -- one outcome but for its value, and all values that it may have end the turns, or none of them
 pub record EndsOnce {P T A : Type 0} (ending : A → Bool) (r : Reading P T A) : Type 0 where

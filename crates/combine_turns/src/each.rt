@@ -1,6 +1,7 @@
 //! The same parser in each turn, and each value appended or dropped.
 ghost use Rattle.std.specs.Prelude.{◌≡◌, false};
-ghost use Rattle.combine_turns.specs.Turn.{plain_is_turn, plain_once};
+ghost use Rattle.combine_turns.specs.Sound.{any_sound};
+ghost use Rattle.combine_turns.specs.Turn.{gives_any, plain_is_turn, plain_once};
 ghost use Rattle.combine_turns.specs.Plain.{plain_parser};
 
 use crate::turns::{Gather, Starts, Turn};
@@ -32,6 +33,8 @@ impl<Input: Stream, P: Parser<Input>> Turn<Input> for Plain<P> {
 
     ghost ending = { λ _. false };
 
+    ghost gives = { λ _. Unit {0} };
+
     #[inline(always)]
     fn parse_turn<M: ParseMode>(
         &mut self,
@@ -57,6 +60,8 @@ impl<Input: Stream, P: Parser<Input>> Turn<Input> for Plain<P> {
     ghost laws = { λ p l. plain_is_turn (P.laws (plain_parser p) l) };
 
     ghost once = { λ p l d. plain_once (P.single (plain_parser p) l d) };
+
+    ghost gives_only = { λ p l. gives_any };
 }
 
 /// Each value is appended.
@@ -76,7 +81,9 @@ impl<A: Drop, F: Append<A>> Gather<A> for Each<F> {
 
     ghost more = { λ h a i. i ≡ F.more h a };
 
-    ghost able = { Unit {0} };
+    ghost able = { λ _. Unit {0} };
+
+    ghost sound = { λ _. Unit {0} };
 
     ghost lean = { F.lean };
 
@@ -93,6 +100,8 @@ impl<A: Drop, F: Append<A>> Gather<A> for Each<F> {
         into.append(value)?;
         Ok(into)
     }
+
+    ghost keeps_sound = { any_sound };
 }
 
 impl<A: Drop, F: Append<A>> Starts<A> for Each<F> {
@@ -119,7 +128,9 @@ impl<A: Drop> Gather<A> for Dropped {
 
     ghost more = { λ _ _ i. i ≡ tt };
 
-    ghost able = { Unit {0} };
+    ghost able = { λ _. Unit {0} };
+
+    ghost sound = { λ _. Unit {0} };
 
     ghost lean = { Unit {0} };
 
@@ -132,4 +143,6 @@ impl<A: Drop> Gather<A> for Dropped {
     fn gather(into: (), value: A) -> Result<(), AllocError> {
         Ok(())
     }
+
+    ghost keeps_sound = { any_sound };
 }

@@ -7,7 +7,8 @@ ghost use Rattle.combine_base.specs.Refusals.{Told};
 ghost use Rattle.combine_base.specs.Sequence.Parts.{accepted_as, refused_as};
 ghost use Rattle.std.specs.Prelude.{None};
 ghost use Rattle.combine_turns.specs.FirstTurn.{FirstTurn};
-ghost use Rattle.combine_turns.specs.OneTurn.{IsGathered, OneTurn, Ran, halted, stopped_answer, stopped_state, then_left};
+ghost use Rattle.combine_turns.specs.OneTurn.{IsGathered, IsJudged, OneTurn, Ran, halted, stopped_answer, stopped_state, then_left};
+ghost use Rattle.combine_turns.specs.Sound.{LeavesSound, kept_sound};
 ghost use Rattle.combine_turns.specs.Turn.{TurnsSame, called};
 ghost use Rattle.combine_turns.specs.Bounded.{gathered, cut_at, counted, fresh_turns, kept_or, none_yet, running_turn, so_far, turns_from};
 ghost use Rattle.combine_base.specs.declared.error.ParseResult.TheVariants.{PeekErr};
@@ -30,7 +31,7 @@ pub trait Turn<Input: Stream> {
     ghost use Rattle.combine_base.specs.Parser.Answer.{Answers, world};
     ghost use Rattle.combine_base.specs.Error.Errors.{Says};
     ghost use Rattle.combine_base.specs.Stream.Calls.{Passes};
-    ghost use Rattle.combine_turns.specs.Turn.{TurnsSame, TurnsOnce, IsTurn, called};
+    ghost use Rattle.combine_turns.specs.Turn.{TurnsSame, TurnsOnce, TurnsGive, IsTurn, called};
 
     /// What a turn gives.
     type Value: Drop;
@@ -52,6 +53,9 @@ pub trait Turn<Input: Stream> {
 
     /// The values that end the turns.
     ghost ending: { Self.Value → Bool };
+
+    /// What holds of each value that a turn gives.
+    ghost gives: { Self.Value → Type 0 };
 
     fn parse_turn<M: ParseMode>(
         &mut self,
@@ -88,11 +92,14 @@ pub trait Turn<Input: Stream> {
     ghost laws: { (p : Self) → lawful p → IsTurn Self.Running.is_default valid (meaning p) (again p) };
 
     ghost once: { (p : Self) → lawful p → determined p → TurnsOnce valid ending (meaning p) (again p) };
+
+    ghost gives_only: { (p : Self) → lawful p → TurnsGive valid (meaning p) (again p) gives };
 }
 
 /// How what turns give is gathered.
 pub trait Gather<A> {
     ghost use Rattle.std.specs.Prelude.{◌≡◌, MatchResult};
+    ghost use Rattle.combine_turns.specs.Sound.{KeepsSound};
 
     /// What it is gathered into.
     type Into: Drop;
@@ -110,8 +117,11 @@ pub trait Gather<A> {
     /// What is held after one more value.
     ghost more: { Held → A → Held → Type 0 };
 
-    /// What gathering needs of a caller's functions.
-    ghost able: { Type 0 };
+    /// What gathering needs of a value, as that a function can be called.
+    ghost able: { A → Type 0 };
+
+    /// What is known of what is held, where each value of it met that need.
+    ghost sound: { Held → Type 0 };
 
     /// Holds where it takes no memory.
     ghost lean: { Type 0 };
@@ -121,8 +131,10 @@ pub trait Gather<A> {
         ensures { MatchResult result (λ i. more none value (held i)) (λ _. lean → ⊥) };
 
     fn gather(into: Self::Into, value: A) -> Result<Self::Into, AllocError>
-        requires { able }
+        requires { able value }
         ensures { MatchResult result (λ i. more (held into) value (held i)) (λ _. lean → ⊥) };
+
+    ghost keeps_sound: { KeepsSound none more able sound };
 }
 
 /// A gathering that may hold nothing.
@@ -436,7 +448,7 @@ fn gather_turn<A, G: Gather<A>>(
     value: A,
     limit: usize,
 ) -> Result<Turns<G::Into>, AllocError>
-    requires { G.able }
+    requires { G.able value }
     ensures { MatchResult result (λ n. IsGathered G.held G.more turns value limit n) (λ _. G.lean → ⊥) }
 {
     let Turns {
@@ -484,7 +496,14 @@ fn judge_refusal<G: Gather<P::Value>, Input: Stream, P: Turn<Input>, B: Bounded>
     Stop::Refused(turns, Tracked::from(error))
 }
 
-/// What a turn does that answers so, the stream having stood at that checkpoint and position where it began.
+/// What a turn's answer is for the turns.
+pub enum Verdict<F, A, E> {
+    /// A block, whose value is to be gathered.
+    Block(Turns<F>, A),
+    Stops(Stop<F, E>),
+}
+
+/// What a turn is for the turns that answers so, the stream having stood at that checkpoint and position where it began.
 #[inline(always)]
 fn judge_turn<G: Gather<P::Value>, Input: Stream, P: Turn<Input>, B: Bounded>(
     bounds: B,
@@ -493,41 +512,37 @@ fn judge_turn<G: Gather<P::Value>, Input: Stream, P: Turn<Input>, B: Bounded>(
     position: Input::Position,
     answer: ParseResult<P::Value, Input::Error>,
     input: &mut Input,
-) -> Step<G::Into, Input::Error>
-    requires able { G.able }
+) -> Verdict<G::Into, P::Value, Input::Error>
     ensures passes { Passes (Input.marks input.old) (Input.marks input.new) (Input.failures input.old) (Input.failures input.new) }
-    ensures turned { (p : P) (later : Bool)
+    ensures judged { (p : P) (later : Bool)
         (r : Run Input.Position Input.Token P.Running) → Ran (Input.stands input.old since) (Input.view input.old) (Input.failures input.old) r →
         Answers (world Input.step Input.Error.seen Input.steady P.Running.is_default) (called (P.meaning p) (P.again p) later) r answer →
-        OneTurn (world Input.step Input.Error.seen Input.steady P.Running.is_default) (B.bounds bounds) P.ending (gathered G.held G.none G.more G.lean) (called (P.meaning p) (P.again p) later)
+        IsJudged (world Input.step Input.Error.seen Input.steady P.Running.is_default) (B.bounds bounds) P.ending (gathered G.held G.none G.more G.lean) (called (P.meaning p) (P.again p) later)
         (then_left r (Input.view input.new) (Input.failures input.new)) turns result }
 {
     let (value, committed) = match answer {
         ParseResult::CommitOk(value) => (value, true),
         ParseResult::PeekOk(value) => (value, false),
         ParseResult::PeekErr(refusal) => {
-            return Step::Stops(judge_refusal::<G, Input, P, B>(
+            return Verdict::Stops(judge_refusal::<G, Input, P, B>(
                 bounds, turns, since, position, refusal, input,
             ));
         }
         ParseResult::CommitErr(error) => {
             if needs_more(input, &error) {
-                return Step::Stops(Stop::More(turns.cut(since, input), error));
+                return Verdict::Stops(Stop::More(turns.cut(since, input), error));
             }
-            return Step::Stops(Stop::Failed(error));
+            return Verdict::Stops(Stop::Failed(error));
         }
     };
     if P::ends(&value) {
-        return Step::Stops(Stop::Over(turns.joined(committed)));
+        return Verdict::Stops(Stop::Over(turns.joined(committed)));
     }
     if !bounds.goes(turns.place, committed, since, input) {
         let error = refusal_saying(input, position, "repetition takes nothing");
-        return Step::Stops(Stop::Failed(error));
+        return Verdict::Stops(Stop::Failed(error));
     }
-    match gather_turn::<P::Value, G>(turns.joined(committed), value, bounds.limit()) {
-        Ok(turns) => Step::Goes(turns),
-        Err(_refused) => Step::Stops(Stop::Failed(input.new_error(Kind::Memory, position))),
-    }
+    Verdict::Block(turns.joined(committed), value)
 }
 
 /// One turn that begins afresh.
@@ -540,7 +555,7 @@ fn one_turn<G: Gather<P::Value>, Input: Stream, P: Turn<Input>, B: Bounded>(
     input: &mut Input,
     running: &mut P::Running,
 ) -> Step<G::Into, Input::Error>
-    requires able { G.able }
+    requires able { (a : P.Value) → P.gives a → G.able a }
     requires lawful { P.lawful parser.old }
     requires valid { P.valid running.old }
     requires fresh { P.Running.is_default running.old }
@@ -556,7 +571,17 @@ fn one_turn<G: Gather<P::Value>, Input: Stream, P: Turn<Input>, B: Bounded>(
     let since = input.checkpoint();
     let position = input.position();
     let answer = begin_turn(parser, later, input, running);
-    judge_turn::<G, Input, P, B>(bounds, turns, since, position, answer, input)
+    match judge_turn::<G, Input, P, B>(bounds, turns, since, position, answer, input) {
+        Verdict::Block(turns, value) => {
+            match gather_turn::<P::Value, G>(turns, value, bounds.limit()) {
+                Ok(turns) => Step::Goes(turns),
+                Err(_refused) => {
+                    Step::Stops(Stop::Failed(input.new_error(Kind::Memory, position)))
+                }
+            }
+        }
+        Verdict::Stops(why) => Step::Stops(why),
+    }
 }
 
 /// As `one_turn`, for a call that may resume.
@@ -569,7 +594,7 @@ fn resume_turn<G: Gather<P::Value>, Input: Stream, P: Turn<Input>, B: Bounded, M
     input: &mut Input,
     running: &mut P::Running,
 ) -> Step<G::Into, Input::Error>
-    requires able { G.able }
+    requires able { (a : P.Value) → P.gives a → G.able a }
     requires lawful { P.lawful parser.old }
     requires valid { P.valid running.old }
     requires fresh { M.first mode ≡ true → P.Running.is_default running.old }
@@ -585,7 +610,17 @@ fn resume_turn<G: Gather<P::Value>, Input: Stream, P: Turn<Input>, B: Bounded, M
     let since = input.checkpoint();
     let position = input.position();
     let answer = parser.parse_turn(false, mode, input, running);
-    judge_turn::<G, Input, P, B>(bounds, turns, since, position, answer, input)
+    match judge_turn::<G, Input, P, B>(bounds, turns, since, position, answer, input) {
+        Verdict::Block(turns, value) => {
+            match gather_turn::<P::Value, G>(turns, value, bounds.limit()) {
+                Ok(turns) => Step::Goes(turns),
+                Err(_refused) => {
+                    Step::Stops(Stop::Failed(input.new_error(Kind::Memory, position)))
+                }
+            }
+        }
+        Verdict::Stops(why) => Step::Stops(why),
+    }
 }
 
 /// What the first turn did, where it makes what is gathered.
@@ -675,7 +710,7 @@ pub fn take_turns<G: Gather<P::Value>, Input: Stream, P: Turn<Input>, M: ParseMo
     input: &mut Input,
     state: &mut TurnsState<G::Into, P::Running>,
 ) -> ParseResult<G::Into, Input::Error>
-    requires able { G.able }
+    requires able { (a : P.Value) → P.gives a → G.able a }
     requires lawful { P.lawful parser.old }
     requires valid { P.valid (running_turn state.old) }
     ensures lawful { P.lawful parser.new }
@@ -732,12 +767,14 @@ pub fn take_joined<G: Gather<P::Value>, Input: Stream, P: Turn<Input>, M: ParseM
     input: &mut Input,
     state: &mut TurnsState<G::Into, P::Running>,
 ) -> ParseResult<G::Into, Input::Error>
-    requires able { G.able }
+    requires able { (a : P.Value) → P.gives a → G.able a }
+    requires sound { kept_sound (λ i. G.sound (G.held i)) state.old }
     requires never { (a : P.Value) → P.ending a ≡ false }
     requires lawful { P.lawful parser.old }
     requires valid { P.valid (running_turn state.old) }
     ensures lawful { P.lawful parser.new }
     ensures valid { P.valid (running_turn state.new) }
+    ensures sound { LeavesSound (λ i. G.sound (G.held i)) state.new result }
     ensures same { TurnsSame (P.meaning parser.old) (P.again parser.old) (P.meaning parser.new) (P.again parser.new) }
     ensures passes { Passes (Input.marks input.old) (Input.marks input.new) (Input.failures input.old) (Input.failures input.new) }
     ensures answers { Answers (world Input.step Input.Error.seen Input.steady (fresh_turns P.Running.is_default))

@@ -16,6 +16,7 @@ pub use Rattle.combine_turns.specs.Turns
 pub mod Until
 pub mod UntilLaws
 pub mod UntilTurn
+pub mod Mute
 pub mod Next
 pub mod UntilParsers
 pub mod UntilCompared

@@ -17,18 +17,18 @@ use combine_map::combinator::ignore;
 use combine_token::token::any;
 use std::alloc::Global;
 use std::marker::PhantomData;
-use types::{RepeatUntil, SkipRepeatUntil, SkipUntil, Skips, TakeUntil};
+use types::{BlocksUntil, Mute, RepeatUntil, SkipRepeatUntil, SkipUntil, Skips, TakeUntil};
 
 /// Blocks of `parser` up to the first place where `end` isn't refused peeked, their values collected in order.
 ///
-/// A block that takes nothing is refused, committed, with the message `repetition takes nothing`, at the position where it began. A refusal of `parser` is the answer, and says what was expected there. What is added to an error is what `end` adds, and then what `parser` does.
+/// A block that takes nothing is refused, committed, with the message `repetition takes nothing`, at the position where it began. A refusal of `parser` is the answer, and says what was expected there. What is added to an error is what `parser` adds.
 #[inline]
 pub fn repeat_until<F, A, P, E>(alloc: Global, parser: P, end: E) -> RepeatUntil<F, A, P, E>
     ensures { result ≡ repeat_until_of alloc parser end }
 {
-    RepeatUntil {
+    BlocksUntil {
         alloc,
-        turn: Next::new(parser, end),
+        turn: Next::new(parser, Mute::new(end)),
         collects: PhantomData,
     }
 }
@@ -39,7 +39,7 @@ pub fn repeat_skip_until<A, P, E>(parser: P, end: E) -> SkipRepeatUntil<A, P, E>
     ensures { result ≡ repeat_skip_until_of parser end }
 {
     ignore(Skips {
-        turn: Next::new(parser, end),
+        turn: Next::new(parser, Mute::new(end)),
     })
 }
 
@@ -50,7 +50,11 @@ pub fn repeat_skip_until<A, P, E>(parser: P, end: E) -> SkipRepeatUntil<A, P, E>
 pub fn take_until<F, Input, T, E>(alloc: Global, end: E) -> TakeUntil<F, Input, T, E>
     ensures { result ≡ take_until_of alloc end }
 {
-    repeat_until(alloc, any(), end)
+    BlocksUntil {
+        alloc,
+        turn: Next::new(any(), end),
+        collects: PhantomData,
+    }
 }
 
 /// As `take_until`, with the tokens dropped.
@@ -58,5 +62,7 @@ pub fn take_until<F, Input, T, E>(alloc: Global, end: E) -> TakeUntil<F, Input, 
 pub fn skip_until<Input, T, E>(end: E) -> SkipUntil<Input, T, E>
     ensures { result ≡ skip_until_of end }
 {
-    repeat_skip_until(any(), end)
+    ignore(Skips {
+        turn: Next::new(any(), end),
+    })
 }

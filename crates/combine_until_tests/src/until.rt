@@ -3,7 +3,8 @@ use combine_base::error::{ParseResult, UnexpectedParse};
 use combine_base::parser::{Answer, Parser, Session, SessionError, parse_pieces};
 use combine_base::stream::{Kind, fed};
 use combine_map::combinator::attempt;
-use combine_token::token::{satisfy, token};
+use combine_text::byte::bytes;
+use combine_token::token::{satisfy, token, value};
 use combine_until::repeat::{repeat_skip_until, repeat_until, skip_until, take_until};
 use std::alloc::{AllocError, Global};
 use std::process::Abort;
@@ -44,14 +45,29 @@ fn up_to_a_semicolon(alloc: Global, pieces: &[&[u8]]) -> Answered<Vec<u8>> {
 
 /// The bytes before the first `T`, which has to be that of `TAG`.
 fn up_to_tag(alloc: Global, pieces: &[&[u8]]) -> Answered<Vec<u8>> {
-    let tag = (token(b'T'), token(b'A'), token(b'G'));
+    let tag = bytes(b"TAG");
     parse_pieces(alloc, take_until::<Vec<u8>, _, _, _>(alloc, tag), pieces)
 }
 
 /// The bytes before `TAG`.
 fn up_to_whole_tag(alloc: Global, pieces: &[&[u8]]) -> Answered<Vec<u8>> {
-    let tag = attempt((token(b'T'), token(b'A'), token(b'G')));
+    let tag = attempt(bytes(b"TAG"));
     parse_pieces(alloc, take_until::<Vec<u8>, _, _, _>(alloc, tag), pieces)
+}
+
+/// The bytes before a place that takes nothing: none.
+fn up_to_nothing(alloc: Global, pieces: &[&[u8]]) -> Answered<Vec<u8>> {
+    parse_pieces(
+        alloc,
+        take_until::<Vec<u8>, _, _, _>(alloc, value(1u8)),
+        pieces,
+    )
+}
+
+/// Blocks that take nothing, before `;`.
+fn nothings_up_to_semicolon(alloc: Global, pieces: &[&[u8]]) -> Answered<Vec<u8>> {
+    let nothings = repeat_until::<Vec<u8>, _, _, _>(alloc, value(1u8), token(b';'));
+    parse_pieces(alloc, nothings, pieces)
 }
 
 /// The bytes before `;`, dropped.
@@ -185,6 +201,8 @@ fn tokens_up_to_a_place(rt: HostRuntime) -> Result<(), AllocError> {
     over_every_cut(&rt, alloc, up_to_an_a, &[("a", Some(0), true)])?;
     over_every_cut(&rt, alloc, up_to_whole_tag, &[("123TATAG", Some(5), true)])?;
     over_every_cut(&rt, alloc, up_to_tag, &[("123TATAG", None, true)])?;
+    let nothings = [("", Some(0), false), ("ab", Some(0), false)];
+    over_every_cut(&rt, alloc, up_to_nothing, &nothings)?;
     let semicolons = [
         ("ab;", Some(2), true),
         (";", Some(0), true),
@@ -206,6 +224,8 @@ fn blocks_up_to_a_place(rt: HostRuntime) -> Result<(), AllocError> {
         ("", None, false),
     ];
     over_every_cut(&rt, rt.alloc(), digits_up_to_semicolon, &rows)?;
+    let nothings = [(";", Some(0), true), ("a", None, true), ("", None, true)];
+    over_every_cut(&rt, rt.alloc(), nothings_up_to_semicolon, &nothings)?;
     over_every_cut(&rt, rt.alloc(), skip_digits_up_to_semicolon, &rows)
 }
 
@@ -282,6 +302,27 @@ fn put_back_but_not_begun_again(rt: HostRuntime) -> Result<(), AllocError> {
                 assert!(rt; answer.is_err() || unread == 1, "on {second}");
                 assert_eq!(rt; answer, wanted, "on {second}");
             }
+            None => assert!(rt; false, "on {second}: peeked"),
+        }
+    }
+    Ok(())
+}
+
+/// The same where the parser that ends the blocks had read a token beyond them: it goes on behind that token, and an input without it is lost.
+#[test]
+fn put_back_beyond_a_place(rt: HostRuntime) -> Result<(), AllocError> {
+    let alloc = rt.alloc();
+    for (second, wanted) in [
+        ("xTA", Ok(b"x".to_vec(alloc)?)),
+        ("xTB", Err(Kind::Refused)),
+        ("xT", Err(Kind::End)),
+        ("x", Err(Kind::Lost)),
+    ] {
+        let tag = (token(b'T'), token(b'A'));
+        let up_to = take_until::<Vec<u8>, _, _, _>(alloc, tag);
+        let inputs = (b"xT".as_slice(), second.as_bytes());
+        match resumed(&rt, alloc, up_to, inputs)? {
+            Some((answer, _unread)) => assert_eq!(rt; answer, wanted, "on {second}"),
             None => assert!(rt; false, "on {second}: peeked"),
         }
     }

@@ -53,8 +53,3 @@ module _ {P T Error X0 X1 S0 S1 : Type 0} (f0 : S0 → Type 0) (f1 : S1 → Type
 pub each_2_into : {S0 S1 : Type 0} (f0 g0 : S0 → Type 0) (f1 g1 : S1 → Type 0) → ((s : S0) → f0 s → g0 s) → ((s : S1) → f1 s → g1 s) → (s : Either S0 S1) → each_2 f0 f1 s → each_2 g0 g1 s
 each_2_into f0 g0 f1 g1 h0 h1 (Left s) h = h0 s h
 each_2_into f0 g0 f1 g1 h0 h1 (Right s) h = h1 s h
-
--- what a variant says of the value that it holds
-abbrev pub said_2 : {Z X0 X1 : Type 0} → (X0 → Z) → (X1 → Z) → Either X0 X1 → Z
-said_2 f0 f1 (Left x) = f0 x
-said_2 f0 f1 (Right x) = f1 x

@@ -73,9 +73,3 @@ pub each_3_into : {S0 S1 S2 : Type 0} (f0 g0 : S0 → Type 0) (f1 g1 : S1 → Ty
 each_3_into f0 g0 f1 g1 f2 g2 h0 h1 h2 (A s) h = h0 s h
 each_3_into f0 g0 f1 g1 f2 g2 h0 h1 h2 (B s) h = h1 s h
 each_3_into f0 g0 f1 g1 f2 g2 h0 h1 h2 (C s) h = h2 s h
-
--- what a variant says of the value that it holds
-abbrev pub said_3 : {Z X0 X1 X2 : Type 0} → (X0 → Z) → (X1 → Z) → (X2 → Z) → Dispatch3 X0 X1 X2 → Z
-said_3 f0 f1 f2 (A x) = f0 x
-said_3 f0 f1 f2 (B x) = f1 x
-said_3 f0 f1 f2 (C x) = f2 x

@@ -97,10 +97,3 @@ each_4_into f0 g0 f1 g1 f2 g2 f3 g3 h0 h1 h2 h3 (A s) h = h0 s h
 each_4_into f0 g0 f1 g1 f2 g2 f3 g3 h0 h1 h2 h3 (B s) h = h1 s h
 each_4_into f0 g0 f1 g1 f2 g2 f3 g3 h0 h1 h2 h3 (C s) h = h2 s h
 each_4_into f0 g0 f1 g1 f2 g2 f3 g3 h0 h1 h2 h3 (D s) h = h3 s h
-
--- what a variant says of the value that it holds
-abbrev pub said_4 : {Z X0 X1 X2 X3 : Type 0} → (X0 → Z) → (X1 → Z) → (X2 → Z) → (X3 → Z) → Dispatch4 X0 X1 X2 X3 → Z
-said_4 f0 f1 f2 f3 (A x) = f0 x
-said_4 f0 f1 f2 f3 (B x) = f1 x
-said_4 f0 f1 f2 f3 (C x) = f2 x
-said_4 f0 f1 f2 f3 (D x) = f3 x

@@ -125,11 +125,3 @@ each_5_into f0 g0 f1 g1 f2 g2 f3 g3 f4 g4 h0 h1 h2 h3 h4 (B s) h = h1 s h
 each_5_into f0 g0 f1 g1 f2 g2 f3 g3 f4 g4 h0 h1 h2 h3 h4 (C s) h = h2 s h
 each_5_into f0 g0 f1 g1 f2 g2 f3 g3 f4 g4 h0 h1 h2 h3 h4 (D s) h = h3 s h
 each_5_into f0 g0 f1 g1 f2 g2 f3 g3 f4 g4 h0 h1 h2 h3 h4 (E s) h = h4 s h
-
--- what a variant says of the value that it holds
-abbrev pub said_5 : {Z X0 X1 X2 X3 X4 : Type 0} → (X0 → Z) → (X1 → Z) → (X2 → Z) → (X3 → Z) → (X4 → Z) → Dispatch5 X0 X1 X2 X3 X4 → Z
-said_5 f0 f1 f2 f3 f4 (A x) = f0 x
-said_5 f0 f1 f2 f3 f4 (B x) = f1 x
-said_5 f0 f1 f2 f3 f4 (C x) = f2 x
-said_5 f0 f1 f2 f3 f4 (D x) = f3 x
-said_5 f0 f1 f2 f3 f4 (E x) = f4 x

@@ -157,12 +157,3 @@ each_6_into f0 g0 f1 g1 f2 g2 f3 g3 f4 g4 f5 g5 h0 h1 h2 h3 h4 h5 (C s) h = h2 s
 each_6_into f0 g0 f1 g1 f2 g2 f3 g3 f4 g4 f5 g5 h0 h1 h2 h3 h4 h5 (D s) h = h3 s h
 each_6_into f0 g0 f1 g1 f2 g2 f3 g3 f4 g4 f5 g5 h0 h1 h2 h3 h4 h5 (E s) h = h4 s h
 each_6_into f0 g0 f1 g1 f2 g2 f3 g3 f4 g4 f5 g5 h0 h1 h2 h3 h4 h5 (F s) h = h5 s h
-
--- what a variant says of the value that it holds
-abbrev pub said_6 : {Z X0 X1 X2 X3 X4 X5 : Type 0} → (X0 → Z) → (X1 → Z) → (X2 → Z) → (X3 → Z) → (X4 → Z) → (X5 → Z) → Dispatch6 X0 X1 X2 X3 X4 X5 → Z
-said_6 f0 f1 f2 f3 f4 f5 (A x) = f0 x
-said_6 f0 f1 f2 f3 f4 f5 (B x) = f1 x
-said_6 f0 f1 f2 f3 f4 f5 (C x) = f2 x
-said_6 f0 f1 f2 f3 f4 f5 (D x) = f3 x
-said_6 f0 f1 f2 f3 f4 f5 (E x) = f4 x
-said_6 f0 f1 f2 f3 f4 f5 (F x) = f5 x

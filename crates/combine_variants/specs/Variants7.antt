@@ -193,13 +193,3 @@ each_7_into f0 g0 f1 g1 f2 g2 f3 g3 f4 g4 f5 g5 f6 g6 h0 h1 h2 h3 h4 h5 h6 (D s)
 each_7_into f0 g0 f1 g1 f2 g2 f3 g3 f4 g4 f5 g5 f6 g6 h0 h1 h2 h3 h4 h5 h6 (E s) h = h4 s h
 each_7_into f0 g0 f1 g1 f2 g2 f3 g3 f4 g4 f5 g5 f6 g6 h0 h1 h2 h3 h4 h5 h6 (F s) h = h5 s h
 each_7_into f0 g0 f1 g1 f2 g2 f3 g3 f4 g4 f5 g5 f6 g6 h0 h1 h2 h3 h4 h5 h6 (G s) h = h6 s h
-
--- what a variant says of the value that it holds
-abbrev pub said_7 : {Z X0 X1 X2 X3 X4 X5 X6 : Type 0} → (X0 → Z) → (X1 → Z) → (X2 → Z) → (X3 → Z) → (X4 → Z) → (X5 → Z) → (X6 → Z) → Dispatch7 X0 X1 X2 X3 X4 X5 X6 → Z
-said_7 f0 f1 f2 f3 f4 f5 f6 (A x) = f0 x
-said_7 f0 f1 f2 f3 f4 f5 f6 (B x) = f1 x
-said_7 f0 f1 f2 f3 f4 f5 f6 (C x) = f2 x
-said_7 f0 f1 f2 f3 f4 f5 f6 (D x) = f3 x
-said_7 f0 f1 f2 f3 f4 f5 f6 (E x) = f4 x
-said_7 f0 f1 f2 f3 f4 f5 f6 (F x) = f5 x
-said_7 f0 f1 f2 f3 f4 f5 f6 (G x) = f6 x

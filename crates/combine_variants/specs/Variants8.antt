@@ -233,14 +233,3 @@ each_8_into f0 g0 f1 g1 f2 g2 f3 g3 f4 g4 f5 g5 f6 g6 f7 g7 h0 h1 h2 h3 h4 h5 h6
 each_8_into f0 g0 f1 g1 f2 g2 f3 g3 f4 g4 f5 g5 f6 g6 f7 g7 h0 h1 h2 h3 h4 h5 h6 h7 (F s) h = h5 s h
 each_8_into f0 g0 f1 g1 f2 g2 f3 g3 f4 g4 f5 g5 f6 g6 f7 g7 h0 h1 h2 h3 h4 h5 h6 h7 (G s) h = h6 s h
 each_8_into f0 g0 f1 g1 f2 g2 f3 g3 f4 g4 f5 g5 f6 g6 f7 g7 h0 h1 h2 h3 h4 h5 h6 h7 (H s) h = h7 s h
-
--- what a variant says of the value that it holds
-abbrev pub said_8 : {Z X0 X1 X2 X3 X4 X5 X6 X7 : Type 0} → (X0 → Z) → (X1 → Z) → (X2 → Z) → (X3 → Z) → (X4 → Z) → (X5 → Z) → (X6 → Z) → (X7 → Z) → Dispatch8 X0 X1 X2 X3 X4 X5 X6 X7 → Z
-said_8 f0 f1 f2 f3 f4 f5 f6 f7 (A x) = f0 x
-said_8 f0 f1 f2 f3 f4 f5 f6 f7 (B x) = f1 x
-said_8 f0 f1 f2 f3 f4 f5 f6 f7 (C x) = f2 x
-said_8 f0 f1 f2 f3 f4 f5 f6 f7 (D x) = f3 x
-said_8 f0 f1 f2 f3 f4 f5 f6 f7 (E x) = f4 x
-said_8 f0 f1 f2 f3 f4 f5 f6 f7 (F x) = f5 x
-said_8 f0 f1 f2 f3 f4 f5 f6 f7 (G x) = f6 x
-said_8 f0 f1 f2 f3 f4 f5 f6 f7 (H x) = f7 x

@@ -60,6 +60,20 @@ fn lines_of_pieces(rt: HostRuntime) -> Result<(), AllocError> {
     Ok(())
 }
 
+/// As many empty pieces as there may be sizes.
+#[test]
+fn lines_of_empty_pieces(rt: HostRuntime) -> Result<(), AllocError> {
+    let mut lines = Vec::new(rt.alloc());
+    for _ in 0..64 {
+        lines.extend_from_slice(b"more 0\n")?;
+    }
+    lines.extend_from_slice(b"refused peeked\n")?;
+    let mut out = Vec::new(rt.alloc());
+    assert_eq!(rt; run(rt.alloc(), &[0; 64], b"", &mut out), Ok(false));
+    assert_eq!(rt; out, lines);
+    Ok(())
+}
+
 #[test]
 fn decisions_over_every_cut(rt: HostRuntime) -> Result<(), AllocError> {
     for (input, decision, accepted) in DECISIONS {

@@ -25,13 +25,13 @@ fn number_of(digits: &[u8]) -> Number {
 }
 
 /// What an operator makes of two numbers.
-fn applied(operator: u8, left: Number, right: Number) -> Number {
+fn applied(operator: char, left: Number, right: Number) -> Number {
     let left = left?;
     let right = right?;
     match operator {
-        b'+' => left.checked_add(right),
-        b'-' => left.checked_sub(right),
-        b'*' => left.checked_mul(right),
+        '+' => left.checked_add(right),
+        '-' => left.checked_sub(right),
+        '*' => left.checked_mul(right),
         _ => left.checked_div(right),
     }
 }
@@ -49,11 +49,17 @@ pub fn value_in_pieces(alloc: Global, pieces: &[&[u8]]) -> InPieces<Number> {
     );
     let times = map(
         skip(one_of([b'*', b'/']), skip_many(satisfy(is_blank))),
-        |operator: u8| move |left: Number, right: Number| applied(operator, left, right),
+        |operator: u8| {
+            let operator = char::from(operator);
+            move |left: Number, right: Number| applied(operator, left, right)
+        },
     );
     let plus = map(
         skip(one_of([b'+', b'-']), skip_many(satisfy(is_blank))),
-        |operator: u8| move |left: Number, right: Number| applied(operator, left, right),
+        |operator: u8| {
+            let operator = char::from(operator);
+            move |left: Number, right: Number| applied(operator, left, right)
+        },
     );
     let sum = chainl1(chainl1(number, times), plus);
     let whole = with(skip_many(satisfy(is_blank)), skip(sum, eof()));
@@ -69,29 +75,22 @@ pub fn value(alloc: Global, text: &str) -> Result<Number, UnexpectedParse> {
     );
     let times = map(
         skip(one_of(['*', '/']), skip_many(satisfy(|c: char| c == ' '))),
-        |operator: char| {
-            move |left: Number, right: Number| {
-                if operator == '*' {
-                    applied(b'*', left, right)
-                } else {
-                    applied(b'/', left, right)
-                }
-            }
-        },
+        |operator: char| move |left: Number, right: Number| applied(operator, left, right),
     );
     let plus = map(
         skip(one_of(['+', '-']), skip_many(satisfy(|c: char| c == ' '))),
-        |operator: char| {
-            move |left: Number, right: Number| {
-                if operator == '+' {
-                    applied(b'+', left, right)
-                } else {
-                    applied(b'-', left, right)
-                }
-            }
-        },
+        |operator: char| move |left: Number, right: Number| applied(operator, left, right),
     );
-    let sum = chainl1(chainl1(number, times), plus);
+    read_whole(chainl1(chainl1(number, times), plus), text)
+}
+
+/// The value of a text that holds nothing else, but for blanks before it.
+fn read_whole<'a, S: Parser<&'a str, Output = Number> + Drop>(
+    sum: S,
+    text: &'a str,
+) -> Result<Number, UnexpectedParse>
+    requires { S.lawful sum }
+{
     let mut whole = with(skip_many(satisfy(|c: char| c == ' ')), skip(sum, eof()));
     match whole.parse(text) {
         Ok((number, _)) => Ok(number),

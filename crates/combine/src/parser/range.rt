@@ -1,8 +1,8 @@
 //! Parsers of ranges: parts of the input, as they stand there.
 
+pub mod laws;
 pub mod types;
 
-pub use combine_lengths::laws;
 pub use combine_lengths::range::length_prefix;
 pub use combine_range::range::{
     RecognizeState, range, recognize, recognize_with_value, take, take_until_range, take_while,

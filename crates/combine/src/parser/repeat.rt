@@ -3,11 +3,14 @@
 pub mod laws;
 pub mod types;
 
+pub use combine_chains::repeat::types::EscapedState;
 pub use combine_chains::repeat::{chainr1, escaped};
+pub use combine_iterate::repeat::types::{IterateState, RunningItem};
 pub use combine_iterate::repeat::{Iter, iterate};
 pub use combine_repeat::repeat::{Append, Sink, TurnsState, many, many1, skip_many, skip_many1};
 pub use combine_sep_end::repeat::{sep_end_by, sep_end_by1};
 pub use combine_separated::repeat::{chainl1, sep_by, sep_by1, sep_count_min_max};
+pub use combine_separated::separated::{Lead, SeparatedState};
 pub use combine_turns::repeat::{count, count_min_max, skip_count, skip_count_min_max};
 pub use combine_until::repeat::{
     UntilState, repeat_skip_until, repeat_until, skip_until, take_until,

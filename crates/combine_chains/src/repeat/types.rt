@@ -1,9 +1,10 @@
 //! The parsers that the functions of this module answer.
 ghost use Rattle.std.specs.Prelude.{◌≡◌};
+ghost use Rattle.combine_base.specs.Parser.Given.{GivesOnly};
 ghost use Rattle.combine_base.specs.Parser.Mapped.{mapped_is_meaning, mapped_means_one};
-ghost use Rattle.combine_separated.specs.Pair.{pair_valid};
+ghost use Rattle.combine_separated.specs.Pair.{fewer_is_meaning, fewer_means_one, led_valid};
 ghost use Rattle.combine_chains.specs.ChainParsers.{right_operator, right_part};
-ghost use Rattle.combine_chains.specs.Chains.{each_operand, gives_right, operands, right_fold};
+ghost use Rattle.combine_chains.specs.Chains.{nothing_good, each_operand, gives_right, kept_good, operands, right_fold};
 ghost use Rattle.combine_separated.specs.JoinedLaws.{joined_is_meaning, joined_means_one};
 ghost use Rattle.combine_separated.specs.Separated.{separated_default, separated_fresh, separated_valid};
 ghost use Rattle.combine_turns.specs.Bounded.{begun_valid, running_turn};
@@ -15,7 +16,7 @@ use combine_base::sequence::State2;
 use combine_base::stream::Stream;
 use combine_map::combinator::types::{Ignore, NoPartial};
 use combine_repeat::repeat::types::SkipMany;
-use combine_separated::separated::{Separated, SeparatedState};
+use combine_separated::separated::{Operator, Separated, SeparatedState};
 use combine_token::choice::OrState;
 use combine_token::choice::types::Or;
 use combine_token::token::types::Token;
@@ -38,7 +39,7 @@ pub type EscapedState<Input, P, T, Q> = TurnsState<
 #[derive(Clone, Copy, Drop)]
 pub struct RightFold<P, S> {
     pub(super) alloc: Global,
-    pub(super) turn: Separated<P, S>,
+    pub(super) turn: Separated<P, S, Operator>,
 }
 
 impl<Input, P: Outputs<Input>, S> Outputs<Input> for RightFold<P, S> {
@@ -57,21 +58,21 @@ where
         SeparatedState<S::Output, S::PartialState, P::PartialState>,
     >;
 
-    ghost lawful = { λ p. ((f : S.Output) → S.Output.IsAlwaysCallable f) × S.lawful (right_operator p) × P.lawful (right_part p) };
+    ghost lawful = { λ p. GivesOnly S.valid (S.meaning (right_operator p)) (λ f. S.Output.IsAlwaysCallable f) × S.lawful (right_operator p) × P.lawful (right_part p) };
 
     ghost determined = { λ p. S.determined (right_operator p) × P.determined (right_part p) };
 
-    ghost valid = { λ s. separated_valid P.valid (pair_valid S.valid P.valid) (running_turn s) };
+    ghost valid = { λ s. separated_valid P.valid (led_valid (λ f. S.Output.IsAlwaysCallable f) S.valid P.valid) (running_turn s) × kept_good (λ f. S.Output.IsAlwaysCallable f) s };
 
     ghost meaning = { λ p. right_fold Input.step (λ f x y r. S.Output.post f x y r) (P.meaning (right_part p)) (S.meaning (right_operator p)) };
 
     ghost parts = { λ _. 1 };
 
-    ghost default_valid = { begun_valid (separated_fresh P.PartialState.is_default) (separated_valid P.valid (pair_valid S.valid P.valid)) (separated_default P.PartialState.is_default P.valid (pair_valid S.valid P.valid) P.default_valid) };
+    ghost default_valid = { λ s d. (begun_valid (separated_fresh P.PartialState.is_default) (separated_valid P.valid (led_valid (λ f. S.Output.IsAlwaysCallable f) S.valid P.valid)) (separated_default P.PartialState.is_default P.valid (led_valid (λ f. S.Output.IsAlwaysCallable f) S.valid P.valid) P.default_valid) s d, nothing_good (λ f. S.Output.IsAlwaysCallable f) s d.0) };
 
-    ghost laws = { λ p l. mapped_is_meaning _ _ (operands Input.step (P.meaning (right_part p)) (S.meaning (right_operator p))) (gives_right (λ f x y r. S.Output.post f x y r)) (joined_is_meaning Input.step (Joined 1 None) each_operand P.PartialState.is_default P.valid S.PartialState.is_default S.valid (P.meaning (right_part p)) (S.meaning (right_operator p)) (P.laws (right_part p) l.2) (S.laws (right_operator p) l.1)) };
+    ghost laws = { λ p l. mapped_is_meaning _ _ (operands Input.step (P.meaning (right_part p)) (S.meaning (right_operator p))) (gives_right (λ f x y r. S.Output.post f x y r)) (fewer_is_meaning (λ s d. d.0) (joined_is_meaning Input.step (Joined 1 None) each_operand (λ f. S.Output.IsAlwaysCallable f) P.PartialState.is_default P.valid S.PartialState.is_default S.valid (P.meaning (right_part p)) (S.meaning (right_operator p)) (P.laws (right_part p) l.2) (S.laws (right_operator p) l.1))) };
 
-    ghost single = { λ p l d. mapped_means_one _ (operands Input.step (P.meaning (right_part p)) (S.meaning (right_operator p))) (gives_right (λ f x y r. S.Output.post f x y r)) (joined_means_one Input.step (Joined 1 None) each_operand P.valid S.valid (P.meaning (right_part p)) (S.meaning (right_operator p)) (P.single (right_part p) l.2 d.1) (S.single (right_operator p) l.1 d.0)) };
+    ghost single = { λ p l d. mapped_means_one _ (operands Input.step (P.meaning (right_part p)) (S.meaning (right_operator p))) (gives_right (λ f x y r. S.Output.post f x y r)) (fewer_means_one (λ s d. d.0) (joined_means_one Input.step (Joined 1 None) each_operand (λ f. S.Output.IsAlwaysCallable f) P.valid S.valid (P.meaning (right_part p)) (S.meaning (right_operator p)) (P.single (right_part p) l.2 d.1) (S.single (right_operator p) l.1 d.0))) };
 
     #[inline(always)]
     fn parse_mode<M: ParseMode>(
@@ -81,7 +82,7 @@ where
         state: &mut Self::PartialState,
     ) -> ParseResult<P::Output, Input::Error> {
         let alloc = self.alloc;
-        match take_joined::<EachOperand<P::Output>, Input, Separated<P, S>, M>(
+        match take_joined::<EachOperand<P::Output>, Input, Separated<P, S, Operator>, M>(
             &mut self.turn,
             alloc,
             mode,

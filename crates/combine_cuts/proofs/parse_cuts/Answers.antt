@@ -49,6 +49,7 @@ returns-in_default g c =
     record {
       lawful = c.parse_window-next.ensures.lawful;
       same = same_more _ _ _ c.loop-cut.invariant.same c.parse_window-next.ensures.same;
+      single = λ d. (g.met.P.Parser.single _ c.requires.lawful d).whole;
       runs = stops _ _ _ _ _ _ _ law fit _ _ _ c.loop-cut.invariant.so_far c.loop-cut-test.true _ _ _ _ _ c.loop-cut.asked c.loop-cut.invariant.asked _ _ c.in_default.not-More c.in_ok-answer.was p;
     }
 
@@ -96,3 +97,12 @@ returns-clause-runs g c =
     let p = window_same _ _ _ _ _ _ _ _ _ _ _ _ _ _ _ _ c.loop-cut.invariant.same c.parse_window-run.ensures.parses in
     let all : c.loop-cut.cut-index ≡ length c.args.cuts.now = omega arith in
     ends _ _ _ _ _ _ _ law fit _ _ c.loop-cut.cut-index (omega arith) c.loop-cut.invariant.so_far _ _ _ _ _ all c.loop-cut.asked c.loop-cut.invariant.asked _ _ c.in_ok-parsed.was (rw c.end-end.ensures.all at p)
+
+pub returns-in_err-answer-clause-single : goal.returns-in_err-answer-clause-single
+returns-in_err-answer-clause-single g c = λ d. (g.met.P.Parser.single _ c.requires.lawful d).whole
+
+pub returns-in_err-parsed-clause-single : goal.returns-in_err-parsed-clause-single
+returns-in_err-parsed-clause-single g c = λ d. (g.met.P.Parser.single _ c.requires.lawful d).whole
+
+pub returns-clause-single : goal.returns-clause-single
+returns-clause-single g c = λ d. (g.met.P.Parser.single _ c.requires.lawful d).whole

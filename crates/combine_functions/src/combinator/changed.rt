@@ -12,7 +12,7 @@ use std::marker::PhantomData;
 
 /// How a value is changed, or refused. Our own: the crate writes each of its parsers by itself.
 pub trait Change<Input: Stream, A> {
-    ghost use Rattle.std.specs.Prelude.{◌≡◌};
+    ghost use Rattle.std.specs.Prelude.{◌≡◌, ℕ};
     ghost use Rattle.combine_base.specs.Stream.Calls.{Passes};
     ghost use Rattle.combine_functions.specs.Changes.{Changes};
 
@@ -34,6 +34,9 @@ pub trait Change<Input: Stream, A> {
     /// What error a refusal of the value may have, where the parser began at that position.
     ghost says: { Self → Input.Position → A → Input.Error → Type 0 };
 
+    /// As how many parsers a parser counts whose value is changed so, where its part counts so many.
+    ghost counted: { ℕ → ℕ };
+
     /// The value changed, or the error of a refusal or of a fault; the stream is left in place. The parser began at that position.
     fn change(
         &self,
@@ -46,6 +49,10 @@ pub trait Change<Input: Stream, A> {
         ensures view { Input.view input.new ≡ Input.view input.old }
         ensures failures { Input.failures input.new ≡ Input.failures input.old }
         ensures changes { Changes Input.Error.seen (gives self.now (Input.view input.old).position value) (denies self.now value) (starves self.now value) (says self.now began value) result };
+
+    /// As how many parsers a parser counts, of whose part that is the count.
+    fn count(part: ErrorOffset) -> ErrorOffset
+        ensures { result.0 ≡ counted part.0 };
 }
 
 /// As its part, the value changed into a `B`, or refused; the state is that of the part.
@@ -90,7 +97,7 @@ impl<Input: Stream, P: Parser<Input>, B: Drop, C: Change<Input, P::Output, Outpu
 
     ghost refuses = { λ p. RefusesChanged (P.meaning (changed_part p)) (P.refuses (changed_part p)) (C.says (change_part p)) };
 
-    ghost parts = { λ p. P.parts (changed_part p) };
+    ghost parts = { λ p. C.counted (P.parts (changed_part p)) };
 
     ghost default_valid = { P.default_valid };
 
@@ -126,9 +133,8 @@ impl<Input: Stream, P: Parser<Input>, B: Drop, C: Change<Input, P::Output, Outpu
         self.part.add_error(error);
     }
 
-    /// As for the parser whose value is changed.
     #[inline]
     fn parser_count(&self) -> ErrorOffset {
-        self.part.parser_count()
+        C::count(self.part.parser_count())
     }
 }

@@ -6,7 +6,7 @@ ghost use Rattle.combine_functions.specs.Changes.{AnsweredItem, AnsweredKind, Er
 
 use super::changed::Change;
 use super::text::StrLike;
-use combine_base::error::{Info, ParseError, StreamError};
+use combine_base::error::{ErrorOffset, Info, ParseError, StreamError};
 use combine_base::stream::{Kind, Stream, StreamOnce};
 use std::marker::PhantomData;
 use std::str::FromStr;
@@ -29,6 +29,8 @@ impl<Input: Stream, A, B: Drop, F: Fn(A) -> Result<B, Input::Error>> Change<Inpu
 
     ghost says = { λ f at a e. F.post f.0 a (Err e) };
 
+    ghost counted = { λ n. n };
+
     #[inline(always)]
     fn change(
         &self,
@@ -37,6 +39,12 @@ impl<Input: Stream, A, B: Drop, F: Fn(A) -> Result<B, Input::Error>> Change<Inpu
         input: &mut Input,
     ) -> Result<B, Input::Error> {
         (self.0)(value)
+    }
+
+    /// As the part.
+    #[inline]
+    fn count(part: ErrorOffset) -> ErrorOffset {
+        part
     }
 }
 
@@ -63,6 +71,8 @@ impl<
 
     ghost says = { λ f at a. MadeOf Input.Error.seen Input.Error.StreamError.items (F.post f.0) E.converts at a };
 
+    ghost counted = { λ n. n };
+
     #[inline(always)]
     fn change(
         &self,
@@ -79,6 +89,12 @@ impl<
                 Err(error)
             }
         }
+    }
+
+    /// As the part.
+    #[inline]
+    fn count(part: ErrorOffset) -> ErrorOffset {
+        part
     }
 }
 
@@ -99,6 +115,8 @@ impl<Input: Stream, A, B: Drop, F: Fn(A, &mut Input) -> B> Change<Input, A> for 
 
     ghost says = { λ f at a e. ⊥ };
 
+    ghost counted = { λ n. n };
+
     #[inline(always)]
     fn change(
         &self,
@@ -107,6 +125,12 @@ impl<Input: Stream, A, B: Drop, F: Fn(A, &mut Input) -> B> Change<Input, A> for 
         input: &mut Input,
     ) -> Result<B, Input::Error> {
         Ok((self.0)(value, input))
+    }
+
+    /// As the part.
+    #[inline]
+    fn count(part: ErrorOffset) -> ErrorOffset {
+        part
     }
 }
 
@@ -123,13 +147,15 @@ where
 
     ghost callable = { λ f a. Unit {0} };
 
-    ghost gives = { λ f at a b. T.from_str_gives (A.bytes a) (Ok b) };
+    ghost gives = { λ f at a b. IsUtf8 (A.bytes a) × T.from_str_gives (A.bytes a) (Ok b) };
 
     ghost denies = { λ f a. Misread T.from_str_gives (A.bytes a) };
 
     ghost starves = { λ f a. ⊥ };
 
     ghost says = { λ f at a. MadeSaying Input.Error.seen (unreadable T.from_str_gives (A.bytes a)) at };
+
+    ghost counted = { λ n. 1 };
 
     #[inline]
     fn change(
@@ -151,5 +177,11 @@ where
                 Err(error)
             }
         }
+    }
+
+    /// As one parser.
+    #[inline]
+    fn count(_part: ErrorOffset) -> ErrorOffset {
+        ErrorOffset(1)
     }
 }

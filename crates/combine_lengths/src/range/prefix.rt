@@ -5,7 +5,7 @@ ghost use Rattle.combine_lengths.specs.Prefixes.{FitsNone, out_of_range};
 ghost use Rattle.combine_range.specs.RangeParsers.{take_of};
 ghost use Rattle.combine_sequence.specs.Answered.{forget};
 
-use combine_base::error::{Info, ParseError};
+use combine_base::error::{ErrorOffset, Info, ParseError};
 use combine_base::stream::{Kind, Stream, StreamOnce};
 use combine_functions::combinator::Change;
 use combine_range::range::take;
@@ -33,6 +33,8 @@ where
 
     ghost says = { λ c at a. MadeSaying Input.Error.seen (out_of_range A.try_into_gives a) at };
 
+    ghost counted = { λ n. n };
+
     #[inline]
     fn change(
         &self,
@@ -48,6 +50,12 @@ where
                 Err(error)
             }
         }
+    }
+
+    /// As the part.
+    #[inline]
+    fn count(part: ErrorOffset) -> ErrorOffset {
+        part
     }
 }
 

@@ -1,9 +1,9 @@
 //! Laws of the parsers of `combinator`, each stated by a function that does nothing.
 ghost use Rattle.combine_base.specs.Parser.Meaning.{MeansSame};
-ghost use Rattle.combine_map.specs.Laws.{IsComposition, SameFromTheStart};
-ghost use Rattle.combine_map.specs.Parsers.{attempt_of, map_of};
+ghost use Rattle.combine_map.specs.Laws.{AcceptedWhereRefused, IsComposition, SameFromTheStart};
+ghost use Rattle.combine_map.specs.Parsers.{attempt_of, map_of, not_followed_by_of};
 
-use crate::combinator::types::{Map, Try};
+use crate::combinator::types::{Map, NotFollowedBy, Try};
 use combine_base::parser::Parser;
 use combine_base::stream::Stream;
 
@@ -11,6 +11,12 @@ use combine_base::stream::Stream;
 #[inline]
 pub fn attempt_twice_is_once<Input: Stream, P: Parser<Input>>(parser: &P)
     ensures { SameFromTheStart (⟦<Try<Try<P>> as Parser<Input>>⟧.meaning (attempt_of (attempt_of parser.now))) (⟦<Try<P> as Parser<Input>>⟧.meaning (attempt_of parser.now)) }
+{}
+
+/// `not_followed_by` is accepted, with nothing taken, exactly where its parser is refused.
+#[inline]
+pub fn not_followed_by_is_accepted_where_refused<Input: Stream, P: Parser<Input>>(parser: &P)
+    ensures { AcceptedWhereRefused (⟦<NotFollowedBy<P> as Parser<Input>>⟧.meaning (not_followed_by_of parser.now)) (P.meaning parser.now) }
 {}
 
 /// Mapping twice is mapping by the composition: from the start and from each state both have the same outcomes, and both say the same.

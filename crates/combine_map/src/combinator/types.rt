@@ -17,6 +17,30 @@ use combine_base::sequence::accepted_after;
 use combine_base::stream::{Kind, Positioned, ResetStream, Stream, StreamOnce, needs_more};
 use std::marker::PhantomData;
 
+/// A function that makes a `B` of an `A`. Our own: the prover shows each impl in a declaration of its own, but one with a bound on `Fn`, which it writes out in that of the impl round it. By this trait parsers that are mapped within each other stay apart.
+pub trait Maps<A, B> {
+    /// The values that it may be called on.
+    ghost callable: { Self → A → Type 0 };
+
+    /// What it may answer.
+    ghost answers: { Self → A → B → Type 0 };
+
+    fn map_one(&self, value: A) -> B
+        requires { callable self.now value }
+        ensures { answers self.now value result };
+}
+
+impl<A, B, F: Fn(A) -> B> Maps<A, B> for F {
+    ghost callable = { λ f. F.pre f };
+
+    ghost answers = { λ f. F.post f };
+
+    #[inline(always)]
+    fn map_one(&self, value: A) -> B {
+        self(value)
+    }
+}
+
 /// As its part, the value changed by its function into a `B`; the state is that of the part.
 #[derive(Drop)]
 #[derive_where(Clone, Copy; P, F)]
@@ -44,17 +68,17 @@ impl<Input, P, F, B: Drop> Outputs<Input> for Map<P, F, B> {
     type Output = B;
 }
 
-impl<Input: Stream, P: Parser<Input>, B: Drop, F: Fn(P::Output) -> B> Parser<Input>
+impl<Input: Stream, P: Parser<Input>, B: Drop, F: Maps<P::Output, B>> Parser<Input>
     for Map<P, F, B> {
     type PartialState = P::PartialState;
 
-    ghost lawful = { λ p. P.lawful (map_part p) × GivesOnly P.valid (P.meaning (map_part p)) (F.pre (map_function p)) };
+    ghost lawful = { λ p. P.lawful (map_part p) × GivesOnly P.valid (P.meaning (map_part p)) (F.callable (map_function p)) };
 
     ghost determined = { λ p. P.determined (map_part p) };
 
     ghost valid = { P.valid };
 
-    ghost meaning = { λ p. mapped (P.meaning (map_part p)) (F.post (map_function p)) };
+    ghost meaning = { λ p. mapped (P.meaning (map_part p)) (F.answers (map_function p)) };
 
     ghost parts = { λ p. P.parts (map_part p) };
 
@@ -62,9 +86,9 @@ impl<Input: Stream, P: Parser<Input>, B: Drop, F: Fn(P::Output) -> B> Parser<Inp
 
     ghost default_valid = { P.default_valid };
 
-    ghost laws = { λ p l. mapped_is_meaning P.PartialState.is_default P.valid (P.meaning (map_part p)) (F.post (map_function p)) (P.laws (map_part p) l.0) };
+    ghost laws = { λ p l. mapped_is_meaning P.PartialState.is_default P.valid (P.meaning (map_part p)) (F.answers (map_function p)) (P.laws (map_part p) l.0) };
 
-    ghost single = { λ p l d. mapped_means_one P.valid (P.meaning (map_part p)) (F.post (map_function p)) (P.single (map_part p) l.0 d) };
+    ghost single = { λ p l d. mapped_means_one P.valid (P.meaning (map_part p)) (F.answers (map_function p)) (P.single (map_part p) l.0 d) };
 
     #[inline(always)]
     fn parse_mode<M: ParseMode>(
@@ -74,8 +98,8 @@ impl<Input: Stream, P: Parser<Input>, B: Drop, F: Fn(P::Output) -> B> Parser<Inp
         state: &mut Self::PartialState,
     ) -> ParseResult<B, Input::Error> {
         match self.part.parse_mode(mode, input, state) {
-            ParseResult::CommitOk(value) => ParseResult::CommitOk((self.function)(value)),
-            ParseResult::PeekOk(value) => ParseResult::PeekOk((self.function)(value)),
+            ParseResult::CommitOk(value) => ParseResult::CommitOk(self.function.map_one(value)),
+            ParseResult::PeekOk(value) => ParseResult::PeekOk(self.function.map_one(value)),
             ParseResult::CommitErr(error) => ParseResult::CommitErr(error),
             ParseResult::PeekErr(refusal) => ParseResult::PeekErr(refusal),
         }

@@ -1,5 +1,5 @@
 //! The parsers that the functions of this module answer.
-ghost use Rattle.std.specs.Prelude.{◌≡◌, None};
+ghost use Rattle.std.specs.Prelude.{◌≡◌, MatchResult, None};
 ghost use Rattle.combine_turns.specs.CountParsers.{least_of_count_min_max, least_of_skip_count_min_max, most_of_count, most_of_count_min_max, most_of_skip_count, most_of_skip_count_min_max, repeated_by_count, repeated_by_count_min_max, repeated_by_skip_count, repeated_by_skip_count_min_max};
 ghost use Rattle.combine_turns.specs.Bounded.{begun_valid, running_turn};
 ghost use Rattle.combine_turns.specs.Counts.{appended, count, count_min_max, dropped, skip_count, skip_count_min_max};
@@ -11,8 +11,8 @@ use crate::turns::{Starts, Turns, TurnsState, take_turns};
 use combine_base::error::{ErrorOffset, ParseResult, Tracked};
 use combine_base::parser::{Outputs, ParseMode, Parser};
 use combine_base::repeat::Append;
-use combine_base::stream::Stream;
-use std::alloc::Global;
+use combine_base::stream::{Kind, Positioned, Stream, StreamOnce};
+use std::alloc::{AllocError, Global};
 use std::marker::PhantomData;
 
 /// What `count_min_max` answers.
@@ -31,14 +31,27 @@ const MOST_ROOM: usize = 1024;
 
 /// An empty collection; where a call begins, with room for so many values.
 #[inline(always)]
-fn room_for<A, F: Append<A>>(alloc: Global, begins: bool, values: usize) -> F
-    ensures { F.held result ≡ F.none }
+fn room_for<A, F: Append<A>>(alloc: Global, begins: bool, values: usize) -> Result<F, AllocError>
+    ensures { MatchResult result (λ v. F.held v ≡ F.none) (λ _. F.lean → ⊥) }
 {
     if begins {
         F::with_capacity(alloc, values.min(MOST_ROOM))
     } else {
-        F::empty(alloc)
+        Ok(F::empty(alloc))
     }
+}
+
+/// Answers that no memory was found before anything was read, and leaves a default state.
+#[cold]
+fn without_room<O, Input: Stream, S: Default + Drop>(
+    input: &Input,
+    state: &mut S,
+) -> ParseResult<O, Input::Error>
+    ensures error { (e : Input.Error) × (result ≡ ParseResult.CommitErr e) × (Input.Error.seen.kind e ≡ Kind.Memory) }
+    ensures fresh { S.is_default state.new }
+{
+    *state = S::default();
+    ParseResult::CommitErr(input.new_error(Kind::Memory, input.position()))
 }
 
 impl<Input, F: Drop, P> Outputs<Input> for CountMinMax<F, P> {
@@ -74,7 +87,9 @@ impl<Input: Stream, P: Parser<Input>, F: Append<P::Output>> Parser<Input> for Co
         input: &mut Input,
         state: &mut Self::PartialState,
     ) -> ParseResult<F, Input::Error> {
-        let empty = room_for(self.alloc, mode.is_first(), self.least);
+        let Ok(empty) = room_for(self.alloc, mode.is_first(), self.least) else {
+            return without_room(input, state);
+        };
         let start = Turns::none_yet(empty);
         let bounds = Between {
             least: self.least,

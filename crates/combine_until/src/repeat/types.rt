@@ -5,6 +5,7 @@ ghost use Rattle.combine_until.specs.Until.{some_appended, some_dropped, until_v
 ghost use Rattle.combine_until.specs.UntilLaws.{until_is_meaning, until_means_one};
 ghost use Rattle.combine_until.specs.UntilParsers.{blocks_end, blocks_part, repeat_until, skipped_end, skipped_part};
 
+pub use crate::mute::Mute;
 use crate::next::{Next, NextState};
 use crate::until::{UntilState, take_blocks};
 use combine_base::error::{ErrorOffset, ParseResult, Tracked};
@@ -16,31 +17,34 @@ use combine_token::token::types::Any;
 use std::alloc::Global;
 use std::marker::PhantomData;
 
+/// The parser of [`repeat_until`](crate::repeat::repeat_until); `A` is the value of a block.
+pub type RepeatUntil<F, A, P, E> = BlocksUntil<F, A, P, Mute<E>>;
+
 /// The parser of [`repeat_skip_until`](crate::repeat::repeat_skip_until).
-pub type SkipRepeatUntil<A, P, E> = Ignore<Skips<A, P, E>>;
+pub type SkipRepeatUntil<A, P, E> = Ignore<Skips<A, P, Mute<E>>>;
 
 /// The parser of [`take_until`](crate::repeat::take_until), with the stream's tokens as `T`.
-pub type TakeUntil<F, Input, T, E> = RepeatUntil<F, T, Any<Input>, E>;
+pub type TakeUntil<F, Input, T, E> = BlocksUntil<F, T, Any<Input>, E>;
 
 /// The parser of [`skip_until`](crate::repeat::skip_until).
-pub type SkipUntil<Input, T, E> = SkipRepeatUntil<T, Any<Input>, E>;
+pub type SkipUntil<Input, T, E> = Ignore<Skips<T, Any<Input>, E>>;
 
-/// What `repeat_until` answers; `A` is the value of a block.
+/// Blocks of a parser up to a place, their values collected; `A` is the value of a block. Our own: the crate has a parser each for `repeat_until` and `take_until`.
 #[derive(Drop)]
 #[derive_where(Clone, Copy; P, E)]
-pub struct RepeatUntil<F, A, P, E> {
+pub struct BlocksUntil<F, A, P, E> {
     pub(super) alloc: Global,
     pub(super) turn: Next<A, P, E>,
     pub(super) collects: PhantomData<F>,
 }
 
-impl<Input, F: Drop, A, P, E> Outputs<Input> for RepeatUntil<F, A, P, E> {
+impl<Input, F: Drop, A, P, E> Outputs<Input> for BlocksUntil<F, A, P, E> {
     type Output = F;
 }
 
 impl<Input: Stream, A: Drop, P: Parser<Input, Output = A>, E: Parser<Input>, F: Append<A>> Parser<
     Input,
-> for RepeatUntil<F, A, P, E> {
+> for BlocksUntil<F, A, P, E> {
     type PartialState = UntilState<F, NextState<Input, P, E>>;
 
     ghost lawful = { λ p. E.lawful (blocks_end p) × P.lawful (blocks_part p) };
@@ -83,7 +87,7 @@ impl<Input: Stream, A: Drop, P: Parser<Input, Output = A>, E: Parser<Input>, F: 
     }
 }
 
-/// As `RepeatUntil`, with the values dropped. Our own.
+/// As `BlocksUntil`, with the values dropped. Our own.
 #[derive(Drop)]
 #[derive_where(Clone, Copy; P, E)]
 pub struct Skips<A, P, E> {

@@ -80,7 +80,7 @@ impl<
     C: Parser<Input, Output = A::Output>,
     D: Parser<Input, Output = A::Output>,
 > Parser<Input> for Dispatch4<A, B, C, D> {
-    ghost use Rattle.combine_variants.specs.Variants4.{each_4, each_4_into, said_4, variant_4, variant_4_is_meaning, variant_4_means_one, variant_4_refuses};
+    ghost use Rattle.combine_variants.specs.Variants4.{each_4, each_4_into, variant_4, variant_4_is_meaning, variant_4_means_one, variant_4_refuses};
 
     type PartialState = Dispatch4<
         A::PartialState,
@@ -99,7 +99,7 @@ impl<
 
     ghost refuses = { variant_4_refuses A.PartialState.is_default B.PartialState.is_default C.PartialState.is_default D.PartialState.is_default A.refuses B.refuses C.refuses D.refuses };
 
-    ghost parts = { said_4 A.parts B.parts C.parts D.parts };
+    ghost parts = { λ p. 1 };
 
     ghost default_valid = { each_4_into A.PartialState.is_default A.valid B.PartialState.is_default B.valid C.PartialState.is_default C.valid D.PartialState.is_default D.valid A.default_valid B.default_valid C.default_valid D.default_valid };
 
@@ -152,13 +152,7 @@ impl<
         }
     }
 
-    /// As for the parser inside.
     fn parser_count(&self) -> ErrorOffset {
-        match self {
-            Dispatch4::A(parser) => parser.parser_count(),
-            Dispatch4::B(parser) => parser.parser_count(),
-            Dispatch4::C(parser) => parser.parser_count(),
-            Dispatch4::D(parser) => parser.parser_count(),
-        }
+        ErrorOffset(1)
     }
 }

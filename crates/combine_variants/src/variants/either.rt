@@ -53,7 +53,7 @@ impl<Input, L: Outputs<Input>, R> Outputs<Input> for Either<L, R> {
 
 impl<Input: Stream, L: Parser<Input>, R: Parser<Input, Output = L::Output>> Parser<Input>
     for Either<L, R> {
-    ghost use Rattle.combine_variants.specs.Variants2.{each_2, each_2_into, said_2, variant_2, variant_2_is_meaning, variant_2_means_one, variant_2_refuses};
+    ghost use Rattle.combine_variants.specs.Variants2.{each_2, each_2_into, variant_2, variant_2_is_meaning, variant_2_means_one, variant_2_refuses};
 
     type PartialState = Either<L::PartialState, R::PartialState>;
 
@@ -67,7 +67,7 @@ impl<Input: Stream, L: Parser<Input>, R: Parser<Input, Output = L::Output>> Pars
 
     ghost refuses = { variant_2_refuses L.PartialState.is_default R.PartialState.is_default L.refuses R.refuses };
 
-    ghost parts = { said_2 L.parts R.parts };
+    ghost parts = { λ p. 1 };
 
     ghost default_valid = { each_2_into L.PartialState.is_default L.valid R.PartialState.is_default R.valid L.default_valid R.default_valid };
 
@@ -106,11 +106,7 @@ impl<Input: Stream, L: Parser<Input>, R: Parser<Input, Output = L::Output>> Pars
         }
     }
 
-    /// As for the parser inside.
     fn parser_count(&self) -> ErrorOffset {
-        match self {
-            Either::Left(parser) => parser.parser_count(),
-            Either::Right(parser) => parser.parser_count(),
-        }
+        ErrorOffset(1)
     }
 }

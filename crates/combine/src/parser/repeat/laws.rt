@@ -5,3 +5,4 @@ pub use combine_repeat::repeat::laws::{
 };
 pub use combine_separated::repeat::laws::sep_by1_is_one_then_turns;
 pub use combine_turns::repeat::laws::skip_count_min_max_is_count_min_max_dropped;
+pub use combine_until::repeat::laws::repeat_skip_until_is_repeat_until_dropped;

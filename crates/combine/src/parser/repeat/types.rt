@@ -1,7 +1,7 @@
 //! The parsers that the functions of `repeat` answer.
 
-pub use combine_chains::repeat::types::{Chainr1, Escaped, EscapedState};
-pub use combine_iterate::repeat::types::{Iterate, IterateState};
+pub use combine_chains::repeat::types::{Chainr1, Escaped};
+pub use combine_iterate::repeat::types::Iterate;
 pub use combine_repeat::repeat::types::{Many, Many1, SkipMany, SkipMany1};
 pub use combine_sep_end::repeat::types::{SepEndBy, SepEndBy1};
 pub use combine_separated::repeat::types::{Chainl1, SepBy, SepBy1, SepCountMinMax};

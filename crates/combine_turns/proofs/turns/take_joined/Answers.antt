@@ -1,8 +1,10 @@
 use Rattle.std.proofs.Common.{true, false, refl, sym, ◌∙◌}
 use Rattle.combine_base.proofs.Same.{passes_none, passes_more}
+use Rattle.combine_turns.specs.Bounded.{gathered}
 use Rattle.combine_turns.proofs.Judging.{called_same, turned_same, turns_same_more}
 use Rattle.combine_turns.proofs.Repeating.{comes_on, comes_stopped, resumed_valid}
 use Rattle.combine_turns.proofs.Beginning.{not_first, valid_begun, comes_kept, enters, first_on, first_refused, first_more, first_fails}
+use Rattle.combine_turns.proofs.Sounding.{first_sound, goes_sound, nothing_kept, stopped_sound, turn_able}
 use Rattle.combine_turns.proofs.turns.take_joined.Goals as goal
 use Rattle.combine_turns.proofs.turns.take_joined.Goals.{in-Turns+in-Goes, in-Nothing+in-Goes-first_turn}
 
@@ -13,6 +15,26 @@ returns-in-Stops-clause-answers g c =
     let z = comes_kept _ _ _ _ _ _ _ _ _ _ _ _ f (sym r.0 ∙ c.in-Turns.is) (sym r.1) in
     let q = passes_none (g.Input.StreamOnce.marks c.args.input.now) (g.Input.StreamOnce.failures c.args.input.now) in
     rw c.stopped.ensures.answer (comes_stopped _ _ _ _ _ _ _ _ false _ _ z refl _ c.hand_out-given.ensures.left refl refl refl q.reads q.resets _ c.in-Stops.ensures.turned.is c.stopped.ensures.state)
+
+pub returns-in-Stops-clause-sound : goal.returns-in-Stops-clause-sound
+returns-in-Stops-clause-sound g c =
+    let f = not_first g.P.Running.Default.is_default g.P.Turn.valid _ _ _ _ (rw c.is_first.ensures at c.hand_out-given.ensures.afresh) c.in-Turns.is in
+    let r = (rw c.is_first.ensures at c.hand_out-given.ensures.resumed) f in
+    stopped_sound _ (gathered g.G.Gather.held g.G.Gather.none g.G.Gather.more g.G.Gather.lean) g.G.Gather.able g.G.Gather.sound g.met.G.Gather.keeps_sound _ _ _ _ _ (c.requires.sound _ (sym r.0 ∙ c.in-Turns.is)) _ c.in-Stops.ensures.turned.is _ _ _ c.hand_out-given.ensures.left c.stopped.ensures.state c.stopped.ensures.answer
+
+pub returns-in-Refused-clause-sound : goal.returns-in-Refused-clause-sound
+returns-in-Refused-clause-sound g c = nothing_kept (λ i. g.G.Gather.sound (g.G.Gather.held i)) _ _ c.hand_out-given.ensures.left tt
+
+pub returns-in-More-clause-sound : goal.returns-in-More-clause-sound
+returns-in-More-clause-sound g c = nothing_kept (λ i. g.G.Gather.sound (g.G.Gather.held i)) _ _ c.hand_out-given.ensures.left tt
+
+pub returns-in-Failed-clause-sound : goal.returns-in-Failed-clause-sound
+returns-in-Failed-clause-sound g c = nothing_kept (λ i. g.G.Gather.sound (g.G.Gather.held i)) _ _ c.hand_out-given.ensures.left tt
+
+pub returns-in-Stops-one_turn-clause-sound : goal.returns-in-Stops-one_turn-clause-sound
+returns-in-Stops-one_turn-clause-sound g c =
+    let i = c.turns.invariant in
+    stopped_sound _ (gathered g.G.Gather.held g.G.Gather.none g.G.Gather.more g.G.Gather.lean) g.G.Gather.able g.G.Gather.sound g.met.G.Gather.keeps_sound _ _ _ _ _ i.sound _ c.in-Stops-one_turn.ensures.turned.is _ _ _ i.cleared c.stopped-in-Stops-one_turn.ensures.state c.stopped-in-Stops-one_turn.ensures.answer
 
 pub returns-in-Refused-clause-answers : goal.returns-in-Refused-clause-answers
 returns-in-Refused-clause-answers g c =
@@ -49,6 +71,7 @@ turns-init g c =
             same = rw w.parser-is w.resume_turn.ensures.same;
             passes = rw w.input-is w.resume_turn.ensures.passes;
             cleared = rw w.state-is c.hand_out-given.ensures.left;
+            sound = rw w.turns-is (goes_sound _ (gathered g.G.Gather.held g.G.Gather.none g.G.Gather.more g.G.Gather.lean) g.G.Gather.able g.G.Gather.sound g.met.G.Gather.keeps_sound _ _ _ _ _ (c.requires.sound _ (sym (r f).0 ∙ w.in-Turns.is)) _ s (turn_able _ g.P.Turn.valid _ _ g.P.Turn.gives g.G.Gather.able (g.met.P.Turn.gives_only _ c.requires.lawful) c.requires.able false _ (resumed_valid g.P.Turn.valid _ _ (r f).1 c.requires.valid) _ _ s.judged.accepts));
             reaches = rw (w.state-is, w.input-is, w.turns-is) (comes_on _ _ _ _ _ _ _ _ (g.met.P.Turn.laws _ c.requires.lawful) _ _ _ _ false _ _ _ z refl (resumed_valid g.P.Turn.valid _ _ (r f).1 c.requires.valid) s _);
           }
       | in-Nothing+in-Goes-first_turn w ↦
@@ -61,6 +84,7 @@ turns-init g c =
             same = rw w.parser-is w.first_turn.ensures.same;
             passes = rw w.input-is w.first_turn.ensures.passes;
             cleared = rw w.state-is c.hand_out-given.ensures.left;
+            sound = rw w.turns-is (first_sound _ (gathered g.G.Gather.held g.G.Gather.none g.G.Gather.more g.G.Gather.lean) g.G.Gather.able g.G.Gather.sound g.met.G.Gather.keeps_sound _ _ _ s (turn_able _ g.P.Turn.valid _ _ g.P.Turn.gives g.G.Gather.able (g.met.P.Turn.gives_only _ c.requires.lawful) c.requires.able false _ (valid_begun g.P.Running.Default.is_default g.P.Turn.valid g.met.P.Turn.default_valid _ _ _ _ _ r a c.requires.valid) _ _ s.accepts));
             reaches = rw (w.state-is, w.input-is, w.turns-is) (first_on _ _ _ _ _ _ _ (g.met.P.Turn.laws _ c.requires.lawful) c.requires.never _ _ _ z (valid_begun g.P.Running.Default.is_default g.P.Turn.valid g.met.P.Turn.default_valid _ _ _ _ _ r a c.requires.valid) s _);
           }
     ]
@@ -84,5 +108,6 @@ turns-preserved g c =
       same = turns_same_more _ _ _ _ _ _ i.same c.one_turn.ensures.same;
       passes = passes_more _ _ _ _ _ _ i.passes c.one_turn.ensures.passes;
       cleared = i.cleared;
+      sound = goes_sound _ (gathered g.G.Gather.held g.G.Gather.none g.G.Gather.more g.G.Gather.lean) g.G.Gather.able g.G.Gather.sound g.met.G.Gather.keeps_sound _ _ _ _ _ i.sound _ c.in-Goes-one_turn.ensures.turned.is (turn_able _ g.P.Turn.valid _ _ g.P.Turn.gives g.G.Gather.able (g.met.P.Turn.gives_only _ i.lawful) c.requires.able true _ i.valid _ _ c.in-Goes-one_turn.ensures.turned.is.judged.accepts);
       reaches = comes_on _ _ _ _ _ _ _ _ (g.met.P.Turn.laws _ c.requires.lawful) _ _ _ _ true _ _ _ i.reaches refl i.valid s _;
     }

@@ -18,6 +18,7 @@ invariant-turns g l = record {
   same : TurnsSame (g.P.Turn.meaning l.fn.parser) (g.P.Turn.again l.fn.parser) (g.P.Turn.meaning l.parser) (g.P.Turn.again l.parser);
   passes : Passes (g.Input.StreamOnce.marks l.fn.input) (g.Input.StreamOnce.marks l.input) (g.Input.StreamOnce.failures l.fn.input) (g.Input.StreamOnce.failures l.input);
   cleared : l.state.earlier ≡ Nothing;
+  sound : g.G.Gather.sound (g.G.Gather.held l.turns.into);
   reaches : Reaches
       (world g.Input.StreamOnce.step g.Input.Error.ParseError.seen g.Input.StreamOnce.steady g.P.Running.Default.is_default)
       (fresh_turns g.P.Running.Default.is_default)

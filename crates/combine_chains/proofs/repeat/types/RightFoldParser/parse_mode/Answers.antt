@@ -29,3 +29,21 @@ returns-in-CommitOk-clause-answers g c = mapped_ok _ _ _ _ _ _ c.fold.ensures c.
 
 pub returns-in-PeekOk-clause-answers : goal.returns-in-PeekOk-clause-answers
 returns-in-PeekOk-clause-answers g c = mapped_peek_ok _ _ _ _ _ _ c.fold-in-PeekOk.ensures c.in-PeekOk.ensures.answers
+
+pub returns-in-CommitOk-clause-valid : goal.returns-in-CommitOk-clause-valid
+returns-in-CommitOk-clause-valid g c = (c.take_joined.ensures.valid, c.take_joined.ensures.sound.kept)
+
+pub returns-in-PeekOk-clause-valid : goal.returns-in-PeekOk-clause-valid
+returns-in-PeekOk-clause-valid g c = (c.take_joined.ensures.valid, c.take_joined.ensures.sound.kept)
+
+pub returns-in-CommitErr-clause-valid : goal.returns-in-CommitErr-clause-valid
+returns-in-CommitErr-clause-valid g c = (c.take_joined.ensures.valid, c.take_joined.ensures.sound.kept)
+
+pub returns-in-PeekErr-clause-valid : goal.returns-in-PeekErr-clause-valid
+returns-in-PeekErr-clause-valid g c = (c.take_joined.ensures.valid, c.take_joined.ensures.sound.kept)
+
+pub fold-requires : goal.fold-requires
+fold-requires g c = record { callable = c.in-CommitOk.ensures.sound.value }
+
+pub fold-requires-in-PeekOk : goal.fold-requires-in-PeekOk
+fold-requires-in-PeekOk g c = record { callable = c.in-PeekOk.ensures.sound.value }

@@ -4,11 +4,11 @@ use Rattle.combine_base.specs.Parser.Mapped.{mapped_means_same}
 use Rattle.combine_base.proofs.Reasoning.{reasons_err, reasons_peek_err}
 use Rattle.combine_map.proofs.combinator.types.MapParser.parse_mode.Goals as goal
 
-pub function-requires : goal.function-requires
-function-requires g c = good_ok _ _ _ _ _ _ c.requires.lawful.1 c.requires.valid c.in-CommitOk.ensures.answers
+pub map_one-requires : goal.map_one-requires
+map_one-requires g c = good_ok _ _ _ _ _ _ c.requires.lawful.1 c.requires.valid c.in-CommitOk.ensures.answers
 
-pub function-requires-in-PeekOk : goal.function-requires-in-PeekOk
-function-requires-in-PeekOk g c = good_peek_ok _ _ _ _ _ _ c.requires.lawful.1 c.requires.valid c.in-PeekOk.ensures.answers
+pub map_one-requires-in-PeekOk : goal.map_one-requires-in-PeekOk
+map_one-requires-in-PeekOk g c = good_peek_ok _ _ _ _ _ _ c.requires.lawful.1 c.requires.valid c.in-PeekOk.ensures.answers
 
 pub returns-in-CommitOk-clause-same : goal.returns-in-CommitOk-clause-same
 returns-in-CommitOk-clause-same g c = mapped_means_same _ _ _ c.parse_mode.ensures.same
@@ -35,10 +35,10 @@ pub returns-in-PeekErr-clause-refuses : goal.returns-in-PeekErr-clause-refuses
 returns-in-PeekErr-clause-refuses g c = reasons_peek_err _ _ _ _ c.in-PeekErr.ensures.refuses
 
 pub returns-in-CommitOk-clause-answers : goal.returns-in-CommitOk-clause-answers
-returns-in-CommitOk-clause-answers g c = mapped_ok _ _ _ _ _ _ c.function.ensures c.in-CommitOk.ensures.answers
+returns-in-CommitOk-clause-answers g c = mapped_ok _ _ _ _ _ _ c.map_one.ensures c.in-CommitOk.ensures.answers
 
 pub returns-in-PeekOk-clause-answers : goal.returns-in-PeekOk-clause-answers
-returns-in-PeekOk-clause-answers g c = mapped_peek_ok _ _ _ _ _ _ c.function-in-PeekOk.ensures c.in-PeekOk.ensures.answers
+returns-in-PeekOk-clause-answers g c = mapped_peek_ok _ _ _ _ _ _ c.map_one-in-PeekOk.ensures c.in-PeekOk.ensures.answers
 
 pub returns-in-CommitOk-clause-refuses : goal.returns-in-CommitOk-clause-refuses
 returns-in-CommitOk-clause-refuses g c = λ committed e h. absurd h.is

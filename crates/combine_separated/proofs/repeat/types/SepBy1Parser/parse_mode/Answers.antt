@@ -2,6 +2,7 @@ use Rattle.std.proofs.Common.{None}
 use Rattle.combine_turns.specs.BoundedLaws.{turns_means_same}
 use Rattle.combine_turns.specs.Counts.{never}
 use Rattle.combine_turns.specs.declared.turns.Bounds.TheVariants.{Joined}
+use Rattle.combine_separated.specs.Leads.{any_given}
 use Rattle.combine_separated.proofs.repeat.types.SepBy1Parser.parse_mode.Goals as goal
 
 pub returns-clause-same : goal.returns-clause-same
@@ -9,3 +10,6 @@ returns-clause-same g c = turns_means_same _ (Joined 1 None) never _ _ _ _ _ _ c
 
 pub returns-clause-answers : goal.returns-clause-answers
 returns-clause-answers g c = rw (c.none_yet-start.ensures, c.empty.ensures) at c.take_turns.ensures.answers
+
+pub take_turns-requires-clause-lawful : goal.take_turns-requires-clause-lawful
+take_turns-requires-clause-lawful g c = (any_given, c.requires.lawful.0, c.requires.lawful.1)

@@ -7,4 +7,4 @@ pub returns-clause-same : goal.returns-clause-same
 returns-clause-same g c = repeated_means_same _ (Counted (least_of_count_min_max c.args.self.now) (most_of_count_min_max c.args.self.now)) _ _ _ c.take_turns.ensures.same.meaning
 
 pub returns-clause-answers : goal.returns-clause-answers
-returns-clause-answers g c = rw (c.none_yet-start.ensures, c.room_for-empty.ensures) at c.take_turns.ensures.answers
+returns-clause-answers g c = rw (c.none_yet-start.ensures, c.in-Ok.ensures) at c.take_turns.ensures.answers

@@ -1,0 +1,17 @@
+//! What a caller can cite of each constructor: that it has one outcome, leaves nothing unread on need of more or puts all back, and takes no memory. They are built for the tests alone, so that they are proved once.
+#![tactic(auto)]
+
+#[cfg(test)]
+mod changed;
+#[cfg(test)]
+mod choices;
+#[cfg(test)]
+mod promises;
+#[cfg(test)]
+mod put_back;
+#[cfg(test)]
+mod repetitions;
+#[cfg(test)]
+mod sequences;
+#[cfg(test)]
+mod tokens;

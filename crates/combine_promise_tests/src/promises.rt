@@ -1,0 +1,24 @@
+//! The promises, each asked of a parser by a function that only takes it.
+
+use combine::parser::Parser;
+use combine::stream::Stream;
+
+/// Takes a parser that has one outcome, and on need of more leaves nothing unread.
+pub fn keeps<Input: Stream, P: Parser<Input> + Drop>(parser: P)
+    requires determined { P.determined parser }
+    requires keeps { (P.meaning parser).keeps }
+{}
+
+/// Takes a parser that also asks for no memory.
+pub fn keeps_without_memory<Input: Stream, P: Parser<Input> + Drop>(parser: P)
+    requires determined { P.determined parser }
+    requires keeps { (P.meaning parser).keeps }
+    requires lean { (P.meaning parser).lean }
+{}
+
+/// Takes a parser that has one outcome, on need of more takes nothing, and asks for no memory.
+pub fn puts_back<Input: Stream, P: Parser<Input> + Drop>(parser: P)
+    requires determined { P.determined parser }
+    requires puts_back { (P.meaning parser).puts_back }
+    requires lean { (P.meaning parser).lean }
+{}

@@ -1,0 +1,43 @@
+//! Repetitions.
+
+use crate::promises::{keeps, keeps_without_memory};
+use combine::error::ParseError;
+use combine::parser::combinator::map;
+use combine::parser::repeat::{
+    Sink, chainl1, count_min_max, many, many1, sep_by, sep_end_by, skip_count, skip_many,
+    skip_many1,
+};
+use combine::parser::token::{any, token};
+use combine::stream::{Stream, fed};
+use std::alloc::Global;
+
+/// Values are collected, which takes memory, or dropped.
+fn turns<Input: Stream<Token = u8>>(alloc: Global)
+where
+    Input::Error: ParseError<u8, Input::Range, Input::Position>,
+{
+    keeps::<Input, _>(many::<Vec<u8>, _>(alloc, token(b'a')));
+    keeps_without_memory::<Input, _>(many::<Sink, _>(alloc, token(b'a')));
+    keeps::<Input, _>(many1::<Vec<u8>, _>(alloc, token(b'a')));
+    keeps_without_memory::<Input, _>(skip_many(token(b'a')));
+    keeps_without_memory::<Input, _>(skip_many1(token(b'a')));
+    keeps::<Input, _>(count_min_max::<Vec<u8>, _>(alloc, 1, 2, any()));
+    keeps_without_memory::<Input, _>(skip_count(2, any()));
+}
+
+/// What stands between separators, and chains.
+fn separated<Input: Stream<Token = u8>>(alloc: Global)
+where
+    Input::Error: ParseError<u8, Input::Range, Input::Position>,
+{
+    keeps::<Input, _>(sep_by::<Vec<u8>, _, _>(alloc, token(b'a'), token(b',')));
+    keeps::<Input, _>(sep_end_by::<Vec<u8>, _, _>(alloc, token(b'a'), token(b',')));
+    let operator = map(token(b'^'), |_: u8| |left: u8, right: u8| left ^ right);
+    keeps_without_memory::<Input, _>(chainl1(any(), operator));
+}
+
+#[test]
+fn promised(rt: HostRuntime) {
+    turns::<fed::Stream<u8>>(rt.alloc());
+    separated::<fed::Stream<u8>>(rt.alloc());
+}

@@ -1,0 +1,38 @@
+//! Parsers one after another.
+
+use crate::promises::keeps_without_memory;
+use combine::error::ParseError;
+use combine::parser::choice::Dispatch3;
+use combine::parser::sequence::{between, skip, then, with};
+use combine::parser::token::{any, token, value};
+use combine::stream::{Stream, fed};
+
+fn several<Input: Stream<Token = u8>>()
+where
+    Input::Error: ParseError<u8, Input::Range, Input::Position>,
+{
+    keeps_without_memory::<Input, _>((any(), token(b'a')));
+    keeps_without_memory::<Input, _>((any(), any(), any(), any(), token(b'a')));
+    keeps_without_memory::<Input, _>(with(any(), token(b'a')));
+    keeps_without_memory::<Input, _>(skip(any(), token(b'a')));
+    keeps_without_memory::<Input, _>(between(any(), any(), token(b'a')));
+}
+
+/// A parser that a function answers.
+fn answered<Input: Stream<Token = u8>>()
+where
+    Input::Error: ParseError<u8, Input::Range, Input::Position>,
+{
+    keeps_without_memory::<Input, _>(then(any(), |byte: u8| token(byte)));
+    keeps_without_memory::<Input, _>(then(any(), |kind: u8| match kind {
+        b'1' => Dispatch3::A(any()),
+        b'2' => Dispatch3::B(token(kind)),
+        _ => Dispatch3::C(value(kind)),
+    }));
+}
+
+#[test]
+fn promised() {
+    several::<fed::Stream<u8>>();
+    answered::<fed::Stream<u8>>();
+}
