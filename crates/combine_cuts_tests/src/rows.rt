@@ -1,4 +1,5 @@
 //! Parsers over every set of windows.
+ghost use Rattle.combine_range.specs.Wanted.{Fair};
 
 use crate::cutting::{Cut, check};
 use crate::windows::Found;
@@ -129,20 +130,19 @@ where
 /// What stands before some text.
 fn before_text<Input: Cut + RangeStream>(
     alloc: Global,
-    wanted: &'static str,
+    wanted: Input::Range,
     row: (&'static str, Found<&'static str>),
     wrong: &mut Vec<String>,
 ) -> Result<(), AllocError>
 where
     Input::Range: Range + PartialEq,
-    Input::Token: PartialEq,
+    requires { Fair Input.spells (λ r. Input.Range.eq r wanted) }
 {
-    let before = take_until_range(Input::range_of(wanted));
     let told = |range: Input::Range| Input::text_of(range);
-    check::<Input, _, _, _, _>(alloc, before, told, &[row], wrong)
+    check::<Input, _, _, _, _>(alloc, take_until_range(wanted), told, &[row], wrong)
 }
 
-/// A text that is found, or begins, inside a character.
+/// A text that begins, or ends, inside a character.
 fn characters<Input: Cut + Stream<Token = char> + RangeStream>(
     alloc: Global,
     wrong: &mut Vec<String>,
@@ -152,19 +152,6 @@ where
     Input::Error: ParseError<char, Input::Range, Input::Position>,
 {
     let told = |range: Input::Range| Input::text_of(range);
-    let mark = (
-        "Foo baz bar quux\"",
-        Found::Accepted("Foo baz bar quux", 16, true),
-    );
-    before_text::<Input>(alloc, "\"", mark, wrong)?;
-    let crab = (
-        "\u{1f603} a \u{1f980}",
-        Found::Accepted("\u{1f603} a ", 4, true),
-    );
-    before_text::<Input>(alloc, "\u{1f980}", crab, wrong)?;
-    let condition = "if ((pointless_comparison == 3) === true) {";
-    let three = Found::Accepted("if ((pointless_comparison == 3) ", 32, true);
-    before_text::<Input>(alloc, "===", (condition, three), wrong)?;
     let hello = range(Input::range_of("hello"));
     let other = [("hell\u{ee} world", Found::Refused(false))];
     check::<Input, _, _, _, _>(alloc, hello, told, &other, wrong)?;
@@ -278,9 +265,28 @@ mod tests {
     use super::*;
     use combine_stream::{MaybePartialStream, position};
 
+    type Texts = MaybePartialStream<position::TextStream<'static>>;
+
+    #[test]
+    fn before_texts(rt: HostRuntime) -> Result<(), AllocError> {
+        let mut wrong = Vec::new(rt.alloc());
+        let condition = "if ((pointless_comparison == 3) === true) {";
+        for (wanted, input, before, taken) in [
+            ("\"", "Foo baz bar quux\"", "Foo baz bar quux", 16),
+            ("\u{1f980}", "\u{1f603} a \u{1f980}", "\u{1f603} a ", 4),
+            ("===", condition, "if ((pointless_comparison == 3) ", 32),
+        ] {
+            let row = (input, Found::Accepted(before, taken, true));
+            before_text::<Texts>(rt.alloc(), wanted, row, &mut wrong)?;
+        }
+        for row in wrong {
+            assert_eq!(rt; row.as_str(), "");
+        }
+        Ok(())
+    }
+
     #[test]
     fn of_texts(rt: HostRuntime) -> Result<(), AllocError> {
-        type Texts = MaybePartialStream<position::TextStream<'static>>;
         for row in wrong_of_texts::<Texts>(rt.alloc())? {
             assert_eq!(rt; row.as_str(), "");
         }
