@@ -1,5 +1,5 @@
 -- what a session is seen as, and what its calls promise
-use Rattle.std.specs.Prelude.{ℕ, ◌+◌, ◌^◌, ◌<◌, ◌≤◌, ◌≡◌, ◌↔◌, List, [], ◌++◌, Bool, true, false, length, drop, Result, Ok, Err, MatchResult, IsErrAnd}
+use Rattle.std.specs.Prelude.{ℕ, Option, Some, None, not, nat_lt, ◌⊎◌, ◌+◌, ◌^◌, ◌<◌, ◌≤◌, ◌≡◌, ◌↔◌, List, [], ◌++◌, Bool, true, false, length, drop, Result, Ok, Err, MatchResult, IsErrAnd}
 use Rattle.combine_base.specs.Stream.View.{View, extended}
 use Rattle.combine_base.specs.Parser.Outcome.{Outcome, Accepted, Refused, Undecided, after, shape}
 use Rattle.combine_base.specs.Parser.Meaning.{Meaning, Reading, MeansOne, MeansSame}
@@ -23,9 +23,16 @@ pub record Course (Parser Token State : Type 0) : Type 0 where
   pub state : State
   pub seen : View ℕ Token
   pub stage : Stage
+  -- how many tokens may be unread, if that is limited
+  pub limit : Option ℕ
 
-abbrev pub course_of : {Parser Token State : Type 0} → Parser → State → Stream Token → Stage → Course Parser Token State
-course_of parser state stream stage = record { parser = parser; state = state; seen = fed_view stream; stage = stage }
+abbrev pub course_of : {Parser Token State : Type 0} → Parser → State → Stream Token → Stage → Option ℕ → Course Parser Token State
+course_of parser state stream stage limit = record { parser = parser; state = state; seen = fed_view stream; stage = stage; limit = limit }
+
+-- so many tokens are within a limit
+abbrev pub admits : Option ℕ → ℕ → Bool
+admits None n = true
+admits (Some most) n = not (nat_lt most n)
 
 -- what a parser answered that left its stream so, as a session answers it
 abbrev pub answered : {Token Value : Type 0} → View ℕ Token → ParseResult Value UnexpectedParse → Result (Answer Value UnexpectedParse) Kind
@@ -63,10 +70,13 @@ module _ {Parser Token Range Value State : Type 0} (meaning : Parser → Meaning
     pub valid : IsValid c.state
     pub is_open : c.stage ≡ stages.Running → c.seen.is_open ≡ true
     pub found : c.stage ≡ stages.Running → (x : List Token) (m : Bool) → (meaning c.parser).lost c.state (extended x m c.seen) → ⊥
+    -- a parser that keeps leaves nothing unread
+    pub kept : c.stage ≡ stages.Running → (meaning c.parser).keeps → c.seen.unread ≡ []
+    pub few : admits c.limit (length c.seen.unread) ≡ true
 
   module _ (valid : State → Type 0) where
     -- a session of this parser that was fed nothing yet
-    pub record Begins (determined : Parser → Type 0) (p : Parser) (c : Course Parser Token State) : Type 0 where
+    pub record Begins (determined : Parser → Type 0) (most : Option ℕ) (p : Parser) (c : Course Parser Token State) : Type 0 where
       pub parser : c.parser ≡ p
       -- what is left is exactly what the parser means
       pub left : (x : List Token) (m : Bool) (o : Outcome Value) → left c x m o ↔ (meaning p).whole (record { position = 0; unread = x; is_open = m }) o
@@ -74,6 +84,7 @@ module _ {Parser Token Range Value State : Type 0} (meaning : Parser → Meaning
       pub unread : c.seen.unread ≡ []
       pub taken : c.seen.position ≡ 0
       pub stage : c.stage ≡ stages.Running
+      pub limit : c.limit ≡ most
 
     module _ (old new : Course Parser Token State) (piece : List Token) (more : Bool) where
       -- with the piece this is an outcome, and where there is only one, none has another shape
@@ -124,17 +135,27 @@ module _ {Parser Token Range Value State : Type 0} (meaning : Parser → Meaning
         pub is : parsed result
         pub stage : new.stage ≡ stage_after result
         pub same : MeansSame (meaning old.parser) (meaning new.parser)
+        pub limit : new.limit ≡ old.limit
 
       -- how many tokens are fed in all, with the piece
       abbrev pub total : ℕ
       total = old.seen.position + length old.seen.unread + length piece
 
+      -- the unread tokens and the piece are within the limit, and all tokens are counted
+      abbrev pub fits : Type 0
+      fits = (total < 2 ^ 64) × (admits old.limit (length old.seen.unread + length piece) ≡ true)
+
+      -- or not; and where the parser keeps, then not for the limit's sake, if the piece alone is within it
+      pub record IsTooLong : Type 0 where
+        pub why : (2 ^ 64 ≤ total) ⊎ (admits old.limit (length old.seen.unread + length piece) ≡ false)
+        pub spared : (meaning old.parser).keeps → admits old.limit (length piece) ≡ true → 2 ^ 64 ≤ total
+
       -- the piece is fed and parsed, but for one that is too long or finds no room
       abbrev pub feeds : Result (Answer Value UnexpectedParse) SessionError → Type 0
-      feeds (Ok a) = (total < 2 ^ 64) × Parses (Ok a)
-      feeds (Err (errors.Fault k)) = (total < 2 ^ 64) × Parses (Err k)
-      feeds (Err errors.TooLong) = (2 ^ 64 ≤ total) × (new ≡ old)
-      feeds (Err errors.Memory) = (total < 2 ^ 64) × (new ≡ old)
+      feeds (Ok a) = fits × Parses (Ok a)
+      feeds (Err (errors.Fault k)) = fits × Parses (Err k)
+      feeds (Err errors.TooLong) = IsTooLong × (new ≡ old)
+      feeds (Err errors.Memory) = fits × (new ≡ old)
       feeds (Err errors.Closed) = ⊥
       feeds (Err errors.Failed) = ⊥
 
@@ -163,11 +184,11 @@ module _ {Parser Token Range Value State : Type 0} (meaning : Parser → Meaning
 
     -- what the call promises that begins again with this parser on what is unread
     module _ (determined : Parser → Type 0) (p : Parser) (old new : Course Parser Token State) (result : Result (Answer Value UnexpectedParse) SessionError) where
-      -- a session that begins is fed what was unread, open or ended as before; room is never wanted
+      -- a session of the same limit that begins is fed what was unread, open or ended as before; that is within the limit, and room is never wanted
       pub record Anew : Type 0 where
         pub begun : Course Parser Token State
-        pub begins : Begins determined p begun
-        pub fits : length old.seen.unread < 2 ^ 64
+        pub begins : Begins determined old.limit p begun
+        pub fits : (length old.seen.unread < 2 ^ 64) × (admits old.limit (length old.seen.unread) ≡ true)
         pub parses : ends begun new old.seen.unread old.seen.is_open result
 
       -- after a fault nothing changes any more
