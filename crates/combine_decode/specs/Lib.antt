@@ -1,0 +1,4 @@
+pub mod Messages
+pub mod Decoders
+pub mod Pieces
+pub mod MessageLaws
