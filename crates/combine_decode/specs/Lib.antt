@@ -2,3 +2,4 @@ pub mod Messages
 pub mod Decoders
 pub mod Pieces
 pub mod MessageLaws
+pub mod Frames

@@ -1,17 +1,24 @@
 //! A decoder of messages, one after another.
 ghost use Rattle.std.specs.Prelude.{◌≡◌, ◌↔◌, [], true, length, MatchResult};
+ghost use Rattle.combine_decode.specs.Frames.{frame_of};
 ghost use Rattle.combine_decode.specs.Messages.{After, Gives, IsMade, Told, made};
 ghost use Rattle.combine_base.specs.declared.stream.Kind.TheVariants as kinds;
 
+mod framing;
 pub mod laws;
 mod pieces;
+pub mod types;
 
 use combine_base::error::UnexpectedParse;
 use combine_base::parser::{Answer, Parser, Session, SessionError};
 use combine_base::stream::{Kind, fed};
+use combine_integers::num::be_u16;
+use combine_sequence::sequence::types::Answered;
+use framing::Framing;
 pub use pieces::decode_pieces;
 use std::alloc::Global;
 use std::marker::Model;
+use types::Frame;
 
 /// Why no more messages are given.
 #[derive(Clone, Copy, Debug, PartialEq, Eq)]
@@ -167,6 +174,16 @@ impl BatchEnd {
             BatchEnd::Refused { .. } | BatchEnd::EmptyMessage => Phase::Closed,
         }
     }
+}
+
+/// A message behind its length, a number of two bytes, the highest first: the bytes of the message are the value. Our own.
+///
+/// It is `be_u16`, and then that many bytes by `count_min_max` of `any`. On need of more the length is kept, and so are the bytes behind it; the first byte of a length alone is put back. Ended input that is too short is refused: peeked within the length, committed behind it. Room is had as bytes come: a length takes room for no more than 1,024 of them at once.
+#[inline]
+pub fn frame<Input>(alloc: Global) -> Frame<Input>
+    ensures { result ≡ frame_of alloc }
+{
+    Answered::new(be_u16(), Framing::new(alloc))
 }
 
 /// Starts a session of a parser that the maker answers.
