@@ -1,0 +1,4 @@
+mod Decoding
+mod Feeding
+pub mod Dividing
+pub mod Pieces

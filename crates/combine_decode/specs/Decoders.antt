@@ -1,0 +1,67 @@
+-- what a decoder is seen as, and what its calls promise
+use Rattle.std.specs.Prelude.{ℕ, ◌+◌, ◌^◌, ◌<◌, ◌≤◌, ◌≡◌, ◌↔◌, List, ◌++◌, Bool, true, length, Result, Ok, Err}
+use Rattle.combine_base.specs.Parser.Meaning.{Meaning}
+use Rattle.combine_base.specs.Parser.Sessions.{Course}
+use Rattle.combine_base.specs.declared.stream.Kind.TheVariants as kinds
+use Rattle.combine_decode.specs.Messages.{After, Gives, made}
+use Rattle.combine_decode.specs.declared.decode.Batch.{Batch}
+use Rattle.combine_decode.specs.declared.decode.BatchEnd.{BatchEnd}
+use Rattle.combine_decode.specs.declared.decode.BatchEnd.TheVariants as ends
+use Rattle.combine_decode.specs.declared.decode.DecodeError.{DecodeError}
+use Rattle.combine_decode.specs.declared.decode.DecodeError.TheVariants as errors
+use Rattle.combine_decode.specs.declared.decode.Phase.{Phase}
+use Rattle.combine_decode.specs.declared.decode.Phase.TheVariants as phases
+
+-- how a decoder stands
+pub record Decoding (Maker Parser Token State : Type 0) : Type 0 where
+  pub maker : Maker
+  pub course : Course Parser Token State
+  pub phase : Phase
+  pub at_boundary : Bool
+
+-- how far a decoder is after such an end
+abbrev pub phase_after : BatchEnd → Phase
+phase_after ends.More = phases.Running
+phase_after (ends.Refused committed) = phases.Closed
+phase_after ends.EmptyMessage = phases.Closed
+
+-- what a call answers that comes after an end or a fault
+abbrev pub checked : Phase → Result Unit DecodeError
+checked phases.Running = Ok tt
+checked phases.Closed = Err errors.Closed
+checked phases.Failed = Err errors.Failed
+
+module _ {F P T R V S : Type 0} (makes : F → P → Type 0) (meaning : P → Meaning ℕ T R V S) where
+  -- a decoder that may go on, with these tokens behind the messages that it gave
+  pub record Stands (l : List T) (d : Decoding F P T S) : Type 0 where
+    pub phase : d.phase ≡ phases.Running
+    pub after : After (made meaning (makes d.maker)) meaning l d.course
+    pub boundary : (d.at_boundary ≡ true) ↔ (length l ≡ 0)
+
+  module _ (old new : Decoding F P T S) (piece : List T) where
+    -- all messages of the tokens behind those given before, and how the decoder then stands
+    pub record Batches (l : List T) (b : Batch V) : Type 0 where
+      pub gives : Gives (made meaning (makes old.maker)) meaning (l ++ piece) new.course new.at_boundary b
+      pub phase : new.phase ≡ phase_after b.end
+
+    pub record Faults : Type 0 where
+      pub phase : new.phase ≡ phases.Failed
+      pub boundary : new.at_boundary ≡ old.at_boundary
+
+    abbrev pub decodes : List T → Result (Batch V) DecodeError → Type 0
+    decodes l (Ok b) = (length l + length piece < 2 ^ 64) × Batches l b
+    decodes l (Err (errors.Fault k)) = (length l + length piece < 2 ^ 64) × (k ≡ kinds.Memory) × Faults
+    decodes l (Err errors.TooLong) = (2 ^ 64 ≤ length l + length piece) × (new ≡ old)
+    decodes l (Err errors.Memory) = (length l + length piece < 2 ^ 64) × (new ≡ old)
+    decodes l (Err errors.Closed) = ⊥
+    decodes l (Err errors.Failed) = ⊥
+
+    abbrev pub by_phase : Phase → Result (Batch V) DecodeError → Type 0
+    by_phase phases.Running r = (l : List T) → Stands l old → decodes l r
+    by_phase phases.Closed r = (r ≡ Err errors.Closed) × (new ≡ old)
+    by_phase phases.Failed r = (r ≡ Err errors.Failed) × (new ≡ old)
+
+    -- what a call that feeds a piece promises
+    pub record Decodes (r : Result (Batch V) DecodeError) : Type 0 where
+      pub maker : new.maker ≡ old.maker
+      pub is : by_phase old.phase r

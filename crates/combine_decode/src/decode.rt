@@ -1,0 +1,265 @@
+//! A decoder of messages, one after another.
+ghost use Rattle.std.specs.Prelude.{◌≡◌, ◌↔◌, [], true, length, MatchResult};
+ghost use Rattle.combine_decode.specs.Frames.{frame_of};
+ghost use Rattle.combine_decode.specs.Messages.{After, Gives, IsMade, Told, made};
+ghost use Rattle.combine_base.specs.declared.stream.Kind.TheVariants as kinds;
+
+mod framing;
+pub mod laws;
+mod pieces;
+pub mod types;
+
+use combine_base::error::UnexpectedParse;
+use combine_base::parser::{Answer, Parser, Session, SessionError};
+use combine_base::stream::{Kind, fed};
+use combine_integers::num::be_u16;
+use combine_sequence::sequence::types::Answered;
+use framing::Framing;
+pub use pieces::decode_pieces;
+use std::alloc::Global;
+use std::marker::Model;
+use types::Frame;
+
+/// Why no more messages are given.
+#[derive(Clone, Copy, Debug, PartialEq, Eq)]
+pub enum BatchEnd {
+    /// More input is needed.
+    More,
+    /// The next message is refused.
+    Refused { committed: bool },
+    /// The next message takes nothing.
+    EmptyMessage,
+}
+
+/// The messages that a piece completes, in order, and why there are no more.
+#[derive(Debug, Drop, PartialEq)]
+pub struct Batch<V> {
+    pub messages: Vec<V>,
+    pub end: BatchEnd,
+}
+
+/// Why a decoder gives no messages.
+#[derive(Clone, Copy, Debug, PartialEq, Eq)]
+pub enum DecodeError {
+    /// The piece found no room. Nothing has changed.
+    Memory,
+    /// The running message would be longer than 2^64 - 1 tokens. Nothing has changed.
+    TooLong,
+    /// A fault inside the decoding.
+    Fault(Kind),
+    /// The messages have ended.
+    Closed,
+    /// A fault came before.
+    Failed,
+}
+
+/// How far a decoder has come.
+#[derive(Clone, Copy, Debug, PartialEq, Eq)]
+pub enum Phase {
+    Running,
+    Closed,
+    Failed,
+}
+
+/// A decoder of messages that stand one after another in tokens which are fed piece by piece.
+#[derive(Drop)]
+pub struct Decoder<F: Fn() -> P, P: Parser<fed::Stream<T>>, T: Copy + 'static> {
+    alloc: Global,
+    maker: F,
+    session: Session<P, T>,
+    phase: Phase,
+    at_boundary: bool,
+}
+
+impl<F: Fn() -> P, P: Parser<fed::Stream<T>>, T: Copy + 'static> Model for Decoder<F, P, T> {
+    ghost use Rattle.combine_decode.specs.Decoders.{Decoding};
+
+    ghost Value = { Decoding F P T P.PartialState };
+
+    ghost view = { λ d. record { maker = d.maker; course = d.session; phase = d.phase; at_boundary = d.at_boundary } };
+}
+
+impl<F: Fn() -> P, P: Parser<fed::Stream<T>>, T: Copy + 'static> Decoder<F, P, T> {
+    ghost use Rattle.combine_decode.specs.Decoders.{Decodes, Stands};
+
+    /// A decoder that was fed nothing yet. It takes no memory by itself.
+    pub fn new(alloc: Global, maker: F) -> Self
+        requires callable { F.IsAlwaysCallable maker }
+        requires lawful { IsMade (F.post maker) P.lawful }
+        ensures maker { result.maker ≡ maker }
+        ensures stands { Stands (λ f p. F.post f p) P.meaning [] result }
+    {
+        let session = begin(alloc, &maker);
+        Decoder {
+            alloc,
+            maker,
+            session,
+            phase: Phase::Running,
+            at_boundary: true,
+        }
+    }
+
+    /// Whether the messages so far cover all tokens so far.
+    pub fn at_boundary(&self) -> bool
+        ensures { result ≡ self.now.at_boundary }
+    {
+        self.at_boundary
+    }
+}
+
+impl<F: Fn() -> P, P: Parser<fed::Stream<T>> + Drop, T: Copy + 'static> Decoder<F, P, T> {
+    ghost use Rattle.combine_decode.specs.Decoders.{Decodes, Stands};
+
+    /// Feeds a piece, and gives all messages that it completes.
+    pub fn feed(&mut self, piece: &[T]) -> Result<Batch<P::Output>, DecodeError>
+        requires callable { F.IsAlwaysCallable self.old.maker }
+        requires lawful { IsMade (F.post self.old.maker) P.lawful }
+        ensures { Decodes (λ f p. F.post f p) P.meaning self.old self.new piece.now result }
+    {
+        self.phase.check()?;
+        let answer = match self.session.feed(piece) {
+            Ok(answer) => answer,
+            Err(SessionError::Memory) => return Err(DecodeError::Memory),
+            Err(SessionError::TooLong) => return Err(DecodeError::TooLong),
+            Err(_) => {
+                self.phase = Phase::Failed;
+                return Err(DecodeError::Fault(Kind::Memory));
+            }
+        };
+        let mut boundary = self.at_boundary && piece.is_empty();
+        match drain(
+            self.alloc,
+            &self.maker,
+            &mut self.session,
+            answer,
+            &mut boundary,
+        ) {
+            Ok(batch) => {
+                self.at_boundary = boundary;
+                self.phase = batch.end.phase();
+                Ok(batch)
+            }
+            Err(kind) => {
+                self.phase = Phase::Failed;
+                Err(DecodeError::Fault(kind))
+            }
+        }
+    }
+}
+
+impl Phase {
+    ghost use Rattle.combine_decode.specs.Decoders.{checked};
+
+    /// Whether a decoder may go on.
+    fn check(self) -> Result<(), DecodeError>
+        ensures { result ≡ checked self }
+    {
+        match self {
+            Phase::Running => Ok(()),
+            Phase::Closed => Err(DecodeError::Closed),
+            Phase::Failed => Err(DecodeError::Failed),
+        }
+    }
+}
+
+impl BatchEnd {
+    ghost use Rattle.combine_decode.specs.Decoders.{phase_after};
+
+    /// How far a decoder is after it.
+    fn phase(self) -> Phase
+        ensures { result ≡ phase_after self }
+    {
+        match self {
+            BatchEnd::More => Phase::Running,
+            BatchEnd::Refused { .. } | BatchEnd::EmptyMessage => Phase::Closed,
+        }
+    }
+}
+
+/// A message behind its length, a number of two bytes, the highest first: the bytes of the message are the value. Our own.
+///
+/// It is `be_u16`, and then that many bytes by `count_min_max` of `any`. On need of more the length is kept, and so are the bytes behind it; the first byte of a length alone is put back. Ended input that is too short is refused: peeked within the length, committed behind it. Room is had as bytes come: a length takes room for no more than 1,024 of them at once.
+#[inline]
+pub fn frame<Input>(alloc: Global) -> Frame<Input>
+    ensures { result ≡ frame_of alloc }
+{
+    Answered::new(be_u16(), Framing::new(alloc))
+}
+
+/// Starts a session of a parser that the maker answers.
+fn begin<F: Fn() -> P, P: Parser<fed::Stream<T>>, T: Copy + 'static>(
+    alloc: Global,
+    maker: &F,
+) -> Session<P, T>
+    requires callable { F.IsAlwaysCallable maker.now }
+    requires lawful { IsMade (F.post maker.now) P.lawful }
+    ensures { After (made P.meaning (F.post maker.now)) P.meaning [] result }
+{
+    Session::new(alloc, maker())
+}
+
+/// Begins the next message on what the last one left unread.
+fn go_on<F: Fn() -> P, P: Parser<fed::Stream<T>> + Drop, T: Copy + 'static>(
+    maker: &F,
+    session: &mut Session<P, T>,
+) -> Result<Answer<P::Output, UnexpectedParse>, Kind>
+    requires callable { F.IsAlwaysCallable maker.now }
+    requires lawful { IsMade (F.post maker.now) P.lawful }
+    requires is_open { session.old.seen.is_open ≡ true }
+    ensures { MatchResult result (λ a. Told (made P.meaning (F.post maker.now)) P.meaning session.old.seen.unread session.new a) (λ k. k ≡ kinds.Memory) }
+{
+    match session.begin_again(maker()) {
+        Ok(answer) => Ok(answer),
+        Err(_) => Err(Kind::Memory),
+    }
+}
+
+/// The messages that follow an answer of the session.
+fn drain<F: Fn() -> P, P: Parser<fed::Stream<T>> + Drop, T: Copy + 'static>(
+    alloc: Global,
+    maker: &F,
+    session: &mut Session<P, T>,
+    first: Answer<P::Output, UnexpectedParse>,
+    boundary: &mut bool,
+) -> Result<Batch<P::Output>, Kind>
+    requires callable { F.IsAlwaysCallable maker.now }
+    requires lawful { IsMade (F.post maker.now) P.lawful }
+    requires is_open { session.old.seen.is_open ≡ true }
+    ensures { (tokens : _) → Told (made P.meaning (F.post maker.now)) P.meaning tokens session.old first → ((boundary.old ≡ true) ↔ (length tokens ≡ 0)) → MatchResult result (λ b. Gives (made P.meaning (F.post maker.now)) P.meaning tokens session.new boundary.new b) (λ k. k ≡ kinds.Memory) }
+{
+    let mut messages = Vec::new(alloc);
+    let mut answer = first;
+    let mut at_boundary = *boundary;
+    'messages: loop {
+        match answer {
+            Answer::More => {
+                *boundary = at_boundary;
+                return Ok(Batch {
+                    messages,
+                    end: BatchEnd::More,
+                });
+            }
+            Answer::Refused { committed, .. } => {
+                *boundary = at_boundary;
+                return Ok(Batch {
+                    messages,
+                    end: BatchEnd::Refused { committed },
+                });
+            }
+            Answer::Accepted { value, taken, .. } => {
+                if taken == 0 {
+                    *boundary = at_boundary;
+                    return Ok(Batch {
+                        messages,
+                        end: BatchEnd::EmptyMessage,
+                    });
+                }
+                if messages.push(value).is_err() {
+                    return Err(Kind::Memory);
+                }
+                at_boundary = session.unread().is_empty();
+                answer = go_on(maker, session)?;
+            }
+        }
+    }
+}

@@ -1,0 +1,54 @@
+//! A message behind its length, and the parser that is answered for a length.
+ghost use Rattle.std.specs.Prelude.{◌≡◌};
+ghost use Rattle.combine_decode.specs.Frames.{framing_of};
+ghost use Rattle.combine_sequence.specs.Answered.{forget};
+ghost use Rattle.combine_token.specs.TokenParsers.{any_parser};
+ghost use Rattle.combine_turns.specs.CountParsers.{count_min_max_of};
+
+use combine_sequence::sequence::types::Asked;
+use combine_token::token::any;
+use combine_token::token::types::Any;
+use combine_turns::repeat::count_min_max;
+use combine_turns::repeat::types::CountMinMax;
+use std::alloc::Global;
+use std::marker::PhantomData;
+
+/// Is asked for the parser of so many bytes, which are collected. Our own.
+#[derive(Drop)]
+#[derive_where(Clone, Copy)]
+pub struct Framing<Input> {
+    alloc: Global,
+    reads: PhantomData<Input>,
+}
+
+impl<Input> Framing<Input> {
+    /// Collects bytes with this allocator.
+    pub(super) fn new(alloc: Global) -> Self
+        ensures { result ≡ framing_of alloc }
+    {
+        Framing {
+            alloc,
+            reads: PhantomData,
+        }
+    }
+}
+
+impl<Input> Asked<u16> for Framing<Input> {
+    ghost use Rattle.combine_decode.specs.Frames.{allocator_of};
+
+    type Parser = CountMinMax<Vec<u8>, Any<Input>>;
+
+    type Kept = ();
+
+    ghost callable = { λ f n. Unit {0} };
+
+    ghost answers = { λ f n p. p ≡ count_min_max_of (allocator_of f) n n any_parser };
+
+    ghost keeps = { forget };
+
+    #[inline(always)]
+    fn ask(&self, length: u16) -> ((), CountMinMax<Vec<u8>, Any<Input>>) {
+        let length = length as usize;
+        ((), count_min_max(self.alloc, length, length, any()))
+    }
+}

@@ -1,0 +1,78 @@
+//! Messages of pieces, decoded as one input.
+ghost use Rattle.std.specs.Prelude.{◌≡◌, ◌++◌, map, MatchResult};
+ghost use Rattle.combine_decode.specs.Messages.{IsMade, made};
+ghost use Rattle.combine_decode.specs.Pieces.{DecodesPieces, FeedsMore};
+
+use crate::decode::{Batch, BatchEnd, DecodeError, Decoder};
+use combine_base::parser::Parser;
+use combine_base::stream::{Kind, fed};
+use std::alloc::{AllocError, Global};
+
+/// Decodes the pieces as one input; those behind an end other than `More` are not looked at. Our own.
+///
+/// However the input is cut, the messages are those of all of it, in order, and so is their end.
+///
+/// # Errors
+///
+/// As those of [`Decoder::feed`], but for `Closed` and `Failed`, which are never answered.
+pub fn decode_pieces<F: Fn() -> P + Drop, P: Parser<fed::Stream<T>> + Drop, T: Copy + 'static>(
+    alloc: Global,
+    maker: F,
+    pieces: &[&[T]],
+) -> Result<Batch<P::Output>, DecodeError>
+    requires callable { F.IsAlwaysCallable maker }
+    requires lawful { IsMade (F.post maker) P.lawful }
+    ensures { DecodesPieces (made P.meaning (F.post maker)) (map (λ p. p.now) pieces.now) result }
+{
+    let mut decoder = Decoder::new(alloc, maker);
+    let mut messages = Vec::new(alloc);
+    'pieces: for piece in pieces {
+        match feed_more(&mut decoder, piece, &mut messages) {
+            Ok(end) => match end {
+                BatchEnd::More => {}
+                end => return Ok(Batch { messages, end }),
+            },
+            Err(error) => return Err(error),
+        }
+    }
+    // Where there are no pieces, nothing was parsed yet.
+    match feed_more(&mut decoder, &[], &mut messages) {
+        Ok(end) => Ok(Batch { messages, end }),
+        Err(error) => Err(error),
+    }
+}
+
+/// Feeds a piece, puts its messages behind those before, and answers why there are no more.
+fn feed_more<F: Fn() -> P, P: Parser<fed::Stream<T>> + Drop, T: Copy + 'static>(
+    decoder: &mut Decoder<F, P, T>,
+    piece: &[T],
+    messages: &mut Vec<P::Output>,
+) -> Result<BatchEnd, DecodeError>
+    requires callable { F.IsAlwaysCallable decoder.old.maker }
+    requires lawful { IsMade (F.post decoder.old.maker) P.lawful }
+    ensures { FeedsMore (λ f p. F.post f p) P.meaning decoder.old decoder.new piece.now messages.old.items messages.new.items result }
+{
+    match decoder.feed(piece) {
+        Ok(batch) => {
+            let Batch {
+                messages: more,
+                end,
+            } = batch;
+            match append(messages, more) {
+                Ok(()) => Ok(end),
+                Err(_) => Err(DecodeError::Fault(Kind::Memory)),
+            }
+        }
+        Err(error) => Err(error),
+    }
+}
+
+/// Puts messages behind those before.
+fn append<V: Drop>(messages: &mut Vec<V>, more: Vec<V>) -> Result<(), AllocError>
+    ensures { MatchResult result (λ _. messages.new.items ≡ messages.old.items ++ more.items) (λ _. Unit {0}) }
+{
+    'more: for message in more {
+        messages.push(message)?;
+    }
+    Ok(())
+}
