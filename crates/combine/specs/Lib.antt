@@ -132,3 +132,7 @@ pub use Rattle.combine_makers.specs.Calling
 pub use Rattle.combine_makers.specs.Made
 pub use Rattle.combine_recognize.specs.Gathered
 pub use Rattle.combine_spanned.specs.Spanned
+pub use Rattle.combine_decode.specs.Decoders
+pub use Rattle.combine_decode.specs.Frames
+pub use Rattle.combine_decode.specs.MessageLaws
+pub use Rattle.combine_decode.specs.Messages
