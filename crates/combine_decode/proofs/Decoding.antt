@@ -1,5 +1,5 @@
 -- one message of a decoder, by what its session promises
-use Rattle.std.proofs.Common.{ℕ, ◌+◌, ◌<◌, ◌≤◌, ◌≡◌, ◌↔◌, nat_lt, if◌then◌else◌, ◌∷◌, refl, sym, ◌∙◌, ap, subst, List, [], ◌++◌, length, drop, Bool, true, false, append_assoc, arith, ltb-true, eqb-true, lt-ltb, nat_eq, eq-eqb, Result, Ok}
+use Rattle.std.proofs.Common.{ℕ, ◌+◌, ◌<◌, ◌≤◌, ◌≡◌, ◌↔◌, nat_lt, if◌then◌else◌, ◌∷◌, refl, sym, ◌∙◌, ap, subst, List, [], ◌++◌, length, drop, Option, Bool, true, false, append_assoc, arith, ltb-true, eqb-true, lt-ltb, nat_eq, eq-eqb, Result, Ok}
 use Rattle.std.proofs.lemmas.List.{drop-append-le, drop-drop, length-append, length-drop}
 use Rattle.combine_base.specs.Parser.Outcome.{Outcome, Accepted, Refused, Undecided}
 use Rattle.combine_base.specs.Parser.Meaning.{Meaning, Reading}
@@ -17,8 +17,8 @@ use Rattle.combine_decode.specs.Messages.{After, Divides, Gives, Told, made, on_
 
 module _ {P T R V S : Type 0} (meaning : P → Meaning ℕ T R V S) where
   -- a session of a parser that was made stands at the beginning of a message
-  pub begins : (valid : S → Type 0) (determined : P → Type 0) (makes : P → Type 0) (p : P) (c : Course P T S) → makes p → Begins meaning valid determined p c → After (made meaning makes) meaning [] c
-  begins valid determined makes p c m h = record {
+  pub begins : (valid : S → Type 0) (determined : P → Type 0) (makes : P → Type 0) (most : Option ℕ) (p : P) (c : Course P T S) → makes p → Begins meaning valid determined most p c → After (made meaning makes) meaning [] c
+  begins valid determined makes most p c m h = record {
     left = λ x o l. (p, m, (h.left x true o).0 l);
     within = let t = h.taken in omega arith;
     unread = h.unread ∙ (rw h.taken refl);
@@ -93,15 +93,15 @@ module _ {P T R V S : Type 0} (meaning : P → Meaning ℕ T R V S) where
       by_its_stage stages.Failed i = absurd (let e = i.0 in cc)
 
   -- a session that begins again with a parser that was made has what was unread of a message, and no other tokens
-  pub again_told : (valid : S → Type 0) (determined : P → Type 0) (makes : P → Type 0) (p : P) (old new : Course P T S) (a : Answer V UnexpectedParse) → makes p → old.seen.is_open ≡ true → BeginsAgain meaning valid determined p old new (Ok a) → Told (made meaning makes) meaning old.seen.unread new a
+  pub again_told : (valid : S → Type 0) (determined : P → Type 0) (makes : P → Type 0) (p : P) (old new : Course P T S) (a : Answer V UnexpectedParse) → makes p → old.seen.is_open ≡ true → BeginsAgain meaning valid determined p old new (Ok a) → Told (made meaning makes) meaning old.seen.unread new a × (new.limit ≡ old.limit)
   again_told valid determined makes p old new a m o h = by_its_stage old.stage h.is
     where
-      begun : session.Anew meaning valid determined p old new (Ok a) → Told (made meaning makes) meaning old.seen.unread new a
+      begun : session.Anew meaning valid determined p old new (Ok a) → Told (made meaning makes) meaning old.seen.unread new a × (new.limit ≡ old.limit)
       begun i =
           let parsed : session.Parses meaning valid i.begun new old.seen.unread true (Ok a) = subst (λ b. session.Parses meaning valid i.begun new old.seen.unread b (Ok a)) o i.parses in
-          parses_told valid (made meaning makes) [] i.begun (begins valid determined makes p i.begun m i.begins) old.seen.unread new a parsed
+          (parses_told valid (made meaning makes) [] i.begun (begins valid determined makes old.limit p i.begun m i.begins) old.seen.unread new a parsed, parsed.limit ∙ i.begins.limit)
 
-      by_its_stage : (s : Stage) → anew_by_stage meaning valid determined p old new (Ok a) s → Told (made meaning makes) meaning old.seen.unread new a
+      by_its_stage : (s : Stage) → anew_by_stage meaning valid determined p old new (Ok a) s → Told (made meaning makes) meaning old.seen.unread new a × (new.limit ≡ old.limit)
       by_its_stage stages.Running i = begun i
       by_its_stage stages.Decided i = begun i
       by_its_stage stages.Failed i = absurd (let e = i.0 in cc)

@@ -1,5 +1,5 @@
 -- a call that feeds a decoder, by what its session and the messages after it promise
-use Rattle.std.proofs.Common.{ℕ, ◌+◌, ◌≡◌, ◌↔◌, ◌&&◌, nat_eq, refl, sym, ◌∙◌, ap, subst, List, ◌++◌, length, Bool, true, false, arith, eqb-true, eq-eqb, Result, Ok, Err}
+use Rattle.std.proofs.Common.{ℕ, ◌+◌, ◌^◌, ◌<◌, ◌≡◌, ◌↔◌, ◌&&◌, nat_eq, refl, sym, ◌∙◌, ap, subst, List, ◌++◌, length, Bool, true, false, arith, eqb-true, eq-eqb, Result, Ok, Err}
 use Rattle.std.proofs.lemmas.List.{length-append, length-drop}
 use Rattle.combine_base.specs.Parser.Meaning.{Meaning}
 use Rattle.combine_base.specs.Parser.Sessions.{Course, Feeds, by_stage}
@@ -54,14 +54,17 @@ module _ {F P T R V S : Type 0} (makes : F → P → Type 0) (meaning : P → Me
 
   module _ (mid : Course P T S) where
     module _ (a : Answer V UnexpectedParse) (h : Feeds meaning valid old.course mid piece true (Ok a)) where
-      pub gives_batch : (at : Bool) → at ≡ (old.at_boundary && nat_eq (length piece) 0) → (b : Batch V) → new.phase ≡ phase_after b.end → ((tokens : List T) → Told (made meaning (makes old.maker)) meaning tokens mid a → ((at ≡ true) ↔ (length tokens ≡ 0)) → Gives (made meaning (makes old.maker)) meaning tokens new.course new.at_boundary b) → Decodes makes meaning old new piece (Ok b)
+      pub gives_batch : (at : Bool) → at ≡ (old.at_boundary && nat_eq (length piece) 0) → (b : Batch V) → new.phase ≡ phase_after b.end → ((tokens : List T) → Told (made meaning (makes old.maker)) meaning tokens mid a → ((at ≡ true) ↔ (length tokens ≡ 0)) → Gives (made meaning (makes old.maker)) meaning tokens new.course new.at_boundary b × (new.course.limit ≡ mid.limit)) → Decodes makes meaning old new piece (Ok b)
       gives_batch at e b p f = running_now (Ok b) (λ l s.
           let fits = (fed_now l s mid (Ok a) h).0 in
           let all = all_fed l s in
-          (omega arith, record { gives = f (l ++ piece) (feeds_told meaning valid (made meaning (makes old.maker)) l old.course s.after piece mid a h) (nothing_yet l s at e); phase = p }))
+          let given = f (l ++ piece) (feeds_told meaning valid (made meaning (makes old.maker)) l old.course s.after piece mid a h) (nothing_yet l s at e) in
+          let within : old.course.seen.position + length old.course.seen.unread + length piece < 2 ^ 64 = fits.0 in
+          (omega arith, record { gives = given.0; phase = p; limit = given.1 ∙ (fed_now l s mid (Ok a) h).1.limit }))
 
       pub fails_later : (at : Bool) → at ≡ (old.at_boundary && nat_eq (length piece) 0) → (k : Kind) → new.phase ≡ phases.Failed → new.at_boundary ≡ old.at_boundary → ((tokens : List T) → Told (made meaning (makes old.maker)) meaning tokens mid a → ((at ≡ true) ↔ (length tokens ≡ 0)) → k ≡ kinds.Memory) → Decodes makes meaning old new piece (Err (errors.Fault k))
       fails_later at e k p q f = running_now (Err (errors.Fault k)) (λ l s.
           let fits = (fed_now l s mid (Ok a) h).0 in
           let all = all_fed l s in
+          let within : old.course.seen.position + length old.course.seen.unread + length piece < 2 ^ 64 = fits.0 in
           (omega arith, f (l ++ piece) (feeds_told meaning valid (made meaning (makes old.maker)) l old.course s.after piece mid a h) (nothing_yet l s at e), record { phase = p; boundary = q }))

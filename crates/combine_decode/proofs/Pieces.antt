@@ -60,6 +60,7 @@ module _ {F P T R V S : Type 0} (makes : F → P → Type 0) (meaning : P → Me
             phase = (decodes_now (Ok b) h).1.phase ∙ ap phase_after i;
             after = subst (λ f. After (made meaning (makes f)) meaning given.behind new.course) (sym (h.maker ∙ far.maker)) (given.goes_on i);
             boundary = given.boundary;
+            limit = (decodes_now (Ok b) h).1.limit ∙ far.stands.limit;
           };
           maker = h.maker ∙ far.maker;
         }

@@ -1,5 +1,5 @@
 -- what a decoder is seen as, and what its calls promise
-use Rattle.std.specs.Prelude.{ℕ, ◌+◌, ◌^◌, ◌<◌, ◌≤◌, ◌≡◌, ◌↔◌, List, ◌++◌, Bool, true, length, Result, Ok, Err}
+use Rattle.std.specs.Prelude.{ℕ, ◌+◌, ◌^◌, ◌<◌, ◌≤◌, ◌≡◌, ◌↔◌, List, ◌++◌, Bool, true, length, None, Result, Ok, Err}
 use Rattle.combine_base.specs.Parser.Meaning.{Meaning}
 use Rattle.combine_base.specs.Parser.Sessions.{Course}
 use Rattle.combine_base.specs.declared.stream.Kind.TheVariants as kinds
@@ -37,12 +37,14 @@ module _ {F P T R V S : Type 0} (makes : F → P → Type 0) (meaning : P → Me
     pub phase : d.phase ≡ phases.Running
     pub after : After (made meaning (makes d.maker)) meaning l d.course
     pub boundary : (d.at_boundary ≡ true) ↔ (length l ≡ 0)
+    pub limit : d.course.limit ≡ None
 
   module _ (old new : Decoding F P T S) (piece : List T) where
     -- all messages of the tokens behind those given before, and how the decoder then stands
     pub record Batches (l : List T) (b : Batch V) : Type 0 where
       pub gives : Gives (made meaning (makes old.maker)) meaning (l ++ piece) new.course new.at_boundary b
       pub phase : new.phase ≡ phase_after b.end
+      pub limit : new.course.limit ≡ old.course.limit
 
     pub record Faults : Type 0 where
       pub phase : new.phase ≡ phases.Failed

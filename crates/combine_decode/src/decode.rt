@@ -1,5 +1,5 @@
 //! A decoder of messages, one after another.
-ghost use Rattle.std.specs.Prelude.{◌≡◌, ◌↔◌, [], true, length, MatchResult};
+ghost use Rattle.std.specs.Prelude.{◌≡◌, ◌↔◌, [], true, length, None, MatchResult};
 ghost use Rattle.combine_decode.specs.Frames.{frame_of};
 ghost use Rattle.combine_decode.specs.Messages.{After, Gives, IsMade, Told, made};
 ghost use Rattle.combine_base.specs.declared.stream.Kind.TheVariants as kinds;
@@ -193,7 +193,7 @@ fn begin<F: Fn() -> P, P: Parser<fed::Stream<T>>, T: Copy + 'static>(
 ) -> Session<P, T>
     requires callable { F.IsAlwaysCallable maker.now }
     requires lawful { IsMade (F.post maker.now) P.lawful }
-    ensures { After (made P.meaning (F.post maker.now)) P.meaning [] result }
+    ensures { After (made P.meaning (F.post maker.now)) P.meaning [] result × (result.limit ≡ None) }
 {
     Session::new(alloc, maker())
 }
@@ -206,7 +206,7 @@ fn go_on<F: Fn() -> P, P: Parser<fed::Stream<T>> + Drop, T: Copy + 'static>(
     requires callable { F.IsAlwaysCallable maker.now }
     requires lawful { IsMade (F.post maker.now) P.lawful }
     requires is_open { session.old.seen.is_open ≡ true }
-    ensures { MatchResult result (λ a. Told (made P.meaning (F.post maker.now)) P.meaning session.old.seen.unread session.new a) (λ k. k ≡ kinds.Memory) }
+    ensures { MatchResult result (λ a. Told (made P.meaning (F.post maker.now)) P.meaning session.old.seen.unread session.new a × (session.new.limit ≡ session.old.limit)) (λ k. k ≡ kinds.Memory) }
 {
     match session.begin_again(maker()) {
         Ok(answer) => Ok(answer),
@@ -225,7 +225,7 @@ fn drain<F: Fn() -> P, P: Parser<fed::Stream<T>> + Drop, T: Copy + 'static>(
     requires callable { F.IsAlwaysCallable maker.now }
     requires lawful { IsMade (F.post maker.now) P.lawful }
     requires is_open { session.old.seen.is_open ≡ true }
-    ensures { (tokens : _) → Told (made P.meaning (F.post maker.now)) P.meaning tokens session.old first → ((boundary.old ≡ true) ↔ (length tokens ≡ 0)) → MatchResult result (λ b. Gives (made P.meaning (F.post maker.now)) P.meaning tokens session.new boundary.new b) (λ k. k ≡ kinds.Memory) }
+    ensures { (tokens : _) → Told (made P.meaning (F.post maker.now)) P.meaning tokens session.old first → ((boundary.old ≡ true) ↔ (length tokens ≡ 0)) → MatchResult result (λ b. Gives (made P.meaning (F.post maker.now)) P.meaning tokens session.new boundary.new b × (session.new.limit ≡ session.old.limit)) (λ k. k ≡ kinds.Memory) }
 {
     let mut messages = Vec::new(alloc);
     let mut answer = first;

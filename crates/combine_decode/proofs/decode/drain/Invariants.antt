@@ -7,6 +7,7 @@ use Rattle.combine_decode.proofs.decode.drain.Given as goal
 abbrev pub invariant-messages : goal.invariant-messages
 invariant-messages g l = record {
   is_open : l.session.seen.is_open ≡ true;
+  limit : l.session.limit ≡ l.fn.session.limit;
   far : (tokens : List g.row.T.Denot) → Told (made g.P.Parser.meaning (λ p. g.F.Fn.post l.maker tt p)) g.P.Parser.meaning tokens l.fn.session l.fn.first → ((l.fn.boundary ≡ true) ↔ (length tokens ≡ 0)) → SoFar (made g.P.Parser.meaning (λ p. g.F.Fn.post l.maker tt p)) g.P.Parser.meaning tokens l.messages.items l.session l.answer l.at_boundary;
 }
 
