@@ -1,5 +1,5 @@
 -- bytes that are fed piece by piece: what was fed, and what is left to feed
-use Rattle.std.proofs.Common.{ℕ, ◌≡◌, ◌≢◌, refl, sym, ◌∙◌, ap, subst, List, [], ◌∷◌, ◌++◌, length, append_assoc, Result, Ok, Err, true, false}
+use Rattle.std.proofs.Common.{ℕ, None, ◌≡◌, ◌≢◌, refl, sym, ◌∙◌, ap, subst, List, [], ◌∷◌, ◌++◌, length, append_assoc, Result, Ok, Err, true, false}
 use Rattle.std.proofs.lemmas.List.{append-nil}
 use Rattle.combine_base.specs.Parser.Meaning.{Meaning, Reading, IsReading}
 use Rattle.combine_base.specs.Parser.Sessions.{Course, Begins, Feeds, Ends}
@@ -19,7 +19,7 @@ pub record Fed {P R A S : Type 0} (meaning : P → Meaning ℕ ℕ R A S) (m : M
   pub all : concatenated fed ++ rest ≡ bytes
 
 module _ {P R A S : Type 0} (meaning : P → Meaning ℕ ℕ R A S) (valid : S → Type 0) (p : P) (bytes : List ℕ) where
-  pub none_fed : (determined : P → Type 0) (c : Course P ℕ S) → Begins meaning valid determined p c → Fed meaning (meaning p) bytes bytes c
+  pub none_fed : (determined : P → Type 0) (c : Course P ℕ S) → Begins meaning valid determined None p c → Fed meaning (meaning p) bytes bytes c
   none_fed determined c h = record { fed = []; far = at_first meaning valid determined p c h; all = refl }
 
   abbrev m : Meaning ℕ ℕ R A S
