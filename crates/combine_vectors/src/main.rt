@@ -4,6 +4,8 @@
 #[cfg(test)]
 mod drivers;
 #[cfg(test)]
+mod limits;
+#[cfg(test)]
 mod looks;
 #[cfg(test)]
 mod messages;

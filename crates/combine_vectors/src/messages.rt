@@ -1,7 +1,7 @@
 //! The program's rows: what it writes, over every cut too, and each fault.
 
 use crate::rows::sets_of_places;
-use feedline_core::{Args, Fault, MAX_INPUT, read_args, read_input, run};
+use feedline_core::{Args, Fault, MAX_INPUT, read_args, read_input, run, run_limited};
 use std::alloc::{AllocError, Global};
 use std::io::{self, ErrorKind, Read};
 
@@ -56,6 +56,49 @@ fn lines_of_pieces(rt: HostRuntime) -> Result<(), AllocError> {
             "on {input}"
         );
         assert_eq!(rt; out.as_slice(), lines.as_bytes(), "on {input}");
+    }
+    Ok(())
+}
+
+/// With a limit: the lines before the first piece that is too long, or all.
+#[test]
+fn lines_within_a_limit(rt: HostRuntime) -> Result<(), AllocError> {
+    let rows = [
+        (
+            4,
+            [2, 1].as_slice(),
+            "dex=12;",
+            "more 2\nmore 0\nset dex 12 taken 7\n",
+            Ok(true),
+        ),
+        (
+            3,
+            [2, 1].as_slice(),
+            "dex=12;",
+            "more 2\nmore 0\n",
+            Err(Fault::TooLong),
+        ),
+        (
+            2,
+            [2, 1].as_slice(),
+            "dex=12;",
+            "more 2\n",
+            Err(Fault::TooLong),
+        ),
+        (0, [].as_slice(), "", "refused peeked\n", Ok(false)),
+    ];
+    for (limit, sizes, input, lines, answer) in rows {
+        let mut out = Vec::new(rt.alloc());
+        assert_eq!(rt;
+            run_limited(rt.alloc(), sizes, Some(limit), input.as_bytes(), &mut out),
+            answer,
+            "limit {limit} on {input}"
+        );
+        assert_eq!(rt;
+            out.as_slice(),
+            lines.as_bytes(),
+            "limit {limit} on {input}"
+        );
     }
     Ok(())
 }
@@ -131,12 +174,14 @@ fn arguments(rt: HostRuntime) -> Result<(), AllocError> {
     assert_eq!(rt;
         read_args(alloc, &["2", "0000001", "1000000"]),
         Ok(Args {
+            limit: None,
             sizes: [2, 1, 1_000_000].to_vec(rt.alloc())?
         })
     );
     assert_eq!(rt;
         read_args(alloc, &["0"; 64]),
         Ok(Args {
+            limit: None,
             sizes: [0; 64].to_vec(rt.alloc())?
         })
     );
@@ -151,6 +196,59 @@ fn arguments(rt: HostRuntime) -> Result<(), AllocError> {
     Ok(())
 }
 
+/// A limit stands before the sizes and isn't one of them, and its number is written as theirs are.
+#[test]
+fn limits(rt: HostRuntime) -> Result<(), AllocError> {
+    let alloc = rt.alloc();
+    for (word, limit) in [
+        ("limit=4", 4),
+        ("limit=0", 0),
+        ("limit=0000001", 1),
+        ("limit=1000000", 1_000_000),
+    ] {
+        assert_eq!(rt;
+            read_args(alloc, &[word, "2", "1"]),
+            Ok(Args {
+                limit: Some(limit),
+                sizes: [2, 1].to_vec(rt.alloc())?
+            }),
+            "{word}"
+        );
+    }
+    let mut most = ["0"; 66];
+    most[0] = "limit=2";
+    assert_eq!(rt;
+        read_args(alloc, &most[..65]),
+        Ok(Args {
+            limit: Some(2),
+            sizes: [0; 64].to_vec(rt.alloc())?
+        })
+    );
+    assert_eq!(rt; read_args(alloc, &most), Err(Fault::Argument));
+    for words in [
+        ["1", "limit=2"],
+        ["limit=2", "limit=2"],
+        ["limit=", "1"],
+        ["limit", "1"],
+        ["limit=x", "1"],
+        ["limit=1000001", "1"],
+        ["limit=00000002", "1"],
+        ["limit=+1", "1"],
+        ["limit= 1", "1"],
+        [" limit=1", "1"],
+        ["LIMIT=1", "1"],
+        ["limit=1", "x"],
+    ] {
+        let [first, second] = words;
+        assert_eq!(rt;
+            read_args(alloc, &words),
+            Err(Fault::Argument),
+            "{first} {second}"
+        );
+    }
+    Ok(())
+}
+
 #[test]
 fn texts_of_faults(rt: HostRuntime) -> Result<(), AllocError> {
     let texts = [
@@ -159,6 +257,7 @@ fn texts_of_faults(rt: HostRuntime) -> Result<(), AllocError> {
         (Fault::Input, "feedline: input too long"),
         (Fault::Memory, "feedline: out of memory"),
         (Fault::Write, "feedline: cannot write"),
+        (Fault::TooLong, "feedline: piece too long"),
     ];
     for (fault, text) in texts {
         assert_eq!(rt; fault.to_string(rt.alloc())?.as_str(), text);

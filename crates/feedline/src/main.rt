@@ -1,9 +1,9 @@
 //! Reads a message from standard input piece by piece, and writes a line for each piece that needs more and one for the decision.
 //!
-//! The arguments are up to 64 piece sizes in bytes. The status is 0 where a message is accepted and 1 where it is refused; where the program gives up it is 2, with one line on standard error.
+//! The arguments are up to 64 piece sizes in bytes, and before them perhaps `limit=N`: at most N bytes are then ever unread. The status is 0 where a message is accepted and 1 where it is refused; where the program gives up it is 2, with one line on standard error.
 #![tactic(auto)]
 
-use feedline_core::{Fault, read_args, read_input, run};
+use feedline_core::{Fault, read_args, read_input, run_limited};
 use std::env;
 use std::io::ErrorKind;
 use std::process::ExitCode;
@@ -30,7 +30,13 @@ fn answer(rt: &HostRuntime) -> Result<bool, Fault> {
     }
     let args = read_args(rt.alloc(), &texts)?;
     let input = read_input(rt.alloc(), rt.stdin())?;
-    run(rt.alloc(), &args.sizes, &input, &mut rt.stdout())
+    run_limited(
+        rt.alloc(),
+        &args.sizes,
+        args.limit,
+        &input,
+        &mut rt.stdout(),
+    )
 }
 
 /// The arguments behind the program's name; one that isn't UTF-8 is a bad argument.

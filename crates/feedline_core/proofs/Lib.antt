@@ -1,3 +1,4 @@
+pub mod Arguments
 pub mod OnInput
 pub mod Single
 pub mod Sizing

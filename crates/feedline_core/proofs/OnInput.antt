@@ -1,5 +1,5 @@
 -- how an input is cut, and what the lines of its pieces say of the input itself
-use Rattle.std.proofs.Common.{ℕ, zero, suc, ◌≡◌, ◌+◌, ◌<◌, ◌≤◌, ◌↔◌, List, [], ◌∷◌, ◌++◌, length, take, drop, sum, Bool, true, false, Option, Result, Ok, Err, refl, ap, sym, subst, ◌∙◌, take-add, arith}
+use Rattle.std.proofs.Common.{ℕ, zero, suc, None, ◌≡◌, ◌≢◌, ⊎_elim, MatchResult, ◌+◌, ◌<◌, ◌≤◌, ◌↔◌, List, [], ◌∷◌, ◌++◌, length, take, drop, sum, Bool, true, false, Option, Result, Ok, Err, refl, ap, sym, subst, ◌∙◌, take-add, arith}
 use Rattle.std.proofs.lemmas.List.{append-nil, length-drop, take-append-drop, take_all}
 use Rattle.std.proofs.lemmas.List.Sums.{sum_by-cons}
 use Rattle.combine_base.specs.Parser.Outcome.{Undecided}
@@ -9,7 +9,9 @@ use Rattle.feedline_core.specs.Cut.{pieces_of}
 use Rattle.feedline_core.specs.Runs.{Prints, Runs}
 use Rattle.feedline_core.specs.OnInput.{PrintsOn, RunsOn}
 use Rattle.feedline_core.specs.declared.message.Message.{Message}
+use Rattle.feedline_core.proofs.Running.{never_over}
 use Rattle.feedline_core.specs.declared.fault.Fault.{Fault}
+use Rattle.feedline_core.specs.declared.fault.Fault.TheVariants as faults
 
 -- the pieces are the whole input
 pub joined_whole : (sizes input : List ℕ) → concatenated (pieces_of sizes input) ≡ input
@@ -54,7 +56,7 @@ one_is_rest (n ∷ ns) input h =
     let i = one_is_rest ns (drop n input) (omega arith) in
     omega (arith, length-drop n input)
 
-module _ {S : Type 0} (r : Reading ℕ ℕ Message) (kept : S → Reading ℕ ℕ Message) (single : IsSingle r) (sizes input : List ℕ) where
+module _ {S : Type 0} (r : Reading ℕ ℕ Message) (kept : S → Reading ℕ ℕ Message) (limit : Option ℕ) (single : IsSingle r) (sizes input : List ℕ) where
   abbrev pieces : List (List ℕ)
   pieces = pieces_of sizes input
 
@@ -64,7 +66,7 @@ module _ {S : Type 0} (r : Reading ℕ ℕ Message) (kept : S → Reading ℕ �
   at_rest : concatenated (take (length sizes + 1) pieces) ≡ input
   at_rest = ap concatenated (take_all (length sizes + 1) pieces (one_is_left sizes input)) ∙ joined_whole sizes input
 
-  module _ (text : List ℕ) (accepted : Bool) (p : Prints r kept pieces text accepted) where
+  module _ (text : List ℕ) (accepted : Bool) (p : Prints r kept limit pieces text accepted) where
     each : (i : ℕ) → i < length sizes → on r (take (sum (take (i + 1) sizes)) input) true Undecided ↔ i < length p.unread
     each i h = (
       λ u. p.asked.only single i (let e = each_is_one sizes input in omega arith) (subst (λ x. on r x true Undecided) (sym (at_size i h)) u),
@@ -80,7 +82,7 @@ module _ {S : Type 0} (r : Reading ℕ ℕ Message) (kept : S → Reading ℕ �
       ),
     )
 
-    prints_on : PrintsOn r kept sizes input text accepted
+    prints_on : PrintsOn r kept limit sizes input text accepted
     prints_on = record {
       prints = p;
       is = subst (λ x. on r x false p.outcome) (joined_whole sizes input) p.decides.is;
@@ -91,6 +93,15 @@ module _ {S : Type 0} (r : Reading ℕ ℕ Message) (kept : S → Reading ℕ �
     }
 
   -- the lines of the pieces are lines of the input
-  pub runs_on : (old new : Option (List ℕ)) (result : Result Bool Fault) → Runs r kept pieces old new result → RunsOn r kept sizes input old new result
+  pub runs_on : (old new : Option (List ℕ)) (result : Result Bool Fault) → Runs r kept limit pieces old new result → RunsOn r kept limit sizes input old new result
   runs_on old new (Ok accepted) h = record { is = (h.is.0, prints_on h.is.0 accepted h.is.1, h.is.2) }
   runs_on old new (Err why) h = record { is = h.is }
+
+-- without a limit no piece is too long
+pub runs_unlimited : {S : Type 0} (r : Reading ℕ ℕ Message) (kept : S → Reading ℕ ℕ Message) (sizes input : List ℕ) (old new : Option (List ℕ)) (result : Result Bool Fault) → RunsOn r kept None sizes input old new result → MatchResult result (λ accepted. Unit {0}) (λ why. why ≢ faults.TooLong)
+runs_unlimited r kept sizes input old new (Ok accepted) h = tt
+runs_unlimited r kept sizes input old new (Err why) h =
+    λ e. ⊎_elim
+    (λ m. absurd (cc))
+    (λ o. ⊎_elim (λ w. absurd (cc)) (λ s. never_over 0 (pieces_of sizes input) s.2.unread s.2.over) o)
+    h.is

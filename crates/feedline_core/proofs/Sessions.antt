@@ -1,20 +1,19 @@
--- a session that still runs: its one error, what it leaves unread, and its room for the next piece
-use Rattle.std.proofs.Common.{ℕ, ◌+◌, ◌^◌, ◌<◌, ◌≤◌, ◌≡◌, ap, subst, List, [], ◌++◌, length, take, drop, get_or, Bool, true, false, refl, sym, arith, Result, Ok, Err}
-use Rattle.std.proofs.lemmas.List.{length-append, length-drop}
+-- a session that still runs: that a piece fits, what it leaves unread, and its room for the next piece
+use Rattle.std.proofs.Common.{ℕ, ◌+◌, ◌^◌, ◌<◌, ◌≤◌, ◌≡◌, ap, subst, List, ◌++◌, length, take, drop, get_or, Bool, true, false, refl, sym, ◌∙◌, arith, Result, Ok}
+use Rattle.std.proofs.lemmas.List.{length-append, length-drop, length-take-le, take-append-drop, take-append-le}
 use Rattle.combine_base.specs.Parser.Meaning.{Meaning}
 use Rattle.combine_base.specs.Stream.View.{extended}
-use Rattle.combine_base.specs.Parser.Outcome.{Outcome, after}
-use Rattle.combine_base.specs.Parser.Pieces.{concatenated, on}
-use Rattle.combine_base.specs.Parser.Sessions.{Course, Feeds, Ends, by_stage}
+use Rattle.combine_base.specs.Parser.Outcome.{Outcome, Undecided, after}
+use Rattle.combine_base.specs.Parser.Pieces.{concatenated, on, undecided_at}
+use Rattle.combine_base.specs.Parser.Sessions.{Course, Feeds, admits, by_stage}
 use Rattle.combine_base.specs.Parser.Sessions as session
 use Rattle.combine_base.proofs.Pieces.{SoFar, no_longer}
 use Rattle.combine_base.specs.declared.error.UnexpectedParse.{UnexpectedParse}
 use Rattle.combine_base.specs.declared.parser.answer.Answer.{Answer}
 use Rattle.combine_base.specs.declared.parser.answer.Answer.TheVariants as answers
 use Rattle.combine_base.specs.declared.parser.session.SessionError.{SessionError}
-use Rattle.combine_base.specs.declared.parser.session.SessionError.TheVariants as errors
 use Rattle.combine_base.specs.declared.parser.session.Stage.TheVariants as stages
-use Rattle.feedline_core.specs.Runs.{IsWantOfMemory, Leaves}
+use Rattle.feedline_core.specs.Runs.{Leaves}
 use Rattle.feedline_core.specs.declared.message.Message.{Message}
 
 module _ {P T R A S : Type 0} (meaning : P → Meaning ℕ T R A S) (valid : S → Type 0) (old new : Course P T S) (running : old.stage ≡ stages.Running) where
@@ -22,13 +21,9 @@ module _ {P T R A S : Type 0} (meaning : P → Meaning ℕ T R A S) (valid : S �
     fed_now : (r : Result (Answer A UnexpectedParse) SessionError) → Feeds meaning valid old new piece true r → session.feeds meaning valid old new piece true r
     fed_now r h = subst (λ s. by_stage meaning valid old new piece true (session.feeds meaning valid old new piece true) s r) running h.is
 
-    -- a piece that has room is fed but for want of memory
-    pub feeds_memory : session.total meaning valid old new piece true < 2 ^ 64 → (e : SessionError) → Feeds meaning valid old new piece true (Err e) → IsWantOfMemory e
-    feeds_memory fits errors.Memory h = tt
-    feeds_memory fits (errors.Fault k) h = (fed_now _ h).1.is.memory
-    feeds_memory fits errors.TooLong h = absurd (let long = (fed_now _ h).0 in omega arith)
-    feeds_memory fits errors.Closed h = absurd (fed_now _ h)
-    feeds_memory fits errors.Failed h = absurd (fed_now _ h)
+    -- a piece that is fed is within the limit
+    pub feeds_within : (a : Answer A UnexpectedParse) → Feeds meaning valid old new piece true (Ok a) → admits old.limit (length old.seen.unread + length piece) ≡ true
+    feeds_within a h = (fed_now _ h).0.1
 
     -- what is unread then is an end of what was and the piece
     pub feeds_end : Feeds meaning valid old new piece true (Ok answers.More) → length new.seen.unread ≤ length old.seen.unread + length piece
@@ -37,22 +32,19 @@ module _ {P T R A S : Type 0} (meaning : P → Meaning ℕ T R A S) (valid : S �
         let e = ap length l.unread in
         omega (arith, length-drop l.count (old.seen.unread ++ piece), length-append old.seen.unread piece)
 
-  ended_now : (r : Result (Answer A UnexpectedParse) SessionError) → Ends meaning valid old new [] false r → session.ends meaning valid old new [] false r
-  ended_now r h = subst (λ s. by_stage meaning valid old new [] false (session.ends meaning valid old new [] false) s r) running h.is
-
-  -- the end is said but for want of memory
-  pub ends_memory : (e : SessionError) → Ends meaning valid old new [] false (Err e) → IsWantOfMemory e
-  ends_memory errors.Memory h = tt
-  ends_memory (errors.Fault k) h = (ended_now _ h).is.memory
-  ends_memory errors.TooLong h = absurd (ended_now _ h)
-  ends_memory errors.Closed h = absurd (ended_now _ h)
-  ends_memory errors.Failed h = absurd (ended_now _ h)
-
 -- where all pieces have room, the next one has
 pub has_room : {P T R A S : Type 0} (meaning : P → Meaning ℕ T R A S) (m : Meaning ℕ T R A S) (valid : S → Type 0) (pieces : List (List T)) (n : ℕ) (c : Course P T S) → SoFar meaning m (take n pieces) c → (piece : List T) → n < length pieces → get_or pieces n piece ≡ piece → length (concatenated pieces) < 2 ^ 64 → c.seen.position + length c.seen.unread + length piece < 2 ^ 64
 has_room meaning m valid pieces n c far piece within at fits =
     let most = no_longer meaning m valid pieces n c far piece within at c in
     omega arith
+
+-- more was asked for at the end of each piece so far
+pub asked_so_far : {P T R A S : Type 0} (meaning : P → Meaning ℕ T R A S) (m : Meaning ℕ T R A S) (pieces : List (List T)) (n : ℕ) (c : Course P T S) → SoFar meaning m (take n pieces) c → n ≤ length pieces → (i : ℕ) → i < n → undecided_at m.whole pieces i
+asked_so_far meaning m pieces n c far within i k =
+    let count = length-take-le n pieces within in
+    let first : take (i + 1) (take n pieces ++ drop n pieces) ≡ take (i + 1) (take n pieces) = take-append-le (i + 1) (take n pieces) (drop n pieces) (omega arith) in
+    let same = ap (take (i + 1)) (sym (take-append-drop n pieces)) ∙ first in
+    subst (λ z. on m.whole (concatenated z) true Undecided) (sym same) (far.asked i (omega arith))
 
 module _ {P S : Type 0} (meaning : P → Meaning ℕ ℕ (Unit {0}) Message S) (m : Meaning ℕ ℕ (Unit {0}) Message S) (fed : List (List ℕ)) (c : Course P ℕ S) (far : SoFar meaning m fed c) where
   means : (x : List ℕ) (is_open : Bool) (o : Outcome Message) → m.rest c.state (record { position = c.seen.position; unread = drop c.seen.position (concatenated fed) ++ x; is_open = is_open }) o → on m.whole (concatenated fed ++ x) is_open (after c.seen.position false o)

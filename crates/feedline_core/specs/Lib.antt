@@ -1,4 +1,5 @@
 pub mod Sizes
+pub mod Arguments
 pub mod Cut
 pub mod Lines
 pub mod Runs

@@ -1,9 +1,10 @@
 -- what is written where an input is fed piece by piece to a parser of messages
-use Rattle.std.specs.Prelude.{ℕ, ◌≡◌, ◌+◌, ◌≤◌, ◌⊎◌, List, [], ◌∷◌, ◌++◌, length, drop, Bool, true, false, Option, Result, Ok, Err}
+use Rattle.std.specs.Prelude.{ℕ, ◌≡◌, ◌+◌, ◌<◌, ◌≤◌, ◌⊎◌, List, [], ◌∷◌, ◌++◌, length, drop, Bool, true, false, Option, Result, Ok, Err}
 use Rattle.std.specs.Io.KnownBytes.{Appends}
 use Rattle.combine_base.specs.Parser.Outcome.{Outcome, Accepted, Refused, Undecided, after}
 use Rattle.combine_base.specs.Parser.Meaning.{Reading}
-use Rattle.combine_base.specs.Parser.Pieces.{concatenated, on, Decides, Asked}
+use Rattle.combine_base.specs.Parser.Pieces.{concatenated, on, Decides, Asked, undecided_at}
+use Rattle.combine_base.specs.Parser.Sessions.{admits}
 use Rattle.combine_base.specs.declared.parser.answer.Answer.{Answer}
 use Rattle.combine_base.specs.declared.parser.answer.Answer.TheVariants as answers
 use Rattle.combine_base.specs.declared.parser.session.SessionError.{SessionError}
@@ -57,7 +58,19 @@ module _ {S : Type 0} (r : Reading ℕ ℕ Message) (kept : S → Reading ℕ �
   leaves fed before [] (u ∷ us) = ⊥
   leaves fed before (p ∷ ps) (u ∷ us) = (u ≤ before + length p) × Leaves (fed ++ p) u × leaves (fed ++ p) u ps us
 
-module _ {S : Type 0} (r : Reading ℕ ℕ Message) (kept : S → Reading ℕ ℕ Message) (pieces : List (List ℕ)) where
+-- Each piece that is fed fits, with the bytes that are unread before it: those that ask for more and leave so many unread, and the next one, if there is one.
+abbrev pub all_fit : Option ℕ → ℕ → List (List ℕ) → List ℕ → Type 0
+all_fit limit before [] us = Unit {0}
+all_fit limit before (p ∷ ps) [] = admits limit (before + length p) ≡ true
+all_fit limit before (p ∷ ps) (u ∷ us) = (admits limit (before + length p) ≡ true) × all_fit limit u ps us
+
+-- those that ask for more do, and the next one doesn't
+abbrev pub next_is_over : Option ℕ → ℕ → List (List ℕ) → List ℕ → Type 0
+next_is_over limit before [] us = ⊥
+next_is_over limit before (p ∷ ps) [] = admits limit (before + length p) ≡ false
+next_is_over limit before (p ∷ ps) (u ∷ us) = (admits limit (before + length p) ≡ true) × next_is_over limit u ps us
+
+module _ {S : Type 0} (r : Reading ℕ ℕ Message) (kept : S → Reading ℕ ℕ Message) (limit : Option ℕ) (pieces : List (List ℕ)) where
   -- These lines: one for each piece at whose end, more being open, the meaning is undecided, with a number of unread bytes; and then that of the outcome on the whole input, ended.
   pub record Prints (text : List ℕ) (accepted : Bool) : Type 0 where
     pub outcome : Outcome Message
@@ -65,13 +78,22 @@ module _ {S : Type 0} (r : Reading ℕ ℕ Message) (kept : S → Reading ℕ �
     pub unread : List ℕ
     pub asked : Asked r pieces (length unread)
     pub leaves : leaves r kept [] 0 pieces unread
+    pub fit : all_fit limit 0 pieces unread
     pub lines : text ≡ more_lines unread ++ decision_line outcome
     pub accepts : accepted ≡ is_accepted outcome
 
+  -- These lines: one for each piece before the first that doesn't fit. At the end of each of them, more being open, the meaning is undecided.
+  pub record StopsShort (text : List ℕ) : Type 0 where
+    pub unread : List ℕ
+    pub asked : (i : ℕ) → i < length unread → undecided_at r pieces i
+    pub leaves : leaves r kept [] 0 pieces unread
+    pub over : next_is_over limit 0 pieces unread
+    pub lines : text ≡ more_lines unread
+
   abbrev pub ran : Option (List ℕ) → Option (List ℕ) → Result Bool Fault → Type 0
   ran old new (Ok accepted) = (text : List ℕ) × Prints text accepted × Appends old new text
-  ran old new (Err why) = (why ≡ faults.Memory) ⊎ (why ≡ faults.Write)
+  ran old new (Err why) = (why ≡ faults.Memory) ⊎ (why ≡ faults.Write) ⊎ ((why ≡ faults.TooLong) × (text : List ℕ) × StopsShort text × Appends old new text)
 
-  -- those lines are written, or memory or the writer failed
+  -- those lines are written, or memory or the writer failed, or a piece was too long
   pub record Runs (old new : Option (List ℕ)) (result : Result Bool Fault) : Type 0 where
     pub is : ran old new result

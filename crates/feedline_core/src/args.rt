@@ -1,5 +1,6 @@
-//! The arguments: piece sizes.
-ghost use Rattle.std.specs.Prelude.{◌≡◌, ◌⊎◌, MatchResult, None, Some, map};
+//! The arguments: a limit, if one is given, and piece sizes.
+ghost use Rattle.std.specs.Prelude.{◌≡◌, ◌⊎◌, MatchOption, MatchResult, None, Some, map};
+ghost use Rattle.feedline_core.specs.Arguments.{args_of, limit_digits, limited, unlimited};
 ghost use Rattle.feedline_core.specs.Sizes.{size_of, sizes_of};
 
 use crate::fault::Fault;
@@ -17,16 +18,68 @@ const MAX_SIZE: u32 = 1_000_000;
 /// What the arguments ask for.
 #[derive(Debug, Drop, PartialEq)]
 pub struct Args {
+    /// How many bytes may be unread, if that is limited.
+    pub limit: Option<usize>,
     /// The sizes of the pieces in bytes, in order.
     pub sizes: Vec<u32>,
 }
 
-/// Reads up to 64 piece sizes, each of one to seven decimal digits and at most 1,000,000.
+/// Reads up to 64 piece sizes, each of one to seven decimal digits and at most 1,000,000; before them a word `limit=N` may stand, with N written as a size is.
 ///
-/// Answers `Argument` where the words aren't that, and `Memory` where a growth was refused.
+/// # Errors
+///
+/// `Argument` where the words aren't that, and `Memory` where a growth was refused.
 pub fn read_args(alloc: Global, words: &[&str]) -> Result<Args, Fault>
     ensures { MatchResult result
-        (λ args. sizes_of (map (λ w. w.now) words.now) ≡ Some args.sizes.items)
+        (λ args. args_of (map (λ w. w.now) words.now) ≡ Some (args.limit, args.sizes.items))
+        (λ why. (why ≡ Fault.Memory) ⊎ ((why ≡ Fault.Argument) × (args_of (map (λ w. w.now) words.now) ≡ None))) }
+{
+    let Some((first, others)) = words.split_first() else {
+        return read_unlimited(alloc, words);
+    };
+    match limit_digits(first.as_bytes()) {
+        None => read_unlimited(alloc, words),
+        Some(digits) => read_limited(alloc, digits, others),
+    }
+}
+
+/// What follows `limit=`, where a word begins so.
+fn limit_digits(word: &[u8]) -> Option<&[u8]>
+    ensures { MatchOption result (limit_digits word.now ≡ None) (λ digits. limit_digits word.now ≡ Some digits.now) }
+{
+    word.strip_prefix(b"limit=")
+}
+
+/// Reads sizes alone.
+fn read_unlimited(alloc: Global, words: &[&str]) -> Result<Args, Fault>
+    ensures { MatchResult result
+        (λ args. unlimited (sizes_of (map (λ w. w.now) words.now)) ≡ Some (args.limit, args.sizes.items))
+        (λ why. (why ≡ Fault.Memory) ⊎ ((why ≡ Fault.Argument) × (unlimited (sizes_of (map (λ w. w.now) words.now)) ≡ None))) }
+{
+    let sizes = read_sizes(alloc, words)?;
+    Ok(Args { limit: None, sizes })
+}
+
+/// Reads a limit, and the sizes behind it.
+fn read_limited(alloc: Global, digits: &[u8], words: &[&str]) -> Result<Args, Fault>
+    ensures { MatchResult result
+        (λ args. limited (size_of digits.now) (sizes_of (map (λ w. w.now) words.now)) ≡ Some (args.limit, args.sizes.items))
+        (λ why. (why ≡ Fault.Memory) ⊎ ((why ≡ Fault.Argument) × (limited (size_of digits.now) (sizes_of (map (λ w. w.now) words.now)) ≡ None))) }
+{
+    let Some(most) = read_size(digits) else {
+        return Err(Fault::Argument);
+    };
+    let sizes = read_sizes(alloc, words)?;
+    Ok(Args {
+        limit: Some(most as usize),
+        sizes,
+    })
+}
+
+/// The sizes that these words say, up to 64.
+fn read_sizes(alloc: Global, words: &[&str]) -> Result<Vec<u32>, Fault>
+    ensures { MatchResult result
+        (λ sizes. sizes_of (map (λ w. w.now) words.now) ≡ Some sizes.items)
         (λ why. (why ≡ Fault.Memory) ⊎ ((why ≡ Fault.Argument) × (sizes_of (map (λ w. w.now) words.now) ≡ None))) }
 {
     if words.len() > MAX_SIZES {
@@ -41,7 +94,7 @@ pub fn read_args(alloc: Global, words: &[&str]) -> Result<Args, Fault>
             return Err(Fault::Memory);
         }
     }
-    Ok(Args { sizes })
+    Ok(sizes)
 }
 
 /// The size that a word says, if it says one.

@@ -8,7 +8,7 @@ use std::fmt;
 /// Why the program gives up: it then writes this text on standard error and ends with status 2.
 #[derive(Clone, Copy, Debug, PartialEq, Eq)]
 pub enum Fault {
-    /// The arguments aren't up to 64 piece sizes.
+    /// The arguments aren't up to 64 piece sizes, with perhaps a limit before them.
     Argument,
     /// The input can't be read.
     Read,
@@ -18,6 +18,8 @@ pub enum Fault {
     Memory,
     /// The output can't be written.
     Write,
+    /// A piece and the bytes that are unread before it are more than the limit.
+    TooLong,
 }
 
 impl Fault {
@@ -31,6 +33,7 @@ impl Fault {
             Fault::Input => "feedline: input too long",
             Fault::Memory => "feedline: out of memory",
             Fault::Write => "feedline: cannot write",
+            Fault::TooLong => "feedline: piece too long",
         }
     }
 }

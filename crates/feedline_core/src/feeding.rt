@@ -1,10 +1,10 @@
 //! Feeds an input piece by piece, and writes the lines.
-ghost use Rattle.std.specs.Prelude.{◌≡◌, ◌+◌, ◌^◌, ◌<◌, [], true, false, MatchResult, length, map};
+ghost use Rattle.std.specs.Prelude.{◌≡◌, ◌≢◌, ◌+◌, ◌^◌, ◌<◌, ◌⊎◌, [], true, false, None, MatchResult, length, map};
 ghost use Rattle.std.specs.Char.{is_ascii_digit, is_ascii_lowercase};
 ghost use Rattle.feedline_core.specs.OnInput.{RunsOn};
 ghost use Rattle.feedline_core.specs.Messages.{message, delete_after, or_set};
 ghost use Rattle.combine_base.specs.Parser.Pieces.{concatenated};
-ghost use Rattle.combine_base.specs.Parser.Sessions.{Feeds, Ends};
+ghost use Rattle.combine_base.specs.Parser.Sessions.{Begins, Feeds, Ends, admits};
 ghost use Rattle.combine_base.specs.declared.parser.session.Stage.TheVariants as stages;
 ghost use Rattle.std.specs.Io.KnownBytes.{Appends};
 ghost use Rattle.feedline_core.specs.Runs.{Runs, IsWantOfMemory, answer_line, answer_accepts};
@@ -25,13 +25,35 @@ use std::io::Write;
 
 /// Reads the message of an input that is fed in pieces of these sizes, and then the rest as one piece: `del WORD;` or `WORD=DIGITS;`, where `WORD` is one or more of `a` to `z` and `DIGITS` one or more of `0` to `9`.
 ///
-/// It stops at the first decision. It writes a line `more N` for each piece that needs more, with N bytes unread, and then the line of the decision; it answers whether that accepts. It answers `Memory` where a growth was refused and `Write` where a write failed; of what the writer then holds nothing is said.
+/// It stops at the first decision. It writes a line `more N` for each piece that needs more, with N bytes unread, and then the line of the decision; it answers whether that accepts.
+///
+/// # Errors
+///
+/// `Memory` where a growth was refused and `Write` where a write failed; of what the writer then holds nothing is said.
 pub fn run<W: Write>(alloc: Global, sizes: &[u32], input: &[u8], out: &mut W) -> Result<bool, Fault>
-    ensures { RunsOn message.whole message.rest sizes.now input.now (W.contents out.old) (W.contents out.new) result }
+    ensures ran { RunsOn message.whole message.rest None sizes.now input.now (W.contents out.old) (W.contents out.new) result }
+    ensures unlimited { MatchResult result (λ _. Unit {0}) (λ why. why ≢ Fault.TooLong) }
+{
+    run_limited(alloc, sizes, None, input, out)
+}
+
+/// Reads the message of an input as `run` does, of which with a limit at most so many bytes are ever unread.
+///
+/// # Errors
+///
+/// `TooLong` where a piece and the bytes that are unread before it are more than the limit: what is written then are the lines of the pieces before. Else as `run`.
+pub fn run_limited<W: Write>(
+    alloc: Global,
+    sizes: &[u32],
+    limit: Option<usize>,
+    input: &[u8],
+    out: &mut W,
+) -> Result<bool, Fault>
+    ensures { RunsOn message.whole message.rest limit sizes.now input.now (W.contents out.old) (W.contents out.new) result }
 {
     let pieces = cut(alloc, sizes, input)?;
     let del = attempt((token(b'd'), token(b'e'), token(b'l'), token(b' ')));
-    drive_after(alloc, del, &pieces, out)
+    drive_after(alloc, del, limit, &pieces, out)
 }
 
 /// Drives the parser of messages in which `del` reads what stands before a word that is deleted.
@@ -40,30 +62,32 @@ pub fn run<W: Write>(alloc: Global, sizes: &[u32], input: &[u8], out: &mut W) ->
 fn drive_after<D: Parser<fed::Stream<u8>, Output = (u8, u8, u8, u8)> + Drop, W: Write>(
     alloc: Global,
     del: D,
+    limit: Option<usize>,
     pieces: &[&[u8]],
     out: &mut W,
 ) -> Result<bool, Fault>
     requires lawful { D.lawful del }
     requires fits { length (concatenated (map (λ p. p.now) pieces.now)) < 2 ^ 64 }
-    ensures { Runs (or_set (delete_after (D.meaning del))).whole (or_set (delete_after (D.meaning del))).rest (map (λ p. p.now) pieces.now) (W.contents out.old) (W.contents out.new) result }
+    ensures { Runs (or_set (delete_after (D.meaning del))).whole (or_set (delete_after (D.meaning del))).rest limit (map (λ p. p.now) pieces.now) (W.contents out.old) (W.contents out.new) result }
 {
     let delete = map(
         (del, many1(alloc, satisfy(is_letter)), token(b';')),
         made_delete,
     );
-    drive_or_set(alloc, delete, pieces, out)
+    drive_or_set(alloc, delete, limit, pieces, out)
 }
 
 /// Drives the choice of the messages that `delete` reads and those that set.
 fn drive_or_set<A: Parser<fed::Stream<u8>, Output = Message> + Drop, W: Write>(
     alloc: Global,
     delete: A,
+    limit: Option<usize>,
     pieces: &[&[u8]],
     out: &mut W,
 ) -> Result<bool, Fault>
     requires lawful { A.lawful delete }
     requires fits { length (concatenated (map (λ p. p.now) pieces.now)) < 2 ^ 64 }
-    ensures { Runs (or_set (A.meaning delete)).whole (or_set (A.meaning delete)).rest (map (λ p. p.now) pieces.now) (W.contents out.old) (W.contents out.new) result }
+    ensures { Runs (or_set (A.meaning delete)).whole (or_set (A.meaning delete)).rest limit (map (λ p. p.now) pieces.now) (W.contents out.old) (W.contents out.new) result }
 {
     let set = map(
         (
@@ -74,7 +98,7 @@ fn drive_or_set<A: Parser<fed::Stream<u8>, Output = Message> + Drop, W: Write>(
         ),
         made_set,
     );
-    drive(alloc, or(delete, set), pieces, out)
+    drive(alloc, or(delete, set), limit, pieces, out)
 }
 
 fn is_letter(byte: u8) -> bool
@@ -107,14 +131,15 @@ fn made_set(parts: (Vec<u8>, u8, Vec<u8>, u8)) -> Message
 pub(crate) fn drive<P: Parser<fed::Stream<u8>, Output = Message> + Drop, W: Write>(
     alloc: Global,
     parser: P,
+    limit: Option<usize>,
     pieces: &[&[u8]],
     out: &mut W,
 ) -> Result<bool, Fault>
     requires lawful { P.lawful parser }
     requires fits { length (concatenated (map (λ p. p.now) pieces.now)) < 2 ^ 64 }
-    ensures { Runs (P.meaning parser).whole (P.meaning parser).rest (map (λ p. p.now) pieces.now) (W.contents out.old) (W.contents out.new) result }
+    ensures { Runs (P.meaning parser).whole (P.meaning parser).rest limit (map (λ p. p.now) pieces.now) (W.contents out.old) (W.contents out.new) result }
 {
-    let mut session = Session::new(alloc, parser);
+    let mut session = begin(alloc, parser, limit);
     'pieces: for piece in pieces {
         match feed(&mut session, piece)? {
             Answer::More => write_more(out, session.unread().len())?,
@@ -125,7 +150,22 @@ pub(crate) fn drive<P: Parser<fed::Stream<u8>, Output = Message> + Drop, W: Writ
     write_decision(out, &answer)
 }
 
-/// Feeds a piece to a session that still runs and has room for it.
+/// Begins a session, with the limit if there is one.
+fn begin<P: Parser<fed::Stream<u8>>>(
+    alloc: Global,
+    parser: P,
+    limit: Option<usize>,
+) -> Session<P, u8>
+    requires { P.lawful parser }
+    ensures { Begins P.meaning P.valid P.determined limit parser result }
+{
+    match limit {
+        None => Session::new(alloc, parser),
+        Some(most) => Session::with_limit(alloc, parser, most),
+    }
+}
+
+/// Feeds a piece to a session that still runs and can count it.
 fn feed<P: Parser<fed::Stream<u8>>>(
     session: &mut Session<P, u8>,
     piece: &[u8],
@@ -134,10 +174,11 @@ fn feed<P: Parser<fed::Stream<u8>>>(
     requires fits { session.old.seen.position + length session.old.seen.unread + length piece.now < 2 ^ 64 }
     ensures { MatchResult result
         (λ answer. Feeds P.meaning P.valid session.old session.new piece.now true (Ok answer))
-        (λ why. why ≡ Fault.Memory) }
+        (λ why. (why ≡ Fault.Memory) ⊎ ((why ≡ Fault.TooLong) × (admits session.old.limit (length session.old.seen.unread + length piece.now) ≡ false))) }
 {
     match session.feed(piece) {
         Ok(answer) => Ok(answer),
+        Err(SessionError::TooLong) => Err(Fault::TooLong),
         Err(error) => Err(out_of_memory(error)),
     }
 }
@@ -157,7 +198,7 @@ fn end<P: Parser<fed::Stream<u8>>>(
     }
 }
 
-/// The fault for the one error that a session has which runs and has room: a growth was refused.
+/// The fault for the one other error that a session has which still runs: a growth was refused.
 fn out_of_memory(error: SessionError) -> Fault
     requires { IsWantOfMemory error }
     ensures { result ≡ Fault.Memory }

@@ -11,6 +11,6 @@ mod pieces;
 
 pub use args::{Args, read_args};
 pub use fault::Fault;
-pub use feeding::run;
+pub use feeding::{run, run_limited};
 pub use input::{MAX_INPUT, read_input};
 pub use message::Message;

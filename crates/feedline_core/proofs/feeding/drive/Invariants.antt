@@ -1,4 +1,4 @@
-use Rattle.std.proofs.Common.{take, map, length}
+use Rattle.std.proofs.Common.{◌≡◌, take, map, length}
 use Rattle.combine_base.proofs.Pieces.{SoFar}
 use Rattle.feedline_core.proofs.Running.{Written}
 use Rattle.feedline_core.proofs.feeding.drive.Given as goal
@@ -7,5 +7,6 @@ use Rattle.feedline_core.proofs.feeding.drive.Given as goal
 abbrev pub invariant-pieces : goal.invariant-pieces
 invariant-pieces g l = record {
   far : SoFar g.P.Parser.meaning (g.P.Parser.meaning l.fn.parser) (take l.piece-index (map (λ p. p.now) l.pieces)) l.session;
-  written : Written (g.P.Parser.meaning l.fn.parser).whole (g.P.Parser.meaning l.fn.parser).rest (g.W.Write.contents l.fn.out) (g.W.Write.contents l.out) (take l.piece-index (map (λ p. p.now) l.pieces)) (length l.session.seen.unread);
+  limit : l.session.limit ≡ l.fn.limit;
+  written : Written (g.P.Parser.meaning l.fn.parser).whole (g.P.Parser.meaning l.fn.parser).rest l.fn.limit (g.W.Write.contents l.fn.out) (g.W.Write.contents l.out) (take l.piece-index (map (λ p. p.now) l.pieces)) (length l.session.seen.unread);
 }
