@@ -1,12 +1,13 @@
 //! Sums and products of unsigned integers, folded from the left: over a whole text, and over bytes in pieces.
 
-use combine::error::UnexpectedParse;
+use combine::error::{ParseError, UnexpectedParse};
 use combine::parser::char::digit;
 use combine::parser::combinator::map;
 use combine::parser::repeat::{chainl1, many1, skip_many};
 use combine::parser::sequence::{skip, with};
 use combine::parser::token::{eof, one_of, satisfy};
 use combine::parser::{Parser, parse_pieces};
+use combine::stream::Stream;
 use combine_examples::answers::InPieces;
 use combine_examples::slices::is_digit;
 use std::alloc::Global;
@@ -85,14 +86,18 @@ pub fn value(alloc: Global, text: &str) -> Result<Number, UnexpectedParse> {
 }
 
 /// The value of a text that holds nothing else, but for blanks before it.
-fn read_whole<'a, S: Parser<&'a str, Output = Number> + Drop>(
+///
+/// It is over any stream: over `&str` alone what is shown of `sum` at the call of `parse` is more than the prover takes.
+fn read_whole<Input: Stream<Token = char>, S: Parser<Input, Output = Number> + Drop>(
     sum: S,
-    text: &'a str,
-) -> Result<Number, UnexpectedParse>
+    input: Input,
+) -> Result<Number, Input::Error>
+where
+    Input::Error: ParseError<char, Input::Range, Input::Position>,
     requires { S.lawful sum }
 {
     let mut whole = with(skip_many(satisfy(|c: char| c == ' ')), skip(sum, eof()));
-    match whole.parse(text) {
+    match whole.parse(input) {
         Ok((number, _)) => Ok(number),
         Err(error) => Err(error),
     }
