@@ -1,13 +1,12 @@
 //! Sums and products of unsigned integers, folded from the left: over a whole text, and over bytes in pieces.
 
-use combine::error::{ParseError, UnexpectedParse};
+use combine::error::UnexpectedParse;
 use combine::parser::char::digit;
 use combine::parser::combinator::map;
 use combine::parser::repeat::{chainl1, many1, skip_many};
 use combine::parser::sequence::{skip, with};
 use combine::parser::token::{eof, one_of, satisfy};
 use combine::parser::{Parser, parse_pieces};
-use combine::stream::Stream;
 use combine_examples::answers::InPieces;
 use combine_examples::slices::is_digit;
 use std::alloc::Global;
@@ -82,22 +81,9 @@ pub fn value(alloc: Global, text: &str) -> Result<Number, UnexpectedParse> {
         skip(one_of(['+', '-']), skip_many(satisfy(|c: char| c == ' '))),
         |operator: char| move |left: Number, right: Number| applied(operator, left, right),
     );
-    read_whole(chainl1(chainl1(number, times), plus), text)
-}
-
-/// The value of a text that holds nothing else, but for blanks before it.
-///
-/// It is over any stream: over `&str` alone what is shown of `sum` at the call of `parse` is more than the prover takes.
-fn read_whole<Input: Stream<Token = char>, S: Parser<Input, Output = Number> + Drop>(
-    sum: S,
-    input: Input,
-) -> Result<Number, Input::Error>
-where
-    Input::Error: ParseError<char, Input::Range, Input::Position>,
-    requires { S.lawful sum }
-{
+    let sum = chainl1(chainl1(number, times), plus);
     let mut whole = with(skip_many(satisfy(|c: char| c == ' ')), skip(sum, eof()));
-    match whole.parse(input) {
+    match whole.parse(text) {
         Ok((number, _)) => Ok(number),
         Err(error) => Err(error),
     }
