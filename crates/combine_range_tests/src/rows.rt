@@ -167,7 +167,9 @@ where
 /// Whether the answers on open inputs are those, one after another with one state.
 fn in_turn<Input: Written, P: Parser<Input, Output = V>, V: Readable, T: Readable>(
     parser: &mut P,
-    steps: [(T, Reading<T>); 3],
+    one: (T, Reading<T>),
+    two: (T, Reading<T>),
+    three: (T, Reading<T>),
 ) -> bool
 where
     Input::Range: Range + Readable + PartialEq,
@@ -175,12 +177,13 @@ where
     ensures { P.lawful parser.new }
 {
     let mut state = P::PartialState::default();
-    for (text, wanted) in steps {
-        if !open::<Input, P, V, T>(parser, &mut state, text, wanted) {
-            return false;
-        }
+    if !open::<Input, P, V, T>(parser, &mut state, one.0, one.1) {
+        return false;
     }
-    true
+    if !open::<Input, P, V, T>(parser, &mut state, two.0, two.1) {
+        return false;
+    }
+    open::<Input, P, V, T>(parser, &mut state, three.0, three.1)
 }
 
 /// Checks a row of a parser. Over a stream that can't be open one of open inputs is left out.
@@ -210,7 +213,7 @@ where
         }
         Row::InTurn(one, two, three) => {
             if Input::may_go_on() {
-                let is_right = in_turn::<Input, P, V, T>(parser, [one, two, three]);
+                let is_right = in_turn::<Input, P, V, T>(parser, one, two, three);
                 assert!(rt; is_right, "in turn");
             }
         }
