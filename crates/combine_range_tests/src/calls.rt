@@ -19,6 +19,21 @@ pub enum Called<V> {
 /// What a call answers, and how many items it took; of a refusal and of a fault none is said.
 pub type Answered<V> = (Called<V>, usize);
 
+/// Accepted, so many items taken.
+pub fn accepted<V>(value: V, committed: bool, taken: usize) -> Answered<V> {
+    (Called::Accepted(value, committed), taken)
+}
+
+/// Refused peeked.
+pub fn refused<V>() -> Answered<V> {
+    (Called::Refused(false), 0)
+}
+
+/// Refused committed.
+pub fn refused_committed<V>() -> Answered<V> {
+    (Called::Refused(true), 0)
+}
+
 /// One call from a state.
 pub fn call<Input: RangeStream, P: Parser<Input>>(
     parser: &mut P,
@@ -68,45 +83,4 @@ where
     let mut parser = parser;
     let mut state = P::PartialState::default();
     call(&mut parser, input, &mut state)
-}
-
-/// Calls on one input after another, with one state.
-pub fn in_turn<Input: RangeStream, P: Parser<Input> + Drop>(
-    parser: P,
-    inputs: [Input; 3],
-) -> [Answered<P::Output>; 3]
-where
-    Input::Range: Range,
-    requires { P.lawful parser }
-{
-    let mut parser = parser;
-    let mut state = P::PartialState::default();
-    let [first, second, third] = inputs;
-    let one = call(&mut parser, first, &mut state);
-    let two = call(&mut parser, second, &mut state);
-    let three = call(&mut parser, third, &mut state);
-    [one, two, three]
-}
-
-/// Calls on one window after another, with one state, until one asks for no more: what that one answers. `None` where all do, or where one that asks for more took some items.
-pub fn over_windows<Input: RangeStream, P: Parser<Input> + Drop>(
-    parser: P,
-    windows: Vec<Input>,
-) -> Option<Answered<P::Output>>
-where
-    Input::Range: Range,
-    requires { P.lawful parser }
-{
-    let mut parser = parser;
-    let mut state = P::PartialState::default();
-    for window in windows {
-        let (called, taken) = call(&mut parser, window, &mut state);
-        if !matches!(called, Called::More) {
-            return Some((called, taken));
-        }
-        if taken > 0 {
-            return None;
-        }
-    }
-    None
 }

@@ -2,18 +2,20 @@
 #![tactic(auto)]
 
 #[cfg(test)]
-mod beginnings;
-#[cfg(test)]
-mod bytes;
-#[cfg(test)]
 mod calls;
+#[cfg(test)]
+mod families;
+#[cfg(test)]
+mod finds;
 #[cfg(test)]
 mod integers;
 #[cfg(test)]
-mod parsers;
+mod plain;
 #[cfg(test)]
-mod searches;
+mod rows;
 #[cfg(test)]
-mod texts;
+mod streams;
 #[cfg(test)]
-mod windows;
+mod tables;
+#[cfg(test)]
+mod written;
