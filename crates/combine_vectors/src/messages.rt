@@ -241,7 +241,7 @@ fn limits(rt: HostRuntime) -> Result<(), AllocError> {
     ] {
         let [first, second] = words;
         assert_eq!(rt;
-            read_args(alloc, &words),
+            read_args(alloc, &[first, second]),
             Err(Fault::Argument),
             "{first} {second}"
         );
