@@ -109,9 +109,9 @@ module _ {N Input It I B C H U Checkpoint T R P E X : Type 0} (p : parser.Ghosts
   runs_first l xs v f k g = record { left = xs; given = g; kept = k; progress = progress_here part_world (all.rest (states.Running l)) (left_in l xs) v f (λ u o w. (xs, g, w)); lost = λ x. x }
 
   -- the next item's parser runs, the stream being where it was
-  pub runs_next : {valid : U → Type 0} (z : IterateState C It N U) (old now there : View P T) (before later then : Failures) (l : Collected C It) (r : Reaches z old now before later l) (x : I) (xs : List I) → r.left ≡ x ∷ xs → (n : N) → answers x n → KeptOf p.lawful p.meaning some n → (u : U) → fresh u → IsMeaning fresh valid (p.meaning n) → (rest : It) → at rest xs → there ≡ now → then ≡ later → Runs z old there before then (record { before = record { values = l.values; committed = l.committed; items = rest }; parser = n; state = u })
+  pub runs_next : {valid : U → Type 0} (z : IterateState C It N U) (old now there : View P T) (before later then : Failures) (l : Collected C It) (r : Reaches z old now before later l) (x : I) (xs : List I) → r.left ≡ x ∷ xs → (n : N) → answers x n → KeptOf p.lawful p.meaning some n → (u : U) → fresh u → IsMeaning fresh valid (p.meaning n) → (rest : It) → at rest xs → there ≡ now → then ≡ later → Runs z old there before then (record { before = record { values = l.values; is_begun = l.is_begun; committed = l.committed; items = rest }; parser = n; state = u })
   runs_next z old now there before later then l r x xs is n j k u d laws rest g stays fails =
-      let q : RunningItem C It N U = record { before = record { values = l.values; committed = l.committed; items = rest }; parser = n; state = u } in
+      let q : RunningItem C It N U = record { before = record { values = l.values; is_begun = l.is_begun; committed = l.committed; items = rest }; parser = n; state = u } in
       let to : (v : View P T) (o : Outcome C) → left_in q xs v o → left_at l (x ∷ xs) v o = λ v o w. (w.0, (w.1.0, (n, j, (laws.start u v w.1.0 d).0 w.1.1), w.1.2), w.2) in
       let h = subst (λ ys. Progress part_world (all.rest z) (left_at l ys) old now before later) is r.progress in
       record {

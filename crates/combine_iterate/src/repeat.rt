@@ -22,7 +22,7 @@ use types::Iterate;
 
 /// For each item of a list, in order, the parser that `f` answers for it; the values are collected in order.
 ///
-/// An iterator of a clone of the list gives the items; a clone that finds no memory is the fault `Memory`. `f` is asked once for each item, where its turn comes, and leaves the stream in place: on need of more the state keeps the parser that it answered, the values so far and the items that are left. No items are accepted peeked, and so are items whose parsers are all accepted peeked. A refusal of a parser is the answer; a peeked one is put back to where that parser began, and says what stands there and what that parser expects; it is committed if an earlier item was. Every parser that `f` may answer has to be lawful.
+/// An iterator of a clone of the list gives the items; a clone that finds no memory is the fault `Memory`. `f` is asked once for each item, where its turn comes, and leaves the stream in place: on need of more the state keeps the parser that it answered, the values so far and the items that are left. No items are accepted peeked, and so are items whose parsers are all accepted peeked. A refusal of a parser is the answer; a peeked one behind the first item is put back to where that parser began, and says what stands there and what that parser expects; it is committed if an earlier item was. Every parser that `f` may answer has to be lawful.
 ///
 /// In the crate `f` is an `FnMut`, which is asked again for the running item on resumption.
 #[inline]

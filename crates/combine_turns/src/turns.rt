@@ -3,7 +3,9 @@ ghost use Rattle.std.specs.Prelude.{◌≡◌, ◌-◌, ◌||◌, ℕ, Bool, fal
 ghost use Rattle.combine_base.specs.Stream.View.{View, Takes};
 ghost use Rattle.combine_base.specs.Parser.Answer.{Answers, Run, world};
 ghost use Rattle.combine_base.specs.Stream.Calls.{Passes};
-ghost use Rattle.combine_base.specs.Refusals.{Told};
+ghost use Rattle.combine_base.specs.Error.Errors.{Only};
+ghost use Rattle.combine_base.specs.Error.Items.{Count, Message};
+ghost use Rattle.combine_base.specs.Refusals.{Saying, Told};
 ghost use Rattle.combine_base.specs.Sequence.Parts.{accepted_as, refused_as};
 ghost use Rattle.std.specs.Prelude.{None};
 ghost use Rattle.combine_turns.specs.FirstTurn.{FirstTurn};
@@ -435,6 +437,7 @@ fn parse_turn<Input: Stream, P: Turn<Input>, M: ParseMode>(
 #[inline]
 fn too_few<Input: Stream>(input: &Input, position: Input::Position, missing: usize) -> Input::Error
     ensures told { Told Input.Error.seen.kind Input.Error.seen.frugal result }
+    ensures says { Saying Input.Error.seen Kind.Refused position (Only (Message (Count missing))) result }
 {
     let mut error = input.new_error(Kind::Refused, position);
     error.add_message(&Info::More(missing));

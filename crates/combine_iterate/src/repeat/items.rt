@@ -1,5 +1,8 @@
 //! One item's parser, run, and what is kept while it runs.
 ghost use Rattle.std.specs.Prelude.{◌≡◌, false, true, MatchResult};
+ghost use Rattle.combine_base.specs.Parser.Answer.{Answers, world};
+ghost use Rattle.combine_base.specs.Parser.Meaning.{MeansSame};
+ghost use Rattle.combine_base.specs.Stream.Calls.{Passes};
 ghost use Rattle.combine_iterate.specs.Items.{begins_items};
 ghost use Rattle.combine_iterate.specs.ItemCalls.{CalledItem, Stores};
 
@@ -10,10 +13,11 @@ use combine_base::sequence::refused_after;
 use combine_base::stream::{Kind, Stream, needs_more};
 use std::alloc::AllocError;
 
-/// What is kept of the items: the values of those that are over, whether one of them was committed, and an iterator of those that are left.
+/// What is kept of the items: the values of those that are over, whether there are some, whether one of them was committed, and an iterator of those that are left.
 #[derive(Drop)]
 pub struct Collected<C, I> {
     pub(super) values: C,
+    pub(super) is_begun: bool,
     pub(super) committed: bool,
     pub(super) items: I,
 }
@@ -22,10 +26,11 @@ impl<C, I> Collected<C, I> {
     /// No item is over.
     #[inline]
     pub(super) fn none_yet(values: C, items: I) -> Collected<C, I>
-        ensures { result ≡ record { values = values; committed = false; items = items } }
+        ensures { result ≡ record { values = values; is_begun = false; committed = false; items = items } }
     {
         Collected {
             values,
+            is_begun: false,
             committed: false,
             items,
         }
@@ -77,18 +82,46 @@ fn store<B, C: Append<B>, I: Drop>(
 {
     let Collected {
         mut values,
+        is_begun: _,
         committed: earlier,
         items,
     } = before;
     values.append(value)?;
     Ok(Collected {
         values,
+        is_begun: true,
         committed: earlier || committed,
         items,
     })
 }
 
-/// Runs an item's parser from its state. A peeked refusal is put back to where it began, and explained by it. Need of more is kept in `state`, which is a default one.
+/// Calls an item's parser. A peeked refusal behind the first item is put back to where it began, and explained by it; the first item's is left as it is.
+#[inline(always)]
+fn call_item<Input: Stream, N: Parser<Input>, M: ParseMode>(
+    is_begun: bool,
+    parser: &mut N,
+    mode: M,
+    input: &mut Input,
+    state: &mut N::PartialState,
+) -> ParseResult<N::Output, Input::Error>
+    requires lawful { N.lawful parser.old }
+    requires valid { N.valid state.old }
+    ensures lawful { N.lawful parser.new }
+    ensures valid { N.valid state.new }
+    ensures same { MeansSame (N.meaning parser.old) (N.meaning parser.new) }
+    ensures passes { Passes (Input.marks input.old) (Input.marks input.new) (Input.failures input.old) (Input.failures input.new) }
+    ensures answers { Answers (world Input.step Input.Error.seen Input.steady N.PartialState.is_default)
+        (N.meaning parser.old)
+        (record { first = M.first mode; state = state.old; left = state.new; old = Input.view input.old; new = Input.view input.new; before = Input.failures input.old; after = Input.failures input.new })
+        result }
+{
+    if is_begun {
+        return parser.parse_explained(mode, input, state);
+    }
+    parser.parse_mode(mode, input, state)
+}
+
+/// Runs an item's parser from its state. Need of more is kept in `state`, which is a default one.
 #[inline(always)]
 pub(super) fn parse_item<
     Input: Stream,
@@ -113,7 +146,13 @@ pub(super) fn parse_item<
         state: mut kept,
     } = from;
     let position = input.position();
-    let (value, committed) = match parser.parse_explained(mode, input, &mut kept) {
+    let (value, committed) = match call_item(
+        before.is_begun,
+        &mut parser,
+        mode,
+        input,
+        &mut kept,
+    ) {
         ParseResult::CommitOk(value) => (value, true),
         ParseResult::PeekOk(value) => (value, false),
         ParseResult::CommitErr(error) => {

@@ -8,7 +8,7 @@ use Rattle.combine_iterate.proofs.repeat.items.parse_item.Goals.{in-CommitOk, in
 
 pub returns-then-needs_more : goal.returns-then-needs_more
 returns-then-needs_more g c =
-    let call = c.parse_explained.ensures in
+    let call = c.call_item.ensures in
     let around = world g.Input.StreamOnce.step g.Input.Error.ParseError.seen g.Input.StreamOnce.steady g.N.PartialState.Default.is_default in
     record {
       parser = _;
@@ -24,7 +24,7 @@ returns-then-needs_more g c =
 
 pub returns-in-CommitErr : goal.returns-in-CommitErr
 returns-in-CommitErr g c =
-    let call = c.parse_explained.ensures in
+    let call = c.call_item.ensures in
     let around = world g.Input.StreamOnce.step g.Input.Error.ParseError.seen g.Input.StreamOnce.steady g.N.PartialState.Default.is_default in
     record {
       parser = _;
@@ -40,7 +40,7 @@ returns-in-CommitErr g c =
 
 pub returns-in-PeekErr : goal.returns-in-PeekErr
 returns-in-PeekErr g c =
-    let call = c.parse_explained.ensures in
+    let call = c.call_item.ensures in
     let around = world g.Input.StreamOnce.step g.Input.Error.ParseError.seen g.Input.StreamOnce.steady g.N.PartialState.Default.is_default in
     record {
       parser = _;
@@ -56,9 +56,9 @@ returns-in-PeekErr g c =
 
 pub returns-in-Ok : goal.returns-in-Ok
 returns-in-Ok g c =
-    let call = c.parse_explained.ensures in
+    let call = c.call_item.ensures in
     let around = world g.Input.StreamOnce.step g.Input.Error.ParseError.seen g.Input.StreamOnce.steady g.N.PartialState.Default.is_default in
-    elim c.match-parse_explained.branch [
+    elim c.match-call_item.branch [
       | in-CommitOk w ↦ record {
         parser = _;
         lawful = call.lawful;
@@ -85,9 +85,9 @@ returns-in-Ok g c =
 
 pub returns : goal.returns
 returns g c =
-    let call = c.parse_explained.ensures in
+    let call = c.call_item.ensures in
     let around = world g.Input.StreamOnce.step g.Input.Error.ParseError.seen g.Input.StreamOnce.steady g.N.PartialState.Default.is_default in
-    elim c.match-parse_explained.branch [
+    elim c.match-call_item.branch [
       | in-CommitOk w ↦ record {
         parser = _;
         lawful = call.lawful;
