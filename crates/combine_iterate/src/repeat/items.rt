@@ -146,13 +146,7 @@ pub(super) fn parse_item<
         state: mut kept,
     } = from;
     let position = input.position();
-    let (value, committed) = match call_item(
-        before.is_begun,
-        &mut parser,
-        mode,
-        input,
-        &mut kept,
-    ) {
+    let (value, committed) = match call_item(before.is_begun, &mut parser, mode, input, &mut kept) {
         ParseResult::CommitOk(value) => (value, true),
         ParseResult::PeekOk(value) => (value, false),
         ParseResult::CommitErr(error) => {
