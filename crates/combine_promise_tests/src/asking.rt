@@ -12,7 +12,7 @@ use combine::parser::token::{any, token, value};
 use combine::stream::{Stream, fed};
 
 /// Calls a parser that has one outcome, from the start. Unless a fault stops it, it asks for more exactly where what it means is undecided.
-fn call<Input: Stream, P: Parser<Input> + Drop>(
+fn call_afresh<Input: Stream, P: Parser<Input> + Drop>(
     parser: P,
     input: &mut Input,
 ) -> ParseResult<P::Output, Input::Error>
@@ -29,12 +29,12 @@ fn choices<Input: Stream<Token = u8>>(input: &mut Input)
 where
     Input::Error: ParseError<u8, Input::Range, Input::Position>,
 {
-    let _or = call(or(token(b'a'), any()), input);
-    let _optional = call(optional(token(b'a')), input);
-    let _tuple = call(choice((token(b'a'), token(b'b'), any())), input);
-    let _array = call(choice([token(b'a'), token(b'b')]), input);
+    let _or = call_afresh(or(token(b'a'), any()), input);
+    let _optional = call_afresh(optional(token(b'a')), input);
+    let _tuple = call_afresh(choice((token(b'a'), token(b'b'), any())), input);
+    let _array = call_afresh(choice([token(b'a'), token(b'b')]), input);
     let mut alternatives = [token(b'a'), token(b'b')];
-    let _slice = call(choice(Slice(&mut alternatives)), input);
+    let _slice = call_afresh(choice(Slice(&mut alternatives)), input);
 }
 
 /// One of several.
@@ -43,9 +43,9 @@ where
     Input::Error: ParseError<u8, Input::Range, Input::Position>,
 {
     let right: Either<Any<Input>, Token<Input, u8>> = Either::Right(token(b'a'));
-    let _either = call(right, input);
+    let _either = call_afresh(right, input);
     let second: Dispatch3<Any<Input>, Token<Input, u8>, Any<Input>> = Dispatch3::B(token(b'a'));
-    let _dispatch = call(second, input);
+    let _dispatch = call_afresh(second, input);
 }
 
 /// A parser that a function answers.
@@ -53,23 +53,20 @@ fn answered<Input: Stream<Token = u8>>(input: &mut Input)
 where
     Input::Error: ParseError<u8, Input::Range, Input::Position>,
 {
-    let _token = call(then(any(), |byte: u8| token(byte)), input);
+    let _token = call_afresh(then(any(), |byte: u8| token(byte)), input);
     let by_kind = then(any(), |kind: u8| match kind {
         b'1' => Dispatch3::A(any()),
         b'2' => Dispatch3::B(token(kind)),
         _ => Dispatch3::C(value(kind)),
     });
-    let _dispatch = call(by_kind, input);
+    let _dispatch = call_afresh(by_kind, input);
 }
 
 /// The tokens of a list.
-fn lists<Input: Stream<Token = u8>>(input: &mut Input)
-where
-    Input::Error: ParseError<u8, Input::Range, Input::Position>,
-{
-    let _bytes = call(bytes(b"let"), input);
+fn lists(input: &mut fed::Stream<u8>) {
+    let _bytes = call_afresh(bytes(b"let"), input);
     let equal = |wanted: u8, byte: u8| wanted == byte;
-    let _compared = call(bytes_cmp(b"let", equal), input);
+    let _compared = call_afresh(bytes_cmp(b"let", equal), input);
 }
 
 #[test]
