@@ -9,3 +9,4 @@ pub mod pieces;
 pub mod sessions;
 pub mod slices;
 pub mod streams;
+pub mod words;
