@@ -174,6 +174,7 @@ fn arguments(rt: HostRuntime) -> Result<(), AllocError> {
     assert_eq!(rt;
         read_args(alloc, &["2", "0000001", "1000000"]),
         Ok(Args {
+            frames: false,
             limit: None,
             sizes: [2, 1, 1_000_000].to_vec(rt.alloc())?
         })
@@ -181,6 +182,7 @@ fn arguments(rt: HostRuntime) -> Result<(), AllocError> {
     assert_eq!(rt;
         read_args(alloc, &["0"; 64]),
         Ok(Args {
+            frames: false,
             limit: None,
             sizes: [0; 64].to_vec(rt.alloc())?
         })
@@ -209,6 +211,7 @@ fn limits(rt: HostRuntime) -> Result<(), AllocError> {
         assert_eq!(rt;
             read_args(alloc, &[word, "2", "1"]),
             Ok(Args {
+                frames: false,
                 limit: Some(limit),
                 sizes: [2, 1].to_vec(rt.alloc())?
             }),
@@ -220,6 +223,7 @@ fn limits(rt: HostRuntime) -> Result<(), AllocError> {
     assert_eq!(rt;
         read_args(alloc, &most[..65]),
         Ok(Args {
+            frames: false,
             limit: Some(2),
             sizes: [0; 64].to_vec(rt.alloc())?
         })

@@ -5,4 +5,6 @@ pub mod Lines
 pub mod Runs
 pub mod OnInput
 pub mod Messages
+pub mod Frames
+pub mod Decoding
 pub mod Faults

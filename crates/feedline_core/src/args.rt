@@ -1,4 +1,4 @@
-//! The arguments: a limit, if one is given, and piece sizes.
+//! The arguments: `frames` or a limit, if one of these is given, and piece sizes.
 ghost use Rattle.std.specs.Prelude.{◌≡◌, ◌⊎◌, MatchOption, MatchResult, None, Some, map};
 ghost use Rattle.feedline_core.specs.Arguments.{args_of, limit_digits, limited, unlimited};
 ghost use Rattle.feedline_core.specs.Sizes.{size_of, sizes_of};
@@ -18,27 +18,32 @@ const MAX_SIZE: u32 = 1_000_000;
 /// What the arguments ask for.
 #[derive(Debug, Drop, PartialEq)]
 pub struct Args {
+    /// Whether the input is frames.
+    pub frames: bool,
     /// How many bytes may be unread, if that is limited.
     pub limit: Option<usize>,
     /// The sizes of the pieces in bytes, in order.
     pub sizes: Vec<u32>,
 }
 
-/// Reads up to 64 piece sizes, each of one to seven decimal digits and at most 1,000,000; before them a word `limit=N` may stand, with N written as a size is.
+/// Reads up to 64 piece sizes, each of one to seven decimal digits and at most 1,000,000; before them the word `frames` may stand, or a word `limit=N`, with N written as a size is.
 ///
 /// # Errors
 ///
 /// `Argument` where the words aren't that, and `Memory` where a growth was refused.
 pub fn read_args(alloc: Global, words: &[&str]) -> Result<Args, Fault>
     ensures { MatchResult result
-        (λ args. args_of (map (λ w. w.now) words.now) ≡ Some (args.limit, args.sizes.items))
+        (λ args. args_of (map (λ w. w.now) words.now) ≡ Some (args.frames, args.limit, args.sizes.items))
         (λ why. (why ≡ Fault.Memory) ⊎ ((why ≡ Fault.Argument) × (args_of (map (λ w. w.now) words.now) ≡ None))) }
 {
     let Some((first, others)) = words.split_first() else {
-        return read_unlimited(alloc, words);
+        return read_unlimited(alloc, false, words);
     };
+    if *first == "frames" {
+        return read_unlimited(alloc, true, others);
+    }
     match limit_digits(first.as_bytes()) {
-        None => read_unlimited(alloc, words),
+        None => read_unlimited(alloc, false, words),
         Some(digits) => read_limited(alloc, digits, others),
     }
 }
@@ -50,20 +55,24 @@ fn limit_digits(word: &[u8]) -> Option<&[u8]>
     word.strip_prefix(b"limit=")
 }
 
-/// Reads sizes alone.
-fn read_unlimited(alloc: Global, words: &[&str]) -> Result<Args, Fault>
+/// Reads sizes, with no limit before them.
+fn read_unlimited(alloc: Global, frames: bool, words: &[&str]) -> Result<Args, Fault>
     ensures { MatchResult result
-        (λ args. unlimited (sizes_of (map (λ w. w.now) words.now)) ≡ Some (args.limit, args.sizes.items))
-        (λ why. (why ≡ Fault.Memory) ⊎ ((why ≡ Fault.Argument) × (unlimited (sizes_of (map (λ w. w.now) words.now)) ≡ None))) }
+        (λ args. unlimited frames (sizes_of (map (λ w. w.now) words.now)) ≡ Some (args.frames, args.limit, args.sizes.items))
+        (λ why. (why ≡ Fault.Memory) ⊎ ((why ≡ Fault.Argument) × (unlimited frames (sizes_of (map (λ w. w.now) words.now)) ≡ None))) }
 {
     let sizes = read_sizes(alloc, words)?;
-    Ok(Args { limit: None, sizes })
+    Ok(Args {
+        frames,
+        limit: None,
+        sizes,
+    })
 }
 
 /// Reads a limit, and the sizes behind it.
 fn read_limited(alloc: Global, digits: &[u8], words: &[&str]) -> Result<Args, Fault>
     ensures { MatchResult result
-        (λ args. limited (size_of digits.now) (sizes_of (map (λ w. w.now) words.now)) ≡ Some (args.limit, args.sizes.items))
+        (λ args. limited (size_of digits.now) (sizes_of (map (λ w. w.now) words.now)) ≡ Some (args.frames, args.limit, args.sizes.items))
         (λ why. (why ≡ Fault.Memory) ⊎ ((why ≡ Fault.Argument) × (limited (size_of digits.now) (sizes_of (map (λ w. w.now) words.now)) ≡ None))) }
 {
     let Some(most) = read_size(digits) else {
@@ -71,6 +80,7 @@ fn read_limited(alloc: Global, digits: &[u8], words: &[&str]) -> Result<Args, Fa
     };
     let sizes = read_sizes(alloc, words)?;
     Ok(Args {
+        frames: false,
         limit: Some(most as usize),
         sizes,
     })

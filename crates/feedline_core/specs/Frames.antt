@@ -1,0 +1,21 @@
+-- a message behind its length
+use Rattle.std.specs.Prelude.{ℕ, [], ◌∷◌, ◌++◌, true}
+use Rattle.std.specs.Global.{Vec}
+use Rattle.combine_base.specs.Parser.Meaning.{Reading}
+use Rattle.combine_base.specs.Sequence.Readings.{sequel}
+use Rattle.combine_integers.specs.Numbers.{big_endian}
+use Rattle.combine_integers.specs.WholeNumbers.{whole_number}
+use Rattle.combine_turns.specs.Counts.{appended, count_min_max}
+use Rattle.feedline_core.specs.Messages.{step, byte_where}
+
+-- a number of two bytes, the highest first
+abbrev pub length_before : Reading ℕ ℕ ℕ
+length_before = whole_number 2 big_endian
+
+-- so many bytes, collected
+abbrev pub bytes : ℕ → Reading ℕ ℕ (Vec ℕ)
+bytes n = (count_min_max step (appended (λ v. v.items) [] (λ bs b. bs ++ b ∷ []) ⊥) n n (byte_where (λ b. true))).whole
+
+-- a length, and then as many bytes, which are the value
+abbrev pub frame : Reading ℕ ℕ (Vec ℕ)
+frame = sequel step (λ n message. message) length_before bytes

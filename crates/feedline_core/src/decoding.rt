@@ -1,0 +1,125 @@
+//! Decodes an input piece by piece, and writes the lines of its messages.
+ghost use Rattle.std.specs.Prelude.{◌≡◌, ◌^◌, ◌<◌, ◌⊎◌, Ok, MatchResult, length, map, nat_eq};
+ghost use Rattle.combine_base.specs.Parser.Pieces.{concatenated};
+ghost use Rattle.combine_decode.specs.Decoders.{Decodes};
+ghost use Rattle.combine_decode.specs.Messages.{IsMade, made};
+ghost use Rattle.feedline_core.specs.Decoding.{DecodesInput, HasRoom, IsRefusedGrowth, WritesBatch};
+ghost use Rattle.feedline_core.specs.Frames as frames;
+
+use crate::fault::Fault;
+use crate::lines::{write_end, write_messages};
+use crate::pieces::cut;
+use combine_base::parser::Parser;
+use combine_base::stream::{Kind, fed};
+use combine_decode::decode::{Batch, BatchEnd, DecodeError, Decoder, frame};
+use std::alloc::Global;
+use std::io::Write;
+
+/// Reads the frames of an input that is fed in pieces of these sizes, and then the rest as one piece: a frame is a length in two bytes, the highest first, and as many bytes, which are the message.
+///
+/// It writes a line `message N` for each message, with N its length, and behind it, if N isn't 0, a blank and its bytes as two lowercase hexadecimal digits each. The last line is `complete` if no byte stands behind the last message, else `incomplete`; it answers whether it is `complete`.
+///
+/// # Errors
+///
+/// `Memory` where a growth was refused and `Write` where a write failed; of what the writer then holds nothing is said.
+pub fn run_frames<W: Write>(
+    alloc: Global,
+    sizes: &[u32],
+    input: &[u8],
+    out: &mut W,
+) -> Result<bool, Fault>
+    ensures { DecodesInput frames.frame input.now (W.contents out.old) (W.contents out.new) result }
+{
+    let pieces = cut(alloc, sizes, input)?;
+    decode(alloc, move || frame(alloc), &pieces, out)
+}
+
+/// Decodes the pieces as one input, writes a line for each message and one for what stands behind the last, and answers whether nothing does. Pieces behind an end other than `More` are not fed.
+fn decode<F: Fn() -> P + Drop, P: Parser<fed::Stream<u8>, Output = Vec<u8>> + Drop, W: Write>(
+    alloc: Global,
+    maker: F,
+    pieces: &[&[u8]],
+    out: &mut W,
+) -> Result<bool, Fault>
+    requires callable { F.IsAlwaysCallable maker }
+    requires lawful { IsMade (F.post maker) P.lawful }
+    requires fits { length (concatenated (map (λ p. p.now) pieces.now)) < 2 ^ 64 }
+    ensures { DecodesInput (made P.meaning (F.post maker)) (concatenated (map (λ p. p.now) pieces.now)) (W.contents out.old) (W.contents out.new) result }
+{
+    let mut decoder = Decoder::new(alloc, maker);
+    'pieces: for (index, piece) in pieces.iter().enumerate() {
+        match decode_piece(&mut decoder, piece, out)? {
+            BatchEnd::More => {}
+            BatchEnd::Refused { .. } | BatchEnd::EmptyMessage => {
+                let complete = decoder.at_boundary() && are_empty(&pieces[index + 1..]);
+                write_end(out, complete)?;
+                return Ok(complete);
+            }
+        }
+    }
+    // Where there are no pieces, nothing was parsed yet.
+    decode_piece(&mut decoder, &[], out)?;
+    let complete = decoder.at_boundary();
+    write_end(out, complete)?;
+    Ok(complete)
+}
+
+/// Feeds a piece, writes the lines of the messages that it completes, and answers why there are no more.
+fn decode_piece<F: Fn() -> P, P: Parser<fed::Stream<u8>, Output = Vec<u8>> + Drop, W: Write>(
+    decoder: &mut Decoder<F, P, u8>,
+    piece: &[u8],
+    out: &mut W,
+) -> Result<BatchEnd, Fault>
+    requires callable { F.IsAlwaysCallable decoder.old.maker }
+    requires lawful { IsMade (F.post decoder.old.maker) P.lawful }
+    requires room { HasRoom (λ f p. F.post f p) P.meaning decoder.old piece.now }
+    ensures { MatchResult result
+        (λ end. WritesBatch (λ f p. F.post f p) P.meaning decoder.old decoder.new piece.now (W.contents out.old) (W.contents out.new) end)
+        (λ why. (why ≡ Fault.Memory) ⊎ (why ≡ Fault.Write)) }
+{
+    let batch = feed(decoder, piece)?;
+    write_messages(out, &batch.messages)?;
+    Ok(batch.end)
+}
+
+/// Feeds a piece to a decoder that may go on and can count it.
+fn feed<F: Fn() -> P, P: Parser<fed::Stream<u8>, Output = Vec<u8>> + Drop>(
+    decoder: &mut Decoder<F, P, u8>,
+    piece: &[u8],
+) -> Result<Batch<Vec<u8>>, Fault>
+    requires callable { F.IsAlwaysCallable decoder.old.maker }
+    requires lawful { IsMade (F.post decoder.old.maker) P.lawful }
+    requires room { HasRoom (λ f p. F.post f p) P.meaning decoder.old piece.now }
+    ensures { MatchResult result
+        (λ batch. Decodes (λ f p. F.post f p) P.meaning decoder.old decoder.new piece.now (Ok batch))
+        (λ why. why ≡ Fault.Memory) }
+{
+    match decoder.feed(piece) {
+        Ok(batch) => Ok(batch),
+        Err(error) => Err(out_of_memory(error)),
+    }
+}
+
+/// The fault for the one error that a decoder has which may go on and can count the piece: a growth was refused.
+fn out_of_memory(error: DecodeError) -> Fault
+    requires { IsRefusedGrowth error }
+    ensures { result ≡ Fault.Memory }
+{
+    match error {
+        DecodeError::Memory | DecodeError::Fault(Kind::Memory) => Fault::Memory,
+        DecodeError::Fault(_) | DecodeError::TooLong | DecodeError::Closed | DecodeError::Failed =>
+            unreachable!(),
+    }
+}
+
+/// Whether these pieces have no byte.
+fn are_empty(pieces: &[&[u8]]) -> bool
+    ensures { result ≡ nat_eq (length (concatenated (map (λ p. p.now) pieces.now))) 0 }
+{
+    'pieces: for piece in pieces {
+        if !piece.is_empty() {
+            return false;
+        }
+    }
+    true
+}
