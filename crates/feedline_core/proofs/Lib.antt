@@ -4,3 +4,6 @@ pub mod Single
 pub mod Sizing
 pub mod Running
 pub mod Sessions
+pub mod Lines
+pub mod Frames
+pub mod Decoding

@@ -1,0 +1,55 @@
+-- messages by one reading are those by another that has its outcomes, and the parser of frames has those of a frame
+use Rattle.std.proofs.Common.{ℕ, List, [], ◌∷◌, Bool, true, Option, Result, Ok, Err}
+use Rattle.std.specs.Global.{Vec}
+use Rattle.combine_base.specs.Stream.View.{View, advanced}
+use Rattle.combine_base.specs.Parser.Outcome.{Outcome, Accepted, Refused, Undecided}
+use Rattle.combine_base.specs.Parser.Meaning.{Reading}
+use Rattle.combine_base.specs.Sequence.Readings.{continues, sequel}
+use Rattle.combine_decode.specs.Messages.{Divides, Messages, on_open, stops}
+use Rattle.combine_decode.specs.declared.decode.BatchEnd.{BatchEnd}
+use Rattle.combine_decode.specs.declared.decode.BatchEnd.TheVariants as ends
+use Rattle.feedline_core.specs.Decoding.{DecodesInput, PrintsMessages}
+use Rattle.feedline_core.specs.Frames.{bytes, frame, length_before}
+use Rattle.feedline_core.specs.Messages.{step}
+use Rattle.feedline_core.specs.declared.fault.Fault.{Fault}
+
+module _ {T V : Type 0} (r q : Reading ℕ T V) (has : (v : View ℕ T) (o : Outcome V) → r v o → q v o) where
+  divides_as : (l : List T) (vs : List V) (behind : List T) → Divides r l vs behind → Divides q l vs behind
+  divides_as l [] behind d = d
+  divides_as l (v ∷ vs) behind d = (d.0, d.1, d.2, has (record { position = 0; unread = l; is_open = true }) (Accepted v d.0 d.1) d.3, divides_as _ vs behind d.4)
+
+  stops_as : (l : List T) (e : BatchEnd) → stops (on_open r l) e → stops (on_open q l) e
+  stops_as l ends.More s = has (record { position = 0; unread = l; is_open = true }) Undecided s
+  stops_as l (ends.Refused k) s = has (record { position = 0; unread = l; is_open = true }) (Refused k) s
+  stops_as l ends.EmptyMessage s = (s.0, s.1, has (record { position = 0; unread = l; is_open = true }) (Accepted s.0 0 s.1) s.2)
+
+  messages_as : (l : List T) (vs : List V) (e : BatchEnd) (n : ℕ) → Messages r l vs e n → Messages q l vs e n
+  messages_as l vs e n m = record { behind = m.behind; divided = divides_as l vs m.behind m.divided; stop = stops_as m.behind e m.stop; number = m.number }
+
+-- what is written of the messages by one is what is to be written of those by the other
+pub decodes_as : (r q : Reading ℕ ℕ (Vec ℕ)) (has : (v : View ℕ ℕ) (o : Outcome (Vec ℕ)) → r v o → q v o) (input : List ℕ) (old new : Option (List ℕ)) (result : Result Bool Fault) → DecodesInput r input old new result → DecodesInput q input old new result
+decodes_as r q has input old new (Ok complete) h =
+    let p : PrintsMessages r input h.is.0 complete = h.is.1 in
+    let as : PrintsMessages q input h.is.0 complete = record {
+      messages = p.messages;
+      end = p.end;
+      behind = p.behind;
+      divided = messages_as r q has input p.messages p.end p.behind p.divided;
+      lines = p.lines;
+      none_behind = p.none_behind;
+    } in
+    record { is = (h.is.0, as, h.is.2) }
+decodes_as r q has input old new (Err why) h = record { is = h.is }
+
+-- as many bytes as the length says, by whichever parser is answered for it
+module _ {N : Type 0} (answers : ℕ → N → Type 0) (means : N → Reading ℕ ℕ (Vec ℕ)) (counts : (n : ℕ) (p : N) → answers n p → (v : View ℕ ℕ) (o : Outcome (Vec ℕ)) → means p v o → bytes n v o) where
+  abbrev answered : ℕ → Reading ℕ ℕ (Vec ℕ)
+  answered n v o = (p : N) × answers n p × means p v o
+
+  then_bytes : (v : View ℕ ℕ) (p : Outcome ℕ) (o : Outcome (Vec ℕ)) → continues step (λ n message. message) answered v p o → continues step (λ n message. message) bytes v p o
+  then_bytes v (Accepted n k c) o u = (u.0, counts n u.1.0 u.1.1 (advanced step k v) u.0 u.1.2, u.2)
+  then_bytes v (Refused c) o u = u
+  then_bytes v Undecided o u = u
+
+  pub has_frame : (v : View ℕ ℕ) (o : Outcome (Vec ℕ)) → sequel step (λ n message. message) length_before answered v o → frame v o
+  has_frame v o w = (w.0, w.1, then_bytes v w.0 o w.2)
