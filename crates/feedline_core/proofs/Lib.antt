@@ -4,6 +4,6 @@ pub mod Single
 pub mod Sizing
 pub mod Running
 pub mod Sessions
-pub mod Lines
+pub mod Writing
 pub mod Frames
-pub mod Decoding
+pub mod Batches

@@ -1,6 +1,6 @@
 use Rattle.std.proofs.Common.{◌≡◌, take, map}
 use Rattle.combine_base.specs.Parser.Pieces.{concatenated}
-use Rattle.feedline_core.proofs.Decoding.{Written}
+use Rattle.feedline_core.proofs.Batches.{Written}
 use Rattle.feedline_core.proofs.decoding.decode.Given as goal
 
 -- the lines of the messages so far are written, and the decoder goes on behind them

@@ -21,7 +21,8 @@ module _ (old now new : Option (List ℕ)) (n : ℕ) where
       let one : message_lines (take (n + 1) ms) ≡ message_lines (take n ms) ++ message_line m.items = ap message_lines (take_more ms n m within ∙ ap (λ x. take n ms ++ x ∷ []) at) ∙ message_lines_append (take n ms) (m ∷ []) ∙ ap (λ l. message_lines (take n ms) ++ l) (append-nil (message_line m.items)) in
       subst (Appends old new) (sym one) (Appends-trans old now new (message_lines (take n ms)) (message_line m.items) written line)
 
-  pub hexadecimal_more : (bs : List ℕ) (b : ℕ) → n < length bs → get_or bs n b ≡ b → Appends old now (hexadecimal (take n bs)) → Appends now new (hexadecimal_digit (b / 16) ∷ hexadecimal_digit (b % 16) ∷ []) → Appends old new (hexadecimal (take (n + 1) bs))
-  hexadecimal_more bs b within at written digits =
-      let one : hexadecimal (take (n + 1) bs) ≡ hexadecimal (take n bs) ++ (hexadecimal_digit (b / 16) ∷ hexadecimal_digit (b % 16) ∷ []) = ap hexadecimal (take_more bs n b within ∙ ap (λ x. take n bs ++ x ∷ []) at) ∙ hexadecimal_append (take n bs) (b ∷ []) in
+  pub hexadecimal_more : (bs : List ℕ) (d : ℕ) → n < length bs → Appends old now (hexadecimal (take n bs)) → Appends now new (hexadecimal_digit (get_or bs n d / 16) ∷ hexadecimal_digit (get_or bs n d % 16) ∷ []) → Appends old new (hexadecimal (take (n + 1) bs))
+  hexadecimal_more bs d within written digits =
+      let b = get_or bs n d in
+      let one : hexadecimal (take (n + 1) bs) ≡ hexadecimal (take n bs) ++ (hexadecimal_digit (b / 16) ∷ hexadecimal_digit (b % 16) ∷ []) = ap hexadecimal (take_more bs n d within) ∙ hexadecimal_append (take n bs) (b ∷ []) in
       subst (Appends old new) (sym one) (Appends-trans old now new (hexadecimal (take n bs)) (hexadecimal_digit (b / 16) ∷ hexadecimal_digit (b % 16) ∷ []) written digits)

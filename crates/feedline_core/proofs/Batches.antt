@@ -16,7 +16,7 @@ use Rattle.combine_decode.specs.declared.decode.BatchEnd.{BatchEnd}
 use Rattle.combine_decode.specs.declared.decode.BatchEnd.TheVariants as ends
 use Rattle.combine_decode.specs.declared.decode.DecodeError.{DecodeError}
 use Rattle.combine_decode.specs.declared.decode.DecodeError.TheVariants as errors
-use Rattle.feedline_core.proofs.Lines.{message_lines_append}
+use Rattle.feedline_core.proofs.Writing.{message_lines_append}
 use Rattle.feedline_core.specs.Decoding.{DecodesInput, HasRoom, IsRefusedGrowth, WritesBatch}
 use Rattle.feedline_core.specs.Lines.{end_line, message_lines}
 
