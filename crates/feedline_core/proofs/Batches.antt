@@ -1,6 +1,6 @@
 -- the lines of an input that is decoded, piece after piece
-use Rattle.std.proofs.Common.{ℕ, ◌≡◌, ◌≢◌, ◌+◌, ◌^◌, ◌<◌, ◌≤◌, ◌&&◌, ◌↔◌, ap, sym, subst, refl, ◌∙◌, List, [], ◌∷◌, ◌++◌, length, take, drop, get_or, nat_eq, Bool, true, false, eq-eqb, eqb-true, Option, Result, Ok, Err, append_assoc, arith}
-use Rattle.std.proofs.lemmas.List.{append-nil, length-append, take_all, take_more, drop_more, take-append-drop}
+use Rattle.std.proofs.Common.{Bor, ℕ, ◌-◌, map, ◌≡◌, ◌≢◌, ◌+◌, ◌^◌, ◌<◌, ◌≤◌, ◌&&◌, ◌↔◌, ap, sym, subst, refl, ◌∙◌, List, [], ◌∷◌, ◌++◌, length, take, drop, get_or, nat_eq, Bool, true, false, eq-eqb, eqb-true, Option, Result, Ok, Err, MatchResult, inr, arith}
+use Rattle.std.proofs.lemmas.List.{append-nil, drop-map, length-append, length-drop, take_all, take_more, drop_more, take-append-drop}
 use Rattle.std.proofs.KnownBytes.{Appends-nil, Appends-trans}
 use Rattle.std.specs.Global.{Vec}
 use Rattle.std.specs.Io.KnownBytes.{Appends}
@@ -9,25 +9,15 @@ use Rattle.combine_base.specs.Parser.Meaning.{Meaning, IsReading}
 use Rattle.combine_base.specs.Parser.Pieces.{concatenated}
 use Rattle.combine_decode.proofs.Dividing.{ended_longer}
 use Rattle.combine_decode.proofs.Pieces.{SoFar, at_first, behind_within, given, goes_on_at, messages_now}
-use Rattle.combine_decode.specs.Decoders.{Decodes, Decoding, Stands, by_phase, decodes}
+use Rattle.combine_decode.specs.Decoders.{Decoding, Stands}
 use Rattle.combine_decode.specs.Messages.{Messages, made}
-use Rattle.combine_decode.specs.declared.decode.Batch.{Batch}
 use Rattle.combine_decode.specs.declared.decode.BatchEnd.{BatchEnd}
 use Rattle.combine_decode.specs.declared.decode.BatchEnd.TheVariants as ends
-use Rattle.combine_decode.specs.declared.decode.DecodeError.{DecodeError}
-use Rattle.combine_decode.specs.declared.decode.DecodeError.TheVariants as errors
 use Rattle.feedline_core.proofs.Writing.{message_lines_append}
-use Rattle.feedline_core.specs.Decoding.{DecodesInput, HasRoom, IsRefusedGrowth, WritesBatch}
+use Rattle.feedline_core.specs.Decoding.{DecodesInput, HasRoom, WritesBatch}
 use Rattle.feedline_core.specs.Lines.{end_line, message_lines}
-
--- whether nothing is there, as a test
-tests_none : (at : Bool) (l : List ℕ) → ((at ≡ true) ↔ (length l ≡ 0)) → at ≡ nat_eq (length l) 0
-tests_none true l h = sym (eq-eqb (length l) 0 (h.0 refl))
-tests_none false l h = by_test (nat_eq (length l) 0) refl
-  where
-    by_test : (b : Bool) → nat_eq (length l) 0 ≡ b → false ≡ b
-    by_test false e = refl
-    by_test true e = h.1 (eqb-true (length l) 0 e)
+use Rattle.feedline_core.specs.declared.fault.Fault.{Fault}
+use Rattle.feedline_core.specs.declared.fault.Fault.TheVariants as faults
 
 -- nothing is there, and nothing behind it
 none_at_all : (at : Bool) (l x : List ℕ) → ((at ≡ true) ↔ (length l ≡ 0)) → (at && nat_eq (length x) 0) ≡ nat_eq (length (l ++ x)) 0
@@ -40,6 +30,16 @@ none_at_all false l x h = by_test (nat_eq (length (l ++ x)) 0) refl
         let z = eqb-true (length (l ++ x)) 0 e in
         h.1 (omega (arith, length-append l x))
 
+-- the last line, where these bytes were not fed
+abbrev pub LastLine : Bool → List ℕ → Option (List ℕ) → Option (List ℕ) → Result Bool Fault → Type 0
+LastLine at rest old new result = MatchResult result (λ complete. (complete ≡ (at && nat_eq (length rest) 0)) × Appends old new (end_line complete)) (λ why. why ≡ faults.Write)
+
+-- the last line, where these pieces were not fed
+pub line_behind : (at : Bool) (pieces : List (Bor (List ℕ))) (n : ℕ) (old new : Option (List ℕ)) (result : Result Bool Fault) → LastLine at (concatenated (map (λ p. p.now) (take (length pieces - n) (drop n pieces)))) old new result → LastLine at (concatenated (drop n (map (λ p. p.now) pieces))) old new result
+line_behind at pieces n old new result line =
+    let rest : take (length pieces - n) (drop n pieces) ≡ drop n pieces = take_all (length pieces - n) (drop n pieces) (omega (arith, length-drop n pieces)) in
+    subst (λ ps. LastLine at (concatenated ps) old new result) (ap (map (λ p. p.now)) rest ∙ sym (drop-map (λ p. p.now) n pieces)) line
+
 -- pieces that have no byte so far
 module _ (pieces : List (List ℕ)) (n : ℕ) (so_far : length (concatenated pieces) ≡ length (concatenated (drop n pieces))) where
   module _ (piece : List ℕ) (within : n < length pieces) (at : get_or pieces n piece ≡ piece) where
@@ -48,29 +48,21 @@ module _ (pieces : List (List ℕ)) (n : ℕ) (so_far : length (concatenated pie
         let e : drop n pieces ≡ piece ∷ drop (n + 1) pieces = drop_more pieces n piece within ∙ ap (λ q. q ∷ drop (n + 1) pieces) at in
         so_far ∙ ap (λ ps. length (concatenated ps)) e ∙ length-append piece (concatenated (drop (n + 1) pieces))
 
-    pub empty_more : length piece ≡ 0 → length (concatenated pieces) ≡ length (concatenated (drop (n + 1) pieces))
-    empty_more e = let h = here in omega arith
+    pub empty_more : nat_eq (length piece) 0 ≡ true → length (concatenated pieces) ≡ length (concatenated (drop (n + 1) pieces))
+    empty_more e = let z = eqb-true (length piece) 0 e in let h = here in omega arith
 
-    pub not_empty : 0 < length piece → false ≡ nat_eq (length (concatenated pieces)) 0
+    pub not_empty : nat_eq (length piece) 0 ≡ false → false ≡ nat_eq (length (concatenated pieces)) 0
     not_empty e = by_test (nat_eq (length (concatenated pieces)) 0) refl
       where
         by_test : (b : Bool) → nat_eq (length (concatenated pieces)) 0 ≡ b → false ≡ b
         by_test false i = refl
-        by_test true i = let z = eqb-true (length (concatenated pieces)) 0 i in let h = here in absurd (omega arith)
+        by_test true i =
+            let z = eqb-true (length (concatenated pieces)) 0 i in
+            let h = here in
+            let j = eq-eqb (length piece) 0 (omega arith) in
+            absurd (cc)
 
 module _ {F P R S : Type 0} (makes : F → P → Type 0) (meaning : P → Meaning ℕ ℕ R (Vec ℕ) S) where
-  -- a decoder that may go on and can count the piece has no error but that a growth was refused
-  module _ (d new : Decoding F P ℕ S) (piece : List ℕ) (room : HasRoom makes meaning d piece) where
-    decodes_now : (r : Result (Batch (Vec ℕ)) DecodeError) → Decodes makes meaning d new piece r → decodes makes meaning d new piece room.behind r
-    decodes_now r h = let f : by_phase makes meaning d new piece d.phase r = h.is in (subst (λ s. by_phase makes meaning d new piece s r) room.stands.phase f) room.behind room.stands
-
-    pub refused_growth : (e : DecodeError) → Decodes makes meaning d new piece (Err e) → IsRefusedGrowth e
-    refused_growth errors.Memory h = tt
-    refused_growth errors.TooLong h = absurd (let w = (decodes_now (Err errors.TooLong) h).0 in let f = room.fits in omega arith)
-    refused_growth (errors.Fault k) h = (decodes_now (Err (errors.Fault k)) h).1
-    refused_growth errors.Closed h = absurd (decodes_now (Err errors.Closed) h)
-    refused_growth errors.Failed h = absurd (decodes_now (Err errors.Failed) h)
-
   module _ (from : F) where
     -- a decoder that was fed these bytes, of whose messages the lines were written
     pub record Written (old now : Option (List ℕ)) (fed : List ℕ) (d : Decoding F P ℕ S) : Type 0 where
@@ -123,18 +115,22 @@ module _ {F P R S : Type 0} (makes : F → P → Type 0) (meaning : P → Meanin
             lines = lines;
           }
 
-          -- no further piece is fed
-          pub ends_at : e ≢ ends.More → (complete : Bool) → complete ≡ (new.at_boundary && nat_eq (length rest) 0) → (last : Option (List ℕ)) → Appends after last (end_line complete) → DecodesInput (made meaning (makes from)) (concatenated pieces) old last (Ok complete)
-          ends_at i complete is last line =
+          -- no further piece is fed, and the last line is written
+          pub ends_at : e ≢ ends.More → (last : Option (List ℕ)) (result : Result Bool Fault) → LastLine new.at_boundary rest after last result → DecodesInput (made meaning (makes from)) (concatenated pieces) old last result
+          ends_at i last (Err why) line = record { is = inr line }
+          ends_at i last (Ok complete) line =
               let message = made meaning (makes from) in
               let g = given makes meaning from fed w.messages d w.far piece new h.batch h.decodes in
               let m : Messages message (fed ++ piece) messages e (length g.behind) = messages_now makes meaning from fed w.messages d w.far piece new h.batch h.decodes law e messages h.is_end refl in
-              let k : Messages message (concatenated pieces) messages e (length (g.behind ++ rest)) = subst (λ l. Messages message l messages e (length (g.behind ++ rest))) all_fed (ended_longer message law (fed ++ piece) rest messages e (length g.behind) i m) in
-              record { is = (
-                message_lines messages ++ end_line complete,
-                record { messages = messages; end = e; behind = length (g.behind ++ rest); divided = k; lines = refl; none_behind = is ∙ none_at_all new.at_boundary g.behind rest g.boundary },
-                Appends-trans old after last (message_lines messages) (end_line complete) lines line,
-              ) }
+              let k : Messages message (concatenated pieces) messages e (length (m.behind ++ rest)) = subst (λ l. Messages message l messages e (length (m.behind ++ rest))) all_fed (ended_longer message law (fed ++ piece) rest messages e (length g.behind) i m) in
+              let boundary : (new.at_boundary ≡ true) ↔ (length m.behind ≡ 0) = subst (λ n. (new.at_boundary ≡ true) ↔ (n ≡ 0)) m.number g.boundary in
+              record {
+                is = (
+                  message_lines messages ++ end_line complete,
+                  record { messages = messages; end = e; behind = length (m.behind ++ rest); divided = k; lines = refl; none_behind = line.0 ∙ none_at_all new.at_boundary m.behind rest boundary },
+                  Appends-trans old after last (message_lines messages) (end_line complete) lines line.1,
+                );
+              }
 
       -- there is no further piece
       module _ (all : n ≡ length pieces) where
@@ -144,16 +140,20 @@ module _ {F P R S : Type 0} (makes : F → P → Type 0) (meaning : P → Meanin
         pub room_behind : length (concatenated pieces) < 2 ^ 64 → HasRoom makes meaning d []
         room_behind fits = let e = ap length fed_all in room [] (omega arith) fits
 
-        pub ends_behind : (new : Decoding F P ℕ S) (after : Option (List ℕ)) (e : BatchEnd) → WritesBatch makes meaning d new [] now after e → (last : Option (List ℕ)) → Appends after last (end_line new.at_boundary) → DecodesInput (made meaning (makes from)) (concatenated pieces) old last (Ok new.at_boundary)
-        ends_behind new after e h last line =
+        pub ends_behind : (new : Decoding F P ℕ S) (after : Option (List ℕ)) (e : BatchEnd) → WritesBatch makes meaning d new [] now after e → (last : Option (List ℕ)) (result : Result Bool Fault) → LastLine new.at_boundary [] after last result → DecodesInput (made meaning (makes from)) (concatenated pieces) old last result
+        ends_behind new after e h last (Err why) line = record { is = inr line }
+        ends_behind new after e h last (Ok complete) line =
             let message = made meaning (makes from) in
             let g = given makes meaning from fed w.messages d w.far [] new h.batch h.decodes in
             let messages : List (Vec ℕ) = w.messages ++ h.batch.messages.items in
             let m : Messages message (fed ++ []) messages e (length g.behind) = messages_now makes meaning from fed w.messages d w.far [] new h.batch h.decodes law e messages h.is_end refl in
             let k : Messages message (concatenated pieces) messages e (length g.behind) = subst (λ l. Messages message l messages e (length g.behind)) (append-nil fed ∙ fed_all) m in
             let lines : Appends old after (message_lines messages) = subst (Appends old after) (sym (message_lines_append w.messages h.batch.messages.items)) (Appends-trans old now after (message_lines w.messages) (message_lines h.batch.messages.items) w.lines h.lines) in
-            record { is = (
-              message_lines messages ++ end_line new.at_boundary,
-              record { messages = messages; end = e; behind = length g.behind; divided = k; lines = refl; none_behind = tests_none new.at_boundary g.behind g.boundary },
-              Appends-trans old after last (message_lines messages) (end_line new.at_boundary) lines line,
-            ) }
+            let none : nat_eq (length (g.behind ++ [])) 0 ≡ nat_eq (length g.behind) 0 = ap (λ l. nat_eq (length l) 0) (append-nil g.behind) in
+            record {
+              is = (
+                message_lines messages ++ end_line complete,
+                record { messages = messages; end = e; behind = length g.behind; divided = k; lines = refl; none_behind = line.0 ∙ none_at_all new.at_boundary g.behind [] g.boundary ∙ none },
+                Appends-trans old after last (message_lines messages) (end_line complete) lines line.1,
+              );
+            }

@@ -1,5 +1,5 @@
 -- messages by one reading are those by another that has its outcomes, and the parser of frames has those of a frame
-use Rattle.std.proofs.Common.{ℕ, List, [], ◌∷◌, Bool, true, Option, Result, Ok, Err}
+use Rattle.std.proofs.Common.{ℕ, List, [], ◌∷◌, drop, Bool, true, Option, Result, Ok, Err}
 use Rattle.std.specs.Global.{Vec}
 use Rattle.combine_base.specs.Stream.View.{View, advanced}
 use Rattle.combine_base.specs.Parser.Outcome.{Outcome, Accepted, Refused, Undecided}
@@ -16,7 +16,7 @@ use Rattle.feedline_core.specs.declared.fault.Fault.{Fault}
 module _ {T V : Type 0} (r q : Reading ℕ T V) (has : (v : View ℕ T) (o : Outcome V) → r v o → q v o) where
   divides_as : (l : List T) (vs : List V) (behind : List T) → Divides r l vs behind → Divides q l vs behind
   divides_as l [] behind d = d
-  divides_as l (v ∷ vs) behind d = (d.0, d.1, d.2, has (record { position = 0; unread = l; is_open = true }) (Accepted v d.0 d.1) d.3, divides_as _ vs behind d.4)
+  divides_as l (v ∷ vs) behind d = (d.0, d.1, d.2, has (record { position = 0; unread = l; is_open = true }) (Accepted v d.0 d.1) d.3, divides_as (drop d.0 l) vs behind d.4)
 
   stops_as : (l : List T) (e : BatchEnd) → stops (on_open r l) e → stops (on_open q l) e
   stops_as l ends.More s = has (record { position = 0; unread = l; is_open = true }) Undecided s
@@ -30,7 +30,7 @@ module _ {T V : Type 0} (r q : Reading ℕ T V) (has : (v : View ℕ T) (o : Out
 pub decodes_as : (r q : Reading ℕ ℕ (Vec ℕ)) (has : (v : View ℕ ℕ) (o : Outcome (Vec ℕ)) → r v o → q v o) (input : List ℕ) (old new : Option (List ℕ)) (result : Result Bool Fault) → DecodesInput r input old new result → DecodesInput q input old new result
 decodes_as r q has input old new (Ok complete) h =
     let p : PrintsMessages r input h.is.0 complete = h.is.1 in
-    let as : PrintsMessages q input h.is.0 complete = record {
+    let prints : PrintsMessages q input h.is.0 complete = record {
       messages = p.messages;
       end = p.end;
       behind = p.behind;
@@ -38,7 +38,7 @@ decodes_as r q has input old new (Ok complete) h =
       lines = p.lines;
       none_behind = p.none_behind;
     } in
-    record { is = (h.is.0, as, h.is.2) }
+    record { is = (h.is.0, prints, h.is.2) }
 decodes_as r q has input old new (Err why) h = record { is = h.is }
 
 -- as many bytes as the length says, by whichever parser is answered for it

@@ -1,10 +1,13 @@
 //! Decodes an input piece by piece, and writes the lines of its messages.
-ghost use Rattle.std.specs.Prelude.{◌≡◌, ◌^◌, ◌<◌, ◌⊎◌, Ok, MatchResult, length, map, nat_eq};
+ghost use Rattle.std.specs.Prelude.{◌≡◌, ◌^◌, ◌<◌, ◌&&◌, ◌⊎◌, Ok, MatchResult, length, map, nat_eq};
+ghost use Rattle.std.specs.Io.KnownBytes.{Appends};
 ghost use Rattle.combine_base.specs.Parser.Pieces.{concatenated};
 ghost use Rattle.combine_decode.specs.Decoders.{Decodes};
+ghost use Rattle.combine_decode.specs.Frames.{frame_of};
 ghost use Rattle.combine_decode.specs.Messages.{IsMade, made};
 ghost use Rattle.feedline_core.specs.Decoding.{DecodesInput, HasRoom, IsRefusedGrowth, WritesBatch};
 ghost use Rattle.feedline_core.specs.Frames as frames;
+ghost use Rattle.feedline_core.specs.Lines.{end_line};
 
 use crate::fault::Fault;
 use crate::lines::{write_end, write_messages};
@@ -31,7 +34,10 @@ pub fn run_frames<W: Write>(
     ensures { DecodesInput frames.frame input.now (W.contents out.old) (W.contents out.new) result }
 {
     let pieces = cut(alloc, sizes, input)?;
-    decode(alloc, move || frame(alloc), &pieces, out)
+    let maker = move ||
+        ensures { result ≡ frame_of alloc }
+    { frame(alloc) };
+    decode(alloc, maker, &pieces, out)
 }
 
 /// Decodes the pieces as one input, writes a line for each message and one for what stands behind the last, and answers whether nothing does. Pieces behind an end other than `More` are not fed.
@@ -50,18 +56,12 @@ fn decode<F: Fn() -> P + Drop, P: Parser<fed::Stream<u8>, Output = Vec<u8>> + Dr
     'pieces: for (index, piece) in pieces.iter().enumerate() {
         match decode_piece(&mut decoder, piece, out)? {
             BatchEnd::More => {}
-            BatchEnd::Refused { .. } | BatchEnd::EmptyMessage => {
-                let complete = decoder.at_boundary() && are_empty(&pieces[index + 1..]);
-                write_end(out, complete)?;
-                return Ok(complete);
-            }
+            _ => return write_last(out, decoder.at_boundary(), &pieces[index + 1..]),
         }
     }
     // Where there are no pieces, nothing was parsed yet.
     decode_piece(&mut decoder, &[], out)?;
-    let complete = decoder.at_boundary();
-    write_end(out, complete)?;
-    Ok(complete)
+    write_last(out, decoder.at_boundary(), &[])
 }
 
 /// Feeds a piece, writes the lines of the messages that it completes, and answers why there are no more.
@@ -110,6 +110,17 @@ fn out_of_memory(error: DecodeError) -> Fault
         DecodeError::Fault(_) | DecodeError::TooLong | DecodeError::Closed | DecodeError::Failed =>
             unreachable!(),
     }
+}
+
+/// Writes the last line, and answers whether it is `complete`: no byte stands behind the messages of what was fed, nor in the rest.
+fn write_last<W: Write>(out: &mut W, at_boundary: bool, rest: &[&[u8]]) -> Result<bool, Fault>
+    ensures { MatchResult result
+        (λ complete. (complete ≡ (at_boundary && nat_eq (length (concatenated (map (λ p. p.now) rest.now))) 0)) × Appends (W.contents out.old) (W.contents out.new) (end_line complete))
+        (λ why. why ≡ Fault.Write) }
+{
+    let complete = at_boundary && are_empty(rest);
+    write_end(out, complete)?;
+    Ok(complete)
 }
 
 /// Whether these pieces have no byte.
