@@ -1,6 +1,7 @@
 -- messages by one reading are those by another that has its outcomes, and the parser of frames has those of a frame
-use Rattle.std.proofs.Common.{ℕ, List, [], ◌∷◌, drop, Bool, true, Option, Result, Ok, Err}
+use Rattle.std.proofs.Common.{ℕ, ◌≡◌, subst, List, [], ◌∷◌, ◌++◌, drop, Bool, true, Option, Result, Ok, Err}
 use Rattle.std.specs.Global.{Vec}
+use Rattle.std.specs.declared.alloc.Global.{Global}
 use Rattle.combine_base.specs.Stream.View.{View, advanced}
 use Rattle.combine_base.specs.Parser.Outcome.{Outcome, Accepted, Refused, Undecided}
 use Rattle.combine_base.specs.Parser.Meaning.{Reading}
@@ -8,9 +9,14 @@ use Rattle.combine_base.specs.Sequence.Readings.{continues, sequel}
 use Rattle.combine_decode.specs.Messages.{Divides, Messages, on_open, stops}
 use Rattle.combine_decode.specs.declared.decode.BatchEnd.{BatchEnd}
 use Rattle.combine_decode.specs.declared.decode.BatchEnd.TheVariants as ends
+use Rattle.combine_token.specs.TokenParsers.{any_parser}
+use Rattle.combine_token.specs.declared.token.types.Any.{Any}
+use Rattle.combine_turns.specs.CountParsers.{count_min_max_of, least_of_count_min_max, most_of_count_min_max}
+use Rattle.combine_turns.specs.Counts.{appended, count_min_max}
+use Rattle.combine_turns.specs.declared.repeat.types.CountMinMax.{CountMinMax}
 use Rattle.feedline_core.specs.Decoding.{DecodesInput, PrintsMessages}
 use Rattle.feedline_core.specs.Frames.{bytes, frame, length_before}
-use Rattle.feedline_core.specs.Messages.{step}
+use Rattle.feedline_core.specs.Messages.{byte_where, step}
 use Rattle.feedline_core.specs.declared.fault.Fault.{Fault}
 
 module _ {T V : Type 0} (r q : Reading ℕ T V) (has : (v : View ℕ T) (o : Outcome V) → r v o → q v o) where
@@ -41,13 +47,16 @@ decodes_as r q has input old new (Ok complete) h =
     record { is = (h.is.0, prints, h.is.2) }
 decodes_as r q has input old new (Err why) h = record { is = h.is }
 
--- as many bytes as the length says, by whichever parser is answered for it
-module _ {N : Type 0} (answers : ℕ → N → Type 0) (means : N → Reading ℕ ℕ (Vec ℕ)) (counts : (n : ℕ) (p : N) → answers n p → (v : View ℕ ℕ) (o : Outcome (Vec ℕ)) → means p v o → bytes n v o) where
+-- as many bytes as the length says, by the parser that is answered for it
+module _ (Input : Type 0) (alloc : Global) where
   abbrev answered : ℕ → Reading ℕ ℕ (Vec ℕ)
-  answered n v o = (p : N) × answers n p × means p v o
+  answered n v o = (p : CountMinMax (Vec ℕ) (Any Input)) × (p ≡ count_min_max_of alloc n n any_parser) × (count_min_max step (appended (λ v. v.items) [] (λ bs b. bs ++ b ∷ []) ⊥) (least_of_count_min_max p) (most_of_count_min_max p) (byte_where (λ b. true))).whole v o
+
+  answers_bytes : (n : ℕ) (v : View ℕ ℕ) (o : Outcome (Vec ℕ)) → answered n v o → bytes n v o
+  answers_bytes n v o w = subst (λ p. (count_min_max step (appended (λ v. v.items) [] (λ bs b. bs ++ b ∷ []) ⊥) (least_of_count_min_max p) (most_of_count_min_max p) (byte_where (λ b. true))).whole v o) w.1 w.2
 
   then_bytes : (v : View ℕ ℕ) (p : Outcome ℕ) (o : Outcome (Vec ℕ)) → continues step (λ n message. message) answered v p o → continues step (λ n message. message) bytes v p o
-  then_bytes v (Accepted n k c) o u = (u.0, counts n u.1.0 u.1.1 (advanced step k v) u.0 u.1.2, u.2)
+  then_bytes v (Accepted n k c) o u = (u.0, answers_bytes n (advanced step k v) u.0 u.1, u.2)
   then_bytes v (Refused c) o u = u
   then_bytes v Undecided o u = u
 

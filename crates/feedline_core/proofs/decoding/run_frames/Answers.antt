@@ -17,4 +17,4 @@ returns g c =
     let pieces = ap (map (λ p. p.now)) c.deref.ensures.value ∙ c.in_ok-pieces.ensures in
     let whole = ap concatenated pieces ∙ joined_whole c.args.sizes.now c.args.input.now in
     let decoded = rw whole at c.decode.ensures in
-    decodes_as _ frame (λ v o w. has_frame _ _ (λ n p e u q r. rw e at r) v o w.2) _ _ _ _ decoded
+    decodes_as _ frame (λ v o w. has_frame _ _ v o w.2) _ _ _ _ decoded
