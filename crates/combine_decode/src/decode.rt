@@ -82,7 +82,17 @@ impl<F: Fn() -> P, P: Parser<fed::Stream<T>>, T: Copy + 'static> Model for Decod
 impl<F: Fn() -> P, P: Parser<fed::Stream<T>>, T: Copy + 'static> Decoder<F, P, T> {
     ghost use Rattle.combine_decode.specs.Decoders.{Decodes, Stands};
 
-    /// A decoder that was fed nothing yet. It takes no memory by itself.
+    /// Returns a decoder that was fed nothing yet, of messages that the maker's parsers read.
+    ///
+    /// The maker is called here, and then behind each message.
+    ///
+    /// # Errors
+    ///
+    /// None: a decoder takes no memory by itself, but where pieces are fed.
+    ///
+    /// # Partial input
+    ///
+    /// Nothing is parsed yet, not even what is empty: the first answer comes with the first piece.
     pub fn new(alloc: Global, maker: F) -> Self
         requires callable { F.IsAlwaysCallable maker }
         requires lawful { IsMade (F.post maker) P.lawful }
@@ -99,7 +109,9 @@ impl<F: Fn() -> P, P: Parser<fed::Stream<T>>, T: Copy + 'static> Decoder<F, P, T
         }
     }
 
-    /// Whether the messages so far cover all tokens so far.
+    /// Returns whether the messages so far cover all tokens so far: nothing was fed yet, or the last message ended with the last token.
+    ///
+    /// A `feed` that answers an error leaves it as it was.
     pub fn at_boundary(&self) -> bool
         ensures { result ≡ self.now.at_boundary }
     {
@@ -110,7 +122,22 @@ impl<F: Fn() -> P, P: Parser<fed::Stream<T>>, T: Copy + 'static> Decoder<F, P, T
 impl<F: Fn() -> P, P: Parser<fed::Stream<T>> + Drop, T: Copy + 'static> Decoder<F, P, T> {
     ghost use Rattle.combine_decode.specs.Decoders.{Decodes, Stands};
 
-    /// Feeds a piece, and gives all messages that it completes.
+    /// Feeds a piece, which may be empty, and gives all messages that it completes.
+    ///
+    /// The messages given so far are those of all tokens so far, in order, and no others. Each begins where the last one ended: what stands behind it, also nothing, goes to the next, which may be refused there, or end all by taking nothing.
+    ///
+    /// # Errors
+    ///
+    /// An error gives no message, and the piece isn't counted as fed.
+    ///
+    /// - `Closed` after an end other than `More`, and `Failed` after a fault: each time, and nothing changes.
+    /// - `TooLong` where the tokens behind the last message and the piece are more than 2^64 - 1. A shorter piece may follow.
+    /// - `Memory` where the piece finds no room. This and those before come before any parsing, in this order, and change nothing: the piece may be fed again.
+    /// - `Fault`, of kind `Memory`, where a growth is refused later: the parser's, on this message or on one behind it, or that of the list of messages. The messages that the piece completed are let go, and `Failed` follows always.
+    ///
+    /// # Partial input
+    ///
+    /// `More` is answered exactly where the next message is undecided on the tokens behind the last one, open. It goes on with the next piece from where it stopped, and what its parser put back is read again then. Each message is given with the piece that decides it; and however the tokens are cut, the messages are the same, where the maker's parsers share one meaning that has one outcome.
     pub fn feed(&mut self, piece: &[T]) -> Result<Batch<P::Output>, DecodeError>
         requires callable { F.IsAlwaysCallable self.old.maker }
         requires lawful { IsMade (F.post self.old.maker) P.lawful }
@@ -178,7 +205,15 @@ impl BatchEnd {
 
 /// A message behind its length, a number of two bytes, the highest first: the bytes of the message are the value. Our own.
 ///
-/// It is `be_u16`, and then that many bytes by `count_min_max` of `any`. On need of more the length is kept, and so are the bytes behind it; the first byte of a length alone is put back. Ended input that is too short is refused: peeked within the length, committed behind it. Room is had as bytes come: a length takes room for no more than 1,024 of them at once.
+/// It is `be_u16`, and then that many bytes by `count_min_max` of `any`. Room is had as bytes come: a length takes room for no more than 1,024 of them at once.
+///
+/// # Errors
+///
+/// Ended input that is too short is refused: peeked within the length, committed behind it. Nothing else is refused. A growth that is refused is a fault of kind `Memory`.
+///
+/// # Partial input
+///
+/// On need of more the length is kept, and so are the bytes behind it; the first byte of a length alone is put back.
 #[inline]
 pub fn frame<Input>(alloc: Global) -> Frame<Input>
     ensures { result ≡ frame_of alloc }

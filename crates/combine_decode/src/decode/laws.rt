@@ -1,9 +1,17 @@
-//! What messages are beside one another. The functions do nothing: their contracts are the laws.
-ghost use Rattle.combine_decode.specs.Messages.{IsMade, SharesMeaning, made};
+//! What messages are beside one another, and what a frame is. The functions do nothing: their contracts are the laws.
+ghost use Rattle.std.specs.Global.{Vec};
+ghost use Rattle.std.specs.Prelude.{ℕ};
+ghost use Rattle.combine_base.specs.Parser.Outcome.{Outcome};
+ghost use Rattle.combine_base.specs.Stream.View.{View};
+ghost use Rattle.combine_decode.specs.Frames.{frame_of, framed};
 ghost use Rattle.combine_decode.specs.MessageLaws.{AreOne, CutsAgree, GoOn};
+ghost use Rattle.combine_decode.specs.Messages.{IsMade, SharesMeaning, made};
 
+use crate::decode::types::Frame;
+use combine_base::error::ParseError;
 use combine_base::parser::Parser;
-use combine_base::stream::fed;
+use combine_base::stream::{Stream, fed};
+use std::alloc::Global;
 
 /// The messages of tokens with more behind them begin with those of the tokens, and go on with those of what was left and the rest.
 pub fn messages_go_on<F: Fn() -> P, P: Parser<fed::Stream<T>>, T: Copy + 'static>(maker: &F)
@@ -25,4 +33,11 @@ pub fn cuts_agree<F: Fn() -> P, P: Parser<fed::Stream<T>>, T: Copy + 'static>(ma
     requires determined { IsMade (F.post maker.now) P.determined }
     requires shared { SharesMeaning P.meaning (F.post maker.now) }
     ensures { CutsAgree (made P.meaning (F.post maker.now)) }
+{}
+
+/// What `frame` answers is exactly the bytes behind a length, as many as it says. Where some are missing more is asked for, or ended input is refused; nothing else is.
+pub fn frame_is_a_length_and_its_bytes<Input: Stream<Token = u8>>(alloc: Global)
+where
+    Input::Error: ParseError<u8, Input::Range, Input::Position>,
+    ensures { (v : View Input.Position ℕ) (o : Outcome (Vec ℕ)) → (⟦<Frame<Input> as Parser<Input>>⟧.meaning (frame_of alloc)).whole v o → framed v o }
 {}

@@ -10,11 +10,21 @@ use std::alloc::{AllocError, Global};
 
 /// Decodes the pieces as one input; those behind an end other than `More` are not looked at. Our own.
 ///
-/// However the input is cut, the messages are those of all of it, in order, and so is their end.
+/// However the input is cut, the messages are those of all of it, in order, and so is their end. Where there are no pieces, it is the end of the messages of nothing.
 ///
 /// # Errors
 ///
-/// As those of [`Decoder::feed`], but for `Closed` and `Failed`, which are never answered.
+/// An error gives no message, also none of those that pieces before it completed.
+///
+/// - `TooLong` where a message and the piece that goes on with it are more than 2^64 - 1 tokens.
+/// - `Memory` where a piece finds no room.
+/// - `Fault`, of kind `Memory`, where a growth is refused later: a parser's, or that of a list of messages.
+///
+/// `Closed` and `Failed` are never answered.
+///
+/// # Partial input
+///
+/// The end of the pieces is open, and no message is judged by it: one that isn't complete there is left, and the end is `More`.
 pub fn decode_pieces<F: Fn() -> P + Drop, P: Parser<fed::Stream<T>> + Drop, T: Copy + 'static>(
     alloc: Global,
     maker: F,
