@@ -1,5 +1,4 @@
 //! Parsers over every set of windows.
-ghost use Rattle.combine_range.specs.Wanted.{Fair};
 
 use crate::cutting::{Cut, check};
 use crate::windows::Found;
@@ -136,7 +135,6 @@ fn before_text<Input: Cut + RangeStream>(
 ) -> Result<(), AllocError>
 where
     Input::Range: Range + PartialEq,
-    requires { Fair Input.spells (λ r. Input.Range.eq r wanted) }
 {
     let told = |range: Input::Range| Input::text_of(range);
     check::<Input, _, _, _, _>(alloc, take_until_range(wanted), told, &[row], wrong)

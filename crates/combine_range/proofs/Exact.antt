@@ -1,12 +1,12 @@
 -- what `recognize` gives
-use Rattle.std.proofs.Common.{arith, ℕ, ◌+◌, ◌<◌, ◌≡◌, ◌↔◌, Bool, List, refl, sym, subst}
+use Rattle.std.proofs.Common.{arith, ℕ, ◌<◌, ◌≡◌, ◌↔◌, Bool, List, refl, sym, subst}
 use Rattle.combine_base.specs.Stream.View.{View, advanced}
 use Rattle.combine_base.specs.Parser.Outcome.{Outcome, Accepted, Refused, Undecided}
 use Rattle.combine_base.specs.Parser.Mapped.{mapped_reading}
 use Rattle.combine_base.specs.Parser.Meaning.{Reading}
 use Rattle.combine_stream.specs.RangeFacts.{place_at_zero}
 use Rattle.combine_range.specs.Exactly.{TakesExactly}
-use Rattle.combine_range.specs.Recognized.{Goes, Recognizes, On, Split, sliced}
+use Rattle.combine_range.specs.Recognized.{Recognizes, On, Split, sliced}
 
 module _ {P T V R : Type 0} (size : T → ℕ) (filled : (t : T) → 0 < size t) (spells : R → List T → Type 0) (step : P → T → P) (r : Reading P T V) (v : View P T) where
   exact : (p : R × V) (k n : ℕ) (c : Bool) (i : Outcome V) → n ≡ 0 → r (advanced step n v) i → sliced size spells step v.unread n i (Accepted p k c) → TakesExactly spells r v p.0 k c

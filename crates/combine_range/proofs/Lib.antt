@@ -6,5 +6,6 @@ pub mod Recognizing
 pub mod Seeking
 pub mod Since
 pub mod Stopping
+pub mod Testing
 pub mod Tokens
 pub mod Walking

@@ -1,6 +1,6 @@
 -- one call for what stands before a range
 use Rattle.std.proofs.Common.{ℕ, ◌+◌, ◌-◌, ◌<◌, ◌≤◌, ◌≡◌, List, true, false, if◌then◌else◌, take, drop, length, arith, ap, sym, subst, refl, ◌∙◌, length-drop}
-use Rattle.std.specs.Prelude.{Ok}
+use Rattle.std.specs.Prelude.{Ok, ◌⊎◌}
 use Rattle.std.proofs.lemmas.List.{drop-drop}
 use Rattle.combine_base.specs.Stream.View.{View, Takes}
 use Rattle.combine_base.specs.Error.Items.{Item}
@@ -15,7 +15,8 @@ use Rattle.combine_range.specs.Kept.{kept, HandsOut, KeepsDistance}
 use Rattle.combine_range.specs.Peeking.{RefusesPeeked}
 use Rattle.combine_range.proofs.Kept.{asks_from, hands_over, refuses}
 use Rattle.combine_range.proofs.Peeked.{ended_peeked}
-use Rattle.combine_range.specs.Wanted.{Wanted, Begins, First, Nowhere, Sought}
+use Rattle.combine_range.specs.Wanted.{Wanted, Begins}
+use Rattle.combine_range.specs.Tested.{Fails, FirstTested, NoneTested, Sought}
 use Rattle.combine_range.specs.Until.{Missing, Absent, Passed, until_range, until_resumes}
 
 module _ {P T R : Type 0} (steady : Type 0) (step : P → T → P) (size : T → ℕ) (spells : R → List T → Type 0) (t : Wanted R) where
@@ -26,8 +27,7 @@ module _ {P T R : Type 0} (steady : Type 0) (step : P → T → P) (size : T →
     pub place : Place size old.unread d from
     pub rises : from ≤ to
     pub taken : Takes step to old v
-    pub none : (j : ℕ) → from ≤ j → j < to → Begins size spells t (drop j old.unread) → ⊥
-    pub enough : (j : ℕ) → from ≤ j → j < to → t.items ≤ size_of size (drop j old.unread)
+    pub fails : (j : ℕ) → from ≤ j → j < to → Fails size spells t (drop j old.unread)
     pub failures : steady → g ≡ before
 
   module _ {Q : Type 0} (none : Q → List T → Type 0) (old mid v : View P T) (before h g : Failures) (d : ℕ) (i : Q) (p : UnconsRange steady step size none old mid before h d (Ok i)) where
@@ -44,24 +44,23 @@ module _ {P T R : Type 0} (steady : Type 0) (step : P → T → P) (size : T →
       place = p.is.1;
       rises = omega arith;
       taken = takes_more step p.is.0 s.count old mid v p.is.2.taken s.taken;
-      none = λ j l k. subst (λ us. Begins size spells t us → ⊥) (further j l) (s.none (j - p.is.0) (omega arith));
-      enough = λ j l k. subst (λ us. t.items ≤ size_of size us) (further j l) (s.enough (j - p.is.0) (omega arith));
+      fails = λ j l k. subst (Fails size spells t) (further j l) (s.fails (j - p.is.0) (omega arith));
       failures = λ z. s.failures z ∙ p.is.2.failures z;
     }
 
-    pub missing : Nowhere size spells t 0 mid.unread → Missing size spells t d old
+    pub missing : NoneTested size spells t 0 mid.unread → Missing size spells t d old
     missing n = record {
       from = p.is.0;
       place = p.is.1;
-      nowhere = record { none = λ j l k. subst (λ us. Begins size spells t us → ⊥) (further j l) (n.none (j - p.is.0) (omega arith) (let a = ap length unread in omega (arith, length-drop p.is.0 old.unread))) };
+      nowhere = record { fails = λ j l k. subst (λ us. Fails size spells t us ⊎ (size_of size us < t.items)) (further j l) (n.fails (j - p.is.0) (omega arith) (let a = ap length unread in omega (arith, length-drop p.is.0 old.unread))) };
     }
 
   module _ (d : ℕ) (old v : View P T) (before g : Failures) (z : Went d old v before g) where
-    pub first : Begins size spells t v.unread → First size spells t z.from old.unread z.to
-    first b = record { later = z.rises; within = z.taken.enough; begins = subst (Begins size spells t) (ap (λ (x : View P T). x.unread) z.taken.rest) b; none = z.none }
+    pub first : Begins size spells t v.unread → FirstTested size spells t z.from old.unread z.to
+    first b = record { later = z.rises; within = z.taken.enough; begins = subst (Begins size spells t) (ap (λ (x : View P T). x.unread) z.taken.rest) b; fails = z.fails }
 
     pub passed : (filled : (t : T) → 0 < size t) → (e : ℕ) → e ≡ size_of size (take z.to old.unread) → Passed size spells t filled d e old
-    passed filled e i = record { from = z.from; to = z.to; start = z.place; place = record { within = z.taken.enough; items = sym i }; rises = z.rises; none = z.none; enough = z.enough }
+    passed filled e i = record { from = z.from; to = z.to; start = z.place; place = record { within = z.taken.enough; items = sym i }; rises = z.rises; fails = z.fails }
 
 module _ {P T R E : Type 0} (w : World P T ℕ E) (size : T → ℕ) (filled : (t : T) → 0 < size t) (spells : R → List T → Type 0) (t : Wanted R) (adds : List (Item T R) → Type 0) (r : Run P T ℕ) (d : ℕ) (e : d ≡ (if r.first then 0 else r.state)) (v : View P T) (g : Failures) (z : Went w.steady w.step size spells t d r.old v r.before g) where
   -- found: what stands before is handed out

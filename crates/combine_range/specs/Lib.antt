@@ -7,5 +7,6 @@ pub mod Lengths
 pub mod Peeking
 pub mod RangeParsers
 pub mod Recognized
+pub mod Tested
 pub mod Until
 pub mod Wanted

@@ -1,26 +1,28 @@
 -- what stands before the first occurrence of a range, where d items are passed over first
 use Rattle.std.specs.Prelude.{ℕ, ◌<◌, ◌≤◌, ◌≡◌, List, ◌++◌, Bool, true, false, take, drop, nat_lt, refl}
-use Rattle.std.proofs.Common.{arith, sym, subst, ltb-false}
+use Rattle.std.proofs.Common.{arith, sym, subst, ltb-false, inl, ⊎_elim}
 use Rattle.std.proofs.lemmas.List.{take-append-le}
+use Rattle.std.proofs.lemmas.Bool.{cases_lt}
 use Rattle.combine_base.specs.Stream.View.{View, extended}
 use Rattle.combine_base.specs.Parser.Outcome.{Outcome, Accepted, Refused, Undecided, IsDecided, shape}
 use Rattle.combine_base.specs.Parser.Meaning.{Reading, IsReading, IsSingle}
-use Rattle.combine_stream.specs.Ranges.{size_of, Place, Inside}
+use Rattle.combine_stream.specs.Ranges.{Place, Inside}
 use Rattle.combine_stream.specs.RangeFacts.{one_place, place_stays, inside_stays}
-use Rattle.combine_range.specs.Wanted.{Wanted, Begins, First, Nowhere, first_stays, one_first, not_later}
+use Rattle.combine_range.specs.Wanted.{Wanted, Fair, First, one_first}
+use Rattle.combine_range.specs.Tested.{Fails, FirstTested, NoneTested, fails_later, first_tested_stays, first_of_tested, nowhere_of_tested}
 
 module _ {P T R : Type 0} (size : T → ℕ) (spells : R → List T → Type 0) (w : Wanted R) where
   pub record Before (d : ℕ) (v : View P T) (q : R) (k : ℕ) (c : Bool) : Type 0 where
     pub from : ℕ
     pub place : Place size v.unread d from
-    pub first : First size spells w from v.unread k
+    pub first : FirstTested size spells w from v.unread k
     pub spelled : spells q (take k v.unread)
     pub kind : c ≡ nat_lt 0 k
 
   pub record Missing (d : ℕ) (v : View P T) : Type 0 where
     pub from : ℕ
     pub place : Place size v.unread d from
-    pub nowhere : Nowhere size spells w from v.unread
+    pub nowhere : NoneTested size spells w from v.unread
 
   pub data Unfit (d : ℕ) (v : View P T) : Type 0 where
     -- none, and no more to come
@@ -34,11 +36,14 @@ module _ {P T R : Type 0} (size : T → ℕ) (spells : R → List T → Type 0) 
   until_range d v Undecided = Missing d v × (v.is_open ≡ true)
 
   module _ (filled : (t : T) → 0 < size t) where
-    module _ (d : ℕ) (v : View P T) where
+    module _ (fair : Fair spells w.test) (d : ℕ) (v : View P T) where
+      first : (b k : ℕ) → FirstTested size spells w b v.unread k → First size spells w b v.unread k
+      first b k p = first_of_tested size spells w filled fair b v.unread k p
+
       not_both : (q : R) (k : ℕ) (c : Bool) → Before d v q k c → Missing d v → ⊥
       not_both q k c p m =
           let e = one_place size filled v.unread d p.from m.from p.place m.place in
-          m.nowhere.none k (let a = p.first.later in omega arith) p.first.within p.first.begins
+          (nowhere_of_tested size spells w filled fair m.from v.unread m.nowhere).none k (let a = p.first.later in omega arith) p.first.within p.first.begins
 
       not_unfit : (q : R) (k : ℕ) (c : Bool) → Before d v q k c → Unfit d v → ⊥
       not_unfit q k c p (Absent m e) = not_both q k c p m
@@ -51,7 +56,7 @@ module _ {P T R : Type 0} (size : T → ℕ) (spells : R → List T → Type 0) 
       one_shape : (o o' : Outcome R) → until_range d v o → until_range d v o' → shape o ≡ shape o'
       one_shape (Accepted q k c) (Accepted p j e) x y =
           let z = one_place size filled v.unread d x.from y.from x.place y.place in
-          let i = one_first size spells w y.from v.unread k j (subst (λ b. First size spells w b v.unread k) z x.first) y.first in
+          let i = one_first size spells w y.from v.unread k j (subst (λ b. First size spells w b v.unread k) z (first x.from k x.first)) (first y.from j y.first) in
           let a = x.kind in
           let b = y.kind in
           cc
@@ -68,7 +73,7 @@ module _ {P T R : Type 0} (size : T → ℕ) (spells : R → List T → Type 0) 
     stays d v x m (Accepted q k c) e i p = record {
       from = p.from;
       place = place_stays size v.unread x d p.from p.place;
-      first = first_stays size spells w filled p.from v.unread x k p.first;
+      first = first_tested_stays size spells w filled p.from v.unread x k p.first;
       spelled = subst (spells q) (sym (take-append-le k v.unread x p.first.within)) p.spelled;
       kind = p.kind;
     }
@@ -87,18 +92,17 @@ module _ {P T R : Type 0} (size : T → ℕ) (spells : R → List T → Type 0) 
       within = λ v q k c p. p.first.within;
     }
 
-    pub until_is_single : (d : ℕ) → IsSingle (until_range d)
-    until_is_single d = record { one = one_shape d }
+    pub until_is_single : Fair spells w.test → (d : ℕ) → IsSingle (until_range d)
+    until_is_single fair d = record { one = one_shape fair d }
 
-    -- no wanted range begins between two distances, and at each place there enough items were left to say
+    -- at each place between two distances another range was seen
     pub record Passed (d e : ℕ) (v : View P T) : Type 0 where
       pub from : ℕ
       pub to : ℕ
       pub start : Place size v.unread d from
       pub place : Place size v.unread e to
       pub rises : from ≤ to
-      pub none : (j : ℕ) → from ≤ j → j < to → Begins size spells w (drop j v.unread) → ⊥
-      pub enough : (j : ℕ) → from ≤ j → j < to → w.items ≤ size_of size (drop j v.unread)
+      pub fails : (j : ℕ) → from ≤ j → j < to → Fails size spells w (drop j v.unread)
 
     -- what goes on from the second goes on from the first
     pub until_resumes : (d e : ℕ) (v : View P T) → Passed d e v → (x : List T) (b : Bool) (o : Outcome R) → until_range e (extended x b v) o → until_range d (extended x b v) o
@@ -110,29 +114,26 @@ module _ {P T R : Type 0} (size : T → ℕ) (spells : R → List T → Type 0) 
         there : (n : ℕ) → Place size (v.unread ++ x) e n → n ≡ z.to
         there n q = one_place size filled (v.unread ++ x) e n z.to q (place_stays size v.unread x e z.to z.place)
 
-        passed : (j : ℕ) → z.from ≤ j → j < z.to → Begins size spells w (drop j (v.unread ++ x)) → ⊥
-        passed j l h = not_later size spells w filled v.unread x j (let a = z.place.within in omega arith) (z.enough j l h) (z.none j l h)
+        passed : (j : ℕ) → z.from ≤ j → j < z.to → Fails size spells w (drop j (v.unread ++ x))
+        passed j l h = fails_later size spells w filled v.unread x j (let a = z.place.within in omega arith) (z.fails j l h)
 
         -- before or behind the second place
-        at : (j : ℕ) → z.from ≤ j → (z.to ≤ j → Begins size spells w (drop j (v.unread ++ x)) → ⊥) → Begins size spells w (drop j (v.unread ++ x)) → ⊥
-        at j l h g = let y : j < z.to = by_order (λ k. h k g) in passed j l y g
-          where
-            by_order : (z.to ≤ j → ⊥) → j < z.to
-            by_order a = omega arith
+        at : {A : Type 0} → (j : ℕ) → (j < z.to → A) → (z.to ≤ j → A) → A
+        at j g h = ⊎_elim g h (cases_lt j z.to)
 
-        first : (n k : ℕ) → n ≡ z.to → First size spells w n (v.unread ++ x) k → First size spells w z.from (v.unread ++ x) k
+        first : (n k : ℕ) → n ≡ z.to → FirstTested size spells w n (v.unread ++ x) k → FirstTested size spells w z.from (v.unread ++ x) k
         first n k i q = record {
           later = let a = q.later in let c = z.rises in omega arith;
           within = q.within;
           begins = q.begins;
-          none = λ j l h. at j l (λ y. q.none j (omega arith) h);
+          fails = λ j l h. at j (passed j l) (λ y. q.fails j (omega arith) h);
         }
 
         missing : Missing e (extended x b v) → Missing d (extended x b v)
         missing q = record {
           from = z.from;
           place = place_stays size v.unread x d z.from z.start;
-          nowhere = record { none = λ j l h. at j l (λ y. q.nowhere.none j (let i = there q.from q.place in omega arith) h) };
+          nowhere = record { fails = λ j l h. at j (λ y. inl (passed j l y)) (λ y. q.nowhere.fails j (let i = there q.from q.place in omega arith) h) };
         }
 
         refusing : Unfit e (extended x b v) → Unfit d (extended x b v)

@@ -1,11 +1,7 @@
 -- places where a wanted range stands
-use Rattle.std.specs.Prelude.{ℕ, ◌-◌, ◌+◌, ◌<◌, ◌≤◌, ◌≡◌, List, ◌++◌, Bool, true, false, take, drop, length, Option, Some, None, Result, Ok, Err}
+use Rattle.std.specs.Prelude.{ℕ, ◌-◌, ◌+◌, ◌<◌, ◌≤◌, ◌≡◌, List, ◌++◌, Bool, true, take, drop, length}
 use Rattle.std.proofs.Common.{arith, ap, sym, subst, ◌∙◌}
 use Rattle.std.proofs.lemmas.List.{take-append-le, drop-append-le, drop-drop, take_all, length-append}
-use Rattle.combine_base.specs.Stream.View.{View, Takes, Moves}
-use Rattle.combine_base.specs.Parser.Drivers.{Broke}
-use Rattle.combine_base.specs.declared.stream.Kind.{Kind}
-use Rattle.combine_base.specs.declared.stream.Failures.{Failures}
 use Rattle.combine_stream.specs.Ranges.{size_of, Place}
 use Rattle.combine_stream.specs.RangeFacts.{size_rises, size_take, place_within, place_stays, take_stays}
 
@@ -98,35 +94,3 @@ module _ {T R : Type 0} (size : T → ℕ) (spells : R → List T → Type 0) (w
     where
       by_order : (i < j → ⊥) → (j < i → ⊥) → i ≡ j
       by_order a b = omega arith
-
-module _ {P T R : Type 0} (steady : Type 0) (step : P → T → P) (size : T → ℕ) (spells : R → List T → Type 0) (w : Wanted R) (old new : View P T) (before after : Failures) where
-  pub record Still : Type 0 where
-    pub same : new ≡ old
-    pub failures : steady → after ≡ before
-
-  -- whether the unread tokens begin with a wanted range; none where too few items are left to say
-  abbrev pub tells : Result (Option Bool) Kind → Type 0
-  tells (Ok (Some true)) = Begins size spells w old.unread × Still
-  tells (Ok (Some false)) = (Begins size spells w old.unread → ⊥) × (w.items ≤ size_of size old.unread) × Still
-  tells (Ok None) = (size_of size old.unread < w.items) × Still
-  tells (Err k) = Broke k before after × Moves step old new
-
-  pub record Tells (result : Result (Option Bool) Kind) : Type 0 where
-    pub is : tells result
-
-  -- no wanted range begins at the tokens that were passed, and at each enough items were left to say
-  pub record Sought : Type 0 where
-    pub count : ℕ
-    pub taken : Takes step count old new
-    pub none : (j : ℕ) → j < count → Begins size spells w (drop j old.unread) → ⊥
-    pub enough : (j : ℕ) → j < count → w.items ≤ size_of size (drop j old.unread)
-    pub failures : steady → after ≡ before
-
-  -- the first place, the first place from which none can be told, or a fault
-  abbrev pub seeks : Result Bool Kind → Type 0
-  seeks (Ok true) = Sought × Begins size spells w new.unread
-  seeks (Ok false) = Sought × Nowhere size spells w 0 old.unread
-  seeks (Err k) = Broke k before after × Moves step old new
-
-  pub record Seeks (result : Result Bool Kind) : Type 0 where
-    pub is : seeks result

@@ -1,7 +1,8 @@
 //! The first place where a range stands.
 ghost use Rattle.std.specs.Prelude.{◌≡◌};
 ghost use Rattle.combine_base.specs.Stream.Calls.{Passes};
-ghost use Rattle.combine_range.specs.Wanted.{Fair, Seeks, Tells, given};
+ghost use Rattle.combine_range.specs.Tested.{Seeks, Tells};
+ghost use Rattle.combine_range.specs.Wanted.{given};
 
 use combine_base::stream::{Kind, ResetStream, StreamOnce};
 use combine_stream::range::{Range, RangeStream};
@@ -14,7 +15,6 @@ pub fn begins_with<Input: RangeStream>(
 ) -> Result<Option<bool>, Kind>
 where
     Input::Range: Range + PartialEq,
-    requires { Fair Input.spells (λ r. Input.Range.eq r wanted) }
     ensures passes { Passes (Input.marks input.old) (Input.marks input.new) (Input.failures input.old) (Input.failures input.new) }
     ensures tells { Tells Input.steady Input.step Input.size Input.spells (given Input.Range.count Input.Range.eq wanted) (Input.view input.old) (Input.view input.new) (Input.failures input.old) (Input.failures input.new) result }
 {
@@ -41,7 +41,6 @@ where
 pub fn seek<Input: RangeStream>(input: &mut Input, wanted: Input::Range) -> Result<bool, Kind>
 where
     Input::Range: Range + PartialEq,
-    requires { Fair Input.spells (λ r. Input.Range.eq r wanted) }
     ensures passes { Passes (Input.marks input.old) (Input.marks input.new) (Input.failures input.old) (Input.failures input.new) }
     ensures seeks { Seeks Input.steady Input.step Input.size Input.spells (given Input.Range.count Input.Range.eq wanted) (Input.view input.old) (Input.view input.new) (Input.failures input.old) (Input.failures input.new) result }
 {

@@ -68,7 +68,7 @@ pub fn take_while1<Input, F>(predicate: F) -> TakeWhile1<Input, F>
 
 /// What stands before the first occurrence of a range: accepted committed, or peeked where that is nothing. Where it doesn't occur in ended input: refused peeked, with an error of kind `End`.
 ///
-/// Where it isn't found in an open piece more is asked for; the next call doesn't begin again, but passes over the items that were searched and goes on. Faults: `Lost` where the input is shorter than what an earlier call searched; `Read` and `Reset` where the stream failed; `Memory` where an error found none for its text. Ranges of the same tokens must be equal.
+/// Where it isn't found in an open piece more is asked for; the next call doesn't begin again, but passes over the items that were searched and goes on. Faults: `Lost` where the input is shorter than what an earlier call searched; `Read` and `Reset` where the stream failed; `Memory` where an error found none for its text. The range occurs where the one that is read there is equal to it; so it is found at one place only if ranges of the same tokens are all equal to it or all not.
 #[inline]
 pub fn take_until_range<Input, R>(wanted: R) -> TakeUntilRange<Input, R>
     ensures { result ≡ take_until_range_of wanted }

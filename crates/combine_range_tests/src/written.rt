@@ -1,5 +1,4 @@
 //! Streams that begin at a text, and what of them reads as a text.
-ghost use Rattle.combine_range.specs.Wanted.{Fair};
 
 use combine_stream::MaybePartialStream;
 use combine_stream::range::{Range, RangeStream};
@@ -33,9 +32,8 @@ where
     /// The stream at the beginning of the text, open if more is to follow.
     fn begin(text: &'static str, is_open: bool) -> Self;
 
-    /// The range that a text writes. Ranges of the same tokens are equal to it, or none is.
-    fn range_of(text: &'static str) -> Self::Range
-        ensures { Fair Self.RangeStream.spells (λ r. Self.Range.eq r result) };
+    /// The range that a text writes.
+    fn range_of(text: &'static str) -> Self::Range;
 }
 
 impl Written for &'static str {

@@ -31,10 +31,10 @@ where
 {
     type PartialState = usize;
 
-    /// Ranges of the same tokens are the same to `==`.
-    ghost lawful = { λ p. Fair Input.spells (λ r. Input.Range.eq r p.wanted) };
+    ghost lawful = { λ p. Unit {0} };
 
-    ghost determined = { λ p. Unit {0} };
+    /// Ranges of the same tokens are the same to `==`.
+    ghost determined = { λ p. Fair Input.spells (λ r. Input.Range.eq r p.wanted) };
 
     ghost valid = { λ s. Unit {0} };
 
@@ -82,5 +82,5 @@ where
 
     ghost laws = { λ p l. kept_is_meaning _ _ _ _ (until_is_reading _ _ _ Input.filled) };
 
-    ghost single = { λ p l d. kept_means_one _ _ _ _ (until_is_single _ _ _ Input.filled) };
+    ghost single = { λ p l d. kept_means_one _ _ _ _ (until_is_single _ _ _ Input.filled d) };
 }

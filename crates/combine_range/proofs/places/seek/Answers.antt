@@ -1,6 +1,6 @@
 use Rattle.combine_base.proofs.Same.{passes_more}
 use Rattle.std.proofs.Common.{arith}
-use Rattle.combine_range.proofs.Seeking.{sought_more, seeks_none, seeks_broken, seeks_unread}
+use Rattle.combine_range.proofs.Seeking.{sought_more, seeks_end, seeks_none, seeks_broken, seeks_unread}
 use Rattle.combine_range.proofs.places.seek.Goals as goal
 
 pub returns-in-Ok-None-clause-seeks : goal.returns-in-Ok-None-clause-seeks
@@ -18,6 +18,11 @@ loop-found-preserved g c =
       passes = passes_more _ _ _ _ _ _ (passes_more _ _ _ _ _ _ c.loop-found.invariant.passes c.begins_with.ensures.passes) c.uncons.ensures.passes;
       sought = sought_more _ _ _ _ _ _ _ _ _ _ _ c.loop-found.invariant.sought (rw c.if-found.false at t) _ _ _ c.in-Ok.ensures.read;
     }
+
+pub returns-in-Err-End-clause-seeks : goal.returns-in-Err-End-clause-seeks
+returns-in-Err-End-clause-seeks g c =
+    let t = rw c.in-Ok-Some.field-0-is at c.in-Ok-Some.ensures.tells in
+    seeks_end _ _ _ _ _ _ _ _ _ _ _ c.loop-found.invariant.sought (rw c.if-found.false at t) _ _ (rw c.in-Err-End.field-0-is at c.in-Err-End.ensures.read)
 
 pub returns-in-Err-Read-clause-seeks : goal.returns-in-Err-Read-clause-seeks
 returns-in-Err-Read-clause-seeks g c =
