@@ -5,6 +5,7 @@ use Rattle.std.specs.Fn.{Shared, always_fn}
 use Rattle.combine_base.specs.Error.Errors.{Errors}
 use Rattle.combine_base.specs.Error.Items.{Item}
 use Rattle.combine_base.specs.Parser.Answer.{World, Run, Answers, Resumes, world}
+use Rattle.combine_base.specs.Parser.Drivers.{Starts}
 use Rattle.combine_base.specs.Parser.Judged.{NeedsMore}
 use Rattle.combine_base.specs.Parser.Kept.{KeptOf}
 use Rattle.combine_base.specs.Parser.Meaning.{Meaning, Reading, IsMeaning}
@@ -14,7 +15,7 @@ use Rattle.combine_base.specs.Stream.View.{View, extended}
 use Rattle.combine_base.proofs.Inside.{Inside, Keeps, inside_asks, inside_commits, inside_fails, inside_peeks, inside_refuses}
 use Rattle.combine_base.proofs.Progress.{Progress, after_none, takes_none}
 use Rattle.combine_base.proofs.Same.{same_more, same_none}
-use Rattle.combine_base.proofs.Starting.{progress_here}
+use Rattle.combine_base.proofs.Starting.{in_mode, progress_here}
 use Rattle.combine_base.specs.declared.error.ParseResult.{ParseResult}
 use Rattle.combine_base.specs.declared.error.ParseResult.TheVariants.{CommitOk, PeekOk, CommitErr, PeekErr}
 use Rattle.combine_base.specs.declared.parser.Parser as parser
@@ -146,3 +147,21 @@ module _ {N Input V U Checkpoint T R P E X : Type 0} (p : parser.Ghosts N Input 
           by_mode : (b : Bool) → RunsFrom is_unmade b given Unmade → p.refuses l.parser (kept_from b l.state) (i.view input) committed x → RefusesMade makes fresh p.refuses (kept_from b given) (i.view input) committed x
           by_mode true k j = record { is = record { parser = l.parser; made = m; at = None; begins = tt; said = j } }
           by_mode false k j = rw (sym (k.kept refl)) record { is = record { parser = l.parser; made = m; at = Some l.state; begins = f; said = j } }
+
+-- the same as an answer of the parser that was made, from its start, where the maker left the stream in place
+module _ {N Input V U Checkpoint T R P E X : Type 0} (p : parser.Ghosts N Input U V Checkpoint T R P E X) (i : stream.Ghosts Input T R P E X) (seen : Errors T R P E) (fresh : U → Type 0) {old asked left : Input} {n : N} {u : U} {state : MadeState N U} {y : ParseResult V E} (g : CalledMade p i seen fresh true asked left (record { parser = n; state = u }) state y) (e : i.view asked ≡ i.view old) where
+  abbrev around : World P T U E
+  around = world i.step seen i.steady fresh
+
+  abbrev from_view : View P T → Failures → Type 0
+  from_view v before = Answers around (p.meaning n) (run_from u g.stopped v (i.view left) before (i.failures left)) y
+
+  pub starts_made : i.failures asked ≡ i.failures old → fresh u → IsMeaning fresh p.valid (p.meaning n) → Starts around (p.meaning n) (i.view old) (i.view left) (i.failures old) (i.failures left) y
+  starts_made f d h = record {
+    state = u;
+    left = g.stopped;
+    answers = in_mode around p.valid (p.meaning n) h true u u g.stopped (record { afresh = λ k. d; kept = λ k. refl }) (i.view old) (i.view left) (i.failures old) (i.failures left) y (subst (λ v. from_view v (i.failures old)) e (subst (from_view (i.view asked)) f g.answers));
+  }
+
+  pub refuses_made : Reasoned seen.kind (i.view left).is_open (p.refuses n None (i.view old)) y
+  refuses_made = subst (λ v. Reasoned seen.kind (i.view left).is_open (p.refuses n None v) y) e g.refuses

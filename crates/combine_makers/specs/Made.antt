@@ -1,6 +1,6 @@
 -- parsers that a maker answers where a call begins; the state is the one that runs, and its state
 use Rattle.std.specs.Prelude.{◌≡◌, List, [], ◌++◌, Bool, true, false, Option, Some, None, refl, ◌↔◌}
-use Rattle.std.proofs.Common.{ap, sym, ◌∙◌, append_assoc}
+use Rattle.std.proofs.Common.{ap, sym, subst, ◌∙◌, append_assoc}
 use denote.Ref.{MutBor}
 use Rattle.std.specs.Fn.{Shared, always_fn}
 use Rattle.combine_base.specs.Stream.View.{View, Follows, extended}
@@ -89,8 +89,19 @@ module _ {I P T N : Type 0} (view : I → View P T) (post : MutBor I → N → M
     pub follows : Follows (view shown.now).is_open more mark
     pub is : v ≡ extended more mark (view shown.now)
 
+  -- answered for this very stream, which is left so
+  pub record MadeFor (input left : I) (n : N) : Type 0 where
+    pub shown : MutBor I
+    pub given : shown.now ≡ input
+    pub back : MutBor I
+    pub leaves : back.now ≡ left
+    pub met : post shown n back
+
   pub made_there : (shown left : MutBor I) (n : N) → post shown n left → MadeAt (view shown.now) n
   made_there shown left n m = record { shown = shown; left = left; met = m; more = []; mark = (view shown.now).is_open; follows = follows_none T (view shown.now).is_open; is = sym (extended_none (view shown.now)) }
+
+  pub made_at_of_for : (input left : I) (n : N) → MadeFor input left n → MadeAt (view input) n
+  made_at_of_for input left n m = subst (λ i. MadeAt (view i) n) m.given (made_there m.shown m.back n m.met)
 
   follows_on : (a b c : Bool) (x y : List T) → Follows a x b → Follows b y c → Follows a (x ++ y) c
   follows_on true b c x y f g = tt

@@ -2,7 +2,7 @@
 ghost use Rattle.std.specs.Prelude.{◌≡◌};
 ghost use Rattle.combine_makers.specs.Made.{factory_of, lazy_of};
 
-mod made;
+pub(crate) mod made;
 pub mod types;
 
 use types::{Factory, Lazy};
@@ -19,7 +19,7 @@ pub fn lazy<F>(maker: F) -> Lazy<F>
 
 /// As the parser that `maker` answers for the stream where a call begins.
 ///
-/// The maker leaves the stream in place. The parser that it answered is kept as by `lazy`, in the state, where the crate keeps it in the parser. Nothing is added to an error: in the crate it is what the last parser adds. The crate takes an `FnMut`.
+/// The maker leaves the stream in place. A call that begins afresh parses as [`make_and_parse`](crate::laws::make_and_parse) does. The parser that it answered is kept as by `lazy`, in the state, where the crate keeps it in the parser. Nothing is added to an error: in the crate it is what the last parser adds. The crate takes an `FnMut`.
 #[inline]
 pub fn factory<F>(maker: F) -> Factory<F>
     ensures { result ≡ factory_of maker }

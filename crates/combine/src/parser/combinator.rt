@@ -5,6 +5,7 @@ pub mod types;
 pub use combine_functions::combinator::{StrLike, and_then, flat_map, from_str, map_input};
 pub use combine_makers::combinator::types::MadeState;
 pub use combine_makers::combinator::{factory, lazy};
+pub use combine_makers::laws::make_and_parse;
 pub use combine_map::combinator::{
     TryState, attempt, ignore, laws, look_ahead, map, no_partial, not_followed_by,
 };

@@ -2,12 +2,11 @@
 ghost use Rattle.std.specs.Prelude.{◌≡◌};
 ghost use Rattle.combine_base.specs.Error.Errors.{Nothing};
 ghost use Rattle.combine_base.specs.Parser.Kept.{KeptOf};
-ghost use Rattle.combine_base.specs.Stream.Calls.{Passes};
 ghost use Rattle.combine_base.specs.Stream.View.{View};
 ghost use Rattle.combine_makers.specs.Made.{Adds, InPlace, MadeAt, MakesOne, RefusesMade, at_any, at_any_lasts, by_factory, by_lazy, factory_maker, is_unmade_valid, lazy_maker, made, made_at_lasts, made_is_meaning, made_means_one, valid_made};
 
 pub use super::made::{Made, MadeState};
-use super::made::{resume_made, run_made};
+use super::made::{make_and_run, resume_made, run_made};
 use combine_base::error::{ErrorOffset, ParseResult, Tracked};
 use combine_base::parser::{Outputs, ParseMode, Parser};
 use combine_base::sequence::take_state;
@@ -129,22 +128,9 @@ impl<Input: Stream, N: Parser<Input> + Drop, F: Fn() -> N> Parser<Input> for Laz
     }
 }
 
-// Asks a maker that leaves the stream in place.
-#[inline(always)]
-fn ask<Input: Stream, N, F: Fn(&mut Input) -> N>(maker: &F, input: &mut Input) -> N
-    requires callable { F.IsAlwaysCallable maker.now }
-    requires in_place { InPlace Input.view Input.marks Input.failures (λ i n l. F.post maker.now i n l) }
-    ensures made { MadeAt Input.view (λ i n l. F.post maker.now i n l) (Input.view input.old) result }
-    ensures passes { Passes (Input.marks input.old) (Input.marks input.new) (Input.failures input.old) (Input.failures input.new) }
-    ensures view { Input.view input.new ≡ Input.view input.old }
-    ensures failures { Input.failures input.new ≡ Input.failures input.old }
-{
-    maker(input)
-}
-
 /// The parser of [`factory`](crate::combinator::factory).
 #[derive(Clone, Copy, Drop)]
-pub struct Factory<F>(pub(super) F);
+pub struct Factory<F>(pub(crate) F);
 
 impl<Input, F: MakesAt<Input>> Outputs<Input> for Factory<F>
 where
@@ -184,12 +170,7 @@ impl<Input: Stream, N: Parser<Input> + Drop, F: Fn(&mut Input) -> N> Parser<Inpu
         if let MadeState::Kept(kept) = take_state(mode, state) {
             return resume_made(mode, input, kept, state);
         }
-        let parser = ask(&self.0, input);
-        let made = Made {
-            parser,
-            state: N::PartialState::default(),
-        };
-        run_made(mode, input, made, state)
+        make_and_run(&self.0, mode, input, state)
     }
 
     /// Nothing.
