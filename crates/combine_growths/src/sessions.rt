@@ -4,10 +4,12 @@ use combine_base::error::UnexpectedParse;
 use combine_base::parser::{Answer, Parser, Session, SessionError};
 use combine_base::stream::{Kind, fed};
 use combine_chains::repeat::chainr1;
+use combine_iterate::repeat::iterate;
 use combine_map::combinator::{attempt, look_ahead, map, not_followed_by};
 use combine_repeat::repeat::{many, many1, skip_many};
 use combine_token::choice::{optional, or};
 use combine_token::token::{any, token};
+use combine_turns::repeat::count_min_max;
 use std::alloc::Global;
 use std::process::Abort;
 
@@ -65,13 +67,17 @@ impl Written for Option<Vec<u8>> {
     }
 }
 
-/// One list of bytes, those of the text.
+/// Lists of bytes: those of the text, which has `,` between them.
 impl Written for Vec<Vec<u8>> {
     fn is(&self, text: &str) -> bool {
-        match self.as_slice() {
-            [bytes] => bytes.is(text),
-            _ => false,
+        let mut lists = self.iter();
+        for wanted in text.split(',') {
+            match lists.next() {
+                Some(bytes) if bytes.is(wanted) => {}
+                _ => return false,
+            }
         }
+        lists.next().is_none()
     }
 }
 
@@ -390,4 +396,24 @@ fn a_choice_with_ample_memory(rt: HostRuntime) {
 #[test]
 fn a_choice_with_any_growth_refused(rt: HostRuntime) {
     a_choice(&rt, rt.alloc(), Memory::Scarce);
+}
+
+/// No byte, then one, then two: each list asks for its room before it begins, and want of that is no list without it.
+fn counts(rt: &impl Abort, alloc: Global, memory: Memory) {
+    let counted = |count: &usize, _input: &mut fed::Stream<u8>| {
+        count_min_max::<Vec<u8>, _>(alloc, *count, *count, any())
+    };
+    let lists = iterate::<Vec<Vec<u8>>, _, _>(alloc, 0..3, counted);
+    let row = accepted(["ab", "bccc", ""], ",a,bb", 3, true);
+    run(rt, alloc, memory, lists, row);
+}
+
+#[test]
+fn counts_with_ample_memory(rt: HostRuntime) {
+    counts(&rt, rt.alloc(), Memory::Ample);
+}
+
+#[test]
+fn counts_with_any_growth_refused(rt: HostRuntime) {
+    counts(&rt, rt.alloc(), Memory::Scarce);
 }
