@@ -84,11 +84,11 @@ module _ {T R : Type 0} (size : T → ℕ) (spells : R → List T → Type 0) (a
   append_none (u ∷ us) = ap (λ vs. u ∷ vs) (append_none us)
 
   module _ (us : List T) (r : R) (spelled : spells r us) where
-    found_now : (i : ℕ) → answers r (Found i) → asking.found us i
+    pub found_now : (i : ℕ) → answers r (Found i) → asking.found us i
     found_now i a = (0, record { read = us; behind = []; all = sym (append_none us); range = r; spelled = spelled; answered = a })
 
     module _ (hint : ℕ) (a : answers r (NotFound hint)) where
-      missing_now : asking.missing us
+      pub missing_now : asking.missing us
       missing_now = (0, record { hint = hint; range = r; spelled = spelled; answered = a })
 
       went_now : (k : ℕ) → k ≤ length us → size_of size (take k us) ≤ hint → (x : List T) → Went (us ++ x) k

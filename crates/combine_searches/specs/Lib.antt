@@ -6,4 +6,5 @@ pub mod Options
 pub mod Scans
 pub mod Searchers
 pub mod Searches
+pub mod Stable
 pub mod UpTo

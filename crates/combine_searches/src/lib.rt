@@ -4,6 +4,7 @@
 pub mod byte;
 pub mod bytes;
 pub mod find;
+pub mod laws;
 pub mod passing;
 pub mod range;
 pub mod search;
