@@ -1,0 +1,310 @@
+-- a call of a nested grammar, by the runs of its steps' parsers
+use Rattle.std.proofs.Common.{ℕ, zero, suc, ◌+◌, ◌*◌, ◌-◌, ◌<◌, ◌≡◌, ◌≤◌, inl, inr, ◌⊎◌, List, [], ◌∷◌, length, Bool, true, false, ◌||◌, nat_lt, ltb-true, ltb-false, refl, sym, ◌∙◌, ap, subst, arith, add-zero, length-drop}
+use Rattle.std.proofs.lemmas.Bool.{lt-ltb}
+use Rattle.combine_base.specs.Error.Errors.{Errors}
+use Rattle.combine_base.specs.Parser.Answer.{World, Run, Answers, Accepts, Refuses, Resumes, Leaves, fails, peeks, world}
+use Rattle.combine_base.specs.Parser.Kept.{KeptOf}
+use Rattle.combine_base.specs.Parser.Meaning.{Meaning, Reading, IsMeaning, MeansSame}
+use Rattle.combine_base.specs.Parser.Outcome.{Outcome, Accepted, Refused, Undecided, after, IsCommitted}
+use Rattle.combine_base.specs.Parser.OutcomeFacts.{or_assoc, or_false, or_true}
+use Rattle.combine_base.specs.Sequence.Joined.{joined}
+use Rattle.combine_base.specs.Sequence.Parts.{RunsFrom, accepted_as, refused_as, run_from}
+use Rattle.combine_base.specs.Sequence.Readings.{following}
+use Rattle.combine_base.specs.Stream.View.{View, Takes, Follows, extended, advanced}
+use Rattle.combine_base.proofs.Inside.{Inside, Keeps, inside_asks, inside_fails, inside_refuses}
+use Rattle.combine_base.proofs.Progress.{Progress, progress_more, progress_outcome, takes_more, takes_none}
+use Rattle.combine_base.proofs.SequenceResumes.{following_resumes, sequel_resumes, accepted_resumes}
+use Rattle.combine_base.proofs.Starting.{progress_here, progress_left}
+use Rattle.combine_base.proofs.Same.{same_more, same_none}
+use Rattle.combine_base.specs.declared.error.ParseResult.{ParseResult}
+use Rattle.combine_base.specs.declared.error.Tracked.{Tracked}
+use Rattle.combine_base.specs.declared.error.ParseResult.TheVariants.{CommitOk, PeekOk, CommitErr, PeekErr}
+use Rattle.combine_base.specs.declared.parser.Parser as parser
+use Rattle.combine_base.specs.declared.stream.Failures.{Failures}
+use Rattle.combine_base.specs.declared.stream.Kind.TheVariants as kinds
+use Rattle.combine_base.specs.declared.stream.StreamOnce as stream
+use Rattle.combine_nested.specs.Asks.{asked_by_some}
+use Rattle.combine_nested.specs.Nesting.{Ends, Opened, Closed, Denied, TooDeep, around, begins_steps, valid_step, starts_valid, mark, marked, last_value, unchanged, settles, nesting, runs, stepping, then, goes_on}
+use Rattle.combine_nested.specs.NestingLaws.{marked_is_reading}
+use Rattle.combine_nested.proofs.Settling.{one_higher}
+use Rattle.combine_nested.proofs.Stepping.{marked_resumes, one_more}
+use Rattle.combine_nested.specs.StepCalls.{CalledStep, DidItem, KeepsStep, TakesItem, StepRefuses, IsTooDeep, TakesNothing, item_did, step_did, stops_so, keeps_step}
+use Rattle.combine_nested.specs.declared.nested.Next.{Next}
+use Rattle.combine_nested.specs.declared.nested.Next.TheVariants as nexts
+use Rattle.combine_nested.specs.declared.nested.steps.Did.{Did}
+use Rattle.combine_nested.specs.declared.nested.steps.Did.TheVariants as dids
+use Rattle.combine_nested.specs.declared.nested.steps.Frames.{Frames}
+use Rattle.combine_nested.specs.declared.nested.steps.RunningStep.{RunningStep}
+use Rattle.combine_nested.specs.declared.nested.steps.NestedState.{NestedState}
+use Rattle.combine_nested.specs.declared.nested.steps.NestedState.TheVariants as states
+
+-- what comes after two parts, of which one or the other was committed
+joined_twice : {B C : Type 0} (c k : Bool) (b : B) (p : Outcome C) → joined 0 (c || k) unchanged p ≡ joined 0 c unchanged (joined 0 k (last_value b) p)
+joined_twice c k b (Accepted a n j) = let e = or_assoc c k j in let i : 0 + n ≡ 0 + (0 + n) = omega arith in cc
+joined_twice c k b (Refused j) = ap Refused (or_assoc c k j)
+joined_twice c k b Undecided = refl
+
+joined_none : {C : Type 0} (p : Outcome C) → joined 0 false unchanged p ≡ p
+joined_none (Accepted a n j) = let i : 0 + n ≡ n = omega arith in cc
+joined_none (Refused j) = refl
+joined_none Undecided = refl
+
+-- what a call begins from is valid
+pub valid_from : {S : Type 0} {fresh valid : S → Type 0} {first : Bool} {given s : S} → ((s : S) → fresh s → valid s) → RunsFrom fresh first given s → valid given → valid s
+valid_from {S} {fresh} {valid} {first} {given} {s} h r v = by_mode first r
+  where
+    by_mode : (first : Bool) → RunsFrom fresh first given s → valid s
+    by_mode true r = h s (r.afresh refl)
+    by_mode false r = subst valid (sym (r.kept refl)) v
+
+module _ {F I V N Input U Checkpoint T R P E X : Type 0} (p : parser.Ghosts N Input U I Checkpoint T R P E X) (i : stream.Ghosts Input T R P E X) (seen : Errors T R P E) (fresh : U → Type 0) (depth : ℕ) (roots : F → Type 0) (answers : F → N → Type 0) (takes : F → I → Next F V → Type 0) (joins : F → V → Next F V → Type 0) (some : N → Type 0) where
+  abbrev all : Meaning P T R V (NestedState F N U)
+  all = nesting i.step depth roots answers takes joins some p.meaning
+
+  abbrev kept : N → Type 0
+  kept = KeptOf p.lawful p.meaning some
+
+  abbrev runs_at : F → List F → Reading P T V
+  runs_at f fs = runs i.step depth roots answers takes joins some p.meaning f fs
+
+  abbrev then_at : F → List F → I × Bool → Reading P T V
+  then_at f fs = then i.step depth roots answers takes joins some p.meaning runs_at f fs
+
+  abbrev step_at : Reading P T (I × Bool) → F → List F → Reading P T V
+  step_at r f fs = stepping i.step depth roots answers takes joins some p.meaning runs_at r f fs
+
+  abbrev part_world : World P T U E
+  part_world = world i.step seen i.steady fresh
+
+  abbrev whole_world : World P T (NestedState F N U) E
+  whole_world = world i.step seen i.steady begins_steps
+
+  -- what is left where the next step comes
+  abbrev left_at : Bool → Frames F → Reading P T V
+  left_at c l = following c unchanged (runs_at l.top (around l))
+
+  -- the call has come so far that the next step comes
+  pub record Reaches (z : NestedState F N U) (old now : View P T) (before later : Failures) (c : Bool) (l : Frames F) : Type 0 where
+    pub progress : Progress part_world (all.rest z) (left_at c l) old now before later
+
+  -- a step's parser runs
+  pub record Runs (z : NestedState F N U) (old now : View P T) (before later : Failures) (l : RunningStep F N U) : Type 0 where
+    pub kept : kept l.parser
+    pub progress : Progress part_world (all.rest z) (all.rest (states.Running l)) old now before later
+    pub lost : (p.meaning l.parser).lost l.state now → all.lost z old
+
+  -- and it began so, from a state that it was given
+  pub record Loops (first : Bool) (given : NestedState F N U) (old now : View P T) (before later : Failures) (c : Bool) (l : Frames F) : Type 0 where
+    pub z : NestedState F N U
+    pub from : RunsFrom begins_steps first given z
+    pub reaches : Reaches z old now before later c l
+
+  -- from the start
+  pub reaches_first : (l : Frames F) (v : View P T) (f : Failures) → roots l.top → around l ≡ [] → Reaches states.Start v v f f false l
+  reaches_first l v f k e =
+      let to : (u : View P T) (o : Outcome V) → left_at false l u o → all.rest states.Start u o = λ u o w. (l.top, k, subst (λ fs. runs_at l.top fs u o) e (subst (runs_at l.top (around l) u) (sym (w.2 ∙ joined_none w.0)) w.1)) in
+      record { progress = progress_here part_world (all.rest states.Start) (left_at false l) v f to }
+
+  -- from a kept state
+  pub runs_first : (l : RunningStep F N U) (v : View P T) (f : Failures) → kept l.parser → Runs (states.Running l) v v f f l
+  runs_first l v f k = record { kept = k; progress = progress_here part_world (all.rest (states.Running l)) (all.rest (states.Running l)) v f (λ u o w. w); lost = λ x. x }
+
+  -- the next step's parser runs
+  pub runs_next : {valid : U → Type 0} (z : NestedState F N U) (old now : View P T) (before later : Failures) (c : Bool) (l : Frames F) → Reaches z old now before later c l → (n : N) → answers l.top n → kept n → (u : U) → fresh u → IsMeaning fresh valid (p.meaning n) → Runs z old now before later (record { frames = l; committed = c; begun = false; parser = n; state = u })
+  runs_next z old now before later c l r n j k u d laws =
+      let q : RunningStep F N U = record { frames = l; committed = c; begun = false; parser = n; state = u } in
+      let to : (v : View P T) (o : Outcome V) → all.rest (states.Running q) v o → left_at c l v o = λ v o w. (w.0, one_more i.step depth roots answers takes joins some p.meaning l.top (around l) v w.0 (w.1.0, (w.1.1.0, (n, j, (laws.start u v w.1.1.0 d).0 w.1.1.1), w.1.1.2), w.1.2), w.2) in
+      record { kept = k; progress = progress_left part_world (all.rest z) (left_at c l) (all.rest (states.Running q)) old now before later to r.progress; lost = λ y. absurd (laws.found u now d y) }
+
+  -- A step's parser was run.
+  module _ (z state : NestedState F N U) (old : View P T) (before : Failures) (input left : Input) (l : RunningStep F N U) (reads : before.reads ≤ (i.failures input).reads) (resets : before.resets ≤ (i.failures input).resets) (r : Runs z old (i.view input) before (i.failures input) l) where
+    abbrev here : Reading P T V
+    here = all.rest (states.Running l)
+
+    abbrev run : U → Run P T U
+    run stopped = run_from l.state stopped (i.view input) (i.view left) (i.failures input) (i.failures left)
+
+    abbrev whole_run : Run P T (NestedState F N U)
+    whole_run = run_from z state old (i.view left) before (i.failures left)
+
+    abbrev inside : (stopped : U) → Inside part_world begins_steps (p.meaning l.parser) all (run stopped) false z state old before l.committed here
+    inside stopped = record {
+      progress = r.progress;
+      reads = reads;
+      resets = resets;
+      refuses = λ k x. (Refused k, (Refused k, (Refused k, x, refl), refl), refl);
+      lean = λ x. absurd x;
+      lost = λ d x. (refl, r.lost x);
+    }
+
+    abbrev kept_so : Bool → N → U → RunningStep F N U
+    kept_so b n stopped = record { frames = l.frames; committed = l.committed; begun = b; parser = n; state = stopped }
+
+    -- what is kept of the step's parser, which its call may have changed, means what is left of it
+    keeping : (n : N) → MeansSame (p.meaning l.parser) (p.meaning n) → (stopped : U) → KeepsStep p i seen fresh depth takes joins input left l n stopped state → Keeps part_world begins_steps (p.meaning l.parser) all (run stopped) false z state old before here r.progress.count
+    keeping n same stopped k = record {
+      undecided = λ x. (Undecided, (Undecided, (Undecided, x, refl), refl), refl);
+      resumes = λ m t x. subst (λ s. Resumes here (all.rest s) m (i.view input) (i.view left)) (sym k.is) (resumes_kept m t x);
+      found = λ v x. (same.lost stopped v).1 (subst (λ s. all.lost s v) k.is x);
+      keeps = λ x. r.kept.same.keeps.0 (x r.kept.parser r.kept.is_given);
+      puts_back = λ x. absurd x;
+    }
+      where
+        resumes_kept : (m : ℕ) → Takes i.step m (i.view input) (i.view left) → Resumes ((p.meaning l.parser).rest l.state) ((p.meaning l.parser).rest stopped) m (i.view input) (i.view left) → Resumes here (all.rest (states.Running (kept_so k.begun n stopped))) m (i.view input) (i.view left)
+        resumes_kept m t x =
+            let a = marked l.begun ((p.meaning l.parser).rest l.state) in
+            let b = marked k.begun ((p.meaning l.parser).rest stopped) in
+            let s = sequel_resumes i.step last_value (then_at l.frames.top (around l.frames)) m (i.view input) (i.view left) t a b (marked_resumes l.begun k.begun ((p.meaning l.parser).rest l.state) ((p.meaning l.parser).rest stopped) m (i.view input) (i.view left) (k.took m t) x) in
+            let y = following_resumes l.committed unchanged (step_at a l.frames.top (around l.frames)) (step_at b l.frames.top (around l.frames)) m (i.view input) (i.view left) s in
+            let back : (v : View P T) (o : Outcome V) → all.rest (states.Running (kept_so k.begun n stopped)) v o → following l.committed unchanged (step_at b l.frames.top (around l.frames)) v o = λ v o w. (w.0, (w.1.0, (w.1.1.0, (same.rest stopped v w.1.1.0).1 w.1.1.1, w.1.1.2), w.1.2), w.2) in
+            record { gives = λ u c o j w. y.gives u c o j (back _ o w); committed = λ u c o j q w. y.committed u c o j q (back _ o w) }
+
+    module _ (stopped : U) (a : I) (k : Bool) (h : Accepts part_world (p.meaning l.parser) (run stopped) a k) where
+      abbrev taken_count : ℕ
+      taken_count = r.progress.count + h.count
+
+      taken_all : Takes i.step taken_count old (i.view left)
+      taken_all = takes_more i.step r.progress.count h.count old (i.view input) (i.view left) r.progress.taken h.taken
+
+      abbrev leaves : begins_steps state → Leaves whole_world whole_run
+      leaves d = record { count = taken_count; taken = taken_all; state = d }
+
+      -- what comes of the item is what is left
+      at_here : (o : Outcome V) → then_at l.frames.top (around l.frames) (a, l.begun || nat_lt 0 h.count) (advanced i.step h.count (i.view input)) o → here (i.view input) (joined 0 l.committed unchanged (joined h.count k (last_value {B = I × Bool} (a, l.begun || nat_lt 0 h.count)) o))
+      at_here o w = (joined h.count k (last_value {B = I × Bool} (a, l.begun || nat_lt 0 h.count)) o, (Accepted (a, l.begun || nat_lt 0 h.count) h.count k, (Accepted a h.count k, h.meant, refl), (o, w, refl)), refl)
+
+      meant_so : (o : Outcome V) → then_at l.frames.top (around l.frames) (a, l.begun || nat_lt 0 h.count) (advanced i.step h.count (i.view input)) o → all.rest z old (after r.progress.count false (joined 0 l.committed unchanged (joined h.count k (last_value {B = I × Bool} (a, l.begun || nat_lt 0 h.count)) o)))
+      meant_so o w = progress_outcome part_world (all.rest z) here old (i.view input) before (i.failures input) r.progress _ (at_here o w)
+
+      -- want of memory
+      starved : begins_steps state → (e : E) → seen.kind e ≡ kinds.Memory → Answers whole_world all whole_run (CommitErr e)
+      starved d e m = record { is = subst (λ y. fails whole_world all whole_run y) (sym m) (λ f x. absurd x, leaves d) }
+
+      refuses_so : begins_steps state → (j c : Bool) → (l.committed || (k || j)) ≡ c → then_at l.frames.top (around l.frames) (a, l.begun || nat_lt 0 h.count) (advanced i.step h.count (i.view input)) (Refused j) → Refuses whole_world all whole_run c
+      refuses_so d j c e w = record { meant = subst (λ y. all.rest z old (Refused y)) e (meant_so (Refused j) w); leaves = leaves d; failures = λ s. h.failures s ∙ r.progress.failures s }
+
+      -- a refusal that is committed whatever was before
+      refused_so : begins_steps state → then_at l.frames.top (around l.frames) (a, l.begun || nat_lt 0 h.count) (advanced i.step h.count (i.view input)) (Refused true) → Refuses whole_world all whole_run true
+      refused_so d w = refuses_so d true true (ap (λ y. l.committed || y) (or_true k) ∙ or_true l.committed) w
+
+      -- a frame's own
+      denied_so : begins_steps state → (c : Bool) → TakesItem depth takes joins l.frames.top (around l.frames) a Denied → (l.committed || k) ≡ c → Refuses whole_world all whole_run c
+      denied_so d c t e = refuses_so d false c (ap (λ y. l.committed || y) (or_false k) ∙ e) (t.next, t.taken, (Denied, t.settles, refl))
+
+      commits_so : (e : E) → seen.kind e ≡ kinds.Refused → Refuses whole_world all whole_run true → Answers whole_world all whole_run (CommitErr e)
+      commits_so e m y = record { is = subst (λ y. fails whole_world all whole_run y) (sym m) y }
+
+      peeks_so : (t : Tracked E) → seen.kind t.error ≡ kinds.Refused → Refuses whole_world all whole_run false → Answers whole_world all whole_run (PeekErr t)
+      peeks_so t m y = record { is = subst (λ y. peeks whole_world all whole_run y) (sym m) y }
+
+      accepts_so : begins_steps state → (v : V) (c : Bool) → (l.committed || k) ≡ c → then_at l.frames.top (around l.frames) (a, l.begun || nat_lt 0 h.count) (advanced i.step h.count (i.view input)) (Accepted v 0 false) → Accepts whole_world all whole_run v c
+      accepts_so d v c e w =
+          let x : r.progress.count + (0 + (h.count + 0)) ≡ taken_count = omega arith in
+          let y : (l.committed || (k || false)) ≡ c = ap (λ y. l.committed || y) (or_false k) ∙ e in
+          let q : ◌≡◌ {A = Outcome V} (Accepted v (r.progress.count + (0 + (h.count + 0))) (l.committed || (k || false))) (Accepted v taken_count c) = cc in
+          record { count = taken_count; meant = subst (all.rest z old) q (meant_so (Accepted v 0 false) w); taken = taken_all; state = d; failures = λ s. h.failures s ∙ r.progress.failures s }
+
+      module _ (took : Bool) (is : (n : ℕ) → Takes i.step n (i.view input) (i.view left) → took ≡ (l.begun || nat_lt 0 n)) where
+        is_here : took ≡ (l.begun || nat_lt 0 h.count)
+        is_here = is h.count h.taken
+
+        stays_so : StepRefuses depth takes joins seen.kind l.frames (l.committed || k) took a → then_at l.frames.top (around l.frames) (a, l.begun || nat_lt 0 h.count) (advanced i.step h.count (i.view input)) (Refused true)
+        stays_so (IsTooDeep t) = (t.next, t.taken, (TooDeep, t.settles, refl))
+        stays_so (TakesNothing f fs t s) =
+            let b : ((l.begun || nat_lt 0 h.count) || nat_lt (length fs) (length (around l.frames))) ≡ false = ap (λ y. y || nat_lt (length fs) (length (around l.frames))) (sym is_here) ∙ s in
+            let held : goes_on i.step depth roots answers takes joins some p.meaning runs_at false f fs (advanced i.step h.count (i.view input)) (Refused true) = refl in
+            (t.next, t.taken, (Opened f fs, t.settles, subst (λ y. goes_on i.step depth roots answers takes joins some p.meaning runs_at y f fs (advanced i.step h.count (i.view input)) (Refused true)) (sym b) held))
+
+        failed_so : begins_steps state → (e : E) → seen.kind e ≡ kinds.Refused → StepRefuses depth takes joins seen.kind l.frames (l.committed || k) took a ⊎ (TakesItem depth takes joins l.frames.top (around l.frames) a Denied × ((l.committed || k) ≡ true)) → Answers whole_world all whole_run (CommitErr e)
+        failed_so d e m (inl t) = commits_so e m (refused_so d (stays_so t))
+        failed_so d e m (inr t) = commits_so e m (denied_so d true t.0 t.1)
+
+        stopped_so : begins_steps state → (y : ParseResult V E) → stops_so depth takes joins seen.kind l.frames (l.committed || k) took a y → Answers whole_world all whole_run y
+        stopped_so d (CommitOk v) s = record { is = accepts_so d v true s.1 (s.0.next, s.0.taken, (Closed v, s.0.settles, refl)) }
+        stopped_so d (PeekOk v) s = record { is = accepts_so d v false s.1 (s.0.next, s.0.taken, (Closed v, s.0.settles, refl)) }
+        stopped_so d (CommitErr e) (inl m) = starved d e m
+        stopped_so d (CommitErr e) (inr m) = failed_so d e m.0 m.1
+        stopped_so d (PeekErr t) s = peeks_so t s.0 (denied_so d false s.1 s.2)
+
+        gone_so : {valid : U → Type 0} → IsMeaning fresh valid (p.meaning l.parser) → valid l.state → (next : Frames F) (c : Bool) → item_did depth takes joins seen.kind l.frames (l.committed || k) took a (dids.Goes next c) → Reaches z old (i.view left) before (i.failures left) c next
+        gone_so {valid} laws v next c s =
+            let b : I × Bool = (a, l.begun || nat_lt 0 h.count) in
+            let part = (p.meaning l.parser).rest l.state in
+            let read = marked_is_reading l.begun part (laws.rest l.state v) in
+            let behind : Reading P T V = following k (last_value b) (then_at l.frames.top (around l.frames) b) in
+            let q = following_resumes l.committed unchanged (step_at (marked l.begun part) l.frames.top (around l.frames)) behind h.count (i.view input) (i.view left) (accepted_resumes i.step last_value (then_at l.frames.top (around l.frames)) h.count (i.view input) (i.view left) h.taken (marked l.begun part) read b k (Accepted a h.count k, h.meant, refl)) in
+            let there : Progress part_world here (following l.committed unchanged behind) (i.view input) (i.view left) (i.failures input) (i.failures left) = record { count = h.count; taken = h.taken; resumes = q; failures = h.failures } in
+            let goes : ((l.begun || nat_lt 0 h.count) || nat_lt (length (around next)) (length (around l.frames))) ≡ true = ap (λ y. y || nat_lt (length (around next)) (length (around l.frames))) (sym is_here) ∙ s.1 in
+            let item : (u : View P T) (o : Outcome V) → runs_at next.top (around next) u o → then_at l.frames.top (around l.frames) b u o = λ u o w. (s.0.next, s.0.taken, (Opened next.top (around next), s.0.settles, subst (λ y. goes_on i.step depth roots answers takes joins some p.meaning runs_at y next.top (around next) u o) (sym goes) w)) in
+            let to : (u : View P T) (o : Outcome V) → left_at c next u o → following l.committed unchanged behind u o = λ u o w. (joined 0 k (last_value b) w.0, (w.0, item u w.0 w.1, refl), w.2 ∙ ap (λ d. joined 0 d unchanged w.0) s.2 ∙ joined_twice l.committed k b w.0) in
+            record { progress = progress_left part_world (all.rest z) (following l.committed unchanged behind) (left_at c next) old (i.view left) before (i.failures left) to (progress_more part_world (all.rest z) here (following l.committed unchanged behind) old (i.view input) (i.view left) before (i.failures input) (i.failures left) r.progress there) }
+
+    -- its answer is that of the call
+    pub step_stops : (y : ParseResult V E) → CalledStep p i seen fresh depth takes joins input left l state (dids.Stops y) → Answers whole_world all whole_run y
+    step_stops y g = by_answer g.answer g.answers g.did g.keeps
+      where
+        stops_as : {x : ParseResult V E} → ◌≡◌ {A = Did F V E} (dids.Stops y) (dids.Stops x) → x ≡ y
+        stops_as e = cc
+
+        by_answer : (x : ParseResult I E) → Answers part_world (p.meaning l.parser) (run g.stopped) x → step_did p i seen fresh depth takes joins input left l x (dids.Stops y) → keeps_step p i seen fresh depth takes joins input left l g.parser g.stopped state x → Answers whole_world all whole_run y
+        by_answer (CommitOk b) a d (inl k) = absurd k.0
+        by_answer (CommitOk b) a d (inr k) = stopped_so g.stopped b true a.is d.took d.is k.1 y d.did
+        by_answer (PeekOk b) a d (inl k) = absurd k.0
+        by_answer (PeekOk b) a d (inr k) = stopped_so g.stopped b false a.is d.took d.is k.1 y d.did
+        by_answer (CommitErr e) a d (inl k) = subst (λ x. Answers whole_world all whole_run x) (stops_as d) (inside_asks _ _ _ _ _ _ _ _ _ _ _ _ (inside g.stopped) (keeping g.parser g.same g.stopped k.1) e k.0 a)
+        by_answer (CommitErr e) a d (inr k) = subst (λ x. Answers whole_world all whole_run x) (stops_as d) (inside_fails _ _ _ _ _ _ _ _ _ _ _ _ (inside g.stopped) (λ x. k.1) e k.0 a)
+        by_answer (PeekErr t) a d (inl k) = absurd k.0
+        by_answer (PeekErr t) a d (inr k) = subst (λ x. Answers whole_world all whole_run x) (stops_as d) (inside_refuses _ _ _ _ _ _ _ _ _ _ _ _ (inside g.stopped) (λ x. k.1) t a)
+
+    -- it was accepted, and the next step comes
+    pub step_goes : {valid : U → Type 0} → IsMeaning fresh valid (p.meaning l.parser) → valid l.state → (next : Frames F) (c : Bool) → CalledStep p i seen fresh depth takes joins input left l state (dids.Goes next c) → begins_steps state × Reaches z old (i.view left) before (i.failures left) c next
+    step_goes {valid} laws v next c g = by_answer g.answer g.answers g.did g.keeps
+      where
+        by_answer : (x : ParseResult I E) → Answers part_world (p.meaning l.parser) (run g.stopped) x → step_did p i seen fresh depth takes joins input left l x (dids.Goes next c) → keeps_step p i seen fresh depth takes joins input left l g.parser g.stopped state x → begins_steps state × Reaches z old (i.view left) before (i.failures left) c next
+        by_answer (CommitOk b) a d (inl k) = absurd k.0
+        by_answer (CommitOk b) a d (inr k) = (k.1, gone_so g.stopped b true a.is d.took d.is laws v next c d.did)
+        by_answer (PeekOk b) a d (inl k) = absurd k.0
+        by_answer (PeekOk b) a d (inr k) = (k.1, gone_so g.stopped b false a.is d.took d.is laws v next c d.did)
+        by_answer (CommitErr e) a d k = absurd (let x : dids.Goes next c ≡ dids.Stops (CommitErr e) = d in cc)
+        by_answer (PeekErr t) a d k = absurd (let x : dids.Goes next c ≡ dids.Stops (refused_as l.committed t) = d in cc)
+
+-- a parser that was answered for a frame may be kept
+module _ {F I S N Input U Checkpoint T R P E X : Type 0} (p : parser.Ghosts N Input U I Checkpoint T R P E X) (callable : S → Type 0) (answers : S → F → N → Type 0) (asker : S) where
+  pub asked_kept : callable asker → ((f : F) (n : N) → answers asker f n → p.lawful n) → {f : F} {n : N} → answers asker f n → KeptOf p.lawful p.meaning (asked_by_some callable answers p.lawful) n
+  asked_kept k every {f} {n} m = record {
+    is_lawful = every f n m;
+    parser = n;
+    is_given = record { maker = asker; is_callable = k; all = λ n m. every m.0 n m.1; made = (f, m) };
+    same = same_none (p.meaning n);
+  }
+
+-- the state that is left is valid, and what is left is less
+module _ {F I V N Input U Checkpoint T R P E X : Type 0} (p : parser.Ghosts N Input U I Checkpoint T R P E X) (i : stream.Ghosts Input T R P E X) (seen : Errors T R P E) (fresh : U → Type 0) (depth : ℕ) (takes : F → I → Next F V → Type 0) (joins : F → V → Next F V → Type 0) where
+  pub step_leaves : (some : N → Type 0) {input left : Input} {l : RunningStep F N U} {state : NestedState F N U} {y : Did F V E} → KeptOf p.lawful p.meaning some l.parser → CalledStep p i seen fresh depth takes joins input left l state y → valid_step (KeptOf p.lawful p.meaning some) p.valid state
+  step_leaves some {input} {left} {l} {state} {y} d g = by_need g.keeps
+    where
+      by_need : keeps_step p i seen fresh depth takes joins input left l g.parser g.stopped state g.answer → valid_step (KeptOf p.lawful p.meaning some) p.valid state
+      by_need (inl k) = rw k.1.is (record { is_lawful = g.lawful; parser = d.parser; is_given = d.is_given; same = same_more _ _ _ d.same g.same }, k.1.valid)
+      by_need (inr k) = starts_valid (KeptOf p.lawful p.meaning some) p.valid state k.1
+
+  fewer_at : (b : Bool) (n : ℕ) (u h hs : ℕ) → nat_lt 0 n ≡ b → (b || nat_lt hs h) ≡ true → n ≤ u → hs ≤ h + 1 → 2 * (u - n) + hs < 2 * u + h
+  fewer_at true n u h hs e w k m = let j = ltb-true 0 n e in omega arith
+  fewer_at false n u h hs e w k m = let j = ltb-true hs h w in let q = ltb-false 0 n e in omega arith
+
+  pub step_falls : {input left : Input} {l : RunningStep F N U} {state : NestedState F N U} {next : Frames F} {c : Bool} → l.begun ≡ false → CalledStep p i seen fresh depth takes joins input left l state (dids.Goes next c) → 2 * length (i.view left).unread + length (around next) < 2 * length (i.view input).unread + length (around l.frames)
+  step_falls {input} {left} {l} {state} {next} {c} b g = by_answer g.answer g.answers g.did
+    where
+      falls : (a : I) (k : Bool) → Accepts (world i.step seen i.steady fresh) (p.meaning l.parser) (run_from l.state g.stopped (i.view input) (i.view left) (i.failures input) (i.failures left)) a k → DidItem p i seen fresh depth takes joins input left l a k (dids.Goes next c) → 2 * length (i.view left).unread + length (around next) < 2 * length (i.view input).unread + length (around l.frames)
+      falls a k h d =
+          let n = h.count in
+          let t : d.took ≡ nat_lt 0 n = d.is n h.taken ∙ ap (λ y. y || nat_lt 0 n) b in
+          let w : (nat_lt 0 n || nat_lt (length (around next)) (length (around l.frames))) ≡ true = ap (λ y. y || nat_lt (length (around next)) (length (around l.frames))) (sym t) ∙ d.did.1 in
+          let m = one_higher depth joins (around l.frames) d.did.0.next next.top (around next) d.did.0.settles in
+          let u : length (i.view left).unread ≡ length (i.view input).unread - n = ap (λ (x : View P T). length x.unread) h.taken.rest ∙ length-drop n (i.view input).unread in
+          rw u (fewer_at (nat_lt 0 n) n (length (i.view input).unread) (length (around l.frames)) (length (around next)) refl w h.taken.enough m)
+
+      by_answer : (x : ParseResult I E) → Answers (world i.step seen i.steady fresh) (p.meaning l.parser) (run_from l.state g.stopped (i.view input) (i.view left) (i.failures input) (i.failures left)) x → step_did p i seen fresh depth takes joins input left l x (dids.Goes next c) → 2 * length (i.view left).unread + length (around next) < 2 * length (i.view input).unread + length (around l.frames)
+      by_answer (CommitOk a) h d = falls a true h.is d
+      by_answer (PeekOk a) h d = falls a false h.is d
+      by_answer (CommitErr e) h d = absurd (let x : dids.Goes next c ≡ dids.Stops (CommitErr e) = d in cc)
+      by_answer (PeekErr t) h d = absurd (let x : dids.Goes next c ≡ dids.Stops (refused_as l.committed t) = d in cc)

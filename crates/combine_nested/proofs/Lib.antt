@@ -1,0 +1,3 @@
+mod Settling
+mod Stepping
+mod EachStep

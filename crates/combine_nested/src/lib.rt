@@ -1,0 +1,4 @@
+//! Grammars that nest: steps over frames that are open inside one another.
+#![tactic(auto)]
+
+pub mod nested;

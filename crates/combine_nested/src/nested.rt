@@ -1,0 +1,104 @@
+//! Grammars that nest, with their open frames in memory.
+//!
+//! A grammar that nests is read step by step. What is open is a stack of frames of a caller's own type: an array whose elements come, a bracket, an operator that waits for its operand. The innermost frame chooses the parser of the next step, and takes its item: it goes on, opens a frame inside itself, is closed with a value, which the frame round it is given, or refuses. Nothing recurses, so no input overflows the call stack, and a parse goes on at the step where a piece ended.
+ghost use Rattle.std.specs.Prelude.{◌≡◌, MatchResult};
+ghost use Rattle.combine_nested.specs.Asks.{always_of, by_frame_of, if_else_of};
+ghost use Rattle.combine_nested.specs.Nesting.{nested_of};
+
+pub mod asked;
+mod steps;
+pub mod types;
+
+use asked::{Always, ByFrame, IfElse};
+use std::alloc::{AllocError, Global};
+use types::Nested;
+
+/// What comes of a frame that was given something.
+#[derive(Drop)]
+pub enum Next<F, V> {
+    /// It goes on as this one.
+    Stay(F),
+    /// It goes on as the first, and the second is opened inside it.
+    Open(F, F),
+    /// It is closed with this value, which the frame round it is given; that of the outermost is the answer.
+    Close(V),
+    /// It refuses, with this message.
+    Refuse(&'static str),
+}
+
+/// A frame that is open.
+///
+/// Each method takes the frame, and says what comes of it. An error is want of memory.
+pub trait Frame: Drop {
+    ghost use Rattle.std.specs.Prelude.{MatchResult};
+    ghost use Rattle.combine_nested.specs.declared.nested.Next.{Next};
+
+    /// What a step reads.
+    type Item: Drop;
+
+    /// What a frame that is closed is worth.
+    type Value: Drop;
+
+    /// What may come of an item. A frame that doesn't define it promises nothing.
+    ghost takes: { Self → Self.Item → Next Self Self.Value → Type 0 } = { λ _ _ _. Unit {0} };
+
+    /// What may come of the value of a frame that was opened inside this one. A frame that doesn't define it promises nothing.
+    ghost joins: { Self → Self.Value → Next Self Self.Value → Type 0 } = { λ _ _ _. Unit {0} };
+
+    /// What comes of an item that was read while this was the innermost frame.
+    fn take(self, item: Self::Item) -> Result<Next<Self, Self::Value>, AllocError>
+        ensures { MatchResult result (takes self item) (λ _. Unit {0}) };
+
+    /// What comes of the value with which a frame inside this one was closed.
+    fn join(self, value: Self::Value) -> Result<Next<Self, Self::Value>, AllocError>
+        ensures { MatchResult result (joins self value) (λ _. Unit {0}) };
+}
+
+/// Steps, one after another, over frames that are open inside one another, at most `depth` of them inside the outermost.
+///
+/// `root` makes the outermost frame. `step` answers the parser of each step, by the innermost frame, which takes its item: [`always`] the same parser, [`if_else`] one of two, [`by_frame`] what a function answers. The value is that with which the outermost frame is closed; it is committed exactly if a step was.
+///
+/// Open frames are kept in memory of `alloc`, one after another. To give a frame the place at which an item stood, read it with the item, as `(position(), item)`.
+///
+/// # Errors
+///
+/// What a step's parser refuses is refused, committed if a step before it was. So is what a frame refuses, with its message, committed if this step or one before it was. A frame too many is refused committed, with the message `nesting too deep`; and a step that takes no token, and leaves as many frames open as there were, with `repetition takes nothing`. Messages stand at the position where the step began, in the piece in which it ends.
+///
+/// # Partial input
+///
+/// The state keeps the open frames and the step that runs. Nothing is left unread where the parsers of the steps leave nothing.
+#[inline]
+pub fn nested<R, S>(alloc: Global, depth: usize, root: R, step: S) -> Nested<R, S>
+    ensures { result ≡ nested_of alloc depth root step }
+{
+    Nested {
+        alloc,
+        depth,
+        root,
+        asked: step,
+    }
+}
+
+/// The same parser at each step.
+#[inline]
+pub fn always<P>(parser: P) -> Always<P>
+    ensures { result ≡ always_of parser }
+{
+    Always(parser)
+}
+
+/// What `first` answers where `test` holds of the innermost frame, and else what `second` does.
+#[inline]
+pub fn if_else<C, A, B>(test: C, first: A, second: B) -> IfElse<C, A, B>
+    ensures { result ≡ if_else_of test first second }
+{
+    IfElse(test, first, second)
+}
+
+/// The parser that `f` answers for the innermost frame.
+#[inline]
+pub fn by_frame<C>(f: C) -> ByFrame<C>
+    ensures { result ≡ by_frame_of f }
+{
+    ByFrame(f)
+}

@@ -1,0 +1,113 @@
+//! The parser that `nested` answers, and its state.
+ghost use Rattle.std.specs.Prelude.{◌≡◌};
+ghost use Rattle.combine_base.specs.Parser.Kept.{KeptOf};
+ghost use Rattle.combine_base.specs.Parser.Meaning.{MeansOne};
+ghost use Rattle.combine_nested.specs.Asks.{asked_by_some};
+ghost use Rattle.combine_nested.specs.Nesting.{asked_part, depth_part, nesting, root_part, starts_valid, valid_step};
+ghost use Rattle.combine_nested.specs.NestingLaws.{nesting_is_meaning};
+
+use super::Frame;
+use super::asked::Ask;
+use super::steps::{Did, Frames, run_step};
+pub use super::steps::{NestedState, RunningStep};
+use combine_base::error::{ErrorOffset, ParseResult, Tracked};
+use combine_base::parser::{FirstMode, Outputs, ParseMode, Parser};
+use combine_base::sequence::take_state;
+use combine_base::stream::Stream;
+use combine_makers::combinator::types::Makes;
+use std::alloc::Global;
+
+/// The parser of [`nested`](crate::nested::nested).
+#[derive(Drop)]
+#[derive_where(Clone, Copy; R, S)]
+pub struct Nested<R, S> {
+    pub(super) alloc: Global,
+    pub(super) depth: usize,
+    pub(super) root: R,
+    pub(super) asked: S,
+}
+
+impl<Input, R: Makes, S> Outputs<Input> for Nested<R, S>
+where
+    R::Made: Frame,
+{
+    type Output = <R::Made as Frame>::Value;
+}
+
+impl<
+    Input: Stream,
+    F: Frame,
+    N: Parser<Input, Output = F::Item> + Drop,
+    R: Makes<Made = F>,
+    S: Ask<F, Parser = N>,
+> Parser<Input> for Nested<R, S> {
+    type PartialState = NestedState<F, N, N::PartialState>;
+
+    ghost lawful = { λ p. R.callable (root_part p) × S.callable (asked_part p) × ((f : F) (n : N) → S.answers (asked_part p) f n → N.lawful n) };
+
+    ghost determined = { λ p. MeansOne (valid_step (KeptOf N.lawful N.meaning (asked_by_some S.callable S.answers N.lawful)) N.valid) (nesting Input.step (depth_part p) (R.makes (root_part p)) (S.answers (asked_part p)) F.takes F.joins (asked_by_some S.callable S.answers N.lawful) N.meaning) };
+
+    ghost valid = { valid_step (KeptOf N.lawful N.meaning (asked_by_some S.callable S.answers N.lawful)) N.valid };
+
+    ghost meaning = { λ p. nesting Input.step (depth_part p) (R.makes (root_part p)) (S.answers (asked_part p)) F.takes F.joins (asked_by_some S.callable S.answers N.lawful) N.meaning };
+
+    ghost parts = { λ _. 1 };
+
+    ghost default_valid = { starts_valid (KeptOf N.lawful N.meaning (asked_by_some S.callable S.answers N.lawful)) N.valid };
+
+    ghost laws = { λ p l. nesting_is_meaning Input.step (depth_part p) (R.makes (root_part p)) (S.answers (asked_part p)) F.takes F.joins (asked_by_some S.callable S.answers N.lawful) N.meaning N.lawful N.laws l.2 };
+
+    ghost single = { λ p l d. d };
+
+    fn parse_mode<M: ParseMode>(
+        &mut self,
+        mode: M,
+        input: &mut Input,
+        state: &mut Self::PartialState,
+    ) -> ParseResult<F::Value, Input::Error> {
+        let mut frames: Frames<F>;
+        let mut committed: bool;
+        match take_state(mode, state) {
+            NestedState::Running(step) => match run_step(mode, input, self.depth, step, state) {
+                Did::Goes(next, commits) => {
+                    frames = next;
+                    committed = commits;
+                }
+                Did::Stops(answer) => return answer,
+            },
+            NestedState::Start => {
+                frames = Frames {
+                    top: self.root.make(),
+                    outer: Vec::new(self.alloc),
+                };
+                committed = false;
+            }
+        }
+        'steps: loop {
+            let running = RunningStep {
+                parser: self.asked.ask(&frames.top),
+                state: N::PartialState::default(),
+                frames,
+                committed,
+                begun: false,
+            };
+            match run_step(FirstMode, input, self.depth, running, state) {
+                Did::Goes(next, commits) => {
+                    frames = next;
+                    committed = commits;
+                }
+                Did::Stops(answer) => return answer,
+            }
+        }
+    }
+
+    /// Nothing.
+    #[inline]
+    fn add_error(&mut self, error: &mut Tracked<Input::Error>) {}
+
+    /// One, however many steps there are.
+    #[inline]
+    fn parser_count(&self) -> ErrorOffset {
+        ErrorOffset(1)
+    }
+}

@@ -1,0 +1,7 @@
+//! Grammars that nest, as a caller writes them, and what each answers. They are built for the tests alone, so that they are proved once.
+#![tactic(auto)]
+
+#[cfg(test)]
+mod calculator;
+#[cfg(test)]
+mod drivers;
