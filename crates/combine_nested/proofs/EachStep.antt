@@ -23,7 +23,7 @@ use Rattle.combine_base.specs.declared.parser.Parser as parser
 use Rattle.combine_base.specs.declared.stream.Failures.{Failures}
 use Rattle.combine_base.specs.declared.stream.Kind.TheVariants as kinds
 use Rattle.combine_base.specs.declared.stream.StreamOnce as stream
-use Rattle.combine_nested.specs.Asks.{asked_by_some}
+use Rattle.combine_nested.specs.Asks.{asked_by_some, asked_so}
 use Rattle.combine_nested.specs.Nesting.{Ends, Opened, Closed, Denied, TooDeep, around, begins_steps, valid_step, starts_valid, mark, marked, last_value, unchanged, settles, nesting, runs, stepping, then, goes_on}
 use Rattle.combine_nested.specs.NestingLaws.{marked_is_reading}
 use Rattle.combine_nested.proofs.Settling.{one_higher}
@@ -274,7 +274,7 @@ module _ {F I S N Input U Checkpoint T R P E X : Type 0} (p : parser.Ghosts N In
   asked_kept k every {f} {n} m = record {
     is_lawful = every f n m;
     parser = n;
-    is_given = record { maker = asker; is_callable = k; all = λ n m. every m.0 n m.1; made = (f, m) };
+    is_given = asked_so asker k every f n m;
     same = same_none (p.meaning n);
   }
 

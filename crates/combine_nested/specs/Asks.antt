@@ -4,7 +4,6 @@ use Rattle.combine_variants.specs.declared.variants.either.Either.{Either}
 use Rattle.combine_variants.specs.declared.variants.either.Either.TheVariants.{Left, Right}
 use Rattle.combine_makers.specs.Made.{MadeBySome}
 use Rattle.combine_nested.specs.declared.nested.asked.Always.{Always}
-use Rattle.combine_nested.specs.declared.nested.asked.ByFrame.{ByFrame}
 use Rattle.combine_nested.specs.declared.nested.asked.IfElse.{IfElse}
 
 abbrev pub always_of : {Q : Type 0} → Q → Always Q
@@ -12,9 +11,6 @@ always_of q = record { 0 = q }
 
 abbrev pub if_else_of : {C A B : Type 0} → C → A → B → IfElse C A B
 if_else_of c a b = record { 0 = c; 1 = a; 2 = b }
-
-abbrev pub by_frame_of : {C : Type 0} → C → ByFrame C
-by_frame_of c = record { 0 = c }
 
 -- the first where the test may hold, and the second where it may not
 abbrev pub asked_either : {F N M : Type 0} → (F → Bool → Type 0) → (F → N → Type 0) → (F → M → Type 0) → F → Either N M → Type 0
@@ -24,3 +20,6 @@ asked_either tells a b f (Right m) = tells f false × b f m
 -- answered for some frame by one that may be asked, and whose parsers are all lawful
 abbrev pub asked_by_some : {S F N : Type 0} → (S → Type 0) → (S → F → N → Type 0) → (N → Type 0) → N → Type 0
 asked_by_some {F = F} callable answers lawful = MadeBySome callable (λ s n. (f : F) × answers s f n) lawful
+
+pub asked_so : {S F N : Type 0} {callable : S → Type 0} {answers : S → F → N → Type 0} {lawful : N → Type 0} (asker : S) → callable asker → ((f : F) (n : N) → answers asker f n → lawful n) → (f : F) (n : N) → answers asker f n → asked_by_some callable answers lawful n
+asked_so asker k every f n m = record { maker = asker; is_callable = k; all = λ n m. every m.0 n m.1; made = (f, m) }

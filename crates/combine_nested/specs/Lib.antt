@@ -9,4 +9,5 @@ pub use Rattle.combine_base.specs.Stream.View
 pub mod Asks
 pub mod Nesting
 pub mod NestingLaws
+pub mod NestingOne
 pub mod StepCalls

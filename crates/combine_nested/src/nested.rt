@@ -2,14 +2,14 @@
 //!
 //! A grammar that nests is read step by step. What is open is a stack of frames of a caller's own type: an array whose elements come, a bracket, an operator that waits for its operand. The innermost frame chooses the parser of the next step, and takes its item: it goes on, opens a frame inside itself, is closed with a value, which the frame round it is given, or refuses. Nothing recurses, so no input overflows the call stack, and a parse goes on at the step where a piece ended.
 ghost use Rattle.std.specs.Prelude.{◌≡◌, MatchResult};
-ghost use Rattle.combine_nested.specs.Asks.{always_of, by_frame_of, if_else_of};
+ghost use Rattle.combine_nested.specs.Asks.{always_of, if_else_of};
 ghost use Rattle.combine_nested.specs.Nesting.{nested_of};
 
 pub mod asked;
 mod steps;
 pub mod types;
 
-use asked::{Always, ByFrame, IfElse};
+use asked::{Always, IfElse};
 use std::alloc::{AllocError, Global};
 use types::Nested;
 
@@ -30,7 +30,7 @@ pub enum Next<F, V> {
 ///
 /// Each method takes the frame, and says what comes of it. An error is want of memory.
 pub trait Frame: Drop {
-    ghost use Rattle.std.specs.Prelude.{MatchResult};
+    ghost use Rattle.std.specs.Prelude.{MatchResult, ◌≡◌};
     ghost use Rattle.combine_nested.specs.declared.nested.Next.{Next};
 
     /// What a step reads.
@@ -45,6 +45,15 @@ pub trait Frame: Drop {
     /// What may come of the value of a frame that was opened inside this one. A frame that doesn't define it promises nothing.
     ghost joins: { Self → Self.Value → Next Self Self.Value → Type 0 } = { λ _ _ _. Unit {0} };
 
+    /// Frames that differ in nothing that a caller can tell, for a grammar that is to have one outcome: what comes of them is alike too. A frame that doesn't define it is alike itself alone.
+    ghost alike: { Self → Self → Type 0 } = { λ f g. f ≡ g };
+
+    /// Items that frames take alike.
+    ghost alike_items: { Self.Item → Self.Item → Type 0 } = { λ a b. a ≡ b };
+
+    /// Values that frames are given alike.
+    ghost alike_values: { Self.Value → Self.Value → Type 0 } = { λ v w. v ≡ w };
+
     /// What comes of an item that was read while this was the innermost frame.
     fn take(self, item: Self::Item) -> Result<Next<Self, Self::Value>, AllocError>
         ensures { MatchResult result (takes self item) (λ _. Unit {0}) };
@@ -56,7 +65,7 @@ pub trait Frame: Drop {
 
 /// Steps, one after another, over frames that are open inside one another, at most `depth` of them inside the outermost.
 ///
-/// `root` makes the outermost frame. `step` answers the parser of each step, by the innermost frame, which takes its item: [`always`] the same parser, [`if_else`] one of two, [`by_frame`] what a function answers. The value is that with which the outermost frame is closed; it is committed exactly if a step was.
+/// `root` makes the outermost frame. `step` answers the parser of each step, by the innermost frame, which takes its item: a function of the frame, or [`always`] for the same parser at each step, or [`if_else`] for one of two. The value is that with which the outermost frame is closed; it is committed exactly if a step was.
 ///
 /// Open frames are kept in memory of `alloc`, one after another. To give a frame the place at which an item stood, read it with the item, as `(position(), item)`.
 ///
@@ -93,12 +102,4 @@ pub fn if_else<C, A, B>(test: C, first: A, second: B) -> IfElse<C, A, B>
     ensures { result ≡ if_else_of test first second }
 {
     IfElse(test, first, second)
-}
-
-/// The parser that `f` answers for the innermost frame.
-#[inline]
-pub fn by_frame<C>(f: C) -> ByFrame<C>
-    ensures { result ≡ by_frame_of f }
-{
-    ByFrame(f)
 }

@@ -1,8 +1,8 @@
 //! A calculator: sums and products of numbers, with signs and brackets.
 
 use crate::drivers::{Pieces, Runs, Whole};
+use crate::rows::InPieces;
 use combine_base::error::{ParseError, UnexpectedParse};
-use combine_base::parser::{Answer, SessionError};
 use combine_base::stream::Stream;
 use combine_map::combinator::map;
 use combine_nested::nested::{Frame, Next, always, if_else, nested};
@@ -125,7 +125,10 @@ where
     Input::Error: ParseError<u8, Input::Range, Input::Position>,
 {
     let digits = many1::<Vec<u8>, _>(alloc, satisfy(|byte: u8| byte.is_ascii_digit()));
-    let number = map(digits, |digits: Vec<u8>| Lexeme::Number(number_of(digits.as_slice())));
+    let number = map(
+        digits,
+        |digits: Vec<u8>| Lexeme::Number(number_of(digits.as_slice())),
+    );
     let sign = or(
         map(token(b'-'), |_sign: u8| Lexeme::Minus),
         map(token(b'('), |_bracket: u8| Lexeme::Open),
@@ -154,21 +157,67 @@ pub fn calculate(
 }
 
 /// The same of an input that stands in pieces.
-pub fn calculate_in_pieces(
-    alloc: Global,
-    depth: usize,
-    pieces: &[&[u8]],
-) -> Result<Answer<i64, UnexpectedParse>, SessionError> {
+pub fn calculate_in_pieces(alloc: Global, depth: usize, pieces: &[&[u8]]) -> InPieces<i64> {
     read_expression(alloc, depth, Pieces { alloc, pieces })
 }
 
 #[cfg(test)]
 mod tests {
     use super::*;
+    use crate::rows::{Outcome, Row, over_every_cut};
+    use combine_base::stream::Kind;
+
+    const ROWS: [Row<i64>; 22] = [
+        ("7", 0, Outcome::Accepted(7, 1, true)),
+        ("12-3*2+1x", 0, Outcome::Accepted(7, 8, true)),
+        ("1+2*(3-4)", 1, Outcome::Accepted(-1, 9, true)),
+        ("2*(3-(4))", 2, Outcome::Accepted(-2, 9, true)),
+        ("((1)*2)+7", 2, Outcome::Accepted(9, 9, true)),
+        ("-2*-(-3)", 1, Outcome::Accepted(-6, 8, true)),
+        ("--1-1", 0, Outcome::Accepted(0, 5, true)),
+        ("1)", 0, Outcome::Accepted(1, 1, true)),
+        ("(8-3-2)", 1, Outcome::Accepted(3, 7, true)),
+        ("x", 5, Outcome::Refused(Kind::Refused, false)),
+        ("", 5, Outcome::Refused(Kind::End, false)),
+        ("1+", 5, Outcome::Refused(Kind::End, true)),
+        ("1+*2", 5, Outcome::Refused(Kind::Refused, true)),
+        ("()", 5, Outcome::Refused(Kind::Refused, true)),
+        ("(1", 5, Outcome::Refused(Kind::End, true)),
+        ("(1+x", 5, Outcome::Refused(Kind::Refused, true)),
+        ("(1 )", 5, Outcome::Refused(Kind::Refused, true)),
+        ("2*(3-(4))", 1, Outcome::Refused(Kind::Refused, true)),
+        ("(1)", 0, Outcome::Refused(Kind::Refused, true)),
+        ("((((5))))", 4, Outcome::Accepted(5, 9, true)),
+        ("((((5))))", 3, Outcome::Refused(Kind::Refused, true)),
+        ("-(1)", 1, Outcome::Accepted(-1, 4, true)),
+    ];
 
     #[test]
-    fn first(rt: HostRuntime) {
+    fn over_cuts(rt: HostRuntime) -> Result<(), AllocError> {
+        over_every_cut(&rt, rt.alloc(), calculate_in_pieces, &ROWS)
+    }
+
+    #[test]
+    fn over_slices(rt: HostRuntime) {
         let alloc = rt.alloc();
-        assert_eq!(rt; calculate(alloc, 1, b"1+2*(3-4)"), Ok((-1, b"".as_slice())));
+        let too_large = Err(UnexpectedParse(Kind::Refused));
+        for (input, depth, wanted) in &ROWS {
+            let answer = calculate(alloc, *depth, input.as_bytes());
+            let agrees = match (answer, wanted) {
+                (Ok((value, left)), Outcome::Accepted(like, taken, _)) => {
+                    value == *like && input.len().saturating_sub(left.len()) as u64 == *taken
+                }
+                (Err(error), Outcome::Refused(kind, _)) => error == UnexpectedParse(*kind),
+                _ => false,
+            };
+            assert!(rt; agrees, "{input}");
+        }
+        assert_eq!(rt;
+            calculate(alloc, 0, b"9223372036854775807"),
+            Ok((9223372036854775807, b"".as_slice()))
+        );
+        assert_eq!(rt; calculate(alloc, 0, b"9223372036854775808"), too_large);
+        assert_eq!(rt; calculate(alloc, 0, b"9223372036854775807+1"), too_large);
+        assert_eq!(rt; calculate(alloc, 1, b"-(9223372036854775807+1)"), too_large);
     }
 }

@@ -1,7 +1,7 @@
 //! What a parser of bytes is handed to.
 
-use combine_base::error::UnexpectedParse;
-use combine_base::parser::{Answer, Parser, SessionError, parse_pieces};
+use crate::rows::InPieces;
+use combine_base::parser::{Parser, parse_pieces};
 use combine_base::stream::{Stream, fed};
 use std::alloc::Global;
 
@@ -35,7 +35,7 @@ pub struct Pieces<'a> {
 }
 
 impl<'a, V: Drop> Runs<fed::Stream<u8>, V> for Pieces<'a> {
-    type Answer = Result<Answer<V, UnexpectedParse>, SessionError>;
+    type Answer = InPieces<V>;
 
     fn run<P: Parser<fed::Stream<u8>, Output = V> + Drop>(self, parser: P) -> Self::Answer {
         parse_pieces(self.alloc, parser, self.pieces)

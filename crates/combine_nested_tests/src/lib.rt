@@ -4,4 +4,8 @@
 #[cfg(test)]
 mod calculator;
 #[cfg(test)]
+mod commands;
+#[cfg(test)]
 mod drivers;
+#[cfg(test)]
+mod rows;

@@ -20,6 +20,21 @@ pub trait Ask<F> {
         ensures { answers self.now frame.now result };
 }
 
+impl<F, N, C: Fn(&F) -> N> Ask<F> for C {
+    ghost use Rattle.std.specs.Fn.{FnReturnsAt};
+
+    type Parser = N;
+
+    ghost callable = { λ c. C.IsAlwaysCallable c };
+
+    ghost answers = { λ c. FnReturnsAt C.Fn c };
+
+    #[inline(always)]
+    fn ask(&self, frame: &F) -> N {
+        self(frame)
+    }
+}
+
 /// What tests a frame.
 pub trait Test<F> {
     ghost use Rattle.std.specs.Prelude.{Bool};
@@ -86,24 +101,5 @@ impl<F, C: Test<F>, A: Ask<F>, B: Ask<F>> Ask<F> for IfElse<C, A, B> {
         } else {
             Either::Right(self.2.ask(frame))
         }
-    }
-}
-
-/// What a function of the frame answers.
-#[derive(Clone, Copy, Drop)]
-pub struct ByFrame<C>(pub(super) C);
-
-impl<F, N, C: Fn(&F) -> N> Ask<F> for ByFrame<C> {
-    ghost use Rattle.std.specs.Fn.{FnReturnsAt};
-
-    type Parser = N;
-
-    ghost callable = { λ s. C.IsAlwaysCallable s.0 };
-
-    ghost answers = { λ s. FnReturnsAt C.Fn s.0 };
-
-    #[inline(always)]
-    fn ask(&self, frame: &F) -> N {
-        (self.0)(frame)
     }
 }

@@ -1,10 +1,10 @@
 //! The parser that `nested` answers, and its state.
 ghost use Rattle.std.specs.Prelude.{◌≡◌};
 ghost use Rattle.combine_base.specs.Parser.Kept.{KeptOf};
-ghost use Rattle.combine_base.specs.Parser.Meaning.{MeansOne};
-ghost use Rattle.combine_nested.specs.Asks.{asked_by_some};
+ghost use Rattle.combine_nested.specs.Asks.{asked_by_some, asked_so};
 ghost use Rattle.combine_nested.specs.Nesting.{asked_part, depth_part, nesting, root_part, starts_valid, valid_step};
 ghost use Rattle.combine_nested.specs.NestingLaws.{nesting_is_meaning};
+ghost use Rattle.combine_nested.specs.NestingOne.{NestsOne, nesting_means_one};
 
 use super::Frame;
 use super::asked::Ask;
@@ -45,7 +45,7 @@ impl<
 
     ghost lawful = { λ p. R.callable (root_part p) × S.callable (asked_part p) × ((f : F) (n : N) → S.answers (asked_part p) f n → N.lawful n) };
 
-    ghost determined = { λ p. MeansOne (valid_step (KeptOf N.lawful N.meaning (asked_by_some S.callable S.answers N.lawful)) N.valid) (nesting Input.step (depth_part p) (R.makes (root_part p)) (S.answers (asked_part p)) F.takes F.joins (asked_by_some S.callable S.answers N.lawful) N.meaning) };
+    ghost determined = { λ p. ((n : N) → asked_by_some S.callable S.answers N.lawful n → N.determined n) × NestsOne (R.makes (root_part p)) (S.answers (asked_part p)) F.takes F.joins (asked_by_some S.callable S.answers N.lawful) N.meaning N.valid F.alike F.alike_items F.alike_values };
 
     ghost valid = { valid_step (KeptOf N.lawful N.meaning (asked_by_some S.callable S.answers N.lawful)) N.valid };
 
@@ -57,7 +57,7 @@ impl<
 
     ghost laws = { λ p l. nesting_is_meaning Input.step (depth_part p) (R.makes (root_part p)) (S.answers (asked_part p)) F.takes F.joins (asked_by_some S.callable S.answers N.lawful) N.meaning N.lawful N.laws l.2 };
 
-    ghost single = { λ p l d. d };
+    ghost single = { λ p l d. nesting_means_one Input.step (depth_part p) d.1 N.lawful (λ n i. N.single n (i.all n i.made) (d.0 n i)) (asked_so (asked_part p) l.1 l.2) };
 
     fn parse_mode<M: ParseMode>(
         &mut self,
