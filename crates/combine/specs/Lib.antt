@@ -136,3 +136,7 @@ pub use Rattle.combine_decode.specs.Decoders
 pub use Rattle.combine_decode.specs.Frames
 pub use Rattle.combine_decode.specs.MessageLaws
 pub use Rattle.combine_decode.specs.Messages
+pub use Rattle.combine_nested.specs.Asks
+pub use Rattle.combine_nested.specs.Nesting
+pub use Rattle.combine_nested.specs.NestingLaws
+pub use Rattle.combine_nested.specs.NestingOne
