@@ -110,6 +110,7 @@ pub use Rattle.combine_range.specs.Lengths
 pub use Rattle.combine_range.specs.Peeking
 pub use Rattle.combine_range.specs.RangeParsers
 pub use Rattle.combine_range.specs.Recognized
+pub use Rattle.combine_range.specs.Tested
 pub use Rattle.combine_range.specs.Wanted
 pub use Rattle.combine_integers.specs.Numbers
 pub use Rattle.combine_integers.specs.WholeNumbers

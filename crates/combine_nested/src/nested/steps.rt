@@ -155,16 +155,12 @@ fn finish_step<Input: Stream, F: Frame>(
             Did::Stops(ParseResult::CommitErr(error))
         }
         Ok(Settled::Closed(value)) => Did::Stops(accepted_after(committed, value)),
-        Ok(Settled::Denied(message)) => {
-            Did::Stops(denied(input, position, committed, message))
-        }
+        Ok(Settled::Denied(message)) => { Did::Stops(denied(input, position, committed, message)) }
         Ok(Settled::TooDeep) => {
             let error = refusal_saying(input, position, "nesting too deep");
             Did::Stops(ParseResult::CommitErr(error))
         }
-        Err(_) => Did::Stops(ParseResult::CommitErr(
-            input.new_error(Kind::Memory, position),
-        )),
+        Err(_) => Did::Stops(ParseResult::CommitErr(input.new_error(Kind::Memory, position))),
     }
 }
 
