@@ -25,6 +25,7 @@ where
     sequences::answered(&mut rows)?;
     repetitions::turns(alloc, &mut rows)?;
     repetitions::counts(alloc, &mut rows)?;
+    repetitions::items(alloc, &mut rows)?;
     repetitions::separated(alloc, &mut rows)?;
     repetitions::chains(alloc, &mut rows)?;
     places::up_to_a_place(alloc, &mut rows)?;

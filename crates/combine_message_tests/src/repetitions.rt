@@ -5,6 +5,7 @@ use combine_base::stream::Stream;
 use combine_chains::repeat::chainr1;
 use combine_error_calls::calls::Legible;
 use combine_error_calls::rows::{COLUMN_1, COLUMN_2, COLUMN_3, COLUMN_4, Rows};
+use combine_iterate::repeat::iterate;
 use combine_map::combinator::map;
 use combine_repeat::repeat::{many, many1, skip_many, skip_many1};
 use combine_sep_end::repeat::sep_end_by1;
@@ -97,6 +98,26 @@ where
             ("1,2", true, "", ""),
             ("1", true, COLUMN_2, "expected 1 more elements\n"),
             ("x", false, COLUMN_1, "Unexpected `x`\nExpected digit\n"),
+        ],
+    )
+}
+
+/// A parser for each item of a list: the first one's refusal is left as it is, a later one's is explained.
+pub fn items<Input: Legible + Stream<Token = char>>(
+    alloc: Global,
+    rows: &mut Rows<Input>,
+) -> Result<(), AllocError>
+where
+    Input::Error: ParseError<char, Input::Range, Input::Position>,
+{
+    let letter = |_item: &u8, _input: &mut Input| token('a');
+    let letters = iterate::<Vec<char>, _, _>(alloc, 0_u8..2, letter);
+    rows.check(
+        letters,
+        &[
+            ("aa", true, "", ""),
+            ("x", false, COLUMN_1, "Unexpected `x`\n"),
+            ("ax", true, COLUMN_2, "Unexpected `x`\nExpected `a`\n"),
         ],
     )
 }
