@@ -2,8 +2,8 @@
 ghost use Rattle.std.specs.Prelude.{◌≡◌, IfErr};
 
 use combine_base::error::UnexpectedParse;
-use combine_base::parser::{Answer, Parser, SessionError, parse_pieces};
-use combine_base::stream::{Kind, Stream};
+use combine_base::parser::{Answer, Parser, Session, SessionError, parse_pieces};
+use combine_base::stream::{Kind, Stream, fed};
 use combine_functions::combinator::types::FromStr;
 use combine_functions::combinator::{and_then, flat_map, from_str};
 use combine_functions::error::unexpected;
@@ -93,12 +93,31 @@ fn of_a_slice(rt: HostRuntime) {
     assert_eq!(rt; nothing(b"a"), Err(REFUSED));
 }
 
-/// A refusing function leaves the tokens of its part taken.
+/// How many bytes are unread where a parser refuses a piece behind which more may come.
+fn unread_behind<P: Parser<fed::Stream<u8>> + Drop>(
+    alloc: Global,
+    parser: P,
+    piece: &[u8],
+) -> Option<usize>
+    requires { P.lawful parser }
+{
+    let mut session = Session::new(alloc, parser);
+    match session.feed(piece) {
+        Ok(Answer::Refused { .. }) => Some(session.unread().len()),
+        _ => None,
+    }
+}
+
+/// A refusing function leaves the tokens of its part taken, also at the end of an open piece.
 #[test]
 fn of_what_is_taken(rt: HostRuntime) {
     let mut input: &[u8] = b"xy";
     assert!(rt; and_then(any(), digit_of).parse_stream(&mut input).is_err());
     assert_eq!(rt; input, b"y".as_slice());
+    let tried = unread_behind(rt.alloc(), and_then(any(), digit_of), b"x");
+    assert_eq!(rt; tried, Some(0));
+    let answered = unread_behind(rt.alloc(), flat_map(any(), digit_of), b"x");
+    assert_eq!(rt; answered, Some(0));
 }
 
 #[test]

@@ -5,18 +5,19 @@ use combine_base::error::ParseError;
 use combine_base::stream::Stream;
 use combine_error_calls::calls::Legible;
 use combine_error_calls::rows::Rows;
-use combine_stream::range::{Range, RangeStream};
+use combine_searches::bytes::ByteStream;
+use combine_stream::range::ByteRange;
 use std::alloc::{AllocError, Global};
 
 /// What was answered other than the rows say.
 ///
 /// `hello` is the range of these characters.
-pub fn wrong<Input: Legible + Stream<Token = char> + RangeStream>(
+pub fn wrong<Input: Legible + Stream<Token = char> + ByteStream>(
     alloc: Global,
     hello: Input::Range,
 ) -> Result<Vec<String>, AllocError>
 where
-    Input::Range: Range + PartialEq,
+    Input::Range: ByteRange + PartialEq,
     Input::Error: ParseError<char, Input::Range, Input::Position>,
 {
     let mut rows: Rows<Input> = Rows::new(alloc);
@@ -29,12 +30,15 @@ where
     repetitions::separated(alloc, &mut rows)?;
     repetitions::chains(alloc, &mut rows)?;
     places::up_to_a_place(alloc, &mut rows)?;
+    places::blocks_up_to_a_place(alloc, &mut rows)?;
     places::escapes(&mut rows)?;
     insides::one_inside(alloc, &mut rows)?;
+    insides::changed_inside(&mut rows)?;
     insides::turns_inside(alloc, &mut rows)?;
     insides::made(&mut rows)?;
     ranges::these(&mut rows, hello)?;
     ranges::others(&mut rows)?;
+    ranges::taken_and_before(&mut rows)?;
     Ok(rows.into_wrong())
 }
 

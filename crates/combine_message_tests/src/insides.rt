@@ -1,11 +1,12 @@
 //! Parsers that say what the parser inside says, and parsers that say nothing of it.
-ghost use Rattle.std.specs.Prelude.{◌≡◌};
+ghost use Rattle.std.specs.Prelude.{◌≡◌, IfErr, ⊥};
 
 use combine_base::error::ParseError;
 use combine_base::repeat::Sink;
-use combine_base::stream::Stream;
+use combine_base::stream::{Stream, StreamOnce};
 use combine_error_calls::calls::Legible;
 use combine_error_calls::rows::Rows;
+use combine_functions::combinator::{and_then, flat_map, map_input};
 use combine_makers::combinator::{factory, lazy};
 use combine_map::combinator::{attempt, ignore, map, no_partial};
 use combine_recognize::combinator::recognize;
@@ -32,6 +33,34 @@ where
     rows.check_named(attempt(token('a')), "a", "`a`")?;
     rows.check_named(no_partial(token('a')), "a", "`a`")?;
     rows.check_named(recognize::<Sink, _>(alloc, token('a')), "a", "`a`")
+}
+
+/// What an error of a stream of characters says.
+type Item<Input> = <<Input as StreamOnce>::Error as ParseError<
+    char,
+    <Input as StreamOnce>::Range,
+    <Input as StreamOnce>::Position,
+>>::StreamError;
+
+/// One whose value a function changes.
+pub fn changed_inside<Input: Legible + Stream<Token = char>>(
+    rows: &mut Rows<Input>,
+) -> Result<(), AllocError>
+where
+    Input::Error: ParseError<char, Input::Range, Input::Position>,
+{
+    let tried = |_read: char| -> Result<u8, Item<Input>>
+        ensures { IfErr result (λ _. ⊥) }
+    { Ok(1) };
+    rows.check_named(and_then(token('a'), tried), "a", "`a`")?;
+    let answered = |_read: char| -> Result<u8, Input::Error>
+        ensures { IfErr result (λ _. ⊥) }
+    { Ok(1) };
+    rows.check_named(flat_map(token('a'), answered), "a", "`a`")?;
+    let seen = |_read: char, _input: &mut Input| -> u8
+        ensures { _input.new ≡ _input.old }
+    { 1 };
+    rows.check_named(map_input(token('a'), seen), "a", "`a`")
 }
 
 /// One that runs in turns.

@@ -8,6 +8,8 @@ mod insides;
 #[cfg(test)]
 mod items;
 #[cfg(test)]
+mod open;
+#[cfg(test)]
 mod places;
 #[cfg(test)]
 mod plain;

@@ -7,7 +7,7 @@ use combine_error_calls::calls::Legible;
 use combine_error_calls::rows::{COLUMN_1, COLUMN_2, COLUMN_3, COLUMN_4, Rows};
 use combine_text::char::{digit, letter};
 use combine_token::token::{one_of, token};
-use combine_until::repeat::{skip_until, take_until};
+use combine_until::repeat::{repeat_skip_until, repeat_until, skip_until, take_until};
 use std::alloc::{AllocError, Global};
 
 /// Tokens up to a place: where there is none the error stands at the end.
@@ -51,6 +51,33 @@ where
                 "Unexpected end of input\nUnexpected `a`\nExpected digit\n",
             ),
         ],
+    )
+}
+
+/// Blocks up to a place: the block alone says what was expected, and where one is missing the error stands there.
+pub fn blocks_up_to_a_place<Input: Legible + Stream<Token = char>>(
+    alloc: Global,
+    rows: &mut Rows<Input>,
+) -> Result<(), AllocError>
+where
+    Input::Error: ParseError<char, Input::Range, Input::Position>,
+{
+    rows.check(
+        repeat_until::<Vec<char>, _, _, _>(alloc, token('a'), token(';')),
+        &[
+            ("aa;", true, "", ""),
+            ("x", false, COLUMN_1, "Unexpected `x`\nExpected `a`\n"),
+            (
+                "ax",
+                false,
+                COLUMN_2,
+                "Unexpected `x`\nUnexpected `a`\nExpected `a`\n",
+            ),
+        ],
+    )?;
+    rows.check(
+        repeat_skip_until(token('a'), token(';')),
+        &[("x", false, COLUMN_1, "Unexpected `x`\nExpected `a`\n")],
     )
 }
 

@@ -5,9 +5,11 @@ use combine_base::stream::Stream;
 use combine_error_calls::calls::Legible;
 use combine_error_calls::rows::{COLUMN_1, Rows};
 use combine_lengths::range::length_prefix;
-use combine_range::range::{range, take_while1};
-use combine_stream::range::{Range, RangeStream};
-use combine_token::token::value;
+use combine_range::range::{range, recognize, recognize_with_value, take_while1};
+use combine_searches::byte::take_until_byte;
+use combine_searches::bytes::ByteStream;
+use combine_stream::range::{ByteRange, Range, RangeStream};
+use combine_token::token::{token, value};
 use std::alloc::AllocError;
 
 /// The range that is `hello`.
@@ -73,5 +75,25 @@ where
             COLUMN_1,
             "Unexpected `a`\nlength out of range\n",
         )],
+    )
+}
+
+/// What another parser takes, and what stands before a byte.
+pub fn taken_and_before<Input: Legible + Stream<Token = char> + ByteStream>(
+    rows: &mut Rows<Input>,
+) -> Result<(), AllocError>
+where
+    Input::Range: ByteRange,
+    Input::Error: ParseError<char, Input::Range, Input::Position>,
+{
+    rows.check_named(recognize(token('a')), "a", "`a`")?;
+    rows.check_named(recognize_with_value(token('a')), "a", "`a`")?;
+    rows.check(
+        take_until_byte(b'x'),
+        &[
+            ("abx", true, "", ""),
+            ("abc", true, COLUMN_1, "Unexpected end of input\n"),
+            ("", false, COLUMN_1, "Unexpected end of input\n"),
+        ],
     )
 }

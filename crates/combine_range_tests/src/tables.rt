@@ -108,6 +108,15 @@ pub const LETTERS: Tables = Tables {
                 ("ab\r\n", Accepted("ab", true, 2)),
             ),
         ),
+        // Before the `\r`, which may begin the needle, nothing is searched again: that much is kept, and no more.
+        (
+            "\r\n",
+            InTurn(
+                ("abc\r", More(0)),
+                ("abc", More(0)),
+                ("abc\r\n", Accepted("abc", true, 3)),
+            ),
+        ),
         (
             "\r\n",
             InTurn(

@@ -1,6 +1,7 @@
 //! `look_ahead`, `not_followed_by` and `no_partial` over a cut: what they read is unread again, and they begin again.
 
 use combine::error::UnexpectedParse;
+use combine::parser::char::string;
 use combine::parser::combinator::{look_ahead, no_partial, not_followed_by};
 use combine::parser::token::token;
 use combine::parser::{Answer, Parser, Session};
@@ -26,11 +27,11 @@ fn refused<O>(committed: bool) -> Answer<O, UnexpectedParse> {
 }
 
 /// The first piece is all unread again, and more is asked for; the second decides, and so many tokens are unread then.
-fn decide_later<P: Parser<fed::Stream<u8>> + Drop>(
+fn decide_later<T: Copy + PartialEq + Debug + 'static, P: Parser<fed::Stream<T>> + Drop>(
     rt: &impl Abort,
     alloc: Global,
     parser: P,
-    pieces: (&[u8], &[u8]),
+    pieces: (&[T], &[T]),
     wanted: Answer<P::Output, UnexpectedParse>,
     unread: usize,
 )
@@ -48,11 +49,13 @@ where
 
 #[test]
 fn not_followed_by_a_word(rt: HostRuntime) {
-    let word = (token(b'l'), token(b'e'), token(b't'));
     let alloc = rt.alloc();
-    let none = not_followed_by(word);
-    decide_later(&rt, alloc, none, (b"le", b"x"), accepted((), 0, false), 3);
-    decide_later(&rt, alloc, none, (b"le", b"t"), refused(false), 3);
+    let (begun, other, whole) = (['l', 'e'], ['x'], ['t']);
+    let none = not_followed_by(string("let"));
+    let nothing = accepted((), 0, false);
+    decide_later(&rt, alloc, none, (&begun, &other), nothing, 3);
+    let none = not_followed_by(string("let"));
+    decide_later(&rt, alloc, none, (&begun, &whole), refused(false), 3);
 }
 
 #[test]
