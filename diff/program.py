@@ -144,7 +144,7 @@ def put_before(path, mark, text, behind=""):
 COMPOSED_FROM = "    ($alloc:ident; or("
 # The libraries that the parsers need which the gate does not keep.
 ADDED_USES = (
-    "combine_functions combine_recognize combine_errors combine_until combine_iterate combine_stream combine_range"
+    "combine_functions combine_recognize combine_errors combine_stream combine_range"
     " combine_searches combine_integers"
 )
 

@@ -72,6 +72,11 @@ macro_rules! parser {
     ($alloc:ident; chainr1($f:ident $a:tt, $g:ident $b:tt)) => { combine_chains::repeat::chainr1($alloc, $crate::composed::operand!($alloc; $f $a), $crate::composed::operator!($alloc; $g $b)) };
     ($alloc:ident; escaped($f:ident $a:tt, b, $g:ident $b:tt)) => { combine_chains::repeat::escaped($crate::composed::parser!($alloc; $f $a), b'b', $crate::composed::parser!($alloc; $g $b)) };
     ($alloc:ident; escaped($f:ident $a:tt, c, $g:ident $b:tt)) => { combine_chains::repeat::escaped($crate::composed::parser!($alloc; $f $a), b'c', $crate::composed::parser!($alloc; $g $b)) };
+    ($alloc:ident; take_until($f:ident $a:tt)) => { combine_until::repeat::take_until::<Vec<u8>, _, _, _>($alloc, $crate::composed::parser!($alloc; $f $a)) };
+    ($alloc:ident; repeat_until($f:ident $a:tt, $g:ident $b:tt)) => { combine_until::repeat::repeat_until::<Vec<_>, _, _, _>($alloc, $crate::composed::parser!($alloc; $f $a), $crate::composed::parser!($alloc; $g $b)) };
+    ($alloc:ident; iterate($n:literal, $f:ident $a:tt)) => { combine_iterate::repeat::iterate::<Vec<_>, _, _>($alloc, 0..$n, |count: &usize, _input: &mut combine_base::stream::fed::Stream<u8>| {
+        combine_turns::repeat::count_min_max::<Vec<_>, _>($alloc, *count, *count, $crate::composed::parser!($alloc; $f $a))
+    }) };
     ($alloc:ident; skip($f:ident $a:tt, $g:ident $b:tt)) => { combine_sequence::sequence::skip($crate::composed::parser!($alloc; $f $a), $crate::composed::parser!($alloc; $g $b)) };
     ($alloc:ident; tuple($($f:ident $a:tt),+)) => { ($($crate::composed::parser!($alloc; $f $a),)+) };
     ($alloc:ident; then($f:ident $a:tt)) => { combine_sequence::sequence::then($crate::composed::parser!($alloc; $f $a), |first: u8| combine_token::token::token(first)) };

@@ -20,6 +20,8 @@ pub(crate) fn find(alloc: Global, parser: &str, feeding: &Feeding<'_>) -> Found 
         .or_else(|| answered(alloc, parser, feeding))
         .or_else(|| of_several(alloc, parser, feeding))
         .or_else(|| turned(alloc, parser, feeding))
+        .or_else(|| up_to_a_place(alloc, parser, feeding))
+        .or_else(|| each_item(alloc, parser, feeding))
         .or_else(|| of_characters(alloc, parser, feeding))
 }
 
@@ -151,4 +153,18 @@ fn turned(alloc: Global, parser: &str, feeding: &Feeding<'_>) -> Found {
 /// Parsers that read characters.
 fn of_characters(alloc: Global, parser: &str, feeding: &Feeding<'_>) -> Found {
     answer_of_characters!(alloc, parser, feeding; or(attempt(string(ab)), string(ac)))
+}
+
+/// Tokens and blocks up to a place.
+fn up_to_a_place(alloc: Global, parser: &str, feeding: &Feeding<'_>) -> Found {
+    answer_composed!(
+        alloc, parser, feeding;
+        take_until(tuple(token(a), token(b))),
+        repeat_until(token(a), token(b)),
+    )
+}
+
+/// A parser for each item: that many turns.
+fn each_item(alloc: Global, parser: &str, feeding: &Feeding<'_>) -> Found {
+    answer_composed!(alloc, parser, feeding; iterate(2, tuple(token(a), token(b))))
 }
