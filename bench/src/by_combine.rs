@@ -7,6 +7,7 @@ use crate::measure::REFUSED;
 use combine::error::UnexpectedParse;
 use combine::stream::{MaybePartialStream, PartialStream};
 use combine::{Parser, Stream};
+use std::io::{self, Read};
 
 pub type Window<'a> = MaybePartialStream<&'a [u8]>;
 
@@ -75,6 +76,42 @@ pub fn each<'a, P: Parser<PartialStream<&'a [u8]>>>(
         }
     }
     Some(taken)
+}
+
+/// Gives the bytes in pieces of that size.
+pub struct Reader<'a> {
+    pub rest: &'a [u8],
+    pub size: usize,
+}
+
+impl Read for Reader<'_> {
+    fn read(&mut self, buffer: &mut [u8]) -> io::Result<usize> {
+        let length = self.size.min(buffer.len()).min(self.rest.len());
+        let (now, later) = self.rest.split_at(length);
+        buffer[..length].copy_from_slice(now);
+        self.rest = later;
+        Ok(length)
+    }
+}
+
+/// Whether the bytes are messages of the parser, one after another, each handed on: by the crate's `Decoder`, whose
+/// buffer asks the reader for 64 bytes at a time, or fewer.
+#[macro_export]
+macro_rules! decodes_all {
+    ($parser: expr, $bytes: expr, $size: expr, $see: expr) => {{
+        use combine::error::UnexpectedParse;
+        use combine::stream::{decoder::Error, Decoder};
+        let mut see = $see;
+        let mut decoder = Decoder::new();
+        let mut reader = $crate::by_combine::Reader { rest: $bytes, size: $size };
+        loop {
+            match combine::decode!(decoder, reader, $parser) {
+                Ok(value) => see(value),
+                Err(Error::Parse(UnexpectedParse::Eoi)) => break decoder.buffer().is_empty(),
+                Err(_) => break false,
+            }
+        }
+    }};
 }
 
 /// These bytes, one by one.

@@ -50,6 +50,18 @@ pub fn messages(size: usize) -> Vec<u8> {
     })
 }
 
+/// `WORD=DIGITS;`, words of 2 to 7 letters, numbers of 1 to 5 digits.
+pub fn settings(size: usize) -> Vec<u8> {
+    repeated(size, |dice, all| {
+        let letters = dice.between(2, 7);
+        dice.push(all, letters, b'a', b'z');
+        all.push(b'=');
+        let digits = dice.between(1, 5);
+        dice.push(all, digits, b'0', b'9');
+        all.push(b';');
+    })
+}
+
 /// A letter and a digit, twice: `a1b2`.
 pub fn pairs(size: usize) -> Vec<u8> {
     repeated(size, |dice, all| {

@@ -16,6 +16,7 @@ mod lines;
 mod measure;
 mod measures;
 mod ours;
+mod tally;
 mod texts;
 
 use measure::{Call, Measure, FAULT, REFUSED};

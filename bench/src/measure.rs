@@ -25,3 +25,15 @@ pub struct Measure {
     /// A name may begin with that of its crate, as `combine by message`: another form of the same work.
     pub sides: &'static [(&'static str, Call)],
 }
+
+/// The sizes of pieces that messages are decoded from: some bytes, a packet, a page, a buffer.
+pub const DECODED: &[usize] = &[16, 1460, 4096, 65536];
+
+/// The size of the pieces, in which all bytes are one where it is 0.
+pub fn size_of(bytes: &[u8], piece: usize) -> usize {
+    if piece == 0 {
+        bytes.len().max(1)
+    } else {
+        piece
+    }
+}

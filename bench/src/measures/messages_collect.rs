@@ -3,6 +3,7 @@
 
 use crate::classes::{is_digit, is_lower};
 use crate::measure::{Measure, REFUSED};
+use crate::tally::Tally;
 use crate::{by_combine, by_hand, by_nom, inputs};
 
 pub const MEASURE: Measure = Measure {
@@ -19,23 +20,11 @@ struct Message {
     digits: Option<Vec<u8>>,
 }
 
-/// What `many` collects messages in: from 0, for each kept vector 31 times the sum, plus its length, plus its last
-/// byte; all wrapping.
-#[derive(Default)]
-struct Tally {
-    sum: u64,
-}
-
-impl Tally {
-    fn add(&mut self, kept: &[u8]) {
-        let last = kept.last().map_or(0, |byte| *byte as u64);
-        self.sum = self.sum.wrapping_mul(31).wrapping_add(kept.len() as u64).wrapping_add(last);
-    }
-
-    fn add_message(&mut self, message: Message) {
-        self.add(&message.word);
-        if let Some(digits) = &message.digits {
-            self.add(digits);
+impl Message {
+    fn add_to(&self, tally: &mut Tally) {
+        tally.add(&self.word);
+        if let Some(digits) = &self.digits {
+            tally.add(digits);
         }
     }
 }
@@ -43,7 +32,7 @@ impl Tally {
 impl Extend<Message> for Tally {
     fn extend<T: IntoIterator<Item = Message>>(&mut self, messages: T) {
         for message in messages {
-            self.add_message(message);
+            message.add_to(self);
         }
     }
 }
@@ -51,7 +40,7 @@ impl Extend<Message> for Tally {
 fn hand(bytes: &[u8], piece: usize) -> u64 {
     let mut tally = Tally::default();
     let see = |word: &[u8], digits: Option<&[u8]>| {
-        tally.add_message(Message { word: word.to_vec(), digits: digits.map(<[u8]>::to_vec) });
+        Message { word: word.to_vec(), digits: digits.map(<[u8]>::to_vec) }.add_to(&mut tally);
     };
     let accepted = if piece == 0 {
         by_hand::messages(bytes, see).is_some()
@@ -78,7 +67,7 @@ fn combine(bytes: &[u8], piece: usize) -> u64 {
 /// One message after the other, the kept state begun anew for each.
 fn combine_by_message(bytes: &[u8], piece: usize) -> u64 {
     let mut tally = Tally::default();
-    let taken = by_combine::each(resumable_message(), bytes, piece, |message| tally.add_message(message));
+    let taken = by_combine::each(resumable_message(), bytes, piece, |message| message.add_to(&mut tally));
     taken.map_or(REFUSED, |_| tally.sum)
 }
 
@@ -110,7 +99,7 @@ fn resumable_message<I: combine::Stream<Token = u8>>() -> impl combine::Parser<I
 fn nom(bytes: &[u8], piece: usize) -> u64 {
     let mut tally = Tally::default();
     let mut see = |(word, digits): (&[u8], Option<&[u8]>)| {
-        tally.add_message(Message { word: word.to_vec(), digits: digits.map(<[u8]>::to_vec) });
+        Message { word: word.to_vec(), digits: digits.map(<[u8]>::to_vec) }.add_to(&mut tally);
     };
     let accepted = if piece == 0 {
         let mut messages = nom::multi::fold_many0(complete::message, || (), |(), message| see(message));

@@ -37,6 +37,8 @@ measures! {
     lines_of_16
     lines_of_80
     lines_of_4096
+    decoded_frames
+    decoded_settings
     grammar
     grammar_easy
 }

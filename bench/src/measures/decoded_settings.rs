@@ -1,0 +1,128 @@
+//! Settings, decoded one after another, the word and the digits of each in vectors. The answer is a checksum of the
+//! words and the digits, in their order.
+
+use crate::classes::{is_digit, is_lower, past};
+use crate::measure::{size_of, Measure, DECODED, REFUSED};
+use crate::tally::Tally;
+use crate::{by_combine, by_nom, inputs};
+
+pub const MEASURE: Measure = Measure {
+    name: "decoded_settings",
+    what: "`WORD=DIGITS;`, word and digits in vectors, by a `Decoder`",
+    input: inputs::settings,
+    pieces: DECODED,
+    sides: &[("hand", hand), ("combine", combine), ("combine by decode", combine_by_decode), ("nom", nom)],
+};
+
+/// A word and its digits.
+struct Setting {
+    word: Vec<u8>,
+    digits: Vec<u8>,
+}
+
+impl Setting {
+    fn add_to(&self, tally: &mut Tally) {
+        tally.add(&self.word);
+        tally.add(&self.digits);
+    }
+}
+
+/// A setting that the bytes begin with, and what stands behind it; none where one is broken, or its end isn't there.
+#[inline(always)]
+fn begins(bytes: &[u8]) -> Option<(Setting, &[u8])> {
+    let word = past(bytes, 0, is_lower);
+    if word == 0 || bytes.get(word) != Some(&b'=') {
+        return None;
+    }
+    let end = past(bytes, word + 1, is_digit);
+    if end == word + 1 || bytes.get(end) != Some(&b';') {
+        return None;
+    }
+    let setting = Setting { word: bytes[..word].to_vec(), digits: bytes[word + 1..end].to_vec() };
+    Some((setting, &bytes[end + 1..]))
+}
+
+/// What stands before the `;` of a setting that a cut divides is kept till that comes.
+fn hand(bytes: &[u8], piece: usize) -> u64 {
+    let mut tally = Tally::default();
+    let mut kept: Vec<u8> = Vec::new();
+    for mut rest in bytes.chunks(size_of(bytes, piece)) {
+        if !kept.is_empty() {
+            let Some(end) = rest.iter().position(|byte| *byte == b';') else {
+                kept.extend_from_slice(rest);
+                continue;
+            };
+            kept.extend_from_slice(&rest[..=end]);
+            rest = &rest[end + 1..];
+            let Some((setting, [])) = begins(&kept) else { return REFUSED };
+            setting.add_to(&mut tally);
+            kept.clear();
+        }
+        while let Some((setting, behind)) = begins(rest) {
+            setting.add_to(&mut tally);
+            rest = behind;
+        }
+        if rest.contains(&b';') {
+            return REFUSED;
+        }
+        kept.extend_from_slice(rest);
+    }
+    if kept.is_empty() {
+        tally.sum
+    } else {
+        REFUSED
+    }
+}
+
+fn combine(bytes: &[u8], piece: usize) -> u64 {
+    let mut tally = Tally::default();
+    let taken = by_combine::each(setting(), bytes, size_of(bytes, piece), |setting: Setting| setting.add_to(&mut tally));
+    if taken == Some(bytes.len()) {
+        tally.sum
+    } else {
+        REFUSED
+    }
+}
+
+/// The parser stands in the call, since the state of one that a function answers would borrow the buffer.
+fn combine_by_decode(bytes: &[u8], piece: usize) -> u64 {
+    use combine::{many1, satisfy, token, Parser};
+    let mut tally = Tally::default();
+    let decodes_all = crate::decodes_all!(
+        (many1(satisfy(is_lower)), token(b'='), many1(satisfy(is_digit)), token(b';'))
+            .map(|(word, _, digits, _)| Setting { word, digits }),
+        bytes,
+        size_of(bytes, piece),
+        |setting: Setting| setting.add_to(&mut tally)
+    );
+    if decodes_all {
+        tally.sum
+    } else {
+        REFUSED
+    }
+}
+
+fn setting<I: combine::Stream<Token = u8>>() -> impl combine::Parser<I, Output = Setting> {
+    use combine::{many1, satisfy, token, Parser};
+    (many1(satisfy(is_lower)), token(b'='), many1(satisfy(is_digit)), token(b';'))
+        .map(|(word, _, digits, _)| Setting { word, digits })
+}
+
+fn nom(bytes: &[u8], piece: usize) -> u64 {
+    let mut tally = Tally::default();
+    let taken = by_nom::each(streamed, bytes, size_of(bytes, piece), |setting| setting.add_to(&mut tally));
+    if taken == Some(bytes.len()) {
+        tally.sum
+    } else {
+        REFUSED
+    }
+}
+
+fn streamed(input: &[u8]) -> nom::IResult<&[u8], Setting> {
+    use nom::bytes::streaming::take_while1;
+    use nom::character::streaming::char;
+    use nom::sequence::tuple;
+    let (rest, (word, _, digits, _)): (_, (&[u8], _, &[u8], _)) =
+        tuple((take_while1(is_lower), char('='), take_while1(is_digit), char(';')))(input)?;
+    Ok((rest, Setting { word: word.to_vec(), digits: digits.to_vec() }))
+}
