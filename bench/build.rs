@@ -1,21 +1,23 @@
-//! Links the static library of ours, where `COMBINE_BENCH_LIBRARY` names it, and `COMBINE_BENCH_HEAP`, what it
-//! allocates with; writes `ours.rs`, a call for each of its exports `combine_bench_NAME`.
+//! Links the static libraries of ours, where `COMBINE_BENCH_LIBRARIES` names them with `:` between them, and
+//! `COMBINE_BENCH_HEAP`, what they allocate with; writes `ours.rs`, a call for each of their exports
+//! `combine_bench_NAME`.
 
 use std::fmt::Write;
 use std::path::Path;
 use std::process::Command;
 
 fn main() {
-    println!("cargo:rerun-if-env-changed=COMBINE_BENCH_LIBRARY");
+    println!("cargo:rerun-if-env-changed=COMBINE_BENCH_LIBRARIES");
     println!("cargo:rerun-if-env-changed=COMBINE_BENCH_HEAP");
-    let names = match std::env::var("COMBINE_BENCH_LIBRARY") {
-        Ok(library) => {
-            link(&library);
-            link(&std::env::var("COMBINE_BENCH_HEAP").expect("COMBINE_BENCH_HEAP names the library that allocates"));
-            exports(&library)
+    let mut names = Vec::new();
+    if let Ok(libraries) = std::env::var("COMBINE_BENCH_LIBRARIES") {
+        for library in libraries.split(':') {
+            link(library);
+            names.extend(exports(library));
         }
-        Err(_) => Vec::new(),
-    };
+        link(&std::env::var("COMBINE_BENCH_HEAP").expect("COMBINE_BENCH_HEAP names the library that allocates"));
+    }
+    names.sort();
     let out = std::env::var("OUT_DIR").unwrap();
     std::fs::write(Path::new(&out).join("ours.rs"), calls(&names)).unwrap();
 }
@@ -33,13 +35,10 @@ fn link(library: &str) {
 fn exports(library: &str) -> Vec<String> {
     let found = Command::new("nm").args(["-g", "--defined-only", library]).output().expect("nm, of binutils");
     let text = String::from_utf8(found.stdout).unwrap();
-    let mut names: Vec<String> = text
-        .lines()
+    text.lines()
         .filter_map(|line| line.split_whitespace().nth(2)?.strip_prefix("combine_bench_"))
         .map(String::from)
-        .collect();
-    names.sort();
-    names
+        .collect()
 }
 
 fn calls(names: &[String]) -> String {

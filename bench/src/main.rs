@@ -4,7 +4,7 @@
 //!     bench check                               each side answers the same on short inputs, in pieces of many sizes
 //!     bench time NAME PIECE BYTES RUNS          the best of so many runs of each side, in seconds
 //!     bench count NAME PIECE BYTES SIDE         one run of one side, in the function `counted`
-//!     bench ours                                the measures that the linked static library has
+//!     bench ours                                what the linked static libraries export
 mod by_combine;
 mod by_hand;
 mod by_nom;
@@ -29,9 +29,7 @@ use std::time::Instant;
 fn sides(measure: &Measure, piece: usize) -> Vec<(&'static str, Call)> {
     let fits = |side: &&(&str, Call)| piece != 0 || !side.0.contains(' ');
     let mut sides: Vec<_> = measure.sides.iter().filter(fits).copied().collect();
-    if let Some(call) = ours::find(measure.name) {
-        sides.push(("ours", call));
-    }
+    sides.extend(ours::sides(measure.name));
     sides
 }
 
@@ -71,7 +69,8 @@ fn names() -> Result<(), String> {
 
 fn list_ours() -> Result<(), String> {
     for name in ours::NAMES {
-        find(name).map_err(|_| format!("combine_bench_{name} is exported, but there is no measure {name}"))?;
+        let measure = ours::measure_of(name);
+        find(measure).map_err(|_| format!("combine_bench_{name} is exported, but there is no measure {measure}"))?;
         println!("{name}");
     }
     Ok(())
