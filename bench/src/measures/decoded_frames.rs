@@ -15,7 +15,7 @@ pub const MEASURE: Measure = Measure {
         ("hand by byte", by_byte),
         ("combine", combine),
         ("combine by decode", combine_by_decode),
-        ("combine by range", combine_by_range),
+        ("range", range),
         ("nom", nom),
     ],
 };
@@ -110,8 +110,8 @@ fn combine_by_decode(bytes: &[u8], piece: usize) -> u64 {
     }
 }
 
-/// Each frame as a range, which wants a window that has all of it.
-fn combine_by_range(bytes: &[u8], piece: usize) -> u64 {
+/// Each frame as a range of combine's, which wants a window that has all of it.
+fn range(bytes: &[u8], piece: usize) -> u64 {
     use combine::parser::range::take;
     use combine::Parser;
     let mut tally = Tally::default();

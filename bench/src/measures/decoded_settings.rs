@@ -11,7 +11,13 @@ pub const MEASURE: Measure = Measure {
     what: "`WORD=DIGITS;`, word and digits in vectors, by a `Decoder`",
     input: inputs::settings,
     pieces: DECODED,
-    sides: &[("hand", hand), ("combine", combine), ("combine by decode", combine_by_decode), ("nom", nom)],
+    sides: &[
+        ("hand", hand),
+        ("combine", combine),
+        ("combine by decode", combine_by_decode),
+        ("range", range),
+        ("nom", nom),
+    ],
 };
 
 /// A word and its digits.
@@ -106,6 +112,21 @@ fn setting<I: combine::Stream<Token = u8>>() -> impl combine::Parser<I, Output =
     use combine::{many1, satisfy, token, Parser};
     (many1(satisfy(is_lower)), token(b'='), many1(satisfy(is_digit)), token(b';'))
         .map(|(word, _, digits, _)| Setting { word, digits })
+}
+
+/// The word and the digits as ranges of combine's, each of which wants a window that has all of it.
+fn range(bytes: &[u8], piece: usize) -> u64 {
+    use combine::parser::range::take_while1;
+    use combine::{token, Parser};
+    let mut tally = Tally::default();
+    let setting = (take_while1(is_lower), token(b'='), take_while1(is_digit), token(b';'))
+        .map(|(word, _, digits, _): (&[u8], _, &[u8], _)| Setting { word: word.to_vec(), digits: digits.to_vec() });
+    let taken = by_combine::each(setting, bytes, size_of(bytes, piece), |setting| setting.add_to(&mut tally));
+    if taken == Some(bytes.len()) {
+        tally.sum
+    } else {
+        REFUSED
+    }
 }
 
 fn nom(bytes: &[u8], piece: usize) -> u64 {

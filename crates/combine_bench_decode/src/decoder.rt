@@ -25,7 +25,7 @@ impl Way for ByDecoder {
         P::Output: Told,
     {
         let mut decoder = Decoder::new(alloc, maker);
-        let mut tally = Tally { sum: 0 };
+        let mut tally = Tally::none();
         let mut rest = bytes;
         'pieces: while !rest.is_empty() {
             let (piece, later) = cut(rest, size);
@@ -33,23 +33,11 @@ impl Way for ByDecoder {
             let Ok(batch) = decoder.feed(piece) else {
                 return Err(Failure::Fault);
             };
-            add_all(&mut tally, batch.messages);
+            tally.add_all(batch.messages);
             let BatchEnd::More = batch.end else {
                 return Err(Failure::Refused);
             };
         }
-        if decoder.at_boundary() {
-            Ok(tally.sum)
-        } else {
-            Err(Failure::Refused)
-        }
-    }
-}
-
-/// Adds messages, and drops them.
-#[inline]
-fn add_all<V: Told + Drop>(tally: &mut Tally, messages: Vec<V>) {
-    for message in messages {
-        message.tell(tally);
+        tally.if_all(decoder.at_boundary())
     }
 }

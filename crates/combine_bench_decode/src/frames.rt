@@ -2,7 +2,7 @@
 
 use crate::decoder::ByDecoder;
 use crate::messages::{Way, number};
-use crate::session::BySession;
+use crate::session::{BySession, BySessionByPiece};
 use combine_decode::decode::frame;
 use std::alloc::Global;
 
@@ -27,4 +27,14 @@ pub extern "C" fn combine_bench_decoded_frames_by_session(
     piece: usize,
 ) -> u64 {
     sum_frames(alloc, BySession, bytes, piece)
+}
+
+/// Takes frames out of a session, those of a piece together; answers their sum.
+#[unsafe(no_mangle)]
+pub extern "C" fn combine_bench_decoded_frames_by_session_by_piece(
+    alloc: Global,
+    bytes: &[u8],
+    piece: usize,
+) -> u64 {
+    sum_frames(alloc, BySessionByPiece, bytes, piece)
 }

@@ -12,6 +12,10 @@ use std::alloc::Global;
 #[derive(Drop)]
 pub(crate) struct BySession;
 
+/// The messages of a piece together, as a decoder gives them.
+#[derive(Drop)]
+pub(crate) struct BySessionByPiece;
+
 impl Way for BySession {
     #[inline(always)]
     fn sum<F: Fn() -> P + Drop, P: Parser<fed::Stream<u8>> + Drop>(
@@ -25,44 +29,68 @@ impl Way for BySession {
         P::Output: Told,
     {
         let mut session = Session::new(alloc, maker());
-        let mut summed = Summed {
-            tally: Tally { sum: 0 },
-            taken: 0,
-        };
+        let mut tally = Tally::none();
+        let mut taken = 0;
         let mut rest = bytes;
         'pieces: while !rest.is_empty() {
             let (piece, later) = cut(rest, size);
             rest = later;
-            feed(&mut session, &maker, piece, &mut summed)?;
+            let add = |message: P::Output| {
+                message.tell(&mut tally);
+                Ok(())
+            };
+            feed(&mut session, &maker, piece, &mut taken, add)?;
         }
-        if summed.taken == bytes.len() as u64 {
-            Ok(summed.tally.sum)
-        } else {
-            Err(Failure::Refused)
-        }
+        tally.if_all(taken == bytes.len() as u64)
     }
 }
 
-/// The messages so far.
-#[derive(Drop)]
-struct Summed {
-    tally: Tally,
-    /// How many bytes they took.
-    taken: u64,
+impl Way for BySessionByPiece {
+    #[inline(always)]
+    fn sum<F: Fn() -> P + Drop, P: Parser<fed::Stream<u8>> + Drop>(
+        self,
+        alloc: Global,
+        maker: F,
+        bytes: &[u8],
+        size: usize,
+    ) -> Result<u64, Failure>
+    where
+        P::Output: Told,
+    {
+        let mut session = Session::new(alloc, maker());
+        let mut tally = Tally::none();
+        let mut taken = 0;
+        let mut rest = bytes;
+        'pieces: while !rest.is_empty() {
+            let (piece, later) = cut(rest, size);
+            rest = later;
+            let mut messages = Vec::new(alloc);
+            let push = |message: P::Output| messages
+                .push(message)
+                .map_err(|_refused| Failure::Fault);
+            feed(&mut session, &maker, piece, &mut taken, push)?;
+            tally.add_all(messages);
+        }
+        tally.if_all(taken == bytes.len() as u64)
+    }
 }
 
-/// Feeds a piece, and adds the messages that it completes. They end at what is none, or takes nothing.
+/// Feeds a piece, hands on the messages that it completes, and adds how many bytes they took. They end at what is none, or takes nothing.
 #[inline(always)]
-fn feed<F: Fn() -> P + Drop, P: Parser<fed::Stream<u8>> + Drop>(
+fn feed<
+    F: Fn() -> P + Drop,
+    P: Parser<fed::Stream<u8>> + Drop,
+    G: FnMut(P::Output) -> Result<(), Failure> + Drop,
+>(
     session: &mut Session<P, u8>,
     maker: &F,
     piece: &[u8],
-    summed: &mut Summed,
+    taken: &mut u64,
+    mut give: G,
 ) -> Result<(), Failure>
-where
-    P::Output: Told,
     requires callable { F.IsAlwaysCallable maker.now }
     requires lawful { IsMade (F.post maker.now) P.lawful }
+    requires giver { G.IsAlwaysCallable give }
 {
     let Ok(mut answer) = session.feed(piece) else {
         return Err(Failure::Fault);
@@ -71,14 +99,14 @@ where
     'messages: for _message in 0..=session.unread().len() {
         let Answer::Accepted {
             value,
-            taken: taken @ 1..,
+            taken: bytes @ 1..,
             ..
         } = answer
         else {
             break;
         };
-        value.tell(&mut summed.tally);
-        summed.taken = summed.taken.wrapping_add(taken);
+        *taken = taken.wrapping_add(bytes);
+        give(value)?;
         let Ok(next) = session.begin_again(maker()) else {
             return Err(Failure::Fault);
         };

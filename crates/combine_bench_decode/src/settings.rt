@@ -2,7 +2,7 @@
 
 use crate::decoder::ByDecoder;
 use crate::messages::{Way, number};
-use crate::session::BySession;
+use crate::session::{BySession, BySessionByPiece};
 use combine_repeat::repeat::many1;
 use combine_text::byte::{digit, lower};
 use combine_token::token::token;
@@ -34,4 +34,14 @@ pub extern "C" fn combine_bench_decoded_settings_by_session(
     piece: usize,
 ) -> u64 {
     sum_settings(alloc, BySession, bytes, piece)
+}
+
+/// Takes settings out of a session, those of a piece together; answers their sum.
+#[unsafe(no_mangle)]
+pub extern "C" fn combine_bench_decoded_settings_by_session_by_piece(
+    alloc: Global,
+    bytes: &[u8],
+    piece: usize,
+) -> u64 {
+    sum_settings(alloc, BySessionByPiece, bytes, piece)
 }

@@ -1,12 +1,20 @@
 //! What messages are summed up in.
 
+use crate::messages::Failure;
+
 /// The sum of what messages hold.
 #[derive(Drop)]
 pub(crate) struct Tally {
-    pub(crate) sum: u64,
+    sum: u64,
 }
 
 impl Tally {
+    /// That of no messages.
+    #[inline]
+    pub(crate) fn none() -> Tally {
+        Tally { sum: 0 }
+    }
+
     /// Adds what a vector holds.
     #[inline]
     fn add(&mut self, kept: &[u8]) {
@@ -20,10 +28,28 @@ impl Tally {
             .wrapping_add(kept.len() as u64)
             .wrapping_add(last);
     }
+
+    /// Adds messages, and drops them.
+    #[inline]
+    pub(crate) fn add_all<V: Told>(&mut self, messages: Vec<V>) {
+        for message in messages {
+            message.tell(self);
+        }
+    }
+
+    /// The sum, if the messages are all that there is.
+    #[inline]
+    pub(crate) fn if_all(self, are_all: bool) -> Result<u64, Failure> {
+        if are_all {
+            Ok(self.sum)
+        } else {
+            Err(Failure::Refused)
+        }
+    }
 }
 
 /// A message that is summed up.
-pub(crate) trait Told {
+pub(crate) trait Told: Drop {
     /// Adds what it holds.
     fn tell(&self, tally: &mut Tally);
 }
