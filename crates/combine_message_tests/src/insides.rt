@@ -1,5 +1,5 @@
 //! Parsers that say what the parser inside says, and parsers that say nothing of it.
-ghost use Rattle.std.specs.Prelude.{◌≡◌, IfErr, ⊥};
+ghost use Rattle.std.specs.Prelude.{◌≡◌, IfErr};
 
 use combine_base::error::ParseError;
 use combine_base::repeat::Sink;
