@@ -14,8 +14,6 @@ mod plain;
 #[cfg(test)]
 mod rows;
 #[cfg(test)]
-mod stable;
-#[cfg(test)]
 mod streams;
 #[cfg(test)]
 mod tables;
