@@ -30,7 +30,7 @@ use combine_variants::variants::Either;
 ///
 /// In the crate they are methods of `Parser` itself.
 pub trait ParserExt<Input: Stream>: Parser<Input> {
-    /// The parser by reference, which means what it means.
+    /// Lends the parser, which means what it means.
     final fn by_ref(&mut self) -> &mut Self
     where
         Self: Sized,
@@ -40,7 +40,7 @@ pub trait ParserExt<Input: Stream>: Parser<Input> {
         self
     }
 
-    /// This parser and then another: the pair of both values.
+    /// Runs this parser and then another: the value is the pair of both values.
     final fn and<Q>(self, other: Q) -> (Self, Q)
     where
         Self: Sized,
@@ -49,7 +49,7 @@ pub trait ParserExt<Input: Stream>: Parser<Input> {
         (self, other)
     }
 
-    /// This parser and then another: the value of the other.
+    /// Runs this parser and then another, with the value of the other.
     final fn with<Q, B>(self, other: Q) -> With<Self, Q, B>
     where
         Self: Sized,
@@ -58,7 +58,7 @@ pub trait ParserExt<Input: Stream>: Parser<Input> {
         sequence::with(self, other)
     }
 
-    /// This parser and then another: the value of this one.
+    /// Runs this parser and then another, with the value of this one.
     final fn skip<Q, A>(self, other: Q) -> Skip<Self, Q, A>
     where
         Self: Sized,
@@ -67,7 +67,7 @@ pub trait ParserExt<Input: Stream>: Parser<Input> {
         sequence::skip(self, other)
     }
 
-    /// This parser and then the one that the function answers for its value.
+    /// Runs this parser and then the one that the function answers for its value.
     final fn then<F, B>(self, f: F) -> Then<Self, F, B>
     where
         Self: Sized,
@@ -76,7 +76,7 @@ pub trait ParserExt<Input: Stream>: Parser<Input> {
         sequence::then(self, f)
     }
 
-    /// This parser and then the one that the function answers for a mutable reference to its value.
+    /// Runs this parser and then the one that the function answers for a mutable reference to its value.
     final fn then_partial<F, B>(self, f: F) -> ThenPartial<Self, F, B>
     where
         Self: Sized,
@@ -85,7 +85,7 @@ pub trait ParserExt<Input: Stream>: Parser<Input> {
         sequence::then_partial(self, f)
     }
 
-    /// This parser and then the one that the function answers for a reference to its value: the pair of both values.
+    /// Runs this parser and then the one that the function answers for a reference to its value: the value is the pair of both values.
     final fn then_ref<F, B>(self, f: F) -> ThenRef<Self, F, B>
     where
         Self: Sized,
@@ -94,7 +94,7 @@ pub trait ParserExt<Input: Stream>: Parser<Input> {
         sequence::then_ref(self, f)
     }
 
-    /// This parser, or the other where it is refused peeked.
+    /// Runs this parser, or the other where it is refused peeked.
     final fn or<Q>(self, other: Q) -> Or<Self, Q>
     where
         Self: Sized,
@@ -103,7 +103,7 @@ pub trait ParserExt<Input: Stream>: Parser<Input> {
         choice::or(self, other)
     }
 
-    /// This parser as the left one of two.
+    /// Makes this parser the left one of two.
     final fn left<R>(self) -> Either<Self, R>
     where
         Self: Sized,
@@ -112,7 +112,7 @@ pub trait ParserExt<Input: Stream>: Parser<Input> {
         Either::Left(self)
     }
 
-    /// This parser as the right one of two.
+    /// Makes this parser the right one of two.
     final fn right<L>(self) -> Either<L, Self>
     where
         Self: Sized,
@@ -121,7 +121,7 @@ pub trait ParserExt<Input: Stream>: Parser<Input> {
         Either::Right(self)
     }
 
-    /// This parser with its value changed or refused by the function, which answers what its error says.
+    /// Changes or refuses the value of this parser by the function, which answers what its error says.
     final fn and_then<F, B>(self, f: F) -> AndThen<Self, F, B>
     where
         Self: Sized,
@@ -130,7 +130,7 @@ pub trait ParserExt<Input: Stream>: Parser<Input> {
         changes::and_then(self, f)
     }
 
-    /// This parser with its value changed or refused by the function, which answers the error.
+    /// Changes or refuses the value of this parser by the function, which answers the error.
     final fn flat_map<F, B>(self, f: F) -> FlatMap<Self, F, B>
     where
         Self: Sized,
@@ -139,7 +139,7 @@ pub trait ParserExt<Input: Stream>: Parser<Input> {
         changes::flat_map(self, f)
     }
 
-    /// This parser with its value changed by the function, which is given the stream too.
+    /// Changes the value of this parser by the function, which is given the stream too.
     final fn map_input<F, B>(self, f: F) -> MapInput<Self, F, B>
     where
         Self: Sized,
@@ -148,7 +148,7 @@ pub trait ParserExt<Input: Stream>: Parser<Input> {
         changes::map_input(self, f)
     }
 
-    /// This parser, whose refusals also say this.
+    /// Adds this to what the refusals of this parser say.
     final fn message<I>(self, info: I) -> Message<Self, Info<Input::Token, Input::Range>>
     where
         Self: Sized,
@@ -158,7 +158,7 @@ pub trait ParserExt<Input: Stream>: Parser<Input> {
         error::message(self, info)
     }
 
-    /// This parser, of which errors say that this was expected.
+    /// Says in errors of this parser that this was expected.
     final fn expected<I>(self, info: I) -> Expected<Self, Info<Input::Token, Input::Range>>
     where
         Self: Sized,
@@ -168,7 +168,7 @@ pub trait ParserExt<Input: Stream>: Parser<Input> {
         error::expected(self, info)
     }
 
-    /// This parser, of which errors don't say what was expected.
+    /// Keeps errors of this parser from saying what was expected.
     final fn silent(self) -> Silent<Self>
     where
         Self: Sized,
@@ -177,7 +177,7 @@ pub trait ParserExt<Input: Stream>: Parser<Input> {
         error::silent(self)
     }
 
-    /// This parser, whose errors stand at the span that it read.
+    /// Makes the errors of this parser stand at the span that it read.
     final fn spanned(self) -> Spanned<Self>
     where
         Self: Sized,
@@ -186,7 +186,7 @@ pub trait ParserExt<Input: Stream>: Parser<Input> {
         spans::spanned(self)
     }
 
-    /// This parser with its value changed by the function.
+    /// Changes the value of this parser by the function.
     final fn map<F, B>(self, f: F) -> Map<Self, F, B>
     where
         Self: Sized,
@@ -195,7 +195,7 @@ pub trait ParserExt<Input: Stream>: Parser<Input> {
         combinator::map(self, f)
     }
 
-    /// The values of this parser, one after another, on a stream that is lent, with a state that is lent. The first turn begins afresh.
+    /// Gives the values of this parser, one after another, on a stream that is lent, with a state that is lent. The first turn begins afresh. The parser is lawful, and the state one that it keeps.
     final fn iter<'a>(
         self,
         input: &'a mut Input,
@@ -212,7 +212,7 @@ pub trait ParserExt<Input: Stream>: Parser<Input> {
         self.partial_iter(FirstMode, input, state)
     }
 
-    /// The values of this parser, one after another, on a stream that is lent, with a state that is lent. The first turn begins afresh or goes on from the state, as the mode says.
+    /// Gives the values of this parser, one after another, on a stream that is lent, with a state that is lent. The first turn begins afresh or goes on from the state, as the mode says. The parser is lawful, and the state one that it keeps.
     final fn partial_iter<'a, M: ParseMode>(
         self,
         mode: M,

@@ -19,7 +19,7 @@ pub trait ParseMode: Copy {
     /// The modes that begin afresh.
     ghost first: { Self → Bool };
 
-    /// Whether the call begins afresh.
+    /// Returns whether the call begins afresh.
     fn is_first(self) -> bool
         ensures { result ≡ first self };
 
@@ -133,7 +133,7 @@ pub trait Parser<Input: Stream>: Outputs<Input> {
         ensures same { MeansSame (meaning self.old) (meaning self.new) }
         ensures says { Says Input.Error.seen (meaning self.old).lean (meaning self.old).adds error.old.error error.new.error };
 
-    /// How many parsers are run one after another, at most 255.
+    /// Returns how many parsers are run one after another, at most 255.
     fn parser_count(&self) -> ErrorOffset
         ensures { result.0 ≡ parts self.now };
 
@@ -160,7 +160,7 @@ pub trait Parser<Input: Stream>: Outputs<Input> {
         Ok(())
     }
 
-    /// As `parse_mode`; a peeked refusal is put back and explained.
+    /// Parses as `parse_mode` does, and puts a peeked refusal back and explains it.
     #[inline(always)]
     final fn parse_explained<M: ParseMode>(
         &mut self,
@@ -236,7 +236,7 @@ pub trait Parser<Input: Stream>: Outputs<Input> {
         self.parse_mode(PartialMode::default(), input, state)
     }
 
-    /// From the start; a refusal is left as it is.
+    /// Parses from the start, and leaves a refusal as it is.
     final fn parse_lazy(&mut self, input: &mut Input) -> ParseResult<Self::Output, Input::Error>
         requires { lawful self.old }
         ensures lawful { lawful self.new }
@@ -250,7 +250,7 @@ pub trait Parser<Input: Stream>: Outputs<Input> {
         self.parse_mode(FirstMode, input, &mut state)
     }
 
-    /// From the start. On a peeked refusal the stream is put back and the error says which token stands there and what was expected.
+    /// Parses from the start. On a peeked refusal the stream is put back and the error says which token stands there and what was expected.
     final fn parse_stream(&mut self, input: &mut Input) -> ParseResult<Self::Output, Input::Error>
         requires { lawful self.old }
         ensures lawful { lawful self.new }

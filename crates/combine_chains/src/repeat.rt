@@ -15,7 +15,7 @@ use std::alloc::Global;
 use std::marker::PhantomData;
 use types::{Chainr1, Escaped, RightFold};
 
-/// `parser`, and then turns of `operator` and `parser`: the values folded from the right, by the functions that `operator` gives.
+/// Parses as `parser`, and then by turns as `operator` and `parser`: folds the values from the right, by the functions that `operator` gives.
 ///
 /// It takes and answers as `sep_by1`: an operator without a right operand is refused, committed if the operator was, and else put back, and the chain ends; the crate's drops the operator, and accepts. The functions must be such that they can always be called. The operands are held in memory that it asks for, and not on the call stack. On need of more everything is put back, and the next call begins again. Where the memory isn't found the answer is the committed fault `Memory`.
 #[inline]
@@ -32,7 +32,7 @@ pub fn chainr1<P, S>(alloc: Global, parser: P, operator: S) -> Chainr1<P, S>
     })
 }
 
-/// Turns of `parser`, or, where it is refused peeked, of the token `escape` and then `escaped`; the values are dropped.
+/// Runs turns of `parser`, or, where it is refused peeked, of the token `escape` and then `escaped`; drops the values.
 ///
 /// Where `parser` is refused peeked, another token or the end of ended input ends the turns, accepted, committed exactly if there was a turn. Behind the token a refusal of `escaped` is committed. A committed refusal of `parser` is the answer, and so is need of more; then the state keeps whether a turn committed, and the part that runs. It is `skip_many` of a choice, and adds to an error what `parser` adds, and then that `escape` was expected.
 #[inline]

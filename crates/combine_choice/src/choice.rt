@@ -52,7 +52,7 @@ pub trait ChoiceParser<Input: Stream>: ChoiceOutputs<Input> {
     /// What error a refusal may have, committed or not, of a call that begins afresh (`None`) or from that state, on a view.
     ghost refuses: { Self → Option Self.PartialState → View Input.Position Input.Token → Bool → Input.Error → Type 0 };
 
-    /// The choice, afresh or from the kept state. It answers as `parse_mode` of a parser does.
+    /// Chooses, afresh or from the kept state. It answers as `parse_mode` of a parser does.
     fn parse_mode_choice<M: ParseMode>(
         &mut self,
         mode: M,
@@ -71,14 +71,14 @@ pub trait ChoiceParser<Input: Stream>: ChoiceOutputs<Input> {
             result }
         ensures refuses { Reasoned Input.Error.seen.kind (Input.view input.new).is_open (refuses self.old (kept_from (M.first mode) state.old) (Input.view input.old)) result };
 
-    /// What each alternative adds to an error, in order.
+    /// Adds to an error what each alternative adds, in order.
     fn add_error_choice(&mut self, error: &mut Tracked<Input::Error>)
         requires { lawful self.old }
         ensures lawful { lawful self.new }
         ensures same { MeansSame (meaning self.old) (meaning self.new) }
         ensures says { Says Input.Error.seen (meaning self.old).lean (meaning self.old).adds error.old.error error.new.error };
 
-    /// As from a default state, whatever the state held.
+    /// Chooses as from a default state, whatever the state held.
     final fn parse_first(
         &mut self,
         input: &mut Input,
@@ -167,7 +167,7 @@ impl<'a, Input: Stream, P: ChoiceParser<Input>> ChoiceParser<Input> for &'a mut 
     }
 }
 
-/// The choice of alternatives that stand in a tuple of 1 to 8 parsers, an array, or a `Slice`: the answer of the first that isn't refused peeked. Where all are refused peeked so is the choice, and their errors are merged in order.
+/// Chooses among alternatives that stand in a tuple of 1 to 8 parsers, an array, or a `Slice`: answers as the first that isn't refused peeked. Where all are refused peeked so is the choice, and their errors are merged in order.
 ///
 /// Each alternative begins where the choice did, with a state of its own. A committed refusal ends the choice, and so does a fault. On need of more the running alternative is kept; where it is then refused peeked, the later ones are still tried, which the crate's choice doesn't do. Of an empty array or slice the choice is refused peeked, with the message `parser choice is empty`, also where more input may come. Two faults are the choice's own: `Reset`, where the stream can't be put back, and `Memory`, where an item of an error finds none.
 #[inline]

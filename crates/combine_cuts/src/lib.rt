@@ -11,7 +11,7 @@ use combine_base::stream::{Kind, Positioned, Stream as AnyStream, StreamOnce};
 use combine_stream::MaybePartialStream;
 use combine_stream::position::{DefaultPositioned, Stream, Windowed};
 
-/// Whether cuts don't fall, and each is a place of the input: none passes the end, and none is inside a character.
+/// Returns whether the cuts don't fall, and each is a place of the input: none passes the end, and none is inside a character.
 pub fn cuts_fit<S: Windowed>(whole: S, cuts: &[usize]) -> bool
     ensures { (result ≡ true) ↔ Fit (S.places whole) cuts.now }
 {
@@ -87,7 +87,7 @@ fn parse_window<S: Windowed, P: Parser<MaybePartialStream<Stream<S, S::Placed>>>
     )
 }
 
-/// Parses a whole input window by window: each goes from the first unread token to the next cut and is open, and the last goes to the end, ended. It stops at the first decision; the number says how many windows asked for more. No window begins again: the state and the position go on.
+/// Parses a whole input window by window: each goes from the first unread token to the next cut and is open, and the last goes to the end, ended. The cuts have to fit, as `cuts_fit` says. It stops at the first decision; the number says how many windows asked for more. No window begins again: the state and the position go on.
 ///
 /// The answer is that of the whole input, and more is asked for exactly where what stands before the cut is undecided. The one fault is `Memory`.
 pub fn parse_cuts<S: Windowed, P: Parser<MaybePartialStream<Stream<S, S::Placed>>>>(

@@ -84,7 +84,7 @@ impl<F: Fn() -> P, P: Parser<fed::Stream<T>>, T: Copy + 'static> Decoder<F, P, T
 
     /// Returns a decoder that was fed nothing yet, of messages that the maker's parsers read.
     ///
-    /// The maker is called here, and then behind each message.
+    /// The maker is called here, and then behind each message: it may always be called, and each parser that it answers is lawful.
     ///
     /// # Errors
     ///
@@ -203,7 +203,7 @@ impl BatchEnd {
     }
 }
 
-/// A message behind its length, a number of two bytes, the highest first: the bytes of the message are the value. Our own.
+/// Takes a message behind its length, a number of two bytes, the highest first: the bytes of the message are the value. Our own.
 ///
 /// It is `be_u16`, and then that many bytes by `count_min_max` of `any`. Room is had as bytes come: a length takes room for no more than 1,024 of them at once.
 ///

@@ -7,7 +7,7 @@ pub mod types;
 use combine_base::error::Info;
 use types::{Expected, Message, Silent};
 
-/// As `parser`, but its refusals also say this.
+/// Parses as `parser`, but its refusals also say this.
 ///
 /// The message is added to the error of a committed refusal, and where a peeked refusal is explained after what `parser` adds. Faults and need of more stay as they are; the crate adds it to them too. A message that finds no memory makes it the committed fault `Memory`.
 #[inline]
@@ -22,7 +22,7 @@ where
     }
 }
 
-/// As `parser`, but where a peeked refusal is explained it says that this was expected, in place of what `parser` says was expected.
+/// Parses as `parser`, but where a peeked refusal is explained it says that this was expected, in place of what `parser` says was expected.
 ///
 /// What else `parser` adds stays, and so does all that the error said before. A committed refusal, a fault and need of more stay as they are. An item that finds no memory makes it the committed fault `Memory`.
 #[inline]
@@ -37,7 +37,7 @@ where
     }
 }
 
-/// As `parser`, but its refusals, committed or peeked, no longer say what was expected, and nothing is added where a peeked one is explained.
+/// Parses as `parser`, but its refusals, committed or peeked, no longer say what was expected, and nothing is added where a peeked one is explained.
 ///
 /// What else the errors say stays. Faults and need of more stay as they are; the crate clears them too.
 #[inline]

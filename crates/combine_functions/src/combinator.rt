@@ -13,7 +13,7 @@ use std::marker::PhantomData;
 pub use text::StrLike;
 use types::{AndThen, FlatMap, FromStr, MapInput};
 
-/// As `p`, its value changed by `f`, or refused where `f` answers an error.
+/// Parses as `p`, and changes its value by `f`, or refuses it where `f` answers an error.
 ///
 /// What is taken, refusals, faults and need of more are those of `p`, and so is the state. A refusal by `f` is committed where `p` was; the tokens of `p` stay taken, also at the end of an open piece (the crate's puts them back there, committed). Its error stands at the position before `p`, and says what `f` answered. An error of `f` of kind `Memory`, or an item that finds no memory, is that fault. `f` answers errors of the kinds `Refused` and `Memory` alone, and need only be callable on the values that `p` gives; it is an `Fn`, where the crate takes an `FnMut`.
 #[inline]
@@ -23,7 +23,7 @@ pub fn and_then<P, F, B>(p: P, f: F) -> AndThen<P, F, B>
     Changed::new(p, Trying(f))
 }
 
-/// As `p`, its value changed by `f`, or refused with the error that `f` answers.
+/// Parses as `p`, and changes its value by `f`, or refuses it with the error that `f` answers.
 ///
 /// What is taken, refusals, faults and need of more are those of `p`, and so is the state. A refusal by `f` is committed where `p` was; the tokens of `p` stay taken. An error of `f` of kind `Memory` is that fault; `f` answers errors of the kinds `Refused` and `Memory` alone, and need only be callable on the values that `p` gives; it is an `Fn`, where the crate takes an `FnMut`.
 #[inline]
@@ -33,7 +33,7 @@ pub fn flat_map<P, F, B>(p: P, f: F) -> FlatMap<P, F, B>
     Changed::new(p, Answering(f))
 }
 
-/// As `p`, its value changed by `f`, which is given the stream too, as `p` left it.
+/// Parses as `p`, and changes its value by `f`, which is given the stream too, as `p` left it.
 ///
 /// What is taken, refusals, faults and need of more are those of `p`, and so is the state. `f` leaves the stream in place, and need only be callable on the values that `p` gives; it is an `Fn`, where the crate takes an `FnMut`.
 #[inline]
@@ -43,7 +43,7 @@ pub fn map_input<P, F, B>(p: P, f: F) -> MapInput<P, F, B>
     Changed::new(p, Seeing(f))
 }
 
-/// As `p`, whose value is a text, read as a `T` by its `FromStr`.
+/// Parses as `p`, whose value is a text, and reads it as a `T` by its `FromStr`.
 ///
 /// What is taken, refusals, faults and need of more are those of `p`, and so is the state. Bytes that aren't UTF-8 are refused with `UTF-8` said to be expected, and a text that is no `T` with the message `invalid value` (the crate's is that of the error of `T`): committed where `p` was, with the tokens of `p` taken and the error at the position before `p`. An item that finds no memory is the fault `Memory`.
 #[inline]

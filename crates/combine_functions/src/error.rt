@@ -18,7 +18,7 @@ pub fn unexpected<Input: StreamOnce, S: Into<Info<Input::Token, Input::Range>>>(
     unexpected_any(message)
 }
 
-/// As `unexpected`, with whatever value the place asks for.
+/// Refuses as `unexpected` does, with whatever value the place asks for.
 pub fn unexpected_any<Input: StreamOnce, S: Into<Info<Input::Token, Input::Range>>, V>(
     message: S,
 ) -> Unexpected<Input, V, Info<Input::Token, Input::Range>>

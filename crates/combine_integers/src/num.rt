@@ -10,7 +10,7 @@ pub mod types;
 use crate::whole::whole_number;
 use types::{BeI16, BeI32, BeI64, BeU16, BeU32, BeU64, LeI16, LeI32, LeI64, LeU16, LeU32, LeU64};
 
-/// Two bytes, the highest first.
+/// Takes two bytes, the highest first.
 #[inline]
 pub fn be_u16<Input>() -> BeU16<Input>
     ensures { result ≡ number_parser }
@@ -18,7 +18,7 @@ pub fn be_u16<Input>() -> BeU16<Input>
     whole_number()
 }
 
-/// Two bytes, the lowest first.
+/// Takes two bytes, the lowest first.
 #[inline]
 pub fn le_u16<Input>() -> LeU16<Input>
     ensures { result ≡ number_parser }
@@ -26,7 +26,7 @@ pub fn le_u16<Input>() -> LeU16<Input>
     whole_number()
 }
 
-/// Two bytes, the highest first; the number less 256^2 where it is at least half of that.
+/// Takes two bytes, the highest first; the value is the number less 256^2 where it is at least half of that.
 #[inline]
 pub fn be_i16<Input>() -> BeI16<Input>
     ensures { result ≡ number_parser }
@@ -34,7 +34,7 @@ pub fn be_i16<Input>() -> BeI16<Input>
     whole_number()
 }
 
-/// Two bytes, the lowest first; the number less 256^2 where it is at least half of that.
+/// Takes two bytes, the lowest first; the value is the number less 256^2 where it is at least half of that.
 #[inline]
 pub fn le_i16<Input>() -> LeI16<Input>
     ensures { result ≡ number_parser }
@@ -42,7 +42,7 @@ pub fn le_i16<Input>() -> LeI16<Input>
     whole_number()
 }
 
-/// Four bytes, the highest first.
+/// Takes four bytes, the highest first.
 #[inline]
 pub fn be_u32<Input>() -> BeU32<Input>
     ensures { result ≡ number_parser }
@@ -50,7 +50,7 @@ pub fn be_u32<Input>() -> BeU32<Input>
     whole_number()
 }
 
-/// Four bytes, the lowest first.
+/// Takes four bytes, the lowest first.
 #[inline]
 pub fn le_u32<Input>() -> LeU32<Input>
     ensures { result ≡ number_parser }
@@ -58,7 +58,7 @@ pub fn le_u32<Input>() -> LeU32<Input>
     whole_number()
 }
 
-/// Four bytes, the highest first; the number less 256^4 where it is at least half of that.
+/// Takes four bytes, the highest first; the value is the number less 256^4 where it is at least half of that.
 #[inline]
 pub fn be_i32<Input>() -> BeI32<Input>
     ensures { result ≡ number_parser }
@@ -66,7 +66,7 @@ pub fn be_i32<Input>() -> BeI32<Input>
     whole_number()
 }
 
-/// Four bytes, the lowest first; the number less 256^4 where it is at least half of that.
+/// Takes four bytes, the lowest first; the value is the number less 256^4 where it is at least half of that.
 #[inline]
 pub fn le_i32<Input>() -> LeI32<Input>
     ensures { result ≡ number_parser }
@@ -74,7 +74,7 @@ pub fn le_i32<Input>() -> LeI32<Input>
     whole_number()
 }
 
-/// Eight bytes, the highest first.
+/// Takes eight bytes, the highest first.
 #[inline]
 pub fn be_u64<Input>() -> BeU64<Input>
     ensures { result ≡ number_parser }
@@ -82,7 +82,7 @@ pub fn be_u64<Input>() -> BeU64<Input>
     whole_number()
 }
 
-/// Eight bytes, the lowest first.
+/// Takes eight bytes, the lowest first.
 #[inline]
 pub fn le_u64<Input>() -> LeU64<Input>
     ensures { result ≡ number_parser }
@@ -90,7 +90,7 @@ pub fn le_u64<Input>() -> LeU64<Input>
     whole_number()
 }
 
-/// Eight bytes, the highest first; the number less 256^8 where it is at least half of that.
+/// Takes eight bytes, the highest first; the value is the number less 256^8 where it is at least half of that.
 #[inline]
 pub fn be_i64<Input>() -> BeI64<Input>
     ensures { result ≡ number_parser }
@@ -98,7 +98,7 @@ pub fn be_i64<Input>() -> BeI64<Input>
     whole_number()
 }
 
-/// Eight bytes, the lowest first; the number less 256^8 where it is at least half of that.
+/// Takes eight bytes, the lowest first; the value is the number less 256^8 where it is at least half of that.
 #[inline]
 pub fn le_i64<Input>() -> LeI64<Input>
     ensures { result ≡ number_parser }

@@ -20,7 +20,7 @@ use std::alloc::Global;
 use std::marker::PhantomData;
 use types::Iterate;
 
-/// For each item of a list, in order, the parser that `f` answers for it; the values are collected in order.
+/// Runs for each item of a list, in order, the parser that `f` answers for it, and collects the values in order.
 ///
 /// An iterator of a clone of the list gives the items; a clone that finds no memory is the fault `Memory`. `f` is asked once for each item, where its turn comes, and leaves the stream in place: on need of more the state keeps the parser that it answered, the values so far and the items that are left. No items are accepted peeked, and so are items whose parsers are all accepted peeked. A refusal of a parser is the answer; a peeked one behind the first item is put back to where that parser began, and says what stands there and what that parser expects; it is committed if an earlier item was. Every parser that `f` may answer has to be lawful.
 ///
@@ -88,7 +88,7 @@ pub struct Iter<'a, Input: Stream, P: Parser<Input>, M> {
 }
 
 impl<'a, Input: Stream, P: Parser<Input>, M: ParseMode> Iter<'a, Input, P, M> {
-    /// An iterator whose first turn begins afresh or goes on from the state, as the mode says. It takes no memory.
+    /// Makes an iterator whose first turn begins afresh or goes on from the state, as the mode says. It takes no memory. The parser is lawful, and the state one that it keeps.
     pub fn new(
         parser: P,
         mode: M,
@@ -111,7 +111,7 @@ impl<'a, Input: Stream, P: Parser<Input>, M: ParseMode> Iter<'a, Input, P, M> {
         }
     }
 
-    /// The value as what the turns answer: accepted, committed exactly if a value was given, where they go on or ended at a peeked refusal. Else the error at which they ended, committed.
+    /// Answers with the value as the turns do: accepted, committed exactly if a value was given, where they go on or ended at a peeked refusal. Else the error at which they ended, committed.
     pub fn into_result<O: Drop>(self, value: O) -> StdParseResult<O, Input>
     where
         P: Drop,

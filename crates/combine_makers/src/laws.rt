@@ -9,7 +9,7 @@ use combine_base::error::ParseResult;
 use combine_base::parser::{FirstMode, Parser};
 use combine_base::stream::Stream;
 
-/// Parses from the start as the parser that the maker of a `factory` answers for this very stream.
+/// Parses from the start as the parser that the maker of a `factory` answers for this very stream. The `factory` is lawful: its maker may always be called, and what it answers is lawful.
 ///
 /// What `factory` means on a view allows for each stream that stands so, and for open beginnings of it; where the makers' parsers differ, that is more than one outcome. This says which is answered. Every call of a `factory` that begins afresh runs the same code.
 #[inline]

@@ -10,7 +10,7 @@ mod values;
 
 use types::{Ignore, LookAhead, Map, NoPartial, NotFollowedBy, Try};
 
-/// As `p`, its value changed by `f`.
+/// Parses as `p`, and changes its value by `f`.
 ///
 /// What is taken, refusals, faults and need of more are those of `p`, and so is the state. `f` need only be callable on the values that `p` gives. The crate takes an `FnMut`.
 #[inline]
@@ -20,7 +20,7 @@ pub fn map<P, F, B>(p: P, f: F) -> Map<P, F, B>
     Map::new(p, f)
 }
 
-/// As `p`, but every refusal is peeked, with the stream put back to where the parser began. Faults stay committed.
+/// Parses as `p`, but every refusal is peeked, with the stream put back to where the parser began. Faults stay committed.
 ///
 /// On need of more the stream is put back too, but `p` does not begin again: the state keeps the distance that was read, in tokens, and the state of `p`; the next call passes over that distance and goes on. (The crate's `attempt` takes the tokens.) Faults are those of `p`, `Reset` where the stream could not be put back, `Read` where the distance could not be read again, and `Lost` where the input is shorter than a kept distance.
 #[inline]
@@ -30,7 +30,7 @@ pub fn attempt<P>(p: P) -> Try<P>
     Try(p)
 }
 
-/// As `p`, with the value `()`.
+/// Parses as `p`, with the value `()`.
 ///
 /// What is taken, refusals, faults, need of more and the state are those of `p`.
 #[inline]
@@ -40,7 +40,7 @@ pub fn ignore<P>(p: P) -> Ignore<P>
     Ignore::new(p)
 }
 
-/// The value of `p`, accepted peeked, with the stream put back to where the parser began. What `p` refuses is refused alike.
+/// Gives the value of `p`, accepted peeked, with the stream put back to where the parser began. What `p` refuses is refused alike.
 ///
 /// On need of more the stream is put back too, and the next call begins again. Faults are those of `p`, and `Reset` where the stream could not be put back.
 #[inline]
@@ -50,7 +50,7 @@ pub fn look_ahead<P>(p: P) -> LookAhead<P>
     LookAhead(p)
 }
 
-/// Accepted peeked where `p` is refused, and refused peeked where `p` is accepted; the stream is put back to where the parser began.
+/// Accepts peeked where `p` is refused, and refuses peeked where `p` is accepted; the stream is put back to where the parser began.
 ///
 /// At the end of an open piece it is accepted only where `p` is refused there: else more is asked for, with the stream put back, and the next call begins again. A fault of `p` stays one; `Reset` where the stream could not be put back. The error of its refusal says nothing. The crate asks that the values of `p` can be shown.
 #[inline]
@@ -60,7 +60,7 @@ pub fn not_followed_by<P>(p: P) -> NotFollowedBy<P>
     NotFollowedBy(p)
 }
 
-/// As `p`, but that no state is kept: on need of more the stream is put back to where the parser began, and the next call begins again.
+/// Parses as `p`, but keeps no state: on need of more the stream is put back to where the parser began, and the next call begins again.
 ///
 /// `Reset` where the stream could not be put back.
 #[inline]

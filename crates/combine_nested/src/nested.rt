@@ -54,16 +54,16 @@ pub trait Frame: Drop {
     /// Values that frames are given alike.
     ghost alike_values: { Self.Value → Self.Value → Type 0 } = { λ v w. v ≡ w };
 
-    /// What comes of an item that was read while this was the innermost frame.
+    /// Takes an item that was read while this was the innermost frame, and answers what comes of it.
     fn take(self, item: Self::Item) -> Result<Next<Self, Self::Value>, AllocError>
         ensures { MatchResult result (takes self item) (λ _. Unit {0}) };
 
-    /// What comes of the value with which a frame inside this one was closed.
+    /// Takes the value with which a frame inside this one was closed, and answers what comes of it.
     fn join(self, value: Self::Value) -> Result<Next<Self, Self::Value>, AllocError>
         ensures { MatchResult result (joins self value) (λ _. Unit {0}) };
 }
 
-/// Steps, one after another, over frames that are open inside one another, at most `depth` of them inside the outermost.
+/// Parses steps, one after another, over frames that are open inside one another, at most `depth` of them inside the outermost.
 ///
 /// `root` makes the outermost frame. `step` answers the parser of each step, by the innermost frame, which takes its item: a function of the frame, or [`always`] for the same parser at each step, or [`if_else`] for one of two. The value is that with which the outermost frame is closed; it is committed exactly if a step was.
 ///
@@ -88,7 +88,7 @@ pub fn nested<R, S>(alloc: Global, depth: usize, root: R, step: S) -> Nested<R, 
     }
 }
 
-/// The same parser at each step.
+/// Answers the same parser at each step.
 #[inline]
 pub fn always<P>(parser: P) -> Always<P>
     ensures { result ≡ always_of parser }
@@ -96,7 +96,7 @@ pub fn always<P>(parser: P) -> Always<P>
     Always(parser)
 }
 
-/// What `first` answers where `test` holds of the innermost frame, and else what `second` does.
+/// Answers what `first` does where `test` holds of the innermost frame, and else what `second` does.
 #[inline]
 pub fn if_else<C, A, B>(test: C, first: A, second: B) -> IfElse<C, A, B>
     ensures { result ≡ if_else_of test first second }

@@ -14,7 +14,7 @@ pub use recognized::RecognizeState;
 use std::marker::PhantomData;
 use types::{Range, Recognize, RecognizeWithValue, Take, TakeUntilRange, TakeWhile, TakeWhile1};
 
-/// As many first items as the range has, if they are that range: accepted committed, also where the range is empty. If they are others: refused peeked, with the items put back. The value is the range that was read.
+/// Parses as many first items as the range has, if they are that range: accepted committed, also where the range is empty. If they are others: refused peeked, with the items put back. The value is the range that was read.
 ///
 /// The length is judged first: too few items of an open piece are need of more, also where they differ already. The next call begins again. Too few items of ended input, and an end inside a character, are refused peeked. Faults: `Read` and `Reset` where the stream failed, `Memory` where an error found none for its text.
 #[inline]
@@ -27,7 +27,7 @@ pub fn range<Input, R>(wanted: R) -> Range<Input, R>
     }
 }
 
-/// The first `count` items: tokens of a slice, or bytes of a text. Accepted committed, or peeked where `count` is 0.
+/// Takes the first `count` items: tokens of a slice, or bytes of a text. Accepted committed, or peeked where `count` is 0.
 ///
 /// Too few items of an open piece are need of more; the next call begins again. Too few items of ended input are refused peeked, and so is an end inside a character as soon as so many bytes stand there. Faults: `Read` where the stream failed, `Memory` where an error found none for its text.
 #[inline]
@@ -40,7 +40,7 @@ pub fn take<Input>(count: usize) -> Take<Input>
     }
 }
 
-/// The longest beginning whose tokens the predicate holds of: accepted committed, or peeked where it is empty.
+/// Takes the longest beginning whose tokens the predicate holds of: accepted committed, or peeked where it is empty.
 ///
 /// Where it is all of an open piece more is asked for; the next call doesn't begin again, but passes over the items read so far and goes on. Faults: `Lost` where the input is shorter than what an earlier call read; `Read` and `Reset` where the stream failed. The crate takes an `FnMut`.
 #[inline]
@@ -53,7 +53,7 @@ pub fn take_while<Input, F>(predicate: F) -> TakeWhile<Input, F>
     }
 }
 
-/// As `take_while`, but an empty beginning is refused peeked.
+/// Parses as `take_while` does, but an empty beginning is refused peeked.
 ///
 /// Where nothing is left of ended input, the error is of kind `End` and says so; one that finds no memory for that is the fault `Memory`.
 #[inline]
@@ -66,7 +66,7 @@ pub fn take_while1<Input, F>(predicate: F) -> TakeWhile1<Input, F>
     }
 }
 
-/// What stands before the first occurrence of a range: accepted committed, or peeked where that is nothing. Where it doesn't occur in ended input: refused peeked, with an error of kind `End`.
+/// Takes what stands before the first occurrence of a range: accepted committed, or peeked where that is nothing. Where it doesn't occur in ended input: refused peeked, with an error of kind `End`.
 ///
 /// Where it isn't found in an open piece more is asked for; the next call doesn't begin again, but passes over the items that were searched and goes on. Faults: `Lost` where the input is shorter than what an earlier call searched; `Read` and `Reset` where the stream failed; `Memory` where an error found none for its text. The range occurs where the one that is read there is equal to it; so it is found at one place only if ranges of the same tokens are all equal to it or all not.
 #[inline]
@@ -79,7 +79,7 @@ pub fn take_until_range<Input, R>(wanted: R) -> TakeUntilRange<Input, R>
     }
 }
 
-/// The range of the tokens that `p` takes: accepted committed, or peeked where `p` takes none, whichever kind `p` has. What `p` refuses is refused alike.
+/// Gives the range of the tokens that `p` takes: accepted committed, or peeked where `p` takes none, whichever kind `p` has. What `p` refuses is refused alike.
 ///
 /// On need of more `p` doesn't begin again: the state keeps the items that were read and the state of `p`; the next call passes over these items and goes on. Faults are those of `p`; `Lost` where the input is shorter than what was read; `Read` and `Reset` where the stream failed. It counts as one parser.
 #[inline]
@@ -89,7 +89,7 @@ pub fn recognize<P>(p: P) -> Recognize<P>
     Recognize(RecognizeWithValue(p))
 }
 
-/// As `recognize`, with the value of `p` beside the range.
+/// Gives the range as `recognize` does, with the value of `p` beside it.
 #[inline]
 pub fn recognize_with_value<P>(p: P) -> RecognizeWithValue<P>
     ensures { result ≡ recognize_with_value_of p }

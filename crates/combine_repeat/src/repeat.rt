@@ -20,7 +20,7 @@ use std::alloc::Global;
 use std::marker::PhantomData;
 use types::{Many, Many1, SkipMany, SkipMany1};
 
-/// Turns of `parser` until it is refused peeked, their values collected in order.
+/// Runs turns of `parser` until it is refused peeked, and collects their values in order.
 ///
 /// Such a refusal ends the turns: the stream is put back to where that turn began, and the answer is accepted, committed exactly if there was a turn before. A committed refusal of a turn is the answer, and so is need of more.
 #[inline]
@@ -34,7 +34,7 @@ pub fn many<F, P>(alloc: Global, parser: P) -> Many<F, P>
     }
 }
 
-/// `parser` once, and then turns of it until it is refused peeked, all values collected in order.
+/// Runs `parser` once, and then turns of it until it is refused peeked, and collects all values in order.
 ///
 /// The first turn counts also where it takes nothing, and its refusal, committed or peeked, is the answer. From then on as `many`, committed exactly if a turn was.
 #[inline]
@@ -48,7 +48,7 @@ pub fn many1<F, P>(alloc: Global, parser: P) -> Many1<F, P>
     }
 }
 
-/// As `many`, with the values dropped; it takes no memory of its own, but for that of an error's message.
+/// Runs turns as `many` does, and drops the values; it takes no memory of its own, but for that of an error's message.
 #[inline]
 pub fn skip_many<P>(parser: P) -> SkipMany<P>
     ensures { result ≡ skip_many_of parser }
@@ -56,7 +56,7 @@ pub fn skip_many<P>(parser: P) -> SkipMany<P>
     SkipMany(Plain(parser))
 }
 
-/// As `many1`, with the values dropped; it takes no memory of its own, but for that of an error's message.
+/// Runs turns as `many1` does, and drops the values; it takes no memory of its own, but for that of an error's message.
 #[inline]
 pub fn skip_many1<P>(parser: P) -> SkipMany1<P>
     ensures { result ≡ skip_many1_of parser }

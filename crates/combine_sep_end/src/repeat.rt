@@ -16,7 +16,7 @@ use std::alloc::Global;
 use std::marker::PhantomData;
 use types::{SepEndBy, SepEndBy1};
 
-/// As `sep_end_by1`, or no element: where the first is refused peeked, it is put back, and the answer is the empty collection, accepted peeked.
+/// Takes elements as `sep_end_by1` does, or none: where the first is refused peeked, it is put back, and the answer is the empty collection, accepted peeked.
 #[inline]
 pub fn sep_end_by<F, P, S>(alloc: Global, parser: P, separator: S) -> SepEndBy<F, P, S>
     ensures { result ≡ sep_end_by_of alloc parser separator }
@@ -31,7 +31,7 @@ pub fn sep_end_by<F, P, S>(alloc: Global, parser: P, separator: S) -> SepEndBy<F
     }
 }
 
-/// At least one element, which are `parser`'s, with what `separator` takes between two of them and perhaps behind the last.
+/// Takes at least one element, which are `parser`'s, with what `separator` takes between two of them and perhaps behind the last.
 ///
 /// The refusal of the first element is the answer. A peeked refusal of a later separator is put back and ends the turns, accepted. So does one of the parser behind a separator, whose tokens stay taken. A committed refusal of either is the answer, and so is need of more. An acceptance is committed exactly if a turn was, or the separator that ended them.
 #[inline]

@@ -16,7 +16,7 @@ use std::alloc::Global;
 use std::marker::PhantomData;
 use types::{Chainl1, SepBy, SepBy1, SepCountMinMax};
 
-/// At least `min` and at most `max` elements, which are `parser`'s, with what `separator` takes between two of them.
+/// Takes at least `min` and at most `max` elements, which are `parser`'s, with what `separator` takes between two of them; `min` is at most `max`.
 ///
 /// With `max` 0 it is accepted, and nothing runs. The refusal of the first element is the answer, but a peeked one with `min` 0, which is put back and accepted, peeked. After `max` elements it is accepted, and no further turn runs. A peeked refusal of a later turn is put back: after at least `min` elements the answer is accepted, and after fewer it is refused with the message `expected N more elements`, at the position where that turn began. Both are committed exactly if a turn was. Our own.
 #[inline]
@@ -43,7 +43,7 @@ pub fn sep_count_min_max<F, P, S>(
     }
 }
 
-/// As `sep_count_min_max` of any number of elements.
+/// Takes any number of elements, as `sep_count_min_max` does.
 #[inline]
 pub fn sep_by<F, P, S>(alloc: Global, parser: P, separator: S) -> SepBy<F, P, S>
     ensures { result ≡ sep_by_of alloc parser separator }
@@ -59,7 +59,7 @@ pub fn sep_by<F, P, S>(alloc: Global, parser: P, separator: S) -> SepBy<F, P, S>
     }
 }
 
-/// As `sep_count_min_max` of at least one element, and any number.
+/// Takes at least one element, and any number, as `sep_count_min_max` does.
 #[inline]
 pub fn sep_by1<F, P, S>(alloc: Global, parser: P, separator: S) -> SepBy1<F, P, S>
     ensures { result ≡ sep_by1_of alloc parser separator }
@@ -75,7 +75,7 @@ pub fn sep_by1<F, P, S>(alloc: Global, parser: P, separator: S) -> SepBy1<F, P, 
     }
 }
 
-/// `parser`, and then turns of `operator` and `parser`: the values folded from the left, by the functions that `operator` gives.
+/// Parses as `parser`, and then by turns as `operator` and `parser`: folds the values from the left, by the functions that `operator` gives.
 ///
 /// It takes and answers as `sep_by1`. The functions must be such that they can always be called. On need of more the state keeps the left value.
 #[inline]

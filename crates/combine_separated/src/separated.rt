@@ -57,7 +57,7 @@ impl<O, W, U: Default> Default for SeparatedState<O, W, U> {
 }
 
 impl<O, W, U> SeparatedState<O, W, U> {
-    /// Which turn runs, with what is kept of it.
+    /// Returns which turn runs, with what is kept of it.
     #[inline(always)]
     pub fn into_place(self) -> TurnPlace<U, PairState<O, W, U>>
         ensures { result ≡ turn_place self }
@@ -73,7 +73,7 @@ impl<O, W, U> SeparatedState<O, W, U> {
         }
     }
 
-    /// What is kept of a later separator and part.
+    /// Makes what is kept of a later separator and part.
     #[inline(always)]
     pub fn later(pair: PairState<O, W, U>) -> Self
         ensures { result ≡ later_kept pair }

@@ -13,7 +13,7 @@ use answered::asked::{ByMut, ByRef, ByValue};
 pub use combine_map::combinator::map;
 use types::{Answered, Between, Skip, Then, ThenPartial, ThenRef, With};
 
-/// `p` and then `q`, with the value of `q`.
+/// Parses as `p` and then as `q`, with the value of `q`.
 #[inline]
 pub fn with<P, Q, B>(p: P, q: Q) -> With<P, Q, B>
     ensures { result ≡ picked_of (p, q) }
@@ -21,7 +21,7 @@ pub fn with<P, Q, B>(p: P, q: Q) -> With<P, Q, B>
     With::new((p, q))
 }
 
-/// `p` and then `q`, with the value of `p`.
+/// Parses as `p` and then as `q`, with the value of `p`.
 #[inline]
 pub fn skip<P, Q, A>(p: P, q: Q) -> Skip<P, Q, A>
     ensures { result ≡ picked_of (p, q) }
@@ -29,7 +29,7 @@ pub fn skip<P, Q, A>(p: P, q: Q) -> Skip<P, Q, A>
     Skip::new((p, q))
 }
 
-/// `l`, then `p`, then `r`, with the value of `p`. It counts as one parser.
+/// Parses as `l`, then as `p`, then as `r`, with the value of `p`. It counts as one parser.
 #[inline]
 pub fn between<L, R, P, A>(l: L, r: R, p: P) -> Between<L, R, P, A>
     ensures { result ≡ picked_of (l, p, r) }
@@ -37,7 +37,7 @@ pub fn between<L, R, P, A>(l: L, r: R, p: P) -> Between<L, R, P, A>
     Between::new((l, p, r))
 }
 
-/// As `parser`, and then as the parser that `f` answers for its value, whose value is the value of both.
+/// Parses as `parser`, and then as the parser that `f` answers for its value, whose value is the value of both.
 ///
 /// `f` is asked once, where `parser` is accepted: on need of more the state keeps the parser that it answered, and the next call goes on with that one. It is committed if one of the two is. A peeked refusal of the second is put back to where the second began, and says what stands there and what the second expects; it is committed if the first was. Every parser that `f` may answer has to be lawful. The crate takes an `FnMut`.
 #[inline]
@@ -47,7 +47,7 @@ pub fn then<P, F, B>(parser: P, f: F) -> Then<P, F, B>
     Answered::new(parser, ByValue(f))
 }
 
-/// As `then`, where the function takes a mutable reference to the value. The crate's hands its function the value as it stands in the state.
+/// Parses as `then` does, where the function takes a mutable reference to the value. The crate's hands its function the value as it stands in the state.
 #[inline]
 pub fn then_partial<P, F, B>(parser: P, f: F) -> ThenPartial<P, F, B>
     ensures { result ≡ then_partial_of parser f }
@@ -55,7 +55,7 @@ pub fn then_partial<P, F, B>(parser: P, f: F) -> ThenPartial<P, F, B>
     Answered::new(parser, ByMut(f))
 }
 
-/// As `then`, where the function takes a reference to the value: the value of both is the pair of both values.
+/// Parses as `then` does, where the function takes a reference to the value: the value of both is the pair of both values.
 #[inline]
 pub fn then_ref<P, F, B>(parser: P, f: F) -> ThenRef<P, F, B>
     ensures { result ≡ then_ref_of parser f }

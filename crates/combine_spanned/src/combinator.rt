@@ -6,7 +6,7 @@ pub mod types;
 
 use types::Spanned;
 
-/// As `parser`, over a stream whose positions are spans, such as a `span::Stream`: an error whose span begins and ends at one position is made to stand at the span from where this call began to where it left the stream.
+/// Parses as `parser`, over a stream whose positions are spans, such as a `span::Stream`: an error whose span begins and ends at one position is made to stand at the span from where this call began to where it left the stream.
 ///
 /// A span that an inner `spanned` has set stays. What an error says stays, and so does its kind. An error that keeps no position is left as it is.
 #[inline]

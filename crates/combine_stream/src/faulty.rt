@@ -119,7 +119,7 @@ pub struct Faulty<S> {
 }
 
 impl<S> Faulty<S> {
-    /// The stream, whose read and whose reset with those numbers fail: from 1, and none for 0.
+    /// Makes the stream, whose read and whose reset with those numbers fail: from 1, and none for 0.
     #[inline]
     pub fn new(inner: S, read_at: u64, reset_at: u64) -> Self
         ensures inside { wrapped result ≡ inner }
@@ -133,7 +133,7 @@ impl<S> Faulty<S> {
         }
     }
 
-    /// The stream inside.
+    /// Returns the stream inside.
     #[inline]
     pub fn into_inner(self) -> S
         ensures { result ≡ wrapped self }

@@ -30,7 +30,7 @@ pub trait DefaultPositioned {
     /// The position behind so many tokens of the whole input.
     ghost behind: { Self → ℕ → Self.Placed.Position };
 
-    /// The whole input, at the first position.
+    /// Makes the whole input, at the first position.
     fn place(self) -> Self::Placed
         ensures { Self.Placed.view result ≡ whole self };
 
@@ -48,21 +48,21 @@ pub trait Windowed: DefaultPositioned + Copy {
     /// How many tokens stand before a place.
     ghost index: { Self → ℕ → ℕ };
 
-    /// Whether no token is cut at the place, and it isn't behind the end.
+    /// Returns whether no token is cut at the place, and it isn't behind the end.
     fn has_place(self, place: usize) -> bool
         ensures { (result ≡ true) ↔ places self place };
 
-    /// The first place, which is 0.
+    /// Returns the first place, which is 0.
     fn start(self) -> usize
         ensures place { places self result }
         ensures none { index self result ≡ 0 };
 
-    /// The last place: how many items there are.
+    /// Returns the last place: how many items there are.
     fn end(self) -> usize
         ensures place { places self result }
         ensures all { index self result ≡ length (Self.DefaultPositioned.whole self).unread };
 
-    /// What stands between two places, at the position of the first.
+    /// Makes what stands between two places, at the position of the first. The first is at most the second, and the position is that behind the tokens before it.
     fn window(
         self,
         from: usize,
@@ -75,12 +75,12 @@ pub trait Windowed: DefaultPositioned + Copy {
         requires position { position ≡ Self.DefaultPositioned.behind self (index self from) }
         ensures { Self.Placed.view result ≡ record { position = position; unread = drop (index self from) (take (index self to) (Self.DefaultPositioned.whole self).unread); is_open = false } };
 
-    /// The place of the first unread token of a window that ends at a place.
+    /// Returns the place of the first unread token of a window that ends at a place.
     fn place_before(self, to: usize, window: &Self::Placed) -> usize
         requires { places self to }
         ensures { (k : ℕ) → k ≤ index self to → (Self.Placed.view window.now).unread ≡ drop k (take (index self to) (Self.DefaultPositioned.whole self).unread) → places self result × (result ≤ to) × (index self result ≡ k) };
 
-    /// How many tokens stand before a place, where so many stand before an earlier one.
+    /// Returns how many tokens stand before a place, where so many stand before an earlier one. The earlier place is at most the later one.
     fn count_to(self, to: usize, from: usize, before: usize) -> usize
         requires from { places self from }
         requires to { places self to }
@@ -114,7 +114,7 @@ pub type TextStream<'a> = Stream<&'a str, types::PlacedText<'a>>;
 pub type SliceStream<'a, T> = Stream<&'a [T], types::Indexed<'a, T>>;
 
 impl<S: DefaultPositioned> Stream<S, S::Placed> {
-    /// The whole input, at the first position.
+    /// Makes the stream of the whole input, at the first position.
     #[inline]
     pub fn new(input: S) -> Self
         ensures { ⟦<Stream<S, S::Placed> as StreamOnce>⟧.view result ≡ S.whole input }
@@ -127,7 +127,7 @@ impl<S: DefaultPositioned> Stream<S, S::Placed> {
 }
 
 impl<S: Windowed> Stream<S, S::Placed> {
-    /// Goes on at the same position, before what stands between two places of the input: a wider window, with nothing counted again. Our own.
+    /// Goes on at the same position, before what stands between two places of the input: a wider window, with nothing counted again. The first place is at most the second, and the stream has to stand behind the tokens before it. Our own.
     #[inline]
     pub fn widen(&mut self, whole: S, from: usize, to: usize)
         requires from { S.places whole from }
@@ -140,7 +140,7 @@ impl<S: Windowed> Stream<S, S::Placed> {
         self.placed = whole.window(from, to, position);
     }
 
-    /// The place of the first unread token, where the stream is a window that ends at a place. Our own.
+    /// Returns the place of the first unread token, where the stream is a window that ends at a place. Our own.
     #[inline]
     pub fn place_before(&self, whole: S, to: usize) -> usize
         requires { S.places whole to }

@@ -13,7 +13,7 @@ pub(crate) mod texts;
 pub trait Range: Copy {
     ghost count: { Self → ℕ };
 
-    /// The number of items.
+    /// Returns the number of items.
     fn len(&self) -> usize
         ensures { result ≡ count self.now };
 }
@@ -22,7 +22,7 @@ pub trait Range: Copy {
 pub trait ByteRange: Range {
     ghost bytes: { Self → List ℕ };
 
-    /// The bytes.
+    /// Returns the bytes.
     fn as_bytes(&self) -> &[u8]
         ensures { result.now ≡ bytes self.now };
 
@@ -38,7 +38,7 @@ pub trait Test<T> {
     /// What it may answer of a token.
     ghost answers: { Self → T → Bool → Type 0 };
 
-    /// Whether the token passes.
+    /// Returns whether the token passes.
     fn test(&self, token: T) -> bool
         requires { callable self.now }
         ensures { answers self.now token result };
@@ -77,11 +77,11 @@ where
         ensures read { UnconsWhile Self.steady Self.step size spells (Self.view self.old) (Self.view self.new) (Self.failures self.old) (Self.failures self.new) (F.answers f.now) result }
         ensures passes { Passes (Self.marks self.old) (Self.marks self.new) (Self.failures self.old) (Self.failures self.new) };
 
-    /// The number of items that were taken since the checkpoint was made.
+    /// Returns the number of items that were taken since the checkpoint was made.
     fn distance(&self, since: &Self::Checkpoint) -> usize
         ensures { (v : View Self.Position Self.Token) (k : ℕ) → Self.stands self.now since.now v → Ahead Self.step k v (Self.view self.now) → result ≡ size_of size (take k v.unread) };
 
-    /// All that is unread.
+    /// Returns all that is unread.
     fn range(&self) -> Self::Range
         ensures { spells result (Self.view self.now).unread };
 

@@ -22,7 +22,7 @@ use types::{
     Spaces, Tab, Upper,
 };
 
-/// This byte, as `token`.
+/// Takes this byte, as `token` does.
 #[inline]
 pub fn byte<Input>(byte: u8) -> Token<Input, u8>
     ensures { result ≡ token_parser byte }
@@ -30,7 +30,7 @@ pub fn byte<Input>(byte: u8) -> Token<Input, u8>
     token(byte)
 }
 
-/// `0` to `9`.
+/// Takes a digit, `0` to `9`.
 #[inline]
 pub fn digit<Input>() -> Digit<Input>
     ensures { result ≡ in_class_parser }
@@ -38,7 +38,7 @@ pub fn digit<Input>() -> Digit<Input>
     in_class()
 }
 
-/// `0` to `7`.
+/// Takes an octal digit, `0` to `7`.
 #[inline]
 pub fn oct_digit<Input>() -> OctDigit<Input>
     ensures { result ≡ in_class_parser }
@@ -46,7 +46,7 @@ pub fn oct_digit<Input>() -> OctDigit<Input>
     in_class()
 }
 
-/// `0` to `9`, `a` to `f`, `A` to `F`.
+/// Takes a hexadecimal digit: `0` to `9`, `a` to `f`, `A` to `F`.
 #[inline]
 pub fn hex_digit<Input>() -> HexDigit<Input>
     ensures { result ≡ in_class_parser }
@@ -54,7 +54,7 @@ pub fn hex_digit<Input>() -> HexDigit<Input>
     in_class()
 }
 
-/// Tab, line feed, form feed, carriage return and space.
+/// Takes a tab, line feed, form feed, carriage return or space.
 #[inline]
 pub fn space<Input>() -> Space<Input>
     ensures { result ≡ in_class_parser }
@@ -62,7 +62,7 @@ pub fn space<Input>() -> Space<Input>
     in_class()
 }
 
-/// Line feed.
+/// Takes a line feed.
 #[inline]
 pub fn newline<Input>() -> Newline<Input>
     ensures { result ≡ in_class_parser }
@@ -70,7 +70,7 @@ pub fn newline<Input>() -> Newline<Input>
     in_class()
 }
 
-/// Tab.
+/// Takes a tab.
 #[inline]
 pub fn tab<Input>() -> Tab<Input>
     ensures { result ≡ in_class_parser }
@@ -78,7 +78,7 @@ pub fn tab<Input>() -> Tab<Input>
     in_class()
 }
 
-/// `A` to `Z`.
+/// Takes a capital letter of ASCII, `A` to `Z`.
 #[inline]
 pub fn upper<Input>() -> Upper<Input>
     ensures { result ≡ in_class_parser }
@@ -86,7 +86,7 @@ pub fn upper<Input>() -> Upper<Input>
     in_class()
 }
 
-/// `a` to `z`.
+/// Takes a small letter of ASCII, `a` to `z`.
 #[inline]
 pub fn lower<Input>() -> Lower<Input>
     ensures { result ≡ in_class_parser }
@@ -94,7 +94,7 @@ pub fn lower<Input>() -> Lower<Input>
     in_class()
 }
 
-/// `A` to `Z` and `a` to `z`.
+/// Takes a letter of ASCII, `A` to `Z` or `a` to `z`.
 #[inline]
 pub fn letter<Input>() -> Letter<Input>
     ensures { result ≡ in_class_parser }
@@ -102,7 +102,7 @@ pub fn letter<Input>() -> Letter<Input>
     in_class()
 }
 
-/// Letters and digits of ASCII.
+/// Takes a letter or a digit of ASCII.
 #[inline]
 pub fn alpha_num<Input>() -> AlphaNum<Input>
     ensures { result ≡ in_class_parser }
@@ -110,7 +110,7 @@ pub fn alpha_num<Input>() -> AlphaNum<Input>
     in_class()
 }
 
-/// Carriage return and then line feed, which is the value; it counts as 2 parsers.
+/// Takes a carriage return and then a line feed, which is the value; it counts as 2 parsers.
 ///
 /// A carriage return without a line feed is refused committed. On need of more the stream is put back, and the next call begins again.
 #[inline]
@@ -120,7 +120,7 @@ pub fn crlf<Input>() -> CrLf<Input>
     naming(whole_pair((in_class(), newline())))
 }
 
-/// White space, as long as there is some, passed over: `skip_many(space())`, of which errors say `whitespaces`.
+/// Passes over white space, as long as there is some: `skip_many(space())`, of which errors say `whitespaces`.
 #[inline]
 pub fn spaces<Input>() -> Spaces<Input>
     ensures { result ≡ named_parser (skip_many_of in_class_parser) }
@@ -128,7 +128,7 @@ pub fn spaces<Input>() -> Spaces<Input>
     naming(skip_many(space()))
 }
 
-/// The bytes of the list, one after another; its value is the list.
+/// Takes the bytes of the list, one after another; its value is the list.
 ///
 /// A token that doesn't fit, or the end of ended input, refuses: peeked where no token was matched before it, else committed. A committed mismatch says only which token stands there; the list, as a range, is said to be expected where nothing was matched. The end of an open piece asks for more, with nothing left unread: the state keeps how many bytes were matched. An empty list is accepted peeked.
 #[inline]
@@ -138,7 +138,7 @@ pub fn bytes<'s, Input>(s: &'s [u8]) -> Bytes<Input, &'s [u8]>
     in_bytes(s, Equal)
 }
 
-/// As `bytes`, a byte of the list and the token at its place being given to `cmp`, which says whether the token fits. The crate takes an `FnMut`.
+/// Parses as many bytes as the list has, as `bytes` does; a byte of the list and the token at its place are given to `cmp`, which says whether the token fits. The crate takes an `FnMut`.
 #[inline]
 pub fn bytes_cmp<'s, C, Input>(s: &'s [u8], cmp: C) -> BytesCmp<Input, C, &'s [u8]>
     ensures { result ≡ in_bytes_parser s.entry (by cmp) }

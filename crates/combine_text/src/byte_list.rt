@@ -28,7 +28,7 @@ pub trait ShowsBytes: Copy {
     /// Which range may show these bytes.
     ghost shows: { List ℕ → Self → Type 0 };
 
-    /// A range that shows these bytes.
+    /// Returns a range that shows these bytes.
     fn of_bytes(bytes: &'static [u8]) -> Self
         ensures { shows bytes.now result };
 }

@@ -39,7 +39,7 @@ impl<S, T> Default for OrState<S, T> {
     }
 }
 
-/// The choice of two parsers: the answer of the first that isn't refused peeked. Where both are refused peeked so is the choice, and their errors are merged in order.
+/// Chooses between two parsers: answers as the first that isn't refused peeked. Where both are refused peeked so is the choice, and their errors are merged in order.
 ///
 /// The second begins where the first did. A committed refusal ends the choice, and so does a fault. On need of more the running alternative is kept; where it is then refused peeked, the second is still tried, which the crate's choice doesn't do. Two faults are the choice's own: `Reset`, where the stream can't be put back, and `Memory`, where an item of the merged error finds none.
 #[inline]
@@ -49,7 +49,7 @@ pub fn or<P, Q>(p: P, q: Q) -> Or<P, Q>
     Or(p, q)
 }
 
-/// The value of a parser, or `None` where it is refused peeked: that is accepted peeked, and nothing is taken.
+/// Gives the value of a parser, or `None` where it is refused peeked: that is accepted peeked, and nothing is taken.
 ///
 /// A committed refusal, a fault and need of more are answered as they are, and the parser's own state is kept. Where the stream can't be put back the answer is the committed fault `Reset`.
 #[inline]

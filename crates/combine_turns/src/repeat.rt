@@ -17,7 +17,7 @@ use std::alloc::Global;
 use std::marker::PhantomData;
 use types::{Count, CountMinMax, SkipCount, SkipCountMinMax};
 
-/// At most `max` turns of `parser`, which may take nothing, their values collected in order.
+/// Runs at most `max` turns of `parser`, which may take nothing, and collects their values in order; `min` is at most `max`.
 ///
 /// After `max` turns it is accepted, and no further turn runs. A peeked refusal ends the turns: after at least `min` it is put back, and the answer is accepted; after fewer it is refused with the message `expected N more elements`, at the position where that turn began. Both are committed exactly if a turn was. A committed refusal of a turn is the answer, and so is need of more. In the crate a call that begins afresh may go on counting from an earlier one.
 #[inline]
@@ -34,7 +34,7 @@ pub fn count_min_max<F, P>(alloc: Global, min: usize, max: usize, parser: P) -> 
     }
 }
 
-/// As `count_min_max`, with the values dropped; it takes no memory of its own, but for that of an error's message.
+/// Runs turns as `count_min_max` does, where `min` is at most `max`, and drops the values; it takes no memory of its own, but for that of an error's message.
 #[inline]
 pub fn skip_count_min_max<P>(min: usize, max: usize, parser: P) -> SkipCountMinMax<P>
     requires { min ≤ max }
@@ -47,7 +47,7 @@ pub fn skip_count_min_max<P>(min: usize, max: usize, parser: P) -> SkipCountMinM
     }
 }
 
-/// As `count_min_max` of none and at most so many turns.
+/// Runs at most so many turns, and none at least, as `count_min_max` does.
 #[inline]
 pub fn count<F, P>(alloc: Global, count: usize, parser: P) -> Count<F, P>
     ensures { result ≡ count_of alloc count parser }
@@ -60,7 +60,7 @@ pub fn count<F, P>(alloc: Global, count: usize, parser: P) -> Count<F, P>
     }
 }
 
-/// As `count`, with the values dropped; it takes no memory of its own, but for that of an error's message.
+/// Runs turns as `count` does, and drops the values; it takes no memory of its own, but for that of an error's message.
 #[inline]
 pub fn skip_count<P>(count: usize, parser: P) -> SkipCount<P>
     ensures { result ≡ skip_count_of count parser }

@@ -19,7 +19,7 @@ use std::alloc::Global;
 use std::marker::PhantomData;
 use types::{BlocksUntil, Mute, RepeatUntil, SkipRepeatUntil, SkipUntil, Skips, TakeUntil};
 
-/// Blocks of `parser` up to the first place where `end` isn't refused peeked, their values collected in order.
+/// Takes blocks of `parser` up to the first place where `end` isn't refused peeked, and collects their values in order.
 ///
 /// A block that takes nothing is refused, committed, with the message `repetition takes nothing`, at the position where it began. A refusal of `parser` is the answer, and says what was expected there. What is added to an error is what `parser` adds.
 #[inline]
@@ -33,7 +33,7 @@ pub fn repeat_until<F, A, P, E>(alloc: Global, parser: P, end: E) -> RepeatUntil
     }
 }
 
-/// As `repeat_until`, with the values dropped; it takes no memory of its own, but for that of an error's items.
+/// Takes blocks as `repeat_until` does, and drops the values; it takes no memory of its own, but for that of an error's items.
 #[inline]
 pub fn repeat_skip_until<A, P, E>(parser: P, end: E) -> SkipRepeatUntil<A, P, E>
     ensures { result ≡ repeat_skip_until_of parser end }
@@ -43,7 +43,7 @@ pub fn repeat_skip_until<A, P, E>(parser: P, end: E) -> SkipRepeatUntil<A, P, E>
     })
 }
 
-/// The tokens before the first place where `end` isn't refused peeked, collected in order.
+/// Takes the tokens before the first place where `end` isn't refused peeked, and collects them in order.
 ///
 /// Where the input ends first it is refused peeked, with the error at that end. What is added to an error is what `end` adds.
 #[inline]
@@ -57,7 +57,7 @@ pub fn take_until<F, Input, T, E>(alloc: Global, end: E) -> TakeUntil<F, Input, 
     }
 }
 
-/// As `take_until`, with the tokens dropped.
+/// Takes tokens as `take_until` does, and drops them.
 #[inline]
 pub fn skip_until<Input, T, E>(end: E) -> SkipUntil<Input, T, E>
     ensures { result ≡ skip_until_of end }

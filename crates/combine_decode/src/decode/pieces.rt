@@ -10,7 +10,7 @@ use std::alloc::{AllocError, Global};
 
 /// Decodes the pieces as one input; those behind an end other than `More` are not looked at. Our own.
 ///
-/// However the input is cut, the messages are those of all of it, in order, and so is their end. Where there are no pieces, it is the end of the messages of nothing.
+/// However the input is cut, the messages are those of all of it, in order, and so is their end. Where there are no pieces, it is the end of the messages of nothing. The maker may always be called, and each parser that it answers is lawful.
 ///
 /// # Errors
 ///

@@ -16,7 +16,7 @@ where
     S::Token: PartialEq,
     S::Range: PartialEq,
 {
-    /// From the start: the value and the input that is left, or the error, which says what stood there and what was expected. As `parse` over an `easy::Stream`.
+    /// Parses from the start: returns the value and the input that is left, or the error, which says what stood there and what was expected. As `parse` over an `easy::Stream`.
     ///
     /// The items of errors take their memory from `alloc`; one that finds none makes it an error of kind `Memory`.
     final fn easy_parse(

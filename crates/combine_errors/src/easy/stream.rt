@@ -24,7 +24,7 @@ pub type TextStream<'a> = Stream<position::TextStream<'a>>;
 pub type SliceStream<'a, T> = Stream<position::SliceStream<'a, T>>;
 
 impl<S> Stream<S> {
-    /// The stream, with errors whose items take their memory from there.
+    /// Makes the stream, with errors whose items take their memory from there.
     #[inline]
     pub fn new(alloc: Global, inner: S) -> Self
         ensures { inside result ≡ inner }
@@ -32,7 +32,7 @@ impl<S> Stream<S> {
         Stream { inner, alloc }
     }
 
-    /// The stream inside.
+    /// Returns the stream inside.
     #[inline]
     pub fn into_inner(self) -> S
         ensures { result ≡ inside self }

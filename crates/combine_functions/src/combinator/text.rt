@@ -12,7 +12,7 @@ pub trait StrLike {
     /// The bytes.
     ghost bytes: { Self → List ℕ };
 
-    /// The text; `None` where the bytes aren't UTF-8.
+    /// Returns the text; `None` where the bytes aren't UTF-8.
     fn from_utf8(&self) -> Option<&str>
         ensures { MatchOption result (IsUtf8 (bytes self.now) → ⊥) (λ text. text.now ≡ bytes self.now) };
 }

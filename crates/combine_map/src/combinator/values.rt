@@ -20,9 +20,11 @@ pub trait Pick<A> {
     /// As how many parsers a parser counts of whose value this is kept, where that one counts so many.
     ghost counted: { ℕ → ℕ };
 
+    /// Returns what is kept of the value.
     fn pick(value: A) -> Self::Output
         ensures { result ≡ picked value };
 
+    /// Returns as how many parsers one counts of whose value this is kept, where that one counts so many.
     fn count(inside: ErrorOffset) -> ErrorOffset
         ensures { result.0 ≡ counted inside.0 };
 }
@@ -37,7 +39,7 @@ pub struct Picked<P, W, B> {
 }
 
 impl<P, W, B> Picked<P, W, B> {
-    /// The parser of this part.
+    /// Makes the parser of this part.
     #[inline]
     pub fn new(part: P) -> Self
         ensures { result ≡ picked_of part }

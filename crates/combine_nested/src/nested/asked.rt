@@ -14,7 +14,7 @@ pub trait Ask<F> {
     /// Which parsers it may answer for a frame.
     ghost answers: { Self → F → Self.Parser → Type 0 };
 
-    /// The parser of the next step.
+    /// Answers the parser of the next step. It may be asked.
     fn ask(&self, frame: &F) -> Self::Parser
         requires { callable self.now }
         ensures { answers self.now frame.now result };
@@ -45,7 +45,7 @@ pub trait Test<F> {
     /// What it may answer of a frame.
     ghost tells: { Self → F → Bool → Type 0 };
 
-    /// Whether it holds of the frame.
+    /// Returns whether it holds of the frame. It may be called.
     fn test(&self, frame: &F) -> bool
         requires { callable self.now }
         ensures { tells self.now frame.now result };

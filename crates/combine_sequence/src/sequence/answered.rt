@@ -28,7 +28,7 @@ pub struct Answered<P, K, B> {
 }
 
 impl<P, K, B> Answered<P, K, B> {
-    /// This parser, and then one that is asked for so.
+    /// Makes the parser that is this one, and then one that is asked for so.
     #[inline]
     pub fn new(first: P, asked: K) -> Self
         ensures { result ≡ answered_of first asked }

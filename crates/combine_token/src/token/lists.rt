@@ -20,7 +20,7 @@ use combine_base::stream::{Kind, Stream, StreamOnce, ends_open};
 use std::marker::PhantomData;
 use types::{Tokens, TokensCmp, TokensState};
 
-/// A parser of the tokens of a list, one after another; its value is a clone of the list.
+/// Takes the tokens of a list, one after another; its value is a clone of the list.
 ///
 /// `cmp` is given each item of the list with the token at its place, and says whether the token fits.
 /// `expected` is what errors say was expected.
@@ -47,7 +47,7 @@ where
     }
 }
 
-/// As `tokens`, but the error of a committed mismatch says only which token stands there, and nothing is said to be expected.
+/// Takes the tokens of a list as `tokens` does, but the error of a committed mismatch says only which token stands there, and nothing is said to be expected.
 ///
 /// Unlike the crate's, `cmp` is an `Fn`.
 pub fn tokens_cmp<C, T, Input>(tokens: T, cmp: C) -> TokensCmp<C, T, Input>
@@ -60,9 +60,11 @@ pub fn tokens_cmp<C, T, Input>(tokens: T, cmp: C) -> TokensCmp<C, T, Input>
     }
 }
 
-/// One call of a parser of a list of tokens, whose value is a clone of `value` (our own: the crate has no such call).
+/// Makes one call of a parser of a list of tokens, whose value is a clone of `value` (our own: the crate has no such call).
 ///
 /// `expected` is what the error of a committed mismatch says was expected, if it says so. A clone of the list or of the value that finds no memory is the fault `Memory`.
+///
+/// `cmp` may always be called. An iterator of each clone of the list gives equally many items, fewer than 2^64.
 #[inline(always)]
 pub fn match_list<'a, C, T, V, Input: Stream, M: ParseMode>(
     cmp: &C,

@@ -52,7 +52,7 @@ pub fn one_token<B, Input: Stream, F: FnOnce(Option<Input::Token>) -> Option<B>>
     }
 }
 
-/// As `one_token`, for a token that the function answers a value for (our own). Another token, and the end of an ended list, is refused peeked.
+/// Reads a token that the function answers a value for, as `one_token` does (our own). Another token, and the end of an ended list, is refused peeked.
 #[inline(always)]
 pub fn token_map<B, Input: Stream, F: FnOnce(Input::Token) -> Option<B>>(
     function: F,
@@ -78,7 +78,7 @@ pub fn token_map<B, Input: Stream, F: FnOnce(Input::Token) -> Option<B>>(
     )
 }
 
-/// As `token_map`, for a token that the predicate holds of (our own).
+/// Reads a token that the predicate holds of, as `token_map` does (our own).
 #[inline(always)]
 pub fn token_if<Input: Stream, F: FnOnce(Input::Token) -> bool>(
     predicate: F,

@@ -19,7 +19,7 @@ pub trait Asked<A> {
 
     ghost keeps: { A → Self.Kept };
 
-    /// What is kept of the value, and the parser.
+    /// Answers what is kept of the value, and the parser.
     fn ask(&self, value: A) -> (Self::Kept, Self::Parser)
         requires { callable self.now value }
         ensures kept { result.0 ≡ keeps value }
@@ -110,7 +110,7 @@ pub trait Join<B> {
 
     ghost joined: { Self → B → Self.Joined };
 
-    /// The value of both, of what was kept and the second.
+    /// Makes the value of both, of what was kept and the second.
     fn join(self, last: B) -> Self::Joined
         ensures { result ≡ joined self last };
 }
