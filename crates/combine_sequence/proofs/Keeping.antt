@@ -121,15 +121,15 @@ module _ {N Input V A B C S U Checkpoint T R P E X : Type 0} (p : parser.Ghosts 
 
       -- it was accepted, and the answered one was run from its beginning
       module _ (d : valid at) {a : A} {n : N} (j : answers a n) (w : kept n) (k : IsMeaning last_fresh p.valid (p.meaning n)) {u : U} (b : last_fresh u) {left : Input} {state : AnsweredState S V N U} {y : ParseResult C E} (reads : (i.failures input).reads ≤ (i.failures mid).reads) (resets : (i.failures input).resets ≤ (i.failures mid).resets) where
-        goes_on : (c : Bool) → Accepts first_world m (call_of false at stopped input mid) a c → CalledAnswered p i seen last_fresh fresh join first mid left (record { value = keep a; parser = n; committed = c; state = u }) state y → Answers all_world both (run_from z state (i.view input) (i.view left) (i.failures input) (i.failures left)) y
+        goes_on : (c : Bool) → Accepts first_world m (call_of false at stopped input mid) a c → CalledAnswered p i seen last_fresh fresh join true mid left (record { value = keep a; parser = n; committed = c; state = u }) state y → Answers all_world both (run_from z state (i.view input) (i.view left) (i.failures input) (i.failures left)) y
         goes_on c x g =
             let l : Answering V N U = record { value = keep a; parser = n; committed = c; state = u } in
             let q = accepted_before i.step seen i.steady fresh step_of m second at stopped z state (ap step_of is) (i.view input) (i.view mid) (i.failures input) (i.failures mid) valid h d a c x last_fresh in
             let into : (v : View P T) (o : Outcome C) → following c (join (keep a)) ((p.meaning n).rest u) v o → following c (join (keep a)) (second.whole a) v o = λ v o f. (f.0, (n, j, (k.start u v f.0 b).0 f.1), f.2) in
             runs_answer i.step seen i.steady fresh step_of m second (p.meaning n) last_fresh p.valid c (join (keep a)) (kept_with l g.parser) (holds l w g.parser g.same) u z state (i.view input) (i.view mid) (i.view left) (i.failures input) (i.failures mid) (i.failures left) (progress_left last_world (both.rest z) (following c (join (keep a)) (second.whole a)) (following c (join (keep a)) ((p.meaning n).rest u)) (i.view input) (i.view mid) (i.failures input) (i.failures mid) into q) reads resets (λ f. absurd (k.found u (i.view mid) b f)) y g.runs
 
-        pub then_commits : Answers first_world m (call_of first at stopped input mid) (CommitOk a) → CalledAnswered p i seen last_fresh fresh join first mid left (record { value = keep a; parser = n; committed = true; state = u }) state y → Answers all_world both (run_from z state (i.view input) (i.view left) (i.failures input) (i.failures left)) y
+        pub then_commits : Answers first_world m (call_of first at stopped input mid) (CommitOk a) → CalledAnswered p i seen last_fresh fresh join true mid left (record { value = keep a; parser = n; committed = true; state = u }) state y → Answers all_world both (run_from z state (i.view input) (i.view left) (i.failures input) (i.failures left)) y
         then_commits x g = goes_on true (at_first x).is g
 
-        pub then_peeks : Answers first_world m (call_of first at stopped input mid) (PeekOk a) → CalledAnswered p i seen last_fresh fresh join first mid left (record { value = keep a; parser = n; committed = false; state = u }) state y → Answers all_world both (run_from z state (i.view input) (i.view left) (i.failures input) (i.failures left)) y
+        pub then_peeks : Answers first_world m (call_of first at stopped input mid) (PeekOk a) → CalledAnswered p i seen last_fresh fresh join true mid left (record { value = keep a; parser = n; committed = false; state = u }) state y → Answers all_world both (run_from z state (i.view input) (i.view left) (i.failures input) (i.failures left)) y
         then_peeks x g = goes_on false (at_first x).is g

@@ -10,7 +10,7 @@ pub(super) mod state;
 
 use asked::{Asked, ByMut, ByRef, ByValue, Join};
 use combine_base::error::{ErrorOffset, ParseResult, Tracked};
-use combine_base::parser::{Calls, Outputs, ParseMode, Parser};
+use combine_base::parser::{Calls, FirstMode, Outputs, ParseMode, Parser};
 use combine_base::sequence::{accepted_after, refused_after, take_state};
 use combine_base::stream::{Stream, needs_more};
 use state::{AnsweredState, Answering};
@@ -109,7 +109,7 @@ impl<
             committed,
             state: N::PartialState::default(),
         };
-        parse_answered(mode, input, next, state)
+        parse_answered(FirstMode, input, next, state)
     }
 
     /// What the first parser adds.
