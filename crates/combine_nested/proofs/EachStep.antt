@@ -1,20 +1,19 @@
 -- a call of a nested grammar, by the runs of its steps' parsers
-use Rattle.std.proofs.Common.{ℕ, zero, suc, ◌+◌, ◌*◌, ◌-◌, ◌<◌, ◌≡◌, ◌≤◌, inl, inr, ◌⊎◌, List, [], ◌∷◌, length, Bool, true, false, ◌||◌, nat_lt, ltb-true, ltb-false, refl, sym, ◌∙◌, ap, subst, arith, add-zero, length-drop}
-use Rattle.std.proofs.lemmas.Bool.{lt-ltb}
+use Rattle.std.proofs.Common.{ℕ, suc, ◌+◌, ◌*◌, ◌-◌, ◌<◌, ◌≡◌, ◌≤◌, inl, inr, ◌⊎◌, List, [], length, Bool, true, false, ◌||◌, nat_lt, ltb-true, ltb-false, refl, sym, ◌∙◌, ap, subst, arith, length-drop}
 use Rattle.combine_base.specs.Error.Errors.{Errors}
 use Rattle.combine_base.specs.Parser.Answer.{World, Run, Answers, Accepts, Refuses, Resumes, Leaves, fails, peeks, world}
 use Rattle.combine_base.specs.Parser.Kept.{KeptOf}
 use Rattle.combine_base.specs.Parser.Meaning.{Meaning, Reading, IsMeaning, MeansSame}
-use Rattle.combine_base.specs.Parser.Outcome.{Outcome, Accepted, Refused, Undecided, after, IsCommitted}
+use Rattle.combine_base.specs.Parser.Outcome.{Outcome, Accepted, Refused, Undecided, after}
 use Rattle.combine_base.specs.Parser.OutcomeFacts.{or_assoc, or_false, or_true}
 use Rattle.combine_base.specs.Sequence.Joined.{joined}
-use Rattle.combine_base.specs.Sequence.Parts.{RunsFrom, accepted_as, refused_as, run_from}
+use Rattle.combine_base.specs.Sequence.Parts.{RunsFrom, refused_as, run_from}
 use Rattle.combine_base.specs.Sequence.Readings.{following}
-use Rattle.combine_base.specs.Stream.View.{View, Takes, Follows, extended, advanced}
+use Rattle.combine_base.specs.Stream.View.{View, Takes, advanced}
 use Rattle.combine_base.proofs.Inside.{Inside, Keeps, inside_asks, inside_fails, inside_refuses}
-use Rattle.combine_base.proofs.Progress.{Progress, progress_more, progress_outcome, takes_more, takes_none}
+use Rattle.combine_base.proofs.Progress.{Progress, progress_more, progress_outcome, takes_more}
 use Rattle.combine_base.proofs.SequenceResumes.{following_resumes, sequel_resumes, accepted_resumes}
-use Rattle.combine_base.proofs.Starting.{progress_here, progress_left}
+use Rattle.combine_base.proofs.Starting.{in_mode, progress_here, progress_left}
 use Rattle.combine_base.proofs.Same.{same_more, same_none}
 use Rattle.combine_base.specs.declared.error.ParseResult.{ParseResult}
 use Rattle.combine_base.specs.declared.error.Tracked.{Tracked}
@@ -24,13 +23,12 @@ use Rattle.combine_base.specs.declared.stream.Failures.{Failures}
 use Rattle.combine_base.specs.declared.stream.Kind.TheVariants as kinds
 use Rattle.combine_base.specs.declared.stream.StreamOnce as stream
 use Rattle.combine_nested.specs.Asks.{asked_by_some, asked_so}
-use Rattle.combine_nested.specs.Nesting.{Ends, Opened, Closed, Denied, TooDeep, around, begins_steps, valid_step, starts_valid, mark, marked, last_value, unchanged, settles, nesting, runs, stepping, then, goes_on}
+use Rattle.combine_nested.specs.Nesting.{Opened, Closed, Denied, TooDeep, around, begins_steps, valid_step, starts_valid, marked, last_value, unchanged, nesting, runs, stepping, then, goes_on}
 use Rattle.combine_nested.specs.NestingLaws.{marked_is_reading}
 use Rattle.combine_nested.proofs.Settling.{one_higher}
 use Rattle.combine_nested.proofs.Stepping.{marked_resumes, one_more}
 use Rattle.combine_nested.specs.StepCalls.{CalledStep, DidItem, KeepsStep, TakesItem, StepRefuses, IsTooDeep, TakesNothing, item_did, step_did, stops_so, keeps_step}
 use Rattle.combine_nested.specs.declared.nested.Next.{Next}
-use Rattle.combine_nested.specs.declared.nested.Next.TheVariants as nexts
 use Rattle.combine_nested.specs.declared.nested.steps.Did.{Did}
 use Rattle.combine_nested.specs.declared.nested.steps.Did.TheVariants as dids
 use Rattle.combine_nested.specs.declared.nested.steps.Frames.{Frames}
@@ -308,3 +306,25 @@ module _ {F I V N Input U Checkpoint T R P E X : Type 0} (p : parser.Ghosts N In
       by_answer (PeekOk a) h d = falls a false h.is d
       by_answer (CommitErr e) h d = absurd (let x : dids.Goes next c ≡ dids.Stops (CommitErr e) = d in cc)
       by_answer (PeekErr t) h d = absurd (let x : dids.Goes next c ≡ dids.Stops (refused_as l.committed t) = d in cc)
+
+  -- what a loop over steps has before it
+  abbrev pub left_over : View P T → Did F V E → ℕ
+  left_over v (dids.Goes l c) = suc (2 * length v.unread + length (around l))
+  left_over v (dids.Stops y) = 0
+
+  pub steps_fall : {input left : Input} {l : RunningStep F N U} {state : NestedState F N U} {y : Did F V E} → l.begun ≡ false → CalledStep p i seen fresh depth takes joins input left l state y → left_over (i.view left) y < suc (2 * length (i.view input).unread + length (around l.frames))
+  steps_fall {y = dids.Goes l c} b g = let k = step_falls b g in omega arith
+  steps_fall {y = dids.Stops y} b g = omega arith
+
+module _ {F I V N Input U Checkpoint T R P E X : Type 0} (p : parser.Ghosts N Input U I Checkpoint T R P E X) (i : stream.Ghosts Input T R P E X) (seen : Errors T R P E) (fresh : U → Type 0) (depth : ℕ) (roots : F → Type 0) (answers : F → N → Type 0) (takes : F → I → Next F V → Type 0) (joins : F → V → Next F V → Type 0) (some : N → Type 0) where
+  -- what the steps so far lead to: the next one, or the answer
+  abbrev pub leads_to : Bool → NestedState F N U → NestedState F N U → View P T → View P T → Failures → Failures → Did F V E → Type 0
+  leads_to first given state old now before later (dids.Goes l c) = begins_steps state × Loops p i seen fresh depth roots answers takes joins some first given old now before later c l
+  leads_to first given state old now before later (dids.Stops y) = valid_step (KeptOf p.lawful p.meaning some) p.valid state × Answers (whole_world p i seen fresh depth roots answers takes joins some) (all p i seen fresh depth roots answers takes joins some) (record { first = first; state = given; left = state; old = old; new = now; before = before; after = later }) y
+
+  pub step_leads : {first : Bool} {given z state : NestedState F N U} {old : View P T} {before : Failures} {input left : Input} {l : RunningStep F N U} {y : Did F V E} → before.reads ≤ (i.failures input).reads → before.resets ≤ (i.failures input).resets → IsMeaning begins_steps (valid_step (KeptOf p.lawful p.meaning some) p.valid) (all p i seen fresh depth roots answers takes joins some) → IsMeaning fresh p.valid (p.meaning l.parser) → p.valid l.state → RunsFrom begins_steps first given z → Runs p i seen fresh depth roots answers takes joins some z old (i.view input) before (i.failures input) l → CalledStep p i seen fresh depth takes joins input left l state y → leads_to first given state old (i.view left) before (i.failures left) y
+  step_leads {y = dids.Goes next c} m n laws part v from r g =
+      let goes = step_goes p i seen fresh depth roots answers takes joins some _ _ _ _ _ _ _ m n r part v next c g in
+      (goes.0, record { z = _; from = from; reaches = goes.1 })
+  step_leads {y = dids.Stops y} m n laws part v from r g =
+      (step_leaves p i seen fresh depth takes joins some r.kept g, in_mode _ _ _ laws _ _ _ _ from _ _ _ _ _ (step_stops p i seen fresh depth roots answers takes joins some _ _ _ _ _ _ _ m n r y g))

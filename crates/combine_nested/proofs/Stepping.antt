@@ -1,5 +1,5 @@
 -- steps over a cut, and a step before others
-use Rattle.std.proofs.Common.{ℕ, zero, suc, ◌+◌, ◌≡◌, Bool, true, false, ◌||◌, nat_lt, ltb-true, ltb-false, List, length, refl, sym, ◌∙◌, ap, subst, arith}
+use Rattle.std.proofs.Common.{ℕ, suc, ◌+◌, ◌≡◌, Bool, true, false, ◌||◌, nat_lt, ltb-true, ltb-false, List, length, refl, sym, ◌∙◌, ap, subst, arith}
 use Rattle.std.proofs.lemmas.Bool.{lt-ltb}
 use Rattle.combine_base.specs.Parser.Answer.{Resumes}
 use Rattle.combine_base.specs.Parser.Meaning.{Meaning, Reading}

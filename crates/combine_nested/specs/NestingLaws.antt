@@ -1,12 +1,12 @@
 -- steps over frames keep the laws of a meaning
-use Rattle.std.specs.Prelude.{◌≡◌, ◌↔◌, ℕ, zero, suc, Bool, true, false, ◌||◌, nat_lt, List, [], ◌∷◌, length}
+use Rattle.std.specs.Prelude.{◌≡◌, ◌↔◌, ℕ, zero, suc, Bool, true, false, ◌||◌, nat_lt, List, [], length}
 use Rattle.std.proofs.Common.{sym, ◌∙◌, subst, arith, ap, refl}
-use Rattle.combine_base.specs.Stream.View.{View, advanced}
+use Rattle.combine_base.specs.Stream.View.{View}
 use Rattle.combine_base.specs.Parser.Kept.{KeptOf}
 use Rattle.combine_base.specs.Parser.Outcome.{Outcome, Accepted, Refused, Undecided, IsDecided}
 use Rattle.combine_base.specs.Parser.Meaning.{Meaning, Reading, IsReading, IsMeaning}
-use Rattle.combine_base.specs.Sequence.Readings.{continues, following_is_reading, sequel_is_reading}
-use Rattle.combine_nested.specs.Nesting.{Ends, Opened, Closed, Denied, TooDeep, answered, around, begins_steps, ended, goes_on, last_value, mark, marked, nested_lost, nested_rest, nested_whole, nesting, running, runs, settles, stepping, steps, then, unchanged, valid_step}
+use Rattle.combine_base.specs.Sequence.Readings.{following_is_reading, sequel_is_reading}
+use Rattle.combine_nested.specs.Nesting.{Ends, Opened, Closed, Denied, TooDeep, answered, around, begins_steps, ended, goes_on, last_value, mark, marked, nested_lost, nested_rest, nested_whole, nesting, runs, stepping, steps, then, unchanged, valid_step}
 use Rattle.combine_nested.specs.declared.nested.Next.{Next}
 use Rattle.combine_nested.specs.declared.nested.steps.NestedState.{NestedState}
 use Rattle.combine_nested.specs.declared.nested.steps.NestedState.TheVariants as states

@@ -2,7 +2,7 @@
 use Rattle.std.specs.Prelude.{◌≡◌, ◌↔◌, ℕ, zero, suc, Bool, true, false, ◌||◌, nat_lt, List, [], ◌∷◌, length}
 use Rattle.std.proofs.Common.{sym, ◌∙◌, subst, ap, refl}
 use Rattle.combine_base.specs.Stream.View.{View, advanced}
-use Rattle.combine_base.specs.Parser.Kept.{KeptOf, means_one_as}
+use Rattle.combine_base.specs.Parser.Kept.{KeptOf}
 use Rattle.combine_base.specs.Parser.Outcome.{Outcome, Accepted, Refused, Undecided, shape}
 use Rattle.combine_base.specs.Parser.Meaning.{Meaning, Reading, IsSingle, MeansOne}
 use Rattle.combine_base.specs.Sequence.Joined.{joined_one}

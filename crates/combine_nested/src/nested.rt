@@ -76,6 +76,39 @@ pub trait Frame: Drop {
 /// # Partial input
 ///
 /// The state keeps the open frames and the step that runs. Nothing is left unread where the parsers of the steps leave nothing.
+///
+/// # Example
+///
+/// How many pairs of brackets stand inside others. `brackets.rt` of `combine_nested_tests` has it whole, with what is promised of it.
+///
+/// ```
+/// fn take(self, item: u8) -> Result<Next<Brackets, u64>, AllocError> {
+///     if item == b'(' {
+///         let inside = Brackets {
+///             is_outermost: false,
+///             pairs: 0,
+///         };
+///         return Ok(Next::Open(self, inside));
+///     }
+///     if item == b')' && !self.is_outermost {
+///         return Ok(Next::Close(self.pairs));
+///     }
+///     Ok(Next::Refuse("bracket expected"))
+/// }
+///
+/// fn read_brackets(
+///     alloc: Global,
+///     depth: usize,
+///     input: &[u8],
+/// ) -> Result<(u64, &[u8]), UnexpectedParse> {
+///     let root = || Brackets {
+///         is_outermost: true,
+///         pairs: 0,
+///     };
+///     let step = always(satisfy(|byte: u8| byte == b'(' || byte == b')'));
+///     nested(alloc, depth, root, step).parse(input)
+/// }
+/// ```
 #[inline]
 pub fn nested<R, S>(alloc: Global, depth: usize, root: R, step: S) -> Nested<R, S>
     ensures { result ≡ nested_of alloc depth root step }

@@ -4,6 +4,7 @@ use crate::drivers::{Pieces, Runs};
 use crate::rows::InPieces;
 use combine_base::error::ParseError;
 use combine_base::stream::Stream;
+use combine_map::combinator::map;
 use combine_nested::nested::{Frame, Next, nested};
 use combine_token::choice::optional;
 use combine_token::token::satisfy;
@@ -11,7 +12,7 @@ use std::alloc::{AllocError, Global};
 
 /// What a frame does where no command stands.
 #[derive(Clone, Copy, Debug, PartialEq)]
-enum Otherwise {
+pub enum Otherwise {
     Stay,
     Open,
     Close,
@@ -20,13 +21,13 @@ enum Otherwise {
 
 /// A frame, and how many were closed inside it.
 #[derive(Clone, Copy, Drop)]
-struct Commanded {
+pub struct Commanded {
     otherwise: Otherwise,
     closed: u64,
 }
 
 impl Commanded {
-    fn new(otherwise: Otherwise) -> Commanded {
+    pub fn new(otherwise: Otherwise) -> Commanded {
         Commanded {
             otherwise,
             closed: 0,
@@ -39,15 +40,15 @@ impl Commanded {
 }
 
 impl Frame for Commanded {
-    type Item = Option<u8>;
+    type Item = Option<char>;
 
     type Value = u64;
 
-    fn take(self, item: Option<u8>) -> Result<Next<Commanded, u64>, AllocError> {
+    fn take(self, item: Option<char>) -> Result<Next<Commanded, u64>, AllocError> {
         Ok(match item {
-            Some(b'o') => self.opened(),
-            Some(b'c') => Next::Close(self.closed),
-            Some(b'r') => Next::Refuse("refused"),
+            Some('o') => self.opened(),
+            Some('c') => Next::Close(self.closed),
+            Some('r') => Next::Refuse("refused"),
             Some(_) => Next::Stay(self),
             None => match self.otherwise {
                 Otherwise::Stay => Next::Stay(self),
@@ -76,7 +77,10 @@ fn read_commands<Input: Stream<Token = u8>, D: Runs<Input, u64>>(
 where
     Input::Error: ParseError<u8, Input::Range, Input::Position>,
 {
-    let step = |_frame: &Commanded| optional(satisfy(|byte: u8| byte != b'.'));
+    let step = |_frame: &Commanded| {
+        let command = satisfy(|byte: u8| byte != b'.');
+        optional(map(command, |byte: u8| char::from(byte)))
+    };
     driver.run(nested(alloc, depth, move || Commanded::new(otherwise), step))
 }
 

@@ -2,10 +2,20 @@
 #![tactic(auto)]
 
 #[cfg(test)]
+mod brackets;
+#[cfg(test)]
 mod calculator;
 #[cfg(test)]
 mod commands;
 #[cfg(test)]
 mod drivers;
+#[cfg(test)]
+mod json;
+#[cfg(test)]
+mod lists;
+#[cfg(test)]
+mod messages;
+#[cfg(test)]
+mod places;
 #[cfg(test)]
 mod rows;

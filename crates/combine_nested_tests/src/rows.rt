@@ -23,28 +23,43 @@ pub type Row<W> = (&'static str, usize, Outcome<W>);
 
 /// A value that can be compared with one that is written in a row.
 pub trait Like<W> {
-    fn is_like(&self, wanted: &W) -> bool;
+    fn is_like(&self, alloc: Global, wanted: &W) -> Result<bool, AllocError>;
 }
 
 impl Like<i64> for i64 {
-    fn is_like(&self, wanted: &i64) -> bool {
-        *self == *wanted
+    fn is_like(&self, _alloc: Global, wanted: &i64) -> Result<bool, AllocError> {
+        Ok(*self == *wanted)
     }
 }
 
 impl Like<u64> for u64 {
-    fn is_like(&self, wanted: &u64) -> bool {
-        *self == *wanted
+    fn is_like(&self, _alloc: Global, wanted: &u64) -> Result<bool, AllocError> {
+        Ok(*self == *wanted)
     }
 }
 
-/// How many sets of places there are between bytes: 2 to the power of their number less one.
-fn sets_of_places(input: &[u8]) -> u32 {
-    let mut sets: u32 = 1;
-    for _byte in input.iter().skip(1) {
-        sets = sets.saturating_mul(2);
+/// Behind each byte.
+const ONES: u32 = 0xffff_ffff;
+
+/// Behind each second byte.
+const TWOS: u32 = 0xaaaa_aaaa;
+
+/// Each set of places between bytes, for an input of at most nine; for a longer one single bytes, and bytes in twos.
+fn places_in(alloc: Global, input: &[u8]) -> Result<Vec<u32>, AllocError> {
+    let mut sets = Vec::new(alloc);
+    if input.len() > 9 {
+        sets.push(ONES)?;
+        sets.push(TWOS)?;
+        return Ok(sets);
     }
-    sets
+    let mut count: u32 = 1;
+    for _byte in input.iter().skip(1) {
+        count = count.saturating_mul(2);
+    }
+    for places in 0..count {
+        sets.push(places)?;
+    }
+    Ok(sets)
 }
 
 /// The pieces of an input that is cut behind each byte whose bit is set in `places`, the lowest bit first, an empty piece before each.
@@ -70,7 +85,11 @@ fn cut(alloc: Global, input: &[u8], places: u32) -> Result<Vec<&[u8]>, AllocErro
 }
 
 /// Whether an answer is that outcome.
-fn agrees<V: Like<W> + Drop, W>(answer: InPieces<V>, wanted: &Outcome<W>) -> bool {
+fn agrees<V: Like<W> + Drop, W>(
+    alloc: Global,
+    answer: InPieces<V>,
+    wanted: &Outcome<W>,
+) -> Result<bool, AllocError> {
     match (answer, wanted) {
         (
             Ok(
@@ -81,15 +100,18 @@ fn agrees<V: Like<W> + Drop, W>(answer: InPieces<V>, wanted: &Outcome<W>) -> boo
                 },
             ),
             Outcome::Accepted(like, count, is_committed),
-        ) => value.is_like(like) && taken == *count && committed == *is_committed,
-        (Ok(Answer::Refused { error, committed }), Outcome::Refused(kind, is_committed)) => error
-            == UnexpectedParse(*kind)
-            && committed == *is_committed,
-        _ => false,
+        ) => {
+            let is_like = value.is_like(alloc, like)?;
+            Ok(is_like && taken == *count && committed == *is_committed)
+        }
+        (Ok(Answer::Refused { error, committed }), Outcome::Refused(kind, is_committed)) => {
+            Ok(error == UnexpectedParse(*kind) && committed == *is_committed)
+        }
+        _ => Ok(false),
     }
 }
 
-/// The answers are those of the rows, however the inputs are cut.
+/// The answers are those of the rows, in all these pieces.
 pub fn over_every_cut<V: Like<W> + Drop, W, F: Fn(Global, usize, &[&[u8]]) -> InPieces<V> + Drop>(
     rt: &impl Abort,
     alloc: Global,
@@ -100,10 +122,10 @@ pub fn over_every_cut<V: Like<W> + Drop, W, F: Fn(Global, usize, &[&[u8]]) -> In
 {
     for (input, depth, wanted) in rows {
         let bytes = input.as_bytes();
-        for places in 0..sets_of_places(bytes) {
+        for places in places_in(alloc, bytes)? {
             let pieces = cut(alloc, bytes, places)?;
             let answer = parse(alloc, *depth, pieces.as_slice());
-            assert!(rt; agrees(answer, wanted), "{input} cut at {places:b}");
+            assert!(rt; agrees(alloc, answer, wanted)?, "{input} cut at {places:b}");
         }
     }
     Ok(())

@@ -65,39 +65,27 @@ impl<
         input: &mut Input,
         state: &mut Self::PartialState,
     ) -> ParseResult<F::Value, Input::Error> {
-        let mut frames: Frames<F>;
-        let mut committed: bool;
-        match take_state(mode, state) {
-            NestedState::Running(step) => match run_step(mode, input, self.depth, step, state) {
-                Did::Goes(next, commits) => {
-                    frames = next;
-                    committed = commits;
-                }
-                Did::Stops(answer) => return answer,
-            },
+        let mut next = match take_state(mode, state) {
+            NestedState::Running(step) => run_step(mode, input, self.depth, step, state),
             NestedState::Start => {
-                frames = Frames {
-                    top: self.root.make(),
-                    outer: Vec::new(self.alloc),
-                };
-                committed = false;
+                let top = self.root.make();
+                let outer = Vec::new(self.alloc);
+                Did::Goes(Frames { top, outer }, false)
             }
-        }
+        };
         'steps: loop {
-            let running = RunningStep {
+            let (frames, committed) = match next {
+                Did::Goes(frames, committed) => (frames, committed),
+                Did::Stops(answer) => return answer,
+            };
+            let step = RunningStep {
                 parser: self.asked.ask(&frames.top),
                 state: N::PartialState::default(),
                 frames,
                 committed,
                 begun: false,
             };
-            match run_step(FirstMode, input, self.depth, running, state) {
-                Did::Goes(next, commits) => {
-                    frames = next;
-                    committed = commits;
-                }
-                Did::Stops(answer) => return answer,
-            }
+            next = run_step(FirstMode, input, self.depth, step, state);
         }
     }
 

@@ -1,0 +1,66 @@
+//! Documents, written without blanks.
+
+use crate::node::Node;
+use std::io;
+use std::io::Write;
+
+/// The digits of escapes.
+const DIGITS: &[u8] = b"0123456789abcdef";
+
+/// Writes the text in quotes, with escapes where they must be.
+fn write_text<W: Write>(out: &mut W, text: &str) -> io::Result<()> {
+    out.write_all(b"\"")?;
+    for byte in text.as_bytes() {
+        match *byte {
+            b'"' => out.write_all(b"\\\"")?,
+            b'\\' => out.write_all(b"\\\\")?,
+            b'\n' => out.write_all(b"\\n")?,
+            b'\r' => out.write_all(b"\\r")?,
+            b'\t' => out.write_all(b"\\t")?,
+            control if control < b' ' => {
+                let digits = [DIGITS[(control >> 4) as usize], DIGITS[(control & 15) as usize]];
+                out.write_all(b"\\u00")?;
+                out.write_all(&digits)?;
+            }
+            plain => out.write_all(&[plain])?,
+        }
+    }
+    out.write_all(b"\"")
+}
+
+/// Writes one part, without what stands between it and others.
+fn write_node<W: Write>(out: &mut W, node: &Node) -> io::Result<()> {
+    match node {
+        Node::Null => out.write_all(b"null"),
+        Node::Bool(true) => out.write_all(b"true"),
+        Node::Bool(false) => out.write_all(b"false"),
+        Node::Number(number) => out.write_all(number.as_slice()),
+        Node::Text(text) => write_text(out, text.as_str()),
+        Node::Name(name) => {
+            write_text(out, name.as_str())?;
+            out.write_all(b":")
+        }
+        Node::ArrayBegins => out.write_all(b"["),
+        Node::ArrayEnds => out.write_all(b"]"),
+        Node::ObjectBegins => out.write_all(b"{"),
+        Node::ObjectEnds => out.write_all(b"}"),
+    }
+}
+
+/// Writes the parts of a document, with commas and no blanks.
+///
+/// # Errors
+///
+/// That of the writer; how much is written then isn't said.
+pub fn write_document<W: Write>(out: &mut W, document: &[Node]) -> io::Result<()> {
+    let mut is_behind_value = false;
+    for node in document {
+        let ends = matches!(node, Node::ArrayEnds | Node::ObjectEnds);
+        if is_behind_value && !ends {
+            out.write_all(b",")?;
+        }
+        write_node(out, node)?;
+        is_behind_value = !matches!(node, Node::Name(_) | Node::ArrayBegins | Node::ObjectBegins);
+    }
+    Ok(())
+}
