@@ -14,6 +14,8 @@ mod plain;
 #[cfg(test)]
 mod rows;
 #[cfg(test)]
+mod stable;
+#[cfg(test)]
 mod streams;
 #[cfg(test)]
 mod tables;
