@@ -33,8 +33,8 @@ pub fn whole_number_word(alloc: Global, pieces: &[&[char]]) -> InPieces<&'static
 }
 
 /// One of two words, by a slice.
-pub fn one_or_two(alloc: Global, pieces: &[&[u8]]) -> InPieces<&'static [u8]> {
-    let mut words = [bytes(b"one"), bytes(b"two")];
+pub fn one_or_two(alloc: Global, pieces: &[&[char]]) -> InPieces<&'static str> {
+    let mut words = [string("one"), string("two")];
     parse_pieces(alloc, choice(Slice(&mut words)), pieces)
 }
 
@@ -170,11 +170,11 @@ mod tests {
     #[test]
     fn a_slice_of_words(rt: HostRuntime) -> Result<(), AllocError> {
         let alloc = rt.alloc();
-        let rows: [(&[u8], InPieces<&'static [u8]>); 4] = [
-            (b"two", accepted(b"two", 3)),
-            (b"onex", accepted(b"one", 3)),
-            (b"three", refused(true)),
-            (b"x", refused(false)),
+        let rows: [(&[char], InPieces<&'static str>); 4] = [
+            (&['t', 'w', 'o'], accepted("two", 3)),
+            (&['o', 'n', 'e', 'x'], accepted("one", 3)),
+            (&['t', 'h', 'r', 'e', 'e'], refused(true)),
+            (&['x'], refused(false)),
         ];
         for (input, wanted) in rows {
             for places in 0..sets_of_places(input) {

@@ -5,6 +5,7 @@ ghost use Rattle.combine_base.specs.declared.stream.Kind.TheVariants as kinds;
 use combine_base::error::{Info, ParseError, StreamError};
 use combine_base::parser::Parser;
 use combine_base::stream::{Kind, Stream, StreamOnce};
+use combine_error_calls::calls::Lettered;
 use combine_errors::easy::{Error, Errors};
 use combine_errors::span::Span;
 use combine_errors::{easy, span};
@@ -12,8 +13,8 @@ use combine_functions::combinator::and_then;
 use combine_spanned::combinator::spanned;
 use combine_stream::position;
 use combine_token::choice::optional;
-use combine_token::token::any;
-use std::alloc::Global;
+use combine_token::token::{any, token};
+use std::alloc::{AllocError, Global};
 
 /// What an error of a stream says.
 type Item<Input> = <<Input as StreamOnce>::Error as ParseError<
@@ -40,6 +41,9 @@ where
 
     /// The error, if it says one fixed message and nothing else.
     fn told(error: Self::Error) -> Option<Told>;
+
+    /// Where the error stands, and what people read of it.
+    fn read(alloc: Global, error: Self::Error) -> Result<(Span<usize>, String), AllocError>;
 }
 
 impl Spans for easy::Stream<span::Stream<position::SliceStream<'static, u8>>> {
@@ -66,6 +70,25 @@ impl Spans for easy::Stream<span::Stream<position::SliceStream<'static, u8>>> {
             }),
             _ => None,
         }
+    }
+
+    /// The text is that of the same error where its span begins.
+    fn read(
+        alloc: Global,
+        error: Errors<u8, &'static [u8], Span<usize>>,
+    ) -> Result<(Span<usize>, String), AllocError> {
+        let Errors {
+            position,
+            errors,
+            kind,
+        } = error;
+        let at_start = Errors {
+            position: position.start,
+            errors,
+            kind,
+        };
+        let text = <position::SliceStream<'static, u8> as Lettered>::read(alloc, &at_start)?;
+        Ok((position, text))
     }
 }
 
@@ -108,6 +131,20 @@ where
     ]
 }
 
+/// What the refusal of an `a` says: what the parser inside adds. `None` where it is accepted.
+fn an_a<Input: Spans>(
+    alloc: Global,
+    bytes: &'static [u8],
+) -> Result<Option<(Span<usize>, String)>, AllocError>
+where
+    Input::Error: ParseError<u8, Input::Range, Span<usize>>,
+{
+    match spanned(token(b'a')).parse(Input::begin(alloc, bytes)) {
+        Ok((_read, _left)) => Ok(None),
+        Err(error) => Ok(Some(Input::read(alloc, error)?)),
+    }
+}
+
 #[cfg(test)]
 mod tests {
     use super::*;
@@ -123,5 +160,28 @@ mod tests {
             assert_eq!(rt; told.message, "bad");
             assert_eq!(rt; told.kind, Kind::Refused);
         }
+    }
+
+    #[test]
+    fn of_one_byte(rt: HostRuntime) -> Result<(), AllocError> {
+        type Input = easy::Stream<span::Stream<position::SliceStream<'static, u8>>>;
+        let rows = [
+            (
+                b"x".as_slice(),
+                "Parse error at 0\nUnexpected `x`\nExpected `a`\n",
+            ),
+            (
+                b"",
+                "Parse error at 0\nUnexpected end of input\nExpected `a`\n",
+            ),
+        ];
+        for (bytes, wanted) in rows {
+            let Some((span, said)) = an_a::<Input>(rt.alloc(), bytes)? else {
+                panic!(rt; "it is refused");
+            };
+            assert_eq!(rt; span, Span { start: 0, end: 0 });
+            assert_eq!(rt; said.as_str(), wanted);
+        }
+        Ok(())
     }
 }

@@ -20,4 +20,6 @@ mod streams;
 #[cfg(test)]
 mod tables;
 #[cfg(test)]
+mod with_state;
+#[cfg(test)]
 mod written;

@@ -1,8 +1,9 @@
 //! Plain callers of repetitions up to a place, over pieces.
-use combine_base::error::{ParseResult, UnexpectedParse};
+use combine_base::error::{ParseError, ParseResult, UnexpectedParse};
 use combine_base::parser::{Answer, Parser, Session, SessionError, parse_pieces};
-use combine_base::stream::{Kind, fed};
+use combine_base::stream::{Kind, Stream, fed};
 use combine_map::combinator::attempt;
+use combine_stream::MaybePartialStream;
 use combine_text::byte::bytes;
 use combine_token::token::{satisfy, token, value};
 use combine_until::repeat::{repeat_skip_until, repeat_until, skip_until, take_until};
@@ -326,5 +327,39 @@ fn put_back_beyond_a_place(rt: HostRuntime) -> Result<(), AllocError> {
             None => assert!(rt; false, "on {second}: peeked"),
         }
     }
+    Ok(())
+}
+
+/// Asks for more of one stream of bytes, and then parses another with the same state: the bytes before the first `;`, if they are accepted committed.
+fn up_to_semicolon_resumed<Input: Stream<Token = u8>>(
+    alloc: Global,
+    first: &mut Input,
+    second: &mut Input,
+) -> Option<Vec<u8>>
+where
+    Input::Error: ParseError<u8, Input::Range, Input::Position>,
+{
+    let mut parser = take_until::<Vec<u8>, _, _, _>(alloc, token(b';'));
+    let mut state = Default::default();
+    match parser.parse_partial(first, &mut state) {
+        ParseResult::CommitErr(error) if error.kind() == Kind::End => {}
+        _ => return None,
+    }
+    match parser.parse_partial(second, &mut state) {
+        ParseResult::CommitOk(value) => Some(value),
+        _ => None,
+    }
+}
+
+/// It does so over a stream of slices too, of a caller who keeps the input.
+#[test]
+fn put_back_where_more_may_follow(rt: HostRuntime) -> Result<(), AllocError> {
+    let alloc = rt.alloc();
+    let mut first = MaybePartialStream(b"ab".as_slice(), true);
+    let mut second = MaybePartialStream(b"ab;".as_slice(), true);
+    let value = up_to_semicolon_resumed(alloc, &mut first, &mut second);
+    assert_eq!(rt; value, Some(b"ab".to_vec(alloc)?));
+    assert_eq!(rt; first.0, b"ab".as_slice());
+    assert_eq!(rt; second.0, b";".as_slice());
     Ok(())
 }
