@@ -341,13 +341,20 @@ where
 {
     let mut parser = take_until::<Vec<u8>, _, _, _>(alloc, token(b';'));
     let mut state = Default::default();
-    match parser.parse_partial(first, &mut state) {
-        ParseResult::CommitErr(error) if error.kind() == Kind::End => {}
-        _ => return None,
+    let asks_for_more = match parser.parse_partial(first, &mut state) {
+        ParseResult::CommitErr(error) => error.kind() == Kind::End,
+        ParseResult::CommitOk(_value) => false,
+        ParseResult::PeekOk(_value) => false,
+        ParseResult::PeekErr(_refusal) => false,
+    };
+    if !asks_for_more {
+        return None;
     }
     match parser.parse_partial(second, &mut state) {
         ParseResult::CommitOk(value) => Some(value),
-        _ => None,
+        ParseResult::PeekOk(_value) => None,
+        ParseResult::CommitErr(_error) => None,
+        ParseResult::PeekErr(_refusal) => None,
     }
 }
 
