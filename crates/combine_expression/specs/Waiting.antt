@@ -1,0 +1,77 @@
+-- expressions that aren't over
+use Rattle.std.specs.Prelude.{◌≡◌, ℕ, zero, suc, ◌≤◌, List, [], ◌∷◌, ◌++◌, slice_get}
+use Rattle.std.specs.Prelude.{Option, Some, None}
+use Rattle.combine_expression.specs.declared.expression.Fixity.{Fixity}
+use Rattle.combine_expression.specs.declared.expression.Fixity.TheVariants as fixities
+use Rattle.combine_expression.specs.declared.expression.operands.Pending.{Pending}
+use Rattle.combine_expression.specs.declared.expression.operands.Held.{Held}
+use Rattle.combine_expression.specs.Levels.{Thing, Operand, Prefix, Postfix, Infix, Expression}
+
+-- the lowest levels of the left and the right operand of an infix operator at a level
+abbrev pub sides_of : ℕ → Option Fixity → Option (ℕ × ℕ)
+sides_of p None = None
+sides_of p (Some fixities.Prefix) = None
+sides_of p (Some fixities.Postfix) = None
+sides_of p (Some fixities.Left) = Some (p, suc p)
+sides_of p (Some fixities.Right) = Some (suc p, p)
+sides_of p (Some fixities.Neither) = Some (suc p, suc p)
+
+-- the lowest level that the operand may have that operators wait for, the innermost first
+abbrev pub asked : {O V : Type 0} → List (Pending O V) → ℕ
+asked [] = 0
+asked (p ∷ ps) = p.asks
+
+module _ {O V : Type 0} (changes : O → V → V → Type 0) (joins : O → V → V → V → Type 0) where
+  abbrev pub makes_of : O → Option V → V → V → Type 0
+  makes_of o None b w = changes o b w
+  makes_of o (Some a) b w = joins o a b w
+
+  -- an operator with its operands, as an operand
+  pub record Reduced (waits : Pending O V) (right : V) (held : Held V) : Type 0 where
+    pub level : held.level ≡ waits.level
+    pub made : makes_of waits.operator waits.left right held.value
+
+module _ {O V : Type 0} (levels : List Fixity) (changes : O → V → V → Type 0) (joins : O → V → V → V → Type 0) where
+  module _ (below : List (Thing O V) → Type 0) (needs : ℕ) (waits : Pending O V) (ts : List (Thing O V)) where
+    -- a prefix operator that waits, behind what waits below it
+    pub record WaitsInFront : Type 0 where
+      pub before : List (Thing O V)
+      pub stands : below before
+      pub fits : needs ≤ waits.level
+      pub is_prefix : slice_get levels waits.level ≡ Some fixities.Prefix
+      pub asks : waits.asks ≡ waits.level
+      pub are : ts ≡ before ++ Prefix waits.level waits.operator ∷ []
+
+    -- an infix operator that waits, behind its left operand
+    pub record WaitsBetween (a : V) : Type 0 where
+      pub before : List (Thing O V)
+      pub stands : below before
+      pub fits : needs ≤ waits.level
+      pub lowest : ℕ
+      pub sides : sides_of waits.level (slice_get levels waits.level) ≡ Some (lowest, waits.asks)
+      pub left : List (Thing O V)
+      pub is_left : Expression levels changes joins lowest left a
+      pub are : ts ≡ before ++ (left ++ Infix waits.level waits.operator ∷ [])
+
+    abbrev pub waits_so : Option V → Type 0
+    waits_so None = WaitsInFront
+    waits_so (Some a) = WaitsBetween a
+
+  -- the things that were read while these operators wait, the innermost first
+  abbrev pub pends : List (Pending O V) → List (Thing O V) → Type 0
+  pends [] ts = ts ≡ []
+  pends (p ∷ ps) ts = waits_so (pends ps) (asked ps) p ts p.left
+
+  -- and with the operand that they wait for
+  pub record Holds (ps : List (Pending O V)) (held : Held V) (ts : List (Thing O V)) : Type 0 where
+    pub before : List (Thing O V)
+    pub pends : pends ps before
+    pub fits : asked ps ≤ held.level
+    pub operand : List (Thing O V)
+    pub is_operand : Expression levels changes joins held.level operand held.value
+    pub are : ts ≡ before ++ operand
+
+  -- whether or not it was read
+  abbrev pub stands : List (Pending O V) → Option (Held V) → List (Thing O V) → Type 0
+  stands ps None ts = pends ps ts
+  stands ps (Some h) ts = Holds ps h ts

@@ -1,0 +1,4 @@
+//! Expressions of operators with levels.
+#![tactic(auto)]
+
+pub mod expression;
