@@ -1,1 +1,2 @@
 mod Reducing
+mod Standing

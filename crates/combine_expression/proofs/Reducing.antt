@@ -5,6 +5,7 @@ use Rattle.combine_expression.specs.declared.expression.Fixity.{Fixity}
 use Rattle.combine_expression.specs.declared.expression.Fixity.TheVariants as fixities
 use Rattle.combine_expression.specs.declared.expression.operands.Pending.{Pending}
 use Rattle.combine_expression.specs.declared.expression.operands.Held.{Held}
+use Rattle.combine_expression.specs.declared.expression.operands.Lowest.{Lowest}
 use Rattle.combine_expression.specs.Levels.{Thing, Operand, Prefix, Postfix, Infix, Expression, operand, higher, prefix, postfix, left, right, neither}
 use Rattle.combine_expression.specs.Waiting.{Holds, Reduced, WaitsBetween, WaitsInFront, asked, makes_of, pends, sides_of, stands, waits_so}
 
@@ -23,24 +24,24 @@ module _ {O V : Type 0} (levels : List Fixity) (changes : O → V → V → Type
   pub lower : (p q : ℕ) (ts : List (Thing O V)) (v : V) → p ≤ q → E q ts v → E p ts v
   lower p q ts v l x = lower_by (q - p) p q ts v (omega arith) x
 
-  infix_at : (f : Option Fixity) (p lowest asks : ℕ) (o : O) (l r : List (Thing O V)) (a b w : V) → slice_get levels p ≡ f → sides_of p f ≡ Some (lowest, asks) → E lowest l a → E asks r b → joins o a b w → E p (l ++ Infix p o ∷ r) w
-  infix_at None p lowest asks o l r a b w e s x y j = absurd (cc)
-  infix_at (Some fixities.Prefix) p lowest asks o l r a b w e s x y j = absurd (cc)
-  infix_at (Some fixities.Postfix) p lowest asks o l r a b w e s x y j = absurd (cc)
-  infix_at (Some fixities.Left) p lowest asks o l r a b w e s x y j =
-      let t : ◌≡◌ {A = ℕ × ℕ} (lowest, asks) (p, suc p) = cc in
-      let i : lowest ≡ p = ap (λ (x : ℕ × ℕ). x.0) t in
-      let k : asks ≡ suc p = ap (λ (x : ℕ × ℕ). x.1) t in
+  infix_at : (f : Option Fixity) (p : ℕ) (lowest : Lowest) (o : O) (l r : List (Thing O V)) (a b w : V) → slice_get levels p ≡ f → sides_of p f ≡ Some lowest → E lowest.left l a → E lowest.right r b → joins o a b w → E p (l ++ Infix p o ∷ r) w
+  infix_at None p lowest o l r a b w e s x y j = absurd (cc)
+  infix_at (Some fixities.Prefix) p lowest o l r a b w e s x y j = absurd (cc)
+  infix_at (Some fixities.Postfix) p lowest o l r a b w e s x y j = absurd (cc)
+  infix_at (Some fixities.Left) p lowest o l r a b w e s x y j =
+      let t : lowest ≡ record { left = p; right = suc p } = cc in
+      let i : lowest.left ≡ p = ap (λ (k : Lowest). k.left) t in
+      let k : lowest.right ≡ suc p = ap (λ (k : Lowest). k.right) t in
       left p o l r a b w e (subst (λ n. E n l a) i x) (subst (λ n. E n r b) k y) j
-  infix_at (Some fixities.Right) p lowest asks o l r a b w e s x y j =
-      let t : ◌≡◌ {A = ℕ × ℕ} (lowest, asks) (suc p, p) = cc in
-      let i : lowest ≡ suc p = ap (λ (x : ℕ × ℕ). x.0) t in
-      let k : asks ≡ p = ap (λ (x : ℕ × ℕ). x.1) t in
+  infix_at (Some fixities.Right) p lowest o l r a b w e s x y j =
+      let t : lowest ≡ record { left = suc p; right = p } = cc in
+      let i : lowest.left ≡ suc p = ap (λ (k : Lowest). k.left) t in
+      let k : lowest.right ≡ p = ap (λ (k : Lowest). k.right) t in
       right p o l r a b w e (subst (λ n. E n l a) i x) (subst (λ n. E n r b) k y) j
-  infix_at (Some fixities.Neither) p lowest asks o l r a b w e s x y j =
-      let t : ◌≡◌ {A = ℕ × ℕ} (lowest, asks) (suc p, suc p) = cc in
-      let i : lowest ≡ suc p = ap (λ (x : ℕ × ℕ). x.0) t in
-      let k : asks ≡ suc p = ap (λ (x : ℕ × ℕ). x.1) t in
+  infix_at (Some fixities.Neither) p lowest o l r a b w e s x y j =
+      let t : lowest ≡ record { left = suc p; right = suc p } = cc in
+      let i : lowest.left ≡ suc p = ap (λ (k : Lowest). k.left) t in
+      let k : lowest.right ≡ suc p = ap (λ (k : Lowest). k.right) t in
       neither p o l r a b w e (subst (λ n. E n l a) i x) (subst (λ n. E n r b) k y) j
 
   module _ (p : Pending O V) (ps : List (Pending O V)) (held next : Held V) (ts before operand : List (Thing O V)) (fits : p.asks ≤ held.level) (are : ts ≡ before ++ operand) (is_operand : E held.level operand held.value) (same : next.level ≡ p.level) where
@@ -58,7 +59,7 @@ module _ {O V : Type 0} (levels : List Fixity) (changes : O → V → V → Type
       pends = w.stands;
       fits = (let e = w.fits in omega arith);
       operand = w.left ++ Infix p.level p.operator ∷ operand;
-      is_operand = subst (λ k. E k (w.left ++ Infix p.level p.operator ∷ operand) next.value) (sym same) (infix_at (slice_get levels p.level) p.level w.lowest p.asks p.operator w.left operand a held.value next.value refl w.sides w.is_left (lower p.asks held.level operand held.value fits is_operand) m);
+      is_operand = subst (λ k. E k (w.left ++ Infix p.level p.operator ∷ operand) next.value) (sym same) (infix_at (slice_get levels p.level) p.level w.lowest p.operator w.left operand a held.value next.value refl w.sides w.is_left (lower w.lowest.right held.level operand held.value (let e = w.asks in omega arith) is_operand) m);
       are = are ∙ ap (λ k. k ++ operand) w.are ∙ append_assoc w.before (w.left ++ Infix p.level p.operator ∷ []) operand ∙ ap (λ k. w.before ++ k) (append_assoc w.left (Infix p.level p.operator ∷ []) operand);
     }
 

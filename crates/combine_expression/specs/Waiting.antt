@@ -1,20 +1,22 @@
 -- expressions that aren't over
-use Rattle.std.specs.Prelude.{◌≡◌, ℕ, zero, suc, ◌≤◌, List, [], ◌∷◌, ◌++◌, slice_get}
+use Rattle.std.specs.Prelude.{◌≡◌, ℕ, zero, suc, ◌≤◌, List, [], ◌∷◌, ◌++◌, reverse, slice_get, vec_items}
 use Rattle.std.specs.Prelude.{Option, Some, None}
 use Rattle.combine_expression.specs.declared.expression.Fixity.{Fixity}
 use Rattle.combine_expression.specs.declared.expression.Fixity.TheVariants as fixities
 use Rattle.combine_expression.specs.declared.expression.operands.Pending.{Pending}
 use Rattle.combine_expression.specs.declared.expression.operands.Held.{Held}
+use Rattle.combine_expression.specs.declared.expression.operands.Operands.{Operands}
+use Rattle.combine_expression.specs.declared.expression.operands.Lowest.{Lowest}
 use Rattle.combine_expression.specs.Levels.{Thing, Operand, Prefix, Postfix, Infix, Expression}
 
 -- the lowest levels of the left and the right operand of an infix operator at a level
-abbrev pub sides_of : ℕ → Option Fixity → Option (ℕ × ℕ)
+abbrev pub sides_of : ℕ → Option Fixity → Option Lowest
 sides_of p None = None
 sides_of p (Some fixities.Prefix) = None
 sides_of p (Some fixities.Postfix) = None
-sides_of p (Some fixities.Left) = Some (p, suc p)
-sides_of p (Some fixities.Right) = Some (suc p, p)
-sides_of p (Some fixities.Neither) = Some (suc p, suc p)
+sides_of p (Some fixities.Left) = Some (record { left = p; right = suc p })
+sides_of p (Some fixities.Right) = Some (record { left = suc p; right = p })
+sides_of p (Some fixities.Neither) = Some (record { left = suc p; right = suc p })
 
 -- the lowest level that the operand may have that operators wait for, the innermost first
 abbrev pub asked : {O V : Type 0} → List (Pending O V) → ℕ
@@ -47,10 +49,11 @@ module _ {O V : Type 0} (levels : List Fixity) (changes : O → V → V → Type
       pub before : List (Thing O V)
       pub stands : below before
       pub fits : needs ≤ waits.level
-      pub lowest : ℕ
-      pub sides : sides_of waits.level (slice_get levels waits.level) ≡ Some (lowest, waits.asks)
+      pub lowest : Lowest
+      pub sides : sides_of waits.level (slice_get levels waits.level) ≡ Some lowest
+      pub asks : waits.asks ≡ lowest.right
       pub left : List (Thing O V)
-      pub is_left : Expression levels changes joins lowest left a
+      pub is_left : Expression levels changes joins lowest.left left a
       pub are : ts ≡ before ++ (left ++ Infix waits.level waits.operator ∷ [])
 
     abbrev pub waits_so : Option V → Type 0
@@ -75,3 +78,13 @@ module _ {O V : Type 0} (levels : List Fixity) (changes : O → V → V → Type
   abbrev pub stands : List (Pending O V) → Option (Held V) → List (Thing O V) → Type 0
   stands ps None ts = pends ps ts
   stands ps (Some h) ts = Holds ps h ts
+
+module _ {O V : Type 0} (changes : O → V → V → Type 0) (joins : O → V → V → V → Type 0) where
+  -- the things that were read of an expression that isn't over
+  abbrev pub stands_in : Operands O V → List (Thing O V) → Type 0
+  stands_in e ts = stands e.levels.now changes joins (reverse (vec_items e.pending)) e.held ts
+
+  -- one comes of the other by one thing more
+  pub record Follows (from to : Operands O V) (t : Thing O V) : Type 0 where
+    pub levels : to.levels ≡ from.levels
+    pub stands : (ts : List (Thing O V)) → stands_in from ts → stands_in to (ts ++ t ∷ [])

@@ -1,7 +1,8 @@
 //! An expression that isn't over: the operators that wait for operands, and the operand that they wait for.
-ghost use Rattle.std.specs.Prelude.{◌≡◌, ◌≤◌, ◌<◌, MatchResult, IfOk, IfSome, reverse, slice_get, vec_items};
-ghost use Rattle.combine_expression.specs.Levels.{Expression};
-ghost use Rattle.combine_expression.specs.Waiting.{Holds, Reduced, asked, sides_of, stands};
+ghost use Rattle.std.specs.Prelude.{◌≡◌, ◌≤◌, List, [], ◌∷◌, ◌++◌, MatchResult, IfOk, Some, reverse, slice_get, true, vec_items};
+ghost use Rattle.combine_expression.specs.declared.expression.Fixity.TheVariants as fixities;
+ghost use Rattle.combine_expression.specs.Levels.{Expression, Infix, Operand, Postfix, Prefix};
+ghost use Rattle.combine_expression.specs.Waiting.{Follows, Holds, Reduced, asked, sides_of, stands_in};
 
 use super::{Fixity, Operator};
 
@@ -25,6 +26,13 @@ pub struct Held<V> {
     pub(super) value: V,
     /// The level of its outermost operator; that behind the last one where it has none.
     pub(super) level: usize,
+}
+
+/// The lowest levels that the operands of an infix operator may have.
+#[derive(Clone, Copy, Drop)]
+pub(super) struct Lowest {
+    left: usize,
+    right: usize,
 }
 
 /// Why an expression doesn't go on.
@@ -53,14 +61,43 @@ fn fixity_at(levels: &[Fixity], level: usize) -> Option<Fixity>
     levels.get(level).copied()
 }
 
-/// The lowest levels that the operands on the left and on the right of an infix operator may have, where the operators of the level are infix.
-fn sides(levels: &[Fixity], level: usize) -> Option<(usize, usize)>
+/// Whether the operators of a level are prefix operators.
+fn is_prefix(levels: &[Fixity], level: usize) -> bool
+    ensures { result ≡ true → slice_get levels.now level ≡ Some fixities.Prefix }
+{
+    match fixity_at(levels, level) {
+        Some(Fixity::Prefix) => true,
+        _ => false,
+    }
+}
+
+/// Whether the operators of a level are postfix operators.
+fn is_postfix(levels: &[Fixity], level: usize) -> bool
+    ensures { result ≡ true → slice_get levels.now level ≡ Some fixities.Postfix }
+{
+    match fixity_at(levels, level) {
+        Some(Fixity::Postfix) => true,
+        _ => false,
+    }
+}
+
+/// The lowest levels of an infix operator's operands, where the operators of the level are infix.
+fn sides(levels: &[Fixity], level: usize) -> Option<Lowest>
     ensures { result ≡ sides_of level (slice_get levels.now level) }
 {
     match fixity_at(levels, level)? {
-        Fixity::Left => Some((level, level + 1)),
-        Fixity::Right => Some((level + 1, level)),
-        Fixity::Neither => Some((level + 1, level + 1)),
+        Fixity::Left => Some(Lowest {
+            left: level,
+            right: level + 1,
+        }),
+        Fixity::Right => Some(Lowest {
+            left: level + 1,
+            right: level,
+        }),
+        Fixity::Neither => Some(Lowest {
+            left: level + 1,
+            right: level + 1,
+        }),
         Fixity::Prefix | Fixity::Postfix => None,
     }
 }
@@ -75,11 +112,25 @@ fn asked_by<O, V>(pending: &Vec<Pending<O, V>>) -> usize
     }
 }
 
+/// Those that wait, and one more.
+fn wait<O: Drop, V: Drop>(
+    pending: Vec<Pending<O, V>>,
+    waits: Pending<O, V>,
+) -> Result<Vec<Pending<O, V>>, Fault>
+    ensures { MatchResult result (λ r. vec_items r ≡ vec_items pending ++ waits ∷ []) (λ _. Unit {0}) }
+{
+    let mut pending = pending;
+    match pending.push(waits) {
+        Ok(()) => Ok(pending),
+        Err(_) => Err(Fault::Memory),
+    }
+}
+
 /// An operator with its operands, as an operand.
 fn reduce<O: Operator>(
     waits: Pending<O, O::Value>,
     right: O::Value,
-) -> Result<Held<O::Value>, &'static str>
+) -> Result<Held<O::Value>, Fault>
     ensures { MatchResult result (Reduced O.changes O.joins waits right) (λ _. Unit {0}) }
 {
     let Pending {
@@ -88,11 +139,14 @@ fn reduce<O: Operator>(
         asks: _,
         left,
     } = waits;
-    let value = match left {
-        Some(left) => operator.join(left, right)?,
-        None => operator.change(right)?,
+    let made = match left {
+        Some(left) => operator.join(left, right),
+        None => operator.change(right),
     };
-    Ok(Held { value, level })
+    match made {
+        Ok(value) => Ok(Held { value, level }),
+        Err(message) => Err(Fault::Refused(message)),
+    }
 }
 
 /// Gives the operand to the innermost of the operators that wait as long as that asks for a higher level.
@@ -100,7 +154,7 @@ fn reduce_above<O: Operator>(
     pending: &mut Vec<Pending<O, O::Value>>,
     held: Held<O::Value>,
     level: usize,
-) -> Result<Held<O::Value>, &'static str>
+) -> Result<Held<O::Value>, Fault>
     ensures low { IfOk result (λ _. asked (reverse (vec_items pending.new)) ≤ level) }
     ensures holds { MatchResult result (λ h. (levels : _) (ts : _) → Holds levels O.changes O.joins (reverse (vec_items pending.old)) held ts → Holds levels O.changes O.joins (reverse (vec_items pending.new)) h ts) (λ _. Unit {0}) }
 {
@@ -118,7 +172,7 @@ fn reduce_above<O: Operator>(
 fn reduce_all<O: Operator>(
     pending: Vec<Pending<O, O::Value>>,
     held: Held<O::Value>,
-) -> Result<O::Value, &'static str>
+) -> Result<O::Value, Fault>
     ensures { MatchResult result (λ v. (levels : _) (ts : _) → Holds levels O.changes O.joins (reverse (vec_items pending)) held ts → Expression levels O.changes O.joins 0 ts v) (λ _. Unit {0}) }
 {
     let mut pending = pending;
@@ -127,4 +181,139 @@ fn reduce_all<O: Operator>(
         held = reduce(waits, held.value)?;
     }
     Ok(held.value)
+}
+
+impl<O: Operator> Operands<O, O::Value> {
+    /// The operand that is awaited.
+    pub(super) fn operand(self, value: O::Value) -> Result<Self, Fault>
+        ensures { MatchResult result (λ r. Follows O.changes O.joins self r (Operand value)) (λ _. Unit {0}) }
+    {
+        let Operands {
+            levels,
+            pending,
+            held,
+        } = self;
+        if held.is_some() {
+            return Err(Fault::Refused(MISFIT));
+        }
+        let level = levels.len();
+        Ok(Operands {
+            levels,
+            pending,
+            held: Some(Held { value, level }),
+        })
+    }
+
+    /// A prefix operator in front of the operand that is awaited.
+    pub(super) fn prefix(self, level: usize, operator: O) -> Result<Self, Fault>
+        ensures { MatchResult result (λ r. Follows O.changes O.joins self r (Prefix level operator)) (λ _. Unit {0}) }
+    {
+        let Operands {
+            levels,
+            pending,
+            held,
+        } = self;
+        if held.is_some() {
+            return Err(Fault::Refused(MISFIT));
+        }
+        if !is_prefix(levels, level) {
+            return Err(Fault::Refused(MISFIT));
+        }
+        if asked_by(&pending) > level {
+            return Err(Fault::Refused(MISFIT));
+        }
+        let waits = Pending {
+            operator,
+            level,
+            asks: level,
+            left: None,
+        };
+        let more = wait(pending, waits)?;
+        Ok(Operands {
+            levels,
+            pending: more,
+            held: None,
+        })
+    }
+
+    /// An infix operator behind an operand.
+    pub(super) fn infix(self, level: usize, operator: O) -> Result<Self, Fault>
+        ensures { MatchResult result (λ r. Follows O.changes O.joins self r (Infix level operator)) (λ _. Unit {0}) }
+    {
+        let Operands {
+            levels,
+            mut pending,
+            held: kept,
+        } = self;
+        let Some(held) = kept else {
+            return Err(Fault::Refused(MISFIT));
+        };
+        let Some(lowest) = sides(levels, level) else {
+            return Err(Fault::Refused(MISFIT));
+        };
+        let left = reduce_above(&mut pending, held, level)?;
+        if left.level < lowest.left {
+            return Err(Fault::Refused(MISFIT));
+        }
+        let waits = Pending {
+            operator,
+            level,
+            asks: lowest.right,
+            left: Some(left.value),
+        };
+        let more = wait(pending, waits)?;
+        Ok(Operands {
+            levels,
+            pending: more,
+            held: None,
+        })
+    }
+
+    /// A postfix operator behind an operand.
+    pub(super) fn postfix(self, level: usize, operator: O) -> Result<Self, Fault>
+        ensures { MatchResult result (λ r. Follows O.changes O.joins self r (Postfix level operator)) (λ _. Unit {0}) }
+    {
+        let Operands {
+            levels,
+            mut pending,
+            held: kept,
+        } = self;
+        let Some(held) = kept else {
+            return Err(Fault::Refused(MISFIT));
+        };
+        if !is_postfix(levels, level) {
+            return Err(Fault::Refused(MISFIT));
+        }
+        let before = reduce_above(&mut pending, held, level)?;
+        if before.level < level {
+            return Err(Fault::Refused(MISFIT));
+        }
+        let waits = Pending {
+            operator,
+            level,
+            asks: level,
+            left: None,
+        };
+        let whole = reduce(waits, before.value)?;
+        Ok(Operands {
+            levels,
+            pending,
+            held: Some(whole),
+        })
+    }
+
+    /// The value, where nothing more follows.
+    pub(super) fn close(self) -> Result<O::Value, Fault>
+        ensures { MatchResult result (λ v. (ts : _) → stands_in O.changes O.joins self ts → Expression self.levels.now O.changes O.joins 0 ts v) (λ _. Unit {0}) }
+    {
+        let Operands {
+            levels: _,
+            pending,
+            held: kept,
+        } = self;
+        let Some(held) = kept else {
+            return Err(Fault::Refused(MISFIT));
+        };
+        reduce_all(pending, held)
+    }
 }
