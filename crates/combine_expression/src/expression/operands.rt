@@ -1,13 +1,20 @@
 //! An expression that isn't over: the operators that wait for operands, and the operand that they wait for.
-ghost use Rattle.std.specs.Prelude.{◌≡◌, ◌≤◌, List, [], ◌∷◌, ◌++◌, MatchResult, IfOk, Some, reverse, slice_get, true, vec_items};
+ghost use Rattle.std.specs.Prelude.{◌≡◌, ◌≤◌, List, [], ◌∷◌, ◌++◌, MatchResult, IfOk, None, Some, reverse, slice_get, true, vec_items};
 ghost use Rattle.combine_expression.specs.declared.expression.Fixity.TheVariants as fixities;
 ghost use Rattle.combine_expression.specs.Levels.{Expression, Infix, Operand, Postfix, Prefix};
 ghost use Rattle.combine_expression.specs.Waiting.{Follows, Holds, Reduced, asked, sides_of, stands_in};
 
 use super::{Fixity, Operator};
+use std::alloc::Global;
 
-/// The message of an operator, an operand or an end that doesn't fit where it stands.
-const MISFIT: &str = "operator cannot stand here";
+/// The message of an operator that doesn't fit where it stands.
+const OPERATOR: &str = "operator cannot stand here";
+
+/// The message of an operand behind an operand.
+const OPERAND: &str = "operand cannot stand here";
+
+/// The message of an end where an operand is awaited.
+const AWAITED: &str = "operand expected";
 
 /// An operator that waits for the operand on its right.
 #[derive(Drop)]
@@ -183,6 +190,21 @@ fn reduce_all<O: Operator>(
     Ok(held.value)
 }
 
+impl<O, V> Operands<O, V> {
+    /// An expression of which nothing was read.
+    pub(super) fn new(alloc: Global, levels: &'static [Fixity]) -> Operands<O, V>
+        ensures levels { result.levels.now ≡ levels.now }
+        ensures pending { vec_items result.pending ≡ [] }
+        ensures held { result.held ≡ None }
+    {
+        Operands {
+            levels,
+            pending: Vec::new(alloc),
+            held: None,
+        }
+    }
+}
+
 impl<O: Operator> Operands<O, O::Value> {
     /// The operand that is awaited.
     pub(super) fn operand(self, value: O::Value) -> Result<Self, Fault>
@@ -194,7 +216,7 @@ impl<O: Operator> Operands<O, O::Value> {
             held,
         } = self;
         if held.is_some() {
-            return Err(Fault::Refused(MISFIT));
+            return Err(Fault::Refused(OPERAND));
         }
         let level = levels.len();
         Ok(Operands {
@@ -214,13 +236,13 @@ impl<O: Operator> Operands<O, O::Value> {
             held,
         } = self;
         if held.is_some() {
-            return Err(Fault::Refused(MISFIT));
+            return Err(Fault::Refused(OPERATOR));
         }
         if !is_prefix(levels, level) {
-            return Err(Fault::Refused(MISFIT));
+            return Err(Fault::Refused(OPERATOR));
         }
         if asked_by(&pending) > level {
-            return Err(Fault::Refused(MISFIT));
+            return Err(Fault::Refused(OPERATOR));
         }
         let waits = Pending {
             operator,
@@ -246,14 +268,14 @@ impl<O: Operator> Operands<O, O::Value> {
             held: kept,
         } = self;
         let Some(held) = kept else {
-            return Err(Fault::Refused(MISFIT));
+            return Err(Fault::Refused(OPERATOR));
         };
         let Some(lowest) = sides(levels, level) else {
-            return Err(Fault::Refused(MISFIT));
+            return Err(Fault::Refused(OPERATOR));
         };
         let left = reduce_above(&mut pending, held, level)?;
         if left.level < lowest.left {
-            return Err(Fault::Refused(MISFIT));
+            return Err(Fault::Refused(OPERATOR));
         }
         let waits = Pending {
             operator,
@@ -279,14 +301,14 @@ impl<O: Operator> Operands<O, O::Value> {
             held: kept,
         } = self;
         let Some(held) = kept else {
-            return Err(Fault::Refused(MISFIT));
+            return Err(Fault::Refused(OPERATOR));
         };
         if !is_postfix(levels, level) {
-            return Err(Fault::Refused(MISFIT));
+            return Err(Fault::Refused(OPERATOR));
         }
         let before = reduce_above(&mut pending, held, level)?;
         if before.level < level {
-            return Err(Fault::Refused(MISFIT));
+            return Err(Fault::Refused(OPERATOR));
         }
         let waits = Pending {
             operator,
@@ -312,7 +334,7 @@ impl<O: Operator> Operands<O, O::Value> {
             held: kept,
         } = self;
         let Some(held) = kept else {
-            return Err(Fault::Refused(MISFIT));
+            return Err(Fault::Refused(AWAITED));
         };
         reduce_all(pending, held)
     }

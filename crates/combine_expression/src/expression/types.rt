@@ -1,0 +1,179 @@
+//! What an expression's parser is made of.
+ghost use Rattle.std.specs.Prelude.{◌≡◌, MatchResult};
+ghost use Rattle.combine_expression.specs.Parts.{Begins, MakesOutermost, part_joins, part_takes, stayed_as};
+
+use super::operands::{Fault, Operands};
+use super::{Fixity, Item, Operator};
+use combine_makers::combinator::types::Makes;
+use combine_nested::nested::asked::{IfElse, Test};
+use combine_nested::nested::types::Nested;
+use combine_nested::nested::{Frame, Next};
+use std::alloc::{AllocError, Global};
+use std::marker::PhantomData;
+
+/// The parser of [`expression`](crate::expression::expression).
+pub type Expression<O, V, A, B, C> = Nested<Outermost<O, V>, Steps<A, B, C>>;
+
+/// The steps of an expression: what stands where an operand is awaited, and behind one, in brackets and outside of them.
+pub type Steps<A, B, C> = IfElse<Awaits, A, IfElse<InBrackets, B, C>>;
+
+/// An expression that isn't over, or the part of one that is in brackets.
+#[derive(Drop)]
+pub struct Part<O, V> {
+    alloc: Global,
+    in_brackets: bool,
+    operands: Operands<O, V>,
+}
+
+impl<O: Drop, V: Drop> Part<O, V> {
+    fn new(alloc: Global, levels: &'static [Fixity], in_brackets: bool) -> Part<O, V>
+        ensures { Begins levels.now in_brackets result }
+    {
+        Part {
+            alloc,
+            in_brackets,
+            operands: Operands::new(alloc, levels),
+        }
+    }
+
+    /// What comes of a part to which that became.
+    fn stay(
+        alloc: Global,
+        in_brackets: bool,
+        became: Result<Operands<O, V>, Fault>,
+    ) -> Result<Next<Part<O, V>, V>, AllocError>
+        ensures { MatchResult result (stayed_as in_brackets became) (λ _. Unit {0}) }
+    {
+        match became {
+            Ok(operands) => Ok(Next::Stay(Part {
+                alloc,
+                in_brackets,
+                operands,
+            })),
+            Err(Fault::Refused(message)) => Ok(Next::Refuse(message)),
+            Err(Fault::Memory) => Err(AllocError),
+        }
+    }
+}
+
+impl<V: Drop, O: Operator<Value = V>> Frame for Part<O, V> {
+    type Item = Item<O, V>;
+
+    type Value = V;
+
+    ghost takes = { part_takes O.changes O.joins };
+
+    ghost joins = { part_joins O.changes O.joins };
+
+    fn take(self, item: Item<O, V>) -> Result<Next<Self, V>, AllocError> {
+        let Part {
+            alloc,
+            in_brackets,
+            operands,
+        } = self;
+        match item {
+            Item::Operand(value) => Part::stay(alloc, in_brackets, operands.operand(value)),
+            Item::Prefix(level, operator) => {
+                Part::stay(alloc, in_brackets, operands.prefix(level, operator))
+            }
+            Item::Postfix(level, operator) => {
+                Part::stay(alloc, in_brackets, operands.postfix(level, operator))
+            }
+            Item::Infix(level, operator) => {
+                Part::stay(alloc, in_brackets, operands.infix(level, operator))
+            }
+            Item::Open => {
+                let inside = Part::new(alloc, operands.levels, true);
+                let around = Part {
+                    alloc,
+                    in_brackets,
+                    operands,
+                };
+                Ok(Next::Open(around, inside))
+            }
+            Item::Close => match operands.close() {
+                Ok(value) => Ok(Next::Close(value)),
+                Err(Fault::Refused(message)) => Ok(Next::Refuse(message)),
+                Err(Fault::Memory) => Err(AllocError),
+            },
+        }
+    }
+
+    fn join(self, value: V) -> Result<Next<Self, V>, AllocError> {
+        let Part {
+            alloc,
+            in_brackets,
+            operands,
+        } = self;
+        Part::stay(alloc, in_brackets, operands.operand(value))
+    }
+}
+
+/// What makes the outermost part of an expression.
+#[derive(Drop)]
+#[derive_where(Clone, Copy)]
+pub struct Outermost<O, V> {
+    alloc: Global,
+    levels: &'static [Fixity],
+    of: PhantomData<(O, V)>,
+}
+
+impl<O, V> Outermost<O, V> {
+    #[inline]
+    pub(super) fn new(alloc: Global, levels: &'static [Fixity]) -> Outermost<O, V>
+        ensures { MakesOutermost alloc levels.now result }
+    {
+        Outermost {
+            alloc,
+            levels,
+            of: PhantomData,
+        }
+    }
+}
+
+impl<O: Drop, V: Drop> Makes for Outermost<O, V> {
+    ghost use Rattle.std.specs.Prelude.{false};
+
+    type Made = Part<O, V>;
+
+    ghost callable = { λ _. Unit {0} };
+
+    ghost makes = { λ r p. Begins r.levels.now false p };
+
+    #[inline]
+    fn make(&self) -> Part<O, V> {
+        Part::new(self.alloc, self.levels, false)
+    }
+}
+
+/// Tests whether an operand is awaited.
+#[derive(Clone, Copy, Drop)]
+pub struct Awaits;
+
+impl<O, V> Test<Part<O, V>> for Awaits {
+    ghost use Rattle.combine_expression.specs.Parts.{awaits};
+
+    ghost callable = { λ _. Unit {0} };
+
+    ghost tells = { λ _ p b. b ≡ awaits p };
+
+    #[inline]
+    fn test(&self, part: &Part<O, V>) -> bool {
+        part.operands.held.is_none()
+    }
+}
+
+/// Tests whether a part is in brackets.
+#[derive(Clone, Copy, Drop)]
+pub struct InBrackets;
+
+impl<O, V> Test<Part<O, V>> for InBrackets {
+    ghost callable = { λ _. Unit {0} };
+
+    ghost tells = { λ _ p b. b ≡ p.in_brackets };
+
+    #[inline]
+    fn test(&self, part: &Part<O, V>) -> bool {
+        part.in_brackets
+    }
+}
