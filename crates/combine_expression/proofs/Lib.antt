@@ -1,2 +1,3 @@
+mod Complete
 mod Reducing
 mod Standing

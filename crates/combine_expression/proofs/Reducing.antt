@@ -7,7 +7,8 @@ use Rattle.combine_expression.specs.declared.expression.operands.Pending.{Pendin
 use Rattle.combine_expression.specs.declared.expression.operands.Held.{Held}
 use Rattle.combine_expression.specs.declared.expression.operands.Lowest.{Lowest}
 use Rattle.combine_expression.specs.Levels.{Thing, Operand, Prefix, Postfix, Infix, Expression, operand, higher, prefix, postfix, left, right, neither}
-use Rattle.combine_expression.specs.Waiting.{Holds, Reduced, WaitsBetween, WaitsInFront, asked, makes_of, pends, sides_of, stands, waits_so}
+use Rattle.combine_expression.specs.Shapes.{sides_of}
+use Rattle.combine_expression.specs.Waiting.{Holds, Reduced, WaitsBetween, WaitsInFront, asked, makes_of, pends, stands, waits_so}
 
 pub innermost_of : {A : Type 0} (xs ys : List A) (x : A) → xs ≡ ys ++ x ∷ [] → reverse xs ≡ x ∷ reverse ys
 innermost_of xs ys x e = ap reverse e ∙ reverse-append ys (x ∷ [])

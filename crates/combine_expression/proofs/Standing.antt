@@ -9,7 +9,8 @@ use Rattle.combine_expression.specs.declared.expression.operands.Held.{Held}
 use Rattle.combine_expression.specs.declared.expression.operands.Operands.{Operands}
 use Rattle.combine_expression.specs.declared.expression.operands.Lowest.{Lowest}
 use Rattle.combine_expression.specs.Levels.{Thing, Operand, Prefix, Postfix, Infix, Expression, operand, postfix}
-use Rattle.combine_expression.specs.Waiting.{Follows, Holds, Reduced, asked, pends, sides_of, stands, stands_in, waits_so}
+use Rattle.combine_expression.specs.Shapes.{sides_of}
+use Rattle.combine_expression.specs.Waiting.{Follows, Holds, Reduced, asked, pends, stands, stands_in, waits_so}
 use Rattle.combine_expression.proofs.Reducing.{complete_at, lower}
 
 sides_within : (f : Option Fixity) (p n : ℕ) (lowest : Lowest) → p < n → sides_of p f ≡ Some lowest → lowest.right ≤ n

@@ -1,3 +1,4 @@
 pub mod Levels
 pub mod Parts
+pub mod Shapes
 pub mod Waiting

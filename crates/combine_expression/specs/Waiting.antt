@@ -7,16 +7,8 @@ use Rattle.combine_expression.specs.declared.expression.operands.Pending.{Pendin
 use Rattle.combine_expression.specs.declared.expression.operands.Held.{Held}
 use Rattle.combine_expression.specs.declared.expression.operands.Operands.{Operands}
 use Rattle.combine_expression.specs.declared.expression.operands.Lowest.{Lowest}
+use Rattle.combine_expression.specs.Shapes.{sides_of}
 use Rattle.combine_expression.specs.Levels.{Thing, Operand, Prefix, Postfix, Infix, Expression}
-
--- the lowest levels of the left and the right operand of an infix operator at a level
-abbrev pub sides_of : ℕ → Option Fixity → Option Lowest
-sides_of p None = None
-sides_of p (Some fixities.Prefix) = None
-sides_of p (Some fixities.Postfix) = None
-sides_of p (Some fixities.Left) = Some (record { left = p; right = suc p })
-sides_of p (Some fixities.Right) = Some (record { left = suc p; right = p })
-sides_of p (Some fixities.Neither) = Some (record { left = suc p; right = suc p })
 
 -- the lowest level that the operand may have that operators wait for, the innermost first
 abbrev pub asked : {O V : Type 0} → List (Pending O V) → ℕ

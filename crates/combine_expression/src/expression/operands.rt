@@ -2,7 +2,8 @@
 ghost use Rattle.std.specs.Prelude.{◌≡◌, ◌≤◌, List, [], ◌∷◌, ◌++◌, MatchResult, IfOk, None, Some, reverse, slice_get, true, vec_items};
 ghost use Rattle.combine_expression.specs.declared.expression.Fixity.TheVariants as fixities;
 ghost use Rattle.combine_expression.specs.Levels.{Expression, Infix, Operand, Postfix, Prefix};
-ghost use Rattle.combine_expression.specs.Waiting.{Follows, Holds, Reduced, asked, sides_of, stands_in};
+ghost use Rattle.combine_expression.specs.Shapes.{sides_of};
+ghost use Rattle.combine_expression.specs.Waiting.{Follows, Holds, Reduced, asked, stands_in};
 
 use super::{Fixity, Operator};
 use std::alloc::Global;
