@@ -23,6 +23,13 @@ ends_so (Some s) = refl
 ask_cases : (p l a : ℕ) → p ≤ l → l ≤ a → (l ≡ p → p < a) → p < a
 ask_cases p l a b c h = grind arith
 
+pub stays : (p : ℕ) (ss : List Slot) (h : ℕ) → needs ss ≤ p → reduce_to p ss h ≡ record { slots = ss; level = h }
+stays p [] h l = refl
+stays p (s ∷ ss) h l = ap (λ b. cond b (reduce_to p ss s.level) (record { slots = s ∷ ss; level = h })) (not_lt p s.asks l)
+
+pub pops : (p : ℕ) (s : Slot) (ss : List Slot) (h : ℕ) → p < s.asks → reduce_to p (s ∷ ss) h ≡ reduce_to p ss s.level
+pops p s ss h l = ap (λ b. cond b (reduce_to p ss s.level) (record { slots = s ∷ ss; level = h })) (is_lt p s.asks l)
+
 module _ {O V : Type 0} (levels : List Fixity) where
   fits_here : (ts us : List (Thing O V)) (x : Option Shape) → ((s : Shape) → fits levels (ts ++ us) s ≡ and_then (fits levels ts s) (fits levels us)) → and_then x (fits levels (ts ++ us)) ≡ and_then (and_then x (fits levels ts)) (fits levels us)
   fits_here ts us None h = refl
@@ -119,13 +126,6 @@ module _ (levels : List Fixity) where
       let j : slice_get levels s.level ≡ Some fixities.Postfix = subst (λ n. slice_get levels n ≡ Some fixities.Postfix) (sym i) f in
       let m : sides_of s.level (Some fixities.Postfix) ≡ Some lowest = subst (λ x. sides_of s.level x ≡ Some lowest) j g in
       absurd (cc)
-
-  pub stays : (p : ℕ) (ss : List Slot) (h : ℕ) → needs ss ≤ p → reduce_to p ss h ≡ record { slots = ss; level = h }
-  stays p [] h l = refl
-  stays p (s ∷ ss) h l = ap (λ b. cond b (reduce_to p ss s.level) (record { slots = s ∷ ss; level = h })) (not_lt p s.asks l)
-
-  pub pops : (p : ℕ) (s : Slot) (ss : List Slot) (h : ℕ) → p < s.asks → reduce_to p (s ∷ ss) h ≡ reduce_to p ss s.level
-  pops p s ss h l = ap (λ b. cond b (reduce_to p ss s.level) (record { slots = s ∷ ss; level = h })) (is_lt p s.asks l)
 
   reduces : (p : ℕ) (xs ss : List Slot) (h : ℕ) → all_ask p xs → needs ss ≤ p → reduce_to p (xs ++ ss) h ≡ record { slots = ss; level = last_level xs h }
   reduces p [] ss h a l = stays p ss h l

@@ -1,3 +1,4 @@
 mod Complete
+mod Parting
 mod Reducing
 mod Standing

@@ -7,7 +7,9 @@ use Rattle.combine_expression.specs.declared.expression.operands.Pending.{Pendin
 use Rattle.combine_expression.specs.declared.expression.operands.Held.{Held}
 use Rattle.combine_expression.specs.declared.expression.operands.Operands.{Operands}
 use Rattle.combine_expression.specs.declared.expression.operands.Lowest.{Lowest}
-use Rattle.combine_expression.specs.Shapes.{sides_of}
+use Rattle.combine_expression.specs.declared.expression.operands.Fault.{Fault}
+use Rattle.combine_expression.specs.declared.expression.operands.Fault.TheVariants as faults
+use Rattle.combine_expression.specs.Shapes.{Shape, Slot, fits, reduce_to, sides_of, start}
 use Rattle.combine_expression.specs.Levels.{Thing, Operand, Prefix, Postfix, Infix, Expression}
 
 -- the lowest level that the operand may have that operators wait for, the innermost first
@@ -71,12 +73,56 @@ module _ {O V : Type 0} (levels : List Fixity) (changes : O → V → V → Type
   stands ps None ts = pends ps ts
   stands ps (Some h) ts = Holds ps h ts
 
+-- the shape of operators that wait, and of an operand
+abbrev pub shapes : {O V : Type 0} → List (Pending O V) → List Slot
+shapes [] = []
+shapes (p ∷ ps) = record { level = p.level; asks = p.asks } ∷ shapes ps
+
+abbrev pub held_level : {V : Type 0} → Option (Held V) → Option ℕ
+held_level None = None
+held_level (Some h) = Some h.level
+
+abbrev pub shape_of : {O V : Type 0} {N : ℕ} → Operands O V N → Shape
+shape_of e = record { slots = shapes (reverse (vec_items e.pending)); held = held_level e.held }
+
 module _ {O V : Type 0} (changes : O → V → V → Type 0) (joins : O → V → V → V → Type 0) where
+  -- what becomes of operators that wait, and of the operand, where those that ask for more than a level are given theirs
+  pub record ReducedAbove (old new : List (Pending O V)) (held : Held V) (level : ℕ) (h : Held V) : Type 0 where
+    pub low : asked (reverse new) ≤ level
+    pub holds : (levels : List Fixity) (ts : List (Thing O V)) → Holds levels changes joins (reverse old) held ts → Holds levels changes joins (reverse new) h ts
+    pub shape : reduce_to level (shapes (reverse old)) held.level ≡ record { slots = shapes (reverse new); level = h.level }
+
+module _ {O V : Type 0} {N : ℕ} (changes : O → V → V → Type 0) (joins : O → V → V → V → Type 0) where
   -- the things that were read of an expression that isn't over
-  abbrev pub stands_in : Operands O V → List (Thing O V) → Type 0
-  stands_in e ts = stands e.levels.now changes joins (reverse (vec_items e.pending)) e.held ts
+  pub record StandsIn (e : Operands O V N) (ts : List (Thing O V)) : Type 0 where
+    pub stands : stands e.levels changes joins (reverse (vec_items e.pending)) e.held ts
+    pub fits : fits e.levels ts start ≡ Some (shape_of e)
 
   -- one comes of the other by one thing more
-  pub record Follows (from to : Operands O V) (t : Thing O V) : Type 0 where
+  pub record Follows (from to : Operands O V N) (t : Thing O V) : Type 0 where
     pub levels : to.levels ≡ from.levels
-    pub stands : (ts : List (Thing O V)) → stands_in from ts → stands_in to (ts ++ t ∷ [])
+    pub stands : (ts : List (Thing O V)) → StandsIn from ts → StandsIn to (ts ++ t ∷ [])
+
+  -- no expression begins with what was read and this thing
+  pub record Misfits (from : Operands O V N) (t : Thing O V) : Type 0 where
+    pub none : (ts us : List (Thing O V)) (w : V) → StandsIn from ts → Expression from.levels changes joins 0 (ts ++ t ∷ us) w → ⊥
+
+  -- what was read is no expression
+  pub record EndsEarly (from : Operands O V N) : Type 0 where
+    pub none : (ts : List (Thing O V)) (w : V) → StandsIn from ts → Expression from.levels changes joins 0 ts w → ⊥
+
+module _ {O V : Type 0} (refuses_operand : O → V → Type 0) (refuses_operands : O → V → V → Type 0) where
+  -- an operator refuses its operands
+  pub data OperatorRefuses : Type 0 where
+    refuses_one : (o : O) (a : V) → refuses_operand o a → OperatorRefuses
+    refuses_two : (o : O) (a b : V) → refuses_operands o a b → OperatorRefuses
+
+  -- why an expression doesn't go on: it doesn't fit, or an operator refuses, or memory is wanted
+  abbrev pub blames : Type 0 → Fault → Type 0
+  blames misfit faults.Memory = Unit {0}
+  blames misfit (faults.Misfit m) = misfit
+  blames misfit (faults.Refused m) = OperatorRefuses
+
+  abbrev pub operator_refuses : O → Option V → V → Type 0
+  operator_refuses o None b = refuses_operand o b
+  operator_refuses o (Some a) b = refuses_operands o a b

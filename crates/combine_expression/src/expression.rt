@@ -1,4 +1,6 @@
 //! Expressions of prefix, postfix and infix operators, by their levels.
+//!
+//! A language of expressions is a table of levels, of which the first binds least: each says where its operators stand, and how they group. An operand of an operator is an expression of that operator's level or a higher one, and on a side on which the operator doesn't group, of a higher one alone. So a grammar of one rule for each level is written as a table.
 ghost use Rattle.std.specs.Prelude.{◌≡◌};
 ghost use Rattle.combine_nested.specs.Asks.{if_else_of};
 ghost use Rattle.combine_nested.specs.Nesting.{asked_part, depth_part, root_part};
@@ -39,13 +41,19 @@ pub trait Operator: Drop {
     /// What may come of the values of its left and its right operand. An operator that doesn't define it promises nothing.
     ghost joins: { Self → Self.Value → Self.Value → Self.Value → Type 0 } = { λ _ _ _ _. Unit {0} };
 
+    /// What operand it may refuse. An operator that doesn't define it may refuse any.
+    ghost refuses_operand: { Self → Self.Value → Type 0 } = { λ _ _. Unit {0} };
+
+    /// What operands it may refuse. An operator that doesn't define it may refuse any.
+    ghost refuses_operands: { Self → Self.Value → Self.Value → Type 0 } = { λ _ _ _. Unit {0} };
+
     /// Returns the value that a prefix or a postfix operator makes of its operand's, or refuses it with a message.
     fn change(self, operand: Self::Value) -> Result<Self::Value, &'static str>
-        ensures { MatchResult result (changes self operand) (λ _. Unit {0}) };
+        ensures { MatchResult result (changes self operand) (λ _. refuses_operand self operand) };
 
     /// Returns the value that an infix operator makes of its operands', or refuses them with a message.
     fn join(self, left: Self::Value, right: Self::Value) -> Result<Self::Value, &'static str>
-        ensures { MatchResult result (joins self left right) (λ _. Unit {0}) };
+        ensures { MatchResult result (joins self left right) (λ _. refuses_operands self left right) };
 }
 
 /// What a step of an expression reads. An operator stands with its level.
@@ -65,18 +73,30 @@ pub enum Item<O, V> {
     Close,
 }
 
-/// Parses an expression.
+/// Parses an expression of operators with levels, and with brackets inside one another, at most `depth` of them.
+///
+/// `levels` says how the operators of each level stand and group, the level first that binds least; an operator of a level that it doesn't have fits nowhere. `awaited` answers the parser of what stands where an operand is awaited: an operand, a prefix operator or an opening bracket. `inside` and `outside` answer that of what stands behind an operand, in brackets and outside of them: an operator, or [`Item::Close`] for the end. That is the closing bracket inside, and outside that no operator follows, as `map(optional(operator), |next| next.unwrap_or(Item::Close))`. Each is as a step of [`nested`]: [`always`](combine_nested::nested::always) for a parser that is `Copy`, or a function of the part that is open. The value is that of the expression in which what is in brackets is an operand; it is committed exactly if a step was.
+///
+/// With the levels `[Left, Left, Prefix, Right]` of `+`, `*`, `-` in front and `^`, `1 + 2 * 3` is `1 + (2 * 3)`, `-2 ^ 2` is `-(2 ^ 2)`, and `2 ^ -2` is refused, since what is on the right of `^` is of its level or a higher one.
+///
+/// # Errors
+///
+/// What a step's parser refuses is refused, committed if a step before it was. So is what an operator refuses, with its message, and what begins no expression: an operator with the message `operator cannot stand here`, an operand behind an operand with `operand cannot stand here`, and an end where an operand is awaited with `operand expected`. These are committed if this step or one before it was. An operator is given its operands as soon as they are read, so what it refuses is refused before what follows is looked at. A bracket too many is refused committed, with the message `nesting too deep`.
+///
+/// # Partial input
+///
+/// The state keeps the operators and the operands that wait, and the step that runs. Nothing is left unread where the parsers of the steps leave nothing.
 #[inline]
-pub fn expression<O: Operator, A, B, C>(
+pub fn expression<O: Operator, A, B, C, const N: usize>(
     alloc: Global,
     depth: usize,
-    levels: &'static [Fixity],
+    levels: [Fixity; N],
     awaited: A,
     inside: B,
     outside: C,
-) -> Expression<O, O::Value, A, B, C>
+) -> Expression<O, O::Value, A, B, C, N>
     ensures depth { depth_part result ≡ depth }
-    ensures root { MakesOutermost alloc levels.now (root_part result) }
+    ensures root { MakesOutermost alloc levels.entry (root_part result) }
     ensures steps { asked_part result ≡ if_else_of record {} awaited (if_else_of record {} inside outside) }
 {
     let behind = if_else(InBrackets, inside, outside);

@@ -13,7 +13,7 @@ use combine_token::token::{satisfy, satisfy_map};
 use std::alloc::Global;
 
 /// Comparisons, sums, products, signs, powers and factorials.
-static LEVELS: [Fixity; 6] = [
+const LEVELS: [Fixity; 6] = [
     Fixity::Neither,
     Fixity::Left,
     Fixity::Left,
@@ -141,10 +141,10 @@ where
         optional(satisfy_map(|byte: u8| behind(byte))),
         |next: Option<Lexeme>| next.unwrap_or(Item::Close),
     );
-    driver.run(expression::<Sign, _, _, _>(
+    driver.run(expression::<Sign, _, _, _, _>(
         alloc,
         depth,
-        &LEVELS,
+        LEVELS,
         always(awaited),
         always(inside),
         always(outside),

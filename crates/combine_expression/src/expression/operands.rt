@@ -1,12 +1,11 @@
 //! An expression that isn't over: the operators that wait for operands, and the operand that they wait for.
-ghost use Rattle.std.specs.Prelude.{◌≡◌, ◌≤◌, List, [], ◌∷◌, ◌++◌, MatchResult, IfOk, None, Some, reverse, slice_get, true, vec_items};
-ghost use Rattle.combine_expression.specs.declared.expression.Fixity.TheVariants as fixities;
+ghost use Rattle.std.specs.Prelude.{◌≡◌, [], ◌∷◌, ◌++◌, MatchResult, None, length, reverse, slice_get, vec_items};
 ghost use Rattle.combine_expression.specs.Levels.{Expression, Infix, Operand, Postfix, Prefix};
-ghost use Rattle.combine_expression.specs.Shapes.{sides_of};
-ghost use Rattle.combine_expression.specs.Waiting.{Follows, Holds, Reduced, asked, stands_in};
+ghost use Rattle.combine_expression.specs.Shapes.{fits_behind, fits_in_front, sides_of};
+ghost use Rattle.combine_expression.specs.Waiting.{EndsEarly, Follows, Holds, Misfits, Reduced, ReducedAbove, StandsIn, asked, blames, makes_of, operator_refuses};
 
 use super::{Fixity, Operator};
-use std::alloc::Global;
+use std::alloc::{AllocError, Global};
 
 /// The message of an operator that doesn't fit where it stands.
 const OPERATOR: &str = "operator cannot stand here";
@@ -48,18 +47,27 @@ pub(super) struct Lowest {
 pub(super) enum Fault {
     /// Want of memory.
     Memory,
-    /// It is refused, with this message.
+    /// What follows doesn't fit, which this message says.
+    Misfit(&'static str),
+    /// An operator refuses, with this message.
     Refused(&'static str),
 }
 
 /// An expression that isn't over.
 #[derive(Drop)]
-pub struct Operands<O, V> {
-    pub(super) levels: &'static [Fixity],
+pub struct Operands<O, V, const N: usize> {
+    pub(super) levels: [Fixity; N],
     /// What waits, the innermost last.
     pub(super) pending: Vec<Pending<O, V>>,
     /// The operand on the right of the innermost, where it was read.
     pub(super) held: Option<Held<V>>,
+}
+
+/// How many levels there are: the level of an operand in which no operator stands outermost.
+fn number_of(levels: &[Fixity]) -> usize
+    ensures { result ≡ length levels.now }
+{
+    levels.len()
 }
 
 /// The fixity of a level, if there is one.
@@ -69,23 +77,29 @@ fn fixity_at(levels: &[Fixity], level: usize) -> Option<Fixity>
     levels.get(level).copied()
 }
 
-/// Whether the operators of a level are prefix operators.
-fn is_prefix(levels: &[Fixity], level: usize) -> bool
-    ensures { result ≡ true → slice_get levels.now level ≡ Some fixities.Prefix }
+/// Whether an operator of a level is a prefix operator that fits where such a level is asked for.
+fn is_prefix(levels: &[Fixity], asked: usize, level: usize) -> bool
+    ensures { result ≡ fits_in_front (slice_get levels.now level) asked level }
 {
-    match fixity_at(levels, level) {
-        Some(Fixity::Prefix) => true,
-        _ => false,
+    let Some(fixity) = fixity_at(levels, level) else {
+        return false;
+    };
+    match fixity {
+        Fixity::Prefix => asked <= level,
+        Fixity::Postfix | Fixity::Left | Fixity::Right | Fixity::Neither => false,
     }
 }
 
-/// Whether the operators of a level are postfix operators.
-fn is_postfix(levels: &[Fixity], level: usize) -> bool
-    ensures { result ≡ true → slice_get levels.now level ≡ Some fixities.Postfix }
+/// Whether an operator of a level is a postfix operator that fits behind an operand of such a level.
+fn is_postfix(levels: &[Fixity], held: usize, level: usize) -> bool
+    ensures { result ≡ fits_behind (slice_get levels.now level) held level }
 {
-    match fixity_at(levels, level) {
-        Some(Fixity::Postfix) => true,
-        _ => false,
+    let Some(fixity) = fixity_at(levels, level) else {
+        return false;
+    };
+    match fixity {
+        Fixity::Postfix => level <= held,
+        Fixity::Prefix | Fixity::Left | Fixity::Right | Fixity::Neither => false,
     }
 }
 
@@ -124,13 +138,25 @@ fn asked_by<O, V>(pending: &Vec<Pending<O, V>>) -> usize
 fn wait<O: Drop, V: Drop>(
     pending: Vec<Pending<O, V>>,
     waits: Pending<O, V>,
-) -> Result<Vec<Pending<O, V>>, Fault>
+) -> Result<Vec<Pending<O, V>>, AllocError>
     ensures { MatchResult result (λ r. vec_items r ≡ vec_items pending ++ waits ∷ []) (λ _. Unit {0}) }
 {
     let mut pending = pending;
-    match pending.push(waits) {
-        Ok(()) => Ok(pending),
-        Err(_) => Err(Fault::Memory),
+    pending.push(waits)?;
+    Ok(pending)
+}
+
+/// What an operator makes of its operands.
+fn operate<O: Operator>(
+    operator: O,
+    left: Option<O::Value>,
+    right: O::Value,
+) -> Result<O::Value, &'static str>
+    ensures { MatchResult result (makes_of O.changes O.joins operator left right) (λ _. operator_refuses O.refuses_operand O.refuses_operands operator left right) }
+{
+    match left {
+        Some(left) => operator.join(left, right),
+        None => operator.change(right),
     }
 }
 
@@ -139,7 +165,7 @@ fn reduce<O: Operator>(
     waits: Pending<O, O::Value>,
     right: O::Value,
 ) -> Result<Held<O::Value>, Fault>
-    ensures { MatchResult result (Reduced O.changes O.joins waits right) (λ _. Unit {0}) }
+    ensures { MatchResult result (Reduced O.changes O.joins waits right) (blames O.refuses_operand O.refuses_operands ⊥) }
 {
     let Pending {
         operator,
@@ -147,11 +173,7 @@ fn reduce<O: Operator>(
         asks: _,
         left,
     } = waits;
-    let made = match left {
-        Some(left) => operator.join(left, right),
-        None => operator.change(right),
-    };
-    match made {
+    match operate(operator, left, right) {
         Ok(value) => Ok(Held { value, level }),
         Err(message) => Err(Fault::Refused(message)),
     }
@@ -163,8 +185,7 @@ fn reduce_above<O: Operator>(
     held: Held<O::Value>,
     level: usize,
 ) -> Result<Held<O::Value>, Fault>
-    ensures low { IfOk result (λ _. asked (reverse (vec_items pending.new)) ≤ level) }
-    ensures holds { MatchResult result (λ h. (levels : _) (ts : _) → Holds levels O.changes O.joins (reverse (vec_items pending.old)) held ts → Holds levels O.changes O.joins (reverse (vec_items pending.new)) h ts) (λ _. Unit {0}) }
+    ensures { MatchResult result (ReducedAbove O.changes O.joins (vec_items pending.old) (vec_items pending.new) held level) (blames O.refuses_operand O.refuses_operands ⊥) }
 {
     let mut held = held;
     'innermost: while asked_by(pending) > level {
@@ -181,7 +202,7 @@ fn reduce_all<O: Operator>(
     pending: Vec<Pending<O, O::Value>>,
     held: Held<O::Value>,
 ) -> Result<O::Value, Fault>
-    ensures { MatchResult result (λ v. (levels : _) (ts : _) → Holds levels O.changes O.joins (reverse (vec_items pending)) held ts → Expression levels O.changes O.joins 0 ts v) (λ _. Unit {0}) }
+    ensures { MatchResult result (λ v. (levels : _) (ts : _) → Holds levels O.changes O.joins (reverse (vec_items pending)) held ts → Expression levels O.changes O.joins 0 ts v) (blames O.refuses_operand O.refuses_operands ⊥) }
 {
     let mut pending = pending;
     let mut held = held;
@@ -191,10 +212,10 @@ fn reduce_all<O: Operator>(
     Ok(held.value)
 }
 
-impl<O, V> Operands<O, V> {
+impl<O, V, const N: usize> Operands<O, V, N> {
     /// An expression of which nothing was read.
-    pub(super) fn new(alloc: Global, levels: &'static [Fixity]) -> Operands<O, V>
-        ensures levels { result.levels.now ≡ levels.now }
+    pub(super) fn new(alloc: Global, levels: [Fixity; N]) -> Operands<O, V, N>
+        ensures levels { result.levels ≡ levels.entry }
         ensures pending { vec_items result.pending ≡ [] }
         ensures held { result.held ≡ None }
     {
@@ -206,10 +227,10 @@ impl<O, V> Operands<O, V> {
     }
 }
 
-impl<O: Operator> Operands<O, O::Value> {
+impl<O: Operator, const N: usize> Operands<O, O::Value, N> {
     /// The operand that is awaited.
     pub(super) fn operand(self, value: O::Value) -> Result<Self, Fault>
-        ensures { MatchResult result (λ r. Follows O.changes O.joins self r (Operand value)) (λ _. Unit {0}) }
+        ensures { MatchResult result (λ r. Follows O.changes O.joins self r (Operand value)) (blames O.refuses_operand O.refuses_operands (Misfits O.changes O.joins self (Operand value))) }
     {
         let Operands {
             levels,
@@ -217,9 +238,9 @@ impl<O: Operator> Operands<O, O::Value> {
             held,
         } = self;
         if held.is_some() {
-            return Err(Fault::Refused(OPERAND));
+            return Err(Fault::Misfit(OPERAND));
         }
-        let level = levels.len();
+        let level = number_of(&levels);
         Ok(Operands {
             levels,
             pending,
@@ -229,7 +250,7 @@ impl<O: Operator> Operands<O, O::Value> {
 
     /// A prefix operator in front of the operand that is awaited.
     pub(super) fn prefix(self, level: usize, operator: O) -> Result<Self, Fault>
-        ensures { MatchResult result (λ r. Follows O.changes O.joins self r (Prefix level operator)) (λ _. Unit {0}) }
+        ensures { MatchResult result (λ r. Follows O.changes O.joins self r (Prefix level operator)) (blames O.refuses_operand O.refuses_operands (Misfits O.changes O.joins self (Prefix level operator))) }
     {
         let Operands {
             levels,
@@ -237,13 +258,10 @@ impl<O: Operator> Operands<O, O::Value> {
             held,
         } = self;
         if held.is_some() {
-            return Err(Fault::Refused(OPERATOR));
+            return Err(Fault::Misfit(OPERATOR));
         }
-        if !is_prefix(levels, level) {
-            return Err(Fault::Refused(OPERATOR));
-        }
-        if asked_by(&pending) > level {
-            return Err(Fault::Refused(OPERATOR));
+        if !is_prefix(&levels, asked_by(&pending), level) {
+            return Err(Fault::Misfit(OPERATOR));
         }
         let waits = Pending {
             operator,
@@ -251,7 +269,9 @@ impl<O: Operator> Operands<O, O::Value> {
             asks: level,
             left: None,
         };
-        let more = wait(pending, waits)?;
+        let Ok(more) = wait(pending, waits) else {
+            return Err(Fault::Memory);
+        };
         Ok(Operands {
             levels,
             pending: more,
@@ -261,7 +281,7 @@ impl<O: Operator> Operands<O, O::Value> {
 
     /// An infix operator behind an operand.
     pub(super) fn infix(self, level: usize, operator: O) -> Result<Self, Fault>
-        ensures { MatchResult result (λ r. Follows O.changes O.joins self r (Infix level operator)) (λ _. Unit {0}) }
+        ensures { MatchResult result (λ r. Follows O.changes O.joins self r (Infix level operator)) (blames O.refuses_operand O.refuses_operands (Misfits O.changes O.joins self (Infix level operator))) }
     {
         let Operands {
             levels,
@@ -269,14 +289,14 @@ impl<O: Operator> Operands<O, O::Value> {
             held: kept,
         } = self;
         let Some(held) = kept else {
-            return Err(Fault::Refused(OPERATOR));
+            return Err(Fault::Misfit(OPERATOR));
         };
-        let Some(lowest) = sides(levels, level) else {
-            return Err(Fault::Refused(OPERATOR));
+        let Some(lowest) = sides(&levels, level) else {
+            return Err(Fault::Misfit(OPERATOR));
         };
         let left = reduce_above(&mut pending, held, level)?;
         if left.level < lowest.left {
-            return Err(Fault::Refused(OPERATOR));
+            return Err(Fault::Misfit(OPERATOR));
         }
         let waits = Pending {
             operator,
@@ -284,7 +304,9 @@ impl<O: Operator> Operands<O, O::Value> {
             asks: lowest.right,
             left: Some(left.value),
         };
-        let more = wait(pending, waits)?;
+        let Ok(more) = wait(pending, waits) else {
+            return Err(Fault::Memory);
+        };
         Ok(Operands {
             levels,
             pending: more,
@@ -294,7 +316,7 @@ impl<O: Operator> Operands<O, O::Value> {
 
     /// A postfix operator behind an operand.
     pub(super) fn postfix(self, level: usize, operator: O) -> Result<Self, Fault>
-        ensures { MatchResult result (λ r. Follows O.changes O.joins self r (Postfix level operator)) (λ _. Unit {0}) }
+        ensures { MatchResult result (λ r. Follows O.changes O.joins self r (Postfix level operator)) (blames O.refuses_operand O.refuses_operands (Misfits O.changes O.joins self (Postfix level operator))) }
     {
         let Operands {
             levels,
@@ -302,14 +324,11 @@ impl<O: Operator> Operands<O, O::Value> {
             held: kept,
         } = self;
         let Some(held) = kept else {
-            return Err(Fault::Refused(OPERATOR));
+            return Err(Fault::Misfit(OPERATOR));
         };
-        if !is_postfix(levels, level) {
-            return Err(Fault::Refused(OPERATOR));
-        }
         let before = reduce_above(&mut pending, held, level)?;
-        if before.level < level {
-            return Err(Fault::Refused(OPERATOR));
+        if !is_postfix(&levels, before.level, level) {
+            return Err(Fault::Misfit(OPERATOR));
         }
         let waits = Pending {
             operator,
@@ -327,7 +346,7 @@ impl<O: Operator> Operands<O, O::Value> {
 
     /// The value, where nothing more follows.
     pub(super) fn close(self) -> Result<O::Value, Fault>
-        ensures { MatchResult result (λ v. (ts : _) → stands_in O.changes O.joins self ts → Expression self.levels.now O.changes O.joins 0 ts v) (λ _. Unit {0}) }
+        ensures { MatchResult result (λ v. (ts : _) → StandsIn O.changes O.joins self ts → Expression self.levels O.changes O.joins 0 ts v) (blames O.refuses_operand O.refuses_operands (EndsEarly O.changes O.joins self)) }
     {
         let Operands {
             levels: _,
@@ -335,7 +354,7 @@ impl<O: Operator> Operands<O, O::Value> {
             held: kept,
         } = self;
         let Some(held) = kept else {
-            return Err(Fault::Refused(AWAITED));
+            return Err(Fault::Misfit(AWAITED));
         };
         reduce_all(pending, held)
     }

@@ -1,6 +1,6 @@
 //! What an expression's parser is made of.
 ghost use Rattle.std.specs.Prelude.{◌≡◌, MatchResult};
-ghost use Rattle.combine_expression.specs.Parts.{Begins, MakesOutermost, part_joins, part_takes, stayed_as};
+ghost use Rattle.combine_expression.specs.Parts.{Begins, MakesOutermost, closed_as, part_joins, part_takes, stayed_as};
 
 use super::operands::{Fault, Operands};
 use super::{Fixity, Item, Operator};
@@ -12,22 +12,22 @@ use std::alloc::{AllocError, Global};
 use std::marker::PhantomData;
 
 /// The parser of [`expression`](crate::expression::expression).
-pub type Expression<O, V, A, B, C> = Nested<Outermost<O, V>, Steps<A, B, C>>;
+pub type Expression<O, V, A, B, C, const N: usize> = Nested<Outermost<O, V, N>, Steps<A, B, C>>;
 
 /// The steps of an expression: what stands where an operand is awaited, and behind one, in brackets and outside of them.
 pub type Steps<A, B, C> = IfElse<Awaits, A, IfElse<InBrackets, B, C>>;
 
 /// An expression that isn't over, or the part of one that is in brackets.
 #[derive(Drop)]
-pub struct Part<O, V> {
+pub struct Part<O, V, const N: usize> {
     alloc: Global,
     in_brackets: bool,
-    operands: Operands<O, V>,
+    operands: Operands<O, V, N>,
 }
 
-impl<O: Drop, V: Drop> Part<O, V> {
-    fn new(alloc: Global, levels: &'static [Fixity], in_brackets: bool) -> Part<O, V>
-        ensures { Begins levels.now in_brackets result }
+impl<O: Drop, V: Drop, const N: usize> Part<O, V, N> {
+    fn new(alloc: Global, levels: [Fixity; N], in_brackets: bool) -> Part<O, V, N>
+        ensures { Begins levels.entry in_brackets result }
     {
         Part {
             alloc,
@@ -40,8 +40,8 @@ impl<O: Drop, V: Drop> Part<O, V> {
     fn stay(
         alloc: Global,
         in_brackets: bool,
-        became: Result<Operands<O, V>, Fault>,
-    ) -> Result<Next<Part<O, V>, V>, AllocError>
+        became: Result<Operands<O, V, N>, Fault>,
+    ) -> Result<Next<Part<O, V, N>, V>, AllocError>
         ensures { MatchResult result (stayed_as in_brackets became) (λ _. Unit {0}) }
     {
         match became {
@@ -50,20 +50,33 @@ impl<O: Drop, V: Drop> Part<O, V> {
                 in_brackets,
                 operands,
             })),
+            Err(Fault::Misfit(message)) => Ok(Next::Refuse(message)),
+            Err(Fault::Refused(message)) => Ok(Next::Refuse(message)),
+            Err(Fault::Memory) => Err(AllocError),
+        }
+    }
+
+    /// What comes of a part that was closed so.
+    fn close(became: Result<V, Fault>) -> Result<Next<Part<O, V, N>, V>, AllocError>
+        ensures { MatchResult result (closed_as became) (λ _. Unit {0}) }
+    {
+        match became {
+            Ok(value) => Ok(Next::Close(value)),
+            Err(Fault::Misfit(message)) => Ok(Next::Refuse(message)),
             Err(Fault::Refused(message)) => Ok(Next::Refuse(message)),
             Err(Fault::Memory) => Err(AllocError),
         }
     }
 }
 
-impl<V: Drop, O: Operator<Value = V>> Frame for Part<O, V> {
+impl<V: Drop, O: Operator<Value = V>, const N: usize> Frame for Part<O, V, N> {
     type Item = Item<O, V>;
 
     type Value = V;
 
-    ghost takes = { part_takes O.changes O.joins };
+    ghost takes = { part_takes O.changes O.joins O.refuses_operand O.refuses_operands };
 
-    ghost joins = { part_joins O.changes O.joins };
+    ghost joins = { part_joins O.changes O.joins O.refuses_operand O.refuses_operands };
 
     fn take(self, item: Item<O, V>) -> Result<Next<Self, V>, AllocError> {
         let Part {
@@ -91,11 +104,7 @@ impl<V: Drop, O: Operator<Value = V>> Frame for Part<O, V> {
                 };
                 Ok(Next::Open(around, inside))
             }
-            Item::Close => match operands.close() {
-                Ok(value) => Ok(Next::Close(value)),
-                Err(Fault::Refused(message)) => Ok(Next::Refuse(message)),
-                Err(Fault::Memory) => Err(AllocError),
-            },
+            Item::Close => Part::close(operands.close()),
         }
     }
 
@@ -112,16 +121,16 @@ impl<V: Drop, O: Operator<Value = V>> Frame for Part<O, V> {
 /// What makes the outermost part of an expression.
 #[derive(Drop)]
 #[derive_where(Clone, Copy)]
-pub struct Outermost<O, V> {
+pub struct Outermost<O, V, const N: usize> {
     alloc: Global,
-    levels: &'static [Fixity],
+    levels: [Fixity; N],
     of: PhantomData<(O, V)>,
 }
 
-impl<O, V> Outermost<O, V> {
+impl<O, V, const N: usize> Outermost<O, V, N> {
     #[inline]
-    pub(super) fn new(alloc: Global, levels: &'static [Fixity]) -> Outermost<O, V>
-        ensures { MakesOutermost alloc levels.now result }
+    pub(super) fn new(alloc: Global, levels: [Fixity; N]) -> Outermost<O, V, N>
+        ensures { MakesOutermost alloc levels.entry result }
     {
         Outermost {
             alloc,
@@ -131,17 +140,17 @@ impl<O, V> Outermost<O, V> {
     }
 }
 
-impl<O: Drop, V: Drop> Makes for Outermost<O, V> {
+impl<O: Drop, V: Drop, const N: usize> Makes for Outermost<O, V, N> {
     ghost use Rattle.std.specs.Prelude.{false};
 
-    type Made = Part<O, V>;
+    type Made = Part<O, V, N>;
 
     ghost callable = { λ _. Unit {0} };
 
-    ghost makes = { λ r p. Begins r.levels.now false p };
+    ghost makes = { λ r p. Begins r.levels false p };
 
     #[inline]
-    fn make(&self) -> Part<O, V> {
+    fn make(&self) -> Part<O, V, N> {
         Part::new(self.alloc, self.levels, false)
     }
 }
@@ -150,7 +159,7 @@ impl<O: Drop, V: Drop> Makes for Outermost<O, V> {
 #[derive(Clone, Copy, Drop)]
 pub struct Awaits;
 
-impl<O, V> Test<Part<O, V>> for Awaits {
+impl<O, V, const N: usize> Test<Part<O, V, N>> for Awaits {
     ghost use Rattle.combine_expression.specs.Parts.{awaits};
 
     ghost callable = { λ _. Unit {0} };
@@ -158,7 +167,7 @@ impl<O, V> Test<Part<O, V>> for Awaits {
     ghost tells = { λ _ p b. b ≡ awaits p };
 
     #[inline]
-    fn test(&self, part: &Part<O, V>) -> bool {
+    fn test(&self, part: &Part<O, V, N>) -> bool {
         part.operands.held.is_none()
     }
 }
@@ -167,13 +176,13 @@ impl<O, V> Test<Part<O, V>> for Awaits {
 #[derive(Clone, Copy, Drop)]
 pub struct InBrackets;
 
-impl<O, V> Test<Part<O, V>> for InBrackets {
+impl<O, V, const N: usize> Test<Part<O, V, N>> for InBrackets {
     ghost callable = { λ _. Unit {0} };
 
     ghost tells = { λ _ p b. b ≡ p.in_brackets };
 
     #[inline]
-    fn test(&self, part: &Part<O, V>) -> bool {
+    fn test(&self, part: &Part<O, V, N>) -> bool {
         part.in_brackets
     }
 }

@@ -1,6 +1,20 @@
-use Rattle.std.proofs.Common.{vec_items}
+use Rattle.std.proofs.Common.{arith, refl, vec_items, ◌∙◌}
 use Rattle.combine_expression.proofs.Reducing.{pop_reduced}
+use Rattle.combine_expression.proofs.Standing.{none_asked, pop_shape, stay_shape}
 use Rattle.combine_expression.proofs.expression.operands.reduce_above.Goals as goal
 
+pub innermost-init : goal.innermost-init
+innermost-init g c = ((λ levels ts h. h), refl)
+
 pub innermost-preserved : goal.innermost-preserved
-innermost-preserved g c = λ levels ts h. pop_reduced levels g.O.Operator.changes g.O.Operator.joins (vec_items c.innermost.pending) (vec_items c.pop.new.self) c.in-Some.waits c.innermost.held c.in_ok-held.held ts c.in-Some.ensures.items c.in_ok-held.ensures (c.innermost.invariant levels ts h)
+innermost-preserved g c = ((λ levels ts h. pop_reduced levels g.O.Operator.changes g.O.Operator.joins (vec_items c.innermost.pending) (vec_items c.pop.new.self) c.in-Some.waits c.innermost.held c.in_ok-held.held ts c.in-Some.ensures.items c.in_ok-held.ensures (c.innermost.invariant.0 levels ts h)), c.innermost.invariant.1 ∙ pop_shape g.O.Operator.changes g.O.Operator.joins (vec_items c.innermost.pending) (vec_items c.pop.new.self) c.in-Some.waits c.innermost.held c.in_ok-held.held c.args.level c.in-Some.ensures.items (let e = c.asked_by.ensures in let t = c.innermost-test.true in omega arith) c.in_ok-held.ensures)
+
+pub returns-in_default : goal.returns-in_default
+returns-in_default g c = absurd (none_asked (vec_items c.innermost.pending) c.args.level (let e = c.in_default.ensures in omega arith) (let e = c.asked_by.ensures in let t = c.innermost-test.true in omega arith))
+
+pub returns : goal.returns
+returns g c = record {
+  low = (let e = c.asked_by.ensures in let t = c.innermost-test.false in omega arith);
+  holds = c.innermost.invariant.0;
+  shape = c.innermost.invariant.1 ∙ stay_shape g.O.Operator.changes g.O.Operator.joins (vec_items c.innermost.pending) c.innermost.held.level c.args.level (let e = c.asked_by.ensures in let t = c.innermost-test.false in omega arith);
+}
