@@ -4,6 +4,10 @@ use Rattle.combine_nested.specs.declared.nested.Next.{Next}
 use Rattle.combine_nested.specs.declared.nested.Next.TheVariants as nexts
 use Rattle.combine_nested_tests.specs.declared.brackets.Brackets.{Brackets}
 
+-- what stands round all brackets
+abbrev pub outermost : Brackets
+outermost = record { is_outermost = true; pairs = 0 }
+
 -- brackets that were just opened
 abbrev pub opened : Brackets
 opened = record { is_outermost = false; pairs = 0 }

@@ -1,11 +1,12 @@
 //! Brackets, of which it is said what comes of each, so that a caller can cite that their grammar has one outcome.
 ghost use Rattle.std.specs.Prelude.{◌≡◌};
+ghost use Rattle.combine_nested_tests.specs.Brackets.{outermost};
 
 use combine_base::error::{ParseError, UnexpectedParse};
 use combine_base::parser::Parser;
 use combine_base::stream::{Kind, Stream, fed};
 use combine_nested::nested::{Frame, Next, always, nested};
-use combine_token::token::satisfy;
+use combine_token::token::{any, satisfy};
 use std::alloc::{AllocError, Global};
 
 /// Brackets that are open, or what stands round them all; and how many pairs stand inside.
@@ -69,12 +70,15 @@ fn keeps_brackets<Input: Stream<Token = u8>>(alloc: Global, depth: usize)
 where
     Input::Error: ParseError<u8, Input::Range, Input::Position>,
 {
-    let root = || Brackets {
-        is_outermost: true,
-        pairs: 0,
+    let root = || -> Brackets
+        ensures { result ≡ outermost }
+    {
+        Brackets {
+            is_outermost: true,
+            pairs: 0,
+        }
     };
-    let step = always(satisfy(|byte: u8| byte == b'(' || byte == b')'));
-    keeps::<Input, _>(nested(alloc, depth, root, step));
+    keeps::<Input, _>(nested(alloc, depth, root, always(any())));
 }
 
 /// How many pairs of brackets stand inside others, from the first on that stands in none, and what is behind that.
@@ -111,7 +115,7 @@ fn pairs(rt: HostRuntime) {
             Ok((pairs, _behind)) => assert_eq!(rt; pairs, *wanted),
             Err(_error) => assert!(rt; false),
         }
-        let too_deep = read_brackets(rt.alloc(), *depth - 1, *input);
+        let too_deep = read_brackets(rt.alloc(), depth.saturating_sub(1), *input);
         assert_eq!(rt; too_deep, Err(UnexpectedParse(Kind::Refused)));
     }
 }

@@ -10,8 +10,6 @@ mod commands;
 #[cfg(test)]
 mod drivers;
 #[cfg(test)]
-mod json;
-#[cfg(test)]
 mod lists;
 #[cfg(test)]
 mod messages;

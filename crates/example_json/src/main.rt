@@ -3,6 +3,11 @@
 //! `--help` says what the arguments are. The status is 0 where the input is JSON, 1 where it isn't, which is then said on standard error with its line and column, and 2 where the program gives up.
 #![tactic(auto)]
 
+#[cfg(test)]
+mod cuts;
+#[cfg(test)]
+mod tests;
+
 use example_json_core::{Fault, HELP, read_args, read_input, run};
 use std::env;
 use std::io::{ErrorKind, Write};

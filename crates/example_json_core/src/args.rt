@@ -44,7 +44,7 @@ fn number_of(word: &str) -> Option<usize> {
         }
         number = number
             .checked_mul(10)?
-            .checked_add((*digit - b'0') as usize)?;
+            .checked_add(usize::from(digit.saturating_sub(b'0')))?;
     }
     Some(number)
 }

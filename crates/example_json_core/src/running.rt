@@ -27,10 +27,14 @@ pub fn read_input<R: Read + Drop>(alloc: Global, reader: R) -> Result<Vec<u8>, F
     }
 }
 
-/// The pieces of an input, each of so many bytes but perhaps the last.
+/// The pieces of an input, each of so many bytes but perhaps the last; the whole where that is none.
 fn cut(alloc: Global, size: usize, input: &[u8]) -> Result<Vec<&[u8]>, AllocError> {
     let mut pieces = Vec::new(alloc);
-    for piece in input.chunks(size.max(1)) {
+    if size == 0 {
+        pieces.push(input)?;
+        return Ok(pieces);
+    }
+    for piece in input.chunks(size) {
         pieces.push(piece)?;
     }
     Ok(pieces)

@@ -4,8 +4,14 @@ use crate::node::Node;
 use std::io;
 use std::io::Write;
 
-/// The digits of escapes.
-const DIGITS: &[u8] = b"0123456789abcdef";
+/// The hexadecimal digit of the lowest four bits.
+fn digit(value: u8) -> u8 {
+    let value = value % 16;
+    if value < 10 {
+        return b'0'.saturating_add(value);
+    }
+    b'a'.saturating_add(value.saturating_sub(10))
+}
 
 /// Writes the text in quotes, with escapes where they must be.
 fn write_text<W: Write>(out: &mut W, text: &str) -> io::Result<()> {
@@ -18,9 +24,8 @@ fn write_text<W: Write>(out: &mut W, text: &str) -> io::Result<()> {
             b'\r' => out.write_all(b"\\r")?,
             b'\t' => out.write_all(b"\\t")?,
             control if control < b' ' => {
-                let digits = [DIGITS[(control >> 4) as usize], DIGITS[(control & 15) as usize]];
                 out.write_all(b"\\u00")?;
-                out.write_all(&digits)?;
+                out.write_all(&[digit(control / 16), digit(control)])?;
             }
             plain => out.write_all(&[plain])?,
         }

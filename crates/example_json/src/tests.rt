@@ -1,19 +1,21 @@
-//! What the reader of JSON answers, by the rules of RFC 8259.
+//! What the reader answers, by the rules of RFC 8259.
 
-use crate::rows::{Like, Outcome, over_every_cut};
-use combine_base::error::UnexpectedParse;
+use crate::cuts::{cut, places_in};
+use combine_base::error::{Info, UnexpectedParse};
+use combine_base::parser::Answer;
 use combine_base::stream::Kind;
 use combine_errors::easy::Error;
-use combine_base::error::Info;
 use example_json_core::{Document, Node, read_easily, read_pieces, read_slice, write_document};
 use std::alloc::{AllocError, Global};
+use std::process::Abort;
 
-impl Like<&'static str> for Document {
-    fn is_like(&self, alloc: Global, wanted: &&'static str) -> Result<bool, AllocError> {
-        let mut written = Vec::new(alloc);
-        let done = write_document(&mut written, self.as_slice());
-        Ok(done.is_ok() && written.as_slice() == wanted.as_bytes())
-    }
+/// What a text comes to.
+#[derive(Clone, Copy)]
+enum Outcome {
+    /// It is read to its end, and written so.
+    Written(&'static str),
+    /// A refusal of that kind, and whether it is committed.
+    Refused(Kind, bool),
 }
 
 /// A text, and how it is written without blanks.
@@ -208,16 +210,70 @@ fn arrays(alloc: Global, count: usize) -> Result<Vec<u8>, AllocError> {
     Ok(text)
 }
 
+/// Whether a document is written so.
+fn is_written(
+    alloc: Global,
+    document: &Document,
+    wanted: &str,
+) -> Result<bool, AllocError> {
+    let mut written = Vec::new(alloc);
+    let done = write_document(&mut written, document.as_slice());
+    Ok(done.is_ok() && written.as_slice() == wanted.as_bytes())
+}
+
+/// Whether a text comes to that in these pieces.
+fn comes_to(
+    alloc: Global,
+    depth: usize,
+    pieces: &[&[u8]],
+    length: u64,
+    wanted: Outcome,
+) -> Result<bool, AllocError> {
+    match (read_pieces(alloc, depth, pieces), wanted) {
+        (
+            Ok(
+                Answer::Accepted {
+                    value,
+                    taken,
+                    committed,
+                },
+            ),
+            Outcome::Written(text),
+        ) => Ok(taken == length && committed && is_written(alloc, &value, text)?),
+        (Ok(Answer::Refused { error, committed }), Outcome::Refused(kind, is_committed)) => {
+            Ok(error == UnexpectedParse(kind) && committed == is_committed)
+        }
+        _ => Ok(false),
+    }
+}
+
+/// A text comes to that, whole and however it is cut.
+fn check(
+    rt: &impl Abort,
+    alloc: Global,
+    text: &str,
+    depth: usize,
+    wanted: Outcome,
+) -> Result<(), AllocError> {
+    let bytes = text.as_bytes();
+    for places in places_in(alloc, bytes)? {
+        let pieces = cut(alloc, bytes, places)?;
+        let agrees = comes_to(alloc, depth, pieces.as_slice(), bytes.len() as u64, wanted)?;
+        assert!(rt; agrees, "{text} cut at {places:b}");
+    }
+    let agrees = match (read_slice(alloc, depth, bytes), wanted) {
+        (Ok(document), Outcome::Written(text)) => is_written(alloc, &document, text)?,
+        (Err(error), Outcome::Refused(kind, _committed)) => error == UnexpectedParse(kind),
+        _ => false,
+    };
+    assert!(rt; agrees, "{text}");
+    Ok(())
+}
+
 #[test]
 fn valid_texts(rt: HostRuntime) -> Result<(), AllocError> {
-    let alloc = rt.alloc();
     for (text, wanted) in &VALID {
-        let outcome = Outcome::Accepted(*wanted, text.len() as u64, true);
-        over_every_cut(&rt, alloc, read_pieces, &[(*text, 4, outcome)])?;
-        match read_slice(alloc, 4, text.as_bytes()) {
-            Ok(document) => assert!(rt; document.is_like(alloc, wanted)?, "{text}"),
-            Err(_error) => assert!(rt; false, "{text}"),
-        }
+        check(&rt, rt.alloc(), *text, 4, Outcome::Written(*wanted))?;
     }
     Ok(())
 }
@@ -225,20 +281,15 @@ fn valid_texts(rt: HostRuntime) -> Result<(), AllocError> {
 #[test]
 fn invalid_texts(rt: HostRuntime) -> Result<(), AllocError> {
     let alloc = rt.alloc();
-    let ended = Outcome::Refused(Kind::End, true);
-    let refused = Outcome::Refused(Kind::Refused, true);
-    let other = Outcome::Refused(Kind::Refused, false);
-    over_every_cut(&rt, alloc, read_pieces, &[("", 4, Outcome::<&str>::Refused(Kind::End, false))])?;
+    check(&rt, alloc, "", 4, Outcome::Refused(Kind::End, false))?;
     for text in &ENDED {
-        over_every_cut(&rt, alloc, read_pieces, &[(*text, 4, ended)])?;
-        assert_eq!(rt; read_slice(alloc, 4, text.as_bytes()), Err(UnexpectedParse(Kind::End)));
+        check(&rt, alloc, *text, 4, Outcome::Refused(Kind::End, true))?;
     }
     for text in &REFUSED {
-        over_every_cut(&rt, alloc, read_pieces, &[(*text, 4, refused)])?;
-        assert_eq!(rt; read_slice(alloc, 4, text.as_bytes()), Err(UnexpectedParse(Kind::Refused)));
+        check(&rt, alloc, *text, 4, Outcome::Refused(Kind::Refused, true))?;
     }
     for text in &OTHERS {
-        over_every_cut(&rt, alloc, read_pieces, &[(*text, 4, other)])?;
+        check(&rt, alloc, *text, 4, Outcome::Refused(Kind::Refused, false))?;
     }
     Ok(())
 }
@@ -247,10 +298,9 @@ fn invalid_texts(rt: HostRuntime) -> Result<(), AllocError> {
 fn texts_that_nest(rt: HostRuntime) -> Result<(), AllocError> {
     let alloc = rt.alloc();
     for (text, depth) in &DEEP {
-        let accepted = Outcome::Accepted(*text, text.len() as u64, true);
-        let refused = Outcome::Refused(Kind::Refused, true);
-        over_every_cut(&rt, alloc, read_pieces, &[(*text, *depth, accepted)])?;
-        over_every_cut(&rt, alloc, read_pieces, &[(*text, *depth - 1, refused)])?;
+        check(&rt, alloc, *text, *depth, Outcome::Written(*text))?;
+        let less = depth.saturating_sub(1);
+        check(&rt, alloc, *text, less, Outcome::Refused(Kind::Refused, true))?;
     }
     Ok(())
 }
