@@ -1,10 +1,10 @@
 -- what is an expression fits
-use Rattle.std.proofs.Common.{rules, ◌≡◌, ℕ, zero, suc, ◌≤◌, ◌<◌, ◌⊎◌, inl, inr, true, false, nat_le, nat_lt, cond, Option, Some, None, List, [], ◌∷◌, ◌++◌, length, sym, ◌∙◌, ap, subst, refl, arith, append_assoc, slice_get}
+use Rattle.std.proofs.Common.{rules, ◌≡◌, ℕ, suc, ◌≤◌, ◌<◌, true, false, nat_le, nat_lt, cond, Option, Some, None, List, [], ◌∷◌, ◌++◌, length, sym, ◌∙◌, ap, subst, refl, arith, append_assoc, slice_get}
 use Rattle.std.proofs.lemmas.Option.{slice_get_within}
 use Rattle.combine_expression.specs.declared.expression.Fixity.{Fixity}
 use Rattle.combine_expression.specs.declared.expression.Fixity.TheVariants as fixities
 use Rattle.combine_expression.specs.declared.expression.operands.Lowest.{Lowest}
-use Rattle.combine_expression.specs.Levels.{Thing, Operand, Prefix, Postfix, Infix, Expression, operand, higher, prefix, postfix, left, right, neither}
+use Rattle.combine_expression.specs.Levels.{Thing, Prefix, Postfix, Infix, Expression, operand, higher, prefix, postfix, left, right, neither}
 use Rattle.combine_expression.specs.Shapes.{Kept, Shape, Slot, and_then, between, fit, fits, fits_behind, fits_in_front, holds_if, needs, reduce_to, sides_of, start, waits_if}
 
 is_le : (a b : ℕ) → a ≤ b → nat_le a b ≡ true

@@ -1,5 +1,5 @@
 -- what comes of a part
-use Rattle.std.proofs.Common.{◌≡◌, ℕ, Bool, List, ◌⊎◌, inl, inr, Option, Some, None, Result, Ok, Err, MatchResult, sym, subst}
+use Rattle.std.proofs.Common.{◌≡◌, ℕ, List, inl, inr, Result, Ok, Err, MatchResult, sym, subst}
 use Rattle.combine_nested.specs.declared.nested.Next.{Next}
 use Rattle.combine_nested.specs.declared.nested.Next.TheVariants as nexts
 use Rattle.combine_expression.specs.declared.expression.Item.{Item}
@@ -10,7 +10,7 @@ use Rattle.combine_expression.specs.declared.expression.operands.Fault.TheVarian
 use Rattle.combine_expression.specs.declared.expression.types.Part.{Part}
 use Rattle.combine_expression.specs.Levels.{Expression, Thing, Operand, Prefix, Postfix, Infix}
 use Rattle.combine_expression.specs.Waiting.{EndsEarly, Follows, Misfits, StandsIn, blames}
-use Rattle.combine_expression.specs.Parts.{Goes, closed_as, closes, goes, part_takes, stayed_as}
+use Rattle.combine_expression.specs.Parts.{closed_as, closes, goes, part_takes, stayed_as}
 
 module _ {O V : Type 0} {N : ℕ} (changes : O → V → V → Type 0) (joins : O → V → V → V → Type 0) (refuses_operand : O → V → Type 0) (refuses_operands : O → V → V → Type 0) where
   abbrev follows_so : Part O V N → Thing O V → Result (Operands O V N) Fault → Type 0

@@ -1,14 +1,14 @@
 -- operators that are given their operands
-use Rattle.std.proofs.Common.{rules, ◌≡◌, ℕ, zero, suc, ◌+◌, ◌-◌, ◌<◌, ◌≤◌, Option, Some, None, List, [], ◌∷◌, ◌++◌, length, reverse, sym, ◌∙◌, ap, subst, refl, arith, append_assoc, slice_get}
+use Rattle.std.proofs.Common.{◌≡◌, ℕ, zero, suc, ◌+◌, ◌-◌, ◌≤◌, Option, Some, None, List, [], ◌∷◌, ◌++◌, length, reverse, sym, ◌∙◌, ap, subst, refl, arith, append_assoc, slice_get}
 use Rattle.std.proofs.lemmas.List.{reverse-append}
 use Rattle.combine_expression.specs.declared.expression.Fixity.{Fixity}
 use Rattle.combine_expression.specs.declared.expression.Fixity.TheVariants as fixities
 use Rattle.combine_expression.specs.declared.expression.operands.Pending.{Pending}
 use Rattle.combine_expression.specs.declared.expression.operands.Held.{Held}
 use Rattle.combine_expression.specs.declared.expression.operands.Lowest.{Lowest}
-use Rattle.combine_expression.specs.Levels.{Thing, Operand, Prefix, Postfix, Infix, Expression, operand, higher, prefix, postfix, left, right, neither}
+use Rattle.combine_expression.specs.Levels.{Thing, Prefix, Infix, Expression, higher, prefix, left, right, neither}
 use Rattle.combine_expression.specs.Shapes.{sides_of}
-use Rattle.combine_expression.specs.Waiting.{Holds, Reduced, WaitsBetween, WaitsInFront, asked, makes_of, pends, stands, waits_so}
+use Rattle.combine_expression.specs.Waiting.{Holds, Reduced, asked, makes_of, pends, waits_so}
 
 pub innermost_of : {A : Type 0} (xs ys : List A) (x : A) → xs ≡ ys ++ x ∷ [] → reverse xs ≡ x ∷ reverse ys
 innermost_of xs ys x e = ap reverse e ∙ reverse-append ys (x ∷ [])

@@ -1,5 +1,5 @@
 -- one thing more of an expression that isn't over
-use Rattle.std.proofs.Common.{rules, ◌≡◌, ℕ, suc, ◌≤◌, ◌<◌, Option, Some, None, Result, Ok, Err, MatchResult, is_some, true, false, nat_le, nat_lt, List, [], ◌∷◌, ◌++◌, length, reverse, sym, ◌∙◌, ap, subst, refl, arith, append_assoc, slice_get, vec_items}
+use Rattle.std.proofs.Common.{rules, ◌≡◌, ℕ, suc, ◌≤◌, ◌<◌, Option, Some, None, Result, Ok, Err, MatchResult, is_some, true, false, nat_le, List, [], ◌∷◌, ◌++◌, length, reverse, sym, ◌∙◌, ap, subst, refl, arith, append_assoc, slice_get, vec_items}
 use Rattle.std.proofs.lemmas.List.{reverse-append}
 use Rattle.std.proofs.lemmas.Option.{slice_get_within}
 use Rattle.combine_expression.specs.declared.expression.Fixity.{Fixity}
@@ -11,10 +11,10 @@ use Rattle.combine_expression.specs.declared.expression.operands.Lowest.{Lowest}
 use Rattle.combine_expression.specs.Levels.{Thing, Operand, Prefix, Postfix, Infix, Expression, operand, postfix}
 use Rattle.combine_expression.specs.declared.expression.operands.Fault.{Fault}
 use Rattle.combine_expression.specs.declared.expression.operands.Fault.TheVariants as faults
-use Rattle.combine_expression.specs.Shapes.{Kept, Shape, Slot, between, fit, fits, fits_behind, fits_in_front, holds_if, needs, reduce_to, sides_of, start, waits_if}
+use Rattle.combine_expression.specs.Shapes.{Kept, Shape, between, fit, fits, fits_behind, fits_in_front, holds_if, needs, reduce_to, sides_of, start, waits_if}
 use Rattle.combine_expression.specs.Waiting.{EndsEarly, Follows, Holds, Misfits, OperatorRefuses, refuses_one, refuses_two, Reduced, ReducedAbove, StandsIn, asked, blames, held_level, operator_refuses, pends, shape_of, shapes, stands, waits_so}
 use Rattle.combine_expression.proofs.Complete.{fits_one, infix_fits, no_misfit, no_open_end, pops, postfix_fits, stays}
-use Rattle.combine_expression.proofs.Reducing.{complete_at, innermost_of, lower, pop_reduced}
+use Rattle.combine_expression.proofs.Reducing.{innermost_of, lower}
 
 sides_within : (f : Option Fixity) (p n : ℕ) (lowest : Lowest) → p < n → sides_of p f ≡ Some lowest → lowest.right ≤ n
 sides_within None p n lowest l s = absurd (cc)

@@ -1,5 +1,5 @@
 -- the parts of an expression as frames: the whole, and what is in brackets inside it
-use Rattle.std.specs.Prelude.{◌≡◌, ℕ, Bool, true, false, ◌⊎◌, List, [], ◌∷◌, Option, Some, None, is_none, Result, Ok, Err, vec_items}
+use Rattle.std.specs.Prelude.{◌≡◌, ℕ, Bool, true, ◌⊎◌, List, [], None, is_none, Result, Ok, Err, vec_items}
 use Rattle.std.specs.declared.alloc.Global.{Global}
 use Rattle.combine_nested.specs.declared.nested.Next.{Next}
 use Rattle.combine_nested.specs.declared.nested.Next.TheVariants as nexts

@@ -3,17 +3,17 @@ use Rattle.std.specs.Prelude.{◌≡◌, ℕ, Bool, true, false, nat_lt, Option,
 use Rattle.std.proofs.Common.{subst, sym, ◌∙◌, ap, append_assoc}
 use Rattle.combine_base.specs.Stream.View.{View, advanced}
 use Rattle.combine_base.specs.Parser.Outcome.{Accepted}
-use Rattle.combine_base.specs.Parser.Meaning.{Meaning, Reading}
+use Rattle.combine_base.specs.Parser.Meaning.{Meaning}
 use Rattle.combine_nested.specs.declared.nested.Next.{Next}
 use Rattle.combine_nested.specs.declared.nested.Next.TheVariants as nexts
-use Rattle.combine_nested.specs.Nesting.{Ends, Opened, Closed, Denied, TooDeep, nested_whole, opens as opens_within, settles}
+use Rattle.combine_nested.specs.Nesting.{Ends, Opened, Closed, nested_whole, opens as opens_within, settles}
 use Rattle.combine_expression.specs.declared.expression.Fixity.{Fixity}
 use Rattle.combine_expression.specs.declared.expression.Item.{Item}
 use Rattle.combine_expression.specs.declared.expression.Item.TheVariants as items
 use Rattle.combine_expression.specs.declared.expression.operands.Held.{Held}
 use Rattle.combine_expression.specs.declared.expression.operands.Pending.{Pending}
 use Rattle.combine_expression.specs.declared.expression.types.Part.{Part}
-use Rattle.combine_expression.specs.AcceptedSteps.{AcceptedSteps, ReadsItems, last, more, steps_so}
+use Rattle.combine_expression.specs.AcceptedSteps.{AcceptedSteps, last, more, steps_so}
 use Rattle.combine_expression.specs.Levels.{Expression, Thing, Operand, Prefix, Postfix, Infix}
 use Rattle.combine_expression.specs.Parts.{Begins, part_joins, part_takes}
 use Rattle.combine_expression.specs.Shapes.{Shape, start}

@@ -1,5 +1,5 @@
 -- expressions that aren't over
-use Rattle.std.specs.Prelude.{◌≡◌, ℕ, zero, suc, ◌≤◌, List, [], ◌∷◌, ◌++◌, reverse, slice_get, vec_items}
+use Rattle.std.specs.Prelude.{◌≡◌, ℕ, ◌≤◌, List, [], ◌∷◌, ◌++◌, reverse, slice_get, vec_items}
 use Rattle.std.specs.Prelude.{Option, Some, None}
 use Rattle.combine_expression.specs.declared.expression.Fixity.{Fixity}
 use Rattle.combine_expression.specs.declared.expression.Fixity.TheVariants as fixities
@@ -10,7 +10,7 @@ use Rattle.combine_expression.specs.declared.expression.operands.Lowest.{Lowest}
 use Rattle.combine_expression.specs.declared.expression.operands.Fault.{Fault}
 use Rattle.combine_expression.specs.declared.expression.operands.Fault.TheVariants as faults
 use Rattle.combine_expression.specs.Shapes.{Shape, Slot, fits, reduce_to, sides_of, start}
-use Rattle.combine_expression.specs.Levels.{Thing, Operand, Prefix, Postfix, Infix, Expression}
+use Rattle.combine_expression.specs.Levels.{Thing, Prefix, Infix, Expression}
 
 -- the lowest level that the operand may have that operators wait for, the innermost first
 abbrev pub asked : {O V : Type 0} → List (Pending O V) → ℕ

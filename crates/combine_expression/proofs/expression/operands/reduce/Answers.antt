@@ -1,4 +1,3 @@
-use Rattle.std.proofs.Common.{refl}
 use Rattle.combine_expression.proofs.Standing.{refuses_so}
 use Rattle.combine_expression.proofs.expression.operands.reduce.Goals as goal
 

@@ -1,4 +1,4 @@
-use Rattle.std.proofs.Common.{◌≡◌, List, reverse, vec_items, vec_len}
+use Rattle.std.proofs.Common.{List, reverse, vec_items, vec_len}
 use Rattle.combine_expression.specs.Levels.{Thing}
 use Rattle.combine_expression.specs.Waiting.{Holds}
 use Rattle.combine_expression.specs.declared.expression.Fixity.{Fixity}

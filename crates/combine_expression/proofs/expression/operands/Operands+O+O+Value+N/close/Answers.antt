@@ -1,4 +1,3 @@
-use Rattle.std.proofs.Common.{refl}
 use Rattle.combine_expression.proofs.Standing.{closes_so, ends_early}
 use Rattle.combine_expression.proofs.expression.operands.Operands+O+O+Value+N.close.Goals as goal
 

@@ -1,4 +1,3 @@
-use Rattle.std.proofs.Common.{refl}
 use Rattle.combine_expression.specs.Levels.{Operand}
 use Rattle.combine_expression.proofs.Parting.{stayed_goes}
 use Rattle.combine_expression.proofs.expression.types.PartFrame.join.Goals as goal

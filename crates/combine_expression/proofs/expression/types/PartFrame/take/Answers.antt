@@ -1,4 +1,3 @@
-use Rattle.std.proofs.Common.{refl}
 use Rattle.combine_expression.proofs.Parting.{takes_close, takes_infix, takes_operand, takes_postfix, takes_prefix}
 use Rattle.combine_expression.proofs.expression.types.PartFrame.take.Goals as goal
 
