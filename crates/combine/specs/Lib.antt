@@ -141,7 +141,9 @@ pub use Rattle.combine_nested.specs.Asks
 pub use Rattle.combine_nested.specs.Nesting
 pub use Rattle.combine_nested.specs.NestingLaws
 pub use Rattle.combine_nested.specs.NestingOne
+pub use Rattle.combine_expression.specs.AcceptedSteps
 pub use Rattle.combine_expression.specs.Levels
 pub use Rattle.combine_expression.specs.Parts
 pub use Rattle.combine_expression.specs.Shapes
+pub use Rattle.combine_expression.specs.Spelling
 pub use Rattle.combine_expression.specs.Waiting
