@@ -1,0 +1,43 @@
+//! The place of a mistake, shown under its line.
+ghost use Rattle.std.specs.Prelude.{◌≡◌, ◌-◌, ◌++◌, IfOk, codes, map, take, string_bytes};
+ghost use Rattle.std.specs.Str.{chars};
+ghost use Rattle.example_conf.specs.Carets.{mark};
+
+use combine::stream::position::SourcePosition;
+use std::alloc::{AllocError, Global};
+
+/// Returns the line at a place, without its end; nothing where the text has fewer lines.
+pub fn line_at(text: &str, place: SourcePosition) -> &str {
+    let mut line: u64 = 1;
+    for each in text.lines() {
+        if line == place.line {
+            return each;
+        }
+        line = line.saturating_add(1);
+    }
+    ""
+}
+
+/// Returns a caret that stands under a column of the line, counted from 1: before it a tab for each tab of the line, and a blank for each other character.
+///
+/// # Errors
+///
+/// Where no memory is left.
+pub fn caret_under(alloc: Global, line: &str, column: u64) -> Result<String, AllocError>
+    ensures { IfOk result (λ caret. string_bytes caret ≡ map mark (take (column - 1) (chars line.now)) ++ codes "^") }
+{
+    let before = column.saturating_sub(1);
+    let mut caret = String::new(alloc);
+    for character in line.chars().take(before as usize) {
+        caret.push(mark(character))?;
+    }
+    caret.push('^')?;
+    Ok(caret)
+}
+
+/// Returns what stands under a character before the caret.
+fn mark(character: char) -> char
+    ensures { result ≡ mark character }
+{
+    if character == '\t' { '\t' } else { ' ' }
+}
