@@ -92,18 +92,21 @@ where
     Input::Error: ParseError<char, Input::Range, Input::Position>,
     requires { V.lawful value }
 {
-    let name = move || {
-        let name = many1::<String, _>(alloc, satisfy(is_name_character));
-        skip(expected(name, "name"), skip_many(satisfy(is_blank)))
-    };
+    let name = many1::<String, _>(alloc, satisfy(is_name_character));
     let section = map(
-        between(char('['), char(']'), name()),
+        between(char('['), char(']'), expected(name, "name")),
         |name: String| Line::Section(name),
     );
-    let equals = (char('='), skip_many(satisfy(is_blank)));
-    let setting = map((name(), equals, value), |(name, _equals, value)| {
-        Line::Setting(name, value)
-    });
+    let name = many1::<String, _>(alloc, satisfy(is_name_character));
+    let equals = (
+        skip_many(satisfy(is_blank)),
+        char('='),
+        skip_many(satisfy(is_blank)),
+    );
+    let setting = map(
+        (expected(name, "name"), equals, value),
+        |(name, _equals, value)| Line::Setting(name, value),
+    );
     let said = with(skip_many(satisfy(is_blank)), optional(or(section, setting)));
     all_lines(alloc, said, input)
 }

@@ -10,10 +10,8 @@ mod place;
 
 use file::{ConfError, Line, read_lines};
 use place::{caret_under, line_at};
-use std::env;
-use std::fs;
-use std::io;
 use std::process::ExitCode;
+use std::{env, fs, io};
 
 const HELP: &str = "Usage: conf [FILE]
 

@@ -2,8 +2,8 @@
 use Rattle.std.specs.Prelude.{ℕ, ◌≡◌, ◌+◌, ◌≤◌, List, [], ◌∷◌, ◌++◌, Bool, true, false, ◌||◌, length, take, drop, refl, All, None}
 use Rattle.std.proofs.Common.{arith, ap, sym, subst, ◌∙◌, take-add, length-drop}
 use Rattle.std.proofs.lemmas.List.{append-nil, append_assoc}
-use Rattle.std.proofs.lemmas.List.Elements.{All-nil, All-cons}
-use Rattle.combine_token.specs.OneToken.{one_token, satisfied}
+use Rattle.std.proofs.lemmas.List.Elements.{All-nil, All-cons, All-weaker}
+use Rattle.combine_token.specs.OneToken.{of_function, one_token, satisfied}
 use Rattle.combine_base.specs.Stream.View.{View, advanced}
 use Rattle.combine_base.specs.Parser.Outcome.{Outcome, Accepted, Refused, Undecided, after, shape}
 use Rattle.combine_base.specs.Parser.Meaning.{Reading}
@@ -83,9 +83,13 @@ each_is p xs (a ∷ bs) w =
     let i = each_is p w.1 bs w.4 in
     (w.2 ∙ ap (λ ys. ys ++ w.1) w.3.0 ∙ ap (λ zs. a ∷ zs) i.0, All-cons (λ a. p a true) a bs w.3.1 i.1)
 
--- one or more tokens of which a predicate holds are what is collected
-abbrev pub all_of : {T V : Type 0} → (V → List T) → (T → Bool → Type 0) → List T → V → Type 0
-all_of held p xs v = (xs ≡ held v) × All (λ a. p a true) (held v)
+-- one or more tokens of which a function holds are what is collected
+abbrev pub all_where : {T V : Type 0} → (V → List T) → (T → Bool) → List T → V → Type 0
+all_where held f xs v = (xs ≡ held v) × All (λ a. f a ≡ true) (held v)
 
-pub many1_satisfied_reads : {P T V : Type 0} (step : P → T → P) (held : V → List T) (lean : Type 0) (p : T → Bool → Type 0) → Reads (collects step held lean (one_token (satisfied p))) (all_of held p)
-many1_satisfied_reads step held lean p = reads_as (λ xs v w. each_is p xs (held v) w) (many1_reads step held lean (satisfied_reads p))
+pub many1_where_reads : {P T V : Type 0} (step : P → T → P) (held : V → List T) (lean : Type 0) (f : T → Bool) → Reads (collects step held lean (one_token (satisfied (of_function f)))) (all_where held f)
+many1_where_reads {T} step held lean f =
+    let p = of_function f in
+    reads_as (λ xs v w.
+        let e = each_is p xs (held v) w in
+        (e.0, All-weaker (λ a. p a true) (λ a. f a ≡ true) (λ a (i : true ≡ f a). sym i) (held v) e.1)) (many1_reads step held lean (satisfied_reads p))

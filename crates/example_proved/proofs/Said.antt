@@ -1,6 +1,6 @@
 -- what the tokens that a parser took say of its value, by what it means
-use Rattle.std.specs.Prelude.{ℕ, ◌≡◌, ◌+◌, ◌≤◌, List, [], ◌∷◌, ◌++◌, Bool, true, false, length, take, drop, refl, Result, Ok, Err, MatchResult, IfOk}
-use Rattle.std.proofs.Common.{arith, ap, sym, subst, ◌∙◌, take-add, length-drop}
+use Rattle.std.specs.Prelude.{ℕ, ◌≡◌, ◌+◌, ◌≤◌, List, [], ◌∷◌, ◌++◌, Bool, true, false, length, nat_eq, take, drop, refl, Result, Ok, Err, MatchResult, IfOk}
+use Rattle.std.proofs.Common.{arith, eqb-true, ap, sym, subst, ◌∙◌, take-add, length-drop}
 use Rattle.std.proofs.lemmas.List.{take-append-drop}
 use Rattle.combine_base.specs.Stream.View.{View, Takes, advanced}
 use Rattle.combine_base.specs.Error.Errors.{Errors}
@@ -15,7 +15,7 @@ use Rattle.combine_base.specs.Sequence.Readings.{continues, following, sequel}
 use Rattle.combine_base.specs.declared.stream.Failures.{Failures}
 use Rattle.combine_base.specs.declared.error.ParseResult.{ParseResult}
 use Rattle.combine_base.specs.declared.error.ParseResult.TheVariants.{CommitOk, PeekOk, CommitErr, PeekErr}
-use Rattle.combine_token.specs.OneToken.{one_token, one_token_at, satisfied}
+use Rattle.combine_token.specs.OneToken.{of_function, one_token, one_token_at, satisfied}
 
 -- each acceptance took tokens that say its value
 pub record Reads {P T A : Type 0} (r : Reading P T A) (says : List T → A → Type 0) : Type 0 where
@@ -37,6 +37,13 @@ satisfied_reads {P} {T} p = record { one = λ v. at v.is_open v.unread }
     at o (t ∷ ts) a n k w =
         subst (λ m. (m ≤ length (t ∷ ts)) × one_of p (take m (t ∷ ts)) a) (sym w.1)
         (omega arith, (ap (λ x. x ∷ []) (sym w.0.0), subst (λ x. p x true) (sym w.0.0) w.0.1))
+
+-- that byte
+abbrev pub this_byte : ℕ → List ℕ → ℕ → Type 0
+this_byte b xs a = (xs ≡ b ∷ []) × (a ≡ b)
+
+pub byte_reads : {P : Type 0} (b : ℕ) → Reads {P = P} (one_token (satisfied (of_function (λ t. nat_eq t b)))) (this_byte b)
+byte_reads b = reads_as (λ xs a w. let i = eqb-true a b (sym w.1) in (w.0 ∙ ap (λ x. x ∷ []) i, i)) (satisfied_reads (of_function (λ t. nat_eq t b)))
 
 module _ {P T A B : Type 0} where
   -- the value of a part, changed
