@@ -25,6 +25,10 @@ pub record Reads {P T A : Type 0} (r : Reading P T A) (says : List T → A → T
 pub reads_as : {P T A : Type 0} {r : Reading P T A} {says tells : List T → A → Type 0} → ((xs : List T) (a : A) → says xs a → tells xs a) → Reads r says → Reads r tells
 reads_as f h = record { one = λ v a n k w. let i = h.one v a n k w in (i.0, f _ a i.1) }
 
+-- what means no more than another reading says as much
+pub reads_by : {P T A : Type 0} {r q : Reading P T A} {says : List T → A → Type 0} → ((v : View P T) (o : Outcome A) → r v o → q v o) → Reads q says → Reads r says
+reads_by f h = record { one = λ v a n k w. h.one v a n k (f v (Accepted a n k) w) }
+
 -- one token that a predicate holds of
 abbrev pub one_of : {T : Type 0} → (T → Bool → Type 0) → List T → T → Type 0
 one_of p xs a = (xs ≡ a ∷ []) × p a true

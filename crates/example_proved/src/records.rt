@@ -1,0 +1,33 @@
+//! A binary record.
+ghost use Rattle.std.specs.Prelude.{◌≡◌, IfOk};
+ghost use Rattle.example_proved.specs.Records.{IsRecord};
+
+use combine_base::error::UnexpectedParse;
+use combine_base::parser::Parser;
+use combine_decode::decode::frame;
+use combine_decode::decode::laws::frame_is_a_length_and_its_bytes;
+use combine_map::combinator::map;
+use combine_token::token::any;
+use std::alloc::Global;
+
+/// A record: what kind it is, and its text.
+#[derive(Debug, Drop, PartialEq)]
+pub struct Record {
+    pub kind: u8,
+    pub text: Vec<u8>,
+}
+
+/// Returns the record at the beginning of a slice, and what stands behind it: a kind, a length in two bytes, the highest first, and as many bytes, which are the text.
+pub fn read_record(alloc: Global, input: &[u8]) -> Result<(Record, &[u8]), UnexpectedParse>
+    ensures { IfOk result (λ p. IsRecord input.now p.0 p.1.now) }
+{
+    frame_is_a_length_and_its_bytes::<&[u8]>(alloc);
+    map((any(), frame(alloc)), made_record).parse(input)
+}
+
+fn made_record(parts: (u8, Vec<u8>)) -> Record
+    ensures { result ≡ record { kind = parts.0; text = parts.1 } }
+{
+    let (kind, text) = parts;
+    Record { kind, text }
+}
