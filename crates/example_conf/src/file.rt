@@ -75,7 +75,7 @@ fn with_values<Input: Stream<Token = char>>(
 where
     Input::Error: ParseError<char, Input::Range, Input::Position>,
 {
-    let escape = with(char('\\'), expected(satisfy_map(escaped), "escape"));
+    let escape = with(char('\\'), satisfy_map(escaped));
     let text = many::<String, _>(alloc, or(satisfy(is_plain), escape));
     let quoted = between(char('"'), char('"'), text);
     let word = many1::<String, _>(alloc, satisfy(is_word_character));

@@ -1,6 +1,6 @@
 //! The place of a mistake, shown under its line.
 ghost use Rattle.std.specs.Prelude.{◌≡◌, ◌-◌, ◌++◌, IfOk, codes, map, take, string_bytes};
-ghost use Rattle.std.specs.Str.{chars};
+ghost use Rattle.std.specs.Str.{chars, encode_utf8_all};
 ghost use Rattle.example_conf.specs.Carets.{mark};
 
 use combine::stream::position::SourcePosition;
@@ -24,13 +24,10 @@ pub fn line_at(text: &str, place: SourcePosition) -> &str {
 ///
 /// Where no memory is left.
 pub fn caret_under(alloc: Global, line: &str, column: u64) -> Result<String, AllocError>
-    ensures { IfOk result (λ caret. string_bytes caret ≡ map mark (take (column - 1) (chars line.now)) ++ codes "^") }
+    ensures { IfOk result (λ caret. string_bytes caret ≡ encode_utf8_all (map mark (take (column - 1) (chars line.now))) ++ codes "^") }
 {
-    let before = column.saturating_sub(1);
-    let mut caret = String::new(alloc);
-    for character in line.chars().take(before as usize) {
-        caret.push(mark(character))?;
-    }
+    let before = column.saturating_sub(1) as usize;
+    let mut caret: String = line.chars().take(before).map(mark).collect(alloc)?;
     caret.push('^')?;
     Ok(caret)
 }

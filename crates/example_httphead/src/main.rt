@@ -1,0 +1,97 @@
+//! `httphead` reads heads of requests from standard input, and prints their parts; `httphead --help` says more.
+//!
+//! The parts stand in the input, and nothing of it is copied before it is printed.
+//!
+//! Proved: no input makes it crash, and it ends when its input does.
+#![tactic(auto)]
+
+mod head;
+
+use combine::stream::position::{SliceStream, Stream as Placed};
+use combine::stream::{Positioned, RangeStream};
+use head::{Head, read_head};
+use std::env;
+use std::io;
+use std::io::Read;
+use std::process::ExitCode;
+
+const HELP: &str = "Usage: httphead < FILE
+
+Reads heads of HTTP/1 requests from standard input, one after another, and
+prints each: its method, target and version, and a line for each header.
+
+A head is a request line, a line for each header, and an empty line; lines end
+with CR LF. A body behind a head isn't passed over.
+
+What is no head is said on standard error, with the line where it is none.
+
+The status is 0 where the input is heads alone, 1 where it isn't or can't be
+read, and 2 where the arguments are wrong.
+";
+
+fn main(rt: HostRuntime) -> ExitCode {
+    match run(&rt) {
+        Ok(status) => status,
+        Err(error) => {
+            let _unwritten = eprintln!(rt; "httphead: {error}");
+            ExitCode::FAILURE
+        }
+    }
+}
+
+fn run(rt: &HostRuntime) -> io::Result<ExitCode> {
+    for word in env::args(rt)?.skip(1) {
+        if word.as_str() == "--help" {
+            print!(rt; "{HELP}")?;
+            return Ok(ExitCode::SUCCESS);
+        }
+        eprintln!(rt; "httphead: unexpected argument `{word}`; try `httphead --help`")?;
+        return Ok(ExitCode::from(2));
+    }
+    let mut input = Vec::new(rt.alloc());
+    rt.reader().read_to_end(&mut input)?;
+    print_heads(rt, &input)
+}
+
+/// Prints each head, up to what is none.
+fn print_heads(rt: &HostRuntime, input: &[u8]) -> io::Result<ExitCode> {
+    let mut stream: SliceStream<'_, u8> = Placed::new(input);
+    // Each head takes a byte at least.
+    for _head in input {
+        if stream.range().is_empty() {
+            break;
+        }
+        match read_head(rt.alloc(), &mut stream) {
+            Ok(head) => print_head(rt, &head)?,
+            Err(_refusal) => {
+                let line = line_at(input, stream.position());
+                eprintln!(rt; "httphead: line {line}: no head of a request")?;
+                return Ok(ExitCode::FAILURE);
+            }
+        }
+    }
+    Ok(ExitCode::SUCCESS)
+}
+
+/// Prints a head, and an empty line behind it.
+fn print_head(rt: &HostRuntime, head: &Head<&[u8]>) -> io::Result<()> {
+    let method = String::from_utf8_lossy(rt.alloc(), head.method)?;
+    let target = String::from_utf8_lossy(rt.alloc(), head.target)?;
+    let version = String::from_utf8_lossy(rt.alloc(), head.version)?;
+    println!(rt; "{method} {target} {version}")?;
+    for header in &head.headers {
+        let name = String::from_utf8_lossy(rt.alloc(), header.name)?;
+        let value = String::from_utf8_lossy(rt.alloc(), header.value)?;
+        println!(rt; "  {name}: {value}")?;
+    }
+    println!(rt; "")
+}
+
+/// Returns the number of the line at an index, counted from 1.
+fn line_at(input: &[u8], index: usize) -> usize {
+    let before = input.iter().take(index);
+    before
+        .filter(|byte| **byte == b'\n')
+        .count()
+        .saturating_add(1)
+}
