@@ -1,0 +1,47 @@
+//! `resp` reads replies of RESP, the protocol of Redis, from standard input in pieces, and prints each as soon as it has come; `resp --help` says more.
+//!
+//! Replies nest, and are read by `nested`: no input overflows the call stack. A length takes room for no more than 1,024 bytes at once, whatever it is.
+//!
+//! Proved: no input makes it crash, and it ends when its input does.
+#![tactic(auto)]
+
+mod reply;
+mod session;
+
+use reply::print_replies;
+use std::env;
+use std::io;
+use std::process::ExitCode;
+
+const HELP: &str = "Usage: resp < FILE
+
+Reads replies of RESP from standard input, and prints each as soon as it has
+come. Arrays may stand up to 32 inside one another.
+
+What is no reply ends the program, and is said on standard error.
+
+The status is 0 where the input is replies alone, 1 where it isn't or can't be
+read, and 2 where the arguments are wrong.
+";
+
+fn main(rt: HostRuntime) -> ExitCode {
+    match run(&rt) {
+        Ok(status) => status,
+        Err(error) => {
+            let _unwritten = eprintln!(rt; "resp: {error}");
+            ExitCode::FAILURE
+        }
+    }
+}
+
+fn run(rt: &HostRuntime) -> io::Result<ExitCode> {
+    for word in env::args(rt)?.skip(1) {
+        if word.as_str() == "--help" {
+            print!(rt; "{HELP}")?;
+            return Ok(ExitCode::SUCCESS);
+        }
+        eprintln!(rt; "resp: unexpected argument `{word}`; try `resp --help`")?;
+        return Ok(ExitCode::from(2));
+    }
+    print_replies(rt)
+}
