@@ -10,10 +10,9 @@ mod head;
 use combine::stream::position::{SliceStream, Stream as Placed};
 use combine::stream::{Positioned, RangeStream};
 use head::{Head, read_head};
-use std::env;
-use std::io;
 use std::io::Read;
 use std::process::ExitCode;
+use std::{env, io};
 
 const HELP: &str = "Usage: httphead < FILE
 

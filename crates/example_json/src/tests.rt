@@ -33,7 +33,10 @@ const VALID: [(&str, &str); 56] = [
     ("0.0", "0.0"),
     ("0e0", "0e0"),
     ("-10", "-10"),
-    ("123456789012345678901234567890", "123456789012345678901234567890"),
+    (
+        "123456789012345678901234567890",
+        "123456789012345678901234567890",
+    ),
     ("\"\"", "\"\""),
     ("\"a b\"", "\"a b\""),
     ("\"null\"", "\"null\""),
@@ -176,16 +179,7 @@ const REFUSED: [&str; 72] = [
 ];
 
 /// Texts that begin as no value does.
-const OTHERS: [&str; 8] = [
-    "'a'",
-    "/",
-    "(1)",
-    "#",
-    "\\",
-    "\u{feff}1",
-    "\u{a0}1",
-    "<1>",
-];
+const OTHERS: [&str; 8] = ["'a'", "/", "(1)", "#", "\\", "\u{feff}1", "\u{a0}1", "<1>"];
 
 /// Texts with arrays and objects so deep inside one another.
 const DEEP: [(&str, usize); 7] = [
@@ -211,11 +205,7 @@ fn arrays(alloc: Global, count: usize) -> Result<Vec<u8>, AllocError> {
 }
 
 /// Whether a document is written so.
-fn is_written(
-    alloc: Global,
-    document: &Document,
-    wanted: &str,
-) -> Result<bool, AllocError> {
+fn is_written(alloc: Global, document: &Document, wanted: &str) -> Result<bool, AllocError> {
     let mut written = Vec::new(alloc);
     let done = write_document(&mut written, document.as_slice());
     Ok(done.is_ok() && written.as_slice() == wanted.as_bytes())
@@ -300,7 +290,13 @@ fn texts_that_nest(rt: HostRuntime) -> Result<(), AllocError> {
     for (text, depth) in &DEEP {
         check(&rt, alloc, *text, *depth, Outcome::Written(*text))?;
         let less = depth.saturating_sub(1);
-        check(&rt, alloc, *text, less, Outcome::Refused(Kind::Refused, true))?;
+        check(
+            &rt,
+            alloc,
+            *text,
+            less,
+            Outcome::Refused(Kind::Refused, true),
+        )?;
     }
     Ok(())
 }
@@ -333,7 +329,13 @@ fn many_arrays_are_refused(rt: HostRuntime) -> Result<(), AllocError> {
 fn bytes_that_are_no_text(rt: HostRuntime) {
     let alloc = rt.alloc();
     let refused = Err(UnexpectedParse(Kind::Refused));
-    for bytes in [b"\"\xff\"".as_slice(), b"\"\xc0\x80\"", b"\"\xed\xa0\x80\"", b"\"\xe2\x82\"", b"\xff"] {
+    for bytes in [
+        b"\"\xff\"".as_slice(),
+        b"\"\xc0\x80\"",
+        b"\"\xed\xa0\x80\"",
+        b"\"\xe2\x82\"",
+        b"\xff",
+    ] {
         assert_eq!(rt; read_slice(alloc, 4, bytes), refused);
     }
 }
@@ -353,6 +355,9 @@ fn documents(rt: HostRuntime) -> Result<(), AllocError> {
     wanted.push(Node::ArrayEnds)?;
     let text = br#"[ -1.5e3, {"a\n": "\"\/"}, false, null ] "#;
     assert_eq!(rt; read_slice(alloc, 2, text), Ok(wanted));
-    assert_eq!(rt; read_slice(alloc, 1, text), Err(UnexpectedParse(Kind::Refused)));
+    assert_eq!(rt;
+        read_slice(alloc, 1, text),
+        Err(UnexpectedParse(Kind::Refused))
+    );
     Ok(())
 }

@@ -89,7 +89,10 @@ where
         );
         let word = many1::<Vec<u8>, _>(alloc, satisfy(|byte: u8| is_word_byte(byte)));
         let lexeme = choice((
-            map(satisfy(|byte: u8| is_sign(byte)), |sign: u8| Lexeme::Sign(sign)),
+            map(
+                satisfy(|byte: u8| is_sign(byte)),
+                |sign: u8| Lexeme::Sign(sign),
+            ),
             map(quoted, |quoted: Vec<u8>| Lexeme::Quoted(quoted)),
             map(word, |word: Vec<u8>| Lexeme::Word(word)),
         ));

@@ -109,8 +109,11 @@ pub fn run<W: Write>(
     let Ok(pieces) = cut(alloc, asked.piece, input) else {
         return Err(Fault::Memory);
     };
-    if let Answer::Accepted { value, .. } = read_pieces(alloc, asked.depth, pieces.as_slice())
-        .map_err(|_refused| Fault::Memory)?
+    if let Answer::Accepted { value, .. } = read_pieces(
+        alloc,
+        asked.depth,
+        pieces.as_slice(),
+    ).map_err(|_refused| Fault::Memory)?
     {
         let mut text = Vec::new(alloc);
         if write_document(&mut text, value.as_slice()).is_err() || text.push(b'\n').is_err() {

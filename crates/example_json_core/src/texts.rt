@@ -4,6 +4,7 @@ use std::alloc::{AllocError, Global};
 
 /// What a text may be refused for.
 const NO_ESCAPE: &str = "no such escape";
+
 const HALF_PAIR: &str = "half of a pair of surrogates";
 
 /// How far an escape has come.
@@ -83,7 +84,9 @@ impl Unescaping {
             })),
             (Some(high), 0xdc00..=0xdfff) => {
                 let above = ((high & 0x3ff) << 10) | (unit & 0x3ff);
-                Unescaping { high: None, ..self }.saying(char::from_u32(above.saturating_add(0x10000)))
+                Unescaping { high: None, ..self }.saying(char::from_u32(above.saturating_add(
+                    0x10000,
+                )))
             }
             _ => self.saying(char::from_u32(unit)),
         }
@@ -105,10 +108,7 @@ impl Unescaping {
 }
 
 /// The text that stands between two quotes, or why it is none.
-pub fn unescaped(
-    alloc: Global,
-    quoted: &[u8],
-) -> Result<Result<String, &'static str>, AllocError> {
+pub fn unescaped(alloc: Global, quoted: &[u8]) -> Result<Result<String, &'static str>, AllocError> {
     let Ok(quoted) = str::from_utf8(quoted) else {
         return Ok(Err("text is not UTF-8"));
     };

@@ -91,5 +91,5 @@ pub many1_where_reads : {P T V : Type 0} (step : P → T → P) (held : V → Li
 many1_where_reads {T} step held lean f =
     let p = of_function f in
     reads_as (λ xs v w.
-        let e = each_is p xs (held v) w in
-        (e.0, All-weaker (λ a. p a true) (λ a. f a ≡ true) (λ a (i : true ≡ f a). sym i) (held v) e.1)) (many1_reads step held lean (satisfied_reads p))
+    let e = each_is p xs (held v) w in
+    (e.0, All-weaker (λ a. p a true) (λ a. f a ≡ true) (λ a (i : true ≡ f a). sym i) (held v) e.1)) (many1_reads step held lean (satisfied_reads p))

@@ -9,9 +9,8 @@ mod reply;
 mod session;
 
 use reply::print_replies;
-use std::env;
-use std::io;
 use std::process::ExitCode;
+use std::{env, io};
 
 const HELP: &str = "Usage: resp < FILE
 

@@ -17,12 +17,14 @@ abbrev sized : List ℕ → Vec ℕ → Type 0
 sized xs m = (size : List ℕ) × (length size ≡ 2) × (xs ≡ size ++ m.items) × (big_endian size ≡ length m.items)
 
 framed_reads : Reads (framed {P = Left}) sized
-framed_reads = record { one = λ v m n k w.
-    let size = take 2 v.unread in
-    let enough = w.enough in
-    let length_is = length-take-le (length_read v.unread) (drop 2 v.unread) (omega (arith, length-drop 2 v.unread)) in
-    subst (λ n. (n ≤ length v.unread) × sized (take n v.unread) m) (sym w.count)
-    (enough, (size, length-take-le 2 v.unread w.two, take-add 2 (length_read v.unread) v.unread ∙ ap (λ l. size ++ l) (sym w.items), sym (ap length w.items ∙ length_is))) }
+framed_reads = record {
+  one = λ v m n k w.
+      let size = take 2 v.unread in
+      let enough = w.enough in
+      let length_is = length-take-le (length_read v.unread) (drop 2 v.unread) (omega (arith, length-drop 2 v.unread)) in
+      subst (λ n. (n ≤ length v.unread) × sized (take n v.unread) m) (sym w.count)
+      (enough, (size, length-take-le 2 v.unread w.two, take-add 2 (length_read v.unread) v.unread ∙ ap (λ l. size ++ l) (sym w.items), sym (ap length w.items ∙ length_is)));
+}
 
 is_record : (input behind xs : List ℕ) (r : Record) → ((t : ℕ × Vec ℕ) × two (one_of (of_function (λ b. true))) sized xs t × (r ≡ record { kind = t.0; text = t.1 })) → input ≡ xs ++ behind → IsRecord input r behind
 is_record input behind xs r x e =
