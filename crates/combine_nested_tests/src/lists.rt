@@ -42,10 +42,7 @@ enum Lexeme {
 type Then = Next<Open, Expression>;
 
 /// The list with one more at its end.
-fn appended(
-    items: Vec<Expression>,
-    last: Expression,
-) -> Result<Vec<Expression>, AllocError> {
+fn appended(items: Vec<Expression>, last: Expression) -> Result<Vec<Expression>, AllocError> {
     let mut items = items;
     items.push(last)?;
     Ok(items)
@@ -99,12 +96,21 @@ where
     );
     let lexeme = choice((
         map(symbol, |symbol: Vec<u8>| Lexeme::Symbol(symbol)),
-        map(token(b'('), move |_sign: u8| Lexeme::Opening(Open::List(Vec::new(alloc)))),
-        map(token(b'\''), move |_sign: u8| Lexeme::Opening(Open::Quote(alloc))),
+        map(
+            token(b'('),
+            move |_sign: u8| Lexeme::Opening(Open::List(Vec::new(alloc))),
+        ),
+        map(
+            token(b'\''),
+            move |_sign: u8| Lexeme::Opening(Open::Quote(alloc)),
+        ),
         map(token(b')'), |_sign: u8| Lexeme::Closing),
     ));
     let step = move |_open: &Open| {
-        with(skip_many(satisfy(|byte: u8| byte.is_ascii_whitespace())), lexeme)
+        with(
+            skip_many(satisfy(|byte: u8| byte.is_ascii_whitespace())),
+            lexeme,
+        )
     };
     driver.run(nested(alloc, depth, || Open::Whole, step))
 }
@@ -171,7 +177,11 @@ mod tests {
     #[test]
     fn expressions(rt: HostRuntime) -> Result<(), AllocError> {
         let alloc = rt.alloc();
-        let inner = pair(alloc, symbol(alloc, "b")?, Expression::List(Vec::new(alloc)))?;
+        let inner = pair(
+            alloc,
+            symbol(alloc, "b")?,
+            Expression::List(Vec::new(alloc)),
+        )?;
         let outer = Outcome::Accepted(pair(alloc, symbol(alloc, "a")?, inner)?, 9, true);
         over_every_cut(&rt, alloc, expression_in_pieces, &[("(a(b ()))", 3, outer)])?;
         let quoted = pair(alloc, symbol(alloc, "quote")?, symbol(alloc, "x")?)?;

@@ -113,7 +113,11 @@ mod tests {
     const ROWS: [Row<&'static [(u64, u64)]>; 6] = [
         ("()", 1, Outcome::Accepted(&[(0, 1)], 2, true)),
         ("(())", 2, Outcome::Accepted(&[(1, 2), (0, 3)], 4, true)),
-        ("(()())", 2, Outcome::Accepted(&[(1, 2), (3, 4), (0, 5)], 6, true)),
+        (
+            "(()())",
+            2,
+            Outcome::Accepted(&[(1, 2), (3, 4), (0, 5)], 6, true),
+        ),
         (
             "((()))(",
             3,
