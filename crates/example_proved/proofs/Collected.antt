@@ -5,11 +5,11 @@ use Rattle.std.proofs.lemmas.List.{append-nil, append_assoc}
 use Rattle.std.proofs.lemmas.List.Elements.{All-nil, All-cons, All-weaker}
 use Rattle.combine_token.specs.OneToken.{of_function, one_token, satisfied}
 use Rattle.combine_base.specs.Stream.View.{View, advanced}
-use Rattle.combine_base.specs.Parser.Outcome.{Outcome, Accepted, Refused, Undecided, after, shape}
+use Rattle.combine_base.specs.Parser.Outcome.{Outcome, Accepted, Refused, Undecided, after}
 use Rattle.combine_base.specs.Parser.Meaning.{Reading}
 use Rattle.combine_turns.specs.Bounded.{accepted_at, bounded, full_at, goes_at, judged, next_of, none_yet, refused_at, enough}
 use Rattle.combine_turns.specs.Counts.{appended, never}
-use Rattle.combine_turns.specs.Turns.{Block, Divides, Folds, Goes, Rule, Stops, StopsHere, Turn, Turned, any_committed, outcome, taken, values}
+use Rattle.combine_turns.specs.Turns.{Block, Divides, Folds, Stops, StopsHere, Turned, any_committed, taken, values}
 use Rattle.combine_turns.specs.declared.turns.Bounds.{Bounds}
 use Rattle.combine_turns.specs.declared.turns.Bounds.TheVariants.{Joined}
 use Rattle.combine_turns.specs.declared.turns.Place.{Place}

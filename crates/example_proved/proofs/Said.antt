@@ -1,8 +1,8 @@
 -- what the tokens that a parser took say of its value, by what it means
-use Rattle.std.specs.Prelude.{ℕ, ◌≡◌, ◌+◌, ◌≤◌, List, [], ◌∷◌, ◌++◌, Bool, true, false, length, nat_eq, take, drop, refl, Result, Ok, Err, MatchResult, IfOk}
+use Rattle.std.specs.Prelude.{ℕ, ◌≡◌, ◌+◌, ◌≤◌, List, [], ◌∷◌, ◌++◌, Bool, true, false, length, nat_eq, take, drop, Result, Ok, Err, MatchResult, IfOk}
 use Rattle.std.proofs.Common.{arith, eqb-true, ap, sym, subst, ◌∙◌, take-add, length-drop}
 use Rattle.std.proofs.lemmas.List.{take-append-drop}
-use Rattle.combine_base.specs.Stream.View.{View, Takes, advanced}
+use Rattle.combine_base.specs.Stream.View.{View, advanced}
 use Rattle.combine_base.specs.Error.Errors.{Errors}
 use Rattle.combine_base.specs.Error.Results.{as_result}
 use Rattle.combine_base.specs.Parser.Outcome.{Outcome, Accepted, Refused, Undecided}

@@ -1,4 +1,4 @@
-use Rattle.std.proofs.Common.{ℕ, ◌≡◌, ◌+◌, ◌≤◌, List, [], ◌++◌, ◌∷◌, Bool, true, append_assoc, arith, ap, subst, sym, ◌∙◌, length, length-drop, take, drop, take-add}
+use Rattle.std.proofs.Common.{ℕ, ◌≡◌, ◌≤◌, List, [], ◌++◌, ◌∷◌, true, arith, ap, subst, sym, ◌∙◌, length, length-drop, take, drop, take-add}
 use Rattle.std.proofs.lemmas.List.{length-take-le}
 use Rattle.std.specs.Global.{Vec}
 use Rattle.combine_base.specs.Stream.Slices.{one_less}
