@@ -4,14 +4,14 @@ ghost use Rattle.combine_nested_tests.specs.Brackets.{outermost};
 
 use combine_base::error::{ParseError, UnexpectedParse};
 use combine_base::parser::Parser;
-use combine_base::stream::{Kind, Stream, fed};
+use combine_base::stream::Stream;
 use combine_nested::nested::{Frame, Next, always, nested};
 use combine_token::token::{any, satisfy};
 use std::alloc::{AllocError, Global};
 
 /// Brackets that are open, or what stands round them all; and how many pairs stand inside.
 #[derive(Clone, Copy, Drop)]
-struct Brackets {
+pub struct Brackets {
     is_outermost: bool,
     pairs: u64,
 }
@@ -60,13 +60,13 @@ impl Frame for Brackets {
 }
 
 /// Takes a parser that has one outcome, and on need of more leaves nothing unread.
-fn keeps<Input: Stream, P: Parser<Input> + Drop>(parser: P)
+pub fn keeps<Input: Stream, P: Parser<Input> + Drop>(parser: P)
     requires determined { P.determined parser }
     requires keeps { (P.meaning parser).keeps }
 {}
 
 /// A pair of brackets, with pairs inside.
-fn keeps_brackets<Input: Stream<Token = u8>>(alloc: Global, depth: usize)
+pub fn keeps_brackets<Input: Stream<Token = u8>>(alloc: Global, depth: usize)
 where
     Input::Error: ParseError<u8, Input::Range, Input::Position>,
 {
@@ -82,7 +82,7 @@ where
 }
 
 /// How many pairs of brackets stand inside others, from the first on that stands in none, and what is behind that.
-fn read_brackets(
+pub fn read_brackets(
     alloc: Global,
     depth: usize,
     input: &[u8],
@@ -95,44 +95,50 @@ fn read_brackets(
     nested(alloc, depth, root, step).parse(input)
 }
 
-/// An input, how deep it may nest, and how many pairs it has.
-const ACCEPTED: [(&[u8], usize, u64); 4] = [
-    (b"()", 1, 1),
-    (b"(())", 2, 2),
-    (b"(()(()))", 3, 4),
-    (b"()()", 1, 1),
-];
+#[cfg(test)]
+mod tests {
+    use super::*;
+    use combine_base::stream::{Kind, fed};
 
-#[test]
-fn promised(rt: HostRuntime) {
-    keeps_brackets::<fed::Stream<u8>>(rt.alloc(), 9);
-}
+    /// An input, how deep it may nest, and how many pairs it has.
+    const ACCEPTED: [(&[u8], usize, u64); 4] = [
+        (b"()", 1, 1),
+        (b"(())", 2, 2),
+        (b"(()(()))", 3, 4),
+        (b"()()", 1, 1),
+    ];
 
-#[test]
-fn pairs(rt: HostRuntime) {
-    for (input, depth, wanted) in &ACCEPTED {
-        match read_brackets(rt.alloc(), *depth, *input) {
-            Ok((pairs, _behind)) => assert_eq!(rt; pairs, *wanted),
-            Err(_error) => assert!(rt; false),
+    #[test]
+    fn promised(rt: HostRuntime) {
+        keeps_brackets::<fed::Stream<u8>>(rt.alloc(), 9);
+    }
+
+    #[test]
+    fn pairs(rt: HostRuntime) {
+        for (input, depth, wanted) in &ACCEPTED {
+            match read_brackets(rt.alloc(), *depth, *input) {
+                Ok((pairs, _behind)) => assert_eq!(rt; pairs, *wanted),
+                Err(_error) => assert!(rt; false),
+            }
+            let too_deep = read_brackets(rt.alloc(), depth.saturating_sub(1), *input);
+            assert_eq!(rt; too_deep, Err(UnexpectedParse(Kind::Refused)));
         }
-        let too_deep = read_brackets(rt.alloc(), depth.saturating_sub(1), *input);
-        assert_eq!(rt; too_deep, Err(UnexpectedParse(Kind::Refused)));
     }
-}
 
-#[test]
-fn deep(rt: HostRuntime) -> Result<(), AllocError> {
-    let alloc = rt.alloc();
-    let mut input = Vec::new(alloc);
-    for _bracket in 0..100_000 {
-        input.push(b'(')?;
+    #[test]
+    fn deep(rt: HostRuntime) -> Result<(), AllocError> {
+        let alloc = rt.alloc();
+        let mut input = Vec::new(alloc);
+        for _bracket in 0..100_000 {
+            input.push(b'(')?;
+        }
+        for _bracket in 0..100_000 {
+            input.push(b')')?;
+        }
+        let too_deep = read_brackets(alloc, 128, input.as_slice());
+        assert_eq!(rt; too_deep, Err(UnexpectedParse(Kind::Refused)));
+        let read = read_brackets(alloc, 200_000, input.as_slice());
+        assert_eq!(rt; read, Ok((100_000, b"".as_slice())));
+        Ok(())
     }
-    for _bracket in 0..100_000 {
-        input.push(b')')?;
-    }
-    let too_deep = read_brackets(alloc, 128, input.as_slice());
-    assert_eq!(rt; too_deep, Err(UnexpectedParse(Kind::Refused)));
-    let read = read_brackets(alloc, 200_000, input.as_slice());
-    assert_eq!(rt; read, Ok((100_000, b"".as_slice())));
-    Ok(())
 }

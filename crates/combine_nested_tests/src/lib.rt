@@ -1,8 +1,7 @@
-//! Grammars that nest, as a caller writes them, and what each answers. They are built for the tests alone, so that they are proved once.
+//! Grammars that nest, as a caller writes them, and what each answers. They are built for the tests alone, so that they are proved once, but for `brackets`, of which a definition tells.
 #![tactic(auto)]
 
-#[cfg(test)]
-mod brackets;
+pub mod brackets;
 #[cfg(test)]
 mod calculator;
 #[cfg(test)]
