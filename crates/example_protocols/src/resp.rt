@@ -1,5 +1,4 @@
 //! RESP, the protocol of Redis: a reply of a server, from pieces.
-ghost use Rattle.combine_decode.specs.Messages.{IsMade};
 
 use combine::error::UnexpectedParse;
 use combine::parser::byte::{byte, crlf, digit};
@@ -37,46 +36,12 @@ const MOST_BYTES: i64 = 512 * 1024 * 1024;
 /// The most items of an array, as a server has it.
 const MOST_ITEMS: i64 = 1024 * 1024;
 
-/// What is done with the parser of a reply: it is handed a maker of it.
-pub trait Reading {
-    type Answer;
-
-    /// Reads the pieces.
-    fn read<P: Parser<fed::Stream<u8>, Output = Reply> + Drop, M: Fn() -> P + Drop>(
-        alloc: Global,
-        maker: M,
-        pieces: &[&[u8]],
-    ) -> Self::Answer
-        requires callable { M.IsAlwaysCallable maker }
-        requires lawful { IsMade (M.post maker) P.lawful };
-}
-
-/// One reply, which ends with the pieces at the latest.
-struct One;
-
-impl Reading for One {
-    type Answer = InPieces<Reply>;
-
-    fn read<P: Parser<fed::Stream<u8>, Output = Reply> + Drop, M: Fn() -> P + Drop>(
-        alloc: Global,
-        maker: M,
-        pieces: &[&[u8]],
-    ) -> InPieces<Reply> {
-        parse_pieces(alloc, maker(), pieces)
-    }
-}
-
 /// The reply at the beginning of the pieces.
-pub fn read_reply(alloc: Global, pieces: &[&[u8]]) -> InPieces<Reply> {
-    read_by::<One>(alloc, pieces)
-}
-
-/// Reads the pieces by a maker of the parser of a reply.
 ///
 /// Room is had as bytes come: a length takes room for no more than 1,024 of them at once, whatever it is.
 ///
 /// What is inside others is made here, and the replies in a function that takes the makers: one parser of all replies is too large for one function.
-pub fn read_by<R: Reading>(alloc: Global, pieces: &[&[u8]]) -> R::Answer {
+pub fn read_reply(alloc: Global, pieces: &[&[u8]]) -> InPieces<Reply> {
     let number = move || {
         let digits = (optional(byte(b'-')), skip_many1(digit()));
         skip(from_str(recognize::<Vec<u8>, _>(alloc, digits)), crlf())
@@ -93,17 +58,16 @@ pub fn read_by<R: Reading>(alloc: Global, pieces: &[&[u8]]) -> R::Answer {
         };
         with(byte(b'$'), then(number(), bytes))
     };
-    with_bulks::<R, _, _, _, _>(alloc, number, bulk, pieces)
+    with_bulks(alloc, number, bulk, pieces)
 }
 
 /// Says what the replies are.
 fn with_bulks<
-    R: Reading,
     N: Parser<fed::Stream<u8>, Output = i64> + Drop,
     M: Fn() -> N + Copy + Drop,
     B: Parser<fed::Stream<u8>, Output = Option<Vec<u8>>> + Drop,
     L: Fn() -> B + Copy + Drop,
->(alloc: Global, number: M, bulk: L, pieces: &[&[u8]]) -> R::Answer
+>(alloc: Global, number: M, bulk: L, pieces: &[&[u8]]) -> InPieces<Reply>
     requires calls_number { M.IsAlwaysCallable number }
     requires lawful_number { (p : N) → M.post number p → N.lawful p }
     requires calls_bulk { L.IsAlwaysCallable bulk }
@@ -122,7 +86,7 @@ fn with_bulks<
         many::<Vec<u8>, _>(alloc, satisfy(|b: u8| b != b'\r')),
         crlf(),
     );
-    let reply = move || choice((
+    let reply = choice((
         map(
             with(byte(b'+'), line()),
             |text: Vec<u8>| Reply::Simple(text),
@@ -138,7 +102,7 @@ fn with_bulks<
             |items: Option<Vec<Option<Vec<u8>>>>| Reply::Array(items),
         ),
     ));
-    R::read(alloc, reply, pieces)
+    parse_pieces(alloc, reply, pieces)
 }
 
 fn accepted(value: Reply, taken: u64) -> InPieces<Reply> {
