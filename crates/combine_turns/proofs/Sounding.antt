@@ -4,11 +4,10 @@ use Rattle.combine_base.specs.Stream.View.{View}
 use Rattle.combine_base.specs.Parser.Given.{ReadsOnly}
 use Rattle.combine_base.specs.Parser.Meaning.{Meaning, Reading, begun}
 use Rattle.combine_base.specs.Parser.Outcome.{Accepted}
-use Rattle.combine_base.specs.Parser.Answer.{Run, World, Accepts, Answers, answers}
+use Rattle.combine_base.specs.Parser.Answer.{Run, World, Accepts}
 use Rattle.combine_base.specs.Sequence.Parts.{accepted_as, refused_as}
 use Rattle.combine_base.specs.declared.error.Tracked.{Tracked}
 use Rattle.combine_base.specs.declared.error.ParseResult.{ParseResult}
-use Rattle.combine_base.specs.declared.error.ParseResult.TheVariants.{CommitOk, PeekOk, CommitErr, PeekErr}
 use Rattle.combine_turns.specs.Turns.{Collecting}
 use Rattle.combine_turns.specs.Turn.{TurnsGive, called}
 use Rattle.combine_turns.specs.Sound.{KeepsSound, LeavesSound, of_value}
@@ -32,15 +31,6 @@ module _ {P T R A S E : Type 0} (w : World P T S E) (valid : S → Type 0) (m : 
 
   pub turn_able : (later : Bool) (r : Run P T S) → valid r.state → (a : A) (b : Bool) → Accepts w (called m again later) r a b → able a
   turn_able later r d a b x = k a ((given later r.first r.state d).one r.old a x.count b x.meant)
-
-  pub answer_able : (later : Bool) (r : Run P T S) → valid r.state → (result : ParseResult A E) → Answers w (called m again later) r result → of_value able result
-  answer_able later r d result x = by_result result x.is
-    where
-      by_result : (result : ParseResult A E) → answers w (called m again later) r result → of_value able result
-      by_result (CommitOk a) y = turn_able later r d a true y
-      by_result (PeekOk a) y = turn_able later r d a false y
-      by_result (PeekErr t) y = tt
-      by_result (CommitErr e) y = tt
 
 -- what is held stays sound
 module _ {P T R A V S E : Type 0} (w : World P T S E) (c : Collecting A V) (able : A → Type 0) (sound : c.Held → Type 0) (h : KeepsSound c.none c.more able sound) (m : Meaning P T R A S) (r : Run P T S) where

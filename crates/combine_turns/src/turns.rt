@@ -9,8 +9,8 @@ ghost use Rattle.combine_base.specs.Refusals.{Saying, Told};
 ghost use Rattle.combine_base.specs.Sequence.Parts.{accepted_as, refused_as};
 ghost use Rattle.std.specs.Prelude.{None};
 ghost use Rattle.combine_turns.specs.FirstTurn.{FirstTurn};
-ghost use Rattle.combine_turns.specs.OneTurn.{IsGathered, OneTurn, Ran, halted, stopped_answer, stopped_state, then_left};
-ghost use Rattle.combine_turns.specs.Sound.{LeavesSound, kept_sound, of_value};
+ghost use Rattle.combine_turns.specs.OneTurn.{IsGathered, IsJudged, OneTurn, Ran, halted, stopped_answer, stopped_state, then_left};
+ghost use Rattle.combine_turns.specs.Sound.{LeavesSound, kept_sound};
 ghost use Rattle.combine_turns.specs.Turn.{TurnsSame, called};
 ghost use Rattle.combine_turns.specs.Bounded.{gathered, cut_at, counted, fresh_turns, kept_or, none_yet, running_turn, so_far, turns_from};
 ghost use Rattle.combine_base.specs.declared.error.ParseResult.TheVariants.{PeekErr};
@@ -499,7 +499,14 @@ fn judge_refusal<G: Gather<P::Value>, Input: Stream, P: Turn<Input>, B: Bounded>
     Stop::Refused(turns, Tracked::from(error))
 }
 
-/// What a turn does that answers so, the stream having stood at that checkpoint and position where it began.
+/// What a turn's answer is for the turns.
+pub enum Verdict<F, A, E> {
+    /// A block, whose value is to be gathered.
+    Block(Turns<F>, A),
+    Stops(Stop<F, E>),
+}
+
+/// What a turn is for the turns that answers so, the stream having stood at that checkpoint and position where it began.
 #[inline(always)]
 fn judge_turn<G: Gather<P::Value>, Input: Stream, P: Turn<Input>, B: Bounded>(
     bounds: B,
@@ -508,41 +515,37 @@ fn judge_turn<G: Gather<P::Value>, Input: Stream, P: Turn<Input>, B: Bounded>(
     position: Input::Position,
     answer: ParseResult<P::Value, Input::Error>,
     input: &mut Input,
-) -> Step<G::Into, Input::Error>
-    requires able { of_value G.able answer }
+) -> Verdict<G::Into, P::Value, Input::Error>
     ensures passes { Passes (Input.marks input.old) (Input.marks input.new) (Input.failures input.old) (Input.failures input.new) }
-    ensures turned { (p : P) (later : Bool)
+    ensures judged { (p : P) (later : Bool)
         (r : Run Input.Position Input.Token P.Running) → Ran (Input.stands input.old since) (Input.view input.old) (Input.failures input.old) r →
         Answers (world Input.step Input.Error.seen Input.steady P.Running.is_default) (called (P.meaning p) (P.again p) later) r answer →
-        OneTurn (world Input.step Input.Error.seen Input.steady P.Running.is_default) (B.bounds bounds) P.ending (gathered G.held G.none G.more G.lean) (called (P.meaning p) (P.again p) later)
+        IsJudged (world Input.step Input.Error.seen Input.steady P.Running.is_default) (B.bounds bounds) P.ending (gathered G.held G.none G.more G.lean) (called (P.meaning p) (P.again p) later)
         (then_left r (Input.view input.new) (Input.failures input.new)) turns result }
 {
     let (value, committed) = match answer {
         ParseResult::CommitOk(value) => (value, true),
         ParseResult::PeekOk(value) => (value, false),
         ParseResult::PeekErr(refusal) => {
-            return Step::Stops(judge_refusal::<G, Input, P, B>(
+            return Verdict::Stops(judge_refusal::<G, Input, P, B>(
                 bounds, turns, since, position, refusal, input,
             ));
         }
         ParseResult::CommitErr(error) => {
             if needs_more(input, &error) {
-                return Step::Stops(Stop::More(turns.cut(since, input), error));
+                return Verdict::Stops(Stop::More(turns.cut(since, input), error));
             }
-            return Step::Stops(Stop::Failed(error));
+            return Verdict::Stops(Stop::Failed(error));
         }
     };
     if P::ends(&value) {
-        return Step::Stops(Stop::Over(turns.joined(committed)));
+        return Verdict::Stops(Stop::Over(turns.joined(committed)));
     }
     if !bounds.goes(turns.place, committed, since, input) {
         let error = refusal_saying(input, position, "repetition takes nothing");
-        return Step::Stops(Stop::Failed(error));
+        return Verdict::Stops(Stop::Failed(error));
     }
-    match gather_turn::<P::Value, G>(turns.joined(committed), value, bounds.limit()) {
-        Ok(turns) => Step::Goes(turns),
-        Err(_refused) => Step::Stops(Stop::Failed(input.new_error(Kind::Memory, position))),
-    }
+    Verdict::Block(turns.joined(committed), value)
 }
 
 /// One turn that begins afresh.
@@ -571,7 +574,17 @@ fn one_turn<G: Gather<P::Value>, Input: Stream, P: Turn<Input>, B: Bounded>(
     let since = input.checkpoint();
     let position = input.position();
     let answer = begin_turn(parser, later, input, running);
-    judge_turn::<G, Input, P, B>(bounds, turns, since, position, answer, input)
+    match judge_turn::<G, Input, P, B>(bounds, turns, since, position, answer, input) {
+        Verdict::Block(turns, value) => {
+            match gather_turn::<P::Value, G>(turns, value, bounds.limit()) {
+                Ok(turns) => Step::Goes(turns),
+                Err(_refused) => {
+                    Step::Stops(Stop::Failed(input.new_error(Kind::Memory, position)))
+                }
+            }
+        }
+        Verdict::Stops(why) => Step::Stops(why),
+    }
 }
 
 /// As `one_turn`, for a call that may resume.
@@ -600,7 +613,17 @@ fn resume_turn<G: Gather<P::Value>, Input: Stream, P: Turn<Input>, B: Bounded, M
     let since = input.checkpoint();
     let position = input.position();
     let answer = parser.parse_turn(false, mode, input, running);
-    judge_turn::<G, Input, P, B>(bounds, turns, since, position, answer, input)
+    match judge_turn::<G, Input, P, B>(bounds, turns, since, position, answer, input) {
+        Verdict::Block(turns, value) => {
+            match gather_turn::<P::Value, G>(turns, value, bounds.limit()) {
+                Ok(turns) => Step::Goes(turns),
+                Err(_refused) => {
+                    Step::Stops(Stop::Failed(input.new_error(Kind::Memory, position)))
+                }
+            }
+        }
+        Verdict::Stops(why) => Step::Stops(why),
+    }
 }
 
 /// What the first turn did, where it makes what is gathered.
