@@ -1,2 +1,3 @@
+pub mod Attributes
 pub mod Records
 pub mod Settings

@@ -27,7 +27,8 @@ pub fn read_setting(alloc: Global, input: &[u8]) -> Result<(Setting, &[u8]), Une
     map((name, token(b'='), value, token(b';')), made_setting).parse(input)
 }
 
-fn is_letter(byte: u8) -> bool
+/// Returns whether a byte is a small letter.
+pub fn is_letter(byte: u8) -> bool
     ensures { result ≡ is_ascii_lowercase byte }
 {
     byte.is_ascii_lowercase()

@@ -1,0 +1,7 @@
+pub mod Taken
+pub mod Changed
+pub mod Tuples
+pub mod Counting
+pub mod Turning
+pub mod Driving
+pub mod Facts

@@ -1,0 +1,4 @@
+pub mod Reads
+pub mod Joined
+pub mod Gathered
+pub mod Driven
