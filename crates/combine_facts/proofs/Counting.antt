@@ -12,13 +12,20 @@ use Rattle.combine_turns.specs.declared.turns.Bounds.TheVariants.{Any, Joined, C
 use Rattle.combine_turns.specs.declared.turns.Place.{Place}
 use Rattle.combine_facts.specs.Gathered.{so_many}
 
-is_false : (b : Bool) → not b ≡ true → b ≡ false
-is_false true e = absurd (cc)
-is_false false e = cc
+-- what a test says that is turned round
+below : (n m : ℕ) → not (nat_lt n m) ≡ false → n < m
+below n m e = ltb-true n m (is_true (nat_lt n m) e)
+  where
+    is_true : (b : Bool) → not b ≡ false → b ≡ true
+    is_true true e = cc
+    is_true false e = absurd (cc)
 
-is_true : (b : Bool) → not b ≡ false → b ≡ true
-is_true true e = cc
-is_true false e = absurd (cc)
+reached : (n m : ℕ) → not (nat_lt n m) ≡ true → m ≤ n
+reached n m e = ltb-false n m (is_false (nat_lt n m) e)
+  where
+    is_false : (b : Bool) → not b ≡ true → b ≡ false
+    is_false true e = absurd (cc)
+    is_false false e = cc
 
 -- from so many turns on the rest may be accepted
 abbrev pub fewest : Bounds → ℕ
@@ -50,15 +57,15 @@ counts_below most n h = by_case (nat_lt n most) (λ e. ltb-false n most e)
 
 enough_has : (b : Bounds) (g : Place) → enough b g ≡ true → fewest b ≤ g.number
 enough_has Any g e = omega arith
-enough_has (Joined least None) g e = let i = ltb-false 0 (least - g.number) (is_false (nat_lt 0 (least - g.number)) e) in omega arith
-enough_has (Joined least (Some most)) g e = let i = ltb-false 0 (least - g.number) (is_false (nat_lt 0 (least - g.number)) e) in omega arith
-enough_has (Counted least most) g e = let i = ltb-false 0 (least - g.number) (is_false (nat_lt 0 (least - g.number)) e) in omega arith
+enough_has (Joined least None) g e = let i = reached 0 (least - g.number) e in omega arith
+enough_has (Joined least (Some most)) g e = let i = reached 0 (least - g.number) e in omega arith
+enough_has (Counted least most) g e = let i = reached 0 (least - g.number) e in omega arith
 
 full_has : (b : Bounds) (g : Place) → full_at b g ≡ true → fewest b ≤ g.number
 full_has Any g e = absurd (cc)
 full_has (Joined least None) g e = absurd (cc)
-full_has (Joined least (Some most)) g e = let i = ltb-false g.number most (is_false (nat_lt g.number most) e) in omega arith
-full_has (Counted least most) g e = let i = ltb-false g.number most (is_false (nat_lt g.number most) e) in omega arith
+full_has (Joined least (Some most)) g e = let i = reached g.number most e in omega arith
+full_has (Counted least most) g e = let i = reached g.number most e in omega arith
 
 pub none_within : (b : Bounds) → within b 0
 none_within Any = tt
@@ -70,14 +77,14 @@ none_within (Counted least most) = omega arith
 pub next_fits : (b : Bounds) (g : Place) → full_at b g ≡ false → within b (next_of b g).number
 next_fits Any g e = tt
 next_fits (Joined least None) g e = tt
-next_fits (Joined least (Some most)) g e = let h = ltb-true g.number most (is_true (nat_lt g.number most) e) in let i = counts most g.number in omega arith
-next_fits (Counted least most) g e = let h = ltb-true g.number most (is_true (nat_lt g.number most) e) in let i = counts most g.number in omega arith
+next_fits (Joined least (Some most)) g e = let h = below g.number most e in let i = counts most g.number in omega arith
+next_fits (Counted least most) g e = let h = below g.number most e in let i = counts most g.number in omega arith
 
 pub next_within : (b : Bounds) (g : Place) (n : ℕ) → full_at b g ≡ false → within b ((next_of b g).number + n) → within b (g.number + suc n)
 next_within Any g n e w = tt
 next_within (Joined least None) g n e w = tt
-next_within (Joined least (Some most)) g n e w = let i = counts_below most g.number (ltb-true g.number most (is_true (nat_lt g.number most) e)) in omega arith
-next_within (Counted least most) g n e w = let i = counts_below most g.number (ltb-true g.number most (is_true (nat_lt g.number most) e)) in omega arith
+next_within (Joined least (Some most)) g n e w = let i = counts_below most g.number (below g.number most e) in omega arith
+next_within (Counted least most) g n e w = let i = counts_below most g.number (below g.number most e) in omega arith
 
 pub so_many_is : (b : Bounds) (n : ℕ) → fewest b ≤ n → within b n → so_many b n
 so_many_is Any n h w = tt

@@ -1,5 +1,6 @@
 pub mod Taken
 pub mod Changed
+pub mod Choosing
 pub mod Tuples
 pub mod Counting
 pub mod Turning

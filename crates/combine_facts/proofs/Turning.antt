@@ -3,6 +3,8 @@ use Rattle.std.specs.Prelude.{ℕ, ◌≡◌, ◌+◌, ◌≤◌, List, [], ◌�
 use Rattle.std.proofs.Common.{arith, ap, sym, subst, ◌∙◌, take-add, length-drop}
 use Rattle.std.proofs.lemmas.List.{append-nil, append_assoc}
 use Rattle.std.proofs.lemmas.List.Elements.{All-nil, All-cons}
+use Rattle.std.specs.Global.{Vec}
+use Rattle.std.specs.Vec.{vec_items}
 use Rattle.combine_base.specs.Stream.View.{View, advanced}
 use Rattle.combine_base.specs.Parser.Outcome.{Outcome, Accepted, Refused, Undecided, after}
 use Rattle.combine_base.specs.Parser.Meaning.{Reading}
@@ -82,3 +84,10 @@ each_where f xs (a ∷ bs) w =
 -- turns of such a token
 pub all_where_reads : {P T V : Type 0} (step : P → T → P) (b : Bounds) (held : V → List T) (lean : Type 0) (f : T → Bool) → Reads (Turned step (bounded b never) (appended held [] (λ bs b. bs ++ b ∷ []) lean) (λ _. one_token (satisfied (of_function f))) (one_token (satisfied (of_function f))) (none_yet [])) (all_where b held f)
 all_where_reads step b held lean f = reads_as (λ xs v w. let i = each_where f xs (held v) w.0 in (i.0, i.1, w.1)) (listed_reads step b (where_reads f) held lean)
+
+-- the same of a vector
+pub vec_reads : {P T A : Type 0} (step : P → T → P) (b : Bounds) {r : Reading P T A} {says : List T → A → Type 0} → Reads r says → Reads (Turned step (bounded b never) (appended {V = Vec A} vec_items [] (λ bs b. bs ++ b ∷ []) ⊥) (λ _. r) r (none_yet [])) (listed b vec_items says)
+vec_reads step b h = listed_reads step b h vec_items ⊥
+
+pub vec_where_reads : {P T : Type 0} (step : P → T → P) (b : Bounds) (f : T → Bool) → Reads (Turned step (bounded b never) (appended {V = Vec T} vec_items [] (λ bs b. bs ++ b ∷ []) ⊥) (λ _. one_token (satisfied (of_function f))) (one_token (satisfied (of_function f))) (none_yet [])) (all_where b vec_items f)
+vec_where_reads step b f = all_where_reads step b vec_items ⊥ f

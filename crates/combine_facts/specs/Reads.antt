@@ -1,5 +1,5 @@
 -- what the tokens that a parser took say of its value
-use Rattle.std.specs.Prelude.{ℕ, ◌≡◌, ◌≤◌, List, [], ◌∷◌, Bool, true, Option, Some, length, take}
+use Rattle.std.specs.Prelude.{ℕ, ◌≡◌, ◌≤◌, ◌⊎◌, List, [], ◌∷◌, Bool, true, Option, Some, None, length, take}
 use Rattle.combine_base.specs.Stream.View.{View}
 use Rattle.combine_base.specs.Parser.Outcome.{Accepted}
 use Rattle.combine_base.specs.Parser.Meaning.{Reading}
@@ -35,3 +35,12 @@ this_one t xs a = (xs ≡ t ∷ []) × (a ≡ t)
 -- a value of which another is made
 abbrev pub changed : {T A B : Type 0} → (List T → A → Type 0) → (A → B → Type 0) → List T → B → Type 0
 changed {A = A} says f xs b = (a : A) × says xs a × f a b
+
+-- what one of two alternatives says
+abbrev pub either : {T A : Type 0} → (List T → A → Type 0) → (List T → A → Type 0) → List T → A → Type 0
+either says tells xs a = says xs a ⊎ tells xs a
+
+-- a value, or none and no token
+abbrev pub maybe : {T A : Type 0} → (List T → A → Type 0) → List T → Option A → Type 0
+maybe says xs (Some a) = says xs a
+maybe says xs None = xs ≡ []

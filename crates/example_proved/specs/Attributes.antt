@@ -1,5 +1,5 @@
 -- what the bytes of an attribute are
-use Rattle.std.specs.Prelude.{ℕ, ◌≡◌, ◌≤◌, ◌+◌, List, ◌∷◌, ◌++◌, Bool, true, nat_eq, not, All, length}
+use Rattle.std.specs.Prelude.{ℕ, ◌≡◌, ◌≤◌, ◌+◌, List, ◌∷◌, ◌++◌, true, nat_eq, not, All, length}
 use Rattle.std.specs.Char.{is_ascii_lowercase}
 use Rattle.example_proved.specs.declared.attributes.Attribute.{Attribute}
 

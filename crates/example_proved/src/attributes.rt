@@ -20,7 +20,7 @@ pub struct Attribute {
     pub value: Vec<u8>,
 }
 
-/// Returns the attribute at the beginning of the pieces, however they are cut, and how many bytes it took: small letters, `=`, and between quotes any bytes but a quote.
+/// Returns the attribute at the beginning of the pieces, however they are cut, and how many bytes it took: one or more small letters, `=`, and between quotes any bytes but a quote.
 pub fn read_attribute(
     alloc: Global,
     pieces: &[&[u8]],
@@ -58,7 +58,12 @@ mod tests {
         let alloc = rt.alloc();
         let rows = [
             (&[&b"href=\"a b\">"[..]][..], &b"href"[..], &b"a b"[..], 10),
-            (&[&b"h"[..], b"", b"ref=", b"\"a", b" b\">"], b"href", b"a b", 10),
+            (
+                &[&b"h"[..], b"", b"ref=", b"\"a", b" b\">"],
+                b"href",
+                b"a b",
+                10,
+            ),
             (&[&b"a="[..], b"\"\""], b"a", b"", 4),
             (&[&b"ab=\"="[..], b"\"c\""], b"ab", b"=", 6),
         ];

@@ -1,6 +1,5 @@
 use Rattle.std.proofs.Common.{ℕ, ◌≡◌, ◌≤◌, List, ◌++◌, arith, append_assoc, ap, subst, sym, ◌∙◌, length, length-drop, take, drop, take-add}
 use Rattle.std.proofs.lemmas.List.{length-take-le}
-use Rattle.std.proofs.lemmas.Result.{MatchResult-weaker}
 use Rattle.std.specs.Global.{Vec}
 use Rattle.combine_base.specs.Stream.Slices.{one_less}
 use Rattle.combine_base.specs.declared.stream.slices.Left.{Left}
@@ -27,12 +26,12 @@ framed_reads = record {
 abbrev made : ℕ × Vec ℕ → Record → Type 0
 made t r = r ≡ record { kind = t.0; text = t.1 }
 
-is_record : (input behind xs : List ℕ) (r : Record) → changed (two any_one sized) made xs r → input ≡ xs ++ behind → IsRecord input r behind
-is_record input behind xs r x e =
+is_record : (input : List ℕ) (r : Record) (behind xs : List ℕ) → changed (two any_one sized) made xs r → input ≡ xs ++ behind → IsRecord input r behind
+is_record input r behind xs x e =
     let p = x.1 in
     subst (λ r. IsRecord input r behind) (sym x.2) (record { size = p.4.0; bytes = simp (e, p.2, p.3, p.4.2, append_assoc); two = p.4.1; says = p.4.3 })
 
 pub returns : goal.returns
 returns c =
     let record_says = mapped_reads made (two_reads one_less any_reads (reads_by c.frame_is_a_length_and_its_bytes.ensures framed_reads)) in
-    MatchResult-weaker c.parse.result c.parse.ensures.results (λ p z. let x = parse_reads record_says z in is_record _ p.1.now x.0 p.0 x.1 x.2) (λ e z. tt)
+    parse_reads c.parse.result record_says (λ p e. rw e at c.parse.ensures.results) (λ p. is_record _ p.0 p.1.now)
