@@ -15,19 +15,20 @@ use Rattle.combine_base.specs.declared.error.ParseResult.{ParseResult}
 use Rattle.combine_base.specs.declared.error.ParseResult.TheVariants.{CommitOk, PeekOk, CommitErr, PeekErr}
 use Rattle.combine_stream.specs.Ranges.{size_of, Inside, UnconsRange, no_range}
 use Rattle.combine_stream.specs.RangeFacts.{size_append, size_take}
+use Rattle.combine_range.specs.declared.distance.Distance.{Distance}
 use Rattle.combine_range.specs.Peeking.{RefusesPeeked}
 use Rattle.combine_range.proofs.Peeked.{refused_peeked}
 use Rattle.combine_range.specs.Kept.{kept, HandsOut, hands_out, KeepsDistance, keeps_distance, NotPassed, not_passed}
 
-module _ {P T R A E : Type 0} (w : World P T ℕ E) (size : T → ℕ) (read : ℕ → Reading P T A) (adds : List (Item T R) → Type 0) (r : Run P T ℕ) (d : ℕ) (e : d ≡ (if r.first then 0 else r.state)) where
-  abbrev pub whole : Meaning P T R A ℕ
+module _ {P T R A E : Type 0} (w : World P T Distance E) (size : T → ℕ) (read : ℕ → Reading P T A) (adds : List (Item T R) → Type 0) (r : Run P T Distance) (d : ℕ) (e : d ≡ (if r.first then 0 else r.state.items)) where
+  abbrev pub whole : Meaning P T R A Distance
   whole = kept size read adds
 
   -- what the distance means is what stands for the call's meaning
   pub into : (v : View P T) (o : Outcome A) → read d v o → begun whole r.first r.state v o
   into v o p = by_first r.first e
     where
-      by_first : (b : Bool) → d ≡ (if b then 0 else r.state) → begun whole b r.state v o
+      by_first : (b : Bool) → d ≡ (if b then 0 else r.state.items) → begun whole b r.state v o
       by_first true i = subst (λ n. read n v o) i p
       by_first false i = subst (λ n. read n v o) i p
 
@@ -38,10 +39,10 @@ module _ {P T R A E : Type 0} (w : World P T ℕ E) (size : T → ℕ) (read : �
   refuses result n p m l f = refused_peeked w whole r result n (into r.old (Refused false) p) (record { count = m.count; taken = m.taken; state = l }) f
 
   -- need of more: all is put back, and the distance is kept
-  pub asks : (x : E) → w.kind x ≡ kinds.End → r.old.is_open ≡ true → read d r.old Undecided → r.new ≡ r.old → r.left ≤ size_of size r.old.unread → ((y : List T) (b : Bool) (o : Outcome A) → read r.left (extended y b r.old) o → read d (extended y b r.old) o) → (w.steady → r.after ≡ r.before) → Answers w whole r (CommitErr x)
+  pub asks : (x : E) → w.kind x ≡ kinds.End → r.old.is_open ≡ true → read d r.old Undecided → r.new ≡ r.old → r.left.items ≤ size_of size r.old.unread → ((y : List T) (b : Bool) (o : Outcome A) → read r.left.items (extended y b r.old) o → read d (extended y b r.old) o) → (w.steady → r.after ≡ r.before) → Answers w whole r (CommitErr x)
   asks x i q p n l g f = record { is = rw i (subst (ends w whole r) (sym q) asking) }
     where
-      resuming : Resumes (begun whole r.first r.state) (read r.left) 0 r.old r.old
+      resuming : Resumes (begun whole r.first r.state) (read r.left.items) 0 r.old r.old
       resuming = record {
         gives = λ y b o h z. subst (begun whole r.first r.state (extended y b r.old)) (sym (after_none o)) (into (extended y b r.old) o (g y b o z));
         committed = λ y b o h z. absurd (omega arith);
@@ -86,7 +87,7 @@ module _ {P T R A E : Type 0} (w : World P T ℕ E) (size : T → ℕ) (read : �
       by_result (PeekErr e) z = absurd z
 
   -- need of more, whose distance is kept, or could not be put back
-  pub asks_from : (n state : ℕ) (mid : View P T) (g : Failures) (result : ParseResult A E) → KeepsDistance w.steady w.step size r.old r.new g r.after n w.kind state r.left result → Takes w.step n r.old mid → w.fresh state → r.before.reads ≤ g.reads → r.before.resets ≤ g.resets → (w.steady → g ≡ r.before) → r.old.is_open ≡ true → read d r.old Undecided → ((k : ℕ) → k ≡ size_of size (take n r.old.unread) → (y : List T) (b : Bool) (o : Outcome A) → read k (extended y b r.old) o → read d (extended y b r.old) o) → Answers w whole r result
+  pub asks_from : (n : ℕ) (state : Distance) (mid : View P T) (g : Failures) (result : ParseResult A E) → KeepsDistance w.steady w.step size r.old r.new g r.after n w.kind state r.left result → Takes w.step n r.old mid → w.fresh state → r.before.reads ≤ g.reads → r.before.resets ≤ g.resets → (w.steady → g ≡ r.before) → r.old.is_open ≡ true → read d r.old Undecided → ((k : ℕ) → k ≡ size_of size (take n r.old.unread) → (y : List T) (b : Bool) (o : Outcome A) → read k (extended y b r.old) o → read d (extended y b r.old) o) → Answers w whole r result
   asks_from n state mid g result k t l x y f o u h = by_result result k.is
     where
       few : size_of size (take n r.old.unread) ≤ size_of size r.old.unread
@@ -96,7 +97,7 @@ module _ {P T R A E : Type 0} (w : World P T ℕ E) (size : T → ℕ) (read : �
       by_result (CommitOk v) z = absurd z
       by_result (PeekOk v) z = absurd z
       by_result (PeekErr e) z = absurd z
-      by_result (CommitErr e) z = ⊎_elim (λ p. asks e p.0 o u p.1.same (let a = p.1.kept in omega (arith, few)) (h r.left p.1.kept) (λ s. p.1.failures s ∙ f s)) (λ p. breaks (w.kind e) e g refl p.1 x y p.2 (subst w.fresh (sym p.0) l)) z
+      by_result (CommitErr e) z = ⊎_elim (λ p. asks e p.0 o u p.1.same (let a = p.1.kept in omega (arith, few)) (h r.left.items p.1.kept) (λ s. p.1.failures s ∙ f s)) (λ p. breaks (w.kind e) e g refl p.1 x y p.2 (subst w.fresh (sym p.0) l)) z
 
   -- the kept distance was not passed over
   pub unpassed : {Q : Type 0} (spells : Q → List T → Type 0) (k : Kind) (result : ParseResult A E) → UnconsRange w.steady w.step size spells r.old r.new r.before r.after d (Err k) → NotPassed w.kind k result → w.fresh r.left → (Inside size r.old.unread d → read d r.old (Refused false)) → Answers w whole r result
@@ -105,7 +106,7 @@ module _ {P T R A E : Type 0} (w : World P T ℕ E) (size : T → ℕ) (read : �
       left : r.new ≡ r.old → Leaves w r
       left q = record { count = 0; taken = rw q (takes_none w.step r.old); state = l }
 
-      losing_by : (b : Bool) → d ≡ (if b then 0 else r.state) → size_of size r.old.unread < d → r.new ≡ r.old → loses w whole r b
+      losing_by : (b : Bool) → d ≡ (if b then 0 else r.state.items) → size_of size r.old.unread < d → r.new ≡ r.old → loses w whole r b
       losing_by true i h q = absurd (omega arith)
       losing_by false i h q = (rw (sym i) h, left q)
 

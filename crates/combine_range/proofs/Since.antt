@@ -10,6 +10,7 @@ use Rattle.combine_base.specs.declared.stream.Failures.{Failures}
 use Rattle.combine_stream.specs.Ranges.{size_of, Place, UnconsRange, unconses_range, no_range}
 use Rattle.combine_stream.specs.RangeFacts.{one_place, place_within}
 use Rattle.combine_base.specs.declared.error.ParseResult.TheVariants.{CommitOk, PeekOk, CommitErr}
+use Rattle.combine_range.specs.declared.distance.Distance.{Distance}
 use Rattle.combine_range.specs.Kept.{Hands, hands, HandsOut, KeepsDistance}
 
 pub ahead : {P T : Type 0} (step : P → T → P) (n : ℕ) (u v : View P T) → Takes step n u v → Ahead step n u v
@@ -46,11 +47,11 @@ not_back steady step spells old mid new before after n k t h = record { is = rw 
 
 module _ {P T V E : Type 0} (steady : Type 0) (step : P → T → P) (size : T → ℕ) (old new : View P T) (before after : Failures) (n : ℕ) (kind : E → Kind) where
   -- the distance is kept
-  pub kept_back : (state left : ℕ) (e : E) → kind e ≡ kinds.End → (new ≡ old) × (steady → after ≡ before) → left ≡ size_of size (take n old.unread) → KeepsDistance steady step size old new before after n {V = V} kind state left (CommitErr e)
+  pub kept_back : (state left : Distance) (e : E) → kind e ≡ kinds.End → (new ≡ old) × (steady → after ≡ before) → left.items ≡ size_of size (take n old.unread) → KeepsDistance steady step size old new before after n {V = V} kind state left (CommitErr e)
   kept_back state left e i h l = record { is = inl (i, record { same = h.0; failures = h.1; kept = l }) }
 
   -- it could not be put back
-  pub not_kept : (mid : View P T) (state : ℕ) (e : E) (k : Kind) → kind e ≡ k → Takes step n old mid → (k ≡ kinds.Reset) × Moves step mid new × (before.resets < after.resets) → KeepsDistance steady step size old new before after n {V = V} kind state state (CommitErr e)
+  pub not_kept : (mid : View P T) (state : Distance) (e : E) (k : Kind) → kind e ≡ k → Takes step n old mid → (k ≡ kinds.Reset) × Moves step mid new × (before.resets < after.resets) → KeepsDistance steady step size old new before after n {V = V} kind state state (CommitErr e)
   not_kept mid state e k i t h = record { is = inr (refl, rw (i, h.0) h.2, moves_more step n old mid new t h.1) }
 
 -- n tokens are items exactly if there are some

@@ -11,6 +11,7 @@ use Rattle.combine_base.specs.declared.error.ParseResult.{ParseResult}
 use Rattle.combine_base.specs.declared.error.ParseResult.TheVariants.{CommitOk, PeekOk}
 use Rattle.combine_stream.specs.Ranges.{size_of, Place, Longest, UnconsRange, UnconsWhile}
 use Rattle.combine_stream.specs.RangeFacts.{place_at_zero}
+use Rattle.combine_range.specs.declared.distance.Distance.{Distance}
 use Rattle.combine_range.specs.Kept.{kept, HandsOut, KeepsDistance}
 use Rattle.combine_range.specs.Peeking.{RefusesPeeked}
 use Rattle.combine_range.specs.Beginnings.{Reaches, Waits, Empty, beginning, beginning_resumes}
@@ -46,9 +47,9 @@ pub some_before : {T : Type 0} (size : T → ℕ) (us : List T) (d k : ℕ) → 
 some_before size us d zero p h = absurd (let e = p.items in omega arith)
 some_before size us d (suc k) p h = omega arith
 
-module _ {P T R E : Type 0} (w : World P T ℕ E) (size : T → ℕ) (filled : (t : T) → 0 < size t) (spells : R → List T → Type 0) (f : T → Bool → Type 0) (some : Bool) (adds : List (Item T R) → Type 0) (r : Run P T ℕ) (d : ℕ) (e : d ≡ (if r.first then 0 else r.state)) (v : View P T) (g : Failures) (z : Walked w.steady w.step size f d r.old v r.before g) where
+module _ {P T R E : Type 0} (w : World P T Distance E) (size : T → ℕ) (filled : (t : T) → 0 < size t) (spells : R → List T → Type 0) (f : T → Bool → Type 0) (some : Bool) (adds : List (Item T R) → Type 0) (r : Run P T Distance) (d : ℕ) (e : d ≡ (if r.first then 0 else r.state.items)) (v : View P T) (g : Failures) (z : Walked w.steady w.step size f d r.old v r.before g) where
   -- all is taken of an open stream, and put back
-  pub beginning_keeps : (state : ℕ) (result : ParseResult R E) → KeepsDistance w.steady w.step size r.old r.new g r.after z.count w.kind state r.left result → w.fresh state → r.before.reads ≤ g.reads → r.before.resets ≤ g.resets → v.is_open ≡ true → v.unread ≡ [] → Answers w (kept size (beginning size spells f some) adds) r result
+  pub beginning_keeps : (state : Distance) (result : ParseResult R E) → KeepsDistance w.steady w.step size r.old r.new g r.after z.count w.kind state r.left result → w.fresh state → r.before.reads ≤ g.reads → r.before.resets ≤ g.resets → v.is_open ≡ true → v.unread ≡ [] → Answers w (kept size (beginning size spells f some) adds) r result
   beginning_keeps state result j l a b o n =
       let m : length r.old.unread ≤ z.count = let a = ap length (sym (ap (λ (y : View P T). y.unread) z.taken.rest) ∙ n) in let c = length-drop z.count r.old.unread in omega arith in
       let k : z.count ≡ length r.old.unread = let c = z.taken.enough in omega arith in

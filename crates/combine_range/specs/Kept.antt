@@ -11,22 +11,27 @@ use Rattle.combine_base.specs.declared.stream.Failures.{Failures}
 use Rattle.combine_base.specs.declared.error.ParseResult.{ParseResult}
 use Rattle.combine_base.specs.declared.error.ParseResult.TheVariants.{CommitOk, PeekOk, CommitErr, PeekErr}
 use Rattle.combine_stream.specs.Ranges.{size_of}
+use Rattle.combine_range.specs.declared.distance.Distance.{Distance}
+
+-- the items of a distance
+abbrev pub items_of : Distance → ℕ
+items_of d = d.items
 
 module _ {P T R A : Type 0} where
   -- one reading for each distance; that of distance 0 is the whole
-  abbrev pub kept : (T → ℕ) → (ℕ → Reading P T A) → (List (Item T R) → Type 0) → Meaning P T R A ℕ
-  kept size read adds = record { whole = read 0; rest = read; lost = λ d v. size_of size v.unread < d; keeps = ⊥; puts_back = Unit {0}; lean = Unit {0}; adds = adds }
+  abbrev pub kept : (T → ℕ) → (ℕ → Reading P T A) → (List (Item T R) → Type 0) → Meaning P T R A Distance
+  kept size read adds = record { whole = read 0; rest = λ d. read d.items; lost = λ d v. size_of size v.unread < d.items; keeps = ⊥; puts_back = Unit {0}; lean = Unit {0}; adds = adds }
 
-  pub kept_is_meaning : (valid : ℕ → Type 0) (size : T → ℕ) (read : ℕ → Reading P T A) (adds : List (Item T R) → Type 0) → ((d : ℕ) → IsReading (read d)) → IsMeaning (λ n. n ≡ 0) valid (kept size read adds)
+  pub kept_is_meaning : (valid : Distance → Type 0) (size : T → ℕ) (read : ℕ → Reading P T A) (adds : List (Item T R) → Type 0) → ((d : ℕ) → IsReading (read d)) → IsMeaning (λ d. d.items ≡ 0) valid (kept size read adds)
   kept_is_meaning valid size read adds h = record {
     whole = h 0;
-    rest = λ s k. h s;
+    rest = λ s k. h s.items;
     start = λ s v o d. rw d (λ p. p, λ p. p);
     found = λ s v d p. let e = d in omega arith;
   }
 
-  pub kept_means_one : (valid : ℕ → Type 0) (size : T → ℕ) (read : ℕ → Reading P T A) (adds : List (Item T R) → Type 0) → ((d : ℕ) → IsSingle (read d)) → MeansOne valid (kept size read adds)
-  kept_means_one valid size read adds h = record { whole = h 0; rest = λ s k. h s }
+  pub kept_means_one : (valid : Distance → Type 0) (size : T → ℕ) (read : ℕ → Reading P T A) (adds : List (Item T R) → Type 0) → ((d : ℕ) → IsSingle (read d)) → MeansOne valid (kept size read adds)
+  kept_means_one valid size read adds h = record { whole = h 0; rest = λ s k. h s.items }
 
 -- the answer where the kept distance was not passed over
 -- the input ended within the distance
@@ -75,12 +80,12 @@ module _ {P T R E : Type 0} (steady : Type 0) (step : P → T → P) (spells : R
 
 -- on need of more the stream is put back to where it stood n tokens before, and the state keeps the items of these; or it could not be put back
 module _ {P T : Type 0} (steady : Type 0) (step : P → T → P) (size : T → ℕ) (old new : View P T) (before after : Failures) (n : ℕ) where
-  pub record Back (left : ℕ) : Type 0 where
+  pub record Back (left : Distance) : Type 0 where
     pub same : new ≡ old
     pub failures : steady → after ≡ before
-    pub kept : left ≡ size_of size (take n old.unread)
+    pub kept : left.items ≡ size_of size (take n old.unread)
 
-  module _ {V E : Type 0} (kind : E → Kind) (state left : ℕ) where
+  module _ {V E : Type 0} (kind : E → Kind) (state left : Distance) where
     abbrev pub keeps_distance : ParseResult V E → Type 0
     keeps_distance (CommitOk v) = ⊥
     keeps_distance (PeekOk v) = ⊥

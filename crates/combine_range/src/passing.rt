@@ -6,6 +6,7 @@ ghost use Rattle.combine_stream.specs.Ranges.{UnconsRange};
 ghost use Rattle.combine_range.specs.Kept.{Hands, HandsOut, KeepsDistance, NotPassed};
 ghost use Rattle.combine_range.specs.Peeking.{NoRange, RefusesPeeked};
 
+use crate::distance::Distance;
 use combine_base::error::{ParseResult, Tracked};
 use combine_base::refusal::no_token;
 use combine_base::stream::{Kind, ResetStream, Stream, StreamOnce};
@@ -13,12 +14,12 @@ use combine_stream::range::{Range, RangeStream};
 
 /// Hands out the distance that a call begins with: none where it begins afresh.
 #[inline(always)]
-pub fn begin(first: bool, state: &mut usize) -> usize
-    ensures begun { result ≡ (if first then 0 else state.old) }
-    ensures left { state.new ≡ 0 }
+pub fn begin(first: bool, state: &mut Distance) -> usize
+    ensures begun { result ≡ (if first then 0 else state.old.items) }
+    ensures left { state.new.items ≡ 0 }
 {
-    let distance = if first { 0 } else { *state };
-    *state = 0;
+    let distance = if first { 0 } else { state.items };
+    state.items = 0;
     distance
 }
 
@@ -77,7 +78,7 @@ pub fn keep_distance<O, Input: RangeStream>(
     start: Input::Checkpoint,
     position: Input::Position,
     input: &mut Input,
-    state: &mut usize,
+    state: &mut Distance,
 ) -> ParseResult<O, Input::Error>
 where
     Input::Range: Range,
@@ -88,7 +89,7 @@ where
     let read = input.distance(&start);
     match input.reset(start) {
         Ok(()) => {
-            *state = read;
+            state.items = read;
             ParseResult::CommitErr(input.new_error(Kind::End, position))
         }
         Err(kind) => ParseResult::CommitErr(input.new_error(kind, position)),

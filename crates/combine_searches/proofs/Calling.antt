@@ -15,7 +15,8 @@ use Rattle.combine_base.specs.declared.error.ParseResult.{ParseResult}
 use Rattle.combine_base.specs.declared.error.ParseResult.TheVariants.{CommitOk, PeekOk, CommitErr, PeekErr}
 use Rattle.combine_stream.specs.Ranges.{size_of, Place, Inside, UnconsRange, no_range}
 use Rattle.combine_stream.specs.RangeFacts.{size_take, size_rises, place_at_zero}
-use Rattle.combine_range.specs.Kept.{kept, HandsOut, KeepsDistance}
+use Rattle.combine_range.specs.declared.distance.Distance.{Distance}
+use Rattle.combine_range.specs.Kept.{kept, HandsOut, KeepsDistance, items_of}
 use Rattle.combine_range.specs.Peeking.{RefusesPeeked, NoRange, answers_none}
 use Rattle.combine_range.proofs.Kept.{into, accepts, refuses, asks_from, hands_over}
 use Rattle.combine_range.proofs.Peeked.{ended_peeked}
@@ -71,7 +72,7 @@ either : (b : Bool) → (b ≡ true) ⊎ (b ≡ false)
 either true = inl refl
 either false = inr refl
 
-module _ {P T R Q E : Type 0} (w : World P T ℕ E) (size : T → ℕ) (filled : (t : T) → 0 < size t) (spells : R → List T → Type 0) (s : Search T) (adds : List (Item T R) → Type 0) (r : Run P T ℕ) (d : ℕ) (e : d ≡ (if r.first then 0 else r.state)) (none : Q → List T → Type 0) (mid : View P T) (g : Failures) (q : Q) (p : UnconsRange w.steady w.step size none r.old mid r.before g d (Ok q)) where
+module _ {P T R Q E : Type 0} (w : World P T Distance E) (size : T → ℕ) (filled : (t : T) → 0 < size t) (spells : R → List T → Type 0) (s : Search T) (adds : List (Item T R) → Type 0) (r : Run P T Distance) (d : ℕ) (e : d ≡ (if r.first then 0 else items_of r.state)) (none : Q → List T → Type 0) (mid : View P T) (g : Failures) (q : Q) (p : UnconsRange w.steady w.step size none r.old mid r.before g d (Ok q)) where
   unread : mid.unread ≡ drop p.is.0 r.old.unread
   unread = ap (λ (x : View P T). x.unread) p.is.2.taken.rest
 
@@ -134,7 +135,7 @@ module _ {P T R Q E : Type 0} (w : World P T ℕ E) (size : T → ℕ) (filled :
     beyond l = record { items = i; found = found; short = let a = all_items in omega arith }
 
     module _ (v : View P T) (h : Failures) (k : Kind) (u : UnconsRange w.steady w.step size spells mid v g h i (Err k)) where
-      pub found_waits : (state : ℕ) (result : ParseResult R E) → k ≡ kinds.End → v.is_open ≡ true → (Takes w.step p.is.0 r.old v → KeepsDistance w.steady w.step size r.old r.new h r.after p.is.0 w.kind state r.left result) → w.fresh state → r.before.reads ≤ h.reads → r.before.resets ≤ h.resets → Answers w (kept size (searching size spells s) adds) r result
+      pub found_waits : (state : Distance) (result : ParseResult R E) → k ≡ kinds.End → v.is_open ≡ true → (Takes w.step p.is.0 r.old v → KeepsDistance w.steady w.step size r.old r.new h r.after p.is.0 w.kind state r.left result) → w.fresh state → r.before.reads ≤ h.reads → r.before.resets ≤ h.resets → Answers w (kept size (searching size spells s) adds) r result
       found_waits state result j o t f x y = going (subst (no_range w.steady w.step size spells mid v g h i) j u.is)
         where
           going : no_range w.steady w.step size spells mid v g h i kinds.End → Answers w (kept size (searching size spells s) adds) r result
@@ -188,7 +189,7 @@ module _ {P T R Q E : Type 0} (w : World P T ℕ E) (size : T → ℕ) (filled :
         skips = subst (λ k. Skips size s (drop p.is.0 r.old.unread) k) {x = u.count} {y = p.is.0 + u.count - p.is.0} (omega arith) (subst (λ us. Skips size s us u.count) unread (z.is.1 u.count u.taken.enough u.few));
       }
 
-      pub missing_keeps : (state : ℕ) (result : ParseResult R E) → (Takes w.step (p.is.0 + u.count) r.old v → KeepsDistance w.steady w.step size r.old r.new h r.after (p.is.0 + u.count) w.kind state r.left result) → w.fresh state → r.before.reads ≤ h.reads → r.before.resets ≤ h.resets → mid.is_open ≡ true → Answers w (kept size (searching size spells s) adds) r result
+      pub missing_keeps : (state : Distance) (result : ParseResult R E) → (Takes w.step (p.is.0 + u.count) r.old v → KeepsDistance w.steady w.step size r.old r.new h r.after (p.is.0 + u.count) w.kind state r.left result) → w.fresh state → r.before.reads ≤ h.reads → r.before.resets ≤ h.resets → mid.is_open ≡ true → Answers w (kept size (searching size spells s) adds) r result
       missing_keeps state result t f x y o =
           let a : Takes w.step (p.is.0 + u.count) r.old v = takes_more w.step p.is.0 u.count r.old mid v p.is.2.taken u.taken in
           let c : r.old.is_open ≡ true = sym is_open ∙ o in

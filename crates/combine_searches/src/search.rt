@@ -8,6 +8,7 @@ use crate::passing::{is_nothing, may_grow, not_found, pass_up_to};
 use combine_base::error::{ErrorOffset, ParseResult, Tracked};
 use combine_base::parser::{Outputs, ParseMode, Parser};
 use combine_base::stream::{Positioned, ResetStream, Stream, StreamOnce};
+use combine_range::distance::Distance;
 use combine_range::passing::{begin, hand_out, keep_distance, no_range, not_passed, pass_items};
 use combine_stream::range::{Range, RangeStream};
 use std::marker::PhantomData;
@@ -62,7 +63,7 @@ where
     ghost one: { (s : Self) → settled s → IsOneSearch (search s) };
 }
 
-/// What stands before the place that a search finds. The state is the number of items that need not be searched again.
+/// What stands before the place that a search finds. The state is the distance that need not be searched again.
 #[derive(Drop)]
 #[derive_where(Clone; S)]
 pub struct Searching<Input, S> {
@@ -78,7 +79,7 @@ impl<Input: RangeStream, S: Searcher<Input>> Parser<Input> for Searching<Input, 
 where
     Input::Range: Range,
 {
-    type PartialState = usize;
+    type PartialState = Distance;
 
     ghost lawful = { λ p. S.callable p.searcher };
 
@@ -95,7 +96,7 @@ where
         &mut self,
         mode: M,
         input: &mut Input,
-        state: &mut usize,
+        state: &mut Distance,
     ) -> ParseResult<Input::Range, Input::Error> {
         let start = input.checkpoint();
         let position = input.position();

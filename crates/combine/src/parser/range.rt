@@ -4,6 +4,7 @@ pub mod laws;
 pub mod types;
 
 pub use combine_lengths::range::length_prefix;
+pub use combine_range::distance::Distance;
 pub use combine_range::range::{
     RecognizeState, range, recognize, recognize_with_value, take, take_until_range, take_while,
     take_while1,

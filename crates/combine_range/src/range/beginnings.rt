@@ -7,6 +7,7 @@ ghost use Rattle.combine_stream.specs.RangeFacts.{IsPredicate};
 ghost use Rattle.combine_range.specs.Kept.{kept, kept_is_meaning, kept_means_one};
 ghost use Rattle.combine_range.specs.Beginnings.{beginning, beginning_is_reading, beginning_is_single};
 
+use crate::distance::Distance;
 use crate::passing::{
     begin, hand_out, keep_distance, may_go_on, not_passed, pass_items, refused_here,
 };
@@ -16,14 +17,14 @@ use combine_base::stream::{Kind, Positioned, ResetStream, Stream, StreamOnce};
 use combine_stream::range::{Range, RangeStream, Test};
 use std::marker::PhantomData;
 
-/// The parser of [`take_while`](crate::range::take_while); its state is the number of items read.
+/// The parser of [`take_while`](crate::range::take_while); its state is the distance that was read.
 #[derive(Drop)]
 pub struct TakeWhile<Input, F> {
     pub(super) predicate: F,
     pub(super) reads: PhantomData<Input>,
 }
 
-/// The parser of [`take_while1`](crate::range::take_while1); its state is the number of items read.
+/// The parser of [`take_while1`](crate::range::take_while1); its state is the distance that was read.
 #[derive(Drop)]
 pub struct TakeWhile1<Input, F> {
     pub(super) predicate: F,
@@ -37,13 +38,13 @@ fn take_beginning<Input: RangeStream, F: Test<Input::Token>>(
     some: bool,
     first: bool,
     input: &mut Input,
-    state: &mut usize,
+    state: &mut Distance,
 ) -> ParseResult<Input::Range, Input::Error>
 where
     Input::Range: Range,
     requires { F.callable test.now }
     ensures passes { Passes (Input.marks input.old) (Input.marks input.new) (Input.failures input.old) (Input.failures input.new) }
-    ensures answers { Answers (world Input.step Input.Error.seen Input.steady ⟦<usize as Default>⟧.is_default)
+    ensures answers { Answers (world Input.step Input.Error.seen Input.steady ⟦<Distance as Default>⟧.is_default)
         (kept {R = Input.Range} Input.size (beginning Input.size Input.spells (F.answers test.now) some) Nothing)
         (record { first = first; state = state.old; left = state.new; old = Input.view input.old; new = Input.view input.new; before = Input.failures input.old; after = Input.failures input.new })
         result }
@@ -82,7 +83,7 @@ impl<Input: RangeStream, F: Fn(Input::Token) -> bool> Parser<Input> for TakeWhil
 where
     Input::Range: Range,
 {
-    type PartialState = usize;
+    type PartialState = Distance;
 
     ghost lawful = { λ p. F.IsAlwaysCallable p.predicate };
 
@@ -99,7 +100,7 @@ where
         &mut self,
         mode: M,
         input: &mut Input,
-        state: &mut usize,
+        state: &mut Distance,
     ) -> ParseResult<Input::Range, Input::Error> {
         take_beginning(&self.predicate, false, mode.is_first(), input, state)
     }
@@ -127,7 +128,7 @@ impl<Input: RangeStream, F: Fn(Input::Token) -> bool> Parser<Input> for TakeWhil
 where
     Input::Range: Range,
 {
-    type PartialState = usize;
+    type PartialState = Distance;
 
     ghost lawful = { λ p. F.IsAlwaysCallable p.predicate };
 
@@ -144,7 +145,7 @@ where
         &mut self,
         mode: M,
         input: &mut Input,
-        state: &mut usize,
+        state: &mut Distance,
     ) -> ParseResult<Input::Range, Input::Error> {
         take_beginning(&self.predicate, true, mode.is_first(), input, state)
     }

@@ -5,6 +5,7 @@ ghost use Rattle.combine_range.specs.Kept.{kept, kept_is_meaning, kept_means_one
 ghost use Rattle.combine_range.specs.Until.{until_is_reading, until_is_single, until_range};
 ghost use Rattle.combine_range.specs.Wanted.{Fair, given};
 
+use crate::distance::Distance;
 use crate::passing::{begin, hand_out, keep_distance, not_passed, pass_items};
 use crate::places::seek;
 use combine_base::error::{ErrorOffset, ParseResult, Tracked};
@@ -14,7 +15,7 @@ use combine_base::stream::{Kind, Positioned, ResetStream, StreamOnce};
 use combine_stream::range::{Range, RangeStream};
 use std::marker::PhantomData;
 
-/// The parser of [`take_until_range`](crate::range::take_until_range), with the stream's ranges as `R`; its state is the number of items that were searched. The crate's has no parameter `R`.
+/// The parser of [`take_until_range`](crate::range::take_until_range), with the stream's ranges as `R`; its state is the distance that was searched. The crate's has no parameter `R`.
 #[derive(Drop)]
 pub struct TakeUntilRange<Input, R> {
     pub(super) wanted: R,
@@ -29,7 +30,7 @@ impl<Input: RangeStream> Parser<Input> for TakeUntilRange<Input, Input::Range>
 where
     Input::Range: Range + PartialEq,
 {
-    type PartialState = usize;
+    type PartialState = Distance;
 
     ghost lawful = { λ p. Unit {0} };
 
@@ -47,7 +48,7 @@ where
         &mut self,
         mode: M,
         input: &mut Input,
-        state: &mut usize,
+        state: &mut Distance,
     ) -> ParseResult<Input::Range, Input::Error> {
         let start = input.checkpoint();
         let position = input.position();
