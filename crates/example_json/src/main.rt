@@ -1,6 +1,8 @@
-//! Reads JSON from standard input piece by piece, and writes it without blanks, on a line.
+//! `json` reads JSON from standard input, checks it, and prints it without blanks; `json --help` says more.
 //!
-//! `--help` says what the arguments are. The status is 0 where the input is JSON, 1 where it isn't, which is then said on standard error with its line and column, and 2 where the program gives up.
+//! Arrays and objects nest, and are read by `nested`: no input overflows the call stack.
+//!
+//! Proved: no input makes it crash, and it ends when its input does.
 #![tactic(auto)]
 
 #[cfg(test)]
@@ -8,56 +10,148 @@ mod cuts;
 #[cfg(test)]
 mod tests;
 
-use example_json_core::{Fault, HELP, read_args, read_input, run};
-use std::env;
-use std::io::{ErrorKind, Write};
+use combine_base::error::Info;
+use combine_base::parser::Answer;
+use combine_errors::easy::Error;
+use example_json_core::{Document, JsonError, read_easily, read_pieces, write_document};
+use std::ascii::escape_default;
+use std::io::{Read, Write};
 use std::process::ExitCode;
+use std::{env, io};
+
+const HELP: &str = "Usage: json [--depth=N] [--piece=N] < FILE
+
+Reads one JSON value from standard input, checks it, and prints it on one line,
+without blanks.
+
+  --depth=N  arrays and objects may stand up to N inside one another, else 128
+  --piece=N  the input is parsed in pieces of N bytes, else 4096
+
+What is no JSON is said on standard error, with its line and column.
+
+The status is 0 where the input is JSON, 1 where it isn't or can't be read, and
+2 where the arguments are wrong.
+";
+
+/// What the arguments ask for.
+#[derive(Clone, Copy)]
+struct Options {
+    depth: usize,
+    piece: usize,
+    ghost some: { 0 < piece },
+}
+
+impl Options {
+    /// Returns what is asked for with one argument more, if there is such an argument.
+    fn with(self, word: &str) -> Option<Options> {
+        if let Some(depth) = word.strip_prefix("--depth=") {
+            let depth = depth.parse::<usize>().ok()?;
+            return Some(Options {
+                depth,
+                piece: self.piece,
+            });
+        }
+        let piece = word.strip_prefix("--piece=")?.parse::<usize>().ok()?;
+        if piece == 0 {
+            return None;
+        }
+        Some(Options {
+            depth: self.depth,
+            piece,
+        })
+    }
+}
 
 fn main(rt: HostRuntime) -> ExitCode {
-    match answer(&rt) {
-        Ok(None) => ExitCode::SUCCESS,
-        Ok(Some(refusal)) => {
-            let _unwritten = eprintln!(rt; "example_json: {refusal}");
+    match run(&rt) {
+        Ok(status) => status,
+        Err(error) => {
+            let _unwritten = eprintln!(rt; "json: {error}");
             ExitCode::FAILURE
         }
-        Err(fault) => {
-            let _unwritten = eprintln!(rt; "{fault}");
-            ExitCode::from(2)
-        }
     }
 }
 
-/// Why the input is refused, if it is.
-fn answer(rt: &HostRuntime) -> Result<Option<String>, Fault> {
-    let words = words(rt)?;
-    let mut texts: Vec<&str> = Vec::new(rt.alloc());
-    for word in &words {
-        if texts.push(word.as_str()).is_err() {
-            return Err(Fault::Memory);
+fn run(rt: &HostRuntime) -> io::Result<ExitCode> {
+    let mut options = Options {
+        depth: 128,
+        piece: 4096,
+    };
+    for word in env::args(rt)?.skip(1) {
+        if word.as_str() == "--help" {
+            print!(rt; "{HELP}")?;
+            return Ok(ExitCode::SUCCESS);
         }
-    }
-    let asked = read_args(&texts)?;
-    if asked.help {
-        return match rt.stdout().write_all(HELP.as_bytes()) {
-            Ok(()) => Ok(None),
-            Err(_failed) => Err(Fault::Write),
+        let Some(next) = options.with(word.as_str()) else {
+            eprintln!(rt; "json: unexpected argument `{word}`; try `json --help`")?;
+            return Ok(ExitCode::from(2));
         };
+        options = next;
     }
-    let input = read_input(rt.alloc(), rt.stdin())?;
-    run(rt.alloc(), asked, &input, &mut rt.stdout())
+    let mut input = Vec::new(rt.alloc());
+    rt.reader().read_to_end(&mut input)?;
+    check(rt, options, &input)
 }
 
-/// The arguments behind the program's name; one that isn't UTF-8 is a bad argument.
-fn words(rt: &HostRuntime) -> Result<Vec<String>, Fault> {
-    let given = env::args(rt).map_err(|error| match error.kind() {
-        ErrorKind::OutOfMemory => Fault::Memory,
-        _ => Fault::Argument,
-    })?;
-    let mut words = Vec::new(rt.alloc());
-    for word in given.skip(1) {
-        if words.push(word).is_err() {
-            return Err(Fault::Memory);
+/// Prints the document that the input is, or why it is none.
+fn check(rt: &HostRuntime, options: Options, input: &[u8]) -> io::Result<ExitCode> {
+    let alloc = rt.alloc();
+    let pieces: Vec<&[u8]> = input.chunks(options.piece).collect(alloc)?;
+    let answer = read_pieces(alloc, options.depth, &pieces);
+    match answer.map_err(|_fault| io::Error::from(io::ErrorKind::OutOfMemory))? {
+        Answer::Accepted { value, .. } => {
+            print_document(rt, &value)?;
+            Ok(ExitCode::SUCCESS)
+        }
+        _ => {
+            // Pieces keep no reasons, so what is refused is read once more.
+            if let Err(error) = read_easily(alloc, options.depth, input) {
+                print_error(rt, input, &error)?;
+            }
+            Ok(ExitCode::FAILURE)
         }
     }
-    Ok(words)
+}
+
+fn print_document(rt: &HostRuntime, document: &Document) -> io::Result<()> {
+    let mut text = Vec::new(rt.alloc());
+    write_document(&mut text, document)?;
+    text.push(b'\n')?;
+    rt.stdout().write_all(&text)
+}
+
+/// Prints why the input is refused, each reason behind the line and the column.
+fn print_error(rt: &HostRuntime, input: &[u8], error: &JsonError<'_>) -> io::Result<()> {
+    let (line, column) = place_of(input, error.position);
+    for reason in &error.errors {
+        match reason {
+            Error::Unexpected(Info::Token(byte)) => {
+                let shown = escape_default(*byte);
+                eprintln!(rt; "json: line {line}, column {column}: unexpected `{shown}`")?;
+            }
+            Error::Unexpected(Info::Static(what)) => {
+                eprintln!(rt; "json: line {line}, column {column}: unexpected {what}")?;
+            }
+            Error::Message(Info::Static(what)) => {
+                eprintln!(rt; "json: line {line}, column {column}: {what}")?;
+            }
+            _ => {}
+        }
+    }
+    Ok(())
+}
+
+/// Returns the line and the column of what stands behind so many bytes, both counted from 1; a column is a character.
+fn place_of(input: &[u8], position: usize) -> (usize, usize) {
+    let mut line: usize = 1;
+    let mut column: usize = 1;
+    for byte in input.iter().take(position) {
+        if *byte == b'\n' {
+            line = line.saturating_add(1);
+            column = 1;
+        } else if *byte & 0xc0 != 0x80 {
+            column = column.saturating_add(1);
+        }
+    }
+    (line, column)
 }

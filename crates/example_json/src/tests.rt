@@ -82,9 +82,14 @@ const VALID: [(&str, &str); 56] = [
 ];
 
 /// Texts that end too soon.
-const ENDED: [&str; 17] = [
+const ENDED: [&str; 22] = [
     " ",
     "\n\t\r ",
+    "-",
+    "1.",
+    "1e",
+    "1e+",
+    "1E-",
     "\"",
     "\"a",
     "\"a\\",
@@ -103,7 +108,7 @@ const ENDED: [&str; 17] = [
 ];
 
 /// Texts that are refused behind a token, at the latest.
-const REFUSED: [&str; 72] = [
+const REFUSED: [&str; 65] = [
     "nul",
     "True",
     "NULL",
@@ -112,17 +117,10 @@ const REFUSED: [&str; 72] = [
     "NaN",
     "Infinity",
     "-Infinity",
-    "+1",
     "01",
     "-01",
-    "-",
     "--1",
-    "1.",
-    ".5",
     "-.5",
-    "1e",
-    "1e+",
-    "1E-",
     "1.e3",
     "1.5.2",
     "1e5.2",
@@ -179,7 +177,9 @@ const REFUSED: [&str; 72] = [
 ];
 
 /// Texts that begin as no value does.
-const OTHERS: [&str; 8] = ["'a'", "/", "(1)", "#", "\\", "\u{feff}1", "\u{a0}1", "<1>"];
+const OTHERS: [&str; 10] = [
+    "+1", ".5", "'a'", "/", "(1)", "#", "\\", "\u{feff}1", "\u{a0}1", "<1>",
+];
 
 /// Texts with arrays and objects so deep inside one another.
 const DEEP: [(&str, usize); 7] = [

@@ -2,18 +2,17 @@
 
 use crate::node::{Document, Node};
 use crate::places::Place;
-use crate::texts::unescaped;
-use crate::words::value_of;
+use crate::texts::Text;
 use combine_nested::nested::{Frame, Next};
 use std::alloc::{AllocError, Global};
 
 /// What one step reads.
 #[derive(Drop)]
 pub enum Lexeme {
-    /// Letters, digits and signs, as a number or `true` has them.
+    Number(Vec<u8>),
+    Text(Text),
+    /// Letters.
     Word(Vec<u8>),
-    /// What stands between two quotes.
-    Quoted(Vec<u8>),
     /// A comma, a colon or a bracket.
     Sign(u8),
 }
@@ -24,6 +23,16 @@ pub struct Open {
     alloc: Global,
     place: Place,
     nodes: Document,
+}
+
+/// Returns the value that a word names, if it names one.
+fn named(word: &[u8]) -> Option<Node> {
+    match word {
+        b"null" => Some(Node::Null),
+        b"true" => Some(Node::Bool(true)),
+        b"false" => Some(Node::Bool(false)),
+        _ => None,
+    }
 }
 
 /// What comes of what is open.
@@ -126,13 +135,14 @@ impl Frame for Open {
 
     fn take(self, item: Lexeme) -> Result<Then, AllocError> {
         match item {
-            Lexeme::Word(word) => match value_of(word) {
-                Some(node) => Ok(self.with(node)?.behind_value()),
-                None => Ok(self.refused()),
-            },
-            Lexeme::Quoted(quoted) => match unescaped(self.alloc, quoted.as_slice())? {
+            Lexeme::Number(number) => Ok(self.with(Node::Number(number))?.behind_value()),
+            Lexeme::Text(text) => match text.finished() {
                 Ok(text) => self.texted(text),
                 Err(why) => Ok(Next::Refuse(why)),
+            },
+            Lexeme::Word(word) => match named(word.as_slice()) {
+                Some(node) => Ok(self.with(node)?.behind_value()),
+                None => Ok(self.refused()),
             },
             Lexeme::Sign(sign) => self.signed(sign),
         }

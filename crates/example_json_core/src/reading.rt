@@ -2,21 +2,25 @@
 
 use crate::grammar::{Lexeme, Open};
 use crate::node::Document;
-use crate::words::is_word_byte;
+use crate::texts::{Piece, Text};
 use combine_base::error::{ParseError, UnexpectedParse};
 use combine_base::parser::{Answer, Parser, SessionError, parse_pieces};
+use combine_base::repeat::Sink;
 use combine_base::stream::{Stream, fed};
 use combine_choice::choice::choice;
 use combine_errors::easy;
-use combine_map::combinator::map;
-use combine_nested::nested::nested;
+use combine_map::combinator::{ignore, map};
+use combine_nested::nested::{always, nested};
 use combine_recognize::combinator::recognize;
-use combine_repeat::repeat::{many1, skip_many};
+use combine_repeat::repeat::{many, many1};
 use combine_sequence::sequence::{between, skip, with};
 use combine_stream::position;
-use combine_token::choice::or;
-use combine_token::token::{eof, satisfy, token};
+use combine_token::choice::{optional, or};
+use combine_token::token::{eof, one_of, satisfy, satisfy_map, token};
 use std::alloc::Global;
+
+/// Why an input is refused, and behind how many bytes.
+pub type JsonError<'a> = easy::Errors<u8, &'a [u8], usize>;
 
 /// What the reader is handed to.
 trait Runs<Input: Stream> {
@@ -65,12 +69,35 @@ fn is_plain(byte: u8) -> bool {
     byte >= b' ' && byte != b'"' && byte != b'\\'
 }
 
-/// Whether a byte is a part by itself.
-fn is_sign(byte: u8) -> bool {
-    matches!(byte, b'[' | b']' | b'{' | b'}' | b',' | b':')
+fn is_digit(byte: u8) -> bool {
+    byte.is_ascii_digit()
 }
 
-/// Hands on the parser of a document, which is one value with blanks round it, and nothing else.
+fn is_letter(byte: u8) -> bool {
+    byte.is_ascii_alphabetic()
+}
+
+/// The piece that a byte behind a backslash says by itself.
+fn escaped(byte: u8) -> Option<Piece> {
+    match byte {
+        b'"' | b'\\' | b'/' => Some(Piece::Byte(byte)),
+        b'b' => Some(Piece::Byte(8)),
+        b'f' => Some(Piece::Byte(12)),
+        b'n' => Some(Piece::Byte(b'\n')),
+        b'r' => Some(Piece::Byte(b'\r')),
+        b't' => Some(Piece::Byte(b'\t')),
+        _ => None,
+    }
+}
+
+/// The number that a hexadecimal digit says.
+fn hexadecimal(byte: u8) -> Option<u32> {
+    char::from(byte).to_digit(16)
+}
+
+/// Hands on the parser of a document: says what a text is.
+///
+/// It and the two below are over any stream, and hand a parser on to the next: so each is proved once.
 fn read_document<Input: Stream<Token = u8>, D: Runs<Input>>(
     alloc: Global,
     depth: usize,
@@ -79,27 +106,72 @@ fn read_document<Input: Stream<Token = u8>, D: Runs<Input>>(
 where
     Input::Error: ParseError<u8, Input::Range, Input::Position>,
 {
-    let step = move |_open: &Open| {
-        let escape = with(token(b'\\'), satisfy(|byte: u8| byte >= b' '));
-        let inside = skip_many(or(satisfy(|byte: u8| is_plain(byte)), escape));
-        let quoted = between(
-            token(b'"'),
-            token(b'"'),
-            recognize::<Vec<u8>, _>(alloc, inside),
-        );
-        let word = many1::<Vec<u8>, _>(alloc, satisfy(|byte: u8| is_word_byte(byte)));
-        let lexeme = choice((
-            map(
-                satisfy(|byte: u8| is_sign(byte)),
-                |sign: u8| Lexeme::Sign(sign),
-            ),
-            map(quoted, |quoted: Vec<u8>| Lexeme::Quoted(quoted)),
-            map(word, |word: Vec<u8>| Lexeme::Word(word)),
-        ));
-        skip(lexeme, skip_many(satisfy(|byte: u8| is_blank(byte))))
-    };
-    let value = nested(alloc, depth, move || Open::new(alloc), step);
-    driver.run(between(skip_many(satisfy(is_blank)), eof(), value))
+    let digit = satisfy_map(hexadecimal);
+    let unit = map(
+        (digit, digit, digit, digit),
+        |(a, b, c, d): (u32, u32, u32, u32)| Piece::Unit((a << 12) | (b << 8) | (c << 4) | d),
+    );
+    let escape = with(
+        token(b'\\'),
+        or(satisfy_map(escaped), with(token(b'u'), unit)),
+    );
+    let plain = map(satisfy(is_plain), |byte: u8| Piece::Byte(byte));
+    let text = many::<Text, _>(alloc, or(plain, escape));
+    with_text(
+        alloc,
+        depth,
+        between(token(b'"'), token(b'"'), text),
+        driver,
+    )
+}
+
+/// Says what a number is.
+fn with_text<
+    Input: Stream<Token = u8>,
+    Q: Parser<Input, Output = Text> + Copy + Drop,
+    D: Runs<Input>,
+>(alloc: Global, depth: usize, text: Q, driver: D) -> D::Answer
+where
+    Input::Error: ParseError<u8, Input::Range, Input::Position>,
+    requires { Q.lawful text }
+{
+    let digits = many1::<Sink, _>(alloc, satisfy(is_digit));
+    let number = (
+        optional(token(b'-')),
+        or(ignore(token(b'0')), ignore(digits)),
+        optional((token(b'.'), digits)),
+        optional((one_of([b'e', b'E']), optional(one_of([b'+', b'-'])), digits)),
+    );
+    let number = map(
+        recognize::<Vec<u8>, _>(alloc, number),
+        |number: Vec<u8>| Lexeme::Number(number),
+    );
+    let text = map(text, |text: Text| Lexeme::Text(text));
+    with_values(alloc, depth, or(text, number), driver)
+}
+
+/// Says what a document is: one value with blanks round it, and nothing else.
+fn with_values<
+    Input: Stream<Token = u8>,
+    V: Parser<Input, Output = Lexeme> + Copy + Drop,
+    D: Runs<Input>,
+>(alloc: Global, depth: usize, value: V, driver: D) -> D::Answer
+where
+    Input::Error: ParseError<u8, Input::Range, Input::Position>,
+    requires { V.lawful value }
+{
+    let blanks = many::<Sink, _>(alloc, satisfy(is_blank));
+    let sign = map(
+        one_of([b'[', b']', b'{', b'}', b',', b':']),
+        |sign: u8| Lexeme::Sign(sign),
+    );
+    let word = map(
+        many1::<Vec<u8>, _>(alloc, satisfy(is_letter)),
+        |word: Vec<u8>| Lexeme::Word(word),
+    );
+    let step = always(skip(choice((sign, value, word)), blanks));
+    let document = nested(alloc, depth, move || Open::new(alloc), step);
+    driver.run(between(blanks, eof(), document))
 }
 
 /// Reads the document that a slice is.
@@ -110,6 +182,11 @@ where
 pub fn read_slice(alloc: Global, depth: usize, input: &[u8]) -> Result<Document, UnexpectedParse> {
     let (document, _rest) = read_document(alloc, depth, Whole(input))?;
     Ok(document)
+}
+
+/// Reads the document that a text is, as [`read_slice`] does.
+pub fn read_text(alloc: Global, depth: usize, text: &str) -> Result<Document, UnexpectedParse> {
+    read_slice(alloc, depth, text.as_bytes())
 }
 
 /// Reads the same from pieces, one after another.
@@ -126,7 +203,7 @@ pub fn read_easily<'a>(
     alloc: Global,
     depth: usize,
     input: &'a [u8],
-) -> Result<Document, easy::Errors<u8, &'a [u8], usize>> {
+) -> Result<Document, JsonError<'a>> {
     let stream = easy::Stream::new(alloc, position::Stream::new(input));
     let (document, _rest) = read_document(alloc, depth, Whole(stream))?;
     Ok(document)
