@@ -8,21 +8,29 @@ const ONES: u32 = 0xffff_ffff;
 /// Behind each second byte.
 const TWOS: u32 = 0xaaaa_aaaa;
 
-/// Each set of places between bytes, for an input of at most nine; for a longer one single bytes, and bytes in twos.
+/// Each set of places between bytes, for an input of at most nine; for a longer one each place alone, single bytes, and bytes in twos.
 pub fn places_in(alloc: Global, input: &[u8]) -> Result<Vec<u32>, AllocError> {
-    let mut sets = Vec::new(alloc);
     if input.len() > 9 {
-        sets.push(ONES)?;
-        sets.push(TWOS)?;
-        return Ok(sets);
+        return places_alone(alloc, input);
     }
-    let mut count: u32 = 1;
-    for _byte in input.iter().skip(1) {
-        count = count.saturating_mul(2);
-    }
-    for places in 0..count {
+    let between = input.len().saturating_sub(1).min(8) as u32;
+    let mut sets = Vec::new(alloc);
+    for places in 0..(1u32 << between) {
         sets.push(places)?;
     }
+    Ok(sets)
+}
+
+/// Each place alone, and then single bytes, and bytes in twos.
+fn places_alone(alloc: Global, input: &[u8]) -> Result<Vec<u32>, AllocError> {
+    let mut sets = Vec::new(alloc);
+    let mut place: u32 = 1;
+    for _byte in input.iter().skip(1) {
+        sets.push(place)?;
+        place = place.wrapping_mul(2);
+    }
+    sets.push(ONES)?;
+    sets.push(TWOS)?;
     Ok(sets)
 }
 

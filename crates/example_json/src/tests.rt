@@ -5,7 +5,9 @@ use combine_base::error::{Info, UnexpectedParse};
 use combine_base::parser::Answer;
 use combine_base::stream::Kind;
 use combine_errors::easy::Error;
-use example_json_core::{Document, Node, read_easily, read_pieces, read_slice, write_document};
+use example_json_core::{
+    Document, Node, read_easily, read_pieces, read_slice, read_text, write_document,
+};
 use std::alloc::{AllocError, Global};
 use std::process::Abort;
 
@@ -192,6 +194,24 @@ const DEEP: [(&str, usize); 7] = [
     ("[[[1]]]", 3),
 ];
 
+/// Texts that are refused, behind how many bytes, and what is said.
+const REASONS: [(&str, usize, &str); 14] = [
+    ("nul", 0, "value expected"),
+    ("[1,]", 3, "value expected"),
+    ("{\"a\":,1}", 5, "value expected"),
+    ("[}", 1, "value or ] expected"),
+    ("[1 2]", 3, "comma or ] expected"),
+    ("{1}", 1, "name or } expected"),
+    ("{\"a\":1,]", 7, "name expected"),
+    ("{\"a\" 1}", 5, "colon expected"),
+    ("{\"a\":1 2}", 7, "comma or } expected"),
+    ("[[{\"a\":[[]]}]]", 7, "nesting too deep"),
+    ("[\"\\uD834\"]", 1, "half of a pair of surrogates"),
+    ("[\"\\uD834x\"]", 1, "half of a pair of surrogates"),
+    ("[\"\\uD834\\uD834\\uDD1E\"]", 1, "half of a pair of surrogates"),
+    ("[\"\\uDD1E\"]", 1, "half of a pair of surrogates"),
+];
+
 /// So many arrays inside one another.
 fn arrays(alloc: Global, count: usize) -> Result<Vec<u8>, AllocError> {
     let mut text = Vec::new(alloc);
@@ -251,7 +271,7 @@ fn check(
         let agrees = comes_to(alloc, depth, pieces.as_slice(), bytes.len() as u64, wanted)?;
         assert!(rt; agrees, "{text} cut at {places:b}");
     }
-    let agrees = match (read_slice(alloc, depth, bytes), wanted) {
+    let agrees = match (read_text(alloc, depth, text), wanted) {
         (Ok(document), Outcome::Written(text)) => is_written(alloc, &document, text)?,
         (Err(error), Outcome::Refused(kind, _committed)) => error == UnexpectedParse(kind),
         _ => false,
@@ -323,6 +343,20 @@ fn many_arrays_are_refused(rt: HostRuntime) -> Result<(), AllocError> {
         }
     }
     Ok(())
+}
+
+#[test]
+fn reasons(rt: HostRuntime) {
+    for (text, position, reason) in &REASONS {
+        match read_easily(rt.alloc(), 3, text.as_bytes()) {
+            Ok(_document) => assert!(rt; false, "{text}"),
+            Err(error) => {
+                let said = Error::Message(Info::Static(*reason));
+                assert_eq!(rt; error.position, *position, "{text}");
+                assert!(rt; error.errors.as_slice().contains(&said), "{text}");
+            }
+        }
+    }
 }
 
 #[test]
