@@ -7,7 +7,6 @@ use combine_base::error::{ParseError, UnexpectedParse};
 use combine_base::parser::{Answer, Parser, SessionError, parse_pieces};
 use combine_base::repeat::Sink;
 use combine_base::stream::{Stream, fed};
-use combine_choice::choice::choice;
 use combine_errors::easy;
 use combine_map::combinator::{ignore, map};
 use combine_nested::nested::{always, nested};
@@ -169,7 +168,7 @@ where
         many1::<Vec<u8>, _>(alloc, satisfy(is_letter)),
         |word: Vec<u8>| Lexeme::Word(word),
     );
-    let step = always(skip(choice((sign, value, word)), blanks));
+    let step = always(skip(or(sign, or(value, word)), blanks));
     let document = nested(alloc, depth, move || Open::new(alloc), step);
     driver.run(between(blanks, eof(), document))
 }

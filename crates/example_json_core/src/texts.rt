@@ -43,8 +43,6 @@ impl Text {
 }
 
 impl Append<Piece> for Text {
-    ghost use Rattle.std.specs.Prelude.{tt, ⊥};
-
     ghost Held = { Unit {0} };
 
     ghost held = { λ _. tt };
