@@ -180,7 +180,16 @@ const REFUSED: [&str; 65] = [
 
 /// Texts that begin as no value does.
 const OTHERS: [&str; 10] = [
-    "+1", ".5", "'a'", "/", "(1)", "#", "\\", "\u{feff}1", "\u{a0}1", "<1>",
+    "+1",
+    ".5",
+    "'a'",
+    "/",
+    "(1)",
+    "#",
+    "\\",
+    "\u{feff}1",
+    "\u{a0}1",
+    "<1>",
 ];
 
 /// Texts with arrays and objects so deep inside one another.
@@ -208,7 +217,11 @@ const REASONS: [(&str, usize, &str); 14] = [
     ("[[{\"a\":[[]]}]]", 7, "nesting too deep"),
     ("[\"\\uD834\"]", 1, "half of a pair of surrogates"),
     ("[\"\\uD834x\"]", 1, "half of a pair of surrogates"),
-    ("[\"\\uD834\\uD834\\uDD1E\"]", 1, "half of a pair of surrogates"),
+    (
+        "[\"\\uD834\\uD834\\uDD1E\"]",
+        1,
+        "half of a pair of surrogates",
+    ),
     ("[\"\\uDD1E\"]", 1, "half of a pair of surrogates"),
 ];
 

@@ -1,7 +1,7 @@
 //! What may come next, by what was read.
 
 /// What may come next where an array, an object or the whole is open.
-#[derive(Clone, Copy, Debug, PartialEq)]
+#[derive(Clone, Copy)]
 pub enum Place {
     /// The whole: a value.
     Whole,

@@ -94,9 +94,9 @@ fn hexadecimal(byte: u8) -> Option<u32> {
     char::from(byte).to_digit(16)
 }
 
-/// Hands on the parser of a document: says what a text is.
+/// Says what a text is, and hands the parser of a document to `driver`.
 ///
-/// It and the two below are over any stream, and hand a parser on to the next: so each is proved once.
+/// It and the two below are over any stream, and hand a parser on to the next: so each is proved once. A parser that is used twice, or at each step, has to be `Copy`; where tokens are passed over it is `many` into a `Sink`, since `skip_many` isn't.
 fn read_document<Input: Stream<Token = u8>, D: Runs<Input>>(
     alloc: Global,
     depth: usize,

@@ -4,7 +4,7 @@ use combine_base::repeat::Append;
 use std::alloc::{AllocError, Global};
 
 /// A piece of a text.
-#[derive(Clone, Copy, Debug, PartialEq, Drop)]
+#[derive(Clone, Copy, Drop)]
 pub enum Piece {
     /// A byte of its UTF-8.
     Byte(u8),
@@ -30,7 +30,8 @@ impl Text {
             return Ok(());
         };
         let mut bytes = [0u8; 4];
-        self.bytes.extend_from_slice(character.encode_utf8(&mut bytes).as_bytes())
+        self.bytes
+            .extend_from_slice(character.encode_utf8(&mut bytes).as_bytes())
     }
 
     /// Returns the whole text, or why it is none.
