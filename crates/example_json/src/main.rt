@@ -37,8 +37,8 @@ The status is 0 where the input is JSON, 1 where it isn't or can't be read, and
 #[derive(Clone, Copy)]
 struct Options {
     depth: usize,
+    /// How many bytes a piece has, not 0.
     piece: usize,
-    ghost some: { 0 < piece },
 }
 
 impl Options {
@@ -46,19 +46,13 @@ impl Options {
     fn with(self, word: &str) -> Option<Options> {
         if let Some(depth) = word.strip_prefix("--depth=") {
             let depth = depth.parse::<usize>().ok()?;
-            return Some(Options {
-                depth,
-                piece: self.piece,
-            });
+            return Some(Options { depth, ..self });
         }
         let piece = word.strip_prefix("--piece=")?.parse::<usize>().ok()?;
         if piece == 0 {
             return None;
         }
-        Some(Options {
-            depth: self.depth,
-            piece,
-        })
+        Some(Options { piece, ..self })
     }
 }
 
@@ -82,11 +76,13 @@ fn run(rt: &HostRuntime) -> io::Result<ExitCode> {
             print!(rt; "{HELP}")?;
             return Ok(ExitCode::SUCCESS);
         }
-        let Some(next) = options.with(word.as_str()) else {
-            eprintln!(rt; "json: unexpected argument `{word}`; try `json --help`")?;
-            return Ok(ExitCode::from(2));
-        };
-        options = next;
+        match options.with(word.as_str()) {
+            Some(next) => options = next,
+            None => {
+                eprintln!(rt; "json: unexpected argument `{word}`; try `json --help`")?;
+                return Ok(ExitCode::from(2));
+            }
+        }
     }
     let mut input = Vec::new(rt.alloc());
     rt.reader().read_to_end(&mut input)?;
@@ -96,7 +92,7 @@ fn run(rt: &HostRuntime) -> io::Result<ExitCode> {
 /// Prints the document that the input is, or why it is none.
 fn check(rt: &HostRuntime, options: Options, input: &[u8]) -> io::Result<ExitCode> {
     let alloc = rt.alloc();
-    let pieces: Vec<&[u8]> = input.chunks(options.piece).collect(alloc)?;
+    let pieces: Vec<&[u8]> = input.chunks(options.piece.max(1)).collect(alloc)?;
     let answer = read_pieces(alloc, options.depth, &pieces);
     match answer.map_err(|_fault| io::Error::from(io::ErrorKind::OutOfMemory))? {
         Answer::Accepted { value, .. } => {
