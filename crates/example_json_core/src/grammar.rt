@@ -1,7 +1,7 @@
 //! What is open, and what comes of what is read there.
 
 use crate::node::{Document, Node};
-use crate::places::Place;
+use crate::places::{Mark, Place, Step};
 use crate::texts::Text;
 use combine_nested::nested::{Frame, Next};
 use std::alloc::{AllocError, Global};
@@ -25,21 +25,33 @@ pub struct Open {
     nodes: Document,
 }
 
-/// Returns the value that a word names, if it names one.
-fn named(word: &[u8]) -> Option<Node> {
-    match word {
-        b"null" => Some(Node::Null),
-        b"true" => Some(Node::Bool(true)),
-        b"false" => Some(Node::Bool(false)),
-        _ => None,
-    }
-}
-
 /// What comes of what is open.
 type Then = Next<Open, Document>;
 
+/// What a word is, and the part that it says.
+fn named(word: &[u8]) -> (Mark, Option<Node>) {
+    match word {
+        b"null" => (Mark::Value, Some(Node::Null)),
+        b"true" => (Mark::Value, Some(Node::Bool(true))),
+        b"false" => (Mark::Value, Some(Node::Bool(false))),
+        _ => (Mark::Other, None),
+    }
+}
+
+/// What a sign is, and the part that it says.
+fn signed(sign: u8) -> (Mark, Option<Node>) {
+    match sign {
+        b'[' => (Mark::ArrayBegins, Some(Node::ArrayBegins)),
+        b']' => (Mark::ArrayEnds, Some(Node::ArrayEnds)),
+        b'{' => (Mark::ObjectBegins, Some(Node::ObjectBegins)),
+        b'}' => (Mark::ObjectEnds, Some(Node::ObjectEnds)),
+        b',' => (Mark::Comma, None),
+        _ => (Mark::Colon, None),
+    }
+}
+
 impl Open {
-    /// The whole, of which nothing was read.
+    /// Returns the whole, of which nothing was read.
     pub fn new(alloc: Global) -> Open {
         Open {
             alloc,
@@ -48,82 +60,19 @@ impl Open {
         }
     }
 
-    /// What comes of something else than what is expected.
-    fn refused(self) -> Then {
-        Next::Refuse(self.place.expected())
-    }
-
-    /// What comes of a sign between two parts.
-    fn at(self, place: Place) -> Then {
-        Next::Stay(Open { place, ..self })
-    }
-
-    /// What comes of a value, whose parts are behind the others.
-    fn behind_value(self) -> Then {
-        match self.place {
-            Place::Whole => Next::Close(self.nodes),
-            Place::Array | Place::Element => self.at(Place::ElementEnd),
-            Place::Value => self.at(Place::ValueEnd),
-            _ => self.refused(),
-        }
-    }
-
-    /// The same with one part more.
-    fn with(self, node: Node) -> Result<Open, AllocError> {
-        let mut nodes = self.nodes;
-        nodes.push(node)?;
-        Ok(Open { nodes, ..self })
-    }
-
-    /// What comes of an array or an object that begins.
-    fn opened(self, node: Node, place: Place) -> Result<Then, AllocError> {
-        if !self.place.takes_value() {
-            return Ok(self.refused());
-        }
-        let Open {
-            alloc,
-            place: around,
-            nodes,
-        } = self.with(node)?;
-        let around = Open {
-            alloc,
-            place: around,
-            nodes: Vec::new(alloc),
-        };
-        Ok(Next::Open(
-            around,
-            Open {
-                alloc,
-                place,
-                nodes,
-            },
-        ))
-    }
-
-    /// What comes of an array or an object that ends.
-    fn closed(self, node: Node) -> Result<Then, AllocError> {
-        Ok(Next::Close(self.with(node)?.nodes))
-    }
-
-    /// What comes of a text, which is a name or a value.
-    fn texted(self, text: String) -> Result<Then, AllocError> {
-        if self.place.takes_name() {
-            return Ok(self.with(Node::Name(text))?.at(Place::NameEnd));
-        }
-        Ok(self.with(Node::Text(text))?.behind_value())
-    }
-
-    /// What comes of a sign.
-    fn signed(self, sign: u8) -> Result<Then, AllocError> {
-        match (sign, self.place) {
-            (b'[', _) => self.opened(Node::ArrayBegins, Place::Array),
-            (b'{', _) => self.opened(Node::ObjectBegins, Place::Object),
-            (b']', Place::Array | Place::ElementEnd) => self.closed(Node::ArrayEnds),
-            (b'}', Place::Object | Place::ValueEnd) => self.closed(Node::ObjectEnds),
-            (b',', Place::ElementEnd) => Ok(self.at(Place::Element)),
-            (b',', Place::ValueEnd) => Ok(self.at(Place::Name)),
-            (b':', Place::NameEnd) => Ok(self.at(Place::Value)),
-            _ => Ok(self.refused()),
+    /// What comes of such a step.
+    fn stepping(self, step: Option<Step>) -> Then {
+        match step {
+            Some(Step::To(place)) => Next::Stay(Open { place, ..self }),
+            Some(Step::Into(place)) => {
+                let around = Open {
+                    place: self.place,
+                    ..Open::new(self.alloc)
+                };
+                Next::Open(around, Open { place, ..self })
+            }
+            Some(Step::Out) => Next::Close(self.nodes),
+            None => Next::Refuse(self.place.expected()),
         }
     }
 }
@@ -134,25 +83,30 @@ impl Frame for Open {
     type Value = Document;
 
     fn take(self, item: Lexeme) -> Result<Then, AllocError> {
-        match item {
-            Lexeme::Number(number) => Ok(self.with(Node::Number(number))?.behind_value()),
+        let (mark, node) = match item {
+            Lexeme::Number(number) => (Mark::Value, Some(Node::Number(number))),
             Lexeme::Text(text) => match text.finished() {
-                Ok(text) => self.texted(text),
-                Err(why) => Ok(Next::Refuse(why)),
+                Ok(text) if self.place.takes_name() => (Mark::Text, Some(Node::Name(text))),
+                Ok(text) => (Mark::Text, Some(Node::Text(text))),
+                Err(why) => return Ok(Next::Refuse(why)),
             },
-            Lexeme::Word(word) => match named(word.as_slice()) {
-                Some(node) => Ok(self.with(node)?.behind_value()),
-                None => Ok(self.refused()),
-            },
-            Lexeme::Sign(sign) => self.signed(sign),
+            Lexeme::Word(word) => named(word.as_slice()),
+            Lexeme::Sign(sign) => signed(sign),
+        };
+        let mut open = self;
+        if let Some(node) = node {
+            open.nodes.push(node)?;
         }
+        let step = open.place.step(mark);
+        Ok(open.stepping(step))
     }
 
     fn join(self, value: Document) -> Result<Then, AllocError> {
-        Ok(Open {
+        let step = self.place.behind_value();
+        let open = Open {
             nodes: value,
             ..self
-        }
-        .behind_value())
+        };
+        Ok(open.stepping(step))
     }
 }

@@ -23,21 +23,73 @@ pub enum Place {
     ValueEnd,
 }
 
+/// What is read.
+#[derive(Clone, Copy)]
+pub enum Mark {
+    /// A value that is no text.
+    Value,
+    /// A text, which is a value or a name.
+    Text,
+    ArrayBegins,
+    ArrayEnds,
+    ObjectBegins,
+    ObjectEnds,
+    Comma,
+    Colon,
+    Other,
+}
+
+/// Where it leads.
+#[derive(Clone, Copy)]
+pub enum Step {
+    /// On to this place.
+    To(Place),
+    /// Into an array or an object that begins.
+    Into(Place),
+    /// Out of what is open.
+    Out,
+}
+
 impl Place {
-    /// Whether a value may stand here.
-    pub fn takes_value(self) -> bool {
+    /// Returns where a mark leads that is read here, if it may stand here.
+    pub fn step(self, mark: Mark) -> Option<Step> {
+        match (mark, self) {
+            (Mark::Text, Place::Object | Place::Name) => Some(Step::To(Place::NameEnd)),
+            (Mark::Value | Mark::Text, _) => self.behind_value(),
+            (Mark::ArrayBegins, _) if self.takes_value() => Some(Step::Into(Place::Array)),
+            (Mark::ObjectBegins, _) if self.takes_value() => Some(Step::Into(Place::Object)),
+            (Mark::ArrayEnds, Place::Array | Place::ElementEnd) => Some(Step::Out),
+            (Mark::ObjectEnds, Place::Object | Place::ValueEnd) => Some(Step::Out),
+            (Mark::Comma, Place::ElementEnd) => Some(Step::To(Place::Element)),
+            (Mark::Comma, Place::ValueEnd) => Some(Step::To(Place::Name)),
+            (Mark::Colon, Place::NameEnd) => Some(Step::To(Place::Value)),
+            _ => None,
+        }
+    }
+
+    /// Returns where a value leads that stands here, if one may.
+    pub fn behind_value(self) -> Option<Step> {
+        match self {
+            Place::Whole => Some(Step::Out),
+            Place::Array | Place::Element => Some(Step::To(Place::ElementEnd)),
+            Place::Value => Some(Step::To(Place::ValueEnd)),
+            _ => None,
+        }
+    }
+
+    fn takes_value(self) -> bool {
         matches!(
             self,
             Place::Whole | Place::Array | Place::Element | Place::Value
         )
     }
 
-    /// Whether a name may stand here.
+    /// Whether a text that stands here is a name.
     pub fn takes_name(self) -> bool {
         matches!(self, Place::Object | Place::Name)
     }
 
-    /// What is said where something else stands here.
+    /// Returns what is said where something else stands here.
     pub fn expected(self) -> &'static str {
         match self {
             Place::Whole | Place::Element | Place::Value => "value expected",
