@@ -1,0 +1,104 @@
+//! What may come next, by what was read.
+
+/// What may come next where an array, an object or the whole is open.
+#[derive(Clone, Copy)]
+pub enum Place {
+    /// The whole: a value.
+    Whole,
+    /// An array with nothing inside: a value, or its end.
+    Array,
+    /// Behind a comma of an array: a value.
+    Element,
+    /// Behind an element: a comma, or the array's end.
+    ElementEnd,
+    /// An object with nothing inside: a name, or its end.
+    Object,
+    /// Behind a comma of an object: a name.
+    Name,
+    /// Behind a name: a colon.
+    NameEnd,
+    /// Behind a colon: a value.
+    Value,
+    /// Behind an entry's value: a comma, or the object's end.
+    ValueEnd,
+}
+
+/// What is read.
+#[derive(Clone, Copy)]
+pub enum Mark {
+    /// A value that is no text.
+    Value,
+    /// A text, which is a value or a name.
+    Text,
+    ArrayBegins,
+    ArrayEnds,
+    ObjectBegins,
+    ObjectEnds,
+    Comma,
+    Colon,
+    Other,
+}
+
+/// Where it leads.
+#[derive(Clone, Copy)]
+pub enum Step {
+    /// On to this place.
+    To(Place),
+    /// Into an array or an object that begins.
+    Into(Place),
+    /// Out of what is open.
+    Out,
+}
+
+impl Place {
+    /// Returns where a mark leads that is read here, if it may stand here.
+    pub fn step(self, mark: Mark) -> Option<Step> {
+        match (mark, self) {
+            (Mark::Text, Place::Object | Place::Name) => Some(Step::To(Place::NameEnd)),
+            (Mark::Value | Mark::Text, _) => self.behind_value(),
+            (Mark::ArrayBegins, _) if self.takes_value() => Some(Step::Into(Place::Array)),
+            (Mark::ObjectBegins, _) if self.takes_value() => Some(Step::Into(Place::Object)),
+            (Mark::ArrayEnds, Place::Array | Place::ElementEnd) => Some(Step::Out),
+            (Mark::ObjectEnds, Place::Object | Place::ValueEnd) => Some(Step::Out),
+            (Mark::Comma, Place::ElementEnd) => Some(Step::To(Place::Element)),
+            (Mark::Comma, Place::ValueEnd) => Some(Step::To(Place::Name)),
+            (Mark::Colon, Place::NameEnd) => Some(Step::To(Place::Value)),
+            _ => None,
+        }
+    }
+
+    /// Returns where a value leads that stands here, if one may.
+    pub fn behind_value(self) -> Option<Step> {
+        match self {
+            Place::Whole => Some(Step::Out),
+            Place::Array | Place::Element => Some(Step::To(Place::ElementEnd)),
+            Place::Value => Some(Step::To(Place::ValueEnd)),
+            _ => None,
+        }
+    }
+
+    fn takes_value(self) -> bool {
+        matches!(
+            self,
+            Place::Whole | Place::Array | Place::Element | Place::Value
+        )
+    }
+
+    /// Whether a text that stands here is a name.
+    pub fn takes_name(self) -> bool {
+        matches!(self, Place::Object | Place::Name)
+    }
+
+    /// Returns what is said where something else stands here.
+    pub fn expected(self) -> &'static str {
+        match self {
+            Place::Whole | Place::Element | Place::Value => "value expected",
+            Place::Array => "value or ] expected",
+            Place::ElementEnd => "comma or ] expected",
+            Place::Object => "name or } expected",
+            Place::Name => "name expected",
+            Place::NameEnd => "colon expected",
+            Place::ValueEnd => "comma or } expected",
+        }
+    }
+}
