@@ -78,6 +78,36 @@ pub fn each<'a, P: Parser<PartialStream<&'a [u8]>>>(
     Some(taken)
 }
 
+/// As `each`, the values of a piece gathered, and then handed on together.
+pub fn each_by_piece<'a, P: Parser<PartialStream<&'a [u8]>>>(
+    mut parser: P,
+    bytes: &'a [u8],
+    size: usize,
+    mut see: impl FnMut(P::Output),
+) -> Option<usize> {
+    let mut state = P::PartialState::default();
+    let (mut taken, mut fed) = (0, 0);
+    while fed < bytes.len() {
+        fed = bytes.len().min(fed + size);
+        let mut values = Vec::new();
+        while taken < fed {
+            let mut window = PartialStream(&bytes[taken..fed]);
+            let answer = parser.parse_with_state(&mut window, &mut state);
+            taken = fed - window.0.len();
+            match answer {
+                Ok(value) => {
+                    values.push(value);
+                    state = P::PartialState::default();
+                }
+                Err(UnexpectedParse::Eoi) => break,
+                Err(_) => return None,
+            }
+        }
+        values.into_iter().for_each(&mut see);
+    }
+    Some(taken)
+}
+
 /// Gives the bytes in pieces of that size.
 pub struct Reader<'a> {
     pub rest: &'a [u8],

@@ -16,6 +16,7 @@ pub const MEASURE: Measure = Measure {
         ("hand by byte", by_byte),
         ("combine", combine),
         ("combine by decode", combine_by_decode),
+        ("combine by piece", combine_by_piece),
         ("range", range),
         ("nom", nom),
     ],
@@ -101,6 +102,17 @@ fn by_byte(bytes: &[u8], piece: usize) -> u64 {
 fn combine(bytes: &[u8], piece: usize) -> u64 {
     let mut tally = Tally::default();
     let taken = by_combine::each(frame(), bytes, size_of(bytes, piece), |frame: Vec<u8>| tally.add(&frame));
+    if taken == Some(bytes.len()) {
+        tally.sum
+    } else {
+        REFUSED
+    }
+}
+
+/// The messages of a piece gathered, as a `Decoder` of ours gives them.
+fn combine_by_piece(bytes: &[u8], piece: usize) -> u64 {
+    let mut tally = Tally::default();
+    let taken = by_combine::each_by_piece(frame(), bytes, size_of(bytes, piece), |frame: Vec<u8>| tally.add(&frame));
     if taken == Some(bytes.len()) {
         tally.sum
     } else {

@@ -16,6 +16,7 @@ pub const MEASURE: Measure = Measure {
         ("hand by piece", hand_by_piece),
         ("combine", combine),
         ("combine by decode", combine_by_decode),
+        ("combine by piece", combine_by_piece),
         ("range", range),
         ("nom", nom),
     ],
@@ -98,6 +99,17 @@ fn by_hand<const GATHERS: bool>(bytes: &[u8], piece: usize) -> u64 {
 fn combine(bytes: &[u8], piece: usize) -> u64 {
     let mut tally = Tally::default();
     let taken = by_combine::each(setting(), bytes, size_of(bytes, piece), |setting: Setting| setting.add_to(&mut tally));
+    if taken == Some(bytes.len()) {
+        tally.sum
+    } else {
+        REFUSED
+    }
+}
+
+/// The messages of a piece gathered, as a `Decoder` of ours gives them.
+fn combine_by_piece(bytes: &[u8], piece: usize) -> u64 {
+    let mut tally = Tally::default();
+    let taken = by_combine::each_by_piece(setting(), bytes, size_of(bytes, piece), |setting: Setting| setting.add_to(&mut tally));
     if taken == Some(bytes.len()) {
         tally.sum
     } else {
