@@ -62,6 +62,11 @@ pub fn settings(size: usize) -> Vec<u8> {
     })
 }
 
+/// How many settings these are.
+pub fn count_settings(settings: &[u8]) -> usize {
+    settings.iter().filter(|byte| **byte == b';').count()
+}
+
 /// A letter and a digit, twice: `a1b2`.
 pub fn pairs(size: usize) -> Vec<u8> {
     repeated(size, |dice, all| {
@@ -221,6 +226,11 @@ pub fn prefixed(size: usize) -> Vec<u8> {
         all.extend_from_slice(&62_u16.to_be_bytes());
         dice.push(all, 62, b'!', b'~');
     })
+}
+
+/// How many such frames these are.
+pub fn count_prefixed(frames: &[u8]) -> usize {
+    frames.len() / 64
 }
 
 /// Statements of the measured grammar: `let NAME=SUM;` (two in three) and `NAME(SUM,..);`.

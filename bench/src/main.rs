@@ -5,6 +5,8 @@
 //!     bench time NAME PIECE BYTES RUNS          the best of so many runs of each side, in seconds
 //!     bench count NAME PIECE BYTES SIDE         one run of one side, in the function `counted`
 //!     bench ours                                what the linked static libraries export
+//!     bench sides NAME PIECE                    the sides that a measure has in pieces of that size
+//!     bench messages NAME BYTES                 how many messages stand in the input of a measure that decodes them
 mod by_combine;
 mod by_hand;
 mod by_nom;
@@ -42,7 +44,11 @@ fn main() {
         ["check"] => check(),
         ["time", name, piece, bytes, runs] => time(name, piece, bytes, runs),
         ["count", name, piece, bytes, side] => count(name, piece, bytes, side),
-        _ => Err("usage: bench names | ours | check | time NAME PIECE BYTES RUNS | count NAME PIECE BYTES SIDE".into()),
+        ["sides", name, piece] => list_sides(name, piece),
+        ["messages", name, bytes] => messages(name, bytes),
+        _ => Err("usage: bench names | ours | check | time NAME PIECE BYTES RUNS | count NAME PIECE BYTES SIDE | \
+                  sides NAME PIECE | messages NAME BYTES"
+            .into()),
     };
     if let Err(text) = done {
         eprintln!("bench: {text}");
@@ -73,6 +79,25 @@ fn list_ours() -> Result<(), String> {
         find(measure).map_err(|_| format!("combine_bench_{name} is exported, but there is no measure {measure}"))?;
         println!("{name}");
     }
+    Ok(())
+}
+
+fn list_sides(name: &str, piece: &str) -> Result<(), String> {
+    for (side, _) in sides(find(name)?, number(piece)?) {
+        println!("{side}");
+    }
+    Ok(())
+}
+
+/// A line with the number of messages and the bytes of the input.
+fn messages(name: &str, bytes: &str) -> Result<(), String> {
+    let input = (find(name)?.input)(number(bytes)?);
+    let count = match name {
+        "decoded_frames" => inputs::count_prefixed(&input),
+        "decoded_settings" => inputs::count_settings(&input),
+        _ => return Err(format!("{name} decodes no messages")),
+    };
+    println!("{count}\t{}", input.len());
     Ok(())
 }
 

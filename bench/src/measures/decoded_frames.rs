@@ -12,6 +12,7 @@ pub const MEASURE: Measure = Measure {
     pieces: DECODED,
     sides: &[
         ("hand", hand),
+        ("hand by piece", hand_by_piece),
         ("hand by byte", by_byte),
         ("combine", combine),
         ("combine by decode", combine_by_decode),
@@ -20,12 +21,24 @@ pub const MEASURE: Measure = Measure {
     ],
 };
 
-/// The bytes of a frame are copied at once, as far as a piece has them.
+/// Each frame is summed up as it comes.
 fn hand(bytes: &[u8], piece: usize) -> u64 {
+    by_hand::<false>(bytes, piece)
+}
+
+/// The frames of a piece are gathered in a list, as a decoder gives them.
+fn hand_by_piece(bytes: &[u8], piece: usize) -> u64 {
+    by_hand::<true>(bytes, piece)
+}
+
+/// The bytes of a frame are copied at once, as far as a piece has them.
+#[inline(always)]
+fn by_hand<const GATHERS: bool>(bytes: &[u8], piece: usize) -> u64 {
     let mut tally = Tally::default();
     // The first byte of a length, the bytes of a frame so far, and how many are still to come.
     let (mut high, mut frame, mut left) = (None, Vec::new(), 0);
     for mut rest in bytes.chunks(size_of(bytes, piece)) {
+        let mut list: Vec<Vec<u8>> = Vec::new();
         while let [first, behind @ ..] = rest {
             if left > 0 {
                 let (now, later) = rest.split_at(rest.len().min(left));
@@ -41,10 +54,13 @@ fn hand(bytes: &[u8], piece: usize) -> u64 {
                 left = usize::from(u16::from_be_bytes([high, *first]));
                 frame = Vec::with_capacity(left);
             }
-            if left == 0 {
+            if left == 0 && GATHERS {
+                list.push(std::mem::take(&mut frame));
+            } else if left == 0 {
                 tally.add(&std::mem::take(&mut frame));
             }
         }
+        list.iter().for_each(|frame| tally.add(frame));
     }
     if left == 0 && high.is_none() {
         tally.sum

@@ -13,6 +13,7 @@ pub const MEASURE: Measure = Measure {
     pieces: DECODED,
     sides: &[
         ("hand", hand),
+        ("hand by piece", hand_by_piece),
         ("combine", combine),
         ("combine by decode", combine_by_decode),
         ("range", range),
@@ -48,11 +49,24 @@ fn begins(bytes: &[u8]) -> Option<(Setting, &[u8])> {
     Some((setting, &bytes[end + 1..]))
 }
 
-/// What stands before the `;` of a setting that a cut divides is kept till that comes.
+/// Each setting is summed up as it comes.
 fn hand(bytes: &[u8], piece: usize) -> u64 {
+    by_hand::<false>(bytes, piece)
+}
+
+/// The settings of a piece are gathered in a list, as a decoder gives them.
+fn hand_by_piece(bytes: &[u8], piece: usize) -> u64 {
+    by_hand::<true>(bytes, piece)
+}
+
+/// What stands before the `;` of a setting that a cut divides is kept till that comes.
+#[inline(always)]
+fn by_hand<const GATHERS: bool>(bytes: &[u8], piece: usize) -> u64 {
     let mut tally = Tally::default();
     let mut kept: Vec<u8> = Vec::new();
     for mut rest in bytes.chunks(size_of(bytes, piece)) {
+        let mut list = Vec::new();
+        let mut give = |setting: Setting| if GATHERS { list.push(setting) } else { setting.add_to(&mut tally) };
         if !kept.is_empty() {
             let Some(end) = rest.iter().position(|byte| *byte == b';') else {
                 kept.extend_from_slice(rest);
@@ -61,17 +75,18 @@ fn hand(bytes: &[u8], piece: usize) -> u64 {
             kept.extend_from_slice(&rest[..=end]);
             rest = &rest[end + 1..];
             let Some((setting, [])) = begins(&kept) else { return REFUSED };
-            setting.add_to(&mut tally);
+            give(setting);
             kept.clear();
         }
         while let Some((setting, behind)) = begins(rest) {
-            setting.add_to(&mut tally);
+            give(setting);
             rest = behind;
         }
         if rest.contains(&b';') {
             return REFUSED;
         }
         kept.extend_from_slice(rest);
+        list.iter().for_each(|setting| setting.add_to(&mut tally));
     }
     if kept.is_empty() {
         tally.sum
