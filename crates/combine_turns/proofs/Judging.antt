@@ -56,12 +56,13 @@ module _ {P T R A S E : Type 0} (w : World P T S E) (m : Meaning P T R A S) (sta
   pub ran_answers : (x : ParseResult A E) → Answers w m r x → Answers w m (then_left r now after) x
   ran_answers x p = rw (sym n.new, sym n.failures) p
 
-module _ {P T R A V S E : Type 0} (w : World P T S E) (b : Bounds) (ending : A → Bool) (c : Collecting A V) (m : Meaning P T R A S) (stands : View P T → Type 0) (now : View P T) (after : Failures) (r : Run P T S) (n : Ran stands now after r) where
-  pub ran_needs : (t i : Kept V) (e : E) → (w.kind e ≡ kinds.End) × (now.is_open ≡ true) → Answers w m (then_left r now after) (CommitErr e) → ((k : ℕ) (v : View P T) → stands v → Takes w.step k v now → i ≡ record { into = t.into; committed = t.committed; place = cut_at t.place k }) → NeedsMore w b ending c m (then_left r now after) t i e
-  ran_needs t i e q p h =
-      let a = need_of_more w m (then_left r now after) e q.0 (sym (same_mark w m (then_left r now after) e p) ∙ q.1) p in
-      let x = h a.count r.old n.begun_at a.taken in
-      record { needs = q; answers = p; place = i.place; cut = λ k y. ap (λ (z : Kept V). z.place) (h k r.old n.begun_at y); turns = rw x refl }
+-- a turn that needs more, and began where that stands
+module _ {P T R A V S E : Type 0} (w : World P T S E) (b : Bounds) (ending : A → Bool) (c : Collecting A V) (m : Meaning P T R A S) (stands : View P T → Type 0) (r : Run P T S) (s : stands r.old) where
+  pub needs_on : (t i : Kept V) (e : E) → (w.kind e ≡ kinds.End) × (r.new.is_open ≡ true) → Answers w m r (CommitErr e) → ((k : ℕ) (v : View P T) → stands v → Takes w.step k v r.new → i ≡ record { into = t.into; committed = t.committed; place = cut_at t.place k }) → NeedsMore w b ending c m r t i e
+  needs_on t i e q p h =
+      let a = need_of_more w m r e q.0 (sym (same_mark w m r e p) ∙ q.1) p in
+      let x = h a.count r.old s a.taken in
+      record { needs = q; answers = p; place = i.place; cut = λ k y. ap (λ (z : Kept V). z.place) (h k r.old s y); turns = rw x refl }
 
 module _ {P T R A V S E : Type 0} (w : World P T S E) (b : Bounds) (ending : A → Bool) (c : Collecting A V) (m : Meaning P T R A S) (t : Kept V) where
   -- the same where the stream could not be put back

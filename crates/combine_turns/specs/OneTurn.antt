@@ -19,8 +19,6 @@ use Rattle.combine_turns.specs.declared.turns.Step.TheVariants as steps
 use Rattle.combine_turns.specs.declared.turns.Stop.{Stop}
 use Rattle.combine_turns.specs.declared.turns.Stop.TheVariants.{Over, Refused, More, Failed}
 use Rattle.combine_turns.specs.declared.turns.Turns.{Turns as Kept}
-use Rattle.combine_turns.specs.declared.turns.Verdict.{Verdict}
-use Rattle.combine_turns.specs.declared.turns.Verdict.TheVariants as verdicts
 use Rattle.combine_turns.specs.declared.turns.TurnsState.{TurnsState}
 use Rattle.combine_turns.specs.declared.turns.Earlier.TheVariants as earlier
 
@@ -77,19 +75,6 @@ module _ {P T R A V S E : Type 0} (w : World P T S E) (b : Bounds) (ending : A �
   halted (Refused n t) = IsRefused n t
   halted (More n e) = NeedsMore n e
   halted (Failed e) = HasFailed e
-
-  -- the turn is a block, whose value is to be gathered
-  pub record IsBlock (new : Kept V) (value : A) : Type 0 where
-    pub committed : Bool
-    pub judged : Judged w b ending m r old.place (value, committed) true
-    pub turns : new ≡ record { into = old.into; committed = old.committed || committed; place = old.place }
-
-  abbrev pub judged : Verdict V A E → Type 0
-  judged (verdicts.Block n a) = IsBlock n a
-  judged (verdicts.Stops why) = halted why
-
-  pub record IsJudged (result : Verdict V A E) : Type 0 where
-    pub is : judged result
 
   abbrev pub turned : Step V E → Type 0
   turned (steps.Goes n) = GoesOn n

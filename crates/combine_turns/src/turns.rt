@@ -9,19 +9,21 @@ ghost use Rattle.combine_base.specs.Refusals.{Saying, Told};
 ghost use Rattle.combine_base.specs.Sequence.Parts.{accepted_as, refused_as};
 ghost use Rattle.std.specs.Prelude.{None};
 ghost use Rattle.combine_turns.specs.FirstTurn.{FirstTurn};
-ghost use Rattle.combine_turns.specs.OneTurn.{IsGathered, IsJudged, OneTurn, Ran, halted, stopped_answer, stopped_state, then_left};
+ghost use Rattle.combine_turns.specs.OneTurn.{IsGathered, OneTurn, Ran, halted, stopped_answer, stopped_state, then_left};
 ghost use Rattle.combine_turns.specs.Sound.{LeavesSound, kept_sound};
 ghost use Rattle.combine_turns.specs.Turn.{TurnsSame, called};
 ghost use Rattle.combine_turns.specs.Bounded.{gathered, cut_at, counted, fresh_turns, kept_or, none_yet, running_turn, so_far, turns_from};
 ghost use Rattle.combine_base.specs.declared.error.ParseResult.TheVariants.{PeekErr};
 
+mod entry;
 pub mod limits;
 
 use combine_base::error::{Info, ParseError, ParseResult, Tracked};
-use combine_base::parser::{FirstMode, ParseMode, Parser};
+use combine_base::parser::{ParseMode, Parser};
 use combine_base::refusal::refusal_saying;
 use combine_base::sequence::{accepted_after, refused_after};
 use combine_base::stream::{Kind, Stream, has_taken, needs_more};
+use entry::{Afresh, Entry, Resumed};
 use limits::{Bounded, JoinedFrom, is_enough};
 use std::alloc::AllocError;
 use std::mem;
@@ -377,36 +379,6 @@ pub enum Stop<F, E> {
     Failed(E),
 }
 
-/// A turn that begins afresh is a first-mode call, so that the mode is known where it is compiled, and has a state of its own, which is stored on need of more alone.
-#[inline(always)]
-fn begin_turn<Input: Stream, P: Turn<Input>>(
-    parser: &mut P,
-    later: bool,
-    input: &mut Input,
-    state: &mut P::Running,
-) -> ParseResult<P::Value, Input::Error>
-    requires lawful { P.lawful parser.old }
-    requires valid { P.valid state.old }
-    requires fresh { P.Running.is_default state.old }
-    ensures lawful { P.lawful parser.new }
-    ensures valid { P.valid state.new }
-    ensures same { TurnsSame (P.meaning parser.old) (P.again parser.old) (P.meaning parser.new) (P.again parser.new) }
-    ensures passes { Passes (Input.marks input.old) (Input.marks input.new) (Input.failures input.old) (Input.failures input.new) }
-    ensures answers { Answers (world Input.step Input.Error.seen Input.steady P.Running.is_default)
-        (called (P.meaning parser.old) (P.again parser.old) later)
-        (record { first = true; state = state.old; left = state.new; old = Input.view input.old; new = Input.view input.new; before = Input.failures input.old; after = Input.failures input.new })
-        result }
-{
-    let mut own = P::Running::default();
-    let answer = parser.parse_turn(later, FirstMode, input, &mut own);
-    if let ParseResult::CommitErr(error) = &answer {
-        if needs_more(input, error) {
-            *state = own;
-        }
-    }
-    answer
-}
-
 /// The first turn, which begins afresh or resumes.
 #[inline(always)]
 fn parse_turn<Input: Stream, P: Turn<Input>, M: ParseMode>(
@@ -428,7 +400,7 @@ fn parse_turn<Input: Stream, P: Turn<Input>, M: ParseMode>(
         result }
 {
     if mode.is_first() {
-        return begin_turn(parser, false, input, state);
+        return Afresh { later: false }.enter(parser, input, state);
     }
     parser.parse_turn(false, mode, input, state)
 }
@@ -499,130 +471,56 @@ fn judge_refusal<G: Gather<P::Value>, Input: Stream, P: Turn<Input>, B: Bounded>
     Stop::Refused(turns, Tracked::from(error))
 }
 
-/// What a turn's answer is for the turns.
-pub enum Verdict<F, A, E> {
-    /// A block, whose value is to be gathered.
-    Block(Turns<F>, A),
-    Stops(Stop<F, E>),
-}
-
-/// What a turn is for the turns that answers so, the stream having stood at that checkpoint and position where it began.
+/// Runs one turn, called so, and gathers its value where it is a block.
 #[inline(always)]
-fn judge_turn<G: Gather<P::Value>, Input: Stream, P: Turn<Input>, B: Bounded>(
+fn one_turn<G: Gather<P::Value>, Input: Stream, P: Turn<Input>, B: Bounded, C: Entry>(
+    parser: &mut P,
     bounds: B,
+    entry: C,
     turns: Turns<G::Into>,
-    since: Input::Checkpoint,
-    position: Input::Position,
-    answer: ParseResult<P::Value, Input::Error>,
     input: &mut Input,
-) -> Verdict<G::Into, P::Value, Input::Error>
+    running: &mut P::Running,
+) -> Step<G::Into, Input::Error>
+    requires able { (a : P.Value) → P.gives a → G.able a }
+    requires lawful { P.lawful parser.old }
+    requires valid { P.valid running.old }
+    requires fresh { C.first entry ≡ true → P.Running.is_default running.old }
+    ensures lawful { P.lawful parser.new }
+    ensures valid { P.valid running.new }
+    ensures same { TurnsSame (P.meaning parser.old) (P.again parser.old) (P.meaning parser.new) (P.again parser.new) }
     ensures passes { Passes (Input.marks input.old) (Input.marks input.new) (Input.failures input.old) (Input.failures input.new) }
-    ensures judged { (p : P) (later : Bool)
-        (r : Run Input.Position Input.Token P.Running) → Ran (Input.stands input.old since) (Input.view input.old) (Input.failures input.old) r →
-        Answers (world Input.step Input.Error.seen Input.steady P.Running.is_default) (called (P.meaning p) (P.again p) later) r answer →
-        IsJudged (world Input.step Input.Error.seen Input.steady P.Running.is_default) (B.bounds bounds) P.ending (gathered G.held G.none G.more G.lean) (called (P.meaning p) (P.again p) later)
-        (then_left r (Input.view input.new) (Input.failures input.new)) turns result }
+    ensures turned { OneTurn (world Input.step Input.Error.seen Input.steady P.Running.is_default)
+        (B.bounds bounds) P.ending (gathered G.held G.none G.more G.lean) (called (P.meaning parser.old) (P.again parser.old) (C.later entry))
+        (record { first = C.first entry; state = running.old; left = running.new; old = Input.view input.old; new = Input.view input.new; before = Input.failures input.old; after = Input.failures input.new })
+        turns result }
 {
-    let (value, committed) = match answer {
+    let since = input.checkpoint();
+    let position = input.position();
+    let (value, committed) = match entry.enter(parser, input, running) {
         ParseResult::CommitOk(value) => (value, true),
         ParseResult::PeekOk(value) => (value, false),
         ParseResult::PeekErr(refusal) => {
-            return Verdict::Stops(judge_refusal::<G, Input, P, B>(
+            return Step::Stops(judge_refusal::<G, Input, P, B>(
                 bounds, turns, since, position, refusal, input,
             ));
         }
         ParseResult::CommitErr(error) => {
             if needs_more(input, &error) {
-                return Verdict::Stops(Stop::More(turns.cut(since, input), error));
+                return Step::Stops(Stop::More(turns.cut(since, input), error));
             }
-            return Verdict::Stops(Stop::Failed(error));
+            return Step::Stops(Stop::Failed(error));
         }
     };
     if P::ends(&value) {
-        return Verdict::Stops(Stop::Over(turns.joined(committed)));
+        return Step::Stops(Stop::Over(turns.joined(committed)));
     }
     if !bounds.goes(turns.place, committed, since, input) {
         let error = refusal_saying(input, position, "repetition takes nothing");
-        return Verdict::Stops(Stop::Failed(error));
+        return Step::Stops(Stop::Failed(error));
     }
-    Verdict::Block(turns.joined(committed), value)
-}
-
-/// One turn that begins afresh.
-#[inline(always)]
-fn one_turn<G: Gather<P::Value>, Input: Stream, P: Turn<Input>, B: Bounded>(
-    parser: &mut P,
-    bounds: B,
-    later: bool,
-    turns: Turns<G::Into>,
-    input: &mut Input,
-    running: &mut P::Running,
-) -> Step<G::Into, Input::Error>
-    requires able { (a : P.Value) → P.gives a → G.able a }
-    requires lawful { P.lawful parser.old }
-    requires valid { P.valid running.old }
-    requires fresh { P.Running.is_default running.old }
-    ensures lawful { P.lawful parser.new }
-    ensures valid { P.valid running.new }
-    ensures same { TurnsSame (P.meaning parser.old) (P.again parser.old) (P.meaning parser.new) (P.again parser.new) }
-    ensures passes { Passes (Input.marks input.old) (Input.marks input.new) (Input.failures input.old) (Input.failures input.new) }
-    ensures turned { OneTurn (world Input.step Input.Error.seen Input.steady P.Running.is_default)
-        (B.bounds bounds) P.ending (gathered G.held G.none G.more G.lean) (called (P.meaning parser.old) (P.again parser.old) later)
-        (record { first = true; state = running.old; left = running.new; old = Input.view input.old; new = Input.view input.new; before = Input.failures input.old; after = Input.failures input.new })
-        turns result }
-{
-    let since = input.checkpoint();
-    let position = input.position();
-    let answer = begin_turn(parser, later, input, running);
-    match judge_turn::<G, Input, P, B>(bounds, turns, since, position, answer, input) {
-        Verdict::Block(turns, value) => {
-            match gather_turn::<P::Value, G>(turns, value, bounds.limit()) {
-                Ok(turns) => Step::Goes(turns),
-                Err(_refused) => {
-                    Step::Stops(Stop::Failed(input.new_error(Kind::Memory, position)))
-                }
-            }
-        }
-        Verdict::Stops(why) => Step::Stops(why),
-    }
-}
-
-/// As `one_turn`, for a call that may resume.
-#[inline(always)]
-fn resume_turn<G: Gather<P::Value>, Input: Stream, P: Turn<Input>, B: Bounded, M: ParseMode>(
-    parser: &mut P,
-    bounds: B,
-    mode: M,
-    turns: Turns<G::Into>,
-    input: &mut Input,
-    running: &mut P::Running,
-) -> Step<G::Into, Input::Error>
-    requires able { (a : P.Value) → P.gives a → G.able a }
-    requires lawful { P.lawful parser.old }
-    requires valid { P.valid running.old }
-    requires fresh { M.first mode ≡ true → P.Running.is_default running.old }
-    ensures lawful { P.lawful parser.new }
-    ensures valid { P.valid running.new }
-    ensures same { TurnsSame (P.meaning parser.old) (P.again parser.old) (P.meaning parser.new) (P.again parser.new) }
-    ensures passes { Passes (Input.marks input.old) (Input.marks input.new) (Input.failures input.old) (Input.failures input.new) }
-    ensures turned { OneTurn (world Input.step Input.Error.seen Input.steady P.Running.is_default)
-        (B.bounds bounds) P.ending (gathered G.held G.none G.more G.lean) (called (P.meaning parser.old) (P.again parser.old) false)
-        (record { first = M.first mode; state = running.old; left = running.new; old = Input.view input.old; new = Input.view input.new; before = Input.failures input.old; after = Input.failures input.new })
-        turns result }
-{
-    let since = input.checkpoint();
-    let position = input.position();
-    let answer = parser.parse_turn(false, mode, input, running);
-    match judge_turn::<G, Input, P, B>(bounds, turns, since, position, answer, input) {
-        Verdict::Block(turns, value) => {
-            match gather_turn::<P::Value, G>(turns, value, bounds.limit()) {
-                Ok(turns) => Step::Goes(turns),
-                Err(_refused) => {
-                    Step::Stops(Stop::Failed(input.new_error(Kind::Memory, position)))
-                }
-            }
-        }
-        Verdict::Stops(why) => Step::Stops(why),
+    match gather_turn::<P::Value, G>(turns.joined(committed), value, bounds.limit()) {
+        Ok(turns) => Step::Goes(turns),
+        Err(_refused) => Step::Stops(Stop::Failed(input.new_error(Kind::Memory, position))),
     }
 }
 
@@ -732,10 +630,10 @@ pub fn take_turns<G: Gather<P::Value>, Input: Stream, P: Turn<Input>, M: ParseMo
             state.running = P::Running::default();
             return turns.end();
         }
-        match resume_turn::<G, Input, P, B, M>(
+        match one_turn::<G, Input, P, B, Resumed<M>>(
             parser,
             bounds,
-            mode,
+            Resumed { mode },
             turns,
             input,
             &mut state.running,
@@ -751,7 +649,14 @@ pub fn take_turns<G: Gather<P::Value>, Input: Stream, P: Turn<Input>, M: ParseMo
         if bounds.is_full(turns.place) {
             return turns.end();
         }
-        match one_turn::<G, Input, P, B>(parser, bounds, later, turns, input, &mut state.running) {
+        match one_turn::<G, Input, P, B, Afresh>(
+            parser,
+            bounds,
+            Afresh { later },
+            turns,
+            input,
+            &mut state.running,
+        ) {
             Step::Stops(why) => return stopped(why, state),
             Step::Goes(next) => {
                 turns = next;
@@ -790,10 +695,10 @@ pub fn take_joined<G: Gather<P::Value>, Input: Stream, P: Turn<Input>, M: ParseM
     let given = state.hand_out(mode.is_first());
     match given {
         Earlier::Turns(kept) => {
-            match resume_turn::<G, Input, P, JoinedFrom, M>(
+            match one_turn::<G, Input, P, JoinedFrom, Resumed<M>>(
                 parser,
                 bounds,
-                mode,
+                Resumed { mode },
                 kept,
                 input,
                 &mut state.running,
@@ -812,10 +717,10 @@ pub fn take_joined<G: Gather<P::Value>, Input: Stream, P: Turn<Input>, M: ParseM
         }
     }
     'turns: loop {
-        match one_turn::<G, Input, P, JoinedFrom>(
+        match one_turn::<G, Input, P, JoinedFrom, Afresh>(
             parser,
             bounds,
-            true,
+            Afresh { later: true },
             turns,
             input,
             &mut state.running,

@@ -26,11 +26,11 @@ turns-init g c =
           let s = w.in-Goes.ensures.turned.is in
           let r = j (sym c.is_first-2.ensures ∙ w.if-not-is_first.true) in
           record {
-            lawful = rw w.parser-is w.resume_turn.ensures.lawful;
-            valid = rw w.state-is w.resume_turn.ensures.valid;
+            lawful = rw w.parser-is w.one_turn.ensures.lawful;
+            valid = rw w.state-is w.one_turn.ensures.valid;
             fresh = rw w.state-is s.judged.accepts.state;
-            same = rw w.parser-is w.resume_turn.ensures.same;
-            passes = rw w.input-is w.resume_turn.ensures.passes;
+            same = rw w.parser-is w.one_turn.ensures.same;
+            passes = rw w.input-is w.one_turn.ensures.passes;
             cleared = rw w.state-is c.begin-turns.ensures.left;
             reaches = rw (w.state-is, w.input-is, w.turns-is, w.later-is) (comes_on _ _ _ _ _ _ _ _ (g.met.P.Turn.laws _ c.requires.lawful) _ _ _ _ false _ _ _ z (sym w.is_full.ensures ∙ w.if-is_full.false) (resumed_valid g.P.Turn.valid _ _ r c.requires.valid) s _);
           }
@@ -68,11 +68,11 @@ turns-preserved g c =
     let t = turned_same _ _ _ _ _ (called_same _ _ _ _ i.same _) _ _ _ _ c.in-Goes-one_turn.ensures.turned in
     let s = t.is in
     record {
-      lawful = c.one_turn.ensures.lawful;
-      valid = c.one_turn.ensures.valid;
+      lawful = c.one_turn-in-turns.ensures.lawful;
+      valid = c.one_turn-in-turns.ensures.valid;
       fresh = s.judged.accepts.state;
-      same = turns_same_more _ _ _ _ _ _ i.same c.one_turn.ensures.same;
-      passes = passes_more _ _ _ _ _ _ i.passes c.one_turn.ensures.passes;
+      same = turns_same_more _ _ _ _ _ _ i.same c.one_turn-in-turns.ensures.same;
+      passes = passes_more _ _ _ _ _ _ i.passes c.one_turn-in-turns.ensures.passes;
       cleared = i.cleared;
       reaches = comes_on _ _ _ _ _ _ _ _ (g.met.P.Turn.laws _ c.requires.lawful) _ _ _ _ _ _ _ _ i.reaches (sym c.is_full-in-turns.ensures ∙ c.if-is_full-2.false) i.valid s _;
     }
