@@ -18,7 +18,7 @@ use combine_base::stream::{Stream, needs_more};
 use combine_separated::pair::{PairState, PairStateOf, parse_pair};
 use combine_separated::separated::{Lead, SeparatedState, TurnPlace};
 use combine_token::choice::types::Optional;
-use combine_turns::turns::{Gather, Starts, Turn};
+use combine_turns::turns::{Gather, Turn};
 use std::alloc::{AllocError, Global};
 use std::marker::PhantomData;
 use std::mem;
@@ -78,13 +78,6 @@ impl<A: Drop, F: Append<A>> Gather<Option<A>> for EachSome<F> {
     }
 
     ghost keeps_sound = { any_sound };
-}
-
-impl<A: Drop, F: Append<A>> Starts<Option<A>> for EachSome<F> {
-    #[inline(always)]
-    fn empty(alloc: Global) -> F {
-        F::empty(alloc)
-    }
 }
 
 /// Runs the first part, from what is kept of it.

@@ -6,7 +6,7 @@ ghost use Rattle.combine_turns.specs.Sound.{any_sound};
 
 use crate::separated::Element;
 use combine_base::repeat::Append;
-use combine_turns::turns::{Gather, Starts};
+use combine_turns::turns::Gather;
 use std::alloc::{AllocError, Global};
 use std::marker::PhantomData;
 
@@ -64,13 +64,6 @@ impl<O: Drop, A: Drop, F: Append<A>> Gather<Element<O, A>> for EachElement<F> {
     }
 
     ghost keeps_sound = { any_sound };
-}
-
-impl<O: Drop, A: Drop, F: Append<A>> Starts<Element<O, A>> for EachElement<F> {
-    #[inline(always)]
-    fn empty(alloc: Global) -> F {
-        F::empty(alloc)
-    }
 }
 
 /// Elements folded from the left, by what the separators gave.

@@ -1,6 +1,5 @@
 pub mod Turning
 pub mod TurnCalls
-pub mod OwnState
 pub mod Judging
 pub mod Sounding
 pub mod Repeating

@@ -4,7 +4,7 @@ ghost use Rattle.combine_turns.specs.Sound.{any_sound};
 ghost use Rattle.combine_turns.specs.Turn.{gives_any, plain_is_turn, plain_once};
 ghost use Rattle.combine_turns.specs.Plain.{plain_parser};
 
-use crate::turns::{Gather, Starts, Turn};
+use crate::turns::{Gather, Turn};
 use combine_base::error::{ParseResult, Tracked};
 use combine_base::parser::{ParseMode, Parser};
 use combine_base::repeat::Append;
@@ -102,13 +102,6 @@ impl<A: Drop, F: Append<A>> Gather<A> for Each<F> {
     }
 
     ghost keeps_sound = { any_sound };
-}
-
-impl<A: Drop, F: Append<A>> Starts<A> for Each<F> {
-    #[inline(always)]
-    fn empty(alloc: Global) -> F {
-        F::empty(alloc)
-    }
 }
 
 /// No value is kept.

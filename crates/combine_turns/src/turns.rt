@@ -141,14 +141,6 @@ pub trait Gather<A> {
     ghost keeps_sound: { KeepsSound none more able sound };
 }
 
-/// A gathering that may hold nothing.
-pub trait Starts<A>: Gather<A> {
-    ghost use Rattle.std.specs.Prelude.{◌≡◌};
-
-    fn empty(from: Self::From) -> Self::Into
-        ensures { Self.held result ≡ Self.none };
-}
-
 /// How many turns there are, for contracts: a type of `limits` says which are meant.
 #[derive(Clone, Copy)]
 pub enum Bounds {

@@ -11,7 +11,7 @@ use combine_base::repeat::Append;
 use combine_base::stream::Stream;
 use combine_turns::each::{Dropped, Each, Plain};
 use combine_turns::turns::limits::{AnyNumber, JoinedFrom};
-use combine_turns::turns::{Starts, Turns, TurnsState, take_turns};
+use combine_turns::turns::{Turns, TurnsState, take_turns};
 use std::alloc::Global;
 use std::marker::PhantomData;
 

@@ -7,7 +7,7 @@ ghost use Rattle.combine_turns.specs.CountLaws.{repeated_is_meaning, repeated_me
 
 use crate::each::{Dropped, Each, Plain};
 use crate::turns::limits::Between;
-use crate::turns::{Starts, Turns, TurnsState, take_turns};
+use crate::turns::{Turns, TurnsState, take_turns};
 use combine_base::error::{ErrorOffset, ParseResult, Tracked};
 use combine_base::parser::{Outputs, ParseMode, Parser};
 use combine_base::repeat::Append;
