@@ -1,4 +1,4 @@
-"""Our program over all parsers: the crate combine_vectors in a copy of the repository, whose list is all of parsers.list."""
+"""Our program over all parsers: the crate diff_vectors in a copy of the repository, whose list is all of parsers.list."""
 
 import contextlib
 import pathlib
@@ -10,11 +10,11 @@ import cases
 
 HERE = pathlib.Path(__file__).resolve().parent
 ROOT = HERE.parent
-CRATE = ROOT / "crates" / "combine_vectors"
-ANSWERS = ROOT / "crates" / "combine_answers" / "src"
+CRATE = ROOT / "crates" / "diff_vectors"
+ANSWERS = ROOT / "crates" / "diff_answers" / "src"
 # The parsers that the gate keeps.
 KEPT = ANSWERS / "list.rt"
-# What the gate's program has no use for stands in the copy alone: files beside those of combine_answers or in place of them,
+# What the gate's program has no use for stands in the copy alone: files beside those of diff_answers or in place of them,
 # and arms of its macro `parser!`.
 ADDED = HERE / "ours"
 # So many parsers stand in one function of the list.
@@ -27,14 +27,14 @@ class Missing(Exception):
 
 def build():
     """The program, proved and built (some minutes)."""
-    made = HERE / "out" / "combine_vectors"
+    made = HERE / "out" / "diff_vectors"
     made.parent.mkdir(exist_ok=True)
     with copied(cases.parsers()) as crate:
         # A run compares with these; what the program answers is compared here.
         (crate / "stdin").write_text("")
         (crate / "stdout").write_text("")
         output(["rt", "run"], cwd=crate)
-        shutil.copy(crate / "out" / "combine_vectors", made)
+        shutil.copy(crate / "out" / "diff_vectors", made)
     return made
 
 
@@ -44,7 +44,7 @@ TRIED = """\
 //! Reads cases with answers, one a line, and writes those that are answered otherwise.
 #![tactic(auto)]
 
-use combine_answers::answer;
+use diff_answers::answer;
 use std::io;
 use std::io::{BufRead, BufReader, BufWriter, Write};
 
@@ -113,7 +113,7 @@ def with_each_macro(parsers):
 def copied(parsers):
     """The crate in a copy of the repository, with what is built there, and these parsers as its list."""
     if shutil.which("rt") is None:
-        raise Missing("rt, of Rattle's toolchain, is missing: it makes the program of crates/combine_vectors")
+        raise Missing("rt, of Rattle's toolchain, is missing: it makes the program of crates/diff_vectors")
     with tempfile.TemporaryDirectory() as folder:
         copy = pathlib.Path(folder) / "repository"
         shutil.copytree(ROOT, copy, symlinks=True, ignore=shutil.ignore_patterns(".git", "target"))
@@ -128,7 +128,7 @@ def copied(parsers):
             shutil.copy(file, answers / name)
         put_before(answers / "lib.rt", "mod text;\n", modules)
         put_before(answers / "composed.rt", COMPOSED_FROM, (ADDED / "arms.txt").read_text())
-        put_before(copy / "crates.txt", "\ncombine_answers:", "", f" {ADDED_USES}")
+        put_before(copy / "crates.txt", "\ndiff_answers:", "", f" {ADDED_USES}")
         yield copy / CRATE.relative_to(ROOT)
 
 
@@ -144,8 +144,8 @@ def put_before(path, mark, text, behind=""):
 COMPOSED_FROM = "    ($alloc:ident; or("
 # The libraries that the parsers need which the gate does not keep.
 ADDED_USES = (
-    "combine_functions combine_recognize combine_errors combine_stream combine_range"
-    " combine_searches combine_integers"
+    "combine_combinator_function combine_combinator_recognize combine_error combine_stream combine_range"
+    " combine_range_search combine_byte_num"
 )
 
 # Constructors of which no type names a call: a parser with one of these is composed in a function.
@@ -161,7 +161,7 @@ LONGEST_CALL = 4
 
 
 def macro_of(parser):
-    """The macro of combine_answers that knows this parser by its text."""
+    """The macro of diff_answers that knows this parser by its text."""
     if cases.reads_ranges(parser):
         return "answer_over_windows"
     if "string(" in parser:
@@ -174,7 +174,7 @@ def is_composed(name, parts):
 
 
 def whole_list(parsers):
-    """The list of parsers as a file of combine_answers."""
+    """The list of parsers as a file of diff_answers."""
     groups = []
     for macro in ("answer_among", "answer_composed", "answer_of_characters", "answer_over_windows"):
         groups += in_groups(macro, [parser for parser in parsers if macro_of(parser) == macro])

@@ -1,4 +1,4 @@
-//! Ours: the static libraries that `rt lib` makes of the crates `combine_bench` and `combine_bench_decode`.
+//! Ours: the static libraries that `rt lib` makes of the crates `bench_measures` and `bench_decode`.
 //!
 //! For the measure NAME one of them exports a function:
 //!

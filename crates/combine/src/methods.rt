@@ -1,30 +1,30 @@
 //! The method forms of the constructors.
 ghost use Rattle.std.specs.Prelude.{◌≡◌};
 ghost use Rattle.combine_token.specs.Or.{or_parser};
-ghost use Rattle.combine_iterate.specs.Nexts.{Begins, may_go_on};
-ghost use Rattle.combine_map.specs.Parsers.{map_of, picked_of};
-ghost use Rattle.combine_functions.specs.Parsers.{and_then_of, flat_map_of, map_input_of};
-ghost use Rattle.combine_errors.specs.Shaped.{expected_of, message_of, silent_of};
-ghost use Rattle.combine_spanned.specs.Spanned.{spanned_of};
+ghost use Rattle.combine_repeat_iterate.specs.Nexts.{Begins, may_go_on};
+ghost use Rattle.combine_combinator.specs.Parsers.{map_of, picked_of};
+ghost use Rattle.combine_combinator_function.specs.Parsers.{and_then_of, flat_map_of, map_input_of};
+ghost use Rattle.combine_error.specs.Shaped.{expected_of, message_of, silent_of};
+ghost use Rattle.combine_combinator_spanned.specs.Spanned.{spanned_of};
 ghost use Rattle.combine_sequence.specs.Answered.{then_of, then_partial_of, then_ref_of};
 
 use combine_base::error::Info;
 use combine_base::parser::{Calls, FirstMode, ParseMode, Parser};
 use combine_base::stream::Stream;
-use combine_errors::error;
-use combine_errors::error::types::{Expected, Message, Silent};
-use combine_functions::combinator as changes;
-use combine_functions::combinator::types::{AndThen, FlatMap, MapInput};
-use combine_iterate::repeat::Iter;
-use combine_map::combinator;
-use combine_map::combinator::types::Map;
+use combine_choice_dispatch::variants::Either;
+use combine_combinator::combinator;
+use combine_combinator::combinator::types::Map;
+use combine_combinator_function::combinator as changes;
+use combine_combinator_function::combinator::types::{AndThen, FlatMap, MapInput};
+use combine_combinator_spanned::combinator as spans;
+use combine_combinator_spanned::combinator::types::Spanned;
+use combine_error::error;
+use combine_error::error::types::{Expected, Message, Silent};
+use combine_repeat_iterate::repeat::Iter;
 use combine_sequence::sequence;
 use combine_sequence::sequence::types::{Skip, Then, ThenPartial, ThenRef, With};
-use combine_spanned::combinator as spans;
-use combine_spanned::combinator::types::Spanned;
 use combine_token::choice;
 use combine_token::choice::types::Or;
-use combine_variants::variants::Either;
 
 /// The method forms of the constructors, which every parser has. Each means the constructor of the same name.
 ///

@@ -12,8 +12,8 @@ pub use combine_base::parser::{
     Answer, Calls, FirstMode, ParseMode, Parser, PartialMode, Session, SessionError, judge,
     parse_pieces,
 };
-pub use combine_cuts::{cuts_fit, parse_cuts};
-pub use combine_errors::easy::EasyParser;
-pub use combine_functions::function;
-pub use combine_text::char;
+pub use combine_char::char;
+pub use combine_combinator_function::function;
+pub use combine_error::easy::EasyParser;
+pub use combine_stream_cuts::{cuts_fit, parse_cuts};
 pub use combine_token::token;

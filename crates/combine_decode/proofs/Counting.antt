@@ -5,11 +5,11 @@ use Rattle.combine_base.specs.Parser.Meaning.{Reading}
 use Rattle.combine_base.specs.Parser.Outcome.{Outcome, Accepted, Refused, Undecided, after, shape}
 use Rattle.combine_base.specs.Stream.View.{View, after_all}
 use Rattle.combine_token.specs.OneToken.{of_function, one_token, satisfied}
-use Rattle.combine_turns.specs.Bounded.{bounded, judged, none_yet, refused_at}
-use Rattle.combine_turns.specs.Counts.{appended, never}
-use Rattle.combine_turns.specs.Turns.{Block, Collecting, Collects, Divides, Folds, Goes, Rule, Stops, StopsHere, Turned, any_committed, taken, values}
-use Rattle.combine_turns.specs.declared.turns.Bounds.TheVariants.{Counted}
-use Rattle.combine_turns.specs.declared.turns.Place.{Place}
+use Rattle.combine_repeat_turns.specs.Bounded.{bounded, judged, none_yet, refused_at}
+use Rattle.combine_repeat_turns.specs.Counts.{appended, never}
+use Rattle.combine_repeat_turns.specs.Turns.{Block, Collecting, Collects, Divides, Folds, Goes, Rule, Stops, StopsHere, Turned, any_committed, taken, values}
+use Rattle.combine_repeat_turns.specs.declared.turns.Bounds.TheVariants.{Counted}
+use Rattle.combine_repeat_turns.specs.declared.turns.Place.{Place}
 
 -- what tokens appended one by one make
 folds_to : {T : Type 0} (h xs i : List T) → Folds (λ us t ws. ws ≡ us ++ t ∷ []) h xs i → i ≡ h ++ xs

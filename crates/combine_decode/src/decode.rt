@@ -12,7 +12,7 @@ pub mod types;
 use combine_base::error::UnexpectedParse;
 use combine_base::parser::{Answer, Parser, Session, SessionError};
 use combine_base::stream::{Kind, fed};
-use combine_integers::num::be_u16;
+use combine_byte_num::num::be_u16;
 use combine_sequence::sequence::types::Answered;
 use framing::Framing;
 pub use pieces::decode_pieces;

@@ -4,12 +4,12 @@ use Rattle.std.proofs.Common.{arith, ltb-false, ltb-true}
 use Rattle.combine_base.specs.Stream.View.{View}
 use Rattle.combine_base.specs.Parser.Outcome.{Outcome, Accepted, Refused, Undecided}
 use Rattle.combine_base.specs.Parser.Meaning.{Reading}
-use Rattle.combine_turns.specs.Bounded.{accepted_at, bounded, counted, enough, full_at, goes_at, judged, next_of, refused_at}
-use Rattle.combine_turns.specs.Counts.{never}
-use Rattle.combine_turns.specs.Turns.{Stops, StopsHere}
-use Rattle.combine_turns.specs.declared.turns.Bounds.{Bounds}
-use Rattle.combine_turns.specs.declared.turns.Bounds.TheVariants.{Any, Joined, Counted}
-use Rattle.combine_turns.specs.declared.turns.Place.{Place}
+use Rattle.combine_repeat_turns.specs.Bounded.{accepted_at, bounded, counted, enough, full_at, goes_at, judged, next_of, refused_at}
+use Rattle.combine_repeat_turns.specs.Counts.{never}
+use Rattle.combine_repeat_turns.specs.Turns.{Stops, StopsHere}
+use Rattle.combine_repeat_turns.specs.declared.turns.Bounds.{Bounds}
+use Rattle.combine_repeat_turns.specs.declared.turns.Bounds.TheVariants.{Any, Joined, Counted}
+use Rattle.combine_repeat_turns.specs.declared.turns.Place.{Place}
 use Rattle.combine_facts.specs.Gathered.{so_many}
 
 -- what a test says that is turned round

@@ -9,11 +9,11 @@ use Rattle.combine_base.specs.Stream.View.{View, advanced}
 use Rattle.combine_base.specs.Parser.Outcome.{Outcome, Accepted, Refused, Undecided, after}
 use Rattle.combine_base.specs.Parser.Meaning.{Reading}
 use Rattle.combine_token.specs.OneToken.{of_function, one_token, satisfied}
-use Rattle.combine_turns.specs.Bounded.{bounded, limit, next_of, none_yet}
-use Rattle.combine_turns.specs.Counts.{appended, dropped, never}
-use Rattle.combine_turns.specs.Turns.{Block, Collecting, Divides, Folds, Turned, any_committed, taken, values}
-use Rattle.combine_turns.specs.declared.turns.Bounds.{Bounds}
-use Rattle.combine_turns.specs.declared.turns.Place.{Place}
+use Rattle.combine_repeat_turns.specs.Bounded.{bounded, limit, next_of, none_yet}
+use Rattle.combine_repeat_turns.specs.Counts.{appended, dropped, never}
+use Rattle.combine_repeat_turns.specs.Turns.{Block, Collecting, Divides, Folds, Turned, any_committed, taken, values}
+use Rattle.combine_repeat_turns.specs.declared.turns.Bounds.{Bounds}
+use Rattle.combine_repeat_turns.specs.declared.turns.Place.{Place}
 use Rattle.combine_facts.specs.Gathered.{all_where, each, first_and_each, gathers, listed, passed, so_many}
 use Rattle.combine_facts.specs.Reads.{Reads, one_where}
 use Rattle.combine_facts.proofs.Counting.{counts, fewest, next_fits, next_within, none_within, so_many_is, stops, within}

@@ -79,7 +79,7 @@ pub trait Frame: Drop {
 ///
 /// # Example
 ///
-/// How many pairs of brackets stand inside others. `brackets.rt` of `combine_nested_tests` has it whole, with what is promised of it.
+/// How many pairs of brackets stand inside others. `brackets.rt` of `tests_nested` has it whole, with what is promised of it.
 ///
 /// ```
 /// fn take(self, item: u8) -> Result<Next<Brackets, u64>, AllocError> {

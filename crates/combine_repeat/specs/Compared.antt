@@ -3,9 +3,9 @@ use Rattle.std.specs.Prelude.{◌↔◌}
 use Rattle.combine_base.specs.Stream.View.{View}
 use Rattle.combine_base.specs.Parser.Outcome.{Outcome}
 use Rattle.combine_base.specs.Parser.Meaning.{Meaning}
-use Rattle.combine_turns.specs.CountsCompared.{DropsValues}
-use Rattle.combine_turns.specs.OneThenTurns.{one_then_turns}
-use Rattle.combine_turns.specs.Turns.{Collecting}
+use Rattle.combine_repeat_turns.specs.CountsCompared.{DropsValues}
+use Rattle.combine_repeat_turns.specs.OneThenTurns.{one_then_turns}
+use Rattle.combine_repeat_turns.specs.Turns.{Collecting}
 use Rattle.combine_repeat.specs.Repetition.{many, many1, skip_many, skip_many1}
 
 module _ {P T R A V S : Type 0} (step : P → T → P) (c : Collecting A V) (m : Meaning P T R A S) where

@@ -1,10 +1,10 @@
 -- repetitions of one parser: turns until one is refused peeked
 use Rattle.std.specs.Prelude.{None}
 use Rattle.combine_base.specs.Parser.Meaning.{Meaning}
-use Rattle.combine_turns.specs.Counts.{dropped, repeated}
-use Rattle.combine_turns.specs.Turns.{Collecting}
-use Rattle.combine_turns.specs.declared.turns.Bounds.TheVariants.{Any, Joined}
-use Rattle.combine_turns.specs.declared.turns.TurnsState.{TurnsState}
+use Rattle.combine_repeat_turns.specs.Counts.{dropped, repeated}
+use Rattle.combine_repeat_turns.specs.Turns.{Collecting}
+use Rattle.combine_repeat_turns.specs.declared.turns.Bounds.TheVariants.{Any, Joined}
+use Rattle.combine_repeat_turns.specs.declared.turns.TurnsState.{TurnsState}
 
 module _ {P T R A V S : Type 0} (step : P → T → P) (c : Collecting A V) where
   -- turns, of which there need be none

@@ -14,8 +14,8 @@ pub mod laws;
 pub mod types;
 
 pub use combine_base::repeat::{Append, Sink};
-use combine_turns::each::Plain;
-pub use combine_turns::turns::TurnsState;
+use combine_repeat_turns::each::Plain;
+pub use combine_repeat_turns::turns::TurnsState;
 use std::alloc::Global;
 use std::marker::PhantomData;
 use types::{Many, Many1, SkipMany, SkipMany1};

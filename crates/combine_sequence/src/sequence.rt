@@ -2,7 +2,7 @@
 //!
 //! Of `with`, `skip`, `between` and `struct_parser!` what is taken, refusals, faults, need of more, errors and states are those of the tuple.
 ghost use Rattle.std.specs.Prelude.{◌≡◌};
-ghost use Rattle.combine_map.specs.Parsers.{picked_of};
+ghost use Rattle.combine_combinator.specs.Parsers.{picked_of};
 ghost use Rattle.combine_sequence.specs.Answered.{then_of, then_partial_of, then_ref_of};
 
 mod answered;
@@ -10,7 +10,7 @@ pub mod laws;
 pub mod types;
 
 use answered::asked::{ByMut, ByRef, ByValue};
-pub use combine_map::combinator::map;
+pub use combine_combinator::combinator::map;
 use types::{Answered, Between, Skip, Then, ThenPartial, ThenRef, With};
 
 /// Parses as `p` and then as `q`, with the value of `q`.

@@ -12,7 +12,7 @@ mod tests;
 
 use combine_base::error::Info;
 use combine_base::parser::Answer;
-use combine_errors::easy::Error;
+use combine_error::easy::Error;
 use example_json_core::{Document, JsonError, read_easily, read_pieces, write_document};
 use std::ascii::escape_default;
 use std::io::{Read, Write};

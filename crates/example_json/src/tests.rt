@@ -4,7 +4,7 @@ use crate::cuts::{cut, places_in};
 use combine_base::error::{Info, UnexpectedParse};
 use combine_base::parser::Answer;
 use combine_base::stream::Kind;
-use combine_errors::easy::Error;
+use combine_error::easy::Error;
 use example_json_core::{
     Document, Node, read_easily, read_pieces, read_slice, read_text, write_document,
 };

@@ -5,7 +5,7 @@ use combine::parser::sequence::skip;
 use combine::parser::token::{satisfy, token, value};
 use combine::parser::{Answer, Parser, Session, SessionError};
 use combine::stream::fed;
-use combine_examples::cuts::{cut, sets_of_places};
+use example_callers::cuts::{cut, sets_of_places};
 use std::alloc::Global;
 use std::io::Write;
 use std::test::Fail;

@@ -9,7 +9,7 @@ use combine::parser::sequence::then;
 use combine::parser::token::any;
 use combine::parser::{Answer, SessionError, parse_pieces};
 use combine::stream::Kind;
-use combine_examples::cuts::{cut, sets_of_places};
+use example_callers::cuts::{cut, sets_of_places};
 use std::alloc::Global;
 use std::test::Fail;
 

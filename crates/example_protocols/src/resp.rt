@@ -10,8 +10,8 @@ use combine::parser::sequence::{skip, then, with};
 use combine::parser::token::{any, satisfy, value};
 use combine::parser::{Answer, Parser, parse_pieces};
 use combine::stream::{Kind, fed};
-use combine_examples::answers::InPieces;
-use combine_examples::cuts::{cut, sets_of_places};
+use example_callers::answers::InPieces;
+use example_callers::cuts::{cut, sets_of_places};
 use std::alloc::Global;
 use std::test::Fail;
 

@@ -7,7 +7,7 @@ ghost use Rattle.example_proved.specs.Attributes.{IsAttribute};
 use crate::settings::is_letter;
 use combine_base::error::UnexpectedParse;
 use combine_base::parser::{Answer, SessionError, parse_pieces};
-use combine_map::combinator::map;
+use combine_combinator::combinator::map;
 use combine_repeat::repeat::{many, many1};
 use combine_sequence::sequence::between;
 use combine_token::token::{satisfy, token};

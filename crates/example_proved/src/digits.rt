@@ -4,7 +4,7 @@ ghost use Rattle.std.specs.Char.{is_ascii_digit};
 
 use combine_base::error::UnexpectedParse;
 use combine_base::parser::Parser;
-use combine_map::combinator::map;
+use combine_combinator::combinator::map;
 use combine_token::token::satisfy;
 
 /// Returns the number that the first byte says, a digit, and what stands behind it.

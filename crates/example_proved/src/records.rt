@@ -4,9 +4,9 @@ ghost use Rattle.example_proved.specs.Records.{IsRecord};
 
 use combine_base::error::UnexpectedParse;
 use combine_base::parser::Parser;
+use combine_combinator::combinator::map;
 use combine_decode::decode::frame;
 use combine_decode::decode::laws::frame_is_a_length_and_its_bytes;
-use combine_map::combinator::map;
 use combine_token::token::any;
 use std::alloc::Global;
 

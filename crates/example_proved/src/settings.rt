@@ -6,7 +6,7 @@ ghost use Rattle.example_proved.specs.Settings.{IsSetting};
 use crate::digits::is_digit;
 use combine_base::error::UnexpectedParse;
 use combine_base::parser::Parser;
-use combine_map::combinator::map;
+use combine_combinator::combinator::map;
 use combine_repeat::repeat::many1;
 use combine_token::token::{satisfy, token};
 use std::alloc::Global;

@@ -8,8 +8,8 @@ use combine::parser::sequence::{skip, with};
 use combine::parser::token::{eof, one_of, satisfy};
 use combine::parser::{Parser, parse_pieces};
 use combine::stream::Stream;
-use combine_examples::answers::InPieces;
-use combine_examples::slices::is_digit;
+use example_callers::answers::InPieces;
+use example_callers::slices::is_digit;
 use std::alloc::Global;
 
 /// A number, or none where one was too large or a divisor was zero.
@@ -120,7 +120,7 @@ mod tests {
     use super::*;
     use crate::places::places_in;
     use combine::parser::Answer;
-    use combine_examples::cuts::cut;
+    use example_callers::cuts::cut;
     use std::alloc::AllocError;
 
     /// An input, and its value, or none where it is refused.

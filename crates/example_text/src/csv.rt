@@ -7,7 +7,7 @@ use combine::parser::parse_pieces;
 use combine::parser::repeat::{many, sep_by1};
 use combine::parser::sequence::{between, skip, with};
 use combine::parser::token::{eof, satisfy, token};
-use combine_examples::answers::InPieces;
+use example_callers::answers::InPieces;
 use std::alloc::Global;
 
 /// Whether a byte may stand in a field without quotes.
@@ -41,7 +41,7 @@ mod tests {
     use super::*;
     use crate::places::places_in;
     use combine::parser::Answer;
-    use combine_examples::cuts::cut;
+    use example_callers::cuts::cut;
     use std::alloc::AllocError;
 
     /// An input, and its fields and how many bytes are taken, or none where it is refused.

@@ -1,6 +1,6 @@
 //! The places at which the tests cut their inputs.
 
-use combine_examples::cuts::sets_of_places;
+use example_callers::cuts::sets_of_places;
 use std::alloc::{AllocError, Global};
 
 /// Behind each byte.

@@ -11,9 +11,9 @@ use Rattle.combine_decode.specs.declared.decode.BatchEnd.{BatchEnd}
 use Rattle.combine_decode.specs.declared.decode.BatchEnd.TheVariants as ends
 use Rattle.combine_token.specs.TokenParsers.{any_parser}
 use Rattle.combine_token.specs.declared.token.types.Any.{Any}
-use Rattle.combine_turns.specs.CountParsers.{count_min_max_of, least_of_count_min_max, most_of_count_min_max}
-use Rattle.combine_turns.specs.Counts.{appended, count_min_max}
-use Rattle.combine_turns.specs.declared.repeat.types.CountMinMax.{CountMinMax}
+use Rattle.combine_repeat_turns.specs.CountParsers.{count_min_max_of, least_of_count_min_max, most_of_count_min_max}
+use Rattle.combine_repeat_turns.specs.Counts.{appended, count_min_max}
+use Rattle.combine_repeat_turns.specs.declared.repeat.types.CountMinMax.{CountMinMax}
 use Rattle.feedline_core.specs.Decoding.{DecodesInput, PrintsMessages}
 use Rattle.feedline_core.specs.Frames.{bytes, frame, length_before}
 use Rattle.feedline_core.specs.Messages.{byte_where, step}

@@ -8,11 +8,11 @@ use Rattle.combine_base.specs.Sequence.Places.{valid_in, valid_1, place_2, place
 use Rattle.combine_base.specs.Sequence.Tuples.{push_1, push_2, push_3, tuple_3, tuple_4, tuple_1_means_one, followed_means_one}
 use Rattle.combine_token.specs.Choice.{Either, refused, refused_is_single, either_is_single}
 use Rattle.combine_token.specs.OneToken.{of_function, of_function_is_predicate, satisfied, satisfied_is_test, takes_one_means_one}
-use Rattle.combine_map.specs.Attempt.{attempted_means_one}
-use Rattle.combine_turns.specs.Counts.{appended}
-use Rattle.combine_turns.specs.CountLaws.{repeated_means_one}
-use Rattle.combine_turns.specs.declared.turns.Bounds.TheVariants.{Joined}
-use Rattle.combine_turns.specs.declared.turns.TurnsState.{TurnsState}
+use Rattle.combine_combinator.specs.Attempt.{attempted_means_one}
+use Rattle.combine_repeat_turns.specs.Counts.{appended}
+use Rattle.combine_repeat_turns.specs.CountLaws.{repeated_means_one}
+use Rattle.combine_repeat_turns.specs.declared.turns.Bounds.TheVariants.{Joined}
+use Rattle.combine_repeat_turns.specs.declared.turns.TurnsState.{TurnsState}
 use Rattle.feedline_core.specs.Messages.{step, byte_where, bytes_where, delete, set, message}
 use Rattle.feedline_core.specs.declared.message.Message.TheVariants.{Set, Delete}
 

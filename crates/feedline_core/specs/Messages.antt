@@ -12,11 +12,11 @@ use Rattle.combine_base.specs.declared.sequence.SequenceState.{SequenceState}
 use Rattle.combine_base.specs.declared.sequence.PartialState3.{PartialState3}
 use Rattle.combine_base.specs.declared.sequence.PartialState4.{PartialState4}
 use Rattle.combine_token.specs.declared.choice.OrState.{OrState}
-use Rattle.combine_map.specs.Attempt.{attempted}
-use Rattle.combine_map.specs.declared.combinator.TryState.{TryState}
+use Rattle.combine_combinator.specs.Attempt.{attempted}
+use Rattle.combine_combinator.specs.declared.combinator.TryState.{TryState}
 use Rattle.combine_repeat.specs.Repetition.{many1}
-use Rattle.combine_turns.specs.Counts.{appended}
-use Rattle.combine_turns.specs.declared.turns.TurnsState.{TurnsState}
+use Rattle.combine_repeat_turns.specs.Counts.{appended}
+use Rattle.combine_repeat_turns.specs.declared.turns.TurnsState.{TurnsState}
 use Rattle.feedline_core.specs.declared.message.Message.{Message}
 use Rattle.feedline_core.specs.declared.message.Message.TheVariants.{Set, Delete}
 

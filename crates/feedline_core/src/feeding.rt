@@ -16,7 +16,7 @@ use crate::pieces::cut;
 use combine_base::error::UnexpectedParse;
 use combine_base::parser::{Answer, Parser, Session, SessionError};
 use combine_base::stream::{Kind, fed};
-use combine_map::combinator::{attempt, map};
+use combine_combinator::combinator::{attempt, map};
 use combine_repeat::repeat::many1;
 use combine_token::choice::or;
 use combine_token::token::{satisfy, token};

@@ -3,6 +3,6 @@
 pub use combine_choice::choice::{
     ChoiceParser, OrState, Slice, SliceState, choice, laws, optional, or, or_is_associative, types,
 };
-pub use combine_variants::variants::{
+pub use combine_choice_dispatch::variants::{
     Dispatch3, Dispatch4, Dispatch5, Dispatch6, Dispatch7, Dispatch8,
 };

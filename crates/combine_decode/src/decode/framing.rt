@@ -3,13 +3,13 @@ ghost use Rattle.std.specs.Prelude.{◌≡◌};
 ghost use Rattle.combine_decode.specs.Frames.{framing_of};
 ghost use Rattle.combine_sequence.specs.Answered.{forget};
 ghost use Rattle.combine_token.specs.TokenParsers.{any_parser};
-ghost use Rattle.combine_turns.specs.CountParsers.{count_min_max_of};
+ghost use Rattle.combine_repeat_turns.specs.CountParsers.{count_min_max_of};
 
+use combine_repeat_turns::repeat::count_min_max;
+use combine_repeat_turns::repeat::types::CountMinMax;
 use combine_sequence::sequence::types::Asked;
 use combine_token::token::any;
 use combine_token::token::types::Any;
-use combine_turns::repeat::count_min_max;
-use combine_turns::repeat::types::CountMinMax;
 use std::alloc::Global;
 use std::marker::PhantomData;
 

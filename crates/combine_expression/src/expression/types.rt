@@ -4,7 +4,7 @@ ghost use Rattle.combine_expression.specs.Parts.{Begins, MakesOutermost, closed_
 
 use super::operands::{Fault, Operands};
 use super::{Fixity, Item, Operator};
-use combine_makers::combinator::types::Makes;
+use combine_combinator_lazy::combinator::types::Makes;
 use combine_nested::nested::asked::{IfElse, Test};
 use combine_nested::nested::types::Nested;
 use combine_nested::nested::{Frame, Next};

@@ -1,7 +1,7 @@
 //! What answers the parser of the next step.
 ghost use Rattle.std.specs.Prelude.{◌≡◌};
 
-use combine_variants::variants::Either;
+use combine_choice_dispatch::variants::Either;
 
 /// What answers the parser of the next step, by the innermost frame.
 pub trait Ask<F> {

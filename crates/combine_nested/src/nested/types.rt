@@ -14,7 +14,7 @@ use combine_base::error::{ErrorOffset, ParseResult, Tracked};
 use combine_base::parser::{FirstMode, Outputs, ParseMode, Parser};
 use combine_base::sequence::take_state;
 use combine_base::stream::Stream;
-use combine_makers::combinator::types::Makes;
+use combine_combinator_lazy::combinator::types::Makes;
 use std::alloc::Global;
 
 /// The parser of [`nested`](crate::nested::nested).

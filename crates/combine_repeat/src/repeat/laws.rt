@@ -1,6 +1,6 @@
 //! What the repetitions mean beside one another. The functions do nothing: their contracts are the laws.
 ghost use Rattle.combine_repeat.specs.Compared.{Many1OrSkip, ManyOrSkip, OnceThenTurns};
-ghost use Rattle.combine_turns.specs.Counts.{appended};
+ghost use Rattle.combine_repeat_turns.specs.Counts.{appended};
 
 use combine_base::parser::Parser;
 use combine_base::repeat::Append;

@@ -1,17 +1,17 @@
 //! The parsers that the functions of this module answer.
 ghost use Rattle.combine_repeat.specs.Built.{repeated_by_many, repeated_by_many1, repeated_by_skip_many, repeated_by_skip_many1};
 ghost use Rattle.combine_repeat.specs.Repetition.{many, many1, skip_many, skip_many1};
-ghost use Rattle.combine_turns.specs.Bounded.{begun_valid, running_turn};
-ghost use Rattle.combine_turns.specs.CountLaws.{repeated_is_meaning, repeated_means_one};
-ghost use Rattle.combine_turns.specs.Counts.{appended, dropped};
+ghost use Rattle.combine_repeat_turns.specs.Bounded.{begun_valid, running_turn};
+ghost use Rattle.combine_repeat_turns.specs.CountLaws.{repeated_is_meaning, repeated_means_one};
+ghost use Rattle.combine_repeat_turns.specs.Counts.{appended, dropped};
 
 use combine_base::error::{ErrorOffset, ParseResult, Tracked};
 use combine_base::parser::{Outputs, ParseMode, Parser};
 use combine_base::repeat::Append;
 use combine_base::stream::Stream;
-use combine_turns::each::{Dropped, Each, Plain};
-use combine_turns::turns::limits::{AnyNumber, JoinedFrom};
-use combine_turns::turns::{Turns, TurnsState, take_turns};
+use combine_repeat_turns::each::{Dropped, Each, Plain};
+use combine_repeat_turns::turns::limits::{AnyNumber, JoinedFrom};
+use combine_repeat_turns::turns::{Turns, TurnsState, take_turns};
 use std::alloc::Global;
 use std::marker::PhantomData;
 
@@ -29,7 +29,7 @@ impl<Input, F: Drop, P> Outputs<Input> for Many<F, P> {
 }
 
 impl<Input: Stream, P: Parser<Input>, F: Append<P::Output>> Parser<Input> for Many<F, P> {
-    ghost use Rattle.combine_turns.specs.declared.turns.Bounds.TheVariants.{Any};
+    ghost use Rattle.combine_repeat_turns.specs.declared.turns.Bounds.TheVariants.{Any};
 
     type PartialState = TurnsState<F, P::PartialState>;
 
@@ -96,7 +96,7 @@ impl<Input, F: Drop, P> Outputs<Input> for Many1<F, P> {
 
 impl<Input: Stream, P: Parser<Input>, F: Append<P::Output>> Parser<Input> for Many1<F, P> {
     ghost use Rattle.std.specs.Prelude.{None};
-    ghost use Rattle.combine_turns.specs.declared.turns.Bounds.TheVariants.{Joined};
+    ghost use Rattle.combine_repeat_turns.specs.declared.turns.Bounds.TheVariants.{Joined};
 
     type PartialState = TurnsState<F, P::PartialState>;
 
@@ -157,7 +157,7 @@ impl<Input, P> Outputs<Input> for SkipMany<P> {
 }
 
 impl<Input: Stream, P: Parser<Input>> Parser<Input> for SkipMany<P> {
-    ghost use Rattle.combine_turns.specs.declared.turns.Bounds.TheVariants.{Any};
+    ghost use Rattle.combine_repeat_turns.specs.declared.turns.Bounds.TheVariants.{Any};
 
     type PartialState = TurnsState<(), P::PartialState>;
 
@@ -212,7 +212,7 @@ impl<Input, P> Outputs<Input> for SkipMany1<P> {
 
 impl<Input: Stream, P: Parser<Input>> Parser<Input> for SkipMany1<P> {
     ghost use Rattle.std.specs.Prelude.{None};
-    ghost use Rattle.combine_turns.specs.declared.turns.Bounds.TheVariants.{Joined};
+    ghost use Rattle.combine_repeat_turns.specs.declared.turns.Bounds.TheVariants.{Joined};
 
     type PartialState = TurnsState<(), P::PartialState>;
 

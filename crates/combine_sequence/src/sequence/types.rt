@@ -4,7 +4,7 @@ pub use super::answered::asked::{Asked, ByMut, ByRef, ByValue, Join};
 pub use super::answered::state::{AnsweredState, Answering};
 pub use super::answered::{Answered, Then, ThenPartial, ThenRef};
 use combine_base::error::ErrorOffset;
-use combine_map::combinator::types::{Pick, Picked};
+use combine_combinator::combinator::types::{Pick, Picked};
 
 /// The first of two values.
 #[derive(Clone, Copy, Drop)]

@@ -1,7 +1,7 @@
 //! The parsers that the functions of `range` answer.
 
-pub use combine_lengths::range::types::{AsLength, LengthPrefix, Taking};
 pub use combine_range::range::types::{
     Range, Recognize, RecognizeWithValue, Take, TakeUntilRange, TakeWhile, TakeWhile1,
 };
-pub use combine_searches::range::types::TakeFn;
+pub use combine_range_length_prefix::range::types::{AsLength, LengthPrefix, Taking};
+pub use combine_range_search::range::types::TakeFn;

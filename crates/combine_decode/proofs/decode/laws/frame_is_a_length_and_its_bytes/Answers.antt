@@ -5,11 +5,11 @@ use Rattle.combine_decode.proofs.Framing.{is_framed}
 use Rattle.combine_decode.proofs.decode.laws.frame_is_a_length_and_its_bytes.Goals as goal
 use Rattle.combine_token.specs.OneToken.{of_function, one_token, satisfied}
 use Rattle.combine_token.specs.TokenParsers.{any_parser}
-use Rattle.combine_turns.specs.Bounded.{bounded, none_yet}
-use Rattle.combine_turns.specs.CountParsers.{count_min_max_of, least_of_count_min_max, most_of_count_min_max}
-use Rattle.combine_turns.specs.Counts.{appended, never}
-use Rattle.combine_turns.specs.Turns.{Turned}
-use Rattle.combine_turns.specs.declared.turns.Bounds.TheVariants.{Counted}
+use Rattle.combine_repeat_turns.specs.Bounded.{bounded, none_yet}
+use Rattle.combine_repeat_turns.specs.CountParsers.{count_min_max_of, least_of_count_min_max, most_of_count_min_max}
+use Rattle.combine_repeat_turns.specs.Counts.{appended, never}
+use Rattle.combine_repeat_turns.specs.Turns.{Turned}
+use Rattle.combine_repeat_turns.specs.declared.turns.Bounds.TheVariants.{Counted}
 
 pub returns : goal.returns
 returns g c v o h =

@@ -1,4 +1,4 @@
-use Rattle.combine_turns.proofs.OneThenTurns.{joined_is_one_then_turns}
+use Rattle.combine_repeat_turns.proofs.OneThenTurns.{joined_is_one_then_turns}
 use Rattle.combine_repeat.proofs.repeat.laws.many1_is_once_then_turns.Goals as goal
 
 pub returns : goal.returns

@@ -1,5 +1,5 @@
-use Rattle.combine_turns.specs.CountLaws.{repeated_means_same}
-use Rattle.combine_turns.specs.declared.turns.Bounds.TheVariants.{Any}
+use Rattle.combine_repeat_turns.specs.CountLaws.{repeated_means_same}
+use Rattle.combine_repeat_turns.specs.declared.turns.Bounds.TheVariants.{Any}
 use Rattle.combine_repeat.proofs.repeat.types.ManyParser.parse_mode.Goals as goal
 
 pub returns-clause-same : goal.returns-clause-same

@@ -1,6 +1,6 @@
 use Rattle.std.specs.Prelude.{None}
-use Rattle.combine_turns.specs.CountLaws.{repeated_means_same}
-use Rattle.combine_turns.specs.declared.turns.Bounds.TheVariants.{Joined}
+use Rattle.combine_repeat_turns.specs.CountLaws.{repeated_means_same}
+use Rattle.combine_repeat_turns.specs.declared.turns.Bounds.TheVariants.{Joined}
 use Rattle.combine_repeat.proofs.repeat.types.SkipMany1Parser.add_error.Goals as goal
 
 pub returns-clause-same : goal.returns-clause-same

@@ -1,0 +1,25 @@
+//! `skip_many` of groups with a `;` behind them, which are `skip_many1` of words, which are `skip_many1` of letters with a `,` behind them.
+ghost use Rattle.bench_measures.specs.Measures.{Measures, many_in_many_in_many, taken};
+
+use crate::classes::Letter;
+use crate::measure::{Taken, measured};
+use diff_calls::{SatisfyCall, SkipMany1Call, SkipManyCall, TokenCall, Tuple2Call};
+use std::alloc::Global;
+
+type Word = Tuple2Call<SkipMany1Call<SatisfyCall<Letter>>, TokenCall<b','>>;
+
+type Group = Tuple2Call<SkipMany1Call<Word>, TokenCall<b';'>>;
+
+type Skipped = SkipManyCall<Group>;
+
+/// Skips groups of words; answers how many bytes it took.
+#[unsafe(no_mangle)]
+pub extern "C" fn combine_bench_many_in_many_in_many(
+    alloc: Global,
+    bytes: &[u8],
+    piece: usize,
+) -> u64
+    ensures { Measures taken many_in_many_in_many bytes.now result }
+{
+    measured::<Skipped, Taken>(alloc, bytes, piece)
+}

@@ -1,4 +1,0 @@
-use Rattle.combine_calls.proofs.repeats.SkipMany1NextVisitor.visit.Goals as goal
-
-pub returns : goal.returns
-returns g c = rw c.skip_many1.ensures at c.visit.ensures

@@ -1,4 +1,0 @@
-use Rattle.combine_calls.proofs.repeats.SkipManyNextVisitor.visit.Goals as goal
-
-pub returns : goal.returns
-returns g c = rw c.skip_many.ensures at c.visit.ensures

@@ -1,9 +1,0 @@
-use Rattle.std.proofs.Common.{length}
-use Rattle.combine_chains.specs.Chains.{all_good, folded_right}
-use Rattle.combine_chains.proofs.operands.Operands.fold.Given as goal
-
-abbrev pub invariant-folding : goal.invariant-folding
-invariant-folding g l = all_good (goal.O-IsAlwaysCallable g) l.before.items × ((r : g.row.V.Denot) → folded_right (λ f x y r. g.O.FnOnce.post f (x, (y, tt)) r) l.before.items l.last r → folded_right (λ f x y r. g.O.FnOnce.post f (x, (y, tt)) r) l.fn.self.before.items l.fn.self.last r)
-
-abbrev pub decreases-folding : goal.decreases-folding
-decreases-folding g l = length l.before.items

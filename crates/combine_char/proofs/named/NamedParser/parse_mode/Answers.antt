@@ -1,0 +1,12 @@
+use Rattle.combine_base.proofs.Same.{answers_alike}
+use Rattle.combine_char.specs.Named.{named_alike, named_means_same}
+use Rattle.combine_char.proofs.named.NamedParser.parse_mode.Goals as goal
+
+pub returns-clause-same : goal.returns-clause-same
+returns-clause-same g c = named_means_same _ _ _ c.parse_mode.ensures.same
+
+pub returns-clause-answers : goal.returns-clause-answers
+returns-clause-answers g c = answers_alike _ _ _ (named_alike _ _) _ _ c.parse_mode.ensures.answers
+
+pub returns-clause-refuses : goal.returns-clause-refuses
+returns-clause-refuses g c = c.parse_mode.ensures.refuses

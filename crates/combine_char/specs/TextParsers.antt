@@ -1,0 +1,53 @@
+-- the parsers of this crate, of their parts
+use Rattle.combine_char.specs.declared.class.types.InClass.{InClass}
+use Rattle.combine_char.specs.declared.byte_list.InBytes.{InBytes}
+use Rattle.combine_char.specs.declared.text.InText.{InText}
+use Rattle.combine_char.specs.declared.fits.By.{By}
+use Rattle.combine_char.specs.declared.fits.Equal.{Equal}
+use Rattle.combine_char.specs.declared.named.Named.{Named}
+use Rattle.combine_char.specs.declared.pair.WholePair.{WholePair}
+
+-- the parser of a token of a class
+abbrev pub in_class_parser : {Input C : Type 0} → InClass Input C
+in_class_parser = record { reads = record {}; class = record {} }
+
+-- a parser under another name
+abbrev pub named_parser : {P N : Type 0} → P → Named P N
+named_parser p = record { parser = p; name = record {} }
+
+abbrev pub parser_named : {P N : Type 0} → Named P N → P
+parser_named p = p.parser
+
+-- a pair that is taken as a whole
+abbrev pub whole_pair_parser : {P : Type 0} → P → WholePair P
+whole_pair_parser p = record { 0 = p }
+
+abbrev pub pair_of : {P : Type 0} → WholePair P → P
+pair_of p = p.0
+
+-- the characters of a text, and how they are compared
+abbrev pub in_text_parser : {Input F S : Type 0} → S → F → InText Input F S
+in_text_parser text fits = record { text = text; fits = fits; reads = record {} }
+
+abbrev pub fits_of_text : {Input F S : Type 0} → InText Input F S → F
+fits_of_text p = p.fits
+
+abbrev pub text_of : {Input F S : Type 0} → InText Input F S → S
+text_of p = p.text
+
+-- the bytes of a list, and how they are compared
+abbrev pub in_bytes_parser : {Input F S : Type 0} → S → F → InBytes Input F S
+in_bytes_parser bytes fits = record { bytes = bytes; fits = fits; reads = record {} }
+
+abbrev pub fits_of_bytes : {Input F S : Type 0} → InBytes Input F S → F
+fits_of_bytes p = p.fits
+
+abbrev pub bytes_of : {Input F S : Type 0} → InBytes Input F S → S
+bytes_of p = p.bytes
+
+-- comparisons: a token equals the item, or a function says that it fits
+abbrev pub equal : Equal
+equal = record {}
+
+abbrev pub by : {C : Type 0} → C → By C
+by cmp = record { 0 = cmp }

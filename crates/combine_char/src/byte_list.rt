@@ -1,0 +1,202 @@
+//! The bytes of a list, matched one by one. Our own, of which `bytes` and `bytes_cmp` are made.
+ghost use Rattle.std.specs.Prelude.{◌≡◌, ◌<◌, ◌^◌, None, length};
+ghost use Rattle.std.specs.Slice.Iter.{iter_rest};
+ghost use Rattle.combine_base.specs.Error.Errors.{Nothing};
+ghost use Rattle.combine_base.specs.Parser.Answer.{Answers, world};
+ghost use Rattle.combine_base.specs.Parser.Reasons.{Reasoned, kept_from};
+ghost use Rattle.combine_base.specs.Stream.Calls.{Passes};
+ghost use Rattle.combine_token.specs.Listed.{listed};
+ghost use Rattle.combine_token.specs.Reasons.{RefusesList, begins_at};
+ghost use Rattle.combine_token.specs.TokenLists.{token_list};
+ghost use Rattle.combine_token.specs.TokenListLaws.{token_list_is_meaning, token_list_means_one};
+ghost use Rattle.combine_token.specs.TokenParsers.{matched_before};
+ghost use Rattle.combine_char.specs.TextParsers.{bytes_of, fits_of_bytes, in_bytes_parser};
+ghost use Rattle.combine_char.specs.Spelled.{SaysRange, listed_compares_once, listed_ends_once};
+
+use crate::fits::Fits;
+use combine_base::error::{ErrorOffset, Info, ParseError, ParseResult, Tracked};
+use combine_base::parser::{Outputs, ParseMode, Parser};
+use combine_base::stream::Stream;
+use combine_token::token::{TokensState, match_list};
+use std::marker::PhantomData;
+use std::slice::Iter;
+
+/// The ranges of a stream of bytes, by which errors show a list of bytes.
+pub trait ShowsBytes: Copy {
+    ghost use Rattle.std.specs.Prelude.{ℕ, List};
+
+    /// Which range may show these bytes.
+    ghost shows: { List ℕ → Self → Type 0 };
+
+    /// Returns a range that shows these bytes.
+    fn of_bytes(bytes: &'static [u8]) -> Self
+        ensures { shows bytes.now result };
+}
+
+impl<'a> ShowsBytes for &'a [u8] {
+    ghost shows = { λ bytes range. range.now ≡ bytes };
+
+    #[inline]
+    fn of_bytes(bytes: &'static [u8]) -> Self {
+        bytes
+    }
+}
+
+/// As the ranges of a fed stream, which show nothing.
+impl ShowsBytes for () {
+    ghost shows = { λ bytes range. Unit {0} };
+
+    #[inline]
+    fn of_bytes(bytes: &'static [u8]) -> Self {}
+}
+
+/// A list of bytes that stays as long as the program runs: `&'static [u8]`.
+///
+/// It is a type of its own to a parser, as a text is by `LastingText`.
+pub trait LastingBytes: Clone + Copy + Drop {
+    ghost use Rattle.std.specs.Prelude.{◌≡◌, ℕ, List};
+
+    /// The bytes.
+    ghost list: { Self → List ℕ };
+
+    /// The bytes.
+    fn bytes(self) -> &'static [u8]
+        ensures { result.now ≡ list self };
+
+    /// A clone is the list itself, and takes no memory.
+    ghost clones: { (s r : Self) → (Self.Clone.is_clone s r → r ≡ s) × (r ≡ s → Self.Clone.is_clone s r) };
+
+    ghost infallible: { (s : Self) → Self.Clone.is_infallible s };
+}
+
+impl LastingBytes for &'static [u8] {
+    ghost list = { λ s. s.now };
+
+    ghost clones = { λ s r. (λ e. e, λ e. e) };
+
+    ghost infallible = { λ s. tt };
+
+    #[inline(always)]
+    fn bytes(self) -> &'static [u8] {
+        self
+    }
+}
+
+/// The parser of the bytes of a list, one after another; its value is the list.
+///
+/// The error of a committed mismatch says which token stands there, at the position where the call began. On need of more nothing is left unread: the state keeps how many bytes were matched.
+#[derive(Drop)]
+pub struct InBytes<Input, F, S = &'static [u8]> {
+    bytes: S,
+    fits: F,
+    reads: PhantomData<Input>,
+}
+
+/// The bytes of a list, each compared with the token at its place.
+#[inline]
+pub fn in_bytes<Input, F, S>(bytes: S, fits: F) -> InBytes<Input, F, S>
+    ensures { result ≡ in_bytes_parser bytes fits }
+{
+    InBytes {
+        bytes,
+        fits,
+        reads: PhantomData,
+    }
+}
+
+impl<Input, F, S: Drop> Outputs<Input> for InBytes<Input, F, S> {
+    type Output = S;
+}
+
+impl<Input: Stream, F: Fits<u8, Input::Token>, S: LastingBytes> Parser<Input>
+    for InBytes<Input, F, S>
+where
+    Input::Range: ShowsBytes,
+{
+    type PartialState = TokensState;
+
+    ghost lawful = { λ p. F.ready (fits_of_bytes p) };
+
+    ghost determined = { λ p. F.determined (fits_of_bytes p) };
+
+    ghost valid = { λ s. Unit {0} };
+
+    ghost meaning = { λ p. token_list (listed (F.compares (fits_of_bytes p)) (S.list (bytes_of p))) (λ v. v ≡ bytes_of p) matched_before (Unit {0}) (SaysRange (Input.Range.shows (S.list (bytes_of p)))) };
+
+    ghost refuses = { λ p k. RefusesList Input.Error.seen (listed (F.compares (fits_of_bytes p)) (S.list (bytes_of p))) None (begins_at matched_before k) };
+
+    ghost parts = { λ p. 1 };
+
+    #[inline(always)]
+    fn parse_mode<M: ParseMode>(
+        &mut self,
+        mode: M,
+        input: &mut Input,
+        state: &mut TokensState,
+    ) -> ParseResult<S, Input::Error> {
+        match_bytes(self.bytes, &self.fits, mode, input, state)
+    }
+
+    /// Adds the list as a range, as what was expected.
+    #[inline]
+    fn add_error(&mut self, error: &mut Tracked<Input::Error>) {
+        let range = Input::Range::of_bytes(self.bytes.bytes());
+        error.error.add_expected(&Info::Range(range));
+    }
+
+    #[inline]
+    fn parser_count(&self) -> ErrorOffset {
+        ErrorOffset(1)
+    }
+
+    ghost default_valid = { λ s d. tt };
+
+    ghost laws = { λ p l. token_list_is_meaning _ _ _ _ _ _ _ (λ s d. d) };
+
+    ghost single = { λ p l d. token_list_means_one (λ _. Unit {0}) _ _ _ _ _ _ (listed_ends_once _ _) (listed_compares_once _ _ (F.once (fits_of_bytes p) d)) };
+}
+
+/// One call of a parser of the bytes of a list.
+#[inline(always)]
+fn match_bytes<F, S: LastingBytes, Input: Stream, M: ParseMode>(
+    bytes: S,
+    fits: &F,
+    mode: M,
+    input: &mut Input,
+    state: &mut TokensState,
+) -> ParseResult<S, Input::Error>
+where
+    F: Fits<u8, Input::Token>,
+    requires { F.ready fits.now }
+    ensures passes { Passes (Input.marks input.old) (Input.marks input.new) (Input.failures input.old) (Input.failures input.new) }
+    ensures answers { Answers (world Input.step Input.Error.seen Input.steady (λ s. matched_before s ≡ 0))
+        (token_list (listed (F.compares fits.now) (S.list bytes)) (λ v. v ≡ bytes) matched_before (Unit {0}) (Nothing {R = Input.Range}))
+        (record { first = M.first mode; state = state.old; left = state.new; old = Input.view input.old; new = Input.view input.new; before = Input.failures input.old; after = Input.failures input.new })
+        result }
+    ensures refuses { Reasoned Input.Error.seen.kind (Input.view input.new).is_open
+        (RefusesList Input.Error.seen (listed (F.compares fits.now) (S.list bytes)) None (begins_at matched_before (kept_from (M.first mode) state.old)) (Input.view input.old))
+        result }
+{
+    let items = listed_items(bytes);
+    match_list(
+        &|item: &u8, token: Input::Token| -> bool
+            requires { F.ready fits.now }
+            ensures { F.compares fits.entry.now item.now token result }
+        { fits.fits(*item, token) },
+        &items,
+        &bytes,
+        None,
+        mode,
+        input,
+        state,
+    )
+}
+
+/// An iterator of the bytes of a list, which are fewer than 2^64.
+#[inline(always)]
+fn listed_items<S: LastingBytes>(bytes: S) -> Iter<'static, u8>
+    ensures rest { iter_rest result ≡ S.list bytes }
+    ensures few { length (S.list bytes) < 2 ^ 64 }
+{
+    bytes.bytes().iter()
+}

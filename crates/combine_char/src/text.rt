@@ -1,0 +1,176 @@
+//! The characters of a text, matched one by one. Our own, of which `string` and `string_cmp` are made.
+ghost use Rattle.std.specs.Prelude.{◌≡◌, ◌<◌, ◌^◌, None, length};
+ghost use Rattle.std.specs.Str.{IsUtf8, chars};
+ghost use Rattle.std.specs.Str.Iter.{chars_rest};
+ghost use Rattle.combine_base.specs.Error.Errors.{Nothing, Only};
+ghost use Rattle.combine_base.specs.Error.Items.{Expected, Fixed};
+ghost use Rattle.combine_base.specs.Parser.Answer.{Answers, world};
+ghost use Rattle.combine_base.specs.Parser.Reasons.{Reasoned, kept_from};
+ghost use Rattle.combine_base.specs.Stream.Calls.{Passes};
+ghost use Rattle.combine_token.specs.Listed.{listed};
+ghost use Rattle.combine_token.specs.Reasons.{RefusesList, begins_at};
+ghost use Rattle.combine_token.specs.TokenLists.{token_list};
+ghost use Rattle.combine_token.specs.TokenListLaws.{token_list_is_meaning, token_list_means_one};
+ghost use Rattle.combine_token.specs.TokenParsers.{matched_before};
+ghost use Rattle.combine_char.specs.TextParsers.{fits_of_text, in_text_parser, text_of};
+ghost use Rattle.combine_char.specs.Spelled.{listed_compares_once, listed_ends_once};
+
+use crate::fits::Fits;
+use combine_base::error::{ErrorOffset, Info, ParseError, ParseResult, Tracked};
+use combine_base::parser::{Outputs, ParseMode, Parser};
+use combine_base::stream::Stream;
+use combine_token::token::{TokensState, match_list};
+use std::marker::PhantomData;
+use std::str::Chars;
+
+/// A text that stays as long as the program runs: `&'static str`.
+///
+/// It is a type of its own to a parser, and not `&'static str` by name: the borrow checker covers no call whose signature names `'static` where a type argument, as a stream that counts positions, names several lifetimes.
+pub trait LastingText: Clone + Copy + Drop {
+    ghost use Rattle.std.specs.Prelude.{◌≡◌, ℕ, List};
+    ghost use Rattle.std.specs.Str.{IsUtf8};
+
+    /// Its bytes.
+    ghost bytes: { Self → List ℕ };
+
+    /// The text.
+    fn text(self) -> &'static str
+        ensures bytes { result.now ≡ bytes self }
+        ensures valid { IsUtf8 (bytes self) };
+
+    /// A clone is the text itself, and takes no memory.
+    ghost clones: { (s r : Self) → (Self.Clone.is_clone s r → r ≡ s) × (r ≡ s → Self.Clone.is_clone s r) };
+
+    ghost infallible: { (s : Self) → Self.Clone.is_infallible s };
+}
+
+impl LastingText for &'static str {
+    ghost bytes = { λ s. s.now };
+
+    ghost clones = { λ s r. (λ e. e, λ e. e) };
+
+    ghost infallible = { λ s. tt };
+
+    #[inline(always)]
+    fn text(self) -> &'static str {
+        self
+    }
+}
+
+/// The parser of the characters of a text, one after another; its value is the text.
+///
+/// The error of a committed mismatch says which token stands there, at the position where the call began. On need of more nothing is left unread: the state keeps how many characters were matched.
+#[derive(Drop)]
+pub struct InText<Input, F, S = &'static str> {
+    text: S,
+    fits: F,
+    reads: PhantomData<Input>,
+}
+
+/// The characters of a text, each compared with the token at its place.
+#[inline]
+pub fn in_text<Input, F, S>(text: S, fits: F) -> InText<Input, F, S>
+    ensures { result ≡ in_text_parser text fits }
+{
+    InText {
+        text,
+        fits,
+        reads: PhantomData,
+    }
+}
+
+impl<Input, F, S: Drop> Outputs<Input> for InText<Input, F, S> {
+    type Output = S;
+}
+
+impl<Input: Stream, F: Fits<char, Input::Token>, S: LastingText> Parser<Input>
+    for InText<Input, F, S> {
+    type PartialState = TokensState;
+
+    ghost lawful = { λ p. F.ready (fits_of_text p) };
+
+    ghost determined = { λ p. F.determined (fits_of_text p) };
+
+    ghost valid = { λ s. Unit {0} };
+
+    ghost meaning = { λ p. token_list (listed (F.compares (fits_of_text p)) (chars (S.bytes (text_of p)))) (λ v. v ≡ text_of p) matched_before (Unit {0}) (Only (Expected (Fixed (S.bytes (text_of p))))) };
+
+    ghost refuses = { λ p k. RefusesList Input.Error.seen (listed (F.compares (fits_of_text p)) (chars (S.bytes (text_of p)))) None (begins_at matched_before k) };
+
+    ghost parts = { λ p. 1 };
+
+    #[inline(always)]
+    fn parse_mode<M: ParseMode>(
+        &mut self,
+        mode: M,
+        input: &mut Input,
+        state: &mut TokensState,
+    ) -> ParseResult<S, Input::Error> {
+        match_text(self.text, &self.fits, mode, input, state)
+    }
+
+    /// Adds the text, as what was expected.
+    #[inline]
+    fn add_error(&mut self, error: &mut Tracked<Input::Error>) {
+        error.error.add_expected(&Info::Static(self.text.text()));
+    }
+
+    #[inline]
+    fn parser_count(&self) -> ErrorOffset {
+        ErrorOffset(1)
+    }
+
+    ghost default_valid = { λ s d. tt };
+
+    ghost laws = { λ p l. token_list_is_meaning _ _ _ _ _ _ _ (λ s d. d) };
+
+    ghost single = { λ p l d. token_list_means_one (λ _. Unit {0}) _ _ _ _ _ _ (listed_ends_once _ _) (listed_compares_once _ _ (F.once (fits_of_text p) d)) };
+}
+
+/// One call of a parser of the characters of a text.
+#[inline(always)]
+fn match_text<F, S: LastingText, Input: Stream, M: ParseMode>(
+    text: S,
+    fits: &F,
+    mode: M,
+    input: &mut Input,
+    state: &mut TokensState,
+) -> ParseResult<S, Input::Error>
+where
+    F: Fits<char, Input::Token>,
+    requires { F.ready fits.now }
+    ensures passes { Passes (Input.marks input.old) (Input.marks input.new) (Input.failures input.old) (Input.failures input.new) }
+    ensures answers { Answers (world Input.step Input.Error.seen Input.steady (λ s. matched_before s ≡ 0))
+        (token_list (listed (F.compares fits.now) (chars (S.bytes text))) (λ v. v ≡ text) matched_before (Unit {0}) (Nothing {R = Input.Range}))
+        (record { first = M.first mode; state = state.old; left = state.new; old = Input.view input.old; new = Input.view input.new; before = Input.failures input.old; after = Input.failures input.new })
+        result }
+    ensures refuses { Reasoned Input.Error.seen.kind (Input.view input.new).is_open
+        (RefusesList Input.Error.seen (listed (F.compares fits.now) (chars (S.bytes text))) None (begins_at matched_before (kept_from (M.first mode) state.old)) (Input.view input.old))
+        result }
+{
+    let items = characters(text);
+    match_list(
+        &|item: char, token: Input::Token| -> bool
+            requires { F.ready fits.now }
+            ensures { F.compares fits.entry.now item token result }
+        { fits.fits(item, token) },
+        &items,
+        &text,
+        None,
+        mode,
+        input,
+        state,
+    )
+}
+
+/// The characters of a text, which are fewer than 2^64.
+#[inline(always)]
+fn characters<S: LastingText>(text: S) -> Chars<'static>
+    ensures rest { chars_rest result ≡ S.bytes text }
+    ensures valid { IsUtf8 (S.bytes text) }
+    ensures few { length (S.bytes text) < 2 ^ 64 }
+{
+    let text = text.text();
+    let _bytes = text.len();
+    text.chars()
+}

@@ -1,0 +1,82 @@
+-- a parser that a variant holds answers for it
+use Rattle.std.proofs.Common.{◌≡◌, inl, inr, Bool, true, false, arith, subst, refl}
+use Rattle.std.specs.Prelude.{Option, Some, None}
+use Rattle.combine_base.specs.Stream.View.{View}
+use Rattle.combine_base.specs.Parser.Outcome.{Outcome}
+use Rattle.combine_base.specs.Error.Errors.{Errors}
+use Rattle.combine_base.specs.Parser.Meaning.{Meaning, IsMeaning, begun}
+use Rattle.combine_base.specs.Parser.Answer.{Run, World, Answers, world}
+use Rattle.combine_base.specs.declared.stream.Kind.{Kind}
+use Rattle.combine_base.specs.declared.stream.Failures.{Failures}
+use Rattle.combine_base.specs.declared.error.ParseResult.{ParseResult}
+use Rattle.combine_base.specs.declared.error.ParseResult.TheVariants.{CommitOk, PeekOk, CommitErr, PeekErr}
+use Rattle.combine_base.proofs.Starting.{need_or_not}
+use Rattle.combine_base.proofs.Reasoning.{reasons_into}
+use Rattle.combine_base.specs.Parser.Reasons.{Reasoned, kept_from}
+use Rattle.combine_token.specs.Choice.{refused, last_is, firm_or}
+use Rattle.combine_token.proofs.Choosing.{Tries, tries_asks, tries_fails, tries_commit_ok, tries_peek_ok, tries_peeks}
+use Rattle.combine_choice_dispatch.specs.Held.{Holds, Started, started, held, held_from, held_refuses, held_rest, held_lost}
+
+-- the state that it begins from is one that it may be given
+pub started_valid : {S : Type 0} (fresh valid : S → Type 0) → ((s : S) → fresh s → valid s) → (o : Option S) (s : S) → Holds valid o → started fresh o s → valid s
+started_valid fresh valid d None s h b = d s b
+started_valid fresh valid d (Some t) s h b = rw b h
+
+module _ {P T R V S S' E : Type 0} (step : P → T → P) (errors : Errors T R P E) (steady : Type 0) {fresh valid : S → Type 0} (fresh' : S' → Type 0) (pick : S' → Option S) {m : Meaning P T R V S} (h : IsMeaning fresh valid m) (first : Bool) (given : S') (s : S) (from : Started fresh (pick given) s) (old : View P T) (before : Failures) where
+  abbrev w : World P T S E
+  w = world step errors steady fresh
+
+  rest_of : (o : Option S) → started fresh o s → (v : View P T) (a : Outcome V) → m.rest s v a → held_rest pick m o v a
+  rest_of None d v a i = (h.start s v a d).0 i
+  rest_of (Some t) e v a i = subst (λ q. m.rest q v a) e i
+
+  lost_of : (o : Option S) → started fresh o s → m.lost s old → held_lost pick m o old
+  lost_of None d i = h.found s old d i
+  lost_of (Some t) e i = subst (λ q. m.lost q old) e i
+
+  begins : (b : Bool) (v : View P T) (a : Outcome V) → begun m b s v a → begun (held pick m) b given v a
+  begins true v a i = i
+  begins false v a i = rest_of (pick given) from.is v a i
+
+  held_tries : Tries w fresh' m refused (held pick m) first s old before first given old before
+  held_tries = record {
+    same = refl;
+    gives = λ x b o j i. begins first _ o (last_is (begun m first s) _ o i);
+    failures = λ s. refl;
+    reads = omega arith;
+    resets = omega arith;
+    keeps = λ k. k;
+    puts_back = λ k. k;
+    lean = λ k. k;
+    lost = λ e i. (e, lost_of (pick given) from.is i);
+  }
+
+  module _ (left : S) (kept : S') (is : pick kept ≡ Some left) (leaves : fresh left → fresh' kept) (new : View P T) (after : Failures) where
+    abbrev inside : Run P T S
+    inside = record { first = first; state = s; left = left; old = old; new = new; before = before; after = after }
+
+    abbrev outside : Run P T S'
+    outside = record { first = first; state = given; left = kept; old = old; new = new; before = before; after = after }
+
+    pub held_answers : (answer : ParseResult V E) → Answers w m inside answer → Answers (world step errors steady fresh') (held pick m) outside answer
+    held_answers (CommitOk v) p = let y = p.is in tries_commit_ok w fresh' m refused (held pick m) inside outside held_tries refl refl v (leaves y.state) p
+    held_answers (PeekOk v) p = let y = p.is in tries_peek_ok w fresh' m refused (held pick m) inside outside held_tries refl refl v (leaves y.state) p
+    held_answers (CommitErr e) p =
+        elim (need_or_not (errors.kind e) new.is_open) [
+          | inl i ↦ tries_asks w fresh' m refused (held pick m) inside outside held_tries refl refl e i p (λ v o j. firm_or (m.rest left) v o (subst (λ q. held_rest pick m q v o) is j)) (λ v j. subst (λ q. held_lost pick m q v) is j)
+          | inr i ↦ tries_fails w fresh' m refused (held pick m) inside outside held_tries refl refl e i p (λ y. leaves y.state)
+        ]
+    held_answers (PeekErr e) p = tries_peeks w fresh' m refused (held pick m) inside outside held_tries refl refl e (λ v. refl) p (λ y. leaves y.state)
+
+-- the error of its refusal is the one inside
+module _ {P T S S' E : Type 0} (pick : S' → Option S) (fresh : S → Type 0) (refuses : Option S → View P T → Bool → E → Type 0) where
+  inside_says : (s : S) (v : View P T) (o : Option S) → started fresh o s → (c : Bool) (e : E) → refuses (Some s) v c e → held_from pick fresh refuses o v c e
+  inside_says s v None d c e p = (s, d, p)
+  inside_says s v (Some t) d c e p = subst (λ q. refuses (Some q) v c e) d p
+
+  said_inside : (first : Bool) (given : S') (s : S) → Started fresh (pick given) s → (v : View P T) (c : Bool) (e : E) → refuses (kept_from first s) v c e → held_refuses pick fresh refuses (kept_from first given) v c e
+  said_inside true given s from v c e p = p
+  said_inside false given s from v c e p = inside_says s v (pick given) from.is c e p
+
+  pub held_reasons : (first : Bool) (given : S') (s : S) → Started fresh (pick given) s → (v : View P T) → {V : Type 0} (kind : E → Kind) (is_open : Bool) (result : ParseResult V E) → Reasoned kind is_open (refuses (kept_from first s) v) result → Reasoned kind is_open (held_refuses pick fresh refuses (kept_from first given) v) result
+  held_reasons first given s from v kind is_open result h = reasons_into kind is_open (refuses (kept_from first s) v) (held_refuses pick fresh refuses (kept_from first given) v) result (said_inside first given s from v) h

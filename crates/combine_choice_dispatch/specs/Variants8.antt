@@ -1,0 +1,235 @@
+-- a parser that is one of eight: it means the one that it holds
+use Rattle.std.specs.Prelude.{Bool, Option, Some, None}
+use Rattle.combine_base.specs.Stream.View.{View}
+use Rattle.combine_base.specs.Parser.Meaning.{Meaning, IsMeaning, MeansOne}
+use Rattle.combine_choice_dispatch.specs.Held.{Holds, held, held_is_meaning, held_means_one, held_refuses}
+use Rattle.combine_choice_dispatch.specs.declared.variants.dispatch8.Dispatch8.{Dispatch8}
+use Rattle.combine_choice_dispatch.specs.declared.variants.dispatch8.Dispatch8.TheVariants.{A, B, C, D, E, F, G, H}
+
+module _ {S0 S1 S2 S3 S4 S5 S6 S7 : Type 0} where
+  abbrev pub pick_a : Dispatch8 S0 S1 S2 S3 S4 S5 S6 S7 → Option S0
+  pick_a (A s) = Some s
+  pick_a (B s) = None
+  pick_a (C s) = None
+  pick_a (D s) = None
+  pick_a (E s) = None
+  pick_a (F s) = None
+  pick_a (G s) = None
+  pick_a (H s) = None
+
+  abbrev pub pick_b : Dispatch8 S0 S1 S2 S3 S4 S5 S6 S7 → Option S1
+  pick_b (A s) = None
+  pick_b (B s) = Some s
+  pick_b (C s) = None
+  pick_b (D s) = None
+  pick_b (E s) = None
+  pick_b (F s) = None
+  pick_b (G s) = None
+  pick_b (H s) = None
+
+  abbrev pub pick_c : Dispatch8 S0 S1 S2 S3 S4 S5 S6 S7 → Option S2
+  pick_c (A s) = None
+  pick_c (B s) = None
+  pick_c (C s) = Some s
+  pick_c (D s) = None
+  pick_c (E s) = None
+  pick_c (F s) = None
+  pick_c (G s) = None
+  pick_c (H s) = None
+
+  abbrev pub pick_d : Dispatch8 S0 S1 S2 S3 S4 S5 S6 S7 → Option S3
+  pick_d (A s) = None
+  pick_d (B s) = None
+  pick_d (C s) = None
+  pick_d (D s) = Some s
+  pick_d (E s) = None
+  pick_d (F s) = None
+  pick_d (G s) = None
+  pick_d (H s) = None
+
+  abbrev pub pick_e : Dispatch8 S0 S1 S2 S3 S4 S5 S6 S7 → Option S4
+  pick_e (A s) = None
+  pick_e (B s) = None
+  pick_e (C s) = None
+  pick_e (D s) = None
+  pick_e (E s) = Some s
+  pick_e (F s) = None
+  pick_e (G s) = None
+  pick_e (H s) = None
+
+  abbrev pub pick_f : Dispatch8 S0 S1 S2 S3 S4 S5 S6 S7 → Option S5
+  pick_f (A s) = None
+  pick_f (B s) = None
+  pick_f (C s) = None
+  pick_f (D s) = None
+  pick_f (E s) = None
+  pick_f (F s) = Some s
+  pick_f (G s) = None
+  pick_f (H s) = None
+
+  abbrev pub pick_g : Dispatch8 S0 S1 S2 S3 S4 S5 S6 S7 → Option S6
+  pick_g (A s) = None
+  pick_g (B s) = None
+  pick_g (C s) = None
+  pick_g (D s) = None
+  pick_g (E s) = None
+  pick_g (F s) = None
+  pick_g (G s) = Some s
+  pick_g (H s) = None
+
+  abbrev pub pick_h : Dispatch8 S0 S1 S2 S3 S4 S5 S6 S7 → Option S7
+  pick_h (A s) = None
+  pick_h (B s) = None
+  pick_h (C s) = None
+  pick_h (D s) = None
+  pick_h (E s) = None
+  pick_h (F s) = None
+  pick_h (G s) = None
+  pick_h (H s) = Some s
+
+  -- what holds of the value that it holds
+  abbrev pub each_8 : (S0 → Type 0) → (S1 → Type 0) → (S2 → Type 0) → (S3 → Type 0) → (S4 → Type 0) → (S5 → Type 0) → (S6 → Type 0) → (S7 → Type 0) → Dispatch8 S0 S1 S2 S3 S4 S5 S6 S7 → Type 0
+  each_8 f0 f1 f2 f3 f4 f5 f6 f7 (A s) = f0 s
+  each_8 f0 f1 f2 f3 f4 f5 f6 f7 (B s) = f1 s
+  each_8 f0 f1 f2 f3 f4 f5 f6 f7 (C s) = f2 s
+  each_8 f0 f1 f2 f3 f4 f5 f6 f7 (D s) = f3 s
+  each_8 f0 f1 f2 f3 f4 f5 f6 f7 (E s) = f4 s
+  each_8 f0 f1 f2 f3 f4 f5 f6 f7 (F s) = f5 s
+  each_8 f0 f1 f2 f3 f4 f5 f6 f7 (G s) = f6 s
+  each_8 f0 f1 f2 f3 f4 f5 f6 f7 (H s) = f7 s
+
+  module _ (f0 : S0 → Type 0) (f1 : S1 → Type 0) (f2 : S2 → Type 0) (f3 : S3 → Type 0) (f4 : S4 → Type 0) (f5 : S5 → Type 0) (f6 : S6 → Type 0) (f7 : S7 → Type 0) where
+    pub each_8_a : (s : Dispatch8 S0 S1 S2 S3 S4 S5 S6 S7) → each_8 f0 f1 f2 f3 f4 f5 f6 f7 s → Holds f0 (pick_a s)
+    each_8_a (A s) h = h
+    each_8_a (B s) h = tt
+    each_8_a (C s) h = tt
+    each_8_a (D s) h = tt
+    each_8_a (E s) h = tt
+    each_8_a (F s) h = tt
+    each_8_a (G s) h = tt
+    each_8_a (H s) h = tt
+
+    each_8_b : (s : Dispatch8 S0 S1 S2 S3 S4 S5 S6 S7) → each_8 f0 f1 f2 f3 f4 f5 f6 f7 s → Holds f1 (pick_b s)
+    each_8_b (A s) h = tt
+    each_8_b (B s) h = h
+    each_8_b (C s) h = tt
+    each_8_b (D s) h = tt
+    each_8_b (E s) h = tt
+    each_8_b (F s) h = tt
+    each_8_b (G s) h = tt
+    each_8_b (H s) h = tt
+
+    each_8_c : (s : Dispatch8 S0 S1 S2 S3 S4 S5 S6 S7) → each_8 f0 f1 f2 f3 f4 f5 f6 f7 s → Holds f2 (pick_c s)
+    each_8_c (A s) h = tt
+    each_8_c (B s) h = tt
+    each_8_c (C s) h = h
+    each_8_c (D s) h = tt
+    each_8_c (E s) h = tt
+    each_8_c (F s) h = tt
+    each_8_c (G s) h = tt
+    each_8_c (H s) h = tt
+
+    each_8_d : (s : Dispatch8 S0 S1 S2 S3 S4 S5 S6 S7) → each_8 f0 f1 f2 f3 f4 f5 f6 f7 s → Holds f3 (pick_d s)
+    each_8_d (A s) h = tt
+    each_8_d (B s) h = tt
+    each_8_d (C s) h = tt
+    each_8_d (D s) h = h
+    each_8_d (E s) h = tt
+    each_8_d (F s) h = tt
+    each_8_d (G s) h = tt
+    each_8_d (H s) h = tt
+
+    each_8_e : (s : Dispatch8 S0 S1 S2 S3 S4 S5 S6 S7) → each_8 f0 f1 f2 f3 f4 f5 f6 f7 s → Holds f4 (pick_e s)
+    each_8_e (A s) h = tt
+    each_8_e (B s) h = tt
+    each_8_e (C s) h = tt
+    each_8_e (D s) h = tt
+    each_8_e (E s) h = h
+    each_8_e (F s) h = tt
+    each_8_e (G s) h = tt
+    each_8_e (H s) h = tt
+
+    each_8_f : (s : Dispatch8 S0 S1 S2 S3 S4 S5 S6 S7) → each_8 f0 f1 f2 f3 f4 f5 f6 f7 s → Holds f5 (pick_f s)
+    each_8_f (A s) h = tt
+    each_8_f (B s) h = tt
+    each_8_f (C s) h = tt
+    each_8_f (D s) h = tt
+    each_8_f (E s) h = tt
+    each_8_f (F s) h = h
+    each_8_f (G s) h = tt
+    each_8_f (H s) h = tt
+
+    each_8_g : (s : Dispatch8 S0 S1 S2 S3 S4 S5 S6 S7) → each_8 f0 f1 f2 f3 f4 f5 f6 f7 s → Holds f6 (pick_g s)
+    each_8_g (A s) h = tt
+    each_8_g (B s) h = tt
+    each_8_g (C s) h = tt
+    each_8_g (D s) h = tt
+    each_8_g (E s) h = tt
+    each_8_g (F s) h = tt
+    each_8_g (G s) h = h
+    each_8_g (H s) h = tt
+
+    each_8_h : (s : Dispatch8 S0 S1 S2 S3 S4 S5 S6 S7) → each_8 f0 f1 f2 f3 f4 f5 f6 f7 s → Holds f7 (pick_h s)
+    each_8_h (A s) h = tt
+    each_8_h (B s) h = tt
+    each_8_h (C s) h = tt
+    each_8_h (D s) h = tt
+    each_8_h (E s) h = tt
+    each_8_h (F s) h = tt
+    each_8_h (G s) h = tt
+    each_8_h (H s) h = h
+
+module _ {P T R V X0 X1 X2 X3 X4 X5 X6 X7 S0 S1 S2 S3 S4 S5 S6 S7 : Type 0} (m0 : X0 → Meaning P T R V S0) (m1 : X1 → Meaning P T R V S1) (m2 : X2 → Meaning P T R V S2) (m3 : X3 → Meaning P T R V S3) (m4 : X4 → Meaning P T R V S4) (m5 : X5 → Meaning P T R V S5) (m6 : X6 → Meaning P T R V S6) (m7 : X7 → Meaning P T R V S7) where
+  abbrev pub variant_8 : Dispatch8 X0 X1 X2 X3 X4 X5 X6 X7 → Meaning P T R V (Dispatch8 S0 S1 S2 S3 S4 S5 S6 S7)
+  variant_8 (A x) = held pick_a (m0 x)
+  variant_8 (B x) = held pick_b (m1 x)
+  variant_8 (C x) = held pick_c (m2 x)
+  variant_8 (D x) = held pick_d (m3 x)
+  variant_8 (E x) = held pick_e (m4 x)
+  variant_8 (F x) = held pick_f (m5 x)
+  variant_8 (G x) = held pick_g (m6 x)
+  variant_8 (H x) = held pick_h (m7 x)
+
+  module _ (f0 g0 : S0 → Type 0) (f1 g1 : S1 → Type 0) (f2 g2 : S2 → Type 0) (f3 g3 : S3 → Type 0) (f4 g4 : S4 → Type 0) (f5 g5 : S5 → Type 0) (f6 g6 : S6 → Type 0) (f7 g7 : S7 → Type 0) (l0 : X0 → Type 0) (l1 : X1 → Type 0) (l2 : X2 → Type 0) (l3 : X3 → Type 0) (l4 : X4 → Type 0) (l5 : X5 → Type 0) (l6 : X6 → Type 0) (l7 : X7 → Type 0) where
+    pub variant_8_is_meaning : ((x : X0) → l0 x → IsMeaning f0 g0 (m0 x)) → ((x : X1) → l1 x → IsMeaning f1 g1 (m1 x)) → ((x : X2) → l2 x → IsMeaning f2 g2 (m2 x)) → ((x : X3) → l3 x → IsMeaning f3 g3 (m3 x)) → ((x : X4) → l4 x → IsMeaning f4 g4 (m4 x)) → ((x : X5) → l5 x → IsMeaning f5 g5 (m5 x)) → ((x : X6) → l6 x → IsMeaning f6 g6 (m6 x)) → ((x : X7) → l7 x → IsMeaning f7 g7 (m7 x)) → (p : Dispatch8 X0 X1 X2 X3 X4 X5 X6 X7) → each_8 l0 l1 l2 l3 l4 l5 l6 l7 p → IsMeaning (each_8 f0 f1 f2 f3 f4 f5 f6 f7) (each_8 g0 g1 g2 g3 g4 g5 g6 g7) (variant_8 p)
+    variant_8_is_meaning h0 h1 h2 h3 h4 h5 h6 h7 (A x) l = held_is_meaning pick_a f0 g0 (each_8 f0 f1 f2 f3 f4 f5 f6 f7) (each_8 g0 g1 g2 g3 g4 g5 g6 g7) (each_8_a f0 f1 f2 f3 f4 f5 f6 f7) (each_8_a g0 g1 g2 g3 g4 g5 g6 g7) (m0 x) (h0 x l)
+    variant_8_is_meaning h0 h1 h2 h3 h4 h5 h6 h7 (B x) l = held_is_meaning pick_b f1 g1 (each_8 f0 f1 f2 f3 f4 f5 f6 f7) (each_8 g0 g1 g2 g3 g4 g5 g6 g7) (each_8_b f0 f1 f2 f3 f4 f5 f6 f7) (each_8_b g0 g1 g2 g3 g4 g5 g6 g7) (m1 x) (h1 x l)
+    variant_8_is_meaning h0 h1 h2 h3 h4 h5 h6 h7 (C x) l = held_is_meaning pick_c f2 g2 (each_8 f0 f1 f2 f3 f4 f5 f6 f7) (each_8 g0 g1 g2 g3 g4 g5 g6 g7) (each_8_c f0 f1 f2 f3 f4 f5 f6 f7) (each_8_c g0 g1 g2 g3 g4 g5 g6 g7) (m2 x) (h2 x l)
+    variant_8_is_meaning h0 h1 h2 h3 h4 h5 h6 h7 (D x) l = held_is_meaning pick_d f3 g3 (each_8 f0 f1 f2 f3 f4 f5 f6 f7) (each_8 g0 g1 g2 g3 g4 g5 g6 g7) (each_8_d f0 f1 f2 f3 f4 f5 f6 f7) (each_8_d g0 g1 g2 g3 g4 g5 g6 g7) (m3 x) (h3 x l)
+    variant_8_is_meaning h0 h1 h2 h3 h4 h5 h6 h7 (E x) l = held_is_meaning pick_e f4 g4 (each_8 f0 f1 f2 f3 f4 f5 f6 f7) (each_8 g0 g1 g2 g3 g4 g5 g6 g7) (each_8_e f0 f1 f2 f3 f4 f5 f6 f7) (each_8_e g0 g1 g2 g3 g4 g5 g6 g7) (m4 x) (h4 x l)
+    variant_8_is_meaning h0 h1 h2 h3 h4 h5 h6 h7 (F x) l = held_is_meaning pick_f f5 g5 (each_8 f0 f1 f2 f3 f4 f5 f6 f7) (each_8 g0 g1 g2 g3 g4 g5 g6 g7) (each_8_f f0 f1 f2 f3 f4 f5 f6 f7) (each_8_f g0 g1 g2 g3 g4 g5 g6 g7) (m5 x) (h5 x l)
+    variant_8_is_meaning h0 h1 h2 h3 h4 h5 h6 h7 (G x) l = held_is_meaning pick_g f6 g6 (each_8 f0 f1 f2 f3 f4 f5 f6 f7) (each_8 g0 g1 g2 g3 g4 g5 g6 g7) (each_8_g f0 f1 f2 f3 f4 f5 f6 f7) (each_8_g g0 g1 g2 g3 g4 g5 g6 g7) (m6 x) (h6 x l)
+    variant_8_is_meaning h0 h1 h2 h3 h4 h5 h6 h7 (H x) l = held_is_meaning pick_h f7 g7 (each_8 f0 f1 f2 f3 f4 f5 f6 f7) (each_8 g0 g1 g2 g3 g4 g5 g6 g7) (each_8_h f0 f1 f2 f3 f4 f5 f6 f7) (each_8_h g0 g1 g2 g3 g4 g5 g6 g7) (m7 x) (h7 x l)
+
+    pub variant_8_means_one : (d0 : X0 → Type 0) (d1 : X1 → Type 0) (d2 : X2 → Type 0) (d3 : X3 → Type 0) (d4 : X4 → Type 0) (d5 : X5 → Type 0) (d6 : X6 → Type 0) (d7 : X7 → Type 0) → ((x : X0) → l0 x → d0 x → MeansOne g0 (m0 x)) → ((x : X1) → l1 x → d1 x → MeansOne g1 (m1 x)) → ((x : X2) → l2 x → d2 x → MeansOne g2 (m2 x)) → ((x : X3) → l3 x → d3 x → MeansOne g3 (m3 x)) → ((x : X4) → l4 x → d4 x → MeansOne g4 (m4 x)) → ((x : X5) → l5 x → d5 x → MeansOne g5 (m5 x)) → ((x : X6) → l6 x → d6 x → MeansOne g6 (m6 x)) → ((x : X7) → l7 x → d7 x → MeansOne g7 (m7 x)) → (p : Dispatch8 X0 X1 X2 X3 X4 X5 X6 X7) → each_8 l0 l1 l2 l3 l4 l5 l6 l7 p → each_8 d0 d1 d2 d3 d4 d5 d6 d7 p → MeansOne (each_8 g0 g1 g2 g3 g4 g5 g6 g7) (variant_8 p)
+    variant_8_means_one d0 d1 d2 d3 d4 d5 d6 d7 h0 h1 h2 h3 h4 h5 h6 h7 (A x) l d = held_means_one pick_a f0 g0 (each_8 f0 f1 f2 f3 f4 f5 f6 f7) (each_8 g0 g1 g2 g3 g4 g5 g6 g7) (each_8_a f0 f1 f2 f3 f4 f5 f6 f7) (each_8_a g0 g1 g2 g3 g4 g5 g6 g7) (m0 x) (h0 x l d)
+    variant_8_means_one d0 d1 d2 d3 d4 d5 d6 d7 h0 h1 h2 h3 h4 h5 h6 h7 (B x) l d = held_means_one pick_b f1 g1 (each_8 f0 f1 f2 f3 f4 f5 f6 f7) (each_8 g0 g1 g2 g3 g4 g5 g6 g7) (each_8_b f0 f1 f2 f3 f4 f5 f6 f7) (each_8_b g0 g1 g2 g3 g4 g5 g6 g7) (m1 x) (h1 x l d)
+    variant_8_means_one d0 d1 d2 d3 d4 d5 d6 d7 h0 h1 h2 h3 h4 h5 h6 h7 (C x) l d = held_means_one pick_c f2 g2 (each_8 f0 f1 f2 f3 f4 f5 f6 f7) (each_8 g0 g1 g2 g3 g4 g5 g6 g7) (each_8_c f0 f1 f2 f3 f4 f5 f6 f7) (each_8_c g0 g1 g2 g3 g4 g5 g6 g7) (m2 x) (h2 x l d)
+    variant_8_means_one d0 d1 d2 d3 d4 d5 d6 d7 h0 h1 h2 h3 h4 h5 h6 h7 (D x) l d = held_means_one pick_d f3 g3 (each_8 f0 f1 f2 f3 f4 f5 f6 f7) (each_8 g0 g1 g2 g3 g4 g5 g6 g7) (each_8_d f0 f1 f2 f3 f4 f5 f6 f7) (each_8_d g0 g1 g2 g3 g4 g5 g6 g7) (m3 x) (h3 x l d)
+    variant_8_means_one d0 d1 d2 d3 d4 d5 d6 d7 h0 h1 h2 h3 h4 h5 h6 h7 (E x) l d = held_means_one pick_e f4 g4 (each_8 f0 f1 f2 f3 f4 f5 f6 f7) (each_8 g0 g1 g2 g3 g4 g5 g6 g7) (each_8_e f0 f1 f2 f3 f4 f5 f6 f7) (each_8_e g0 g1 g2 g3 g4 g5 g6 g7) (m4 x) (h4 x l d)
+    variant_8_means_one d0 d1 d2 d3 d4 d5 d6 d7 h0 h1 h2 h3 h4 h5 h6 h7 (F x) l d = held_means_one pick_f f5 g5 (each_8 f0 f1 f2 f3 f4 f5 f6 f7) (each_8 g0 g1 g2 g3 g4 g5 g6 g7) (each_8_f f0 f1 f2 f3 f4 f5 f6 f7) (each_8_f g0 g1 g2 g3 g4 g5 g6 g7) (m5 x) (h5 x l d)
+    variant_8_means_one d0 d1 d2 d3 d4 d5 d6 d7 h0 h1 h2 h3 h4 h5 h6 h7 (G x) l d = held_means_one pick_g f6 g6 (each_8 f0 f1 f2 f3 f4 f5 f6 f7) (each_8 g0 g1 g2 g3 g4 g5 g6 g7) (each_8_g f0 f1 f2 f3 f4 f5 f6 f7) (each_8_g g0 g1 g2 g3 g4 g5 g6 g7) (m6 x) (h6 x l d)
+    variant_8_means_one d0 d1 d2 d3 d4 d5 d6 d7 h0 h1 h2 h3 h4 h5 h6 h7 (H x) l d = held_means_one pick_h f7 g7 (each_8 f0 f1 f2 f3 f4 f5 f6 f7) (each_8 g0 g1 g2 g3 g4 g5 g6 g7) (each_8_h f0 f1 f2 f3 f4 f5 f6 f7) (each_8_h g0 g1 g2 g3 g4 g5 g6 g7) (m7 x) (h7 x l d)
+
+module _ {P T Error X0 X1 X2 X3 X4 X5 X6 X7 S0 S1 S2 S3 S4 S5 S6 S7 : Type 0} (f0 : S0 → Type 0) (f1 : S1 → Type 0) (f2 : S2 → Type 0) (f3 : S3 → Type 0) (f4 : S4 → Type 0) (f5 : S5 → Type 0) (f6 : S6 → Type 0) (f7 : S7 → Type 0) (r0 : X0 → Option S0 → View P T → Bool → Error → Type 0) (r1 : X1 → Option S1 → View P T → Bool → Error → Type 0) (r2 : X2 → Option S2 → View P T → Bool → Error → Type 0) (r3 : X3 → Option S3 → View P T → Bool → Error → Type 0) (r4 : X4 → Option S4 → View P T → Bool → Error → Type 0) (r5 : X5 → Option S5 → View P T → Bool → Error → Type 0) (r6 : X6 → Option S6 → View P T → Bool → Error → Type 0) (r7 : X7 → Option S7 → View P T → Bool → Error → Type 0) where
+  -- the error of a refusal is one of the parser that it holds
+  abbrev pub variant_8_refuses : Dispatch8 X0 X1 X2 X3 X4 X5 X6 X7 → Option (Dispatch8 S0 S1 S2 S3 S4 S5 S6 S7) → View P T → Bool → Error → Type 0
+  variant_8_refuses (A x) k = held_refuses pick_a f0 (r0 x) k
+  variant_8_refuses (B x) k = held_refuses pick_b f1 (r1 x) k
+  variant_8_refuses (C x) k = held_refuses pick_c f2 (r2 x) k
+  variant_8_refuses (D x) k = held_refuses pick_d f3 (r3 x) k
+  variant_8_refuses (E x) k = held_refuses pick_e f4 (r4 x) k
+  variant_8_refuses (F x) k = held_refuses pick_f f5 (r5 x) k
+  variant_8_refuses (G x) k = held_refuses pick_g f6 (r6 x) k
+  variant_8_refuses (H x) k = held_refuses pick_h f7 (r7 x) k
+
+-- what each value of a variant has each has
+pub each_8_into : {S0 S1 S2 S3 S4 S5 S6 S7 : Type 0} (f0 g0 : S0 → Type 0) (f1 g1 : S1 → Type 0) (f2 g2 : S2 → Type 0) (f3 g3 : S3 → Type 0) (f4 g4 : S4 → Type 0) (f5 g5 : S5 → Type 0) (f6 g6 : S6 → Type 0) (f7 g7 : S7 → Type 0) → ((s : S0) → f0 s → g0 s) → ((s : S1) → f1 s → g1 s) → ((s : S2) → f2 s → g2 s) → ((s : S3) → f3 s → g3 s) → ((s : S4) → f4 s → g4 s) → ((s : S5) → f5 s → g5 s) → ((s : S6) → f6 s → g6 s) → ((s : S7) → f7 s → g7 s) → (s : Dispatch8 S0 S1 S2 S3 S4 S5 S6 S7) → each_8 f0 f1 f2 f3 f4 f5 f6 f7 s → each_8 g0 g1 g2 g3 g4 g5 g6 g7 s
+each_8_into f0 g0 f1 g1 f2 g2 f3 g3 f4 g4 f5 g5 f6 g6 f7 g7 h0 h1 h2 h3 h4 h5 h6 h7 (A s) h = h0 s h
+each_8_into f0 g0 f1 g1 f2 g2 f3 g3 f4 g4 f5 g5 f6 g6 f7 g7 h0 h1 h2 h3 h4 h5 h6 h7 (B s) h = h1 s h
+each_8_into f0 g0 f1 g1 f2 g2 f3 g3 f4 g4 f5 g5 f6 g6 f7 g7 h0 h1 h2 h3 h4 h5 h6 h7 (C s) h = h2 s h
+each_8_into f0 g0 f1 g1 f2 g2 f3 g3 f4 g4 f5 g5 f6 g6 f7 g7 h0 h1 h2 h3 h4 h5 h6 h7 (D s) h = h3 s h
+each_8_into f0 g0 f1 g1 f2 g2 f3 g3 f4 g4 f5 g5 f6 g6 f7 g7 h0 h1 h2 h3 h4 h5 h6 h7 (E s) h = h4 s h
+each_8_into f0 g0 f1 g1 f2 g2 f3 g3 f4 g4 f5 g5 f6 g6 f7 g7 h0 h1 h2 h3 h4 h5 h6 h7 (F s) h = h5 s h
+each_8_into f0 g0 f1 g1 f2 g2 f3 g3 f4 g4 f5 g5 f6 g6 f7 g7 h0 h1 h2 h3 h4 h5 h6 h7 (G s) h = h6 s h
+each_8_into f0 g0 f1 g1 f2 g2 f3 g3 f4 g4 f5 g5 f6 g6 f7 g7 h0 h1 h2 h3 h4 h5 h6 h7 (H s) h = h7 s h

@@ -1,0 +1,29 @@
+//! Parsers that are one of several, each of which means the one that it holds.
+ghost use Rattle.combine_choice_dispatch.specs.Held.{Started};
+
+pub mod dispatch3;
+pub mod dispatch4;
+pub mod dispatch5;
+pub mod dispatch6;
+pub mod dispatch7;
+pub mod dispatch8;
+pub mod either;
+
+pub use dispatch3::Dispatch3;
+pub use dispatch4::Dispatch4;
+pub use dispatch5::Dispatch5;
+pub use dispatch6::Dispatch6;
+pub use dispatch7::Dispatch7;
+pub use dispatch8::Dispatch8;
+pub use either::Either;
+
+/// The kept state, or a default one.
+#[inline(always)]
+fn start<S: Default + Drop>(kept: Option<S>) -> S
+    ensures { Started S.is_default kept result }
+{
+    match kept {
+        Some(kept) => kept,
+        None => S::default(),
+    }
+}

@@ -1,0 +1,112 @@
+//! A parser that is one of two.
+ghost use Rattle.std.specs.Prelude.{◌≡◌};
+ghost use Rattle.combine_choice_dispatch.specs.Variants2.{each_2, pick_left, pick_right};
+
+use super::start;
+use combine_base::error::{ErrorOffset, ParseResult, Tracked};
+use combine_base::parser::{Outputs, ParseMode, Parser};
+use combine_base::stream::Stream;
+use std::mem::take;
+
+/// One of two parsers, which means the one that it holds; or the state of one of them.
+///
+/// A kept state of another variant than the parser holds is the beginning.
+#[derive(Drop)]
+pub enum Either<L, R> {
+    Left(L),
+    Right(R),
+}
+
+impl<L: Default, R: Default> Default for Either<L, R> {
+    ghost is_default = { each_2 L.is_default R.is_default };
+
+    fn default() -> Self {
+        Either::Left(L::default())
+    }
+}
+
+impl<L: Drop, R: Drop> Either<L, R> {
+    #[inline(always)]
+    fn into_left(self) -> Option<L>
+        ensures { result ≡ pick_left self }
+    {
+        match self {
+            Either::Left(kept) => Some(kept),
+            Either::Right(_) => None,
+        }
+    }
+
+    #[inline(always)]
+    fn into_right(self) -> Option<R>
+        ensures { result ≡ pick_right self }
+    {
+        match self {
+            Either::Right(kept) => Some(kept),
+            Either::Left(_) => None,
+        }
+    }
+}
+
+impl<Input, L: Outputs<Input>, R> Outputs<Input> for Either<L, R> {
+    type Output = L::Output;
+}
+
+impl<Input: Stream, L: Parser<Input>, R: Parser<Input, Output = L::Output>> Parser<Input>
+    for Either<L, R> {
+    ghost use Rattle.combine_choice_dispatch.specs.Variants2.{each_2, each_2_into, variant_2, variant_2_is_meaning, variant_2_means_one, variant_2_refuses};
+
+    type PartialState = Either<L::PartialState, R::PartialState>;
+
+    ghost lawful = { each_2 L.lawful R.lawful };
+
+    ghost determined = { each_2 L.determined R.determined };
+
+    ghost valid = { each_2 L.valid R.valid };
+
+    ghost meaning = { variant_2 L.meaning R.meaning };
+
+    ghost refuses = { variant_2_refuses L.PartialState.is_default R.PartialState.is_default L.refuses R.refuses };
+
+    ghost parts = { λ p. 1 };
+
+    ghost default_valid = { each_2_into L.PartialState.is_default L.valid R.PartialState.is_default R.valid L.default_valid R.default_valid };
+
+    ghost laws = { variant_2_is_meaning L.meaning R.meaning L.PartialState.is_default L.valid R.PartialState.is_default R.valid L.lawful R.lawful L.laws R.laws };
+
+    ghost single = { variant_2_means_one L.meaning R.meaning L.PartialState.is_default L.valid R.PartialState.is_default R.valid L.lawful R.lawful L.determined R.determined L.single R.single };
+
+    #[inline(always)]
+    fn parse_mode<M: ParseMode>(
+        &mut self,
+        mode: M,
+        input: &mut Input,
+        state: &mut Self::PartialState,
+    ) -> ParseResult<L::Output, Input::Error> {
+        match self {
+            Either::Left(parser) => {
+                let mut kept = start(take(state).into_left());
+                let answer = parser.parse_mode(mode, input, &mut kept);
+                *state = Either::Left(kept);
+                answer
+            }
+            Either::Right(parser) => {
+                let mut kept = start(take(state).into_right());
+                let answer = parser.parse_mode(mode, input, &mut kept);
+                *state = Either::Right(kept);
+                answer
+            }
+        }
+    }
+
+    /// What the parser inside adds.
+    fn add_error(&mut self, error: &mut Tracked<Input::Error>) {
+        match self {
+            Either::Left(parser) => parser.add_error(error),
+            Either::Right(parser) => parser.add_error(error),
+        }
+    }
+
+    fn parser_count(&self) -> ErrorOffset {
+        ErrorOffset(1)
+    }
+}

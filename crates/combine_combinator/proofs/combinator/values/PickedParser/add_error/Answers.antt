@@ -1,0 +1,5 @@
+use Rattle.combine_base.specs.Parser.Mapped.{mapped_means_same}
+use Rattle.combine_combinator.proofs.combinator.values.PickedParser.add_error.Goals as goal
+
+pub returns-clause-same : goal.returns-clause-same
+returns-clause-same g c = mapped_means_same _ _ _ c.add_error.ensures.same

@@ -1,0 +1,177 @@
+-- a parser whose refusals are all peeked; its state is the distance read, in tokens, and the part's state
+use Rattle.std.specs.Prelude.{ℕ, ◌+◌, ◌<◌, ◌≤◌, ◌≡◌, Bool, true, false, ◌||◌, nat_lt, Option, Some, None, List, length, refl, ◌↔◌}
+use Rattle.std.proofs.Common.{arith, ap, sym, subst, ◌∙◌, length-append, length-drop, ltb-false}
+use Rattle.combine_base.specs.Stream.View.{View, advanced, extended}
+use Rattle.combine_base.specs.Stream.Advance.{advanced_extended}
+use Rattle.combine_base.specs.Parser.Outcome.{Outcome, Accepted, Refused, Undecided, after, shape, IsDecided}
+use Rattle.combine_base.specs.Parser.OutcomeFacts.{both_false}
+use Rattle.combine_base.specs.Parser.Meaning.{Meaning, Reading, IsReading, IsSingle, IsMeaning, MeansOne, MeansSame}
+use Rattle.combine_base.specs.declared.stream.Kind.{Kind}
+use Rattle.combine_base.specs.declared.stream.Kind.TheVariants as kinds
+use Rattle.combine_combinator.specs.declared.combinator.TryState.{TryState}
+
+-- the outcome, its refusal peeked
+abbrev pub refused_peeked : {V : Type 0} → Outcome V → Outcome V
+refused_peeked (Accepted v n k) = Accepted v n k
+refused_peeked (Refused k) = Refused false
+refused_peeked Undecided = Undecided
+
+-- a refusal, where it isn't need of more
+abbrev pub refusing : Kind → Bool
+refusing kinds.Refused = true
+refusing kinds.End = true
+refusing kinds.Memory = false
+refusing kinds.Read = false
+refusing kinds.Reset = false
+refusing kinds.Lost = false
+
+-- the input ended within the distance
+abbrev pub losing : Kind → Kind
+losing kinds.End = kinds.Lost
+losing kinds.Refused = kinds.Refused
+losing kinds.Memory = kinds.Memory
+losing kinds.Read = kinds.Read
+losing kinds.Reset = kinds.Reset
+losing kinds.Lost = kinds.Lost
+
+-- a default state: no distance is kept, and the part's state is a default one
+abbrev pub IsFresh : {S : Type 0} → (S → Type 0) → TryState S → Type 0
+IsFresh fresh s = (s.distance ≡ 0) × fresh s.part
+
+-- the part's state is valid
+abbrev pub HasValid : {S : Type 0} → (S → Type 0) → TryState S → Type 0
+HasValid valid s = valid s.part
+
+module _ {P T S E : Type 0} (step : P → T → P) (part : Option S → View P T → Bool → E → Type 0) where
+  -- the errors of the part where it is called: afresh at the view, or from its kept state after the distance that was read
+  abbrev pub part_refuses : Option (TryState S) → View P T → Bool → E → Type 0
+  part_refuses None v = part None v
+  part_refuses (Some s) v = part (Some s.part) (advanced step s.distance v)
+
+  -- every refusal is peeked, and its error is one that the part may have refused with there, committed or peeked
+  abbrev pub attempt_refuses : Option (TryState S) → View P T → Bool → E → Type 0
+  attempt_refuses from v true e = ⊥
+  attempt_refuses from v false e = (committed : Bool) × part_refuses from v committed e
+
+module _ {P T : Type 0} (step : P → T → P) where
+  -- the kept distance is longer than the input, or the part's own is
+  pub data Loses (d : ℕ) (lost : View P T → Type 0) (v : View P T) : Type 0 where
+    Short : (short : length v.unread < d) → Loses d lost v
+    Within : (within : lost (advanced step d v)) → Loses d lost v
+
+  loses_into : (d : ℕ) (l l' : View P T → Type 0) → ((v : View P T) → l v → l' v) → (v : View P T) → Loses d l v → Loses d l' v
+  loses_into d l l' i v (Short p) = Short p
+  loses_into d l l' i v (Within p) = Within (i _ p)
+
+  never_lost : (d : ℕ) (l : View P T → Type 0) → ((v : View P T) → l v → ⊥) → (v : View P T) → d ≡ 0 → Loses d l v → ⊥
+  never_lost d l i v e (Short p) = omega arith
+  never_lost d l i v e (Within p) = i _ p
+
+module _ {P T V : Type 0} (step : P → T → P) where
+  -- d tokens are passed over first; where there are fewer there is no outcome
+  pub record Attempts (d : ℕ) (r : Reading P T V) (v : View P T) (o : Outcome V) : Type 0 where
+    pub enough : d ≤ length v.unread
+    pub inner : Outcome V
+    pub meant : r (advanced step d v) inner
+    pub is : o ≡ refused_peeked (after d (nat_lt 0 d) inner)
+
+  abbrev pub attempted : {R S : Type 0} → Meaning P T R V S → Meaning P T R V (TryState S)
+  attempted m = record {
+    whole = Attempts 0 m.whole;
+    rest = λ s. Attempts s.distance (m.rest s.part);
+    lost = λ s. Loses step s.distance (m.lost s.part);
+    keeps = ⊥;
+    puts_back = Unit {0};
+    lean = m.lean;
+    adds = m.adds;
+  }
+
+  decided_within : (d : ℕ) (k : Bool) (i o : Outcome V) → o ≡ refused_peeked (after d k i) → IsDecided o → IsDecided i
+  decided_within d k (Accepted v n c) o e h = tt
+  decided_within d k (Refused c) o e h = tt
+  decided_within d k Undecided o e h = subst (λ x. IsDecided x) e h
+
+  undecided_within : (d : ℕ) (k : Bool) (i : Outcome V) → Undecided ≡ refused_peeked (after d k i) → i ≡ Undecided
+  undecided_within d k (Accepted v n c) e = absurd (cc)
+  undecided_within d k (Refused c) e = absurd (cc)
+  undecided_within d k Undecided e = refl
+
+  accepted_within : (d : ℕ) (k : Bool) (i : Outcome V) (a : V) (n : ℕ) (c : Bool) → Accepted a n c ≡ refused_peeked (after d k i) → (j : ℕ) × (b : Bool) × (i ≡ Accepted a j b) × (n ≡ d + j) × (c ≡ (k || b))
+  accepted_within d k (Accepted v j b) a n c e = (j, b, cc, cc, cc)
+  accepted_within d k (Refused b) a n c e = absurd (cc)
+  accepted_within d k Undecided a n c e = absurd (cc)
+
+  same_shape : (d : ℕ) (k : Bool) (i j : Outcome V) → shape i ≡ shape j → shape (refused_peeked (after d k i)) ≡ shape (refused_peeked (after d k j))
+  same_shape d k i j e = by_shape i ∙ ap (λ x. refused_peeked (after d k x)) e ∙ sym (by_shape j)
+    where
+      by_shape : (i : Outcome V) → shape (refused_peeked (after d k i)) ≡ refused_peeked (after d k (shape i))
+      by_shape (Accepted v n c) = refl
+      by_shape (Refused c) = refl
+      by_shape Undecided = refl
+
+  module _ (d : ℕ) (r : Reading P T V) where
+    attempts_ended : IsReading r → (v : View P T) → v.is_open ≡ false → Attempts d r v Undecided → ⊥
+    attempts_ended h v e p = h.ended (advanced step d v) e (subst (r (advanced step d v)) (undecided_within d (nat_lt 0 d) p.inner p.is) p.meant)
+
+    attempts_stays : IsReading r → (v : View P T) (x : List T) (b : Bool) (o : Outcome V) → v.is_open ≡ true → IsDecided o → Attempts d r v o → Attempts d r (extended x b v) o
+    attempts_stays h v x b o e f p =
+        let i = h.stays (advanced step d v) x b p.inner e (decided_within d (nat_lt 0 d) p.inner o p.is f) p.meant in
+        record {
+          enough = let a = p.enough in omega (arith, length-append v.unread x);
+          inner = p.inner;
+          meant = subst (λ y. r y p.inner) (sym (advanced_extended step d x b v p.enough)) i;
+          is = p.is;
+        }
+
+    attempts_peeked : IsReading r → (v : View P T) (a : V) (n : ℕ) → Attempts d r v (Accepted a n false) → n ≡ 0
+    attempts_peeked h v a n p =
+        let i = accepted_within d (nat_lt 0 d) p.inner a n false p.is in
+        let k = both_false (nat_lt 0 d) i.1 (sym i.4) in
+        let j = i.2 ∙ ap (λ b. Accepted a i.0 b) k.1 in
+        let z = h.peeked (advanced step d v) a i.0 (subst (r (advanced step d v)) j p.meant) in
+        let y = ltb-false 0 d k.0 in
+        let e = i.3 in
+        omega arith
+
+    attempts_within : IsReading r → (v : View P T) (a : V) (n : ℕ) (c : Bool) → Attempts d r v (Accepted a n c) → n ≤ length v.unread
+    attempts_within h v a n c p =
+        let i = accepted_within d (nat_lt 0 d) p.inner a n c p.is in
+        let z = h.within (advanced step d v) a i.0 i.1 (subst (r (advanced step d v)) i.2 p.meant) in
+        let e = i.3 in
+        let f = p.enough in
+        omega (arith, length-drop d v.unread)
+
+    attempts_is_reading : IsReading r → IsReading (Attempts d r)
+    attempts_is_reading h = record { ended = attempts_ended h; stays = attempts_stays h; peeked = attempts_peeked h; within = attempts_within h }
+
+    attempts_is_single : IsSingle r → IsSingle (Attempts d r)
+    attempts_is_single h = record { one = λ v o o' p q. ap shape p.is ∙ same_shape d (nat_lt 0 d) p.inner q.inner (h.one (advanced step d v) p.inner q.inner p.meant q.meant) ∙ sym (ap shape q.is) }
+
+  attempts_into : (d : ℕ) (r r' : Reading P T V) → ((v : View P T) (o : Outcome V) → r v o → r' v o) → (v : View P T) (o : Outcome V) → Attempts d r v o → Attempts d r' v o
+  attempts_into d r r' i v o p = record { enough = p.enough; inner = p.inner; meant = i _ p.inner p.meant; is = p.is }
+
+  attempts_both : (d : ℕ) (r r' : Reading P T V) → ((v : View P T) (o : Outcome V) → r v o ↔ r' v o) → (v : View P T) (o : Outcome V) → Attempts d r v o ↔ Attempts d r' v o
+  attempts_both d r r' i v o = (attempts_into d r r' (λ v o. (i v o).0) v o, attempts_into d r' r (λ v o. (i v o).1) v o)
+
+  module _ {R S : Type 0} where
+    pub attempted_is_meaning : (fresh valid : S → Type 0) (m : Meaning P T R V S) → IsMeaning fresh valid m → IsMeaning (IsFresh fresh) (HasValid valid) (attempted m)
+    attempted_is_meaning fresh valid m h = record {
+      whole = attempts_is_reading 0 m.whole h.whole;
+      rest = λ s k. attempts_is_reading s.distance (m.rest s.part) (h.rest s.part k);
+      start = λ s v o d. rw d.0 (attempts_both 0 (m.rest s.part) m.whole (λ v o. h.start s.part v o d.1) v o);
+      found = λ s v d. never_lost step s.distance (m.lost s.part) (λ v. h.found s.part v d.1) v d.0;
+    }
+
+    pub attempted_means_one : (valid : S → Type 0) (m : Meaning P T R V S) → MeansOne valid m → MeansOne (HasValid valid) (attempted m)
+    attempted_means_one valid m h = record { whole = attempts_is_single 0 m.whole h.whole; rest = λ s k. attempts_is_single s.distance (m.rest s.part) (h.rest s.part k) }
+
+    pub attempted_means_same : (m m' : Meaning P T R V S) → MeansSame m m' → MeansSame (attempted m) (attempted m')
+    attempted_means_same m m' h = record {
+      whole = attempts_both 0 m.whole m'.whole h.whole;
+      rest = λ s. attempts_both s.distance (m.rest s.part) (m'.rest s.part) (h.rest s.part);
+      lost = λ s v. (loses_into step s.distance (m.lost s.part) (m'.lost s.part) (λ v. (h.lost s.part v).0) v, loses_into step s.distance (m'.lost s.part) (m.lost s.part) (λ v. (h.lost s.part v).1) v);
+      keeps = (λ k. k, λ k. k);
+      puts_back = (λ k. k, λ k. k);
+      lean = h.lean;
+      adds = h.adds;
+    }

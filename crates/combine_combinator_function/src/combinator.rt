@@ -1,0 +1,54 @@
+//! Parsers that change the value of another parser, or refuse it.
+ghost use Rattle.std.specs.Prelude.{◌≡◌};
+ghost use Rattle.combine_combinator_function.specs.Parsers.{and_then_of, flat_map_of, from_str_of, map_input_of};
+
+mod changed;
+mod changes;
+mod text;
+pub mod types;
+
+pub use changed::{Change, Changed};
+use changes::{Answering, Read, Seeing, Trying};
+use std::marker::PhantomData;
+pub use text::StrLike;
+use types::{AndThen, FlatMap, FromStr, MapInput};
+
+/// Parses as `p`, and changes its value by `f`, or refuses it where `f` answers an error.
+///
+/// What is taken, refusals, faults and need of more are those of `p`, and so is the state. A refusal by `f` is committed where `p` was; the tokens of `p` stay taken, also at the end of an open piece (the crate's puts them back there, committed). Its error stands at the position before `p`, and says what `f` answered. An error of `f` of kind `Memory`, or an item that finds no memory, is that fault. `f` answers errors of the kinds `Refused` and `Memory` alone, and need only be callable on the values that `p` gives; it is an `Fn`, where the crate takes an `FnMut`.
+#[inline]
+pub fn and_then<P, F, B>(p: P, f: F) -> AndThen<P, F, B>
+    ensures { result ≡ and_then_of p f }
+{
+    Changed::new(p, Trying(f))
+}
+
+/// Parses as `p`, and changes its value by `f`, or refuses it with the error that `f` answers.
+///
+/// What is taken, refusals, faults and need of more are those of `p`, and so is the state. A refusal by `f` is committed where `p` was; the tokens of `p` stay taken. An error of `f` of kind `Memory` is that fault; `f` answers errors of the kinds `Refused` and `Memory` alone, and need only be callable on the values that `p` gives; it is an `Fn`, where the crate takes an `FnMut`.
+#[inline]
+pub fn flat_map<P, F, B>(p: P, f: F) -> FlatMap<P, F, B>
+    ensures { result ≡ flat_map_of p f }
+{
+    Changed::new(p, Answering(f))
+}
+
+/// Parses as `p`, and changes its value by `f`, which is given the stream too, as `p` left it.
+///
+/// What is taken, refusals, faults and need of more are those of `p`, and so is the state. `f` leaves the stream in place, and need only be callable on the values that `p` gives; it is an `Fn`, where the crate takes an `FnMut`.
+#[inline]
+pub fn map_input<P, F, B>(p: P, f: F) -> MapInput<P, F, B>
+    ensures { result ≡ map_input_of p f }
+{
+    Changed::new(p, Seeing(f))
+}
+
+/// Parses as `p`, whose value is a text, and reads it as a `T` by its `FromStr`.
+///
+/// What is taken, refusals, faults and need of more are those of `p`, and so is the state. Bytes that aren't UTF-8 are refused with `UTF-8` said to be expected, and a text that is no `T` with the message `invalid value` (the crate's is that of the error of `T`): committed where `p` was, with the tokens of `p` taken and the error at the position before `p`. An item that finds no memory is the fault `Memory`.
+#[inline]
+pub fn from_str<P, T>(p: P) -> FromStr<P, T>
+    ensures { result ≡ from_str_of p }
+{
+    Changed::new(p, Read(PhantomData))
+}

@@ -1,0 +1,187 @@
+//! How functions change values, or refuse them.
+ghost use Rattle.std.specs.Prelude.{◌≡◌, ◌⊎◌, Result, Ok, Err};
+ghost use Rattle.std.specs.Str.{IsUtf8};
+ghost use Rattle.combine_base.specs.declared.stream.Kind.TheVariants as kinds;
+ghost use Rattle.combine_combinator_function.specs.Changes.{AnsweredItem, AnsweredKind, ErrorKinds, GivesAt, InPlace, ItemKinds, MadeOf, MadeSaying, Misread, unreadable};
+
+use super::changed::Change;
+use super::text::StrLike;
+use combine_base::error::{ErrorOffset, Info, ParseError, StreamError};
+use combine_base::stream::{Kind, Stream, StreamOnce};
+use std::marker::PhantomData;
+use std::str::FromStr;
+
+/// A function that answers a value, or the error of the stream that the value is refused with.
+#[derive(Clone, Copy, Drop)]
+pub struct Answering<F>(pub(super) F);
+
+impl<Input: Stream, A, B: Drop, F: Fn(A) -> Result<B, Input::Error>> Change<Input, A>
+    for Answering<F> {
+    type Output = B;
+
+    ghost callable = { λ f a. F.pre f.0 a × ErrorKinds Input.Error.seen.kind (F.post f.0 a) };
+
+    ghost gives = { λ f at a b. F.post f.0 a (Ok b) };
+
+    ghost denies = { λ f a. AnsweredKind Input.Error.seen.kind (F.post f.0) kinds.Refused a };
+
+    ghost starves = { λ f a. AnsweredKind Input.Error.seen.kind (F.post f.0) kinds.Memory a };
+
+    ghost says = { λ f at a e. F.post f.0 a (Err e) };
+
+    ghost counted = { λ n. n };
+
+    #[inline(always)]
+    fn change(
+        &self,
+        value: A,
+        began: Input::Position,
+        input: &mut Input,
+    ) -> Result<B, Input::Error> {
+        (self.0)(value)
+    }
+
+    /// As the part.
+    #[inline]
+    fn count(part: ErrorOffset) -> ErrorOffset {
+        part
+    }
+}
+
+/// A function that answers a value, or what the error says that the value is refused with.
+#[derive(Clone, Copy, Drop)]
+pub struct Trying<F>(pub(super) F);
+
+impl<
+    Input: Stream,
+    A,
+    B: Drop,
+    E: Into<<Input::Error as ParseError<Input::Token, Input::Range, Input::Position>>::StreamError>,
+    F: Fn(A) -> Result<B, E>,
+> Change<Input, A> for Trying<F> {
+    type Output = B;
+
+    ghost callable = { λ f a. F.pre f.0 a × ItemKinds Input.Error.StreamError.kind (F.post f.0 a) E.converts };
+
+    ghost gives = { λ f at a b. F.post f.0 a (Ok b) };
+
+    ghost denies = { λ f a. AnsweredItem Input.Error.StreamError.kind (F.post f.0) E.converts kinds.Refused a };
+
+    ghost starves = { λ f a. AnsweredItem Input.Error.StreamError.kind (F.post f.0) E.converts kinds.Memory a };
+
+    ghost says = { λ f at a. MadeOf Input.Error.seen Input.Error.StreamError.items (F.post f.0) E.converts at a };
+
+    ghost counted = { λ n. n };
+
+    #[inline(always)]
+    fn change(
+        &self,
+        value: A,
+        began: Input::Position,
+        input: &mut Input,
+    ) -> Result<B, Input::Error> {
+        match (self.0)(value) {
+            Ok(value) => Ok(value),
+            Err(why) => {
+                let item = why.into();
+                let mut error = input.new_error(item.kind(), began);
+                error.add(item);
+                Err(error)
+            }
+        }
+    }
+
+    /// As the part.
+    #[inline]
+    fn count(part: ErrorOffset) -> ErrorOffset {
+        part
+    }
+}
+
+/// A function of the value and of the stream, which it leaves in place.
+#[derive(Clone, Copy, Drop)]
+pub struct Seeing<F>(pub(super) F);
+
+impl<Input: Stream, A, B: Drop, F: Fn(A, &mut Input) -> B> Change<Input, A> for Seeing<F> {
+    type Output = B;
+
+    ghost callable = { λ f a. ((i : _) → F.pre f.0 a i) × InPlace Input.view Input.marks Input.failures (λ i b l. F.post f.0 a i b l) };
+
+    ghost gives = { λ f. GivesAt Input.view (λ a i b l. F.post f.0 a i b l) };
+
+    ghost denies = { λ f a. ⊥ };
+
+    ghost starves = { λ f a. ⊥ };
+
+    ghost says = { λ f at a e. ⊥ };
+
+    ghost counted = { λ n. n };
+
+    #[inline(always)]
+    fn change(
+        &self,
+        value: A,
+        began: Input::Position,
+        input: &mut Input,
+    ) -> Result<B, Input::Error> {
+        Ok((self.0)(value, input))
+    }
+
+    /// As the part.
+    #[inline]
+    fn count(part: ErrorOffset) -> ErrorOffset {
+        part
+    }
+}
+
+/// The text of the value, read as a `T`.
+#[derive(Drop)]
+#[derive_where(Clone, Copy)]
+pub struct Read<T>(pub(super) PhantomData<T>);
+
+impl<Input: Stream, A: StrLike + Drop, T: FromStr + Drop> Change<Input, A> for Read<T>
+where
+    T::Err: Drop,
+{
+    type Output = T;
+
+    ghost callable = { λ f a. Unit {0} };
+
+    ghost gives = { λ f at a b. IsUtf8 (A.bytes a) × T.from_str_gives (A.bytes a) (Ok b) };
+
+    ghost denies = { λ f a. Misread T.from_str_gives (A.bytes a) };
+
+    ghost starves = { λ f a. ⊥ };
+
+    ghost says = { λ f at a. MadeSaying Input.Error.seen (unreadable T.from_str_gives (A.bytes a)) at };
+
+    ghost counted = { λ n. 1 };
+
+    #[inline]
+    fn change(
+        &self,
+        value: A,
+        began: Input::Position,
+        input: &mut Input,
+    ) -> Result<T, Input::Error> {
+        let Some(text) = value.from_utf8() else {
+            let mut error = input.new_error(Kind::Refused, began);
+            error.add_expected(&Info::Static("UTF-8"));
+            return Err(error);
+        };
+        match text.parse() {
+            Ok(number) => Ok(number),
+            Err(_why) => {
+                let mut error = input.new_error(Kind::Refused, began);
+                error.add_message(&Info::Static("invalid value"));
+                Err(error)
+            }
+        }
+    }
+
+    /// As one parser.
+    #[inline]
+    fn count(_part: ErrorOffset) -> ErrorOffset {
+        ErrorOffset(1)
+    }
+}

@@ -1,0 +1,185 @@
+//! The parsers that the functions of this module answer.
+ghost use Rattle.std.specs.Prelude.{◌≡◌};
+ghost use Rattle.combine_base.specs.Error.Errors.{Nothing};
+ghost use Rattle.combine_base.specs.Parser.Kept.{KeptOf};
+ghost use Rattle.combine_base.specs.Stream.View.{View};
+ghost use Rattle.combine_combinator_lazy.specs.Made.{Adds, InPlace, MadeAt, MakesOne, RefusesMade, at_any, at_any_lasts, by_factory, by_lazy, factory_maker, is_unmade_valid, lazy_maker, made, made_at_lasts, made_is_meaning, made_means_one, valid_made};
+
+pub use super::made::{Made, MadeState};
+use super::made::{make_and_run, resume_made, run_made};
+use combine_base::error::{ErrorOffset, ParseResult, Tracked};
+use combine_base::parser::{Outputs, ParseMode, Parser};
+use combine_base::sequence::take_state;
+use combine_base::stream::Stream;
+
+/// A function that makes a parser. Our own: by it the value of a [`Lazy`] is known without its maker's signature, of which an impl of `Outputs` can say nothing.
+pub trait Makes {
+    ghost use Rattle.std.specs.Prelude.{◌≡◌};
+
+    /// The parser that it makes.
+    type Made;
+
+    ghost callable: { Self → Type 0 };
+
+    /// Which parsers it may make.
+    ghost makes: { Self → Self.Made → Type 0 };
+
+    fn make(&self) -> Self::Made
+        requires { callable self.now }
+        ensures { makes self.now result };
+}
+
+impl<N, F: Fn() -> N> Makes for F {
+    type Made = N;
+
+    ghost callable = { λ f. F.IsAlwaysCallable f };
+
+    ghost makes = { λ f. F.post f };
+
+    #[inline(always)]
+    fn make(&self) -> N {
+        self()
+    }
+}
+
+/// A function that makes a parser for a stream. Our own, as [`Makes`].
+pub trait MakesAt<Input> {
+    /// The parser that it makes.
+    type Made;
+
+    ghost callable: { Self → Type 0 };
+
+    fn make_at(&self, input: &mut Input) -> Self::Made
+        requires { callable self.now };
+}
+
+impl<Input, N, F: Fn(&mut Input) -> N> MakesAt<Input> for F {
+    type Made = N;
+
+    ghost callable = { λ f. F.IsAlwaysCallable f };
+
+    #[inline(always)]
+    fn make_at(&self, input: &mut Input) -> N {
+        self(input)
+    }
+}
+
+/// The parser of [`lazy`](crate::combinator::lazy).
+#[derive(Clone, Copy, Drop)]
+pub struct Lazy<F>(pub(super) F);
+
+impl<Input, F: Makes> Outputs<Input> for Lazy<F>
+where
+    F::Made: Outputs<Input>,
+{
+    type Output = <F::Made as Outputs<Input>>::Output;
+}
+
+impl<Input: Stream, N: Parser<Input> + Drop, F: Fn() -> N> Parser<Input> for Lazy<F> {
+    type PartialState = MadeState<N, N::PartialState>;
+
+    ghost lawful = { λ p. F.IsAlwaysCallable (lazy_maker p) × ((n : N) → F.post (lazy_maker p) n → N.lawful n) };
+
+    ghost determined = { λ p. ((n : N) → by_lazy F.Fn N.lawful n → N.determined n) × MakesOne (at_any (F.post (lazy_maker p))) (λ n. (N.meaning n).whole) };
+
+    ghost valid = { valid_made (KeptOf N.lawful N.meaning (by_lazy F.Fn N.lawful)) N.valid };
+
+    ghost meaning = { λ p. made (at_any (F.post (lazy_maker p))) (by_lazy F.Fn N.lawful) N.meaning (Adds (F.post (lazy_maker p)) N.meaning) };
+
+    ghost refuses = { λ p. RefusesMade (at_any (F.post (lazy_maker p))) N.PartialState.is_default N.refuses };
+
+    ghost parts = { λ p. 1 };
+
+    ghost default_valid = { is_unmade_valid (KeptOf N.lawful N.meaning (by_lazy F.Fn N.lawful)) N.valid };
+
+    ghost laws = { λ p l. made_is_meaning _ (by_lazy F.Fn N.lawful) N.meaning _ N.lawful (at_any_lasts (F.post (lazy_maker p))) N.laws (λ v. l.1) };
+
+    ghost single = { λ p l d. made_means_one _ (by_lazy F.Fn N.lawful) N.meaning _ N.lawful (λ n i. N.single n (i.all n i.made) (d.0 n i)) d.1 };
+
+    #[inline(always)]
+    fn parse_mode<M: ParseMode>(
+        &mut self,
+        mode: M,
+        input: &mut Input,
+        state: &mut Self::PartialState,
+    ) -> ParseResult<N::Output, Input::Error> {
+        if let MadeState::Kept(made) = take_state(mode, state) {
+            return resume_made(mode, input, made, state);
+        }
+        let parser = (self.0)();
+        let made = Made {
+            parser,
+            state: N::PartialState::default(),
+        };
+        run_made(mode, input, made, state)
+    }
+
+    /// What a parser of the maker adds.
+    #[inline]
+    fn add_error(&mut self, error: &mut Tracked<Input::Error>) {
+        let mut parser = (self.0)();
+        parser.add_error(error);
+    }
+
+    /// One, whatever the parser counts that the maker answers.
+    #[inline]
+    fn parser_count(&self) -> ErrorOffset {
+        ErrorOffset(1)
+    }
+}
+
+/// The parser of [`factory`](crate::combinator::factory).
+#[derive(Clone, Copy, Drop)]
+pub struct Factory<F>(pub(crate) F);
+
+impl<Input, F: MakesAt<Input>> Outputs<Input> for Factory<F>
+where
+    F::Made: Outputs<Input>,
+{
+    type Output = <F::Made as Outputs<Input>>::Output;
+}
+
+impl<Input: Stream, N: Parser<Input> + Drop, F: Fn(&mut Input) -> N> Parser<Input> for Factory<F> {
+    type PartialState = MadeState<N, N::PartialState>;
+
+    ghost lawful = { λ p. F.IsAlwaysCallable (factory_maker p) × InPlace Input.view Input.marks Input.failures (λ i n l. F.post (factory_maker p) i n l) × ((v : View Input.Position Input.Token) (n : N) → MadeAt Input.view (λ i n l. F.post (factory_maker p) i n l) v n → N.lawful n) };
+
+    ghost determined = { λ p. ((n : N) → by_factory Input.view Input.marks Input.failures F.Fn N.lawful n → N.determined n) × MakesOne (MadeAt Input.view (λ i n l. F.post (factory_maker p) i n l)) (λ n. (N.meaning n).whole) };
+
+    ghost valid = { valid_made (KeptOf N.lawful N.meaning (by_factory Input.view Input.marks Input.failures F.Fn N.lawful)) N.valid };
+
+    ghost meaning = { λ p. made (MadeAt Input.view (λ i n l. F.post (factory_maker p) i n l)) (by_factory Input.view Input.marks Input.failures F.Fn N.lawful) N.meaning Nothing };
+
+    ghost refuses = { λ p. RefusesMade (MadeAt Input.view (λ i n l. F.post (factory_maker p) i n l)) N.PartialState.is_default N.refuses };
+
+    ghost parts = { λ p. 1 };
+
+    ghost default_valid = { is_unmade_valid (KeptOf N.lawful N.meaning (by_factory Input.view Input.marks Input.failures F.Fn N.lawful)) N.valid };
+
+    ghost laws = { λ p l. made_is_meaning _ (by_factory Input.view Input.marks Input.failures F.Fn N.lawful) N.meaning _ N.lawful (made_at_lasts Input.view (λ i n l. F.post (factory_maker p) i n l)) N.laws l.2 };
+
+    ghost single = { λ p l d. made_means_one _ (by_factory Input.view Input.marks Input.failures F.Fn N.lawful) N.meaning _ N.lawful (λ n i. N.single n (i.all n i.made) (d.0 n i)) d.1 };
+
+    #[inline(always)]
+    fn parse_mode<M: ParseMode>(
+        &mut self,
+        mode: M,
+        input: &mut Input,
+        state: &mut Self::PartialState,
+    ) -> ParseResult<N::Output, Input::Error> {
+        if let MadeState::Kept(kept) = take_state(mode, state) {
+            return resume_made(mode, input, kept, state);
+        }
+        make_and_run(&self.0, mode, input, state)
+    }
+
+    /// Nothing.
+    #[inline]
+    fn add_error(&mut self, error: &mut Tracked<Input::Error>) {}
+
+    /// One, whatever the parser counts that the maker answers.
+    #[inline]
+    fn parser_count(&self) -> ErrorOffset {
+        ErrorOffset(1)
+    }
+}

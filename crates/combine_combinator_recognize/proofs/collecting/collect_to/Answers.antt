@@ -1,0 +1,73 @@
+use Rattle.std.proofs.Common.{◌∙◌, ◌+◌, arith, refl, ap, sym}
+use Rattle.std.proofs.lemmas.Result.{err_from_is_err_and}
+use Rattle.combine_base.specs.Stream.View.{View}
+use Rattle.combine_base.proofs.Distances.{takes_token, not_yet, reached}
+use Rattle.combine_base.proofs.Progress.{takes_more, takes_none}
+use Rattle.combine_base.proofs.Same.{passes_more, passes_none}
+use Rattle.combine_combinator_recognize.proofs.Gathering.{collect_starved, collect_stopped, one_more}
+use Rattle.combine_combinator_recognize.proofs.collecting.collect_to.Goals as goal
+
+pub tokens-init : goal.tokens-init
+tokens-init g c = record {
+  passes = passes_none _ _;
+  count = 0;
+  taken = takes_none _ _;
+  held = refl;
+  failures = λ s. refl;
+  before = λ n v t e. omega arith;
+}
+
+pub returns-in_err-token-clause-passes : goal.returns-in_err-token-clause-passes
+returns-in_err-token-clause-passes g c = passes_more _ _ _ _ _ _ c.tokens.invariant.passes c.uncons.ensures.passes
+
+pub returns-in_err-token-clause-collects : goal.returns-in_err-token-clause-collects
+returns-in_err-token-clause-collects g c n v t e =
+    let i = c.tokens.invariant in
+    let o = c.position.ensures in
+    let l = c.cmp.ensures in
+    let m = c.is_lt.ensures in
+    let q = c.tokens-test.true in
+    let k = not_yet g.Input.Position.Ord.cmp g.Input.StreamOnce.step g.Input.StreamOnce.view g.met.Input.Position.Ord.total g.met.Input.StreamOnce.moves _ n _ c.tokens.input v i.taken t (i.before n v t e) (cc) in
+    let p = err_from_is_err_and c.from_residual.result c.from_residual.ensures.1 in
+    rw (p.1, p.2) (collect_stopped _ _ _ _ _ _ _ _ (g.Input.StreamOnce.view c.uncons.new.self) _ _ (g.Input.StreamOnce.failures c.uncons.new.self) _ i.taken i.passes.reads n k t.enough _ c.in_err-token.ensures.read.is)
+
+pub returns-in-Err-clause-passes : goal.returns-in-Err-clause-passes
+returns-in-Err-clause-passes g c = passes_more _ _ _ _ _ _ c.tokens.invariant.passes c.uncons.ensures.passes
+
+pub returns-in-Err-clause-collects : goal.returns-in-Err-clause-collects
+returns-in-Err-clause-collects g c n v t e =
+    let i = c.tokens.invariant in
+    let u = c.in_ok-token.ensures.read.is in
+    collect_starved _ _ _ _ _ _ _ _ (g.Input.StreamOnce.view c.uncons.new.self) _ _ _ n i.taken (record { count = 1; taken = takes_token _ _ _ _ _ _ _ u }) c.in-Err.ensures.0
+
+pub tokens-preserved : goal.tokens-preserved
+tokens-preserved g c =
+    let i = c.tokens.invariant in
+    let u = c.in_ok-token.ensures.read.is in
+    record {
+      passes = passes_more _ _ _ _ _ _ i.passes c.uncons.ensures.passes;
+      count = i.count + 1;
+      taken = takes_more _ _ _ _ _ _ i.taken (takes_token _ _ _ _ _ _ _ u);
+      held = c.in_default.ensures ∙ ap (λ h. g.F.Append.more h c.in_ok-token.token) i.held ∙ one_more g.F.Append.more (g.F.Append.held c.args.into) i.count (g.Input.StreamOnce.view c.args.input.now).unread (g.Input.StreamOnce.view c.uncons.new.self).unread c.in_ok-token.token (sym (ap (λ (v : View _ _). v.unread) i.taken.rest) ∙ u.unread);
+      failures = λ s. u.failures s ∙ i.failures s;
+      before = λ n v t e.
+          let o = c.position.ensures in
+          let l = c.cmp.ensures in
+          let m = c.is_lt.ensures in
+          let q = c.tokens-test.true in
+          let k = not_yet g.Input.Position.Ord.cmp g.Input.StreamOnce.step g.Input.StreamOnce.view g.met.Input.Position.Ord.total g.met.Input.StreamOnce.moves _ n _ c.tokens.input v i.taken t (i.before n v t e) (cc) in
+          omega arith;
+    }
+
+pub returns-clause-passes : goal.returns-clause-passes
+returns-clause-passes g c = c.tokens.invariant.passes
+
+pub returns-clause-collects : goal.returns-clause-collects
+returns-clause-collects g c n v t e =
+    let i = c.tokens.invariant in
+    let o = c.position.ensures in
+    let l = c.cmp.ensures in
+    let m = c.is_lt.ensures in
+    let q = c.tokens-test.false in
+    let k = reached g.Input.Position.Ord.cmp g.Input.StreamOnce.step g.Input.StreamOnce.view g.met.Input.Position.Ord.total g.met.Input.StreamOnce.moves _ n _ c.tokens.input v i.taken t (i.before n v t e) (cc) in
+    record { is = (rw (← k) i.held, rw (← k) i.taken, i.failures) }

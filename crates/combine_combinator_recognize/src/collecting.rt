@@ -1,0 +1,47 @@
+//! Tokens that were taken, read again and collected.
+ghost use Rattle.std.specs.Prelude.{◌≡◌, ℕ};
+ghost use Rattle.combine_base.specs.Stream.Calls.{Passes};
+ghost use Rattle.combine_base.specs.Stream.View.{View, Takes};
+ghost use Rattle.combine_combinator_recognize.specs.Gathered.{Collects};
+
+use combine_base::repeat::Append;
+use combine_base::stream::{Kind, Stream};
+
+/// Takes the tokens up to that position, and appends them.
+///
+/// `Read` where a read failed, and `Memory` where the collection could not grow; some tokens are then taken.
+#[inline]
+fn collect_to<Input: Stream, F: Append<Input::Token>>(
+    input: &mut Input,
+    end: Input::Position,
+    into: F,
+) -> Result<F, Kind>
+    ensures passes { Passes (Input.marks input.old) (Input.marks input.new) (Input.failures input.old) (Input.failures input.new) }
+    ensures collects { (n : ℕ) (v : View Input.Position Input.Token) → Takes Input.step n (Input.view input.old) v → end ≡ v.position → Collects Input.steady Input.step F.held F.more F.lean into (Input.view input.old) (Input.view input.new) (Input.failures input.old) (Input.failures input.new) n result }
+{
+    let mut into = into;
+    'tokens: while input.position().cmp(&end).is_lt() {
+        let token = input.uncons()?;
+        if let Err(_refused) = into.append(token) {
+            return Err(Kind::Memory);
+        }
+    }
+    Ok(into)
+}
+
+/// Puts the stream back to the checkpoint, and takes the tokens from there to where it was once more: they are appended.
+///
+/// `Reset` where it could not be put back, `Read` where a read failed, and `Memory` where the collection could not grow.
+#[inline]
+pub fn collect_since<Input: Stream, F: Append<Input::Token>>(
+    input: &mut Input,
+    start: Input::Checkpoint,
+    into: F,
+) -> Result<F, Kind>
+    ensures passes { Passes (Input.marks input.old) (Input.marks input.new) (Input.failures input.old) (Input.failures input.new) }
+    ensures collects { (n : ℕ) (v : View Input.Position Input.Token) → Input.stands input.old start v → Takes Input.step n v (Input.view input.old) → Collects Input.steady Input.step F.held F.more F.lean into v (Input.view input.new) (Input.failures input.old) (Input.failures input.new) n result }
+{
+    let end = input.position();
+    input.reset(start)?;
+    collect_to(input, end, into)
+}

@@ -1,0 +1,9 @@
+use Rattle.combine_combinator_spanned.proofs.Spanning.{spanned_answers, spanned_reasons}
+use Rattle.combine_combinator_spanned.proofs.combinator.types.SpannedParser.parse_mode.Goals as goal
+
+pub returns-clause-answers : goal.returns-clause-answers
+returns-clause-answers g c = spanned_answers _ _ _ _ _ _ _ _ _ _ c.at_span.ensures c.parse_mode-answer.ensures.answers
+
+pub returns-clause-refuses : goal.returns-clause-refuses
+returns-clause-refuses g c =
+    spanned_reasons _ _ _ _ _ _ _ _ _ _ (rw (c.position-start.ensures, c.position-end.ensures) at c.at_span.ensures) c.parse_mode-answer.ensures.answers c.parse_mode-answer.ensures.refuses

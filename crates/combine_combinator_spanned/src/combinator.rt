@@ -1,0 +1,17 @@
+//! A parser whose errors stand at the span that it read.
+ghost use Rattle.std.specs.Prelude.{◌≡◌};
+ghost use Rattle.combine_combinator_spanned.specs.Spanned.{spanned_of};
+
+pub mod types;
+
+use types::Spanned;
+
+/// Parses as `parser`, over a stream whose positions are spans, such as a `span::Stream`: an error whose span begins and ends at one position is made to stand at the span from where this call began to where it left the stream.
+///
+/// A span that an inner `spanned` has set stays. What an error says stays, and so does its kind. An error that keeps no position is left as it is.
+#[inline]
+pub fn spanned<P>(parser: P) -> Spanned<P>
+    ensures { result ≡ spanned_of parser }
+{
+    Spanned(parser)
+}

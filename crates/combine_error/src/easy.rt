@@ -1,0 +1,310 @@
+//! Errors that keep what they are told, and streams whose parsers are refused with them.
+ghost use Rattle.std.specs.Prelude.{◌≡◌, ◌-◌, ◌<◌, not, ◌∷◌, [], true, length, map};
+ghost use Rattle.std.specs.List.{list_any};
+ghost use Rattle.combine_base.specs.Error.Errors.{Only, Says};
+ghost use Rattle.combine_base.specs.Error.Items.{shown};
+ghost use Rattle.combine_error.specs.Easy.{about_same, cleared_from, is_other, item_same, listed, said};
+
+use crate::info::copied;
+use combine_base::error::{Info, ParseError, StreamError};
+use combine_base::stream::Kind;
+use std::cmp::Ordering;
+
+mod display;
+mod driver;
+mod stream;
+
+pub use driver::EasyParser;
+pub use stream::{SliceStream, Stream, TextStream};
+
+/// What an error says: an item.
+///
+/// The crate has a fourth, `Other`, for errors of other types.
+#[derive(Debug, PartialEq, Drop)]
+pub enum Error<T, R> {
+    /// That this was not expected.
+    Unexpected(Info<T, R>),
+    /// That this was expected.
+    Expected(Info<T, R>),
+    /// That this is to be said.
+    Message(Info<T, R>),
+}
+
+/// An error with its position, its kind, and the items that were added to it, in order. No two of them are equal where all were added by the calls of `ParseError`.
+///
+/// Two texts are equal only if both are fixed or both are owned. In the crate they are, however they are held, and an error has no kind.
+#[derive(Debug, PartialEq, Drop)]
+pub struct Errors<T, R, P> {
+    /// Where it stands.
+    pub position: P,
+    /// The items, the first that was added first.
+    pub errors: Vec<Error<T, R>>,
+    /// Why there is no value. `Memory` where an item found no memory.
+    pub kind: Kind,
+}
+
+// Whether both speak of the same.
+fn is_about_same<T: PartialEq, R: PartialEq>(this: &Info<T, R>, other: &Info<T, R>) -> bool
+    ensures { result ≡ about_same T.eq R.eq (shown this.now) (shown other.now) }
+{
+    match this {
+        Info::Token(a) => match other {
+            Info::Token(b) => *a == *b,
+            _ => false,
+        },
+        Info::Range(a) => match other {
+            Info::Range(b) => *a == *b,
+            _ => false,
+        },
+        Info::Static(a) => match other {
+            Info::Static(b) => *a == *b,
+            _ => false,
+        },
+        Info::Owned(a) => match other {
+            Info::Owned(b) => a.as_str() == b.as_str(),
+            _ => false,
+        },
+        Info::More(a) => match other {
+            Info::More(b) => *a == *b,
+            _ => false,
+        },
+    }
+}
+
+impl<T: PartialEq, R: PartialEq> Error<T, R> {
+    fn is_same(&self, other: &Self) -> bool
+        ensures { result ≡ item_same T.eq R.eq (said self.now) (said other.now) }
+    {
+        match self {
+            Error::Unexpected(a) => match other {
+                Error::Unexpected(b) => is_about_same(a, b),
+                _ => false,
+            },
+            Error::Expected(a) => match other {
+                Error::Expected(b) => is_about_same(a, b),
+                _ => false,
+            },
+            Error::Message(a) => match other {
+                Error::Message(b) => is_about_same(a, b),
+                _ => false,
+            },
+        }
+    }
+}
+
+fn is_expected<T, R>(item: &Error<T, R>) -> bool
+    ensures { is_other item.now ≡ not result }
+{
+    matches!(item, Error::Expected(_))
+}
+
+// Whether an equal item is among those.
+fn is_there<T: PartialEq, R: PartialEq>(item: &Error<T, R>, errors: &[Error<T, R>]) -> bool
+    ensures { result ≡ list_any (λ j. item_same T.eq R.eq (said j) (said item.now)) errors.now }
+{
+    for error in errors {
+        if error.is_same(item) {
+            return true;
+        }
+    }
+    false
+}
+
+// Drops the item at that place if it says what was expected; where the next one then stands.
+fn drop_if_expected<T, R>(errors: &mut Vec<Error<T, R>>, at: usize) -> usize
+where
+    T: Drop,
+    R: Drop,
+    requires { at < length errors.old.items }
+    ensures items { cleared_from result errors.new.items ≡ cleared_from at errors.old.items }
+    ensures fewer { length errors.new.items - result < length errors.old.items - at }
+{
+    if is_expected(&errors[at]) {
+        drop(errors.remove(at));
+        return at;
+    }
+    at + 1
+}
+
+/// The kind of an item is `Refused`, also that of the end of input.
+impl<T: Copy, R: Copy> StreamError<T, R> for Error<T, R> {
+    ghost use Rattle.combine_base.specs.Error.Errors.{if_kept};
+    ghost use Rattle.combine_base.specs.Error.Items as items;
+    ghost use Rattle.combine_base.specs.declared.stream.Kind.{Kind};
+
+    ghost kind = { λ _. Kind.Refused };
+
+    ghost items = { λ e. said e ∷ [] };
+
+    ghost keeps = { true };
+
+    fn kind(&self) -> Kind {
+        Kind::Refused
+    }
+
+    fn unexpected_token(token: T) -> Self {
+        Error::Unexpected(Info::Token(token))
+    }
+
+    fn unexpected(info: Info<T, R>) -> Self
+        ensures kind { Kind.Refused ≡ Kind.Refused }
+        ensures items { said result ∷ [] ≡ if_kept true (items.Unexpected (shown info)) }
+    {
+        Error::Unexpected(info)
+    }
+
+    fn expected(info: Info<T, R>) -> Self
+        ensures kind { Kind.Refused ≡ Kind.Refused }
+        ensures items { said result ∷ [] ≡ if_kept true (items.Expected (shown info)) }
+    {
+        Error::Expected(info)
+    }
+
+    fn message(info: Info<T, R>) -> Self
+        ensures kind { Kind.Refused ≡ Kind.Refused }
+        ensures items { said result ∷ [] ≡ if_kept true (items.Message (shown info)) }
+    {
+        Error::Message(info)
+    }
+
+    fn end_of_input() -> Self {
+        Error::Unexpected(Info::Static("end of input"))
+    }
+
+    fn expected_more(missing: usize) -> Self {
+        Error::Message(Info::More(missing))
+    }
+}
+
+impl<T: Copy + PartialEq, R: Copy + PartialEq, P: Ord + Copy> Errors<T, R, P> {
+    // Puts the item at the end unless an equal one is there.
+    fn put(&mut self, item: Error<T, R>)
+        ensures { Says (listed T.eq R.eq) (Unit {0}) (Only (said item)) self.old self.new }
+    {
+        if is_there(&item, self.errors.as_slice()) {
+            return;
+        }
+        match self.errors.push(item) {
+            Ok(()) => {}
+            Err(_refused) => self.kind = Kind::Memory,
+        }
+    }
+
+    fn put_all(&mut self, all: Vec<Error<T, R>>)
+        ensures { Says (listed T.eq R.eq) (Unit {0}) (λ is. is ≡ map said all.items) self.old self.new }
+    {
+        for item in all {
+            self.put(item);
+        }
+    }
+}
+
+impl<T: Copy + PartialEq, R: Copy + PartialEq, P: Ord + Copy> ParseError<T, R, P>
+    for Errors<T, R, P> {
+    ghost use Rattle.combine_error.specs.Easy.{listed_apart};
+
+    type StreamError = Error<T, R>;
+
+    ghost seen = { listed T.eq R.eq };
+
+    ghost tells_apart = { listed_apart T.eq R.eq };
+
+    fn kind(&self) -> Kind {
+        self.kind
+    }
+
+    fn position(&self) -> Option<P> {
+        Some(self.position)
+    }
+
+    fn set_position(&mut self, position: P) {
+        self.position = position;
+    }
+
+    fn add(&mut self, item: Error<T, R>)
+        ensures { Says (listed T.eq R.eq) (Unit {0}) (λ is. is ≡ said item ∷ []) self.old self.new }
+    {
+        self.put(item);
+    }
+
+    fn add_unexpected(&mut self, info: &Info<T, R>) {
+        match copied(info) {
+            Ok(info) => self.put(Error::Unexpected(info)),
+            Err(_refused) => self.kind = Kind::Memory,
+        }
+    }
+
+    fn add_expected(&mut self, info: &Info<T, R>) {
+        match copied(info) {
+            Ok(info) => self.put(Error::Expected(info)),
+            Err(_refused) => self.kind = Kind::Memory,
+        }
+    }
+
+    fn add_message(&mut self, info: &Info<T, R>) {
+        match copied(info) {
+            Ok(info) => self.put(Error::Message(info)),
+            Err(_refused) => self.kind = Kind::Memory,
+        }
+    }
+
+    fn clear_expected(&mut self) {
+        self.errors.retain(
+            |item: &Error<T, R>| -> bool
+                ensures { result ≡ is_other item.now }
+            {
+                match item {
+                    Error::Unexpected(_) => true,
+                    Error::Expected(_) => false,
+                    Error::Message(_) => true,
+                }
+            },
+        );
+    }
+
+    fn out_of_memory(&mut self) {
+        self.kind = Kind::Memory;
+    }
+
+    fn count_items(&self) -> usize {
+        self.errors.len()
+    }
+
+    fn clear_expected_after(&mut self, kept: usize) {
+        let mut at = kept;
+        'items: while at < self.errors.len() {
+            at = drop_if_expected(&mut self.errors, at);
+        }
+    }
+
+    #[inline(always)]
+    fn merge(self, other: Self) -> Self {
+        let mut first = self;
+        let mut second = other;
+        let kind = if first.kind == Kind::Refused {
+            Kind::Refused
+        } else {
+            second.kind
+        };
+        match first.position.cmp(&second.position) {
+            Ordering::Less => {
+                second.kind = kind;
+                second
+            }
+            Ordering::Equal => {
+                first.kind = kind;
+                let Errors {
+                    position: _,
+                    errors,
+                    kind: _,
+                } = second;
+                first.put_all(errors);
+                first
+            }
+            Ordering::Greater => {
+                first.kind = kind;
+                first
+            }
+        }
+    }
+}

@@ -1,0 +1,46 @@
+//! The driver whose errors keep items.
+ghost use Rattle.std.specs.Prelude.{◌≡◌, None, Ok, Err, MatchResult};
+ghost use Rattle.combine_base.specs.Parser.Meaning.{IsSingle, MeansSame};
+ghost use Rattle.combine_base.specs.Parser.Answer.{world};
+ghost use Rattle.combine_base.specs.Parser.Drivers.{StartResults};
+ghost use Rattle.combine_error.specs.Easy.{listed};
+
+use crate::easy::{Errors, Stream as EasyStream};
+use combine_base::parser::Parser;
+use combine_base::stream::Stream;
+use std::alloc::Global;
+
+/// Parses with errors that keep items. Every parser over an `easy::Stream` has it.
+pub trait EasyParser<S: Stream>: Parser<EasyStream<S>>
+where
+    S::Token: PartialEq,
+    S::Range: PartialEq,
+{
+    /// Parses from the start: returns the value and the input that is left, or the error, which says what stood there and what was expected. As `parse` over an `easy::Stream`.
+    ///
+    /// The items of errors take their memory from `alloc`; one that finds none makes it an error of kind `Memory`.
+    final fn easy_parse(
+        &mut self,
+        alloc: Global,
+        input: S,
+    ) -> Result<(Self::Output, S), Errors<S::Token, S::Range, S::Position>>
+        requires { Self.lawful self.old }
+        ensures lawful { Self.lawful self.new }
+        ensures same { MeansSame (Self.meaning self.old) (Self.meaning self.new) }
+        ensures single { Self.determined self.old → IsSingle (Self.meaning self.old).whole }
+        ensures results { MatchResult result
+            (λ p. StartResults (world S.step (listed S.Token.eq S.Range.eq) S.steady Self.PartialState.is_default) (Self.meaning self.old) (listed S.Token.eq S.Range.eq) (Self.refuses self.old None (S.view input)) (S.view input) (S.view p.1) (S.failures input) (S.failures p.1) (Ok p.0))
+            (λ e. (left : S) × StartResults (world S.step (listed S.Token.eq S.Range.eq) S.steady Self.PartialState.is_default) (Self.meaning self.old) (listed S.Token.eq S.Range.eq) (Self.refuses self.old None (S.view input)) (S.view input) (S.view left) (S.failures input) (S.failures left) (Err e)) }
+    {
+        match self.parse(EasyStream::new(alloc, input)) {
+            Ok((value, left)) => Ok((value, left.into_inner())),
+            Err(error) => Err(error),
+        }
+    }
+}
+
+impl<S: Stream, P: Parser<EasyStream<S>>> EasyParser<S> for P
+where
+    S::Token: PartialEq,
+    S::Range: PartialEq,
+{}

@@ -1,0 +1,264 @@
+//! The parsers that shape errors.
+ghost use Rattle.std.specs.Prelude.{◌≡◌, ◌↔◌, true};
+ghost use Rattle.combine_base.specs.Error.Errors.{Nothing, Only};
+ghost use Rattle.combine_base.specs.Error.Items as items;
+ghost use Rattle.combine_base.specs.Error.Items.{shown};
+ghost use Rattle.combine_base.specs.Parser.Judged.{IsRefusal};
+ghost use Rattle.combine_error.specs.Copies.{NoText};
+ghost use Rattle.combine_error.specs.Saying.{AndThen, Hushes, InPlace, Tells, ToldLess, saying, saying_is_meaning, saying_means_one, told_more};
+ghost use Rattle.combine_error.specs.Shaped.{hushed_part, named_info, named_part, told_info, told_part};
+
+use crate::info::copied;
+use combine_base::error::{ErrorOffset, Info, ParseError, ParseResult, Tracked};
+use combine_base::parser::{Outputs, ParseMode, Parser};
+use combine_base::stream::{Kind, Stream, StreamOnce};
+use std::alloc::AllocError;
+
+/// The parser of [`message`](crate::error::message). `I` is an `Info`, in the crate what is turned into one.
+#[derive(Drop)]
+pub struct Message<P, I> {
+    pub(super) parser: P,
+    pub(super) info: I,
+}
+
+/// The parser of [`expected`](crate::error::expected). `I` is an `Info`, in the crate what is turned into one.
+#[derive(Drop)]
+pub struct Expected<P, I> {
+    pub(super) parser: P,
+    pub(super) info: I,
+}
+
+/// The parser of [`silent`](crate::error::silent).
+#[derive(Clone, Drop)]
+pub struct Silent<P>(pub(super) P);
+
+impl<P: Clone, A: Copy, R: Copy> Clone for Message<P, Info<A, R>> {
+    ghost is_clone = { λ p q. P.is_clone (told_part p) (told_part q) × (shown (told_info q) ≡ shown (told_info p)) };
+
+    ghost is_infallible = { λ p. P.is_infallible (told_part p) × NoText (told_info p) };
+
+    fn clone(&self) -> Result<Self, AllocError> {
+        Ok(Message {
+            parser: self.parser.clone()?,
+            info: copied(&self.info)?,
+        })
+    }
+}
+
+impl<P: Clone, A: Copy, R: Copy> Clone for Expected<P, Info<A, R>> {
+    ghost is_clone = { λ p q. P.is_clone (named_part p) (named_part q) × (shown (named_info q) ≡ shown (named_info p)) };
+
+    ghost is_infallible = { λ p. P.is_infallible (named_part p) × NoText (named_info p) };
+
+    fn clone(&self) -> Result<Self, AllocError> {
+        Ok(Expected {
+            parser: self.parser.clone()?,
+            info: copied(&self.info)?,
+        })
+    }
+}
+
+// Whether a committed error is a refusal: no need of more, and no fault.
+#[inline]
+fn is_refusal<Input: Stream>(input: &Input, error: &Input::Error) -> bool
+    ensures { (result ≡ true) ↔ IsRefusal (Input.view input.now).is_open (Input.Error.seen.kind error.now) }
+{
+    match error.kind() {
+        Kind::Refused => true,
+        Kind::End => !input.is_partial(),
+        Kind::Memory | Kind::Read | Kind::Reset | Kind::Lost => false,
+    }
+}
+
+// Has a committed refusal say this too.
+fn tell<O: Drop, Input: Stream>(
+    input: &Input,
+    info: &Info<Input::Token, Input::Range>,
+    answer: ParseResult<O, Input::Error>,
+) -> ParseResult<O, Input::Error>
+    ensures { Tells Input.Error.seen (Input.view input.now).is_open (Only (items.Message (shown info.now))) answer result }
+{
+    match answer {
+        ParseResult::CommitErr(error) => {
+            let mut error = error;
+            if is_refusal(input, &error) {
+                error.add_message(info);
+                return ParseResult::CommitErr(error);
+            }
+            ParseResult::CommitErr(error)
+        }
+        ParseResult::CommitOk(value) => ParseResult::CommitOk(value),
+        ParseResult::PeekOk(value) => ParseResult::PeekOk(value),
+        ParseResult::PeekErr(refusal) => ParseResult::PeekErr(refusal),
+    }
+}
+
+// Has a refusal no longer say what was expected.
+fn hush<O: Drop, Input: Stream>(
+    input: &Input,
+    answer: ParseResult<O, Input::Error>,
+) -> ParseResult<O, Input::Error>
+    ensures { Hushes Input.Error.seen (Input.view input.now).is_open answer result }
+{
+    match answer {
+        ParseResult::CommitErr(error) => {
+            let mut error = error;
+            if is_refusal(input, &error) {
+                error.clear_expected();
+                return ParseResult::CommitErr(error);
+            }
+            ParseResult::CommitErr(error)
+        }
+        ParseResult::PeekErr(refusal) => {
+            let mut refusal = refusal;
+            refusal.error.clear_expected();
+            ParseResult::PeekErr(refusal)
+        }
+        ParseResult::CommitOk(value) => ParseResult::CommitOk(value),
+        ParseResult::PeekOk(value) => ParseResult::PeekOk(value),
+    }
+}
+
+impl<Input, P: Outputs<Input>, I> Outputs<Input> for Message<P, I> {
+    type Output = P::Output;
+}
+
+impl<Input: Stream, P: Parser<Input>> Parser<Input>
+    for Message<P, Info<Input::Token, Input::Range>> {
+    type PartialState = P::PartialState;
+
+    ghost lawful = { λ p. P.lawful (told_part p) };
+
+    ghost determined = { λ p. P.determined (told_part p) };
+
+    ghost valid = { P.valid };
+
+    ghost meaning = { λ p. saying (P.meaning (told_part p)) (AndThen (P.meaning (told_part p)).adds (items.Message (shown (told_info p)))) };
+
+    ghost refuses = { λ p k v. told_more Input.Error.seen (P.refuses (told_part p) k v) (items.Message (shown (told_info p))) };
+
+    ghost parts = { λ p. P.parts (told_part p) };
+
+    ghost default_valid = { P.default_valid };
+
+    ghost laws = { λ p l. saying_is_meaning P.PartialState.is_default P.valid (P.meaning (told_part p)) (AndThen (P.meaning (told_part p)).adds (items.Message (shown (told_info p)))) (P.laws (told_part p) l) };
+
+    ghost single = { λ p l d. saying_means_one P.valid (P.meaning (told_part p)) (AndThen (P.meaning (told_part p)).adds (items.Message (shown (told_info p)))) (P.single (told_part p) l d) };
+
+    #[inline(always)]
+    fn parse_mode<M: ParseMode>(
+        &mut self,
+        mode: M,
+        input: &mut Input,
+        state: &mut Self::PartialState,
+    ) -> ParseResult<P::Output, Input::Error> {
+        let answer = self.parser.parse_mode(mode, input, state);
+        tell(input, &self.info, answer)
+    }
+
+    /// What the parser adds, and then the message.
+    fn add_error(&mut self, error: &mut Tracked<Input::Error>) {
+        self.parser.add_error(error);
+        error.error.add_message(&self.info);
+    }
+
+    /// As for the parser.
+    fn parser_count(&self) -> ErrorOffset {
+        self.parser.parser_count()
+    }
+}
+
+impl<Input, P: Outputs<Input>> Outputs<Input> for Silent<P> {
+    type Output = P::Output;
+}
+
+impl<Input: Stream, P: Parser<Input>> Parser<Input> for Silent<P> {
+    type PartialState = P::PartialState;
+
+    ghost lawful = { λ p. P.lawful (hushed_part p) };
+
+    ghost determined = { λ p. P.determined (hushed_part p) };
+
+    ghost valid = { P.valid };
+
+    ghost meaning = { λ p. saying (P.meaning (hushed_part p)) Nothing };
+
+    ghost refuses = { λ p k v. ToldLess Input.Error.seen (P.refuses (hushed_part p) k v) };
+
+    ghost parts = { λ p. P.parts (hushed_part p) };
+
+    ghost default_valid = { P.default_valid };
+
+    ghost laws = { λ p l. saying_is_meaning P.PartialState.is_default P.valid (P.meaning (hushed_part p)) Nothing (P.laws (hushed_part p) l) };
+
+    ghost single = { λ p l d. saying_means_one P.valid (P.meaning (hushed_part p)) Nothing (P.single (hushed_part p) l d) };
+
+    #[inline(always)]
+    fn parse_mode<M: ParseMode>(
+        &mut self,
+        mode: M,
+        input: &mut Input,
+        state: &mut Self::PartialState,
+    ) -> ParseResult<P::Output, Input::Error> {
+        let answer = self.0.parse_mode(mode, input, state);
+        hush(input, answer)
+    }
+
+    /// Adds nothing.
+    fn add_error(&mut self, error: &mut Tracked<Input::Error>) {}
+
+    /// As for the parser.
+    fn parser_count(&self) -> ErrorOffset {
+        self.0.parser_count()
+    }
+}
+
+impl<Input, P: Outputs<Input>, I> Outputs<Input> for Expected<P, I> {
+    type Output = P::Output;
+}
+
+impl<Input: Stream, P: Parser<Input>> Parser<Input>
+    for Expected<P, Info<Input::Token, Input::Range>> {
+    type PartialState = P::PartialState;
+
+    ghost lawful = { λ p. P.lawful (named_part p) };
+
+    ghost determined = { λ p. P.determined (named_part p) };
+
+    ghost valid = { P.valid };
+
+    ghost meaning = { λ p. saying (P.meaning (named_part p)) (InPlace (P.meaning (named_part p)).adds (items.Expected (shown (named_info p)))) };
+
+    ghost refuses = { λ p. P.refuses (named_part p) };
+
+    ghost parts = { λ p. P.parts (named_part p) };
+
+    ghost default_valid = { P.default_valid };
+
+    ghost laws = { λ p l. saying_is_meaning P.PartialState.is_default P.valid (P.meaning (named_part p)) (InPlace (P.meaning (named_part p)).adds (items.Expected (shown (named_info p)))) (P.laws (named_part p) l) };
+
+    ghost single = { λ p l d. saying_means_one P.valid (P.meaning (named_part p)) (InPlace (P.meaning (named_part p)).adds (items.Expected (shown (named_info p)))) (P.single (named_part p) l d) };
+
+    #[inline(always)]
+    fn parse_mode<M: ParseMode>(
+        &mut self,
+        mode: M,
+        input: &mut Input,
+        state: &mut Self::PartialState,
+    ) -> ParseResult<P::Output, Input::Error> {
+        self.parser.parse_mode(mode, input, state)
+    }
+
+    /// What the parser adds but what it says was expected, and then that this was.
+    fn add_error(&mut self, error: &mut Tracked<Input::Error>) {
+        let kept = error.error.count_items();
+        self.parser.add_error(error);
+        error.error.clear_expected_after(kept);
+        error.error.add_expected(&self.info);
+    }
+
+    /// As for the parser.
+    fn parser_count(&self) -> ErrorOffset {
+        self.parser.parser_count()
+    }
+}

@@ -1,9 +1,0 @@
-use Rattle.std.proofs.Common.{map}
-use Rattle.std.proofs.lemmas.List.{map-append}
-use Rattle.combine_errors.specs.Easy.{said}
-use Rattle.combine_errors.proofs.Adding.{says_more}
-use Rattle.combine_errors.proofs.easy.Errors.put_all.Goals as goal
-
-pub loop-item-preserved : goal.loop-item-preserved
-loop-item-preserved g c =
-    rw map-append (says_more _ (map said c.loop-item.yielded) (said c.in-Some.item) _ _ _ c.loop-item.invariant c.put.ensures)

@@ -1,5 +1,0 @@
-use Rattle.combine_errors.proofs.Spanning.{span_distance}
-use Rattle.combine_errors.proofs.span.StreamRangeStream.distance.Goals as goal
-
-pub returns : goal.returns
-returns g c = span_distance _ _ _ _ _ c.distance.ensures

@@ -1,5 +1,0 @@
-use Rattle.combine_errors.proofs.Spanning.{span_moved}
-use Rattle.combine_errors.proofs.span.StreamResetStream.has_moved.Goals as goal
-
-pub returns : goal.returns
-returns g c = span_moved _ _ _ _ c.has_moved.ensures

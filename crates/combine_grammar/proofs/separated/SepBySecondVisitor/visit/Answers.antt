@@ -1,4 +1,0 @@
-use Rattle.combine_grammar.proofs.separated.SepBySecondVisitor.visit.Goals as goal
-
-pub returns : goal.returns
-returns g c = rw c.sep_by.ensures at c.visit.ensures

@@ -1,5 +1,0 @@
-use Rattle.combine_map.proofs.Denying.{accepted_where_refused}
-use Rattle.combine_map.proofs.combinator.laws.not_followed_by_is_accepted_where_refused.Goals as goal
-
-pub returns : goal.returns
-returns g c = λ v. accepted_where_refused _ v

@@ -1,7 +1,0 @@
-use Rattle.combine_map.specs.Tables.{stays, table_means_same}
-use Rattle.combine_map.proofs.combinator.look.NoPartialParser.add_error.Goals as goal
-
-pub returns-clause-same : goal.returns-clause-same
-returns-clause-same g c =
-    let same = c.add_error.ensures.same in
-    table_means_same stays _ _ same same.adds

@@ -1,0 +1,11 @@
+//! The parser that the function of `range` answers.
+
+pub use super::prefix::{AsLength, Taking};
+use combine_combinator::combinator::types::NoPartial;
+use combine_combinator_function::combinator::Changed;
+use combine_sequence::sequence::types::Answered;
+
+/// The parser of [`length_prefix`](crate::range::length_prefix): no type of its own, but one that is composed of others, with the stream's ranges as `R`.
+pub type LengthPrefix<Input, P, R> = NoPartial<
+    Answered<Changed<P, AsLength, usize>, Taking<Input>, R>,
+>;

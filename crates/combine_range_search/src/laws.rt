@@ -1,0 +1,38 @@
+//! What `take_fn` of a function whose answers stay means, stated by functions that do nothing.
+ghost use Rattle.std.specs.Prelude.{◌≡◌, List};
+ghost use Rattle.combine_base.specs.Parser.Outcome.{Outcome};
+ghost use Rattle.combine_base.specs.Stream.View.{View};
+ghost use Rattle.combine_range.specs.Kept.{items_of};
+ghost use Rattle.combine_range.specs.declared.distance.Distance.{Distance};
+ghost use Rattle.combine_range_search.specs.Options.{answers_as};
+ghost use Rattle.combine_range_search.specs.Searchers.{take_fn_of};
+ghost use Rattle.combine_range_search.specs.Searches.{searching};
+ghost use Rattle.combine_range_search.specs.Stable.{Stable, answered_by};
+ghost use Rattle.combine_range_search.specs.declared.search.TakeRange.{TakeRange};
+
+use crate::range::types::TakeFn;
+use crate::search::TakeRange;
+use combine_base::parser::Parser;
+use combine_range::distance::Distance;
+use combine_stream::range::{Range, RangeStream};
+
+/// It has one outcome: the function answers from the tokens alone, what it finds stays on longer ranges, and from any boundary within what need not be searched again it finds the same place.
+pub fn stable_has_one_outcome<Input: RangeStream, T: Into<TakeRange>, F: Fn(Input::Range) -> T>(
+    searcher: &F,
+)
+where
+    Input::Range: Range,
+    ensures { (f : List Input.Token → TakeRange) → Stable Input.size Input.spells (answers_as (F.post searcher.now) T.converts) f → ⟦<TakeFn<F, Input> as Parser<Input>>⟧.determined (take_fn_of searcher.now) }
+{}
+
+/// It means what the function answers of all that is unread, or of all that is behind the distance that is kept.
+pub fn stable_means_what_it_answers<
+    Input: RangeStream,
+    T: Into<TakeRange>,
+    F: Fn(Input::Range) -> T,
+>(searcher: &F)
+where
+    Input::Range: Range,
+    ensures { (f : List Input.Token → TakeRange) → Stable Input.size Input.spells (answers_as (F.post searcher.now) T.converts) f → (d : Distance) (v : View Input.Position Input.Token) (o : Outcome Input.Range) →
+        (⟦<TakeFn<F, Input> as Parser<Input>>⟧.meaning (take_fn_of searcher.now)).rest d v o → searching Input.size Input.spells (answered_by f) (items_of d) v o }
+{}

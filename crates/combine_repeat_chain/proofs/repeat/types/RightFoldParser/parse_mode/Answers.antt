@@ -1,0 +1,49 @@
+use Rattle.std.proofs.Common.{None}
+use Rattle.combine_base.proofs.Mapped.{mapped_err, mapped_ok, mapped_peek_err, mapped_peek_ok}
+use Rattle.combine_base.specs.Parser.Mapped.{mapped_means_same}
+use Rattle.combine_repeat_turns.specs.BoundedLaws.{turns_means_same}
+use Rattle.combine_repeat_turns.specs.Counts.{never}
+use Rattle.combine_repeat_turns.specs.declared.turns.Bounds.TheVariants.{Joined}
+use Rattle.combine_repeat_chain.proofs.repeat.types.RightFoldParser.parse_mode.Goals as goal
+
+pub returns-in-CommitOk-clause-same : goal.returns-in-CommitOk-clause-same
+returns-in-CommitOk-clause-same g c = mapped_means_same _ _ _ (turns_means_same _ (Joined 1 None) never _ _ _ _ _ _ c.take_joined.ensures.same)
+
+pub returns-in-PeekOk-clause-same : goal.returns-in-PeekOk-clause-same
+returns-in-PeekOk-clause-same g c = mapped_means_same _ _ _ (turns_means_same _ (Joined 1 None) never _ _ _ _ _ _ c.take_joined.ensures.same)
+
+pub returns-in-CommitErr-clause-same : goal.returns-in-CommitErr-clause-same
+returns-in-CommitErr-clause-same g c = mapped_means_same _ _ _ (turns_means_same _ (Joined 1 None) never _ _ _ _ _ _ c.take_joined.ensures.same)
+
+pub returns-in-PeekErr-clause-same : goal.returns-in-PeekErr-clause-same
+returns-in-PeekErr-clause-same g c = mapped_means_same _ _ _ (turns_means_same _ (Joined 1 None) never _ _ _ _ _ _ c.take_joined.ensures.same)
+
+pub returns-in-CommitErr-clause-answers : goal.returns-in-CommitErr-clause-answers
+returns-in-CommitErr-clause-answers g c = mapped_err _ _ _ _ _ c.in-CommitErr.ensures.answers
+
+pub returns-in-PeekErr-clause-answers : goal.returns-in-PeekErr-clause-answers
+returns-in-PeekErr-clause-answers g c = mapped_peek_err _ _ _ _ _ c.in-PeekErr.ensures.answers
+
+pub returns-in-CommitOk-clause-answers : goal.returns-in-CommitOk-clause-answers
+returns-in-CommitOk-clause-answers g c = mapped_ok _ _ _ _ _ _ c.fold.ensures c.in-CommitOk.ensures.answers
+
+pub returns-in-PeekOk-clause-answers : goal.returns-in-PeekOk-clause-answers
+returns-in-PeekOk-clause-answers g c = mapped_peek_ok _ _ _ _ _ _ c.fold-in-PeekOk.ensures c.in-PeekOk.ensures.answers
+
+pub returns-in-CommitOk-clause-valid : goal.returns-in-CommitOk-clause-valid
+returns-in-CommitOk-clause-valid g c = (c.take_joined.ensures.valid, c.take_joined.ensures.sound.kept)
+
+pub returns-in-PeekOk-clause-valid : goal.returns-in-PeekOk-clause-valid
+returns-in-PeekOk-clause-valid g c = (c.take_joined.ensures.valid, c.take_joined.ensures.sound.kept)
+
+pub returns-in-CommitErr-clause-valid : goal.returns-in-CommitErr-clause-valid
+returns-in-CommitErr-clause-valid g c = (c.take_joined.ensures.valid, c.take_joined.ensures.sound.kept)
+
+pub returns-in-PeekErr-clause-valid : goal.returns-in-PeekErr-clause-valid
+returns-in-PeekErr-clause-valid g c = (c.take_joined.ensures.valid, c.take_joined.ensures.sound.kept)
+
+pub fold-requires : goal.fold-requires
+fold-requires g c = record { callable = c.in-CommitOk.ensures.sound.value }
+
+pub fold-requires-in-PeekOk : goal.fold-requires-in-PeekOk
+fold-requires-in-PeekOk g c = record { callable = c.in-PeekOk.ensures.sound.value }

@@ -1,0 +1,29 @@
+-- the parsers that the constructors build, and their parts
+use Rattle.std.specs.declared.alloc.Global.{Global}
+use Rattle.combine_combinator.specs.Parsers.{no_partial_of, picked_of}
+use Rattle.combine_combinator.specs.declared.combinator.look.NoPartial.{NoPartial}
+use Rattle.combine_combinator.specs.declared.combinator.values.Nothing.{Nothing}
+use Rattle.combine_combinator.specs.declared.combinator.values.Picked.{Picked}
+use Rattle.combine_repeat.specs.Built.{skip_many_of}
+use Rattle.combine_repeat.specs.declared.repeat.types.SkipMany.{SkipMany}
+use Rattle.combine_token.specs.Or.{or_parser}
+use Rattle.combine_token.specs.TokenParsers.{token_parser}
+use Rattle.combine_token.specs.declared.choice.types.Or.{Or}
+use Rattle.combine_token.specs.declared.token.types.Token.{Token}
+use Rattle.combine_repeat_chain.specs.declared.repeat.types.RightFold.{RightFold}
+
+abbrev pub right_fold_of : {P S : Type 0} → Global → P → S → RightFold P S
+right_fold_of alloc parser operator = record { alloc = alloc; turn = record { parser = parser; separator = operator; asks = record {} } }
+
+abbrev pub chainr1_of : {P S : Type 0} → Global → P → S → NoPartial (RightFold P S)
+chainr1_of alloc parser operator = no_partial_of (right_fold_of alloc parser operator)
+
+abbrev pub right_part : {P S : Type 0} → RightFold P S → P
+right_part p = p.turn.parser
+
+abbrev pub right_operator : {P S : Type 0} → RightFold P S → S
+right_operator p = p.turn.separator
+
+-- turns of a parser, or of a token and another parser
+abbrev pub escaped_of : {I P T Q : Type 0} → P → T → Q → SkipMany (Or (Picked P Nothing (Unit {0})) (Picked (Token I T × Q) Nothing (Unit {0})))
+escaped_of parser escape escaped = skip_many_of (or_parser (picked_of parser) (picked_of (token_parser escape, escaped)))

@@ -1,0 +1,102 @@
+//! Operands and the operators between them, kept to be folded from the right.
+ghost use Rattle.std.specs.Prelude.{◌≡◌, List, []};
+ghost use Rattle.combine_repeat_chain.specs.Chains.{all_good, folded_right, held_good, keeps_good, keeps_operand, kept_operands};
+ghost use Rattle.combine_repeat_chain.specs.declared.operands.Left.{Left};
+ghost use Rattle.combine_repeat_sep.specs.Separated.{lead_good};
+
+use combine_repeat_sep::separated::Element;
+use combine_repeat_turns::turns::Gather;
+use std::alloc::{AllocError, Global};
+use std::marker::PhantomData;
+
+/// An operand, and the operator behind it.
+#[derive(Drop)]
+pub struct Left<O, V> {
+    operand: V,
+    operator: O,
+}
+
+/// The operands that have an operator behind them, in order, and the last operand.
+#[derive(Drop)]
+pub struct Operands<O, V> {
+    before: Vec<Left<O, V>>,
+    last: V,
+}
+
+impl<O: FnOnce(V, V) -> V + Drop, V: Drop> Operands<O, V> {
+    /// The operands folded from the right.
+    pub(crate) fn fold(self) -> V
+        requires callable { all_good (λ f. O.IsAlwaysCallable f) (kept_operands self).0 }
+        ensures { folded_right (λ f x y r. O.post f x y r) (kept_operands self).0 (kept_operands self).1 result }
+    {
+        let Operands {
+            mut before,
+            mut last,
+        } = self;
+        'folding: while let Some(left) = before.pop() {
+            let Left { operand, operator } = left;
+            last = operator(operand, last);
+        }
+        last
+    }
+}
+
+/// Operands are kept one after another.
+#[derive(Drop)]
+pub struct EachOperand<V>(PhantomData<V>);
+
+impl<V: Drop, O: FnOnce(V, V) -> V + Drop> Gather<Element<O, V>> for EachOperand<V> {
+    ghost use Rattle.std.specs.Prelude.{None, Option, Some};
+
+    type Into = Operands<O, V>;
+
+    type From = Global;
+
+    ghost Held = { Option (List (Left O V) × V) };
+
+    ghost held = { λ z. Some (kept_operands z) };
+
+    ghost none = { None };
+
+    ghost more = { keeps_operand };
+
+    ghost able = { lead_good (λ f. O.IsAlwaysCallable f) };
+
+    ghost sound = { held_good (λ f. O.IsAlwaysCallable f) };
+
+    ghost lean = { ⊥ };
+
+    #[inline(always)]
+    fn begin(alloc: Global, value: Element<O, V>) -> Result<Operands<O, V>, AllocError> {
+        match value {
+            Element::First(last) => Ok(Operands {
+                before: Vec::new(alloc),
+                last,
+            }),
+            Element::Then(_operator, last) => Ok(Operands {
+                before: Vec::new(alloc),
+                last,
+            }),
+        }
+    }
+
+    #[inline(always)]
+    fn gather(into: Operands<O, V>, value: Element<O, V>) -> Result<Operands<O, V>, AllocError> {
+        let Operands { mut before, last } = into;
+        match value {
+            Element::First(next) => {
+                before.clear();
+                Ok(Operands { before, last: next })
+            }
+            Element::Then(operator, next) => {
+                before.push(Left {
+                    operand: last,
+                    operator,
+                })?;
+                Ok(Operands { before, last: next })
+            }
+        }
+    }
+
+    ghost keeps_sound = { keeps_good (λ f. O.IsAlwaysCallable f) };
+}

@@ -1,0 +1,110 @@
+//! The parsers that the functions of this module answer.
+ghost use Rattle.std.specs.Prelude.{◌≡◌};
+ghost use Rattle.combine_base.specs.Parser.Given.{GivesOnly};
+ghost use Rattle.combine_base.specs.Parser.Mapped.{mapped_is_meaning, mapped_means_one};
+ghost use Rattle.combine_repeat_sep.specs.Pair.{fewer_is_meaning, fewer_means_one, led_valid};
+ghost use Rattle.combine_repeat_chain.specs.ChainParsers.{right_operator, right_part};
+ghost use Rattle.combine_repeat_chain.specs.Chains.{nothing_good, each_operand, gives_right, kept_good, operands, right_fold};
+ghost use Rattle.combine_repeat_sep.specs.JoinedLaws.{joined_is_meaning, joined_means_one};
+ghost use Rattle.combine_repeat_sep.specs.Separated.{separated_default, separated_fresh, separated_valid};
+ghost use Rattle.combine_repeat_turns.specs.Bounded.{begun_valid, running_turn};
+
+use crate::operands::{EachOperand, Operands};
+use combine_base::error::{ErrorOffset, ParseResult, Tracked};
+use combine_base::parser::{Outputs, ParseMode, Parser};
+use combine_base::sequence::State2;
+use combine_base::stream::Stream;
+use combine_combinator::combinator::types::{Ignore, NoPartial};
+use combine_repeat::repeat::types::SkipMany;
+use combine_repeat_sep::separated::{Operator, Separated, SeparatedState};
+use combine_repeat_turns::turns::{TurnsState, take_joined};
+use combine_token::choice::OrState;
+use combine_token::choice::types::Or;
+use combine_token::token::types::Token;
+use std::alloc::Global;
+
+/// The parser of [`chainr1`](crate::repeat::chainr1).
+pub type Chainr1<P, S> = NoPartial<RightFold<P, S>>;
+
+/// The parser of [`escaped`](crate::repeat::escaped).
+pub type Escaped<Input, P, T, Q> = SkipMany<Or<Ignore<P>, Ignore<(Token<Input, T>, Q)>>>;
+
+/// What `escaped` keeps while more input is needed: whether a turn committed, whether the running one has taken a token, and which part of it runs, with its state.
+pub type EscapedState<Input, P, T, Q> = TurnsState<
+    (),
+    OrState<<P as Parser<Input>>::PartialState, State2<Input, Token<Input, T>, Q>>,
+>;
+
+/// As `chainr1`, but it keeps its operands on need of more. Our own.
+#[derive(Clone, Copy, Drop)]
+pub struct RightFold<P, S> {
+    pub(super) alloc: Global,
+    pub(super) turn: Separated<P, S, Operator>,
+}
+
+impl<Input, P: Outputs<Input>, S> Outputs<Input> for RightFold<P, S> {
+    type Output = P::Output;
+}
+
+impl<Input: Stream, P: Parser<Input>, S: Parser<Input>> Parser<Input> for RightFold<P, S>
+where
+    S::Output: FnOnce(P::Output, P::Output) -> P::Output,
+{
+    ghost use Rattle.std.specs.Prelude.{None};
+    ghost use Rattle.combine_repeat_turns.specs.declared.turns.Bounds.TheVariants.{Joined};
+
+    type PartialState = TurnsState<
+        Operands<S::Output, P::Output>,
+        SeparatedState<S::Output, S::PartialState, P::PartialState>,
+    >;
+
+    ghost lawful = { λ p. GivesOnly S.valid (S.meaning (right_operator p)) (λ f. S.Output.IsAlwaysCallable f) × S.lawful (right_operator p) × P.lawful (right_part p) };
+
+    ghost determined = { λ p. S.determined (right_operator p) × P.determined (right_part p) };
+
+    ghost valid = { λ s. separated_valid P.valid (led_valid (λ f. S.Output.IsAlwaysCallable f) S.valid P.valid) (running_turn s) × kept_good (λ f. S.Output.IsAlwaysCallable f) s };
+
+    ghost meaning = { λ p. right_fold Input.step (λ f x y r. S.Output.post f x y r) (P.meaning (right_part p)) (S.meaning (right_operator p)) };
+
+    ghost parts = { λ _. 1 };
+
+    ghost default_valid = { λ s d. (begun_valid (separated_fresh P.PartialState.is_default) (separated_valid P.valid (led_valid (λ f. S.Output.IsAlwaysCallable f) S.valid P.valid)) (separated_default P.PartialState.is_default P.valid (led_valid (λ f. S.Output.IsAlwaysCallable f) S.valid P.valid) P.default_valid) s d, nothing_good (λ f. S.Output.IsAlwaysCallable f) s d.0) };
+
+    ghost laws = { λ p l. mapped_is_meaning _ _ (operands Input.step (P.meaning (right_part p)) (S.meaning (right_operator p))) (gives_right (λ f x y r. S.Output.post f x y r)) (fewer_is_meaning (λ s d. d.0) (joined_is_meaning Input.step (Joined 1 None) each_operand (λ f. S.Output.IsAlwaysCallable f) P.PartialState.is_default P.valid S.PartialState.is_default S.valid (P.meaning (right_part p)) (S.meaning (right_operator p)) (P.laws (right_part p) l.2) (S.laws (right_operator p) l.1))) };
+
+    ghost single = { λ p l d. mapped_means_one _ (operands Input.step (P.meaning (right_part p)) (S.meaning (right_operator p))) (gives_right (λ f x y r. S.Output.post f x y r)) (fewer_means_one (λ s d. d.0) (joined_means_one Input.step (Joined 1 None) each_operand (λ f. S.Output.IsAlwaysCallable f) P.valid S.valid (P.meaning (right_part p)) (S.meaning (right_operator p)) (P.single (right_part p) l.2 d.1) (S.single (right_operator p) l.1 d.0))) };
+
+    #[inline(always)]
+    fn parse_mode<M: ParseMode>(
+        &mut self,
+        mode: M,
+        input: &mut Input,
+        state: &mut Self::PartialState,
+    ) -> ParseResult<P::Output, Input::Error> {
+        let alloc = self.alloc;
+        match take_joined::<EachOperand<P::Output>, Input, Separated<P, S, Operator>, M>(
+            &mut self.turn,
+            alloc,
+            mode,
+            input,
+            state,
+        ) {
+            ParseResult::CommitOk(operands) => ParseResult::CommitOk(operands.fold()),
+            ParseResult::PeekOk(operands) => ParseResult::PeekOk(operands.fold()),
+            ParseResult::CommitErr(error) => ParseResult::CommitErr(error),
+            ParseResult::PeekErr(refusal) => ParseResult::PeekErr(refusal),
+        }
+    }
+
+    /// What the parser of the operands adds.
+    #[inline]
+    fn add_error(&mut self, error: &mut Tracked<Input::Error>) {
+        self.turn.parser.add_error(error);
+    }
+
+    /// It counts as one parser.
+    #[inline]
+    fn parser_count(&self) -> ErrorOffset {
+        ErrorOffset(1)
+    }
+}

@@ -1,0 +1,63 @@
+-- what a run of one item's parser promises
+use Rattle.std.specs.Prelude.{◌≡◌, ◌⊎◌, ◌||◌, Bool, true, false}
+use Rattle.combine_base.specs.Error.Errors.{Errors}
+use Rattle.combine_base.specs.Parser.Answer.{Answers, world}
+use Rattle.combine_base.specs.Parser.Judged.{NeedsMore}
+use Rattle.combine_base.specs.Parser.Meaning.{MeansSame}
+use Rattle.combine_base.specs.Sequence.Parts.{refused_as, run_from}
+use Rattle.combine_base.specs.Stream.Calls.{Passes}
+use Rattle.combine_base.specs.declared.stream.Kind.{Kind}
+use Rattle.combine_base.specs.declared.stream.Kind.TheVariants as kinds
+use Rattle.combine_base.specs.declared.error.ParseResult.{ParseResult}
+use Rattle.combine_base.specs.declared.error.ParseResult.TheVariants.{CommitOk, PeekOk, CommitErr, PeekErr}
+use Rattle.combine_base.specs.declared.parser.Parser as parser
+use Rattle.combine_base.specs.declared.stream.StreamOnce as stream
+use Rattle.combine_repeat_iterate.specs.Items.{begins_items}
+use Rattle.combine_repeat_iterate.specs.declared.repeat.items.Collected.{Collected}
+use Rattle.combine_repeat_iterate.specs.declared.repeat.items.Item.{Item}
+use Rattle.combine_repeat_iterate.specs.declared.repeat.items.Item.TheVariants as items
+use Rattle.combine_repeat_iterate.specs.declared.repeat.items.RunningItem.{RunningItem}
+use Rattle.combine_repeat_iterate.specs.declared.repeat.items.IterateState.{IterateState}
+use Rattle.combine_repeat_iterate.specs.declared.repeat.items.IterateState.TheVariants as states
+
+module _ {B C H It : Type 0} (held : C → H) (more : H → B → H) where
+  -- one more value is collected, of an item that was committed or not
+  pub record Stores (before : Collected C It) (value : B) (commits : Bool) (next : Collected C It) : Type 0 where
+    pub values : held next.values ≡ more (held before.values) value
+    pub committed : next.committed ≡ (before.committed || commits)
+    pub items : next.items ≡ before.items
+
+  module _ {E : Type 0} (kind : E → Kind) (lean : Type 0) (before : Collected C It) where
+    -- a value finds no memory
+    abbrev pub unstored : ParseResult C E → Type 0
+    unstored (CommitErr e) = (kind e ≡ kinds.Memory) × (lean → ⊥)
+    unstored (CommitOk c) = ⊥
+    unstored (PeekOk c) = ⊥
+    unstored (PeekErr t) = ⊥
+
+    abbrev pub stored : B → Bool → Item C It E → Type 0
+    stored value committed (items.Goes next) = Stores before value committed next
+    stored value committed (items.Stops answer) = unstored answer
+
+module _ {N Input It B C H U Checkpoint T R P E X : Type 0} (p : parser.Ghosts N Input U B Checkpoint T R P E X) (i : stream.Ghosts Input T R P E X) (seen : Errors T R P E) (fresh : U → Type 0) (held : C → H) (more : H → B → H) (lean : Type 0) where
+  -- need of more keeps the item's parser as it now is, with the state in which it stopped; every other answer leaves a state that begins
+  abbrev pub keeps_item : Bool → RunningItem C It N U → N → U → IterateState C It N U → ParseResult B E → Type 0
+  keeps_item is_open from parser stopped state answer = (NeedsMore seen.kind is_open answer × (state ≡ states.Running (record { before = from.before; parser = parser; state = stopped })) × p.valid stopped) ⊎ ((NeedsMore seen.kind is_open answer → ⊥) × begins_items state)
+
+  -- the next item's turn comes where the parser was accepted and its value was collected; else this is the answer
+  abbrev pub item_did : RunningItem C It N U → ParseResult B E → Item C It E → Type 0
+  item_did from (CommitOk b) result = stored held more seen.kind lean from.before b true result
+  item_did from (PeekOk b) result = stored held more seen.kind lean from.before b false result
+  item_did from (CommitErr e) result = result ≡ items.Stops (CommitErr e)
+  item_did from (PeekErr t) result = result ≡ items.Stops (refused_as from.before.committed t)
+
+  pub record CalledItem (input left : Input) (from : RunningItem C It N U) (state : IterateState C It N U) (result : Item C It E) : Type 0 where
+    pub parser : N
+    pub lawful : p.lawful parser
+    pub same : MeansSame (p.meaning from.parser) (p.meaning parser)
+    pub passes : Passes (i.marks input) (i.marks left) (i.failures input) (i.failures left)
+    pub stopped : U
+    pub answer : ParseResult B E
+    pub answers : Answers (world i.step seen i.steady fresh) (p.meaning from.parser) (run_from from.state stopped (i.view input) (i.view left) (i.failures input) (i.failures left)) answer
+    pub did : item_did from answer result
+    pub keeps : keeps_item (i.view left).is_open from parser stopped state answer

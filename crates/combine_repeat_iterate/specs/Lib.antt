@@ -1,0 +1,17 @@
+pub use Rattle.combine_base.specs.Error.Results
+pub use Rattle.combine_base.specs.Parser.Answer
+pub use Rattle.combine_base.specs.Parser.Called
+pub use Rattle.combine_base.specs.Parser.Kept
+pub use Rattle.combine_base.specs.Parser.Meaning
+pub use Rattle.combine_base.specs.Parser.Outcome
+pub use Rattle.combine_base.specs.Stream.Calls
+pub use Rattle.combine_base.specs.Stream.View
+pub use Rattle.combine_repeat_turns.specs.Bounded
+pub use Rattle.combine_repeat_turns.specs.Counts
+pub use Rattle.combine_repeat_turns.specs.Turns
+pub mod Turned
+pub mod Nexts
+pub use Rattle.combine_base.specs.Sequence.Readings
+pub mod Iterated
+pub mod Items
+pub mod ItemCalls

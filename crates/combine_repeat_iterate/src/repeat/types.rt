@@ -1,0 +1,109 @@
+//! The parser that `iterate` answers, and its state.
+ghost use Rattle.std.specs.Prelude.{◌≡◌, List};
+ghost use Rattle.combine_base.specs.Parser.Kept.{KeptOf};
+ghost use Rattle.combine_repeat_iterate.specs.Iterated.{AskedFor, Gives, InPlace, Lists, asked_part, by_function, gives_one, items_part};
+ghost use Rattle.combine_repeat_iterate.specs.Items.{AnswersOne, iterated, iterated_is_meaning, iterated_means_one, starts_valid, valid_item};
+
+use super::items::{Collected, Item, parse_item, resume_item};
+pub use super::items::{IterateState, RunningItem};
+use combine_base::error::{ErrorOffset, ParseResult, Tracked};
+use combine_base::parser::{FirstMode, Outputs, ParseMode, Parser};
+use combine_base::repeat::Append;
+use combine_base::sequence::{accepted_after, take_state};
+use combine_base::stream::{Kind, Stream};
+use std::alloc::Global;
+use std::marker::PhantomData;
+
+/// The parser of [`iterate`](crate::repeat::iterate).
+///
+/// The state keeps the running item's parser, which is not asked for again.
+#[derive(Drop)]
+pub struct Iterate<C, J, F> {
+    pub(super) alloc: Global,
+    pub(super) items: J,
+    pub(super) asked: F,
+    pub(super) collects: PhantomData<C>,
+}
+
+impl<Input, C: Drop, J, F> Outputs<Input> for Iterate<C, J, F> {
+    type Output = C;
+}
+
+impl<
+    Input: Stream,
+    J: Clone + IntoIterator,
+    N: Parser<Input> + Drop,
+    F: Fn(&J::Item, &mut Input) -> N,
+    C: Append<N::Output>,
+> Parser<Input> for Iterate<C, J, F>
+where
+    J::Item: Drop,
+    J::IntoIter: Drop,
+{
+    type PartialState = IterateState<C, J::IntoIter, N, N::PartialState>;
+
+    ghost lawful = { λ p. F.IsAlwaysCallable (asked_part p) × InPlace (λ a i n l. F.post (asked_part p) a i n l) Input.view Input.marks Input.failures × ((a : J.Item) (n : N) → AskedFor (λ a i n l. F.post (asked_part p) a i n l) a n → N.lawful n) × ((is : List J.Item) × Lists J.IntoIter.can_next J.IntoIter.remaining J.IntoIter.next_gives J.is_clone J.into_iter_gives (items_part p) is) };
+
+    ghost determined = { λ p. AnswersOne (AskedFor (λ a i n l. F.post (asked_part p) a i n l)) (λ n. (N.meaning n).whole) × ((n : N) → by_function Input.view Input.marks Input.failures F.Fn N.lawful n → N.determined n) × ((is xs : List J.Item) → Lists J.IntoIter.can_next J.IntoIter.remaining J.IntoIter.next_gives J.is_clone J.into_iter_gives (items_part p) is → Lists J.IntoIter.can_next J.IntoIter.remaining J.IntoIter.next_gives J.is_clone J.into_iter_gives (items_part p) xs → is ≡ xs) };
+
+    ghost valid = { valid_item (KeptOf N.lawful N.meaning (by_function Input.view Input.marks Input.failures F.Fn N.lawful)) N.valid (Gives J.IntoIter.can_next J.IntoIter.remaining J.IntoIter.next_gives) };
+
+    ghost meaning = { λ p. iterated Input.step (AskedFor (λ a i n l. F.post (asked_part p) a i n l)) (by_function Input.view Input.marks Input.failures F.Fn N.lawful) N.meaning C.held C.none C.more (Gives J.IntoIter.can_next J.IntoIter.remaining J.IntoIter.next_gives) (Lists J.IntoIter.can_next J.IntoIter.remaining J.IntoIter.next_gives J.is_clone J.into_iter_gives (items_part p)) (C.lean × J.is_infallible (items_part p)) };
+
+    ghost parts = { λ _. 1 };
+
+    ghost default_valid = { starts_valid (KeptOf N.lawful N.meaning (by_function Input.view Input.marks Input.failures F.Fn N.lawful)) N.valid (Gives J.IntoIter.can_next J.IntoIter.remaining J.IntoIter.next_gives) };
+
+    ghost laws = { λ p l. iterated_is_meaning Input.step (AskedFor (λ a i n l. F.post (asked_part p) a i n l)) (by_function Input.view Input.marks Input.failures F.Fn N.lawful) N.meaning C.held C.none C.more (Gives J.IntoIter.can_next J.IntoIter.remaining J.IntoIter.next_gives) (Lists J.IntoIter.can_next J.IntoIter.remaining J.IntoIter.next_gives J.is_clone J.into_iter_gives (items_part p)) (C.lean × J.is_infallible (items_part p)) N.lawful N.laws l.2 };
+
+    ghost single = { λ p l d. iterated_means_one Input.step (AskedFor (λ a i n l. F.post (asked_part p) a i n l)) (by_function Input.view Input.marks Input.failures F.Fn N.lawful) N.meaning C.held C.none C.more (Gives J.IntoIter.can_next J.IntoIter.remaining J.IntoIter.next_gives) (Lists J.IntoIter.can_next J.IntoIter.remaining J.IntoIter.next_gives J.is_clone J.into_iter_gives (items_part p)) (C.lean × J.is_infallible (items_part p)) d.0 N.lawful (λ n i. N.single n (i.all i.item n i.answered) (d.1 n i)) d.2 (gives_one J.IntoIter.can_next J.IntoIter.remaining J.IntoIter.next_gives) };
+
+    fn parse_mode<M: ParseMode>(
+        &mut self,
+        mode: M,
+        input: &mut Input,
+        state: &mut Self::PartialState,
+    ) -> ParseResult<C, Input::Error> {
+        let mut collected: Collected<C, J::IntoIter>;
+        match take_state(mode, state) {
+            IterateState::Running(item) => match resume_item(mode, input, item, state) {
+                Item::Goes(next) => collected = next,
+                Item::Stops(answer) => return answer,
+            },
+            IterateState::Start => match self.items.clone() {
+                Ok(items) => collected = Collected::none_yet(
+                    C::empty(self.alloc),
+                    items.into_iter(),
+                ),
+                Err(_refused) => {
+                    let error = input.new_error(Kind::Memory, input.position());
+                    return ParseResult::CommitErr(error);
+                }
+            },
+        }
+        'items: loop {
+            let Some(item) = collected.items.next() else {
+                return accepted_after(collected.committed, collected.values);
+            };
+            let running = RunningItem {
+                parser: (self.asked)(&item, input),
+                state: N::PartialState::default(),
+                before: collected,
+            };
+            match parse_item(FirstMode, input, running, state) {
+                Item::Goes(next) => collected = next,
+                Item::Stops(answer) => return answer,
+            }
+        }
+    }
+
+    /// Nothing is added.
+    #[inline]
+    fn add_error(&mut self, error: &mut Tracked<Input::Error>) {}
+
+    /// One, however many items there are.
+    #[inline]
+    fn parser_count(&self) -> ErrorOffset {
+        ErrorOffset(1)
+    }
+}

@@ -1,0 +1,111 @@
+//! How elements are gathered: each appended, or folded from the left.
+ghost use Rattle.std.specs.Prelude.{◌≡◌};
+ghost use Rattle.combine_repeat_sep.specs.Elements.{each_element, folds};
+ghost use Rattle.combine_repeat_sep.specs.Separated.{lead_good};
+ghost use Rattle.combine_repeat_turns.specs.Sound.{any_sound};
+
+use crate::separated::Element;
+use combine_base::repeat::Append;
+use combine_repeat_turns::turns::Gather;
+use std::alloc::{AllocError, Global};
+use std::marker::PhantomData;
+
+/// Each element is appended; what its separator gave is dropped.
+#[derive(Drop)]
+pub struct EachElement<F>(PhantomData<F>);
+
+impl<O: Drop, A: Drop, F: Append<A>> Gather<Element<O, A>> for EachElement<F> {
+    type Into = F;
+
+    type From = Global;
+
+    ghost Held = { F.Held };
+
+    ghost held = { F.held };
+
+    ghost none = { F.none };
+
+    ghost more = { each_element (λ h a i. i ≡ F.more h a) };
+
+    ghost able = { λ _. Unit {0} };
+
+    ghost sound = { λ _. Unit {0} };
+
+    ghost lean = { F.lean };
+
+    #[inline(always)]
+    fn begin(alloc: Global, value: Element<O, A>) -> Result<F, AllocError> {
+        let mut into = F::empty(alloc);
+        match value {
+            Element::First(value) => {
+                into.append(value)?;
+                Ok(into)
+            }
+            Element::Then(_separator, value) => {
+                into.append(value)?;
+                Ok(into)
+            }
+        }
+    }
+
+    #[inline(always)]
+    fn gather(into: F, value: Element<O, A>) -> Result<F, AllocError> {
+        let mut into = into;
+        match value {
+            Element::First(value) => {
+                into.append(value)?;
+                Ok(into)
+            }
+            Element::Then(_separator, value) => {
+                into.append(value)?;
+                Ok(into)
+            }
+        }
+    }
+
+    ghost keeps_sound = { any_sound };
+}
+
+/// Elements folded from the left, by what the separators gave.
+#[derive(Drop)]
+pub struct Folded<V>(PhantomData<V>);
+
+impl<V: Drop, O: FnOnce(V, V) -> V + Drop> Gather<Element<O, V>> for Folded<V> {
+    ghost use Rattle.std.specs.Prelude.{None, Option, Some};
+
+    type Into = V;
+
+    type From = ();
+
+    ghost Held = { Option V };
+
+    ghost held = { λ v. Some v };
+
+    ghost none = { None };
+
+    ghost more = { folds (λ f x y r. O.post f x y r) };
+
+    ghost able = { lead_good (λ f. O.IsAlwaysCallable f) };
+
+    ghost sound = { λ _. Unit {0} };
+
+    ghost lean = { Unit {0} };
+
+    #[inline(always)]
+    fn begin(from: (), value: Element<O, V>) -> Result<V, AllocError> {
+        match value {
+            Element::First(only) => Ok(only),
+            Element::Then(_operator, only) => Ok(only),
+        }
+    }
+
+    #[inline(always)]
+    fn gather(into: V, value: Element<O, V>) -> Result<V, AllocError> {
+        match value {
+            Element::First(right) => Ok(right),
+            Element::Then(operator, right) => Ok(operator(into, right)),
+        }
+    }
+
+    ghost keeps_sound = { any_sound };
+}

@@ -1,0 +1,280 @@
+//! What runs in each turn: a part, and later a separator and the part.
+ghost use Rattle.std.specs.Prelude.{◌≡◌, false, true};
+ghost use Rattle.combine_base.specs.Parser.Answer.{world};
+ghost use Rattle.combine_base.specs.Parser.Given.{GivesOnly};
+ghost use Rattle.combine_base.specs.Parser.Meaning.{MeansSame};
+ghost use Rattle.combine_base.specs.Stream.Calls.{Passes};
+ghost use Rattle.combine_repeat_sep.specs.Pair.{LedBy, led_is_meaning, led_means_one, led_valid, pair, pair_begins, pair_is_meaning, pair_means_one, pair_valid};
+ghost use Rattle.combine_repeat_sep.specs.Leads.{separated_gives};
+ghost use Rattle.combine_repeat_sep.specs.Placed.{Ran};
+ghost use Rattle.combine_repeat_sep.specs.Separated.{first_element, first_then, later_kept, later_turn, lead_good, part_of, separated_default, separated_fresh, separated_valid, separator_of, then_element, then_is_turn, then_once, turn_place};
+
+use crate::pair::{PairState, PairStateOf, parse_pair};
+use combine_base::error::{ParseResult, Tracked};
+use combine_base::parser::{FirstMode, ParseMode, Parser};
+use combine_base::stream::{Stream, needs_more};
+use combine_repeat_turns::turns::Turn;
+use std::marker::PhantomData;
+use std::mem;
+
+/// What a turn gives: the first element, or what a separator gave and the element after it.
+#[derive(Drop)]
+pub enum Element<O, V> {
+    First(V),
+    Then(O, V),
+}
+
+/// What stands before a part: nothing before the first, and before a later one what its separator gave, and whether that was committed.
+#[derive(Drop)]
+pub enum Lead<O> {
+    Nothing,
+    Separator(O, bool),
+}
+
+/// What is kept of a running turn: the state of a later separator, or of a part, with what stands before it.
+///
+/// It holds the state of a part in one place, so that parts within parts make it grow by as much at each level.
+#[derive(Drop)]
+pub enum SeparatedState<O, W, U> {
+    Separator(W),
+    Part(Lead<O>, U),
+}
+
+/// Which turn runs: the first part, or a later separator and part.
+#[derive(Drop)]
+pub enum TurnPlace<U, Z> {
+    First(U),
+    Later(Z),
+}
+
+impl<O, W, U: Default> Default for SeparatedState<O, W, U> {
+    ghost is_default = { separated_fresh U.is_default };
+
+    #[inline]
+    fn default() -> Self {
+        SeparatedState::Part(Lead::Nothing, U::default())
+    }
+}
+
+impl<O, W, U> SeparatedState<O, W, U> {
+    /// Returns which turn runs, with what is kept of it.
+    #[inline(always)]
+    pub fn into_place(self) -> TurnPlace<U, PairState<O, W, U>>
+        ensures { result ≡ turn_place self }
+    {
+        match self {
+            SeparatedState::Separator(kept) => TurnPlace::Later(PairState::Separator(kept)),
+            SeparatedState::Part(lead, kept) => match lead {
+                Lead::Nothing => TurnPlace::First(kept),
+                Lead::Separator(value, committed) => {
+                    TurnPlace::Later(PairState::Part(value, committed, kept))
+                }
+            },
+        }
+    }
+
+    /// Makes what is kept of a later separator and part.
+    #[inline(always)]
+    pub fn later(pair: PairState<O, W, U>) -> Self
+        ensures { result ≡ later_kept pair }
+    {
+        match pair {
+            PairState::Separator(kept) => SeparatedState::Separator(kept),
+            PairState::Part(value, committed, kept) => {
+                SeparatedState::Part(Lead::Separator(value, committed), kept)
+            }
+        }
+    }
+}
+
+/// What is asked of each value that a separator gives, between values of this type.
+pub trait Leads<O, V> {
+    ghost good: { O → Type 0 };
+
+    /// Hands the value on. (A block with a bound on `FnOnce` needs a method, for now.)
+    fn hand_on(value: O) -> O
+        ensures { result ≡ value };
+}
+
+/// Nothing is asked of it.
+#[derive(Drop)]
+pub struct Anything;
+
+impl<O, V> Leads<O, V> for Anything {
+    ghost good = { λ _. Unit {0} };
+
+    #[inline(always)]
+    fn hand_on(value: O) -> O {
+        value
+    }
+}
+
+/// It is a function that can be called on any two operands.
+#[derive(Drop)]
+pub struct Operator;
+
+impl<O: FnOnce(V, V) -> V + Drop, V: Drop> Leads<O, V> for Operator {
+    ghost good = { λ f. O.IsAlwaysCallable f };
+
+    #[inline(always)]
+    fn hand_on(value: O) -> O {
+        value
+    }
+}
+
+/// A part, and later a separator and the part, where the separator gives what `L` asks for.
+#[derive(Drop)]
+#[derive_where(Clone, Copy; P, S)]
+pub struct Separated<P, S, L> {
+    pub parser: P,
+    pub separator: S,
+    pub asks: PhantomData<L>,
+}
+
+/// Runs the first part, from what is kept of it.
+#[inline(always)]
+fn run_first<Input: Stream, P: Parser<Input>, O: Drop, W: Drop, M: ParseMode>(
+    parser: &mut P,
+    mode: M,
+    kept: P::PartialState,
+    input: &mut Input,
+    state: &mut SeparatedState<O, W, P::PartialState>,
+) -> ParseResult<Element<O, P::Output>, Input::Error>
+    requires lawful { P.lawful parser.old }
+    requires valid { P.valid kept }
+    ensures lawful { P.lawful parser.new }
+    ensures same { MeansSame (P.meaning parser.old) (P.meaning parser.new) }
+    ensures passes { Passes (Input.marks input.old) (Input.marks input.new) (Input.failures input.old) (Input.failures input.new) }
+    ensures ran { Ran (world Input.step Input.Error.seen Input.steady P.PartialState.is_default) (P.meaning parser.old) P.valid first_element (λ s. SeparatedState.Part Lead.Nothing s)
+        (M.first mode) kept state.old state.new (Input.view input.old) (Input.view input.new) (Input.failures input.old) (Input.failures input.new) result }
+{
+    let mut kept = kept;
+    match parser.parse_mode(mode, input, &mut kept) {
+        ParseResult::CommitOk(value) => ParseResult::CommitOk(Element::First(value)),
+        ParseResult::PeekOk(value) => ParseResult::PeekOk(Element::First(value)),
+        ParseResult::CommitErr(error) => {
+            if needs_more(input, &error) {
+                *state = SeparatedState::Part(Lead::Nothing, kept);
+                return ParseResult::CommitErr(error);
+            }
+            ParseResult::CommitErr(error)
+        }
+        ParseResult::PeekErr(refusal) => ParseResult::PeekErr(refusal),
+    }
+}
+
+/// Runs a separator and a part, from what is kept of them.
+#[inline(always)]
+fn run_later<Input: Stream, P: Parser<Input>, S: Parser<Input>, M: ParseMode>(
+    separator: &mut S,
+    parser: &mut P,
+    mode: M,
+    kept: PairStateOf<Input, S, P>,
+    input: &mut Input,
+    state: &mut SeparatedState<S::Output, S::PartialState, P::PartialState>,
+) -> ParseResult<Element<S::Output, P::Output>, Input::Error>
+    requires lawful { S.lawful separator.old × P.lawful parser.old }
+    requires valid { pair_valid S.valid P.valid kept }
+    requires starts { M.first mode ≡ true → pair_begins S.PartialState.is_default kept }
+    ensures lawful { S.lawful separator.new × P.lawful parser.new }
+    ensures parts { MeansSame (S.meaning separator.old) (S.meaning separator.new) × MeansSame (P.meaning parser.old) (P.meaning parser.new) }
+    ensures same { MeansSame (pair Input.step (S.meaning separator.old) (P.meaning parser.old)) (pair Input.step (S.meaning separator.new) (P.meaning parser.new)) }
+    ensures passes { Passes (Input.marks input.old) (Input.marks input.new) (Input.failures input.old) (Input.failures input.new) }
+    ensures ran { Ran (world Input.step Input.Error.seen Input.steady (pair_begins S.PartialState.is_default)) (pair Input.step (S.meaning separator.old) (P.meaning parser.old)) (λ z. LedBy (S.meaning separator.old) kept z × pair_valid S.valid P.valid z) then_element later_kept
+        false kept state.old state.new (Input.view input.old) (Input.view input.new) (Input.failures input.old) (Input.failures input.new) result }
+{
+    let mut left = PairState::default();
+    match parse_pair(separator, parser, mode, input, kept, &mut left) {
+        ParseResult::CommitOk(pair) => {
+            let (separator, value) = pair;
+            ParseResult::CommitOk(Element::Then(separator, value))
+        }
+        ParseResult::PeekOk(pair) => {
+            let (separator, value) = pair;
+            ParseResult::PeekOk(Element::Then(separator, value))
+        }
+        ParseResult::CommitErr(error) => {
+            if needs_more(input, &error) {
+                *state = SeparatedState::later(left);
+                return ParseResult::CommitErr(error);
+            }
+            ParseResult::CommitErr(error)
+        }
+        ParseResult::PeekErr(refusal) => ParseResult::PeekErr(refusal),
+    }
+}
+
+impl<Input: Stream, P: Parser<Input>, S: Parser<Input>, L: Leads<S::Output, P::Output>> Turn<Input>
+    for Separated<P, S, L> {
+    type Value = Element<S::Output, P::Output>;
+
+    type Running = SeparatedState<S::Output, S::PartialState, P::PartialState>;
+
+    ghost lawful = { λ p. GivesOnly S.valid (S.meaning (separator_of p)) L.good × S.lawful (separator_of p) × P.lawful (part_of p) };
+
+    ghost determined = { λ p. S.determined (separator_of p) × P.determined (part_of p) };
+
+    ghost valid = { separated_valid P.valid (led_valid L.good S.valid P.valid) };
+
+    ghost meaning = { λ p. first_then first_element then_element (P.meaning (part_of p)) (pair Input.step (S.meaning (separator_of p)) (P.meaning (part_of p))) };
+
+    ghost again = { λ p. later_turn then_element (pair Input.step (S.meaning (separator_of p)) (P.meaning (part_of p))) };
+
+    ghost ending = { λ _. false };
+
+    ghost gives = { lead_good L.good };
+
+    #[inline(always)]
+    fn parse_turn<M: ParseMode>(
+        &mut self,
+        later: bool,
+        mode: M,
+        input: &mut Input,
+        state: &mut Self::Running,
+    ) -> ParseResult<Self::Value, Input::Error> {
+        let given = mem::take(state);
+        if mode.is_first() {
+            if later {
+                let kept = PairState::default();
+                return run_later(
+                    &mut self.separator,
+                    &mut self.parser,
+                    FirstMode,
+                    kept,
+                    input,
+                    state,
+                );
+            }
+            let kept = P::PartialState::default();
+            return run_first(&mut self.parser, FirstMode, kept, input, state);
+        }
+        match given.into_place() {
+            TurnPlace::First(kept) => run_first(&mut self.parser, mode, kept, input, state),
+            TurnPlace::Later(kept) => run_later(
+                &mut self.separator,
+                &mut self.parser,
+                mode,
+                kept,
+                input,
+                state,
+            ),
+        }
+    }
+
+    fn add_error(&mut self, error: &mut Tracked<Input::Error>) {
+        self.parser.add_error(error);
+    }
+
+    #[inline(always)]
+    fn ends(value: &Self::Value) -> bool {
+        false
+    }
+
+    ghost default_valid = { λ s d. separated_default P.PartialState.is_default P.valid (led_valid L.good S.valid P.valid) P.default_valid s d };
+
+    ghost laws = { λ p l. then_is_turn first_element then_element (P.laws (part_of p) l.2) (led_is_meaning L.good S.valid P.valid (pair_is_meaning Input.step (S.laws (separator_of p) l.1) (P.laws (part_of p) l.2))) };
+
+    ghost once = { λ p l d. then_once first_element then_element (P.single (part_of p) l.2 d.1) (led_means_one L.good S.valid P.valid (pair_means_one Input.step (S.single (separator_of p) l.1 d.0) (P.single (part_of p) l.2 d.1))) };
+
+    ghost gives_only = { λ p l. separated_gives Input.step P.valid (P.meaning (part_of p)) l.0 };
+}

@@ -1,0 +1,49 @@
+//! Repetitions whose last separator may stand alone: a parser, and then turns of the separator and the parser; a separator behind which the parser is refused peeked ends the turns, and stays taken.
+//!
+//! The values are collected in any `F: Append<P::Output>`, for which the constructors take an allocator first; the crate takes `F: Extend + Default`, and no allocator. What a separator gives is dropped.
+//!
+//! The first element may take nothing. A later turn that takes nothing is refused, committed, with the message `repetition takes nothing`, at the position where it began, unless it ends the turns; in the crate such a parser may hang. A turn that took its tokens in an earlier piece counts as one that takes them.
+//!
+//! Faults are as for `many`. On need of more the state keeps what is collected, whether an element was parsed, whether one committed, and the turn that runs. What is added to an error is as for the parser of the elements. Of the error that a refusal has nothing is said beyond its kind.
+ghost use Rattle.std.specs.Prelude.{◌≡◌};
+ghost use Rattle.combine_repeat_sep_end.specs.SepEndParsers.{sep_end_by_of, sep_end_by1_of};
+
+pub mod types;
+
+use crate::ended::Ended;
+use combine_token::choice::optional;
+use std::alloc::Global;
+use std::marker::PhantomData;
+use types::{SepEndBy, SepEndBy1};
+
+/// Takes elements as `sep_end_by1` does, or none: where the first is refused peeked, it is put back, and the answer is the empty collection, accepted peeked.
+#[inline]
+pub fn sep_end_by<F, P, S>(alloc: Global, parser: P, separator: S) -> SepEndBy<F, P, S>
+    ensures { result ≡ sep_end_by_of alloc parser separator }
+{
+    SepEndBy {
+        alloc,
+        turn: Ended {
+            part: optional(parser),
+            separator,
+        },
+        collects: PhantomData,
+    }
+}
+
+/// Takes at least one element, which are `parser`'s, with what `separator` takes between two of them and perhaps behind the last.
+///
+/// The refusal of the first element is the answer. A peeked refusal of a later separator is put back and ends the turns, accepted. So does one of the parser behind a separator, whose tokens stay taken. A committed refusal of either is the answer, and so is need of more. An acceptance is committed exactly if a turn was, or the separator that ended them.
+#[inline]
+pub fn sep_end_by1<F, P, S>(alloc: Global, parser: P, separator: S) -> SepEndBy1<F, P, S>
+    ensures { result ≡ sep_end_by1_of alloc parser separator }
+{
+    SepEndBy1 {
+        alloc,
+        turn: Ended {
+            part: optional(parser),
+            separator,
+        },
+        collects: PhantomData,
+    }
+}

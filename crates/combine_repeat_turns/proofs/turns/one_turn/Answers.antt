@@ -1,0 +1,59 @@
+use Rattle.std.proofs.Common.{refl, sym, ◌∙◌}
+use Rattle.combine_repeat_turns.specs.OneTurn.{Ended, TakesNothing, Unstored}
+use Rattle.combine_repeat_turns.proofs.Judging.{judged_by, accepts_by, gathered_on, needs_on}
+use Rattle.combine_repeat_turns.proofs.Sounding.{turn_able}
+use Rattle.combine_repeat_turns.proofs.turns.one_turn.Goals as goal
+use Rattle.combine_repeat_turns.proofs.turns.one_turn.Goals.{in-CommitOk, in-PeekOk}
+
+pub returns-in-PeekErr-clause-turned : goal.returns-in-PeekErr-clause-turned
+returns-in-PeekErr-clause-turned g c =
+    let a = c.in-PeekErr.ensures in
+    let since = g.met.Input.ResetStream.lasts _ _ _ _ a.passes.marks c.checkpoint-since.ensures.stands in
+    record { is = c.judge_refusal.ensures.halted c.args.parser.now (g.C.Entry.later c.args.entry) _ (record { begun_at = since; new = refl; failures = refl; resets = a.passes.resets }) a.answers }
+
+pub returns-then-needs_more-clause-turned : goal.returns-then-needs_more-clause-turned
+returns-then-needs_more-clause-turned g c =
+    let a = c.in-CommitErr.ensures in
+    let since = g.met.Input.ResetStream.lasts _ _ _ _ a.passes.marks c.checkpoint-since.ensures.stands in
+    record { is = needs_on _ _ _ _ _ _ _ since _ _ _ (c.needs_more.ensures.0 c.if-needs_more.true) a.answers c.cut.ensures }
+
+pub returns-then-ends-clause-turned : goal.returns-then-ends-clause-turned
+returns-then-ends-clause-turned g c =
+    elim c.match-enter.branch [
+      | in-CommitOk w ↦ record { is = Ended c.match-enter.value (accepts_by _ _ _ _ _ _ w.value-is w.in-CommitOk.ensures.answers.is) (sym c.ends.ensures ∙ c.if-ends.true) c.joined.ensures }
+      | in-PeekOk w ↦ record { is = Ended c.match-enter.value (accepts_by _ _ _ _ _ _ w.value-is w.in-PeekOk.ensures.answers.is) (sym c.ends.ensures ∙ c.if-ends.true) c.joined.ensures }
+    ]
+
+pub returns-then-not-goes-clause-turned : goal.returns-then-not-goes-clause-turned
+returns-then-not-goes-clause-turned g c =
+    let since = g.met.Input.ResetStream.lasts _ _ _ _ c.enter.ensures.passes.marks c.checkpoint-since.ensures.stands in
+    let on = sym c.ends.ensures ∙ c.if-ends.false in
+    elim c.match-enter.branch [
+      | in-CommitOk w ↦ record { is = TakesNothing _ (judged_by _ _ _ _ _ _ _ _ _ _ _ w.value-is w.in-CommitOk.ensures.answers.is on (λ i t. c.goes.ensures i _ since t) c.if-not-goes.true) c.refusal_saying-error.ensures.told }
+      | in-PeekOk w ↦ record { is = TakesNothing _ (judged_by _ _ _ _ _ _ _ _ _ _ _ w.value-is w.in-PeekOk.ensures.answers.is on (λ i t. c.goes.ensures i _ since t) c.if-not-goes.true) c.refusal_saying-error.ensures.told }
+    ]
+
+pub gather_turn-requires : goal.gather_turn-requires
+gather_turn-requires g c =
+    let able = turn_able _ g.P.Turn.valid _ _ g.P.Turn.gives g.G.Gather.able (g.met.P.Turn.gives_only _ c.requires.lawful) c.requires.able (g.C.Entry.later c.args.entry) _ c.requires.valid in
+    elim c.match-enter.branch [
+      | in-CommitOk w ↦ able _ _ (accepts_by _ _ _ _ _ _ w.value-is w.in-CommitOk.ensures.answers.is)
+      | in-PeekOk w ↦ able _ _ (accepts_by _ _ _ _ _ _ w.value-is w.in-PeekOk.ensures.answers.is)
+    ]
+
+pub returns-in-Ok-clause-turned : goal.returns-in-Ok-clause-turned
+returns-in-Ok-clause-turned g c =
+    let since = g.met.Input.ResetStream.lasts _ _ _ _ c.enter.ensures.passes.marks c.checkpoint-since.ensures.stands in
+    let on = sym c.ends.ensures ∙ c.if-ends.false in
+    let more = gathered_on g.G.Gather.held g.G.Gather.more (g.B.Bounded.bounds c.args.bounds) c.args.turns _ _ _ _ c.match-enter.value.1 c.in-Ok.ensures c.joined-2.ensures c.limit.ensures in
+    elim c.match-enter.branch [
+      | in-CommitOk w ↦ record { is = record { turn = _; judged = judged_by _ _ _ _ _ _ _ _ _ _ _ w.value-is w.in-CommitOk.ensures.answers.is on (λ i t. c.goes.ensures i _ since t) c.if-not-goes.false; held = _; more = more.0; turns = more.1 } }
+      | in-PeekOk w ↦ record { is = record { turn = _; judged = judged_by _ _ _ _ _ _ _ _ _ _ _ w.value-is w.in-PeekOk.ensures.answers.is on (λ i t. c.goes.ensures i _ since t) c.if-not-goes.false; held = _; more = more.0; turns = more.1 } }
+    ]
+
+pub returns-in-Err-clause-turned : goal.returns-in-Err-clause-turned
+returns-in-Err-clause-turned g c =
+    elim c.match-enter.branch [
+      | in-CommitOk w ↦ record { is = Unstored _ (accepts_by _ _ _ _ _ _ w.value-is w.in-CommitOk.ensures.answers.is) c.new_error.ensures.kind c.in-Err.ensures }
+      | in-PeekOk w ↦ record { is = Unstored _ (accepts_by _ _ _ _ _ _ w.value-is w.in-PeekOk.ensures.answers.is) c.new_error.ensures.kind c.in-Err.ensures }
+    ]

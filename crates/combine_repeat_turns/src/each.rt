@@ -1,0 +1,141 @@
+//! The same parser in each turn, and each value appended or dropped.
+ghost use Rattle.std.specs.Prelude.{◌≡◌, false};
+ghost use Rattle.combine_repeat_turns.specs.Sound.{any_sound};
+ghost use Rattle.combine_repeat_turns.specs.Turn.{gives_any, plain_is_turn, plain_once};
+ghost use Rattle.combine_repeat_turns.specs.Plain.{plain_parser};
+
+use crate::turns::{Gather, Turn};
+use combine_base::error::{ParseResult, Tracked};
+use combine_base::parser::{ParseMode, Parser};
+use combine_base::repeat::Append;
+use combine_base::stream::Stream;
+use std::alloc::{AllocError, Global};
+use std::marker::PhantomData;
+
+/// The same parser in each turn.
+#[derive(Clone, Copy, Drop)]
+pub struct Plain<P>(pub P);
+
+impl<Input: Stream, P: Parser<Input>> Turn<Input> for Plain<P> {
+    type Value = P::Output;
+
+    type Running = P::PartialState;
+
+    ghost lawful = { λ p. P.lawful (plain_parser p) };
+
+    ghost determined = { λ p. P.determined (plain_parser p) };
+
+    ghost valid = { P.valid };
+
+    ghost meaning = { λ p. P.meaning (plain_parser p) };
+
+    ghost again = { λ p. (P.meaning (plain_parser p)).whole };
+
+    ghost ending = { λ _. false };
+
+    ghost gives = { λ _. Unit {0} };
+
+    #[inline(always)]
+    fn parse_turn<M: ParseMode>(
+        &mut self,
+        later: bool,
+        mode: M,
+        input: &mut Input,
+        state: &mut Self::Running,
+    ) -> ParseResult<Self::Value, Input::Error> {
+        self.0.parse_mode(mode, input, state)
+    }
+
+    fn add_error(&mut self, error: &mut Tracked<Input::Error>) {
+        self.0.add_error(error);
+    }
+
+    #[inline(always)]
+    fn ends(value: &Self::Value) -> bool {
+        false
+    }
+
+    ghost default_valid = { P.default_valid };
+
+    ghost laws = { λ p l. plain_is_turn (P.laws (plain_parser p) l) };
+
+    ghost once = { λ p l d. plain_once (P.single (plain_parser p) l d) };
+
+    ghost gives_only = { λ p l. gives_any };
+}
+
+/// Each value is appended.
+#[derive(Drop)]
+pub struct Each<F>(PhantomData<F>);
+
+impl<A: Drop, F: Append<A>> Gather<A> for Each<F> {
+    type Into = F;
+
+    type From = Global;
+
+    ghost Held = { F.Held };
+
+    ghost held = { F.held };
+
+    ghost none = { F.none };
+
+    ghost more = { λ h a i. i ≡ F.more h a };
+
+    ghost able = { λ _. Unit {0} };
+
+    ghost sound = { λ _. Unit {0} };
+
+    ghost lean = { F.lean };
+
+    #[inline(always)]
+    fn begin(alloc: Global, value: A) -> Result<F, AllocError> {
+        let mut into = F::empty(alloc);
+        into.append(value)?;
+        Ok(into)
+    }
+
+    #[inline(always)]
+    fn gather(into: F, value: A) -> Result<F, AllocError> {
+        let mut into = into;
+        into.append(value)?;
+        Ok(into)
+    }
+
+    ghost keeps_sound = { any_sound };
+}
+
+/// No value is kept.
+#[derive(Drop)]
+pub struct Dropped;
+
+impl<A: Drop> Gather<A> for Dropped {
+    type Into = ();
+
+    type From = ();
+
+    ghost Held = { Unit {0} };
+
+    ghost held = { λ _. tt };
+
+    ghost none = { tt };
+
+    ghost more = { λ _ _ i. i ≡ tt };
+
+    ghost able = { λ _. Unit {0} };
+
+    ghost sound = { λ _. Unit {0} };
+
+    ghost lean = { Unit {0} };
+
+    #[inline(always)]
+    fn begin(from: (), value: A) -> Result<(), AllocError> {
+        Ok(())
+    }
+
+    #[inline(always)]
+    fn gather(into: (), value: A) -> Result<(), AllocError> {
+        Ok(())
+    }
+
+    ghost keeps_sound = { any_sound };
+}

@@ -1,0 +1,72 @@
+//! Counted repetitions: a parser runs turn after turn, until it is refused peeked or there are as many turns as there may be. The turns may take nothing.
+//!
+//! The values are collected in any `F: Append<P::Output>`, for which the constructors take an allocator first; the crate takes `F: Extend + Default`, and no allocator. The skipping forms drop the values.
+//!
+//! A collection that can't grow gives the committed fault `Memory`, and a stream that can't be put back the committed fault `Reset`, each at the position where the turn began; the faults of the parser are passed on. On need of more the state keeps what is collected, how many turns there were, whether one committed, which the crate forgets, and the turn that runs. What is added to an error is as for the parser; each counts as one parser.
+//!
+//! Of the error that a refusal has nothing is said beyond its kind: what the parser says of its errors is known of one call, and not of one after several.
+ghost use Rattle.std.specs.Prelude.{◌≡◌, ◌≤◌};
+ghost use Rattle.combine_repeat_turns.specs.CountParsers.{count_min_max_of, count_of, skip_count_min_max_of, skip_count_of};
+
+pub mod laws;
+pub mod types;
+
+use crate::each::Plain;
+pub use crate::turns::TurnsState;
+use std::alloc::Global;
+use std::marker::PhantomData;
+use types::{Count, CountMinMax, SkipCount, SkipCountMinMax};
+
+/// Runs at most `max` turns of `parser`, which may take nothing, and collects their values in order; `min` is at most `max`.
+///
+/// After `max` turns it is accepted, and no further turn runs. A peeked refusal ends the turns: after at least `min` it is put back, and the answer is accepted; after fewer it is refused with the message `expected N more elements`, at the position where that turn began. Both are committed exactly if a turn was. A committed refusal of a turn is the answer, and so is need of more. In the crate a call that begins afresh may go on counting from an earlier one.
+#[inline]
+pub fn count_min_max<F, P>(alloc: Global, min: usize, max: usize, parser: P) -> CountMinMax<F, P>
+    requires { min ≤ max }
+    ensures { result ≡ count_min_max_of alloc min max parser }
+{
+    CountMinMax {
+        alloc,
+        least: min,
+        most: max,
+        turn: Plain(parser),
+        collects: PhantomData,
+    }
+}
+
+/// Runs turns as `count_min_max` does, where `min` is at most `max`, and drops the values; it takes no memory of its own, but for that of an error's message.
+#[inline]
+pub fn skip_count_min_max<P>(min: usize, max: usize, parser: P) -> SkipCountMinMax<P>
+    requires { min ≤ max }
+    ensures { result ≡ skip_count_min_max_of min max parser }
+{
+    SkipCountMinMax {
+        least: min,
+        most: max,
+        turn: Plain(parser),
+    }
+}
+
+/// Runs at most so many turns, and none at least, as `count_min_max` does.
+#[inline]
+pub fn count<F, P>(alloc: Global, count: usize, parser: P) -> Count<F, P>
+    ensures { result ≡ count_of alloc count parser }
+{
+    Count {
+        alloc,
+        most: count,
+        turn: Plain(parser),
+        collects: PhantomData,
+    }
+}
+
+/// Runs turns as `count` does, and drops the values; it takes no memory of its own, but for that of an error's message.
+#[inline]
+pub fn skip_count<P>(count: usize, parser: P) -> SkipCount<P>
+    ensures { result ≡ skip_count_of count parser }
+{
+    SkipCount {
+        most: count,
+        turn: Plain(parser),
+    }
+}

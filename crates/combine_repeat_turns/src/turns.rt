@@ -1,0 +1,724 @@
+//! The loop that all repetitions run, and what it keeps.
+ghost use Rattle.std.specs.Prelude.{◌≡◌, ◌-◌, ◌||◌, ℕ, Bool, false, true, nat_lt, not, MatchResult, if◌then◌else◌};
+ghost use Rattle.combine_base.specs.Stream.View.{View, Takes};
+ghost use Rattle.combine_base.specs.Parser.Answer.{Answers, Run, world};
+ghost use Rattle.combine_base.specs.Stream.Calls.{Passes};
+ghost use Rattle.combine_base.specs.Error.Errors.{Only};
+ghost use Rattle.combine_base.specs.Error.Items.{Count, Message};
+ghost use Rattle.combine_base.specs.Refusals.{Saying, Told};
+ghost use Rattle.combine_base.specs.Sequence.Parts.{accepted_as, refused_as};
+ghost use Rattle.std.specs.Prelude.{None};
+ghost use Rattle.combine_repeat_turns.specs.FirstTurn.{FirstTurn};
+ghost use Rattle.combine_repeat_turns.specs.OneTurn.{IsGathered, OneTurn, Ran, halted, stopped_answer, stopped_state, then_left};
+ghost use Rattle.combine_repeat_turns.specs.Sound.{LeavesSound, kept_sound};
+ghost use Rattle.combine_repeat_turns.specs.Turn.{TurnsSame, called};
+ghost use Rattle.combine_repeat_turns.specs.Bounded.{gathered, cut_at, counted, fresh_turns, kept_or, none_yet, running_turn, so_far, turns_from};
+ghost use Rattle.combine_base.specs.declared.error.ParseResult.TheVariants.{PeekErr};
+
+mod entry;
+pub mod limits;
+
+use combine_base::error::{Info, ParseError, ParseResult, Tracked};
+use combine_base::parser::{ParseMode, Parser};
+use combine_base::refusal::refusal_saying;
+use combine_base::sequence::{accepted_after, refused_after};
+use combine_base::stream::{Kind, Stream, has_taken, needs_more};
+use entry::{Afresh, Entry, Resumed};
+use limits::{Bounded, JoinedFrom, is_enough};
+use std::alloc::AllocError;
+use std::mem;
+
+/// What runs in a turn: the first one, or any later one, which may differ.
+pub trait Turn<Input: Stream> {
+    ghost use Rattle.std.specs.Prelude.{◌≡◌, Bool, true};
+    ghost use Rattle.combine_base.specs.Parser.Meaning.{Meaning, Reading, IsMeaning};
+    ghost use Rattle.combine_base.specs.Parser.Answer.{Answers, world};
+    ghost use Rattle.combine_base.specs.Error.Errors.{Says};
+    ghost use Rattle.combine_base.specs.Stream.Calls.{Passes};
+    ghost use Rattle.combine_repeat_turns.specs.Turn.{TurnsSame, TurnsOnce, TurnsGive, IsTurn, called};
+
+    /// What a turn gives.
+    type Value: Drop;
+
+    /// What is kept of a running turn.
+    type Running: Default + Drop;
+
+    ghost lawful: { Self → Type 0 };
+
+    ghost determined: { Self → Type 0 };
+
+    ghost valid: { Self.Running → Type 0 };
+
+    /// The first turn from its start, and any from a kept state.
+    ghost meaning: { Self → Meaning Input.Position Input.Token Input.Range Self.Value Self.Running };
+
+    /// A later turn from its start.
+    ghost again: { Self → Reading Input.Position Input.Token Self.Value };
+
+    /// The values that end the turns.
+    ghost ending: { Self.Value → Bool };
+
+    /// What holds of each value that a turn gives.
+    ghost gives: { Self.Value → Type 0 };
+
+    fn parse_turn<M: ParseMode>(
+        &mut self,
+        later: bool,
+        mode: M,
+        input: &mut Input,
+        state: &mut Self::Running,
+    ) -> ParseResult<Self::Value, Input::Error>
+        requires lawful { lawful self.old }
+        requires valid { valid state.old }
+        requires fresh { M.first mode ≡ true → Self.Running.is_default state.old }
+        ensures lawful { lawful self.new }
+        ensures valid { valid state.new }
+        ensures same { TurnsSame (meaning self.old) (again self.old) (meaning self.new) (again self.new) }
+        ensures passes { Passes (Input.marks input.old) (Input.marks input.new) (Input.failures input.old) (Input.failures input.new) }
+        ensures answers { Answers (world Input.step Input.Error.seen Input.steady Self.Running.is_default)
+            (called (meaning self.old) (again self.old) later)
+            (record { first = M.first mode; state = state.old; left = state.new; old = Input.view input.old; new = Input.view input.new; before = Input.failures input.old; after = Input.failures input.new })
+            result };
+
+    /// What the first turn adds.
+    fn add_error(&mut self, error: &mut Tracked<Input::Error>)
+        requires { lawful self.old }
+        ensures lawful { lawful self.new }
+        ensures same { TurnsSame (meaning self.old) (again self.old) (meaning self.new) (again self.new) }
+        ensures says { Says Input.Error.seen (meaning self.old).lean (meaning self.old).adds error.old.error error.new.error };
+
+    /// Whether this value ends the turns.
+    fn ends(value: &Self::Value) -> bool
+        ensures { result ≡ ending value.now };
+
+    ghost default_valid: { (s : Self.Running) → Self.Running.is_default s → valid s };
+
+    ghost laws: { (p : Self) → lawful p → IsTurn Self.Running.is_default valid (meaning p) (again p) };
+
+    ghost once: { (p : Self) → lawful p → determined p → TurnsOnce valid ending (meaning p) (again p) };
+
+    ghost gives_only: { (p : Self) → lawful p → TurnsGive valid (meaning p) (again p) gives };
+}
+
+/// How what turns give is gathered.
+pub trait Gather<A> {
+    ghost use Rattle.std.specs.Prelude.{◌≡◌, MatchResult};
+    ghost use Rattle.combine_repeat_turns.specs.Sound.{KeepsSound};
+
+    /// What it is gathered into.
+    type Into: Drop;
+
+    /// What an empty gathering, or one of a first value, is made from.
+    type From: Copy;
+
+    ghost Held: { Type 0 };
+
+    ghost held: { Self.Into → Held };
+
+    /// What is held before any value.
+    ghost none: { Held };
+
+    /// What is held after one more value.
+    ghost more: { Held → A → Held → Type 0 };
+
+    /// What gathering needs of a value, as that a function can be called.
+    ghost able: { A → Type 0 };
+
+    /// What is known of what is held, where each value of it met that need.
+    ghost sound: { Held → Type 0 };
+
+    /// Holds where it takes no memory.
+    ghost lean: { Type 0 };
+
+    /// What the first value makes.
+    fn begin(from: Self::From, value: A) -> Result<Self::Into, AllocError>
+        ensures { MatchResult result (λ i. more none value (held i)) (λ _. lean → ⊥) };
+
+    fn gather(into: Self::Into, value: A) -> Result<Self::Into, AllocError>
+        requires { able value }
+        ensures { MatchResult result (λ i. more (held into) value (held i)) (λ _. lean → ⊥) };
+
+    ghost keeps_sound: { KeepsSound none more able sound };
+}
+
+/// How many turns there are, for contracts: a type of `limits` says which are meant.
+#[derive(Clone, Copy)]
+pub enum Bounds {
+    /// Any number; each takes a token.
+    Any,
+    /// The first is a part of its own: it may take nothing, and its refusal is the answer unless there need be none. Each later one takes a token.
+    Joined { least: usize, most: Option<usize> },
+    /// A number; they may take nothing.
+    Counted { least: usize, most: usize },
+}
+
+/// Which turn runs: how many were before, as far as that matters, and whether it took a token in an earlier piece.
+#[derive(Clone, Copy)]
+pub struct Place {
+    number: usize,
+    begun: bool,
+}
+
+impl Place {
+    /// The first turn.
+    #[inline(always)]
+    pub fn first() -> Place
+        ensures { result ≡ record { number = 0; begun = false } }
+    {
+        Place {
+            number: 0,
+            begun: false,
+        }
+    }
+
+    /// Whether so many turns were before it.
+    #[inline(always)]
+    fn reaches(self, most: usize) -> bool
+        ensures { result ≡ not (nat_lt self.number most) }
+    {
+        !(self.number < most)
+    }
+
+    /// How many turns are missing before it, if there must be so many.
+    #[inline(always)]
+    fn short_of(self, least: usize) -> usize
+        ensures { result ≡ least - self.number }
+    {
+        least.saturating_sub(self.number)
+    }
+
+    /// The next turn.
+    #[inline(always)]
+    fn next(self, limit: usize) -> Place
+        ensures { result ≡ record { number = counted limit self.number; begun = false } }
+    {
+        if self.number < limit {
+            return Place {
+                number: self.number + 1,
+                begun: false,
+            };
+        }
+        Place {
+            number: limit,
+            begun: false,
+        }
+    }
+
+    /// The place of the same turn in the next piece.
+    #[inline(always)]
+    fn cut<Input: Stream>(self, since: Input::Checkpoint, input: &Input) -> Place
+        ensures { (n : ℕ) (v : View Input.Position Input.Token) → Input.stands input.now since v → Takes Input.step n v (Input.view input.now) → result ≡ cut_at self n }
+    {
+        Place {
+            number: self.number,
+            begun: has_taken(self.begun, since, input),
+        }
+    }
+}
+
+/// The turns so far: what is gathered, whether one committed, and which one runs.
+#[derive(Drop)]
+pub struct Turns<F> {
+    into: F,
+    committed: bool,
+    place: Place,
+}
+
+impl<F> Turns<F> {
+    /// The first turn runs, or would if there is one.
+    #[inline]
+    pub fn none_yet(into: F) -> Turns<F>
+        ensures { result ≡ record { into = into; committed = false; place = record { number = 0; begun = false } } }
+    {
+        Turns {
+            into,
+            committed: false,
+            place: Place::first(),
+        }
+    }
+
+    /// With one more turn, which is committed or not.
+    #[inline(always)]
+    fn joined(self, committed: bool) -> Turns<F>
+        ensures { result ≡ record { into = self.into; committed = self.committed || committed; place = self.place } }
+    {
+        let Turns {
+            into,
+            committed: before,
+            place,
+        } = self;
+        Turns {
+            into,
+            committed: before || committed,
+            place,
+        }
+    }
+
+    /// The same turns in the next piece.
+    #[inline(always)]
+    fn cut<Input: Stream>(self, since: Input::Checkpoint, input: &Input) -> Turns<F>
+        ensures { (n : ℕ) (v : View Input.Position Input.Token) → Input.stands input.now since v → Takes Input.step n v (Input.view input.now) → result ≡ record { into = self.into; committed = self.committed; place = cut_at self.place n } }
+    {
+        let Turns {
+            into,
+            committed,
+            place,
+        } = self;
+        Turns {
+            into,
+            committed,
+            place: place.cut(since, input),
+        }
+    }
+
+    /// The turns end, accepted.
+    #[inline(always)]
+    fn end<E>(self) -> ParseResult<F, E>
+        ensures { result ≡ accepted_as self.committed self.into }
+    {
+        let Turns {
+            into,
+            committed,
+            place: _,
+        } = self;
+        accepted_after(committed, into)
+    }
+
+    /// A turn that is missing is refused peeked, which is committed if a turn before it was.
+    #[inline(always)]
+    fn refused<E: Drop>(self, refusal: Tracked<E>) -> ParseResult<F, E>
+    where
+        F: Drop,
+        ensures { result ≡ refused_as self.committed refusal }
+    {
+        refused_after(self.committed, refusal)
+    }
+}
+
+/// What is kept of the turns before the one that runs.
+#[derive(Drop)]
+pub enum Earlier<F> {
+    /// No turn is over, and nothing is gathered.
+    Nothing,
+    Turns(Turns<F>),
+}
+
+/// What a repetition keeps while more input is needed: the turns so far, and the state of the one that runs.
+#[derive(Drop)]
+pub struct TurnsState<F, S> {
+    earlier: Earlier<F>,
+    running: S,
+}
+
+impl<F, S: Default> Default for TurnsState<F, S> {
+    ghost is_default = { fresh_turns S.is_default };
+
+    #[inline]
+    fn default() -> Self {
+        TurnsState {
+            earlier: Earlier::Nothing,
+            running: S::default(),
+        }
+    }
+}
+
+impl<F: Drop, S: Default + Drop> TurnsState<F, S> {
+    /// Hands out the turns that are kept, if the call resumes. Else there are none, and the state of the turn that runs is a default one.
+    #[inline(always)]
+    fn hand_out(&mut self, first: bool) -> Earlier<F>
+        ensures resumed { first ≡ false → (result ≡ self.old.earlier) × (self.new.running ≡ self.old.running) }
+        ensures afresh { first ≡ true → (result ≡ Earlier.Nothing) × S.is_default self.new.running }
+        ensures left { self.new.earlier ≡ Earlier.Nothing }
+    {
+        let earlier = mem::replace(&mut self.earlier, Earlier::Nothing);
+        if first {
+            self.running = S::default();
+            return Earlier::Nothing;
+        }
+        earlier
+    }
+
+    /// The turns that are kept, if the call resumes and there are any; else those of the start.
+    #[inline(always)]
+    fn begin(&mut self, first: bool, start: Turns<F>) -> Turns<F>
+        ensures turns { result ≡ (if first then start else kept_or start self.old.earlier) }
+        ensures resumed { first ≡ false → self.new.running ≡ self.old.running }
+        ensures afresh { first ≡ true → S.is_default self.new.running }
+        ensures left { self.new.earlier ≡ Earlier.Nothing }
+    {
+        match self.hand_out(first) {
+            Earlier::Turns(turns) => turns,
+            Earlier::Nothing => start,
+        }
+    }
+}
+
+/// What a turn did.
+pub enum Step<F, E> {
+    /// It is a block, and the next one runs.
+    Goes(Turns<F>),
+    Stops(Stop<F, E>),
+}
+
+/// Why no further turn runs.
+pub enum Stop<F, E> {
+    /// The turns end, accepted.
+    Over(Turns<F>),
+    /// A turn that is missing is refused peeked.
+    Refused(Turns<F>, Tracked<E>),
+    /// The turn needs more.
+    More(Turns<F>, E),
+    Failed(E),
+}
+
+/// The first turn, which begins afresh or resumes.
+#[inline(always)]
+fn parse_turn<Input: Stream, P: Turn<Input>, M: ParseMode>(
+    parser: &mut P,
+    mode: M,
+    input: &mut Input,
+    state: &mut P::Running,
+) -> ParseResult<P::Value, Input::Error>
+    requires lawful { P.lawful parser.old }
+    requires valid { P.valid state.old }
+    requires fresh { M.first mode ≡ true → P.Running.is_default state.old }
+    ensures lawful { P.lawful parser.new }
+    ensures valid { P.valid state.new }
+    ensures same { TurnsSame (P.meaning parser.old) (P.again parser.old) (P.meaning parser.new) (P.again parser.new) }
+    ensures passes { Passes (Input.marks input.old) (Input.marks input.new) (Input.failures input.old) (Input.failures input.new) }
+    ensures answers { Answers (world Input.step Input.Error.seen Input.steady P.Running.is_default)
+        (called (P.meaning parser.old) (P.again parser.old) false)
+        (record { first = M.first mode; state = state.old; left = state.new; old = Input.view input.old; new = Input.view input.new; before = Input.failures input.old; after = Input.failures input.new })
+        result }
+{
+    if mode.is_first() {
+        return Afresh { later: false }.enter(parser, input, state);
+    }
+    parser.parse_turn(false, mode, input, state)
+}
+
+/// A refusal that says how many turns are missing.
+#[inline]
+fn too_few<Input: Stream>(input: &Input, position: Input::Position, missing: usize) -> Input::Error
+    ensures told { Told Input.Error.seen.kind Input.Error.seen.frugal result }
+    ensures says { Saying Input.Error.seen Kind.Refused position (Only (Message (Count missing))) result }
+{
+    let mut error = input.new_error(Kind::Refused, position);
+    error.add_message(&Info::More(missing));
+    error
+}
+
+/// What the turn gave is gathered, and the next one runs.
+#[inline(always)]
+fn gather_turn<A, G: Gather<A>>(
+    turns: Turns<G::Into>,
+    value: A,
+    limit: usize,
+) -> Result<Turns<G::Into>, AllocError>
+    requires { G.able value }
+    ensures { MatchResult result (λ n. IsGathered G.held G.more turns value limit n) (λ _. G.lean → ⊥) }
+{
+    let Turns {
+        into,
+        committed,
+        place,
+    } = turns;
+    Ok(Turns {
+        into: G::gather(into, value)?,
+        committed,
+        place: place.next(limit),
+    })
+}
+
+/// What a turn does that is refused peeked, the stream having stood at that checkpoint and position where it began.
+#[inline(always)]
+fn judge_refusal<G: Gather<P::Value>, Input: Stream, P: Turn<Input>, B: Bounded>(
+    bounds: B,
+    turns: Turns<G::Into>,
+    since: Input::Checkpoint,
+    position: Input::Position,
+    refusal: Tracked<Input::Error>,
+    input: &mut Input,
+) -> Stop<G::Into, Input::Error>
+    ensures passes { Passes (Input.marks input.old) (Input.marks input.new) (Input.failures input.old) (Input.failures input.new) }
+    ensures halted { (p : P) (later : Bool)
+        (r : Run Input.Position Input.Token P.Running) → Ran (Input.stands input.old since) (Input.view input.old) (Input.failures input.old) r →
+        Answers (world Input.step Input.Error.seen Input.steady P.Running.is_default) (called (P.meaning p) (P.again p) later) r (PeekErr refusal) →
+        halted (world Input.step Input.Error.seen Input.steady P.Running.is_default) (B.bounds bounds) P.ending (gathered G.held G.none G.more G.lean) (called (P.meaning p) (P.again p) later)
+        (then_left r (Input.view input.new) (Input.failures input.new)) turns result }
+{
+    if is_enough(bounds, turns.place) {
+        if let Err(kind) = input.reset(since) {
+            return Stop::Failed(input.new_error(kind, position));
+        }
+        return Stop::Over(turns);
+    }
+    if bounds.owns(turns.place) {
+        return Stop::Refused(turns, refusal);
+    }
+    let error = too_few(input, position, bounds.missing(turns.place));
+    if error.kind() == Kind::Memory {
+        return Stop::Failed(error);
+    }
+    Stop::Refused(turns, Tracked::from(error))
+}
+
+/// Runs one turn, called so, and gathers its value where it is a block.
+#[inline(always)]
+fn one_turn<G: Gather<P::Value>, Input: Stream, P: Turn<Input>, B: Bounded, C: Entry>(
+    parser: &mut P,
+    bounds: B,
+    entry: C,
+    turns: Turns<G::Into>,
+    input: &mut Input,
+    running: &mut P::Running,
+) -> Step<G::Into, Input::Error>
+    requires able { (a : P.Value) → P.gives a → G.able a }
+    requires lawful { P.lawful parser.old }
+    requires valid { P.valid running.old }
+    requires fresh { C.first entry ≡ true → P.Running.is_default running.old }
+    ensures lawful { P.lawful parser.new }
+    ensures valid { P.valid running.new }
+    ensures same { TurnsSame (P.meaning parser.old) (P.again parser.old) (P.meaning parser.new) (P.again parser.new) }
+    ensures passes { Passes (Input.marks input.old) (Input.marks input.new) (Input.failures input.old) (Input.failures input.new) }
+    ensures turned { OneTurn (world Input.step Input.Error.seen Input.steady P.Running.is_default)
+        (B.bounds bounds) P.ending (gathered G.held G.none G.more G.lean) (called (P.meaning parser.old) (P.again parser.old) (C.later entry))
+        (record { first = C.first entry; state = running.old; left = running.new; old = Input.view input.old; new = Input.view input.new; before = Input.failures input.old; after = Input.failures input.new })
+        turns result }
+{
+    let since = input.checkpoint();
+    let position = input.position();
+    let (value, committed) = match entry.enter(parser, input, running) {
+        ParseResult::CommitOk(value) => (value, true),
+        ParseResult::PeekOk(value) => (value, false),
+        ParseResult::PeekErr(refusal) => {
+            return Step::Stops(judge_refusal::<G, Input, P, B>(
+                bounds, turns, since, position, refusal, input,
+            ));
+        }
+        ParseResult::CommitErr(error) => {
+            if needs_more(input, &error) {
+                return Step::Stops(Stop::More(turns.cut(since, input), error));
+            }
+            return Step::Stops(Stop::Failed(error));
+        }
+    };
+    if P::ends(&value) {
+        return Step::Stops(Stop::Over(turns.joined(committed)));
+    }
+    if !bounds.goes(turns.place, committed, since, input) {
+        let error = refusal_saying(input, position, "repetition takes nothing");
+        return Step::Stops(Stop::Failed(error));
+    }
+    match gather_turn::<P::Value, G>(turns.joined(committed), value, bounds.limit()) {
+        Ok(turns) => Step::Goes(turns),
+        Err(_refused) => Step::Stops(Stop::Failed(input.new_error(Kind::Memory, position))),
+    }
+}
+
+/// What the first turn did, where it makes what is gathered.
+pub enum First<F, E> {
+    /// It is a block, and the next one runs.
+    Goes(Turns<F>),
+    /// It is refused peeked.
+    Refused(Tracked<E>),
+    /// It needs more.
+    More(E),
+    Failed(E),
+}
+
+/// The first turn, which is asked for and makes what is gathered.
+#[inline(always)]
+fn first_turn<G: Gather<P::Value>, Input: Stream, P: Turn<Input>, M: ParseMode>(
+    parser: &mut P,
+    from: G::From,
+    mode: M,
+    input: &mut Input,
+    running: &mut P::Running,
+) -> First<G::Into, Input::Error>
+    requires lawful { P.lawful parser.old }
+    requires valid { P.valid running.old }
+    requires fresh { M.first mode ≡ true → P.Running.is_default running.old }
+    ensures lawful { P.lawful parser.new }
+    ensures valid { P.valid running.new }
+    ensures same { TurnsSame (P.meaning parser.old) (P.again parser.old) (P.meaning parser.new) (P.again parser.new) }
+    ensures passes { Passes (Input.marks input.old) (Input.marks input.new) (Input.failures input.old) (Input.failures input.new) }
+    ensures turned { FirstTurn (world Input.step Input.Error.seen Input.steady P.Running.is_default)
+        (gathered G.held G.none G.more G.lean) G.none (called (P.meaning parser.old) (P.again parser.old) false)
+        (record { first = M.first mode; state = running.old; left = running.new; old = Input.view input.old; new = Input.view input.new; before = Input.failures input.old; after = Input.failures input.new })
+        result }
+{
+    let position = input.position();
+    let (value, committed) = match parse_turn(parser, mode, input, running) {
+        ParseResult::CommitOk(value) => (value, true),
+        ParseResult::PeekOk(value) => (value, false),
+        ParseResult::PeekErr(refusal) => return First::Refused(refusal),
+        ParseResult::CommitErr(error) => {
+            if needs_more(input, &error) {
+                return First::More(error);
+            }
+            return First::Failed(error);
+        }
+    };
+    match G::begin(from, value) {
+        Ok(into) => First::Goes(Turns {
+            into,
+            committed,
+            place: Place {
+                number: 1,
+                begun: false,
+            },
+        }),
+        Err(_refused) => First::Failed(input.new_error(Kind::Memory, position)),
+    }
+}
+
+/// What turns answer that stop so; on need of more they are kept.
+#[inline(always)]
+fn stopped<F: Drop, S: Drop, E: Drop>(
+    why: Stop<F, E>,
+    state: &mut TurnsState<F, S>,
+) -> ParseResult<F, E>
+    ensures answer { result ≡ stopped_answer why }
+    ensures state { state.new ≡ stopped_state why state.old }
+{
+    match why {
+        Stop::Over(turns) => turns.end(),
+        Stop::Refused(turns, refusal) => turns.refused(refusal),
+        Stop::More(turns, error) => {
+            state.earlier = Earlier::Turns(turns);
+            ParseResult::CommitErr(error)
+        }
+        Stop::Failed(error) => ParseResult::CommitErr(error),
+    }
+}
+
+/// One call of turns, which begin so where nothing is kept.
+#[inline(always)]
+pub fn take_turns<G: Gather<P::Value>, Input: Stream, P: Turn<Input>, M: ParseMode, B: Bounded>(
+    parser: &mut P,
+    bounds: B,
+    start: Turns<G::Into>,
+    mode: M,
+    input: &mut Input,
+    state: &mut TurnsState<G::Into, P::Running>,
+) -> ParseResult<G::Into, Input::Error>
+    requires able { (a : P.Value) → P.gives a → G.able a }
+    requires lawful { P.lawful parser.old }
+    requires valid { P.valid (running_turn state.old) }
+    ensures lawful { P.lawful parser.new }
+    ensures valid { P.valid (running_turn state.new) }
+    ensures same { TurnsSame (P.meaning parser.old) (P.again parser.old) (P.meaning parser.new) (P.again parser.new) }
+    ensures passes { Passes (Input.marks input.old) (Input.marks input.new) (Input.failures input.old) (Input.failures input.new) }
+    ensures answers { Answers (world Input.step Input.Error.seen Input.steady (fresh_turns P.Running.is_default))
+        (turns_from Input.step (B.bounds bounds) P.ending (gathered G.held G.none G.more G.lean) (so_far G.held start) (P.meaning parser.old) (P.again parser.old))
+        (record { first = M.first mode; state = state.old; left = state.new; old = Input.view input.old; new = Input.view input.new; before = Input.failures input.old; after = Input.failures input.new })
+        result }
+{
+    let mut turns = state.begin(mode.is_first(), start);
+    let mut later = false;
+    if !mode.is_first() {
+        if bounds.is_full(turns.place) {
+            state.running = P::Running::default();
+            return turns.end();
+        }
+        match one_turn::<G, Input, P, B, Resumed<M>>(
+            parser,
+            bounds,
+            Resumed { mode },
+            turns,
+            input,
+            &mut state.running,
+        ) {
+            Step::Stops(why) => return stopped(why, state),
+            Step::Goes(next) => {
+                turns = next;
+                later = true;
+            }
+        }
+    }
+    'turns: loop {
+        if bounds.is_full(turns.place) {
+            return turns.end();
+        }
+        match one_turn::<G, Input, P, B, Afresh>(
+            parser,
+            bounds,
+            Afresh { later },
+            turns,
+            input,
+            &mut state.running,
+        ) {
+            Step::Stops(why) => return stopped(why, state),
+            Step::Goes(next) => {
+                turns = next;
+                later = true;
+            }
+        }
+    }
+}
+
+/// One call of turns of which the first makes what is gathered, so that nothing is before it; it is asked for.
+#[inline(always)]
+pub fn take_joined<G: Gather<P::Value>, Input: Stream, P: Turn<Input>, M: ParseMode>(
+    parser: &mut P,
+    from: G::From,
+    mode: M,
+    input: &mut Input,
+    state: &mut TurnsState<G::Into, P::Running>,
+) -> ParseResult<G::Into, Input::Error>
+    requires able { (a : P.Value) → P.gives a → G.able a }
+    requires sound { kept_sound (λ i. G.sound (G.held i)) state.old }
+    requires never { (a : P.Value) → P.ending a ≡ false }
+    requires lawful { P.lawful parser.old }
+    requires valid { P.valid (running_turn state.old) }
+    ensures lawful { P.lawful parser.new }
+    ensures valid { P.valid (running_turn state.new) }
+    ensures sound { LeavesSound (λ i. G.sound (G.held i)) state.new result }
+    ensures same { TurnsSame (P.meaning parser.old) (P.again parser.old) (P.meaning parser.new) (P.again parser.new) }
+    ensures passes { Passes (Input.marks input.old) (Input.marks input.new) (Input.failures input.old) (Input.failures input.new) }
+    ensures answers { Answers (world Input.step Input.Error.seen Input.steady (fresh_turns P.Running.is_default))
+        (turns_from Input.step (Bounds.Joined 1 None) P.ending (gathered G.held G.none G.more G.lean) (none_yet G.none) (P.meaning parser.old) (P.again parser.old))
+        (record { first = M.first mode; state = state.old; left = state.new; old = Input.view input.old; new = Input.view input.new; before = Input.failures input.old; after = Input.failures input.new })
+        result }
+{
+    let bounds = JoinedFrom { least: 1 };
+    let mut turns: Turns<G::Into>;
+    let given = state.hand_out(mode.is_first());
+    match given {
+        Earlier::Turns(kept) => {
+            match one_turn::<G, Input, P, JoinedFrom, Resumed<M>>(
+                parser,
+                bounds,
+                Resumed { mode },
+                kept,
+                input,
+                &mut state.running,
+            ) {
+                Step::Stops(why) => return stopped(why, state),
+                Step::Goes(next) => turns = next,
+            }
+        }
+        Earlier::Nothing => {
+            match first_turn::<G, Input, P, M>(parser, from, mode, input, &mut state.running) {
+                First::Goes(next) => turns = next,
+                First::Refused(refusal) => return ParseResult::PeekErr(refusal),
+                First::More(error) => return ParseResult::CommitErr(error),
+                First::Failed(error) => return ParseResult::CommitErr(error),
+            }
+        }
+    }
+    'turns: loop {
+        match one_turn::<G, Input, P, JoinedFrom, Afresh>(
+            parser,
+            bounds,
+            Afresh { later: true },
+            turns,
+            input,
+            &mut state.running,
+        ) {
+            Step::Stops(why) => return stopped(why, state),
+            Step::Goes(next) => turns = next,
+        }
+    }
+}

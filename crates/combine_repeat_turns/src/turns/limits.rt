@@ -1,0 +1,248 @@
+//! Bounds of turns: a type each, so that what some turns don't need isn't compiled with them.
+ghost use Rattle.std.specs.Prelude.{◌≡◌, ℕ};
+ghost use Rattle.combine_base.specs.Stream.View.{View, Takes};
+ghost use Rattle.combine_repeat_turns.specs.Bounded.{between, enough, goes_joined, joined_between, joined_from, takes_token};
+
+use crate::turns::{Bounds, Place};
+use combine_base::stream::{Stream, has_taken};
+
+/// How many turns there are.
+pub trait Bounded: Copy {
+    ghost use Rattle.std.specs.Prelude.{◌≡◌, ℕ};
+    ghost use Rattle.combine_base.specs.Stream.View.{View, Takes};
+    ghost use Rattle.combine_repeat_turns.specs.Bounded.{full_at, goes_at, limit, missing, owns};
+    ghost use Rattle.combine_repeat_turns.specs.declared.turns.Bounds.{Bounds};
+
+    /// What they are.
+    ghost bounds: { Self → Bounds };
+
+    /// How far turns are counted.
+    fn limit(self) -> usize
+        ensures { result ≡ limit (bounds self) };
+
+    /// Whether there are as many turns as there may be.
+    fn is_full(self, place: Place) -> bool
+        ensures { result ≡ full_at (bounds self) place };
+
+    /// How many turns are still missing.
+    fn missing(self, place: Place) -> usize
+        ensures { result ≡ missing (bounds self) place };
+
+    /// Whether a refusal of this turn is its own answer.
+    fn owns(self, place: Place) -> bool
+        ensures { result ≡ owns (bounds self) place };
+
+    /// Whether a turn is a block that is accepted so, this piece's part of it begun at that checkpoint.
+    fn goes<Input: Stream>(
+        self,
+        place: Place,
+        committed: bool,
+        since: Input::Checkpoint,
+        input: &Input,
+    ) -> bool
+        ensures { (n : ℕ) (v : View Input.Position Input.Token) → Input.stands input.now since v → Takes Input.step n v (Input.view input.now) → result ≡ goes_at (bounds self) place n committed };
+}
+
+/// Whether no turn is missing.
+#[inline(always)]
+pub fn is_enough<B: Bounded>(bounds: B, place: Place) -> bool
+    ensures { result ≡ enough (B.bounds bounds) place }
+{
+    let missing = bounds.missing(place);
+    !(0 < missing)
+}
+
+/// Any number; each takes a token.
+#[derive(Clone, Copy)]
+pub struct AnyNumber;
+
+impl Bounded for AnyNumber {
+    ghost use Rattle.combine_repeat_turns.specs.declared.turns.Bounds.TheVariants.{Any};
+
+    ghost bounds = { λ _. Any };
+
+    #[inline(always)]
+    fn limit(self) -> usize {
+        0
+    }
+
+    #[inline(always)]
+    fn is_full(self, place: Place) -> bool {
+        false
+    }
+
+    #[inline(always)]
+    fn missing(self, place: Place) -> usize {
+        0
+    }
+
+    #[inline(always)]
+    fn owns(self, place: Place) -> bool {
+        false
+    }
+
+    #[inline(always)]
+    fn goes<Input: Stream>(
+        self,
+        place: Place,
+        committed: bool,
+        since: Input::Checkpoint,
+        input: &Input,
+    ) -> bool {
+        takes_token(place, committed, since, input)
+    }
+}
+
+/// Whether a turn is committed and took a token, now or before a cut.
+#[inline(always)]
+fn takes_token<Input: Stream>(
+    place: Place,
+    committed: bool,
+    since: Input::Checkpoint,
+    input: &Input,
+) -> bool
+    ensures { (n : ℕ) (v : View Input.Position Input.Token) → Input.stands input.now since v → Takes Input.step n v (Input.view input.now) → result ≡ takes_token place n committed }
+{
+    committed && has_taken(place.begun, since, input)
+}
+
+/// The same, but for a first turn that is a part of its own and may take nothing.
+#[inline(always)]
+fn goes_joined<Input: Stream>(
+    place: Place,
+    committed: bool,
+    since: Input::Checkpoint,
+    input: &Input,
+) -> bool
+    ensures { (n : ℕ) (v : View Input.Position Input.Token) → Input.stands input.now since v → Takes Input.step n v (Input.view input.now) → result ≡ goes_joined place n committed }
+{
+    if place.number < 1 {
+        return true;
+    }
+    takes_token(place, committed, since, input)
+}
+
+/// At least so many. The first is a part of its own: it may take nothing, and its refusal is the answer unless there need be none. Each later one takes a token.
+#[derive(Clone, Copy)]
+pub struct JoinedFrom {
+    pub least: usize,
+}
+
+impl Bounded for JoinedFrom {
+    ghost bounds = { joined_from };
+
+    #[inline(always)]
+    fn limit(self) -> usize {
+        if self.least < 1 { 1 } else { self.least }
+    }
+
+    #[inline(always)]
+    fn is_full(self, place: Place) -> bool {
+        false
+    }
+
+    #[inline(always)]
+    fn missing(self, place: Place) -> usize {
+        place.short_of(self.least)
+    }
+
+    #[inline(always)]
+    fn owns(self, place: Place) -> bool {
+        place.number < 1
+    }
+
+    #[inline(always)]
+    fn goes<Input: Stream>(
+        self,
+        place: Place,
+        committed: bool,
+        since: Input::Checkpoint,
+        input: &Input,
+    ) -> bool {
+        goes_joined(place, committed, since, input)
+    }
+}
+
+/// As `JoinedFrom`, and at most so many.
+#[derive(Clone, Copy)]
+pub struct JoinedBetween {
+    pub least: usize,
+    pub most: usize,
+}
+
+impl Bounded for JoinedBetween {
+    ghost bounds = { joined_between };
+
+    #[inline(always)]
+    fn limit(self) -> usize {
+        self.most
+    }
+
+    #[inline(always)]
+    fn is_full(self, place: Place) -> bool {
+        place.reaches(self.most)
+    }
+
+    #[inline(always)]
+    fn missing(self, place: Place) -> usize {
+        place.short_of(self.least)
+    }
+
+    #[inline(always)]
+    fn owns(self, place: Place) -> bool {
+        place.number < 1
+    }
+
+    #[inline(always)]
+    fn goes<Input: Stream>(
+        self,
+        place: Place,
+        committed: bool,
+        since: Input::Checkpoint,
+        input: &Input,
+    ) -> bool {
+        goes_joined(place, committed, since, input)
+    }
+}
+
+/// At least and at most so many; they may take nothing.
+#[derive(Clone, Copy)]
+pub struct Between {
+    pub least: usize,
+    pub most: usize,
+}
+
+impl Bounded for Between {
+    ghost bounds = { between };
+
+    #[inline(always)]
+    fn limit(self) -> usize {
+        self.most
+    }
+
+    #[inline(always)]
+    fn is_full(self, place: Place) -> bool {
+        place.reaches(self.most)
+    }
+
+    #[inline(always)]
+    fn missing(self, place: Place) -> usize {
+        place.short_of(self.least)
+    }
+
+    #[inline(always)]
+    fn owns(self, place: Place) -> bool {
+        false
+    }
+
+    #[inline(always)]
+    fn goes<Input: Stream>(
+        self,
+        place: Place,
+        committed: bool,
+        since: Input::Checkpoint,
+        input: &Input,
+    ) -> bool {
+        true
+    }
+}

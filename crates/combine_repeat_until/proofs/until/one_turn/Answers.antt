@@ -1,0 +1,54 @@
+use Rattle.std.proofs.Common.{refl, sym, ◌∙◌}
+use Rattle.combine_repeat_until.specs.UntilTurn.{TakesNothing}
+use Rattle.combine_repeat_until.proofs.OneTurns.{accepts_value, needs_more, unreset_by}
+use Rattle.combine_repeat_until.proofs.until.one_turn.Goals as goal
+use Rattle.combine_repeat_until.proofs.until.one_turn.Goals.{in-CommitOk, in-PeekOk}
+
+pub returns-then-needs_more-clause-turned : goal.returns-then-needs_more-clause-turned
+returns-then-needs_more-clause-turned g c =
+    let since = g.met.Input.ResetStream.lasts _ _ _ _ c.parse_explained.ensures.passes.marks c.checkpoint-since.ensures.stands in
+    record { is = needs_more _ _ _ _ _ _ _ _ (c.needs_more.ensures.0 c.if-needs_more.true) c.in-CommitErr.ensures.answers (λ n t. c.cut.ensures n _ since t) }
+
+pub returns-then-not-is_block-clause-turned : goal.returns-then-not-is_block-clause-turned
+returns-then-not-is_block-clause-turned g c =
+    let since = g.met.Input.ResetStream.lasts _ _ _ _ c.parse_explained.ensures.passes.marks c.checkpoint-since.ensures.stands in
+    elim c.match-parse_explained.branch [
+      | in-CommitOk w ↦
+          let p = accepts_value _ _ _ _ _ _ _ w.value-is c.in-Some.is w.in-CommitOk.ensures.answers.is in
+          record { is = TakesNothing c.in-Some.value c.match-parse_explained.value.1 p (sym (c.is_block.ensures p.count _ since p.taken) ∙ c.if-not-is_block.true) c.refusal_saying-error.ensures.told }
+      | in-PeekOk w ↦
+          let p = accepts_value _ _ _ _ _ _ _ w.value-is c.in-Some.is w.in-PeekOk.ensures.answers.is in
+          record { is = TakesNothing c.in-Some.value c.match-parse_explained.value.1 p (sym (c.is_block.ensures p.count _ since p.taken) ∙ c.if-not-is_block.true) c.refusal_saying-error.ensures.told }
+    ]
+
+pub returns-in-Ok-clause-turned : goal.returns-in-Ok-clause-turned
+returns-in-Ok-clause-turned g c =
+    let n = c.in-Ok.ensures.to.is in
+    elim c.match-parse_explained.branch [
+      | in-CommitOk w ↦
+          let p = accepts_value _ _ _ _ _ _ _ w.value-is c.in-None.is w.in-CommitOk.ensures.answers.is in
+          record { is = record { count = p.count; committed = c.match-parse_explained.value.1; meant = p.meant; state = p.state; failures = λ s. n.1 s ∙ p.failures s; back = λ v i. n.0 v (g.met.Input.ResetStream.lasts _ _ _ _ c.parse_explained.ensures.passes.marks i); blocks = c.joined.ensures } }
+      | in-PeekOk w ↦
+          let p = accepts_value _ _ _ _ _ _ _ w.value-is c.in-None.is w.in-PeekOk.ensures.answers.is in
+          record { is = record { count = p.count; committed = c.match-parse_explained.value.1; meant = p.meant; state = p.state; failures = λ s. n.1 s ∙ p.failures s; back = λ v i. n.0 v (g.met.Input.ResetStream.lasts _ _ _ _ c.parse_explained.ensures.passes.marks i); blocks = c.joined.ensures } }
+    ]
+
+pub returns-in-Err-clause-turned : goal.returns-in-Err-clause-turned
+returns-in-Err-clause-turned g c =
+    elim c.match-parse_explained.branch [
+      | in-CommitOk w ↦ record { is = unreset_by _ _ _ _ _ _ _ _ _ _ _ _ _ _ _ _ (accepts_value _ _ _ _ _ _ _ w.value-is c.in-None.is w.in-CommitOk.ensures.answers.is) _ c.in-Err.ensures.to.is c.parse_explained.ensures.passes.resets _ c.new_error.ensures.kind }
+      | in-PeekOk w ↦ record { is = unreset_by _ _ _ _ _ _ _ _ _ _ _ _ _ _ _ _ (accepts_value _ _ _ _ _ _ _ w.value-is c.in-None.is w.in-PeekOk.ensures.answers.is) _ c.in-Err.ensures.to.is c.parse_explained.ensures.passes.resets _ c.new_error.ensures.kind }
+    ]
+
+pub returns-in-Ok-add-clause-turned : goal.returns-in-Ok-add-clause-turned
+returns-in-Ok-add-clause-turned g c =
+    let since = g.met.Input.ResetStream.lasts _ _ _ _ c.parse_explained.ensures.passes.marks c.checkpoint-since.ensures.stands in
+    let b = rw c.joined-in-Some.ensures at c.in-Ok-add.ensures in
+    elim c.match-parse_explained.branch [
+      | in-CommitOk w ↦
+          let p = accepts_value _ _ _ _ _ _ _ w.value-is c.in-Some.is w.in-CommitOk.ensures.answers.is in
+          record { is = record { value = c.in-Some.value; committed = c.match-parse_explained.value.1; accepts = p; takes = sym (c.is_block.ensures p.count _ since p.taken) ∙ c.if-not-is_block.false; held = _; more = refl; blocks = b } }
+      | in-PeekOk w ↦
+          let p = accepts_value _ _ _ _ _ _ _ w.value-is c.in-Some.is w.in-PeekOk.ensures.answers.is in
+          record { is = record { value = c.in-Some.value; committed = c.match-parse_explained.value.1; accepts = p; takes = sym (c.is_block.ensures p.count _ since p.taken) ∙ c.if-not-is_block.false; held = _; more = refl; blocks = b } }
+    ]

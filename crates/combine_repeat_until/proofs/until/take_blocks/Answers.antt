@@ -1,0 +1,57 @@
+use Rattle.std.proofs.Common.{refl}
+use Rattle.combine_base.proofs.Same.{passes_more, same_more, same_none}
+use Rattle.combine_repeat_until.proofs.OneTurns.{blocks_shrink}
+use Rattle.combine_repeat_until.proofs.UntilCalls.{begun_reads, handed_valid, reaches_afresh, reaches_first, reaches_on, running_valid, turn_back, until_settled}
+use Rattle.combine_repeat_until.proofs.until.take_blocks.Goals as goal
+
+pub turns-init : goal.turns-init
+turns-init g c =
+    let a = c.in-Ok.ensures.comes.is in
+    let p = c.in-Ok.ensures.passes in
+    let h = g.met.N.Parser.laws _ c.requires.lawful in
+    let o = rw c.is_first.ensures at c.hand_out-before.ensures.out in
+    let z = reaches_first _ _ _ g.N.PartialState.Default.is_default g.N.Parser.valid h _ _ _ _ _ _ _ _ c.hand_out-before.result c.args.empty _ _ o c.requires.empty a c.joined-blocks.ensures refl p.reads p.resets _ a.first a.then in
+    record {
+      lawful = c.requires.lawful;
+      valid = handed_valid g.N.PartialState.Default.is_default g.N.Parser.valid g.met.N.Parser.default_valid _ _ _ _ o c.requires.valid;
+      same = same_none _;
+      passes = p;
+      cleared = c.hand_out-before.ensures.left;
+      there = (_, a.stood, z);
+    }
+
+pub turns-smaller : goal.turns-smaller
+turns-smaller g c = blocks_shrink _ _ _ _ _ _ _ c.in-Goes.ensures.turned.is
+
+pub turns-preserved : goal.turns-preserved
+turns-preserved g c =
+    let i = c.turns.invariant in
+    let q = c.in-Goes.ensures.passes in
+    let h = g.met.N.Parser.laws _ c.requires.lawful in
+    let t = turn_back _ _ _ _ i.same _ _ _ _ c.in-Goes.ensures.turned in
+    let z = reaches_on _ _ _ (record { first = g.M.ParseMode.first c.args.mode; state = c.args.state.now; left = c.args.state.now; old = g.Input.StreamOnce.view c.args.input.now; new = g.Input.StreamOnce.view c.args.input.now; before = g.Input.StreamOnce.failures c.args.input.now; after = g.Input.StreamOnce.failures c.args.input.now }) _ _ _ i.there.2 (begun_reads g.N.PartialState.Default.is_default g.N.Parser.valid _ h _ _ i.valid) q.reads q.resets _ _ t.is _ in
+    record {
+      lawful = c.in-Goes.ensures.lawful;
+      valid = c.in-Goes.ensures.valid;
+      same = same_more _ _ _ i.same c.in-Goes.ensures.same;
+      passes = passes_more _ _ _ _ _ _ i.passes q;
+      cleared = i.cleared;
+      there = (_, c.checkpoint-place.ensures.stands, reaches_afresh _ _ _ g.N.PartialState.Default.is_default g.N.Parser.valid h _ _ _ _ _ _ _ _ _ _ t.is.accepts.state z);
+    }
+
+pub returns-in-Stops-clause-valid : goal.returns-in-Stops-clause-valid
+returns-in-Stops-clause-valid g c = running_valid _ _ _ _ c.in-Stops.ensures.valid c.turns.invariant.cleared c.settle.ensures.left
+
+pub returns-in-Stops-clause-same : goal.returns-in-Stops-clause-same
+returns-in-Stops-clause-same g c = same_more _ _ _ c.turns.invariant.same c.in-Stops.ensures.same
+
+pub returns-in-Stops-clause-passes : goal.returns-in-Stops-clause-passes
+returns-in-Stops-clause-passes g c = passes_more _ _ _ _ _ _ c.turns.invariant.passes (passes_more _ _ _ _ _ _ c.in-Stops.ensures.passes c.settle.ensures.passes)
+
+pub returns-in-Stops-clause-answers : goal.returns-in-Stops-clause-answers
+returns-in-Stops-clause-answers g c =
+    let i = c.turns.invariant in
+    let q = c.in-Stops.ensures.passes in
+    let t = turn_back _ _ _ _ i.same _ _ _ _ c.in-Stops.ensures.turned in
+    let start = g.met.Input.ResetStream.lasts _ _ _ _ q.marks (g.met.Input.ResetStream.lasts _ _ _ _ i.passes.marks c.checkpoint-start.ensures.stands) in
+    until_settled _ _ _ _ _ _ _ i.there.2 _ _ _ _ _ _ t.is c.settle.ensures.settled i.cleared i.there.1 start (g.met.Input.ResetStream.lasts _ _ _ _ q.marks i.there.1) q.reads q.resets

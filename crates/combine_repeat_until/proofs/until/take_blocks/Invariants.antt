@@ -1,0 +1,28 @@
+use Rattle.std.proofs.Common.{◌≡◌, ◌+◌, length, if◌then◌else◌}
+use Rattle.combine_base.specs.Stream.View.{View}
+use Rattle.combine_base.specs.Parser.Answer.{world}
+use Rattle.combine_base.specs.Parser.Meaning.{MeansSame}
+use Rattle.combine_base.specs.Stream.Calls.{Passes}
+use Rattle.combine_repeat_until.specs.Until.{blocks_so_far, some_appended}
+use Rattle.combine_repeat_until.specs.declared.until.UntilState.TheVariants.{Begin}
+use Rattle.combine_repeat_until.proofs.UntilCalls.{Reaches}
+use Rattle.combine_repeat_until.proofs.until.take_blocks.Given as goal
+
+abbrev pub invariant-turns : goal.invariant-turns
+invariant-turns g l = record {
+  lawful : g.N.Parser.lawful l.parser;
+  valid : g.N.Parser.valid l.running;
+  same : MeansSame (g.N.Parser.meaning l.fn.parser) (g.N.Parser.meaning l.parser);
+  passes : Passes (g.Input.StreamOnce.marks l.fn.input) (g.Input.StreamOnce.marks l.input) (g.Input.StreamOnce.failures l.fn.input) (g.Input.StreamOnce.failures l.input);
+  cleared : l.state ≡ Begin;
+  there : (at : View _ _) × (g.Input.ResetStream.stands l.input l.place at) × (Reaches
+      (world g.Input.StreamOnce.step g.Input.Error.ParseError.seen g.Input.StreamOnce.steady g.N.PartialState.Default.is_default)
+      (some_appended g.F.Append.held g.F.Append.none g.F.Append.more g.F.Append.lean)
+      (g.N.Parser.meaning l.fn.parser)
+      (g.M.ParseMode.first l.fn.mode) l.fn.state (g.Input.StreamOnce.view l.fn.input) (g.Input.StreamOnce.failures l.fn.input)
+      (g.M.ParseMode.first l.fn.mode) l.running at (g.Input.StreamOnce.view l.input) (g.Input.StreamOnce.failures l.input)
+      (blocks_so_far g.F.Append.held l.blocks));
+}
+
+abbrev pub decreases-turns : goal.decreases-turns
+decreases-turns g l = length (g.Input.StreamOnce.view l.input).unread + (if l.blocks.begun then 1 else 0)

@@ -1,0 +1,244 @@
+-- the laws of blocks up to a place
+use Rattle.std.specs.Prelude.{ℕ, ◌+◌, ◌<◌, ◌≤◌, ◌≡◌, ◌⊎◌, Bool, true, false, ◌||◌, ◌&&◌, nat_lt, List, [], ◌∷◌, length, Option, Some, None, refl, ◌↔◌}
+use Rattle.std.proofs.Common.{arith, ap, sym, subst, ◌∙◌, inr, length-append, length-drop, ltb-false}
+use Rattle.combine_base.specs.Stream.View.{View, advanced, extended}
+use Rattle.combine_base.specs.Stream.Advance.{advanced_extended, open_follows}
+use Rattle.combine_base.specs.Parser.Outcome.{Outcome, Accepted, Refused, Undecided, after, shape, IsDecided, IsCommitted}
+use Rattle.combine_base.specs.Parser.OutcomeFacts.{both_false, decided_shape}
+use Rattle.combine_base.specs.Parser.Meaning.{Meaning, Reading, IsReading, IsSingle, IsMeaning, MeansOne, MeansSame}
+use Rattle.combine_combinator.specs.Attempt.{Loses, Short, Within}
+use Rattle.combine_repeat_turns.specs.BoundedLaws.{begun_over}
+use Rattle.combine_repeat_turns.specs.Turn.{EndsOnce, TurnsOnce}
+use Rattle.combine_repeat_turns.specs.Turns.{Block, taken, any_committed, Goes, Stops, IsRule, IsJudgedOnce, Collecting, SoFar, Divides}
+use Rattle.combine_repeat_turns.specs.TurnLaws.{divides_one, divides_ended, divides_stands, divides_within, divides_into}
+use Rattle.combine_repeat_until.specs.Until.{is_none, block_at, until_judged, until_rule, stop_at, stopped_at, Until, no_blocks, blocks_so_far, until_fresh, until_valid, until_rest, until_lost, until}
+use Rattle.combine_repeat_until.specs.declared.until.UntilState.{UntilState}
+use Rattle.combine_repeat_until.specs.declared.until.UntilState.TheVariants.{Begin, At}
+
+block_stops : (b : Bool) (l : Outcome (Unit {0})) → block_at b ≡ Stops l → l ≡ Refused true
+block_stops true l e = absurd (cc)
+block_stops false l e = cc
+
+goes_over : (g : Bool) (n c : ℕ) (k : Bool) → (k && (g || nat_lt 0 (n + c))) ≡ (k && ((g || nat_lt 0 n) || nat_lt 0 c))
+goes_over g n c k = ap (λ i. k && i) (begun_over g n c)
+
+module _ {A : Type 0} where
+  until_decided : (g : Bool) (o : Outcome (Option A)) (l : Outcome (Unit {0})) → until_judged g o ≡ Stops l → IsDecided l → IsDecided o
+  until_decided g (Accepted None n k) l e d = tt
+  until_decided g (Accepted (Some a) n k) l e d = tt
+  until_decided g (Refused k) l e d = tt
+  until_decided g Undecided l e d = let i : l ≡ Undecided = cc in subst (λ (o : Outcome (Unit {0})). IsDecided o) i d
+
+  until_undecided : (g : Bool) (o : Outcome (Option A)) → until_judged g o ≡ Stops Undecided → o ≡ Undecided
+  until_undecided g (Accepted None n k) e = absurd (cc)
+  until_undecided g (Accepted (Some a) n k) e = absurd (let x = block_stops (k && (g || nat_lt 0 n)) Undecided e in cc)
+  until_undecided g (Refused k) e = absurd (cc)
+  until_undecided g Undecided e = refl
+
+  until_within : (g : Bool) (o : Outcome (Option A)) (n : ℕ) (k : Bool) → until_judged g o ≡ Stops (Accepted tt n k) → (n ≡ 0) ⊎ ((a : Option A) × (o ≡ Accepted a n k))
+  until_within g (Accepted None m j) n k e = let x : m ≡ n = cc in let y : j ≡ k = cc in inr (None, rw (x, y) refl)
+  until_within g (Accepted (Some a) m j) n k e = absurd (let x = block_stops (j && (g || nat_lt 0 m)) (Accepted tt n k) e in cc)
+  until_within g (Refused j) n k e = absurd (cc)
+  until_within g Undecided n k e = absurd (cc)
+
+  until_commits : (g : Bool) (o : Outcome (Option A)) (l : Outcome (Unit {0})) → until_judged g o ≡ Stops l → IsCommitted o → IsCommitted l
+  until_commits g (Accepted None n k) l e d = let x : l ≡ Accepted tt n k = cc in rw x d
+  until_commits g (Accepted (Some a) n k) l e d = rw (block_stops (k && (g || nat_lt 0 n)) l e) refl
+  until_commits g (Refused k) l e d = let x : l ≡ Refused k = cc in rw x d
+  until_commits g Undecided l e d = let x : l ≡ Undecided = cc in rw x tt
+
+  until_goes : (g : Bool) (n c : ℕ) (a : Option A) (k : Bool) → until_judged (g || nat_lt 0 n) (Accepted a c k) ≡ Goes → until_judged g (Accepted a (n + c) k) ≡ Goes
+  until_goes g n c None k e = absurd (cc)
+  until_goes g n c (Some a) k e = ap block_at (goes_over g n c k) ∙ e
+
+  until_stops : (g : Bool) (n : ℕ) (o : Outcome (Option A)) (l : Outcome (Unit {0})) → (0 < n → IsCommitted o) → until_judged (g || nat_lt 0 n) o ≡ Stops l → until_judged g (after n false o) ≡ Stops (after n false l)
+  until_stops g n (Accepted None c k) l d e = let x : l ≡ Accepted tt c k = cc in rw x refl
+  until_stops g n (Accepted (Some a) c k) l d e =
+      let x = block_stops (k && ((g || nat_lt 0 n) || nat_lt 0 c)) l e in
+      let y : after n false l ≡ l = rw x refl in
+      ap block_at (goes_over g n c k) ∙ e ∙ ap Stops (sym y)
+  until_stops g n (Refused k) l d e = let x : l ≡ Refused k = cc in rw x refl
+  until_stops g n Undecided l d e = let x : l ≡ Undecided = cc in rw x refl
+
+  pub until_is_rule : IsRule (until_rule {A = A})
+  until_is_rule = record {
+    decided = until_decided;
+    undecided = until_undecided;
+    within = until_within;
+    commits = until_commits;
+    goes = until_goes;
+    stops = until_stops;
+    full_cut = λ g n. refl;
+    after_cut = λ g n. refl;
+  }
+
+  module _ {P T : Type 0} (r : Reading P T (Option A)) (g : Bool) (h : EndsOnce is_none r) where
+    one_kind : (a a' : Option A) (n : ℕ) (k : Bool) → is_none a ≡ is_none a' → until_judged g (Accepted a n k) ≡ until_judged g (Accepted a' n k)
+    one_kind None None n k e = refl
+    one_kind None (Some a) n k e = absurd (cc)
+    one_kind (Some a) None n k e = absurd (cc)
+    one_kind (Some a) (Some a') n k e = refl
+
+    same_turn : (v : View P T) (o o' : Outcome (Option A)) → r v o → r v o' → shape o ≡ shape o' → until_judged g o ≡ until_judged g o'
+    same_turn v (Accepted a n k) (Accepted a' n' k') p q e =
+        let i : n' ≡ n = cc in
+        let j : k' ≡ k = cc in
+        let x : r v (Accepted a' n k) = subst (λ d. r v (Accepted a' n d)) j (subst (λ l. r v (Accepted a' l k')) i q) in
+        rw (i, j) (one_kind a a' n k (h.ends v a a' n k p x))
+    same_turn v (Accepted a n k) (Refused k') p q e = absurd (cc)
+    same_turn v (Accepted a n k) Undecided p q e = absurd (cc)
+    same_turn v (Refused k) (Accepted a' n' k') p q e = absurd (cc)
+    same_turn v (Refused k) (Refused k') p q e = let j : k' ≡ k = cc in rw j refl
+    same_turn v (Refused k) Undecided p q e = absurd (cc)
+    same_turn v Undecided (Accepted a' n' k') p q e = absurd (cc)
+    same_turn v Undecided (Refused k') p q e = absurd (cc)
+    same_turn v Undecided Undecided p q e = refl
+
+    until_judged_once : IsJudgedOnce until_rule g r
+    until_judged_once = record { one = h.one; judged = λ v o o' p q. same_turn v o o' p q (h.one v o o' p q) }
+
+stopped_undecided : (n : ℕ) (k : Bool) (l : Outcome (Unit {0})) → Undecided ≡ stopped_at n k l → l ≡ Undecided
+stopped_undecided n k (Accepted t m j) e = absurd (cc)
+stopped_undecided n k (Refused j) e = absurd (cc)
+stopped_undecided n k Undecided e = refl
+
+stopped_decided : {V : Type 0} (n : ℕ) (k : Bool) (o : Outcome V) (l : Outcome (Unit {0})) → IsDecided o → shape o ≡ stopped_at n k l → IsDecided l
+stopped_decided n k o (Accepted t m j) d e = tt
+stopped_decided n k o (Refused j) d e = tt
+stopped_decided n k o Undecided d e = decided_shape o d e
+
+module _ {P T A V : Type 0} (step : P → T → P) (c : Collecting (Option A) V) (again : Reading P T (Option A)) (h : IsReading again) (before beyond : ℕ) (running : Reading P T (Option A)) (k : IsReading running) (s : SoFar Bool c.Held) where
+  until_ended : (v : View P T) → v.is_open ≡ false → Until step c again before beyond running s v Undecided → ⊥
+  until_ended v e t =
+      let l = stopped_undecided (stop_at before beyond t.blocks) (s.committed || any_committed t.blocks) t.last t.joined in
+      let Ending : Outcome (Unit {0}) → Type 0 = λ i. Divides step until_rule (λ _. again) i running s.mark t.blocks (advanced step (before + beyond) v) in
+      divides_ended step until_rule until_is_rule (λ _. again) (λ _. h) running k s.mark (advanced step (before + beyond) v) t.blocks e (subst Ending l t.divided)
+
+  until_stays : (v : View P T) (x : List T) (b : Bool) (o : Outcome V) → v.is_open ≡ true → IsDecided o → Until step c again before beyond running s v o → Until step c again before beyond running s (extended x b v) o
+  until_stays v x b o e d t =
+      let i = divides_stands step until_rule until_is_rule (λ _. again) (λ _. h) running k s.mark (advanced step (before + beyond) v) t.last t.blocks x b (open_follows v.is_open x b e) (stopped_decided (stop_at before beyond t.blocks) (s.committed || any_committed t.blocks) o t.last d t.joined) t.divided in
+      let Here : View P T → Type 0 = λ u. Divides step until_rule (λ _. again) t.last running s.mark t.blocks u in
+      record {
+        enough = let a = t.enough in omega (arith, length-append v.unread x);
+        blocks = t.blocks;
+        last = t.last;
+        held = t.held;
+        divided = subst Here (sym (advanced_extended step (before + beyond) x b v t.enough)) i;
+        joined = t.joined;
+        folded = t.folded;
+        collected = t.collected;
+      }
+
+  until_peeked : (v : View P T) (a : V) (n : ℕ) → Until step c again before beyond running s v (Accepted a n false) → n ≡ 0
+  until_peeked v a n t = by_last t.last t.joined
+    where
+      by_last : (l : Outcome (Unit {0})) → shape (Accepted a n false) ≡ stopped_at (stop_at before beyond t.blocks) (s.committed || any_committed t.blocks) l → n ≡ 0
+      by_last (Accepted u m j) e =
+          let q : n ≡ stop_at before beyond t.blocks = cc in
+          let f : (nat_lt 0 (stop_at before beyond t.blocks) || ((s.committed || any_committed t.blocks) || j)) ≡ false = cc in
+          let z = both_false (nat_lt 0 (stop_at before beyond t.blocks)) ((s.committed || any_committed t.blocks) || j) f in
+          let y = ltb-false 0 (stop_at before beyond t.blocks) z.0 in
+          omega arith
+      by_last (Refused j) e = absurd (cc)
+      by_last Undecided e = absurd (cc)
+
+  until_within_list : (v : View P T) (a : V) (n : ℕ) (b : Bool) → Until step c again before beyond running s v (Accepted a n b) → n ≤ length v.unread
+  until_within_list v a n b t = by_last t.last t.blocks t.divided t.joined
+    where
+      by_blocks : (bs : List (Block (Option A))) (m : ℕ) (j : Bool) → Divides step until_rule (λ _. again) (Accepted tt m j) running s.mark bs (advanced step (before + beyond) v) → n ≡ stop_at before beyond bs → n ≤ length v.unread
+      by_blocks [] m j d e = let a = t.enough in omega arith
+      by_blocks (x ∷ bs) m j d e =
+          let w = divides_within step until_rule until_is_rule (λ _. again) (λ _. h) running k s.mark (advanced step (before + beyond) v) m j (x ∷ bs) d in
+          let a = t.enough in
+          omega (arith, length-drop (before + beyond) v.unread)
+
+      by_last : (l : Outcome (Unit {0})) (bs : List (Block (Option A))) → Divides step until_rule (λ _. again) l running s.mark bs (advanced step (before + beyond) v) → shape (Accepted a n b) ≡ stopped_at (stop_at before beyond bs) (s.committed || any_committed bs) l → n ≤ length v.unread
+      by_last (Accepted u m j) bs d e = by_blocks bs m j d (cc)
+      by_last (Refused j) bs d e = absurd (cc)
+      by_last Undecided bs d e = absurd (cc)
+
+  pub until_is_reading : IsReading (Until step c again before beyond running s)
+  until_is_reading = record { ended = until_ended; stays = until_stays; peeked = until_peeked; within = until_within_list }
+
+module _ {P T A V : Type 0} (step : P → T → P) (c : Collecting (Option A) V) (again : Reading P T (Option A)) (h : EndsOnce is_none again) (before beyond : ℕ) (running : Reading P T (Option A)) (k : EndsOnce is_none running) (s : SoFar Bool c.Held) where
+  until_one : (v : View P T) (o o' : Outcome V) → Until step c again before beyond running s v o → Until step c again before beyond running s v o' → shape o ≡ shape o'
+  until_one v o o' t u = by_blocks t.blocks u.blocks t.divided u.divided t.joined u.joined
+    where
+      by_blocks : (bs cs : List (Block (Option A))) → Divides step until_rule (λ _. again) t.last running s.mark bs (advanced step (before + beyond) v) → Divides step until_rule (λ _. again) u.last running s.mark cs (advanced step (before + beyond) v) → shape o ≡ stopped_at (stop_at before beyond bs) (s.committed || any_committed bs) t.last → shape o' ≡ stopped_at (stop_at before beyond cs) (s.committed || any_committed cs) u.last → shape o ≡ shape o'
+      by_blocks bs cs p q i j =
+          let d = divides_one step until_rule (λ _. again) (λ g. until_judged_once again g h) running s.mark (until_judged_once running s.mark k) (advanced step (before + beyond) v) t.last u.last bs cs p q in
+          let x = d.last in
+          let y = d.any_same in
+          let z : stop_at before beyond bs ≡ stop_at before beyond cs = stops bs cs d.taken_same p q in
+          cc
+        where
+          stops : (bs cs : List (Block (Option A))) → taken bs ≡ taken cs → Divides step until_rule (λ _. again) t.last running s.mark bs (advanced step (before + beyond) v) → Divides step until_rule (λ _. again) u.last running s.mark cs (advanced step (before + beyond) v) → stop_at before beyond bs ≡ stop_at before beyond cs
+          stops [] [] e p q = refl
+          stops (b ∷ bs) (b' ∷ cs) e p q = ap (λ n. before + beyond + n) e
+          stops [] (b ∷ bs) e p q = absurd (let f = (until_judged_once running s.mark k).judged (advanced step (before + beyond) v) p.0 (Accepted b.value b.count b.committed) p.1 q.1 in let i = p.2 in let j = q.2 in cc)
+          stops (b ∷ bs) [] e p q = absurd (let f = (until_judged_once running s.mark k).judged (advanced step (before + beyond) v) q.0 (Accepted b.value b.count b.committed) q.1 p.1 in let i = q.2 in let j = p.2 in cc)
+
+  pub until_is_single : IsSingle (Until step c again before beyond running s)
+  until_is_single = record { one = until_one }
+
+pub until_into : {P T A V : Type 0} (step : P → T → P) (c : Collecting (Option A) V) (again again' : Reading P T (Option A)) → ((v : View P T) (o : Outcome (Option A)) → again v o → again' v o) → (before beyond : ℕ) (running running' : Reading P T (Option A)) → ((v : View P T) (o : Outcome (Option A)) → running v o → running' v o) → (s : SoFar Bool c.Held) (v : View P T) (o : Outcome V) → Until step c again before beyond running s v o → Until step c again' before beyond running' s v o
+until_into step c again again' i before beyond running running' j s v o t = record {
+  enough = t.enough;
+  blocks = t.blocks;
+  last = t.last;
+  held = t.held;
+  divided = divides_into step until_rule (λ _. again) (λ _. again') (λ g. i) running running' j s.mark (advanced step (before + beyond) v) t.last t.blocks t.divided;
+  joined = t.joined;
+  folded = t.folded;
+  collected = t.collected;
+}
+
+loses_into : {P T : Type 0} (step : P → T → P) (d : ℕ) (l l' : View P T → Type 0) → ((v : View P T) → l v → l' v) → (v : View P T) → Loses step d l v → Loses step d l' v
+loses_into step d l l' i v (Short p) = Short p
+loses_into step d l l' i v (Within p) = Within (i _ p)
+
+module _ {P T R A V S : Type 0} (step : P → T → P) (c : Collecting (Option A) V) where
+  pub until_is_meaning : (fresh valid : S → Type 0) (m : Meaning P T R (Option A) S) → IsMeaning fresh valid m → IsMeaning until_fresh (until_valid valid) (until step c m)
+  until_is_meaning fresh valid m h = record {
+    whole = until_is_reading step c m.whole h.whole 0 0 m.whole h.whole (no_blocks c.none);
+    rest = resting;
+    start = λ s v o d. rw d (λ x. x, λ x. x);
+    found = λ s v d. rw d (λ x. x);
+  }
+    where
+      resting : (s : UntilState V S) → until_valid valid s → IsReading (until_rest step c m s)
+      resting Begin d = until_is_reading step c m.whole h.whole 0 0 m.whole h.whole (no_blocks c.none)
+      resting (At k) d = until_is_reading step c m.whole h.whole k.before k.beyond (m.rest k.running) (h.rest k.running d) (blocks_so_far c.held k.blocks)
+
+  pub until_means_one : (valid : S → Type 0) (m : Meaning P T R (Option A) S) → TurnsOnce valid is_none m m.whole → MeansOne (until_valid valid) (until step c m)
+  until_means_one valid m h = record { whole = until_is_single step c m.whole h.whole 0 0 m.whole h.whole (no_blocks c.none); rest = resting }
+    where
+      resting : (s : UntilState V S) → until_valid valid s → IsSingle (until_rest step c m s)
+      resting Begin d = until_is_single step c m.whole h.whole 0 0 m.whole h.whole (no_blocks c.none)
+      resting (At k) d = until_is_single step c m.whole h.whole k.before k.beyond (m.rest k.running) (h.rest k.running d) (blocks_so_far c.held k.blocks)
+
+  module _ (m m' : Meaning P T R (Option A) S) (h : MeansSame m m') where
+    there : (before beyond : ℕ) (r r' : Reading P T (Option A)) → ((v : View P T) (o : Outcome (Option A)) → r v o → r' v o) → (s : SoFar Bool c.Held) (v : View P T) (o : Outcome V) → Until step c m.whole before beyond r s v o → Until step c m'.whole before beyond r' s v o
+    there before beyond r r' i = until_into step c m.whole m'.whole (λ v o. (h.whole v o).0) before beyond r r' i
+
+    back : (before beyond : ℕ) (r r' : Reading P T (Option A)) → ((v : View P T) (o : Outcome (Option A)) → r v o → r' v o) → (s : SoFar Bool c.Held) (v : View P T) (o : Outcome V) → Until step c m'.whole before beyond r s v o → Until step c m.whole before beyond r' s v o
+    back before beyond r r' i = until_into step c m'.whole m.whole (λ v o. (h.whole v o).1) before beyond r r' i
+
+    rests : (s : UntilState V S) (v : View P T) (o : Outcome V) → until_rest step c m s v o ↔ until_rest step c m' s v o
+    rests Begin v o = (there 0 0 m.whole m'.whole (λ v o. (h.whole v o).0) (no_blocks c.none) v o, back 0 0 m'.whole m.whole (λ v o. (h.whole v o).1) (no_blocks c.none) v o)
+    rests (At k) v o = (there k.before k.beyond (m.rest k.running) (m'.rest k.running) (λ v o. (h.rest k.running v o).0) (blocks_so_far c.held k.blocks) v o, back k.before k.beyond (m'.rest k.running) (m.rest k.running) (λ v o. (h.rest k.running v o).1) (blocks_so_far c.held k.blocks) v o)
+
+    losts : (s : UntilState V S) (v : View P T) → until_lost step c m s v ↔ until_lost step c m' s v
+    losts Begin v = (λ x. x, λ x. x)
+    losts (At k) v = (loses_into step (k.before + k.beyond) (m.lost k.running) (m'.lost k.running) (λ v. (h.lost k.running v).0) v, loses_into step (k.before + k.beyond) (m'.lost k.running) (m.lost k.running) (λ v. (h.lost k.running v).1) v)
+
+    pub until_means_same : MeansSame {State = UntilState V S} (until step c m) (until step c m')
+    until_means_same = record {
+      whole = rests Begin;
+      rest = rests;
+      lost = losts;
+      keeps = (λ x. x, λ x. x);
+      puts_back = (λ x. x, λ x. x);
+      lean = (λ l. (h.lean.0 l.0, l.1), λ l. (h.lean.1 l.0, l.1));
+      adds = h.adds;
+    }

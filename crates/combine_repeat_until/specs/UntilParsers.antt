@@ -1,0 +1,69 @@
+-- the parsers that the constructors build, and their parts
+use Rattle.std.specs.declared.alloc.Global.{Global}
+use Rattle.combine_base.specs.Parser.Meaning.{Meaning}
+use Rattle.combine_combinator.specs.Parsers.{picked_of, picked_part}
+use Rattle.combine_combinator.specs.declared.combinator.values.Nothing.{Nothing}
+use Rattle.combine_combinator.specs.declared.combinator.values.Picked.{Picked}
+use Rattle.combine_token.specs.TokenParsers.{any_parser}
+use Rattle.combine_token.specs.declared.choice.OrState.{OrState}
+use Rattle.combine_token.specs.declared.token.types.Any.{Any}
+use Rattle.std.specs.Prelude.{Option}
+use Rattle.combine_repeat_turns.specs.Turns.{Collecting}
+use Rattle.combine_repeat_until.specs.Next.{next}
+use Rattle.combine_repeat_until.specs.Until.{until}
+use Rattle.combine_repeat_until.specs.declared.mute.Mute.{Mute}
+use Rattle.combine_repeat_until.specs.declared.next.Next.{Next}
+use Rattle.combine_repeat_until.specs.declared.repeat.types.BlocksUntil.{BlocksUntil}
+use Rattle.combine_repeat_until.specs.declared.repeat.types.Skips.{Skips}
+use Rattle.combine_repeat_until.specs.declared.until.UntilState.{UntilState}
+
+abbrev pub next_of : {A X Y : Type 0} → X → Y → Next A X Y
+next_of part end = record { end = picked_of end; part = picked_of part }
+
+abbrev pub next_end : {A X Y : Type 0} → Next A X Y → Y
+next_end p = picked_part p.end
+
+abbrev pub next_part : {A X Y : Type 0} → Next A X Y → X
+next_part p = picked_part p.part
+
+abbrev pub mute_of : {Y : Type 0} → Y → Mute Y
+mute_of part = record { part = part }
+
+abbrev pub muted_part : {Y : Type 0} → Mute Y → Y
+muted_part p = p.part
+
+abbrev pub blocks_of : {F A X Y : Type 0} → Global → X → Y → BlocksUntil F A X Y
+blocks_of alloc part end = record { alloc = alloc; turn = next_of part end; collects = record {} }
+
+-- the block's parser alone says what it expects
+abbrev pub repeat_until_of : {F A X Y : Type 0} → Global → X → Y → BlocksUntil F A X (Mute Y)
+repeat_until_of alloc part end = blocks_of alloc part (mute_of end)
+
+abbrev pub take_until_of : {F I A Y : Type 0} → Global → Y → BlocksUntil F A (Any I) Y
+take_until_of alloc end = blocks_of alloc any_parser end
+
+abbrev pub skips_of : {A X Y : Type 0} → X → Y → Picked (Skips A X Y) Nothing (Unit {0})
+skips_of part end = picked_of (record { turn = next_of part end })
+
+abbrev pub repeat_skip_until_of : {A X Y : Type 0} → X → Y → Picked (Skips A X (Mute Y)) Nothing (Unit {0})
+repeat_skip_until_of part end = skips_of part (mute_of end)
+
+abbrev pub skip_until_of : {I A Y : Type 0} → Y → Picked (Skips A (Any I) Y) Nothing (Unit {0})
+skip_until_of end = skips_of any_parser end
+
+abbrev pub skipped_end : {A X Y : Type 0} → Skips A X Y → Y
+skipped_end p = next_end p.turn
+
+abbrev pub skipped_part : {A X Y : Type 0} → Skips A X Y → X
+skipped_part p = next_part p.turn
+
+abbrev pub blocks_end : {F A X Y : Type 0} → BlocksUntil F A X Y → Y
+blocks_end p = next_end p.turn
+
+abbrev pub blocks_part : {F A X Y : Type 0} → BlocksUntil F A X Y → X
+blocks_part p = next_part p.turn
+
+module _ {P T R A B V S U : Type 0} (step : P → T → P) (c : Collecting (Option A) V) where
+  -- blocks of a parser, up to the first place where the other one isn't refused peeked
+  abbrev pub repeat_until : Meaning P T R A S → Meaning P T R B U → Meaning P T R V (UntilState V (OrState U S))
+  repeat_until part end = until step c (next end part)

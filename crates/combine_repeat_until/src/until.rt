@@ -1,0 +1,404 @@
+//! Blocks of a parser up to the first place where it says that they end: the loop, and what is kept of it.
+ghost use Rattle.std.specs.Prelude.{◌≡◌, ◌||◌, ◌&&◌, ℕ, nat_lt, not, false, true, MatchResult};
+ghost use Rattle.combine_base.specs.Parser.Answer.{Answers, world};
+ghost use Rattle.combine_base.specs.Parser.Meaning.{MeansSame};
+ghost use Rattle.combine_base.specs.Sequence.Parts.{accepted_as};
+ghost use Rattle.combine_base.specs.Stream.Calls.{Passes};
+ghost use Rattle.combine_base.specs.Stream.View.{Takes, View};
+ghost use Rattle.combine_combinator.specs.Attempt.{losing};
+ghost use Rattle.combine_repeat_until.specs.Until.{blocks_so_far, some_appended, until, until_fresh, until_valid};
+ghost use Rattle.combine_repeat_until.specs.UntilTurn.{ComesTo, HandsOut, Keeps, KeepsRunning, OneTurn, Settled};
+
+use combine_base::distance::{measure, pass_over};
+use combine_base::error::{ParseResult, Tracked};
+use combine_base::parser::{ParseMode, Parser};
+use combine_base::refusal::refusal_saying;
+use combine_base::repeat::Append;
+use combine_base::sequence::accepted_after;
+use combine_base::stream::{Kind, Stream, has_taken, needs_more};
+use std::alloc::AllocError;
+use std::mem::replace;
+
+/// The blocks so far: what is collected, whether one was committed, and whether the running one took a token in an earlier piece.
+#[derive(Drop)]
+pub struct Blocks<F> {
+    into: F,
+    committed: bool,
+    begun: bool,
+}
+
+impl<F> Blocks<F> {
+    #[inline(always)]
+    fn none(into: F) -> Blocks<F>
+        ensures { result ≡ record { into = into; committed = false; begun = false } }
+    {
+        Blocks {
+            into,
+            committed: false,
+            begun: false,
+        }
+    }
+
+    /// Committed if that is, or they were.
+    #[inline(always)]
+    fn joined(self, committed: bool) -> Blocks<F>
+        ensures { result ≡ record { into = self.into; committed = self.committed || committed; begun = self.begun } }
+    {
+        let Blocks {
+            into,
+            committed: before,
+            begun,
+        } = self;
+        Blocks {
+            into,
+            committed: before || committed,
+            begun,
+        }
+    }
+
+    /// The same blocks in the next piece.
+    #[inline(always)]
+    fn cut<Input: Stream>(self, since: Input::Checkpoint, input: &Input) -> Blocks<F>
+        ensures { (n : ℕ) (v : View Input.Position Input.Token) → Input.stands input.now since v → Takes Input.step n v (Input.view input.now) → result ≡ record { into = self.into; committed = self.committed; begun = self.begun || nat_lt 0 n } }
+    {
+        let Blocks {
+            into,
+            committed,
+            begun,
+        } = self;
+        Blocks {
+            into,
+            committed,
+            begun: has_taken(begun, since, input),
+        }
+    }
+
+    /// With one more value.
+    #[inline(always)]
+    fn add<A>(self, value: A) -> Result<Blocks<F>, AllocError>
+    where
+        F: Append<A>,
+        ensures { MatchResult result (λ n. blocks_so_far F.held n ≡ record { mark = false; held = F.more (F.held self.into) value; committed = self.committed }) (λ _. F.lean → ⊥) }
+    {
+        let Blocks {
+            mut into,
+            committed,
+            begun: _,
+        } = self;
+        into.append(value)?;
+        Ok(Blocks {
+            into,
+            committed,
+            begun: false,
+        })
+    }
+
+    /// What is collected, accepted.
+    #[inline(always)]
+    fn end<E>(self) -> ParseResult<F, E>
+        ensures { result ≡ accepted_as self.committed self.into }
+    {
+        let Blocks {
+            into,
+            committed,
+            begun: _,
+        } = self;
+        accepted_after(committed, into)
+    }
+}
+
+/// What is kept while more input is needed: how many tokens stand before the place where the running part began, how many it has read beyond, the blocks, and its state.
+#[derive(Drop)]
+pub struct Kept<F, S> {
+    before: u64,
+    beyond: u64,
+    blocks: Blocks<F>,
+    running: S,
+}
+
+impl<F, S: Default> Kept<F, S> {
+    /// Nothing is read yet.
+    #[inline(always)]
+    fn nothing(into: F) -> Kept<F, S>
+        ensures place { (result.before ≡ 0) × (result.beyond ≡ 0) }
+        ensures blocks { result.blocks ≡ record { into = into; committed = false; begun = false } }
+        ensures fresh { S.is_default result.running }
+    {
+        Kept {
+            before: 0,
+            beyond: 0,
+            blocks: Blocks::none(into),
+            running: S::default(),
+        }
+    }
+}
+
+/// The state of a repetition up to a place.
+#[derive(Drop)]
+pub enum UntilState<F, S> {
+    /// Nothing is kept, and the next call begins.
+    Begin,
+    /// The next call passes over what was read, and goes on.
+    At(Kept<F, S>),
+}
+
+impl<F, S> Default for UntilState<F, S> {
+    ghost is_default = { until_fresh };
+
+    #[inline]
+    fn default() -> Self {
+        UntilState::Begin
+    }
+}
+
+impl<F: Drop, S: Default + Drop> UntilState<F, S> {
+    /// Hands out what a call begins with: what is kept, unless it begins afresh.
+    #[inline(always)]
+    fn hand_out(&mut self, first: bool, into: F) -> Kept<F, S>
+        ensures out { HandsOut S.is_default into first self.old result }
+        ensures left { self.new ≡ UntilState.Begin }
+    {
+        match replace(self, UntilState::Begin) {
+            UntilState::Begin => Kept::nothing(into),
+            UntilState::At(kept) => {
+                if first {
+                    return Kept::nothing(into);
+                }
+                kept
+            }
+        }
+    }
+}
+
+/// Why no further block runs.
+pub enum Stop<F, E> {
+    /// The blocks end there, accepted.
+    Ends(Blocks<F>),
+    /// No block is there, refused peeked.
+    Refused(Tracked<E>),
+    /// The running part needs more.
+    More(Blocks<F>, E),
+    Failed(E),
+}
+
+/// What came of one turn.
+pub enum Step<F, E> {
+    /// It is a block, and the next one runs.
+    Goes(Blocks<F>),
+    Stops(Stop<F, E>),
+}
+
+/// The kind of a failure to pass over the kept distance.
+#[inline]
+fn lost(kind: Kind) -> Kind
+    ensures { result ≡ losing kind }
+{
+    match kind {
+        Kind::End => Kind::Lost,
+        other => other,
+    }
+}
+
+/// Passes over the tokens before the place where the running part began, and over those that it has read: the checkpoint of that place.
+#[inline(always)]
+fn pass_to<Input: Stream>(
+    input: &mut Input,
+    before: u64,
+    beyond: u64,
+) -> Result<Input::Checkpoint, Kind>
+    ensures passes { Passes (Input.marks input.old) (Input.marks input.new) (Input.failures input.old) (Input.failures input.new) }
+    ensures comes { ComesTo Input.steady Input.step (Input.stands input.new) (Input.view input.old) (Input.view input.new) (Input.failures input.old) (Input.failures input.new) before beyond result }
+{
+    if let Err(kind) = pass_over(input, before) {
+        return Err(kind);
+    }
+    let place = input.checkpoint();
+    if let Err(kind) = pass_over(input, beyond) {
+        return Err(kind);
+    }
+    Ok(place)
+}
+
+/// Whether a turn that is accepted so is a block, this piece's part of it begun at that checkpoint.
+#[inline(always)]
+fn is_block<Input: Stream>(
+    begun: bool,
+    committed: bool,
+    since: Input::Checkpoint,
+    input: &Input,
+) -> bool
+    ensures { (n : ℕ) (v : View Input.Position Input.Token) → Input.stands input.now since v → Takes Input.step n v (Input.view input.now) → result ≡ (committed && (begun || nat_lt 0 n)) }
+{
+    committed && has_taken(begun, since, input)
+}
+
+/// One turn, which began at that place: where its parser says that the blocks end, the stream is put back to it.
+#[inline(always)]
+fn one_turn<
+    A: Drop,
+    F: Append<A>,
+    Input: Stream,
+    N: Parser<Input, Output = Option<A>>,
+    M: ParseMode,
+>(
+    parser: &mut N,
+    place: Input::Checkpoint,
+    mode: M,
+    blocks: Blocks<F>,
+    input: &mut Input,
+    running: &mut N::PartialState,
+) -> Step<F, Input::Error>
+    requires lawful { N.lawful parser.old }
+    requires valid { N.valid running.old }
+    ensures lawful { N.lawful parser.new }
+    ensures valid { N.valid running.new }
+    ensures same { MeansSame (N.meaning parser.old) (N.meaning parser.new) }
+    ensures passes { Passes (Input.marks input.old) (Input.marks input.new) (Input.failures input.old) (Input.failures input.new) }
+    ensures turned { OneTurn (world Input.step Input.Error.seen Input.steady N.PartialState.is_default) (N.meaning parser.old) (some_appended F.held F.none F.more F.lean)
+        (record { first = M.first mode; state = running.old; left = running.new; old = Input.view input.old; new = Input.view input.new; before = Input.failures input.old; after = Input.failures input.new })
+        (Input.stands input.old place) blocks result }
+{
+    let position = input.position();
+    let since = input.checkpoint();
+    let (value, committed) = match parser.parse_explained(mode, input, running) {
+        ParseResult::CommitOk(value) => (value, true),
+        ParseResult::PeekOk(value) => (value, false),
+        ParseResult::PeekErr(refusal) => return Step::Stops(Stop::Refused(refusal)),
+        ParseResult::CommitErr(error) => {
+            if needs_more(input, &error) {
+                return Step::Stops(Stop::More(blocks.cut(since, input), error));
+            }
+            return Step::Stops(Stop::Failed(error));
+        }
+    };
+    match value {
+        None => match input.reset(place) {
+            Ok(()) => Step::Stops(Stop::Ends(blocks.joined(committed))),
+            Err(kind) => Step::Stops(Stop::Failed(input.new_error(kind, position))),
+        },
+        Some(value) => {
+            if !is_block(blocks.begun, committed, since, input) {
+                let error = refusal_saying(input, position, "repetition takes nothing");
+                return Step::Stops(Stop::Failed(error));
+            }
+            match blocks.joined(committed).add(value) {
+                Ok(blocks) => Step::Goes(blocks),
+                Err(_refused) => {
+                    Step::Stops(Stop::Failed(input.new_error(Kind::Memory, position)))
+                }
+            }
+        }
+    }
+}
+
+/// Puts the stream back to the start on need of more, and keeps the distances from there to the place where the running part began, and from it to where the stream was.
+fn keep<F, Input: Stream, S>(
+    blocks: Blocks<F>,
+    need: Input::Error,
+    start: Input::Checkpoint,
+    place: Input::Checkpoint,
+    position: Input::Position,
+    input: &mut Input,
+    running: S,
+    state: &mut UntilState<F, S>,
+) -> ParseResult<F, Input::Error>
+where
+    F: Drop,
+    S: Drop,
+    ensures passes { Passes (Input.marks input.old) (Input.marks input.new) (Input.failures input.old) (Input.failures input.new) }
+    ensures keeps { Keeps Input.steady Input.step Input.Error.seen.kind (Input.stands input.old start) (Input.stands input.old place) (Input.view input.old) (Input.view input.new) (Input.failures input.old) (Input.failures input.new) blocks running need state.old state.new result }
+    ensures left { KeepsRunning running state.old state.new }
+{
+    let beyond = match measure(input, place) {
+        Ok(distance) => distance,
+        Err(kind) => return ParseResult::CommitErr(input.new_error(kind, position)),
+    };
+    let before = match measure(input, start) {
+        Ok(distance) => distance,
+        Err(kind) => return ParseResult::CommitErr(input.new_error(kind, position)),
+    };
+    *state = UntilState::At(Kept {
+        before,
+        beyond,
+        blocks,
+        running,
+    });
+    ParseResult::CommitErr(need)
+}
+
+/// What blocks answer that stop so.
+#[inline(always)]
+fn settle<F, Input: Stream, S>(
+    why: Stop<F, Input::Error>,
+    start: Input::Checkpoint,
+    place: Input::Checkpoint,
+    position: Input::Position,
+    input: &mut Input,
+    running: S,
+    state: &mut UntilState<F, S>,
+) -> ParseResult<F, Input::Error>
+where
+    F: Drop,
+    S: Drop,
+    ensures passes { Passes (Input.marks input.old) (Input.marks input.new) (Input.failures input.old) (Input.failures input.new) }
+    ensures settled { Settled Input.steady Input.step Input.Error.seen.kind (Input.stands input.old start) (Input.stands input.old place) (Input.view input.old) (Input.view input.new) (Input.failures input.old) (Input.failures input.new) running state.old state.new result why }
+    ensures left { KeepsRunning running state.old state.new }
+{
+    match why {
+        Stop::Ends(blocks) => blocks.end(),
+        Stop::Refused(refusal) => ParseResult::PeekErr(refusal),
+        Stop::Failed(error) => ParseResult::CommitErr(error),
+        Stop::More(blocks, error) => {
+            keep(blocks, error, start, place, position, input, running, state)
+        }
+    }
+}
+
+/// Blocks of `parser` up to the first place where it says that they end: collected, from `empty` on, with the stream put back to that place.
+#[inline(always)]
+pub fn take_blocks<
+    A: Drop,
+    F: Append<A>,
+    Input: Stream,
+    N: Parser<Input, Output = Option<A>>,
+    M: ParseMode,
+>(
+    parser: &mut N,
+    empty: F,
+    mode: M,
+    input: &mut Input,
+    state: &mut UntilState<F, N::PartialState>,
+) -> ParseResult<F, Input::Error>
+    requires lawful { N.lawful parser.old }
+    requires valid { until_valid N.valid state.old }
+    requires empty { F.held empty ≡ F.none }
+    ensures lawful { N.lawful parser.new }
+    ensures valid { until_valid N.valid state.new }
+    ensures same { MeansSame (N.meaning parser.old) (N.meaning parser.new) }
+    ensures passes { Passes (Input.marks input.old) (Input.marks input.new) (Input.failures input.old) (Input.failures input.new) }
+    ensures answers { Answers (world Input.step Input.Error.seen Input.steady until_fresh)
+        (until Input.step (some_appended F.held F.none F.more F.lean) (N.meaning parser.old))
+        (record { first = M.first mode; state = state.old; left = state.new; old = Input.view input.old; new = Input.view input.new; before = Input.failures input.old; after = Input.failures input.new })
+        result }
+{
+    let start = input.checkpoint();
+    let position = input.position();
+    let Kept {
+        before,
+        beyond,
+        blocks,
+        mut running,
+    } = state.hand_out(mode.is_first(), empty);
+    let mut place = match pass_to(input, before, beyond) {
+        Ok(place) => place,
+        Err(kind) => return ParseResult::CommitErr(input.new_error(lost(kind), position)),
+    };
+    let mut blocks = blocks.joined(before > 0);
+    'turns: loop {
+        match one_turn(parser, place, mode, blocks, input, &mut running) {
+            Step::Goes(next) => blocks = next,
+            Step::Stops(why) => return settle(why, start, place, position, input, running, state),
+        }
+        place = input.checkpoint();
+    }
+}

@@ -1,8 +1,0 @@
-use Rattle.std.proofs.Common.{None}
-use Rattle.combine_turns.specs.BoundedLaws.{turns_means_same}
-use Rattle.combine_turns.specs.Counts.{never}
-use Rattle.combine_turns.specs.declared.turns.Bounds.TheVariants.{Joined}
-use Rattle.combine_separated.proofs.repeat.types.Chainl1Parser.parse_mode.Goals as goal
-
-pub returns-clause-same : goal.returns-clause-same
-returns-clause-same g c = turns_means_same _ (Joined 1 None) never _ _ _ _ _ _ c.take_joined.ensures.same

@@ -1,0 +1,125 @@
+//! A whole input, parsed window by window. Our own: with the crate a caller keeps the input and the state, and loops.
+#![tactic(auto)]
+
+ghost use Rattle.std.specs.Prelude.{◌≡◌, ◌↔◌, ℕ, ◌<◌, ◌≤◌, get_or, length, true};
+ghost use Rattle.combine_base.specs.Parser.Meaning.{IsSingle, MeansSame};
+ghost use Rattle.combine_stream_cuts.specs.Cuts.{Fit, ParsesWindow, RunsCuts};
+
+use combine_base::error::{ParseError, ParseResult};
+use combine_base::parser::{Answer, Parser, PartialMode, judge};
+use combine_base::stream::{Kind, Positioned, Stream as AnyStream, StreamOnce};
+use combine_stream::MaybePartialStream;
+use combine_stream::position::{DefaultPositioned, Stream, Windowed};
+
+/// Returns whether the cuts don't fall, and each is a place of the input: none passes the end, and none is inside a character.
+pub fn cuts_fit<S: Windowed>(whole: S, cuts: &[usize]) -> bool
+    ensures { (result ≡ true) ↔ Fit (S.places whole) cuts.now }
+{
+    let mut last = 0;
+    for cut in cuts {
+        if *cut < last {
+            return false;
+        }
+        if !whole.has_place(*cut) {
+            return false;
+        }
+        last = *cut;
+    }
+    true
+}
+
+// Where a run stands: its window, the place of the first unread token, and how many tokens stand before it.
+#[derive(Drop)]
+struct Run<S, P> {
+    stream: MaybePartialStream<Stream<S, P>>,
+    place: usize,
+    taken: usize,
+}
+
+// What is parsed of a window.
+type Parsed<T, S> = Result<
+    Answer<T, <<S as DefaultPositioned>::Placed as StreamOnce>::Error>,
+    Kind,
+>;
+
+// One call of a parser on the window from the first unread token to a place. The run is given and handed back by value, so that the stream is a local while the parser reads.
+fn parse_window<S: Windowed, P: Parser<MaybePartialStream<Stream<S, S::Placed>>>>(
+    parser: &mut P,
+    state: &mut P::PartialState,
+    run: Run<S, S::Placed>,
+    whole: S,
+    to: usize,
+    is_open: bool,
+) -> (Run<S, S::Placed>, Parsed<P::Output, S>)
+    requires lawful { P.lawful parser.old }
+    requires valid { P.valid state.old }
+    requires place { S.places whole run.place }
+    requires index { S.index whole run.place ≡ run.taken }
+    requires position { (⟦<MaybePartialStream<Stream<S, S::Placed>> as StreamOnce>⟧.view run.stream).position ≡ S.DefaultPositioned.behind whole run.taken }
+    requires to { S.places whole to }
+    requires order { run.place ≤ to }
+    ensures lawful { P.lawful parser.new }
+    ensures valid { P.valid state.new }
+    ensures same { MeansSame (P.meaning parser.old) (P.meaning parser.new) }
+    ensures place { S.places whole result.0.place }
+    ensures index { S.index whole result.0.place ≡ result.0.taken }
+    ensures position { (⟦<MaybePartialStream<Stream<S, S::Placed>> as StreamOnce>⟧.view result.0.stream).position ≡ S.DefaultPositioned.behind whole result.0.taken }
+    ensures parses { ParsesWindow S.Placed.Error.seen.frugal S.Placed.steady S.Placed.step S.Placed.Error.seen.kind P.PartialState.is_default (S.DefaultPositioned.whole whole).position (P.meaning parser.old) state.old state.new (S.DefaultPositioned.whole whole).unread run.taken (S.index whole to) is_open result.0.taken result.1 }
+{
+    let Run {
+        mut stream,
+        place: from,
+        taken: before,
+    } = run;
+    stream.0.widen(whole, from, to);
+    stream.1 = is_open;
+    let parsed = parser.parse_mode(PartialMode { first: false }, &mut stream, state);
+    let place = stream.0.place_before(whole, to);
+    let taken = whole.count_to(place, from, before);
+    let answer = judge(&stream, parsed, taken as u64);
+    (
+        Run {
+            stream,
+            place,
+            taken,
+        },
+        answer,
+    )
+}
+
+/// Parses a whole input window by window: each goes from the first unread token to the next cut and is open, and the last goes to the end, ended. The cuts have to fit, as `cuts_fit` says. It stops at the first decision; the number says how many windows asked for more. No window begins again: the state and the position go on.
+///
+/// The answer is that of the whole input, and more is asked for exactly where what stands before the cut is undecided. The one fault is `Memory`.
+pub fn parse_cuts<S: Windowed, P: Parser<MaybePartialStream<Stream<S, S::Placed>>>>(
+    parser: &mut P,
+    whole: S,
+    cuts: &[usize],
+) -> Result<(usize, Answer<P::Output, <S::Placed as StreamOnce>::Error>), Kind>
+    requires lawful { P.lawful parser.old }
+    requires fit { Fit (S.places whole) cuts.now }
+    ensures lawful { P.lawful parser.new }
+    ensures same { MeansSame (P.meaning parser.old) (P.meaning parser.new) }
+    ensures single { P.determined parser.old → IsSingle (P.meaning parser.old).whole }
+    ensures runs { RunsCuts S.Placed.Error.seen.frugal (S.DefaultPositioned.whole whole).position (P.meaning parser.old) (S.DefaultPositioned.whole whole).unread (length cuts.now) (λ i. S.index whole (get_or cuts.now i 0)) result }
+{
+    let mut state = P::PartialState::default();
+    let stream = Stream::new(whole);
+    let place = whole.start();
+    let mut run = Run {
+        stream: MaybePartialStream(stream, true),
+        place,
+        taken: 0,
+    };
+    let mut asked = 0;
+    for cut in cuts {
+        let (next, parsed) = parse_window(parser, &mut state, run, whole, *cut, true);
+        run = next;
+        match parsed? {
+            Answer::More => asked += 1,
+            answer => return Ok((asked, answer)),
+        }
+    }
+    let end = whole.end();
+    let (_run, parsed) = parse_window(parser, &mut state, run, whole, end, false);
+    Ok((asked, parsed?))
+}

@@ -1,5 +1,0 @@
-use Rattle.combine_text.specs.Again.{whole_pair_means_same}
-use Rattle.combine_text.proofs.pair.WholePairParser.add_error.Goals as goal
-
-pub returns-clause-same : goal.returns-clause-same
-returns-clause-same g c = whole_pair_means_same _ _ c.add_error.ensures.same

@@ -1,5 +1,0 @@
-use Rattle.combine_until.specs.UntilLaws.{until_means_same}
-use Rattle.combine_until.proofs.repeat.types.BlocksUntilParser.parse_mode.Goals as goal
-
-pub returns-clause-same : goal.returns-clause-same
-returns-clause-same g c = until_means_same _ _ _ _ c.take_blocks.ensures.same

@@ -1,0 +1,27 @@
+use Rattle.std.proofs.Common.{sym, true, ◌∙◌}
+use Rattle.std.proofs.lemmas.Bool.{false≢true}
+use Rattle.tests_combinator.specs.Nests.{nest}
+use Rattle.tests_combinator.proofs.Again.{again_back, again_err, again_ok, again_peek_err, again_peek_ok, again_stuck}
+use Rattle.tests_combinator.proofs.nest.NestParser.parse_mode.Goals as goal
+
+pub returns-in-CommitOk-clause-answers : goal.returns-in-CommitOk-clause-answers
+returns-in-CommitOk-clause-answers g c = again_ok g.Input.StreamOnce.step g.Input.Error.ParseError.seen g.Input.StreamOnce.steady g.Input.StreamOnce.view g.Input.StreamOnce.marks g.Input.StreamOnce.failures _ (nest g.Input.StreamOnce.step c.args.self.now.0) _ _ _ tt c.args.input.now c.brackets.new.input _ c.in-CommitOk.ensures
+
+pub returns-in-PeekOk-clause-answers : goal.returns-in-PeekOk-clause-answers
+returns-in-PeekOk-clause-answers g c = again_peek_ok g.Input.StreamOnce.step g.Input.Error.ParseError.seen g.Input.StreamOnce.steady g.Input.StreamOnce.view g.Input.StreamOnce.marks g.Input.StreamOnce.failures _ (nest g.Input.StreamOnce.step c.args.self.now.0) _ _ _ tt c.args.input.now c.brackets.new.input _ c.in-PeekOk.ensures
+
+pub returns-in-PeekErr-clause-answers : goal.returns-in-PeekErr-clause-answers
+returns-in-PeekErr-clause-answers g c = again_peek_err g.Input.StreamOnce.step g.Input.Error.ParseError.seen g.Input.StreamOnce.steady g.Input.StreamOnce.view g.Input.StreamOnce.marks g.Input.StreamOnce.failures _ (nest g.Input.StreamOnce.step c.args.self.now.0) _ _ _ tt c.args.input.now c.brackets.new.input _ c.in-PeekErr.ensures
+
+pub returns-else-needs_more-clause-answers : goal.returns-else-needs_more-clause-answers
+returns-else-needs_more-clause-answers g c = again_err g.Input.StreamOnce.step g.Input.Error.ParseError.seen g.Input.StreamOnce.steady g.Input.StreamOnce.view g.Input.StreamOnce.marks g.Input.StreamOnce.failures _ (nest g.Input.StreamOnce.step c.args.self.now.0) _ _ _ tt c.args.input.now c.brackets.new.input _ c.in-CommitErr.ensures (λ i. false≢true (sym c.if-needs_more.false ∙ c.needs_more.ensures.1 i))
+
+pub returns-in-Ok-clause-answers : goal.returns-in-Ok-clause-answers
+returns-in-Ok-clause-answers g c =
+    let stands = g.met.Input.ResetStream.lasts _ _ _ _ c.brackets.ensures.passes.marks c.checkpoint-start.ensures.stands in
+    again_back g.Input.StreamOnce.step g.Input.Error.ParseError.seen g.Input.StreamOnce.steady g.Input.StreamOnce.view g.Input.StreamOnce.marks g.Input.StreamOnce.failures _ (nest g.Input.StreamOnce.step c.args.self.now.0) _ _ _ tt c.args.input.now c.brackets.new.input _ c.in-CommitErr.ensures (c.needs_more.ensures.0 c.if-needs_more.true) _ stands _ _ c.in-Ok.ensures.to
+
+pub returns-in-Err-clause-answers : goal.returns-in-Err-clause-answers
+returns-in-Err-clause-answers g c =
+    let stands = g.met.Input.ResetStream.lasts _ _ _ _ c.brackets.ensures.passes.marks c.checkpoint-start.ensures.stands in
+    again_stuck g.Input.StreamOnce.step g.Input.Error.ParseError.seen g.Input.StreamOnce.steady g.Input.StreamOnce.view g.Input.StreamOnce.marks g.Input.StreamOnce.failures _ (nest g.Input.StreamOnce.step c.args.self.now.0) _ _ _ tt c.args.input.now c.brackets.new.input _ c.in-CommitErr.ensures (c.needs_more.ensures.0 c.if-needs_more.true) _ stands _ _ _ c.in-Err.ensures.to _ c.new_error.ensures.kind
