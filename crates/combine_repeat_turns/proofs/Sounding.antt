@@ -1,9 +1,7 @@
 -- the values that turns give, and what is gathered of them
-use Rattle.std.proofs.Common.{◌≡◌, Bool, true, false, ap, refl, sym, ◌∙◌}
-use Rattle.combine_base.specs.Stream.View.{View}
+use Rattle.std.proofs.Common.{◌≡◌, Bool, true, false, ap, sym}
 use Rattle.combine_base.specs.Parser.Given.{ReadsOnly}
 use Rattle.combine_base.specs.Parser.Meaning.{Meaning, Reading, begun}
-use Rattle.combine_base.specs.Parser.Outcome.{Accepted}
 use Rattle.combine_base.specs.Parser.Answer.{Run, World, Accepts}
 use Rattle.combine_base.specs.Sequence.Parts.{accepted_as, refused_as}
 use Rattle.combine_base.specs.declared.error.Tracked.{Tracked}
@@ -11,7 +9,6 @@ use Rattle.combine_base.specs.declared.error.ParseResult.{ParseResult}
 use Rattle.combine_repeat_turns.specs.Turns.{Collecting}
 use Rattle.combine_repeat_turns.specs.Turn.{TurnsGive, called}
 use Rattle.combine_repeat_turns.specs.Sound.{KeepsSound, LeavesSound, of_value}
-use Rattle.combine_repeat_turns.specs.Bounded.{so_far}
 use Rattle.combine_repeat_turns.specs.FirstTurn.{FirstGoes}
 use Rattle.combine_repeat_turns.specs.OneTurn.{GoesOn, IsOver, Ended, PutBack, halted, stopped_answer, stopped_state}
 use Rattle.combine_repeat_turns.specs.declared.turns.Bounds.{Bounds}

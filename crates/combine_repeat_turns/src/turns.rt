@@ -31,7 +31,7 @@ use std::mem;
 /// What runs in a turn: the first one, or any later one, which may differ.
 pub trait Turn<Input: Stream> {
     ghost use Rattle.std.specs.Prelude.{◌≡◌, Bool, true};
-    ghost use Rattle.combine_base.specs.Parser.Meaning.{Meaning, Reading, IsMeaning};
+    ghost use Rattle.combine_base.specs.Parser.Meaning.{Meaning, Reading};
     ghost use Rattle.combine_base.specs.Parser.Answer.{Answers, world};
     ghost use Rattle.combine_base.specs.Error.Errors.{Says};
     ghost use Rattle.combine_base.specs.Stream.Calls.{Passes};

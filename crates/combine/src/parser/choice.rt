@@ -1,7 +1,8 @@
 //! Choices: the first alternative that isn't refused peeked gives the answer; and parsers that are one of several.
 
 pub use combine_choice::choice::{
-    ChoiceParser, OrState, Slice, SliceState, choice, laws, optional, or, or_is_associative, types,
+    ChoiceOutputs, ChoiceParser, OrState, Slice, SliceState, choice, laws, optional, or,
+    or_is_associative, types,
 };
 pub use combine_choice_dispatch::variants::{
     Dispatch3, Dispatch4, Dispatch5, Dispatch6, Dispatch7, Dispatch8,
