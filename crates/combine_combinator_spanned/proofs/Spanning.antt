@@ -59,8 +59,8 @@ module _ {T R Q E : Type 0} (cmp : Q → Q → Ordering) (s : Errors T R (Span Q
         by_case (CommitOk v) y i p = rw i p
         by_case (PeekOk v) y i p = rw i p
 
-  -- the span is that from where the call began to where it left the stream
-  module _ {A S : Type 0} (step : Span Q → T → Span Q) (steady : Type 0) (fresh : S → Type 0) (m : Meaning (Span Q) T R A S) (r : Run (Span Q) T S) (part : Bool → E → Type 0) where
+  -- the span is that from where the call began to where it left the stream: `from` and `to` are the positions there
+  module _ {A S : Type 0} (step : Span Q → T → Span Q) (steady : Type 0) (fresh : S → Type 0) (m : Meaning (Span Q) T R A S) (r : Run (Span Q) T S) (part : Bool → E → Type 0) (from to : Span Q) (begins : from ≡ r.old.position) (ends : to ≡ r.new.position) where
     abbrev read : Span Q
     read = record { start = r.old.position.start; end = r.new.position.end }
 
@@ -70,8 +70,8 @@ module _ {T R Q E : Type 0} (cmp : Q → Q → Ordering) (s : Errors T R (Span Q
     abbrev around : World (Span Q) T S E
     around = world step s steady fresh
 
-    pub spanned_reasons : (x y : ParseResult A E) → SpansAnswer cmp s read x y → Answers around m r x → Reasoned s.kind r.new.is_open part x → Reasoned s.kind r.new.is_open reason y
-    spanned_reasons x y t p q = by_case x y t.is p q
+    pub spanned_reasons : (x y : ParseResult A E) → SpansAnswer cmp s (record { start = from.start; end = to.end }) x y → Answers around m r x → Reasoned s.kind r.new.is_open part x → Reasoned s.kind r.new.is_open reason y
+    spanned_reasons x y t p q = by_case x y (rw (begins, ends) at t).is p q
       where
         refused : (committed : Bool) (e e' : E) → part committed e → Leaves around r → Spans cmp s read e e' → reason committed e'
         refused committed e e' q l i = record { own = e; refused = q; count = l.count; left = r.new; taken = l.taken; spans = i }

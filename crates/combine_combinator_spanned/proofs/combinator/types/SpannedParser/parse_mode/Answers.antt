@@ -5,5 +5,4 @@ pub returns-clause-answers : goal.returns-clause-answers
 returns-clause-answers g c = spanned_answers _ _ _ _ _ _ _ _ _ _ c.at_span.ensures c.parse_mode-answer.ensures.answers
 
 pub returns-clause-refuses : goal.returns-clause-refuses
-returns-clause-refuses g c =
-    spanned_reasons _ _ _ _ _ _ _ _ _ _ (rw (c.position-start.ensures, c.position-end.ensures) at c.at_span.ensures) c.parse_mode-answer.ensures.answers c.parse_mode-answer.ensures.refuses
+returns-clause-refuses g c = spanned_reasons _ _ _ _ _ _ _ _ _ _ c.position-start.ensures c.position-end.ensures _ _ c.at_span.ensures c.parse_mode-answer.ensures.answers c.parse_mode-answer.ensures.refuses
