@@ -6,7 +6,7 @@ use Rattle.combine_base.specs.Parser.Outcome.{Outcome, Accepted, Refused, Undeci
 use Rattle.combine_base.specs.Parser.OutcomeFacts.{or_true, or_false}
 use Rattle.combine_base.specs.Parser.Meaning.{Meaning, begun}
 use Rattle.combine_base.specs.Parser.Answer.{Run, World, Answers, Accepts, Refuses, Asks, Leaves, fails, ends, peeks, loses}
-use Rattle.combine_base.specs.Stream.Calls.{Passes}
+use Rattle.combine_base.specs.Stream.Calls.{Passes, ResetTo}
 use Rattle.combine_base.specs.Parser.Drivers.{Broke}
 use Rattle.combine_base.specs.Distances.{PassesOver, Measures, stops}
 use Rattle.combine_base.specs.Sequence.Parts.{accepted_as}
@@ -21,6 +21,10 @@ use Rattle.combine_base.specs.declared.error.ParseResult.TheVariants.{CommitOk, 
 use Rattle.combine_combinator.specs.Attempt.{IsFresh, refused_peeked, refusing, losing, Attempts, Loses, Short, Within, attempted}
 use Rattle.combine_combinator.specs.PutBack.{KeepsDistance, PutsBack, keeps_distance}
 use Rattle.combine_combinator.specs.declared.combinator.TryState.{TryState}
+
+-- a part's refusal that could not be put back: the fault of the reset
+pub not_put_back : {P T E S V : Type 0} (steady : Type 0) (step : P → T → P) (marked : View P T → Type 0) (old new : View P T) (before after : Failures) (kind : E → Kind) (fresh : S → Type 0) (state left : S) (t : Tracked E) (why : Kind) (result : ParseResult V E) → ResetTo steady step marked old new before after (Err why) → (e : E) × (result ≡ CommitErr e) × (kind e ≡ why) → fresh left → PutsBack steady step marked old new before after kind fresh state left t result
+not_put_back steady step marked old new before after kind fresh state left t why result r e f = record { is = rw e.1 (rw e.2 r, f) }
 
 -- what was read in an earlier call and what in this one
 read_before : {V : Type 0} (d n : ℕ) (i : Outcome V) → (0 < n → IsCommitted i) → refused_peeked (after (d + n) (nat_lt 0 (d + n)) i) ≡ refused_peeked (after d (nat_lt 0 d) (after n false i))
