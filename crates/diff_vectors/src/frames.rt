@@ -1,5 +1,7 @@
 //! The program's frames: what it writes of them, over every cut too, its arguments, and writes that fail.
 
+use crate::messages::sizes;
+use crate::rows::sets_of_places;
 use feedline_core::{Args, Fault, read_args, run_frames};
 use std::alloc::{AllocError, Global};
 
@@ -62,16 +64,15 @@ fn frames_in_pieces(rt: HostRuntime) -> Result<(), AllocError> {
 #[test]
 fn frames_over_every_cut(rt: HostRuntime) -> Result<(), AllocError> {
     for (input, lines, complete) in ROWS {
-        for first in 0..10 {
-            for second in 0..10 {
-                let (out, answer) = lines_of(rt.alloc(), &[first, second], input)?;
-                assert_eq!(rt; answer, Ok(complete), "{input:?}: {first} {second}");
-                assert_eq!(rt;
-                    out.as_slice(),
-                    lines.as_bytes(),
-                    "{input:?}: {first} {second}"
-                );
-            }
+        for places in 0..sets_of_places(input) {
+            let sizes = sizes(rt.alloc(), input, places)?;
+            let (out, answer) = lines_of(rt.alloc(), &sizes, input)?;
+            assert_eq!(rt; answer, Ok(complete), "{input:?} cut at {places:b}");
+            assert_eq!(rt;
+                out.as_slice(),
+                lines.as_bytes(),
+                "{input:?} cut at {places:b}"
+            );
         }
     }
     Ok(())

@@ -120,9 +120,9 @@ fn lines_of_empty_pieces(rt: HostRuntime) -> Result<(), AllocError> {
 #[test]
 fn decisions_over_every_cut(rt: HostRuntime) -> Result<(), AllocError> {
     for (input, decision, accepted) in DECISIONS {
-        for places in 0..sets_of_places(input) {
+        for places in 0..sets_of_places(input.as_bytes()) {
             let mut out = Vec::new(rt.alloc());
-            let sizes = sizes(rt.alloc(), input, places)?;
+            let sizes = sizes(rt.alloc(), input.as_bytes(), places)?;
             assert_eq!(rt;
                 run(rt.alloc(), &sizes, input.as_bytes(), &mut out),
                 Ok(accepted),
@@ -151,11 +151,11 @@ fn decided(out: &[u8]) -> Option<(&str, &str)> {
 }
 
 /// Sizes that cut the input behind each byte whose bit is set in `places`, the lowest bit first, with an empty piece before each piece.
-fn sizes(alloc: Global, input: &str, places: u32) -> Result<Vec<u32>, AllocError> {
+pub(crate) fn sizes(alloc: Global, input: &[u8], places: u32) -> Result<Vec<u32>, AllocError> {
     let mut sizes = Vec::new(alloc);
     let mut size: u32 = 0;
     let mut places = places;
-    for _byte in input.bytes() {
+    for _byte in input {
         size = size.saturating_add(1);
         if places % 2 == 1 {
             sizes.push(0)?;

@@ -121,7 +121,7 @@ pub(crate) fn over_every_cut(
     rows: &[(&str, &str, &str)],
 ) -> Result<(), AllocError> {
     for (parser, input, wanted) in rows {
-        for places in 0..sets_of_places(input) {
+        for places in 0..sets_of_places(input.as_bytes()) {
             let case = case_of(alloc, parser, input, places)?;
             let said = answer(alloc, case.as_str())?.unwrap_or(String::new(alloc));
             assert_eq!(rt; without_count(said.as_str()), *wanted, "{case}");
@@ -164,9 +164,9 @@ pub(crate) fn case_of(
 }
 
 /// How many sets of places there are within an input: 2 to the power of its length less one.
-pub(crate) fn sets_of_places(input: &str) -> u32 {
+pub(crate) fn sets_of_places(input: &[u8]) -> u32 {
     let mut sets: u32 = 1;
-    for _token in input.bytes().skip(1) {
+    for _token in input.iter().skip(1) {
         sets = sets.saturating_mul(2);
     }
     sets

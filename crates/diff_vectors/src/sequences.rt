@@ -42,7 +42,7 @@ const ROWS: [(&str, &str, &str); 11] = [
 #[test]
 fn sequences_over_every_cut(rt: HostRuntime) -> Result<(), AllocError> {
     for (parser, input, wanted) in ROWS {
-        for places in 0..sets_of_places(input) {
+        for places in 0..sets_of_places(input.as_bytes()) {
             let case = case_of(rt.alloc(), parser, input, places)?;
             let said = answer(rt.alloc(), case.as_str())?.unwrap_or(String::new(rt.alloc()));
             assert_eq!(rt; without_count(said.as_str()), wanted, "{case}");
