@@ -20,10 +20,11 @@ module _ {T V : Type 0} (message : Reading ℕ T V) where
     pub end : (l : List T) (vs ws : List V) (e f : BatchEnd) (n m : ℕ) → Messages message l vs e n → Messages message l ws f m → e ≡ f
     pub number : (l : List T) (vs ws : List V) (e f : BatchEnd) (n m : ℕ) → Messages message l vs e n → Messages message l ws f m → n ≡ m
 
-  -- what is decoded of two cuts of the same tokens are as many messages, each of the same tokens, and the same end
-  pub record Agree (ps qs : List (List T)) (b c : Batch V) : Type 0 where
+  -- two batches have as many messages, and the same end
+  pub record Agree (b c : Batch V) : Type 0 where
     pub count : length b.messages.items ≡ length c.messages.items
     pub end : b.end ≡ c.end
 
+  -- so it is of what is decoded of two cuts of the same tokens
   abbrev pub CutsAgree : Type 0
-  CutsAgree = (ps qs : List (List T)) (b c : Batch V) → concatenated ps ≡ concatenated qs → DecodesPieces message ps (Ok b) → DecodesPieces message qs (Ok c) → Agree ps qs b c
+  CutsAgree = (ps qs : List (List T)) (b c : Batch V) → concatenated ps ≡ concatenated qs → DecodesPieces message ps (Ok b) → DecodesPieces message qs (Ok c) → Agree b c

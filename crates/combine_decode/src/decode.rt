@@ -43,7 +43,7 @@ pub struct Batch<V> {
 pub enum DecodeError {
     /// The piece found no room. Nothing has changed.
     Memory,
-    /// The running message would be longer than 2^64 - 1 tokens. Nothing has changed.
+    /// The tokens behind the last message and the piece would be more than 2^64 - 1. Nothing has changed.
     TooLong,
     /// A fault inside the decoding.
     Fault(Kind),
@@ -62,6 +62,8 @@ pub enum Phase {
 }
 
 /// A decoder of messages that stand one after another in tokens which are fed piece by piece.
+///
+/// It keeps what is unread, and what its parser has collected, however long a message grows. Against a peer that never ends one, bound what the parser collects, as `count_min_max` does, or loop over a `Session` with a limit.
 #[derive(Drop)]
 pub struct Decoder<F: Fn() -> P, P: Parser<fed::Stream<T>>, T: Copy + 'static> {
     alloc: Global,

@@ -8,7 +8,7 @@ use std::fmt;
 /// Why the program gives up: it then writes this text on standard error and ends with status 2.
 #[derive(Clone, Copy, Debug, PartialEq, Eq)]
 pub enum Fault {
-    /// The arguments aren't up to 64 piece sizes, with perhaps a limit before them.
+    /// The arguments aren't up to 64 piece sizes, with perhaps a limit or `frames` before them.
     Argument,
     /// The input can't be read.
     Read,

@@ -19,7 +19,7 @@ pub fn messages_go_on<F: Fn() -> P, P: Parser<fed::Stream<T>>, T: Copy + 'static
     ensures { GoOn (made P.meaning (F.post maker.now)) }
 {}
 
-/// The messages of tokens are the only ones, as is their end, where the maker's parsers share one meaning that has one outcome.
+/// Tokens have one division into messages, and one end, where the maker's parsers share one meaning that has one outcome. A message's value is any that the meaning allows.
 pub fn messages_are_one<F: Fn() -> P, P: Parser<fed::Stream<T>>, T: Copy + 'static>(maker: &F)
     requires lawful { IsMade (F.post maker.now) P.lawful }
     requires determined { IsMade (F.post maker.now) P.determined }
@@ -27,7 +27,7 @@ pub fn messages_are_one<F: Fn() -> P, P: Parser<fed::Stream<T>>, T: Copy + 'stat
     ensures { AreOne (made P.meaning (F.post maker.now)) }
 {}
 
-/// However the same tokens are cut into pieces, the messages are the same, as is their end, where the maker's parsers share one meaning that has one outcome.
+/// However the same tokens are cut into pieces, there are as many messages, and the same end, where the maker's parsers share one meaning that has one outcome.
 pub fn cuts_agree<F: Fn() -> P, P: Parser<fed::Stream<T>>, T: Copy + 'static>(maker: &F)
     requires lawful { IsMade (F.post maker.now) P.lawful }
     requires determined { IsMade (F.post maker.now) P.determined }
