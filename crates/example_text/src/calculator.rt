@@ -79,7 +79,7 @@ pub fn value(alloc: Global, text: &str) -> Result<Number, UnexpectedParse> {
 
 /// Says what a product is.
 ///
-/// It and the one below are over any stream, and hand a parser on to the next: two chains within each other over a text, in one function, are more than the prover takes.
+/// It and the one below are over any stream, and hand a parser on to the next: two chains within each other over a text, in one function, want a proof of why each operator can be called.
 fn with_products<Input: Stream<Token = char>, N: Parser<Input, Output = Number> + Drop>(
     number: N,
     input: Input,

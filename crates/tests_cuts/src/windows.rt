@@ -189,7 +189,7 @@ mod tests {
         assert_eq!(rt; notes.begins(), [0, 1, 2]);
     }
 
-    /// Each window before the last byte of the frame asks for more.
+    /// Each window before the last byte of the frame asks for more, an empty one before each too.
     #[test]
     fn frames(rt: HostRuntime) -> Result<(), AllocError> {
         let input = b"\x00\x031234";
@@ -199,13 +199,15 @@ mod tests {
         );
         for places in 0..64_u32 {
             let mut cuts = Vec::new(rt.alloc());
-            let mut asked: usize = 0;
+            cuts.push(0)?;
+            let mut asked: usize = 1;
             let mut left = places;
             for cut in 1..7_usize {
                 if left % 2 == 1 {
                     cuts.push(cut)?;
+                    cuts.push(cut)?;
                     if cut < 5 {
-                        asked = asked.saturating_add(1);
+                        asked = asked.saturating_add(2);
                     }
                 }
                 left /= 2;

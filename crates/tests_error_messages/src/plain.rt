@@ -1,11 +1,11 @@
 //! `easy_parse`, the parsers that shape errors, and `spanned`, in plain functions.
 
-use combine_base::error::UnexpectedParse;
+use combine_base::error::{Info, UnexpectedParse};
 use combine_base::parser::Parser;
 use combine_base::stream::{Kind, Left};
 use combine_char::char::{char, digit};
 use combine_combinator_spanned::combinator::spanned;
-use combine_error::easy::{EasyParser, Errors};
+use combine_error::easy::{EasyParser, Error, Errors};
 use combine_error::error::{expected, message, silent};
 use combine_error::span;
 use combine_token::token::token;
@@ -104,7 +104,11 @@ fn of_a_text(rt: HostRuntime) -> Result<(), AllocError> {
     } = error;
     assert_eq!(rt; position, Left(1));
     assert_eq!(rt; kind, Kind::Refused);
-    assert_eq!(rt; errors.len(), 2);
+    let [unexpected, expected] = errors.as_slice() else {
+        panic!(rt; "there are two items");
+    };
+    assert!(rt; matches!(unexpected, Error::Unexpected(Info::Token('?'))));
+    assert!(rt; matches!(expected, Error::Expected(Info::Static(text)) if *text == "digit"));
     for (item, wanted) in errors.iter().zip(["Unexpected `?`", "Expected digit"]) {
         let said = format!(in alloc; "{item}")?;
         assert_eq!(rt; said.as_str(), wanted);

@@ -3,6 +3,7 @@ ghost use Rattle.std.specs.Prelude.{◌≤◌};
 
 use crate::rows::Like;
 use combine::error::{ParseResult, UnexpectedParse};
+use combine::parser::byte::digit;
 use combine::parser::combinator::map;
 use combine::parser::repeat::{chainl1, count_min_max, many, sep_by1, sep_count_min_max};
 use combine::parser::token::{satisfy, token};
@@ -42,7 +43,7 @@ fn asks_with_nothing_unread<V: Like<W> + Drop, W: Drop>(
 #[test]
 fn separated(rt: HostRuntime) {
     let alloc = rt.alloc();
-    let digits = sep_by1::<Vec<u8>, _, _>(alloc, satisfy(is_digit), token(b','));
+    let digits = sep_by1::<Vec<u8>, _, _>(alloc, digit(), token(b','));
     let fed = fed_in_pieces(alloc, digits, &[b"1".as_slice(), b",2"]);
     assert!(rt; asks_with_nothing_unread(fed, 2, ("12", 3)));
 }
