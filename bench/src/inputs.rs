@@ -1,5 +1,7 @@
 //! Inputs: the same bytes on each run, and the shorter input is how the longer one begins.
 
+pub mod json;
+
 /// A generator of numbers with a fixed seed (xorshift).
 struct Dice(u64);
 

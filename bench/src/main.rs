@@ -13,6 +13,7 @@ mod by_nom;
 mod classes;
 mod grammar;
 mod inputs;
+mod json;
 mod keywords;
 mod lines;
 mod measure;
@@ -27,10 +28,14 @@ use std::time::Instant;
 
 /// The sides of a measure that can be fed pieces of this size; ours comes last, if it is there.
 ///
-/// Other forms of a crate's work are for pieces alone.
+/// Other forms of a crate's work are for pieces alone, but for `NAME whole`, which is shown as `NAME`.
 fn sides(measure: &Measure, piece: usize) -> Vec<(&'static str, Call)> {
-    let fits = |side: &&(&str, Call)| piece != 0 || !side.0.contains(' ');
-    let mut sides: Vec<_> = measure.sides.iter().filter(fits).copied().collect();
+    let shown = |(name, call): &(&'static str, Call)| match name.split_once(' ') {
+        Some((crate_name, "whole")) => (piece == 0).then_some((crate_name, *call)),
+        Some(_) => (piece != 0).then_some((*name, *call)),
+        None => Some((*name, *call)),
+    };
+    let mut sides: Vec<_> = measure.sides.iter().filter_map(shown).collect();
     sides.extend(ours::sides(measure.name));
     sides
 }

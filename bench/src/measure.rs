@@ -22,7 +22,8 @@ pub struct Measure {
     /// The sizes of pieces that are shown of it.
     pub pieces: &'static [usize],
     /// The sides but ours, by name; the first is the loop by hand.
-    /// A name may begin with that of its crate, as `combine by message`: another form of the same work.
+    /// A name may begin with that of its crate, as `combine by message`: another form of the same work,
+    /// for pieces alone; `nom whole` is nom's form for whole inputs alone.
     pub sides: &'static [(&'static str, Call)],
 }
 

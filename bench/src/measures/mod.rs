@@ -39,6 +39,10 @@ measures! {
     lines_of_4096
     decoded_frames
     decoded_settings
+    json_numbers
+    json_texts
+    json_deep
+    json_wide
     grammar
     grammar_easy
 }

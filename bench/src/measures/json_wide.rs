@@ -1,0 +1,13 @@
+//! JSON: objects with many entries. The answer is what the document comes to (`json.rs`).
+
+use crate::inputs;
+use crate::json::SIDES;
+use crate::measure::Measure;
+
+pub const MEASURE: Measure = Measure {
+    name: "json_wide",
+    what: "JSON, objects with 50 to 200 entries, whose values are short",
+    input: inputs::json::wide,
+    pieces: &[0, 4096],
+    sides: SIDES,
+};
