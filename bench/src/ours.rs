@@ -1,4 +1,4 @@
-//! Ours: the static libraries that `rt lib` makes of the crates `bench_measures` and `bench_decode`.
+//! Ours: the static libraries that `rt lib` makes of the crates `bench_measures`, `bench_decode` and `bench_json`.
 //!
 //! For the measure NAME one of them exports a function:
 //!
