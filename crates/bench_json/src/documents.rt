@@ -3,7 +3,7 @@
 use crate::tally::sum;
 use combine_base::parser::Answer;
 use example_json_core::{Document, read_pieces, read_slice};
-use std::alloc::Global;
+use std::alloc::{AllocError, Global};
 
 /// How many arrays and objects may be open inside one another.
 const DEPTH: usize = 128;
@@ -21,10 +21,14 @@ fn read_whole(alloc: Global, bytes: &[u8]) -> Result<Document, Failure> {
     read_slice(alloc, DEPTH, bytes).map_err(|_refused| Failure::Refused)
 }
 
+/// The bytes in pieces of that size, the last perhaps shorter.
+fn cut(alloc: Global, bytes: &[u8], size: usize) -> Result<Vec<&[u8]>, AllocError> {
+    bytes.chunks(size.max(1)).collect(alloc)
+}
+
 /// Reads the bytes in pieces of that size.
 fn read_cut(alloc: Global, bytes: &[u8], size: usize) -> Result<Document, Failure> {
-    let pieces = bytes.chunks(size.max(1)).collect(alloc);
-    let Ok(pieces) = pieces else {
+    let Ok(pieces) = cut(alloc, bytes, size) else {
         return Err(Failure::Fault);
     };
     match read_pieces(alloc, DEPTH, &pieces) {
