@@ -61,6 +61,7 @@ impl Open {
     }
 
     /// What comes of such a step.
+    #[inline(always)]
     fn stepping(self, step: Option<Step>) -> Then {
         match step {
             Some(Step::To(place)) => Next::Stay(Open { place, ..self }),
@@ -82,6 +83,7 @@ impl Frame for Open {
 
     type Value = Document;
 
+    #[inline(always)]
     fn take(self, item: Lexeme) -> Result<Then, AllocError> {
         let (mark, node) = match item {
             Lexeme::Number(number) => (Mark::Value, Some(Node::Number(number))),
@@ -101,6 +103,7 @@ impl Frame for Open {
         Ok(open.stepping(step))
     }
 
+    #[inline(always)]
     fn join(self, value: Document) -> Result<Then, AllocError> {
         let step = self.place.behind_value();
         let open = Open {

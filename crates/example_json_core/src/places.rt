@@ -52,6 +52,7 @@ pub enum Step {
 
 impl Place {
     /// Returns where a mark leads that is read here, if it may stand here.
+    #[inline(always)]
     pub fn step(self, mark: Mark) -> Option<Step> {
         match (mark, self) {
             (Mark::Text, Place::Object | Place::Name) => Some(Step::To(Place::NameEnd)),
@@ -68,6 +69,7 @@ impl Place {
     }
 
     /// Returns where a value leads that stands here, if one may.
+    #[inline(always)]
     pub fn behind_value(self) -> Option<Step> {
         match self {
             Place::Whole => Some(Step::Out),
@@ -77,6 +79,7 @@ impl Place {
         }
     }
 
+    #[inline(always)]
     fn takes_value(self) -> bool {
         matches!(
             self,
@@ -85,6 +88,7 @@ impl Place {
     }
 
     /// Whether a text that stands here is a name.
+    #[inline(always)]
     pub fn takes_name(self) -> bool {
         matches!(self, Place::Object | Place::Name)
     }

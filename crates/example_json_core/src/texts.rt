@@ -62,6 +62,7 @@ impl Append<Piece> for Text {
         }
     }
 
+    #[inline(always)]
     fn append(&mut self, piece: Piece) -> Result<(), AllocError> {
         match (self.high.take(), piece) {
             (None, Piece::Byte(byte)) => {
