@@ -61,11 +61,11 @@ fn are_written<V: Written>(found: &[V], texts: &[&'static str]) -> bool {
     found.len() == texts.len()
 }
 
-/// Feeds a piece, and once more where it found no room: whether the messages cover all tokens is then as before.
+/// Feeds a piece, and once more where it found no room: whether the messages cover all tokens is then as before. One growth at most is refused, so memory is ample from then on.
 fn feed_again<F: Fn() -> P, P: Parser<fed::Stream<u8>> + Drop>(
     rt: &impl Abort,
     decoder: &mut Decoder<F, P, u8>,
-    memory: Memory,
+    memory: &mut Memory,
     piece: &[u8],
 ) -> Result<Batch<P::Output>, DecodeError>
     requires callable { F.IsAlwaysCallable decoder.old.maker }
@@ -75,8 +75,9 @@ fn feed_again<F: Fn() -> P, P: Parser<fed::Stream<u8>> + Drop>(
     let before = decoder.at_boundary();
     match decoder.feed(piece) {
         Err(DecodeError::Memory) => {
-            assert!(rt; memory == Memory::Scarce);
+            assert!(rt; *memory == Memory::Scarce);
             assert_eq!(rt; decoder.at_boundary(), before);
+            *memory = Memory::Ample;
             decoder.feed(piece)
         }
         answer => answer,
@@ -99,7 +100,7 @@ fn assert_failed<F: Fn() -> P, P: Parser<fed::Stream<u8>> + Drop>(
     assert_eq!(rt; decoder.at_boundary(), before);
 }
 
-/// Feeds a decoder one piece after another: it answers as the steps say, or, where memory is scarce and something grows behind the beginning of the parse, that there was none, and then no message any more.
+/// Feeds a decoder one piece after another: it answers as the steps say, or, where memory is still scarce and something grows behind the beginning of the parse, that there was none, and then no message any more.
 fn run<F: Fn() -> P + Drop, P: Parser<fed::Stream<u8>> + Drop>(
     rt: &impl Abort,
     alloc: Global,
@@ -113,9 +114,10 @@ where
     requires lawful { IsMade (F.post maker) P.lawful }
 {
     let mut decoder = Decoder::new(alloc, maker);
+    let mut memory = memory;
     'steps: for step in steps {
         let before = decoder.at_boundary();
-        match feed_again(rt, &mut decoder, memory, step.piece.as_bytes()) {
+        match feed_again(rt, &mut decoder, &mut memory, step.piece.as_bytes()) {
             Ok(batch) => {
                 assert!(rt; are_written(batch.messages.as_slice(), step.messages));
                 assert_eq!(rt; batch.end, step.end);

@@ -1,5 +1,11 @@
-//! Tests of sessions whose growths are refused. They stand in a crate of their own since `trials/run` builds it once for each growth.
+//! Tests of parsers whose growths are refused. They stand in a crate of their own since `trials/run` builds it once for each growth.
 #![tactic(auto)]
 
 #[cfg(test)]
+mod nesting;
+#[cfg(test)]
+mod rows;
+#[cfg(test)]
 mod sessions;
+#[cfg(test)]
+mod texts;

@@ -1,5 +1,6 @@
 //! Each parser that collects, with a collection that has room for so many values.
-use crate::room::{Counted, Kept, Room, in_session, seen, unseen};
+use crate::room::{Counted, Kept, Room, from_start, in_session, seen, unseen};
+use combine_base::parser::Parser;
 use combine_base::repeat::{Append, Sink};
 use combine_combinator::combinator::{attempt, look_ahead, map, not_followed_by};
 use combine_combinator_recognize::combinator::recognize;
@@ -48,6 +49,18 @@ impl Collects for CountMinMax {
     fn parse<F: Append<u8> + Counted>(alloc: Global, pieces: &[&[u8]]) -> Kept {
         let some = count_min_max::<F, _>(alloc, 2, 4, token(b'a'));
         seen(in_session(alloc, some, pieces))
+    }
+}
+
+/// Turns of a count or an `x`, which are dropped. A later turn asks for room for three values before the first of them.
+struct ManyOfCounts;
+
+impl Collects for ManyOfCounts {
+    fn parse<F: Append<u8> + Counted>(alloc: Global, pieces: &[&[u8]]) -> Kept {
+        let letters = count_min_max::<F, _>(alloc, 3, 4, token(b'a'));
+        let counted = map(letters, |_letters: F| b'a');
+        let turns = many::<Sink, _>(alloc, or(counted, token(b'x')));
+        unseen(in_session(alloc, turns, pieces))
     }
 }
 
@@ -244,6 +257,34 @@ fn turns(rt: HostRuntime) -> Result<(), AllocError> {
     over_every_cut::<Many1>(&rt, alloc, "aaa", THREE)?;
     over_every_cut::<Count>(&rt, alloc, "aaaa", THREE)?;
     over_every_cut::<CountMinMax>(&rt, alloc, "aaa;", THREE)
+}
+
+/// What is kept of three or four `a` at the start of a slice.
+fn counted<F: Append<u8> + Counted>(alloc: Global, input: &[u8]) -> Kept {
+    let mut input = input;
+    from_start(count_min_max::<F, _>(alloc, 3, 4, token(b'a')).parse_stream(&mut input))
+}
+
+/// Want of the room that is asked for before the first value is a committed fault, also where there are fewer values than need it: no refusal, which would end the turns round it.
+#[test]
+fn room_asked_for_first(rt: HostRuntime) -> Result<(), AllocError> {
+    let alloc = rt.alloc();
+    for (input, ample) in &[
+        ("aaa;", THREE),
+        ("aa;", Kept::Refused),
+        (";", Kept::Refused),
+    ] {
+        let found = [
+            counted::<Room<0>>(alloc, input.as_bytes()),
+            counted::<Room<1>>(alloc, input.as_bytes()),
+            counted::<Room<2>>(alloc, input.as_bytes()),
+            counted::<Room<3>>(alloc, input.as_bytes()),
+        ];
+        let wanted = [Kept::NoMemory, Kept::NoMemory, Kept::NoMemory, *ample];
+        assert_eq!(rt; found, wanted, "{input}");
+    }
+    over_every_cut::<ManyOfCounts>(&rt, alloc, "xaaa;", Kept::Unseen)?;
+    over_every_cut::<ManyOfCounts>(&rt, alloc, "x;", Kept::Unseen)
 }
 
 #[test]

@@ -1,13 +1,13 @@
 //! A collection with room for so many values, and what parsers that collect in it answer.
 ghost use Rattle.std.specs.Prelude.{ℕ, ◌+◌};
 
-use combine_base::error::UnexpectedParse;
+use combine_base::error::{Commit, ParseResult, Tracked, UnexpectedParse};
 use combine_base::parser::{Answer, Parser, Session, SessionError};
 use combine_base::repeat::Append;
 use combine_base::stream::{Kind, fed};
 use std::alloc::{AllocError, Global};
 
-/// Counts values, at most N: it refuses the next growth.
+/// Counts values, at most N: it refuses the next growth, and to begin with room for more.
 #[derive(Drop)]
 pub struct Room<const N: usize> {
     taken: usize,
@@ -26,6 +26,13 @@ impl<A: Drop, const N: usize> Append<A> for Room<N> {
 
     fn empty(_alloc: Global) -> Room<N> {
         Room { taken: 0 }
+    }
+
+    fn with_capacity(_alloc: Global, capacity: usize) -> Result<Room<N>, AllocError> {
+        if capacity > N {
+            return Err(AllocError);
+        }
+        Ok(Room { taken: 0 })
     }
 
     fn append(&mut self, _value: A) -> Result<(), AllocError> {
@@ -110,6 +117,31 @@ pub fn unseen<T: Drop>(answer: InPieces<T>) -> Kept {
         Ok(Answer::Accepted { .. }) => Kept::Unseen,
         Ok(Answer::Refused { .. }) => Kept::Refused,
         Err(SessionError::Fault(Kind::Memory)) => Kept::NoMemory,
+        _ => Kept::Other,
+    }
+}
+
+/// What became of the values that the answer of a call from the start holds. Want of memory must be committed.
+pub fn from_start<F: Counted + Drop>(answer: ParseResult<F, UnexpectedParse>) -> Kept {
+    match answer.into_result() {
+        Ok((values, _commit)) => Kept::Values(values.count()),
+        Err(
+            Commit::Commit(
+                Tracked {
+                    error: UnexpectedParse(Kind::Memory),
+                    offset: _,
+                },
+            ),
+        ) => Kept::NoMemory,
+        Err(Commit::Commit(refusal)) => refused(refusal),
+        Err(Commit::Peek(refusal)) => refused(refusal),
+    }
+}
+
+/// That it was refused, if this is why.
+fn refused(refusal: Tracked<UnexpectedParse>) -> Kept {
+    match refusal.error {
+        UnexpectedParse(Kind::Refused) => Kept::Refused,
         _ => Kept::Other,
     }
 }
