@@ -1,3 +1,1 @@
-pub mod Deciding
 pub mod Exactly
-pub mod Running
