@@ -1,63 +1,159 @@
 //! The grammar of a line.
-ghost use Rattle.std.specs.Prelude.{◌≡◌, IfErr};
-ghost use Rattle.combine_base.specs.declared.stream.Kind.TheVariants as kinds;
 
-use crate::arithmetic::Operator;
+use crate::arithmetic::{Fault, Operator};
 use combine::easy;
 use combine::easy::Errors;
-use combine::error::{Info, ParseError, StreamError};
-use combine::expression::{Fixity, Item, expression};
-use combine::nested::always;
+use combine::error::ParseError;
+use combine::nested::{Frame, Next, always, if_else, nested};
 use combine::parser::Parser;
 use combine::parser::char::digit;
 use combine::parser::choice::or;
-use combine::parser::combinator::{and_then, map};
-use combine::parser::repeat::{Sink, many, many1};
-use combine::parser::sequence::{skip, with};
+use combine::parser::combinator::map;
+use combine::parser::repeat::many1;
 use combine::parser::token::{eof, one_of, satisfy};
 use combine::stream::position::SourcePosition;
-use combine::stream::{Stream, StreamOnce, position};
-use std::alloc::Global;
+use combine::stream::{Stream, position};
+use std::alloc::{AllocError, Global};
 
 /// Why a line has no value, and where.
 pub type CalcError<'a> = Errors<char, &'a str, SourcePosition>;
 
-/// What an error of a stream says.
-type Said<Input> = <<Input as StreamOnce>::Error as ParseError<
-    char,
-    <Input as StreamOnce>::Range,
-    <Input as StreamOnce>::Position,
->>::StreamError;
-
-/// What a step reads.
-type Lexeme = Item<Operator, i64>;
-
 /// How many parentheses may stand inside one another.
 const MOST_PARENTHESES: usize = 100;
 
-/// Sums, products, and a minus in front.
-const LEVELS: [Fixity; 3] = [Fixity::Left, Fixity::Left, Fixity::Prefix];
+/// What one step reads.
+#[derive(Drop)]
+enum Lexeme {
+    Blank,
+    /// A number, or none that is small enough.
+    Number(Option<i64>),
+    Minus,
+    Open,
+    Operator(Operator),
+    Close,
+    End,
+}
+
+/// A sum that isn't over: the terms before the running one, the factors before the running one, and how both go on.
+#[derive(Clone, Copy, Drop)]
+struct Sum {
+    in_parentheses: bool,
+    has_operand: bool,
+    terms: i64,
+    joins_terms: Operator,
+    factors: i64,
+    joins_factors: Operator,
+    negative: bool,
+}
+
+impl Sum {
+    fn new(in_parentheses: bool) -> Sum {
+        Sum {
+            in_parentheses,
+            has_operand: false,
+            terms: 0,
+            joins_terms: Operator::Plus,
+            factors: 1,
+            joins_factors: Operator::Times,
+            negative: false,
+        }
+    }
+
+    /// The sum with an operand.
+    fn with_operand(self, value: i64) -> Result<Sum, Fault> {
+        let value = if self.negative {
+            Operator::Minus.applied(0, value)?
+        } else {
+            value
+        };
+        Ok(Sum {
+            has_operand: true,
+            negative: false,
+            factors: self.joins_factors.applied(self.factors, value)?,
+            ..self
+        })
+    }
+
+    /// The sum with an operator behind its operand.
+    fn with_operator(self, operator: Operator) -> Result<Sum, Fault> {
+        match operator {
+            Operator::Times | Operator::Divide => Ok(Sum {
+                has_operand: false,
+                joins_factors: operator,
+                ..self
+            }),
+            Operator::Plus | Operator::Minus => Ok(Sum {
+                terms: self.value()?,
+                joins_terms: operator,
+                ..Sum::new(self.in_parentheses)
+            }),
+        }
+    }
+
+    /// The value of the sum.
+    fn value(self) -> Result<i64, Fault> {
+        self.joins_terms.applied(self.terms, self.factors)
+    }
+}
+
+/// What comes of a sum, or why it has no value.
+fn next_of(sum: Result<Sum, Fault>) -> Next<Sum, i64> {
+    match sum {
+        Ok(sum) => Next::Stay(sum),
+        Err(fault) => Next::Refuse(fault.message()),
+    }
+}
+
+impl Frame for Sum {
+    type Item = Lexeme;
+
+    type Value = i64;
+
+    fn take(self, item: Lexeme) -> Result<Next<Sum, i64>, AllocError> {
+        Ok(match item {
+            Lexeme::Blank => Next::Stay(self),
+            Lexeme::Number(Some(value)) => next_of(self.with_operand(value)),
+            Lexeme::Number(None) => Next::Refuse("number too large"),
+            Lexeme::Minus => Next::Stay(Sum {
+                negative: !self.negative,
+                ..self
+            }),
+            Lexeme::Open => Next::Open(self, Sum::new(true)),
+            Lexeme::Operator(operator) => next_of(self.with_operator(operator)),
+            Lexeme::Close if !self.in_parentheses => Next::Refuse("no `(` before this `)`"),
+            Lexeme::End if self.in_parentheses => Next::Refuse("missing `)`"),
+            Lexeme::Close | Lexeme::End => match self.value() {
+                Ok(value) => Next::Close(value),
+                Err(fault) => Next::Refuse(fault.message()),
+            },
+        })
+    }
+
+    fn join(self, value: i64) -> Result<Next<Sum, i64>, AllocError> {
+        Ok(next_of(self.with_operand(value)))
+    }
+}
 
 fn is_blank(character: char) -> bool {
     character == ' ' || character == '\t'
 }
 
 /// What stands before an operand: `-` or `(`.
-fn prefix(character: char) -> Lexeme {
+fn prefix_of(character: char) -> Lexeme {
     match character {
-        '-' => Item::Prefix(2, Operator::Minus),
-        _ => Item::Open,
+        '-' => Lexeme::Minus,
+        _ => Lexeme::Open,
     }
 }
 
 /// What stands behind an operand: an operator or `)`.
-fn suffix(character: char) -> Lexeme {
+fn suffix_of(character: char) -> Lexeme {
     match character {
-        '+' => Item::Infix(0, Operator::Plus),
-        '-' => Item::Infix(0, Operator::Minus),
-        '*' => Item::Infix(1, Operator::Times),
-        '/' => Item::Infix(1, Operator::Divide),
-        _ => Item::Close,
+        '+' => Lexeme::Operator(Operator::Plus),
+        '-' => Lexeme::Operator(Operator::Minus),
+        '*' => Lexeme::Operator(Operator::Times),
+        '/' => Lexeme::Operator(Operator::Divide),
+        _ => Lexeme::Close,
     }
 }
 
@@ -71,29 +167,32 @@ fn read_line<Input: Stream<Token = char>>(alloc: Global, input: Input) -> Result
 where
     Input::Error: ParseError<char, Input::Range, Input::Position>,
 {
-    let blanks = many::<Sink, _>(alloc, satisfy(is_blank));
-    let digits = many1::<String, _>(alloc, digit());
-    let operand = |digits: String| -> Result<Lexeme, Said<Input>>
-        ensures { IfErr result (λ said. Input.Error.StreamError.kind said ≡ kinds.Refused) }
-    {
-        match digits.as_str().parse::<i64>() {
-            Ok(number) => Ok(Item::Operand(number)),
-            Err(_error) => Err(Said::<Input>::message(Info::Static("number too large"))),
-        }
-    };
-    let awaited = or(and_then(digits, operand), map(one_of(['-', '(']), prefix));
-    let inside = map(one_of(['+', '-', '*', '/', ')']), suffix);
-    let end = map(eof(), |_end: ()| -> Lexeme { Item::Close });
-    let outside = or(map(one_of(['+', '-', '*', '/']), suffix), end);
-    let sum = expression::<Operator, _, _, _, _>(
-        alloc,
-        MOST_PARENTHESES,
-        LEVELS,
-        always(skip(awaited, blanks)),
-        always(skip(inside, blanks)),
-        always(skip(outside, blanks)),
+    let number = map(
+        many1::<String, _>(alloc, digit()),
+        |digits: String| Lexeme::Number(digits.as_str().parse::<i64>().ok()),
     );
-    match with(blanks, sum).parse(input) {
+    let blank = map(satisfy(is_blank), |_blank: char| Lexeme::Blank);
+    let operand = or(number, map(one_of(['-', '(']), prefix_of));
+    let end = map(eof(), |_end: ()| Lexeme::End);
+    let operator = or(map(one_of(['+', '-', '*', '/', ')']), suffix_of), end);
+    let step = if_else(
+        |sum: &Sum| sum.has_operand,
+        always(or(blank, operator)),
+        always(or(blank, operand)),
+    );
+    let sum = nested(alloc, MOST_PARENTHESES, || Sum::new(false), step);
+    value_in(sum, input)
+}
+
+/// Returns the value that a parser gives.
+fn value_in<Input: Stream, P: Parser<Input, Output = i64> + Drop>(
+    parser: P,
+    input: Input,
+) -> Result<i64, Input::Error>
+    requires { P.lawful parser }
+{
+    let mut parser = parser;
+    match parser.parse(input) {
         Ok((value, _end)) => Ok(value),
         Err(error) => Err(error),
     }

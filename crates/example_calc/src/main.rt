@@ -1,8 +1,8 @@
 //! `calc` reads lines of arithmetic from standard input, and prints the value of each.
 //!
-//! A line is numbers, `+`, `-`, `*`, `/` and parentheses; `calc --help` says more. It is read by `expression`, which keeps open parentheses in memory: no input overflows the call stack.
+//! A line is numbers, `+`, `-`, `*`, `/` and parentheses; `calc --help` says more. The grammar nests, so it is read by `nested`: no input overflows the call stack.
 //!
-//! Proved: no input makes it crash, and it ends when its input does. Each step of arithmetic is exact, as the contract of [`arithmetic::Operator`] says: it answers the sum, the difference, the product or the quotient of two integers, and refuses exactly a division by zero and a result that is no `i64`.
+//! Proved: no input makes it crash, and it ends when its input does. Each step of arithmetic is exact, as the contract of [`arithmetic::Operator::applied`] says: it answers the sum, the difference, the product or the quotient of two integers, and refuses exactly a division by zero and a result that is no `i64`.
 #![tactic(auto)]
 
 mod arithmetic;

@@ -18,6 +18,8 @@ use std::alloc::Global;
 /// What a line says, apart from its comment.
 #[derive(Debug, PartialEq, Drop)]
 pub enum Line {
+    /// Nothing.
+    Blank,
     /// `[name]`.
     Section(String),
     /// `name = value`.
@@ -58,8 +60,8 @@ fn escaped(character: char) -> Option<char> {
     }
 }
 
-/// Returns the lines of a configuration file, where something stands on them; or why and where it is refused.
-pub fn read_lines<'a>(alloc: Global, text: &'a str) -> Result<Vec<Option<Line>>, ConfError<'a>> {
+/// Returns the lines of a configuration file, or why and where it is refused.
+pub fn read_lines<'a>(alloc: Global, text: &'a str) -> Result<Vec<Line>, ConfError<'a>> {
     with_values(alloc, easy::Stream::new(alloc, position::Stream::new(text)))
 }
 
@@ -69,7 +71,7 @@ pub fn read_lines<'a>(alloc: Global, text: &'a str) -> Result<Vec<Option<Line>>,
 fn with_values<Input: Stream<Token = char>>(
     alloc: Global,
     input: Input,
-) -> Result<Vec<Option<Line>>, Input::Error>
+) -> Result<Vec<Line>, Input::Error>
 where
     Input::Error: ParseError<char, Input::Range, Input::Position>,
 {
@@ -85,7 +87,7 @@ fn with_lines<Input: Stream<Token = char>, V: Parser<Input, Output = String> + D
     alloc: Global,
     value: V,
     input: Input,
-) -> Result<Vec<Option<Line>>, Input::Error>
+) -> Result<Vec<Line>, Input::Error>
 where
     Input::Error: ParseError<char, Input::Range, Input::Position>,
     requires { V.lawful value }
@@ -114,14 +116,17 @@ fn all_lines<Input: Stream<Token = char>, L: Parser<Input, Output = Option<Line>
     alloc: Global,
     said: L,
     input: Input,
-) -> Result<Vec<Option<Line>>, Input::Error>
+) -> Result<Vec<Line>, Input::Error>
 where
     Input::Error: ParseError<char, Input::Range, Input::Position>,
     requires { L.lawful said }
 {
     let comment = optional((char('#'), skip_many(satisfy(is_in_line))));
-    let line = skip(said, (skip_many(satisfy(is_blank)), comment));
-    let lines = sep_by::<Vec<Option<Line>>, _, _>(alloc, line, newline());
+    let line = map(
+        skip(said, (skip_many(satisfy(is_blank)), comment)),
+        |said: Option<Line>| said.unwrap_or(Line::Blank),
+    );
+    let lines = sep_by::<Vec<Line>, _, _>(alloc, line, newline());
     match skip(lines, eof()).parse(input) {
         Ok((lines, _end)) => Ok(lines),
         Err(error) => Err(error),

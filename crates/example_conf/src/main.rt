@@ -69,16 +69,16 @@ fn run(rt: &HostRuntime) -> io::Result<ExitCode> {
 }
 
 /// Prints each setting, with its section before it.
-fn print_settings(rt: &HostRuntime, lines: &[Option<Line>]) -> io::Result<()> {
+fn print_settings(rt: &HostRuntime, lines: &[Line]) -> io::Result<()> {
     let mut section = "";
     for line in lines {
         match line {
-            None => {}
-            Some(Line::Section(name)) => section = name.as_str(),
-            Some(Line::Setting(name, value)) if section.is_empty() => {
+            Line::Blank => {}
+            Line::Section(name) => section = name.as_str(),
+            Line::Setting(name, value) if section.is_empty() => {
                 println!(rt; "{name} = {value:?}")?;
             }
-            Some(Line::Setting(name, value)) => println!(rt; "{section}.{name} = {value:?}")?,
+            Line::Setting(name, value) => println!(rt; "{section}.{name} = {value:?}")?,
         }
     }
     Ok(())

@@ -8,8 +8,14 @@ use std::alloc::{AllocError, Global};
 
 /// Returns the line at a place, without its end; nothing where the text has fewer lines.
 pub fn line_at(text: &str, place: SourcePosition) -> &str {
-    let before = place.line.saturating_sub(1) as usize;
-    text.lines().nth(before).unwrap_or("")
+    let mut line: u64 = 1;
+    for each in text.lines() {
+        if line == place.line {
+            return each;
+        }
+        line = line.saturating_add(1);
+    }
+    ""
 }
 
 /// Returns a caret that stands under a column of the line, counted from 1: before it a tab for each tab of the line, and a blank for each other character.

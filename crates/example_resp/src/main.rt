@@ -5,8 +5,8 @@
 //! Proved: no input makes it crash, and it ends when its input does.
 #![tactic(auto)]
 
-mod messages;
 mod reply;
+mod session;
 
 use reply::print_replies;
 use std::process::ExitCode;

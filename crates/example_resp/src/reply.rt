@@ -1,6 +1,6 @@
 //! The grammar of a reply.
 
-use crate::messages::print_messages;
+use crate::session::{End, print_messages};
 use combine::nested::{Frame, Next, always, if_else, nested};
 use combine::parser::byte::crlf;
 use combine::parser::combinator::map;
@@ -58,12 +58,11 @@ impl Items {
     }
 
     /// Adds what is printed of a line.
-    fn write_line(&mut self, label: &str, text: &str) -> Result<(), AllocError> {
+    fn write_line(&mut self, line: &str) -> Result<(), AllocError> {
         for _array in 0..self.depth {
             self.text.push_str("  ")?;
         }
-        self.text.push_str(label)?;
-        self.text.push_str(text)?;
+        self.text.push_str(line)?;
         self.text.push('\n')
     }
 
@@ -79,21 +78,41 @@ impl Items {
         Next::Close(self.text)
     }
 
-    /// What comes of an item that is printed as one line.
-    fn with_line(self, label: &str, text: &[u8]) -> Result<Then, AllocError> {
+    /// What comes of an item that is a line alone.
+    fn with_line(self, label: &str, line: &[u8]) -> Result<Then, AllocError> {
         let mut items = self;
-        let text = String::from_utf8_lossy(items.alloc, text)?;
-        items.write_line(label, &text)?;
+        let text = String::from_utf8_lossy(items.alloc, line)?;
+        let line = format!(in items.alloc; "{label}{text}")?;
+        items.write_line(line.as_str())?;
         Ok(items.counted())
     }
 
-    /// What comes of an array of so many items, which are not none.
-    fn with_array(self, count: i64) -> Result<Then, AllocError> {
-        let mut items = self;
-        let number = format!(in items.alloc; "{count}")?;
-        items.write_line("array of ", number.as_str())?;
-        let inner = Items::new(items.alloc, count, items.depth.saturating_add(1));
-        Ok(Next::Open(items, inner))
+    /// What comes of the length of a bulk string.
+    fn with_length(self, length: i64) -> Result<Then, AllocError> {
+        match length {
+            0..=MOST_BYTES => Ok(Next::Stay(Items {
+                length: Some(length as usize),
+                ..self
+            })),
+            -1 => self.with_line("(nil)", b""),
+            _ => Ok(Next::Refuse("length")),
+        }
+    }
+
+    /// What comes of the count of an array.
+    fn with_count(self, count: i64) -> Result<Then, AllocError> {
+        match count {
+            1..=MOST_ITEMS => {
+                let mut items = self;
+                let line = format!(in items.alloc; "array of {count}")?;
+                items.write_line(line.as_str())?;
+                let inner = Items::new(items.alloc, count, items.depth.saturating_add(1));
+                Ok(Next::Open(items, inner))
+            }
+            0 => self.with_line("array of 0", b""),
+            -1 => self.with_line("(nil)", b""),
+            _ => Ok(Next::Refuse("count")),
+        }
     }
 }
 
@@ -104,21 +123,21 @@ impl Frame for Items {
 
     fn take(self, item: Lexeme) -> Result<Then, AllocError> {
         let (kind, line) = match item {
-            Lexeme::Bytes(bytes) => return self.with_line("", &bytes),
+            Lexeme::Bytes(bytes) => return self.with_line("", bytes.as_slice()),
             Lexeme::Line(kind, line) => (kind, line),
         };
-        match (kind, number_of(&line)) {
-            (b'+', _) => self.with_line("", &line),
-            (b'-', _) => self.with_line("error: ", &line),
-            (b':', Some(_)) => self.with_line("integer: ", &line),
-            (b'$' | b'*', Some(-1)) => self.with_line("(nil)", b""),
-            (b'$', Some(length @ 0..=MOST_BYTES)) => Ok(Next::Stay(Items {
-                length: Some(length as usize),
-                ..self
-            })),
-            (b'*', Some(0)) => self.with_line("array of 0", b""),
-            (b'*', Some(count @ 1..=MOST_ITEMS)) => self.with_array(count),
-            _ => Ok(Next::Refuse("number")),
+        match kind {
+            b'+' => return self.with_line("", line.as_slice()),
+            b'-' => return self.with_line("error: ", line.as_slice()),
+            _ => {}
+        }
+        let Some(number) = number_of(line.as_slice()) else {
+            return Ok(Next::Refuse("number"));
+        };
+        match kind {
+            b':' => self.with_line("integer: ", line.as_slice()),
+            b'$' => self.with_length(number),
+            _ => self.with_count(number),
         }
     }
 
@@ -138,7 +157,7 @@ fn number_of(line: &[u8]) -> Option<i64> {
 /// Prints each reply of standard input as soon as it has come, and says what is none.
 pub fn print_replies(rt: &HostRuntime) -> io::Result<ExitCode> {
     let alloc = rt.alloc();
-    let maker = move || {
+    let make = move || {
         let kind = one_of([b'+', b'-', b':', b'$', b'*']);
         let rest = many::<Vec<u8>, _>(alloc, satisfy(|byte: u8| byte != b'\r'));
         let line = map(
@@ -153,5 +172,15 @@ pub fn print_replies(rt: &HostRuntime) -> io::Result<ExitCode> {
         let step = if_else(|items: &Items| items.length.is_some(), bytes, always(line));
         nested(alloc, MOST_ARRAYS, move || Items::new(alloc, 1, 0), step)
     };
-    print_messages(rt, maker)
+    match print_messages(rt, make)? {
+        End::Complete => Ok(ExitCode::SUCCESS),
+        End::Within => {
+            eprintln!(rt; "resp: the input ends within a reply")?;
+            Ok(ExitCode::FAILURE)
+        }
+        End::Refused => {
+            eprintln!(rt; "resp: no reply")?;
+            Ok(ExitCode::FAILURE)
+        }
+    }
 }
