@@ -8,6 +8,4 @@ mod messages;
 #[cfg(test)]
 mod record;
 #[cfg(test)]
-mod replies;
-#[cfg(test)]
 mod resp;
