@@ -1,9 +1,8 @@
 //! `then` and its kin over every set of cuts, an empty piece before each piece, and how often their functions are asked.
 
 use combine::error::UnexpectedParse;
-use combine::parser::byte::digit;
 use combine::parser::sequence::{then, then_partial, then_ref};
-use combine::parser::token::{any, token};
+use combine::parser::token::{any, satisfy, token};
 use combine::parser::{Answer, Parser, Session, SessionError, parse_pieces};
 use combine::stream::{Kind, fed};
 use std::alloc::Global;
@@ -78,7 +77,8 @@ fn the_byte_that_follows(rt: HostRuntime) {
 
 #[test]
 fn the_same_digit_twice(rt: HostRuntime) {
-    let twice = then_ref(digit(), |digit: &u8| token(*digit));
+    let digit = satisfy(|byte: u8| byte.is_ascii_digit());
+    let twice = then_ref(digit, |digit: &u8| token(*digit));
     over_every_cut(&rt, rt.alloc(), twice, ONES, &accepted((b'1', b'1')));
     over_every_cut(&rt, rt.alloc(), twice, ONE_TWO, &refused());
 }
