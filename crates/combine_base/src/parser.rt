@@ -90,7 +90,7 @@ pub trait Parser<Input: Stream>: Outputs<Input> {
     /// What a call needs of a caller's functions and types.
     ghost lawful: { Self → Type 0 };
 
-    /// What a caller's functions owe so that there is one outcome: each answers from what its arguments hold. No call needs it.
+    /// What a caller's functions owe so that there is one outcome, by its shape: those on whose value an outcome depends, as that of `then`, answer from what their arguments hold. No call needs it.
     ghost determined: { Self → Type 0 };
 
     /// The states that a call may be given: a parser that a state holds is lawful.

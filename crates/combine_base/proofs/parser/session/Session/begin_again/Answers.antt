@@ -9,14 +9,14 @@ use Rattle.combine_base.proofs.parser.session.Session.begin_again.Goals as goal
 pub invariant_of-self : goal.invariant_of-self
 invariant_of-self g c =
     let was = fed_view c.self.inside.stream in
-    let answer = answered (fed_view c.advance-parsed.new.stream) c.advance-parsed.result in
-    let parses = c.advance-parsed.ensures.parses blank was.unread was.is_open stages.Running c.self.inside.limit c.begin_again.ensures.begun in
+    let answer = answered (fed_view c.start-parsed.new.stream) c.start-parsed.result in
+    let parses = c.start-parsed.ensures.parses blank was.unread was.is_open stages.Running c.self.inside.limit c.begin_again.ensures.begun in
     let fewer = leaves_few _ _ _ _ _ _ answer parses in
     rw c.settle.ensures.stage (record {
-      lawful = c.advance-parsed.ensures.lawful;
-      valid = c.advance-parsed.ensures.valid;
-      is_open = c.advance-parsed.ensures.is_open;
-      found = c.advance-parsed.ensures.found;
+      lawful = c.start-parsed.ensures.lawful;
+      valid = c.start-parsed.ensures.valid;
+      is_open = c.start-parsed.ensures.is_open;
+      found = c.start-parsed.ensures.found;
       kept = keeps_none _ _ _ _ _ _ answer parses;
       few = admits_fewer c.self.inside.limit _ _ (omega (arith, fewer)) c.self.invariant.few;
     })
@@ -27,7 +27,7 @@ returns g c =
     let begun : Course g.row.P.Denot g.row.T.Denot g.row.P-PartialState.Denot = record { parser = c.args.parser; state = c.default.result; seen = blank; stage = stages.Running; limit = limit } in
     let at_first = begins g.P.Parser.meaning g.P.Parser.valid begun _ (g.met.P.Parser.laws _ c.requires) c.default.ensures refl g.P.Parser.determined (g.met.P.Parser.single _ c.requires) refl in
     let was = fed_view c.self.inside.stream in
-    let answer = answered (fed_view c.advance-parsed.new.stream) c.advance-parsed.result in
-    let new = course_of c.advance-parsed.new.parser c.advance-parsed.new.state c.advance-parsed.new.stream (stage_after answer) limit in
-    let parses = c.advance-parsed.ensures.parses blank was.unread was.is_open stages.Running limit c.begin_again.ensures.begun in
+    let answer = answered (fed_view c.start-parsed.new.stream) c.start-parsed.result in
+    let new = course_of c.start-parsed.new.parser c.start-parsed.new.state c.start-parsed.new.stream (stage_after answer) limit in
+    let parses = c.start-parsed.ensures.parses blank was.unread was.is_open stages.Running limit c.begin_again.ensures.begun in
     rw (← c.self.view_is, c.settle.ensures.stage) (answers_again _ _ _ _ _ new begun at_first (λ e. false≢true (rw e at (sym c.if-eq.false ∙ c.eq.ensures))) (c.begin_again.ensures.short, c.self.invariant.few) answer _ c.settle.ensures.passes parses)
