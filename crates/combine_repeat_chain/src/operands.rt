@@ -4,7 +4,7 @@ ghost use Rattle.combine_repeat_chain.specs.Chains.{all_good, folded_right, held
 ghost use Rattle.combine_repeat_chain.specs.declared.operands.Left.{Left};
 ghost use Rattle.combine_repeat_sep.specs.Separated.{lead_good};
 
-use combine_repeat_sep::separated::Element;
+use combine_repeat_sep::separated::{Element, Folds};
 use combine_repeat_turns::turns::Gather;
 use std::alloc::{AllocError, Global};
 use std::marker::PhantomData;
@@ -23,11 +23,11 @@ pub struct Operands<O, V> {
     last: V,
 }
 
-impl<O: FnOnce(V, V) -> V + Drop, V: Drop> Operands<O, V> {
+impl<O: Folds<V> + Drop, V: Drop> Operands<O, V> {
     /// The operands folded from the right.
     pub(crate) fn fold(self) -> V
-        requires callable { all_good (λ f. O.IsAlwaysCallable f) (kept_operands self).0 }
-        ensures { folded_right (λ f x y r. O.post f x y r) (kept_operands self).0 (kept_operands self).1 result }
+        requires callable { all_good (λ f. O.callable f) (kept_operands self).0 }
+        ensures { folded_right (λ f x y r. O.answers f x y r) (kept_operands self).0 (kept_operands self).1 result }
     {
         let Operands {
             mut before,
@@ -35,7 +35,7 @@ impl<O: FnOnce(V, V) -> V + Drop, V: Drop> Operands<O, V> {
         } = self;
         'folding: while let Some(left) = before.pop() {
             let Left { operand, operator } = left;
-            last = operator(operand, last);
+            last = operator.fold_two(operand, last);
         }
         last
     }
@@ -45,7 +45,7 @@ impl<O: FnOnce(V, V) -> V + Drop, V: Drop> Operands<O, V> {
 #[derive(Drop)]
 pub struct EachOperand<V>(PhantomData<V>);
 
-impl<V: Drop, O: FnOnce(V, V) -> V + Drop> Gather<Element<O, V>> for EachOperand<V> {
+impl<V: Drop, O: Folds<V> + Drop> Gather<Element<O, V>> for EachOperand<V> {
     ghost use Rattle.std.specs.Prelude.{None, Option, Some};
 
     type Into = Operands<O, V>;
@@ -60,9 +60,9 @@ impl<V: Drop, O: FnOnce(V, V) -> V + Drop> Gather<Element<O, V>> for EachOperand
 
     ghost more = { keeps_operand };
 
-    ghost able = { lead_good (λ f. O.IsAlwaysCallable f) };
+    ghost able = { lead_good (λ f. O.callable f) };
 
-    ghost sound = { held_good (λ f. O.IsAlwaysCallable f) };
+    ghost sound = { held_good (λ f. O.callable f) };
 
     ghost lean = { ⊥ };
 
@@ -98,5 +98,5 @@ impl<V: Drop, O: FnOnce(V, V) -> V + Drop> Gather<Element<O, V>> for EachOperand
         }
     }
 
-    ghost keeps_sound = { keeps_good (λ f. O.IsAlwaysCallable f) };
+    ghost keeps_sound = { keeps_good (λ f. O.callable f) };
 }

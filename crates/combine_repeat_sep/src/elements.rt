@@ -4,7 +4,7 @@ ghost use Rattle.combine_repeat_sep.specs.Elements.{each_element, folds};
 ghost use Rattle.combine_repeat_sep.specs.Separated.{lead_good};
 ghost use Rattle.combine_repeat_turns.specs.Sound.{any_sound};
 
-use crate::separated::Element;
+use crate::separated::{Element, Folds};
 use combine_base::repeat::Append;
 use combine_repeat_turns::turns::Gather;
 use std::alloc::{AllocError, Global};
@@ -70,7 +70,7 @@ impl<O: Drop, A: Drop, F: Append<A>> Gather<Element<O, A>> for EachElement<F> {
 #[derive(Drop)]
 pub struct Folded<V>(PhantomData<V>);
 
-impl<V: Drop, O: FnOnce(V, V) -> V + Drop> Gather<Element<O, V>> for Folded<V> {
+impl<V: Drop, O: Folds<V> + Drop> Gather<Element<O, V>> for Folded<V> {
     ghost use Rattle.std.specs.Prelude.{None, Option, Some};
 
     type Into = V;
@@ -83,9 +83,9 @@ impl<V: Drop, O: FnOnce(V, V) -> V + Drop> Gather<Element<O, V>> for Folded<V> {
 
     ghost none = { None };
 
-    ghost more = { folds (λ f x y r. O.post f x y r) };
+    ghost more = { folds (λ f x y r. O.answers f x y r) };
 
-    ghost able = { lead_good (λ f. O.IsAlwaysCallable f) };
+    ghost able = { lead_good (λ f. O.callable f) };
 
     ghost sound = { λ _. Unit {0} };
 
@@ -103,7 +103,7 @@ impl<V: Drop, O: FnOnce(V, V) -> V + Drop> Gather<Element<O, V>> for Folded<V> {
     fn gather(into: V, value: Element<O, V>) -> Result<V, AllocError> {
         match value {
             Element::First(right) => Ok(right),
-            Element::Then(operator, right) => Ok(operator(into, right)),
+            Element::Then(operator, right) => Ok(operator.fold_two(into, right)),
         }
     }
 

@@ -87,13 +87,33 @@ impl<O, W, U> SeparatedState<O, W, U> {
     }
 }
 
+/// A function that makes one operand of two. Our own, so that what shows its bound stands in a declaration of its own, as with `Maps` of `combine_combinator`.
+pub trait Folds<V> {
+    /// The functions that can be called on any two operands.
+    ghost callable: { Self → Type 0 };
+
+    /// What it may answer.
+    ghost answers: { Self → V → V → V → Type 0 };
+
+    fn fold_two(self, left: V, right: V) -> V
+        requires { callable self }
+        ensures { answers self left right result };
+}
+
+impl<V, F: FnOnce(V, V) -> V> Folds<V> for F {
+    ghost callable = { λ f. F.IsAlwaysCallable f };
+
+    ghost answers = { λ f x y r. F.post f x y r };
+
+    #[inline(always)]
+    fn fold_two(self, left: V, right: V) -> V {
+        self(left, right)
+    }
+}
+
 /// What is asked of each value that a separator gives, between values of this type.
 pub trait Leads<O, V> {
     ghost good: { O → Type 0 };
-
-    /// Hands the value on. (A block with a bound on `FnOnce` needs a method, for now.)
-    fn hand_on(value: O) -> O
-        ensures { result ≡ value };
 }
 
 /// Nothing is asked of it.
@@ -102,24 +122,14 @@ pub struct Anything;
 
 impl<O, V> Leads<O, V> for Anything {
     ghost good = { λ _. Unit {0} };
-
-    #[inline(always)]
-    fn hand_on(value: O) -> O {
-        value
-    }
 }
 
 /// It is a function that can be called on any two operands.
 #[derive(Drop)]
 pub struct Operator;
 
-impl<O: FnOnce(V, V) -> V + Drop, V: Drop> Leads<O, V> for Operator {
-    ghost good = { λ f. O.IsAlwaysCallable f };
-
-    #[inline(always)]
-    fn hand_on(value: O) -> O {
-        value
-    }
+impl<O: Folds<V> + Drop, V: Drop> Leads<O, V> for Operator {
+    ghost good = { λ f. O.callable f };
 }
 
 /// A part, and later a separator and the part, where the separator gives what `L` asks for.

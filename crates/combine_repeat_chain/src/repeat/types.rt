@@ -16,7 +16,7 @@ use combine_base::sequence::State2;
 use combine_base::stream::Stream;
 use combine_combinator::combinator::types::{Ignore, NoPartial};
 use combine_repeat::repeat::types::SkipMany;
-use combine_repeat_sep::separated::{Operator, Separated, SeparatedState};
+use combine_repeat_sep::separated::{Folds, Operator, Separated, SeparatedState};
 use combine_repeat_turns::turns::{TurnsState, take_joined};
 use combine_token::choice::OrState;
 use combine_token::choice::types::Or;
@@ -48,7 +48,7 @@ impl<Input, P: Outputs<Input>, S> Outputs<Input> for RightFold<P, S> {
 
 impl<Input: Stream, P: Parser<Input>, S: Parser<Input>> Parser<Input> for RightFold<P, S>
 where
-    S::Output: FnOnce(P::Output, P::Output) -> P::Output,
+    S::Output: Folds<P::Output>,
 {
     ghost use Rattle.std.specs.Prelude.{None};
     ghost use Rattle.combine_repeat_turns.specs.declared.turns.Bounds.TheVariants.{Joined};
@@ -58,21 +58,21 @@ where
         SeparatedState<S::Output, S::PartialState, P::PartialState>,
     >;
 
-    ghost lawful = { λ p. GivesOnly S.valid (S.meaning (right_operator p)) (λ f. S.Output.IsAlwaysCallable f) × S.lawful (right_operator p) × P.lawful (right_part p) };
+    ghost lawful = { λ p. GivesOnly S.valid (S.meaning (right_operator p)) (λ f. S.Output.callable f) × S.lawful (right_operator p) × P.lawful (right_part p) };
 
     ghost determined = { λ p. S.determined (right_operator p) × P.determined (right_part p) };
 
-    ghost valid = { λ s. separated_valid P.valid (led_valid (λ f. S.Output.IsAlwaysCallable f) S.valid P.valid) (running_turn s) × kept_good (λ f. S.Output.IsAlwaysCallable f) s };
+    ghost valid = { λ s. separated_valid P.valid (led_valid (λ f. S.Output.callable f) S.valid P.valid) (running_turn s) × kept_good (λ f. S.Output.callable f) s };
 
-    ghost meaning = { λ p. right_fold Input.step (λ f x y r. S.Output.post f x y r) (P.meaning (right_part p)) (S.meaning (right_operator p)) };
+    ghost meaning = { λ p. right_fold Input.step (λ f x y r. S.Output.answers f x y r) (P.meaning (right_part p)) (S.meaning (right_operator p)) };
 
     ghost parts = { λ _. 1 };
 
-    ghost default_valid = { λ s d. (begun_valid (separated_fresh P.PartialState.is_default) (separated_valid P.valid (led_valid (λ f. S.Output.IsAlwaysCallable f) S.valid P.valid)) (separated_default P.PartialState.is_default P.valid (led_valid (λ f. S.Output.IsAlwaysCallable f) S.valid P.valid) P.default_valid) s d, nothing_good (λ f. S.Output.IsAlwaysCallable f) s d.0) };
+    ghost default_valid = { λ s d. (begun_valid (separated_fresh P.PartialState.is_default) (separated_valid P.valid (led_valid (λ f. S.Output.callable f) S.valid P.valid)) (separated_default P.PartialState.is_default P.valid (led_valid (λ f. S.Output.callable f) S.valid P.valid) P.default_valid) s d, nothing_good (λ f. S.Output.callable f) s d.0) };
 
-    ghost laws = { λ p l. mapped_is_meaning _ _ (operands Input.step (P.meaning (right_part p)) (S.meaning (right_operator p))) (gives_right (λ f x y r. S.Output.post f x y r)) (fewer_is_meaning (λ s d. d.0) (joined_is_meaning Input.step (Joined 1 None) each_operand (λ f. S.Output.IsAlwaysCallable f) P.PartialState.is_default P.valid S.PartialState.is_default S.valid (P.meaning (right_part p)) (S.meaning (right_operator p)) (P.laws (right_part p) l.2) (S.laws (right_operator p) l.1))) };
+    ghost laws = { λ p l. mapped_is_meaning _ _ (operands Input.step (P.meaning (right_part p)) (S.meaning (right_operator p))) (gives_right (λ f x y r. S.Output.answers f x y r)) (fewer_is_meaning (λ s d. d.0) (joined_is_meaning Input.step (Joined 1 None) each_operand (λ f. S.Output.callable f) P.PartialState.is_default P.valid S.PartialState.is_default S.valid (P.meaning (right_part p)) (S.meaning (right_operator p)) (P.laws (right_part p) l.2) (S.laws (right_operator p) l.1))) };
 
-    ghost single = { λ p l d. mapped_means_one _ (operands Input.step (P.meaning (right_part p)) (S.meaning (right_operator p))) (gives_right (λ f x y r. S.Output.post f x y r)) (fewer_means_one (λ s d. d.0) (joined_means_one Input.step (Joined 1 None) each_operand (λ f. S.Output.IsAlwaysCallable f) P.valid S.valid (P.meaning (right_part p)) (S.meaning (right_operator p)) (P.single (right_part p) l.2 d.1) (S.single (right_operator p) l.1 d.0))) };
+    ghost single = { λ p l d. mapped_means_one _ (operands Input.step (P.meaning (right_part p)) (S.meaning (right_operator p))) (gives_right (λ f x y r. S.Output.answers f x y r)) (fewer_means_one (λ s d. d.0) (joined_means_one Input.step (Joined 1 None) each_operand (λ f. S.Output.callable f) P.valid S.valid (P.meaning (right_part p)) (S.meaning (right_operator p)) (P.single (right_part p) l.2 d.1) (S.single (right_operator p) l.1 d.0))) };
 
     #[inline(always)]
     fn parse_mode<M: ParseMode>(

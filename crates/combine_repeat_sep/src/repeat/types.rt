@@ -10,7 +10,7 @@ ghost use Rattle.combine_repeat_sep.specs.JoinedLaws.{joined_is_meaning, joined_
 ghost use Rattle.combine_repeat_sep.specs.Separated.{any_lead, separated_default, separated_fresh, separated_valid};
 
 use crate::elements::{EachElement, Folded};
-use crate::separated::{Anything, Operator, Separated, SeparatedState};
+use crate::separated::{Anything, Folds, Operator, Separated, SeparatedState};
 use combine_base::error::{ErrorOffset, ParseResult, Tracked};
 use combine_base::parser::{Outputs, ParseMode, Parser};
 use combine_base::repeat::Append;
@@ -238,7 +238,7 @@ impl<Input, P: Outputs<Input>, S> Outputs<Input> for Chainl1<P, S> {
 
 impl<Input: Stream, P: Parser<Input>, S: Parser<Input>> Parser<Input> for Chainl1<P, S>
 where
-    S::Output: FnOnce(P::Output, P::Output) -> P::Output,
+    S::Output: Folds<P::Output>,
 {
     ghost use Rattle.std.specs.Prelude.{None};
     ghost use Rattle.combine_repeat_turns.specs.declared.turns.Bounds.TheVariants.{Joined};
@@ -248,21 +248,21 @@ where
         SeparatedState<S::Output, S::PartialState, P::PartialState>,
     >;
 
-    ghost lawful = { λ p. GivesOnly S.valid (S.meaning (chained_operator p)) (λ f. S.Output.IsAlwaysCallable f) × S.lawful (chained_operator p) × P.lawful (chained_part p) };
+    ghost lawful = { λ p. GivesOnly S.valid (S.meaning (chained_operator p)) (λ f. S.Output.callable f) × S.lawful (chained_operator p) × P.lawful (chained_part p) };
 
     ghost determined = { λ p. S.determined (chained_operator p) × P.determined (chained_part p) };
 
-    ghost valid = { λ s. separated_valid P.valid (led_valid (λ f. S.Output.IsAlwaysCallable f) S.valid P.valid) (running_turn s) };
+    ghost valid = { λ s. separated_valid P.valid (led_valid (λ f. S.Output.callable f) S.valid P.valid) (running_turn s) };
 
-    ghost meaning = { λ p. chainl1 Input.step (λ f x y r. S.Output.post f x y r) (P.meaning (chained_part p)) (S.meaning (chained_operator p)) };
+    ghost meaning = { λ p. chainl1 Input.step (λ f x y r. S.Output.answers f x y r) (P.meaning (chained_part p)) (S.meaning (chained_operator p)) };
 
     ghost parts = { λ _. 1 };
 
-    ghost default_valid = { begun_valid (separated_fresh P.PartialState.is_default) (separated_valid P.valid (led_valid (λ f. S.Output.IsAlwaysCallable f) S.valid P.valid)) (separated_default P.PartialState.is_default P.valid (led_valid (λ f. S.Output.IsAlwaysCallable f) S.valid P.valid) P.default_valid) };
+    ghost default_valid = { begun_valid (separated_fresh P.PartialState.is_default) (separated_valid P.valid (led_valid (λ f. S.Output.callable f) S.valid P.valid)) (separated_default P.PartialState.is_default P.valid (led_valid (λ f. S.Output.callable f) S.valid P.valid) P.default_valid) };
 
-    ghost laws = { λ p l. joined_is_meaning Input.step (Joined 1 None) (folded (λ f x y r. S.Output.post f x y r)) (λ f. S.Output.IsAlwaysCallable f) P.PartialState.is_default P.valid S.PartialState.is_default S.valid (P.meaning (chained_part p)) (S.meaning (chained_operator p)) (P.laws (chained_part p) l.2) (S.laws (chained_operator p) l.1) };
+    ghost laws = { λ p l. joined_is_meaning Input.step (Joined 1 None) (folded (λ f x y r. S.Output.answers f x y r)) (λ f. S.Output.callable f) P.PartialState.is_default P.valid S.PartialState.is_default S.valid (P.meaning (chained_part p)) (S.meaning (chained_operator p)) (P.laws (chained_part p) l.2) (S.laws (chained_operator p) l.1) };
 
-    ghost single = { λ p l d. joined_means_one Input.step (Joined 1 None) (folded (λ f x y r. S.Output.post f x y r)) (λ f. S.Output.IsAlwaysCallable f) P.valid S.valid (P.meaning (chained_part p)) (S.meaning (chained_operator p)) (P.single (chained_part p) l.2 d.1) (S.single (chained_operator p) l.1 d.0) };
+    ghost single = { λ p l d. joined_means_one Input.step (Joined 1 None) (folded (λ f x y r. S.Output.answers f x y r)) (λ f. S.Output.callable f) P.valid S.valid (P.meaning (chained_part p)) (S.meaning (chained_operator p)) (P.single (chained_part p) l.2 d.1) (S.single (chained_operator p) l.1 d.0) };
 
     #[inline(always)]
     fn parse_mode<M: ParseMode>(
