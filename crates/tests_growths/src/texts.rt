@@ -1,11 +1,13 @@
 //! Parsers over texts, each with ample memory, and again where any one growth may be refused.
 
 use crate::rows::Memory;
-use combine_base::error::UnexpectedParse;
+use combine_base::error::{Info, UnexpectedParse};
 use combine_base::parser::Parser;
-use combine_base::stream::Kind;
+use combine_base::stream::{Kind, Left};
+use combine_error::easy::{EasyParser, Error, Errors};
 use combine_repeat::repeat::many;
-use combine_token::token::any;
+use combine_token::choice::or;
+use combine_token::token::{any, token};
 use std::alloc::Global;
 use std::process::Abort;
 
@@ -34,4 +36,43 @@ fn characters_with_ample_memory(rt: HostRuntime) {
 #[test]
 fn characters_with_any_growth_refused(rt: HostRuntime) {
     characters(&rt, rt.alloc(), Memory::Scarce);
+}
+
+/// What a choice of four letters says of another one; nothing where it is accepted.
+fn refusal(alloc: Global) -> Option<Errors<char, &'static str, Left>> {
+    let mut letter = or(or(token('a'), token('b')), or(token('c'), token('d')));
+    letter.easy_parse(alloc, "x").err()
+}
+
+/// It says all of it, or that there was no memory.
+fn items(rt: &impl Abort, error: &Errors<char, &'static str, Left>, memory: Memory) {
+    let wanted = [
+        Error::Unexpected(Info::Token('x')),
+        Error::Expected(Info::Token('a')),
+        Error::Expected(Info::Token('b')),
+        Error::Expected(Info::Token('c')),
+        Error::Expected(Info::Token('d')),
+    ];
+    if error.kind == Kind::Memory {
+        assert!(rt; memory == Memory::Scarce);
+    } else {
+        assert_eq!(rt; error.kind, Kind::Refused);
+        assert!(rt; error.errors.as_slice() == wanted.as_slice());
+    }
+}
+
+#[test]
+fn items_with_ample_memory(rt: HostRuntime) {
+    let Some(error) = refusal(rt.alloc()) else {
+        panic!(rt; "x is none of the letters");
+    };
+    items(&rt, &error, Memory::Ample);
+}
+
+#[test]
+fn items_with_any_growth_refused(rt: HostRuntime) {
+    let Some(error) = refusal(rt.alloc()) else {
+        panic!(rt; "x is none of the letters");
+    };
+    items(&rt, &error, Memory::Scarce);
 }
