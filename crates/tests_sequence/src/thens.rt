@@ -2,13 +2,13 @@
 ghost use Rattle.std.specs.Prelude.{◌≤◌};
 
 use combine::error::UnexpectedParse;
+use combine::parser::byte::digit;
 use combine::parser::repeat::count_min_max;
 use combine::parser::sequence::{then, then_partial, then_ref};
 use combine::parser::token::{any, satisfy, token};
 use combine::parser::{Answer, Parser, SessionError, parse_pieces};
 use example_callers::answers::Parsed;
 use example_callers::sessions::accepted;
-use example_callers::slices::is_digit;
 use std::alloc::Global;
 
 /// A byte, and the same byte again.
@@ -49,7 +49,7 @@ pub fn digit_twice(
     alloc: Global,
     pieces: &[&[u8]],
 ) -> Result<Answer<(u8, u8), UnexpectedParse>, SessionError> {
-    let twice = then_ref(satisfy(is_digit), |digit: &u8| token(*digit));
+    let twice = then_ref(digit(), |digit: &u8| token(*digit));
     parse_pieces(alloc, twice, pieces)
 }
 
