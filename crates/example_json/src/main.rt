@@ -1,6 +1,6 @@
 //! `json` reads JSON from standard input, checks it, and prints it without blanks; `json --help` says more.
 //!
-//! Arrays and objects nest, and are read by `nested`: no input overflows the call stack.
+//! Arrays and objects nest, and are read by `nested`: no input overflows the call stack. The reader and the writer are `example_json_core`, which `bench/` measures too.
 //!
 //! Proved: no input makes it crash, and it ends when its input does.
 #![tactic(auto)]

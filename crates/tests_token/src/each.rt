@@ -4,11 +4,12 @@ ghost use Rattle.std.specs.Prelude.{◌≡◌, true};
 
 use combine::ParserExt;
 use combine::parser::Parser;
-use combine::parser::choice::{optional, or};
+use combine::parser::choice::optional;
 use combine::parser::combinator::{attempt, map};
 use combine::parser::repeat::{many, many1, skip_many, skip_many1};
 use combine::parser::token::{any, satisfy, token, tokens, value};
 use example_callers::answers::Parsed;
+use example_callers::faults::of_a_slice;
 use example_callers::slices::{is_digit, is_letter};
 use std::alloc::Global;
 
@@ -45,11 +46,6 @@ pub fn let_word(input: &[u8]) -> Parsed<'_, &'static [u8]> {
         b"let".as_slice(),
     )
     .parse(input)
-}
-
-/// `a`, or else `b`.
-pub fn a_or_b(input: &[u8]) -> Parsed<'_, u8> {
-    or(token(b'a'), token(b'b')).parse(input)
 }
 
 /// A digit, if there is one.
@@ -141,7 +137,7 @@ mod tests {
         assert_eq!(rt; this_byte(b'a', b"abc"), Ok((b'a', rest)));
         assert_eq!(rt; by_reference(b"abc"), Ok((b'a', rest)));
         assert_eq!(rt; single(b"abc"), Ok(((b'a',), rest)));
-        assert_eq!(rt; a_or_b(b"bbc"), Ok((b'b', rest)));
+        assert_eq!(rt; of_a_slice(b"bbc"), Ok((b'b', rest)));
         assert_eq!(rt; digit_value(b"7bc"), Ok((7, rest)));
         assert_eq!(rt; maybe_digit(b"7bc"), Ok((Some(b'7'), rest)));
         assert_eq!(rt; maybe_digit(b"bc"), Ok((None, rest)));
