@@ -6,7 +6,7 @@ use combine::parser::char::{char, newline};
 use combine::parser::choice::{optional, or};
 use combine::parser::combinator::map;
 use combine::parser::error::expected;
-use combine::parser::repeat::{many, many1, sep_by, skip_many};
+use combine::parser::repeat::{Sink, many, many1, sep_by, skip_many};
 use combine::parser::sequence::{between, skip, with};
 use combine::parser::token::{eof, none_of, one_of, satisfy, satisfy_map};
 use combine::stream::Stream;
@@ -52,14 +52,15 @@ where
     let text = many::<String, _>(alloc, or(none_of(['"', '\\', '\n']), escape));
     let word = many1::<String, _>(alloc, satisfy(is_word_character));
     let value = expected(or(between(char('"'), char('"'), text), word), "value");
-    let name = expected(many1::<String, _>(alloc, satisfy(is_name_character)), "name");
-    let blanks = skip_many(one_of([' ', '\t', '\r']));
+    let name = many1::<String, _>(alloc, satisfy(is_name_character));
+    let blanks = many::<Sink, _>(alloc, one_of([' ', '\t', '\r']));
     let section = map(
-        between(char('['), char(']'), name),
+        between(char('['), char(']'), expected(name, "name")),
         |name: String| Line::Section(name),
     );
+    let equals = (blanks, char('='), blanks);
     let setting = map(
-        (name, (blanks, char('='), blanks), value),
+        (expected(name, "name"), equals, value),
         |(name, _equals, value)| Line::Setting(name, value),
     );
     let comment = optional((char('#'), skip_many(none_of(['\n']))));

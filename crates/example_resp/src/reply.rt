@@ -4,7 +4,7 @@ use combine::nested::{Frame, Next, always, if_else, nested};
 use combine::parser::byte::crlf;
 use combine::parser::repeat::{count_min_max, many};
 use combine::parser::sequence::skip;
-use combine::parser::token::{any, one_of, satisfy, value};
+use combine::parser::token::{any, one_of, satisfy, token, value};
 use example_program::messages::print_messages;
 use std::alloc::{AllocError, Global};
 use std::io;
@@ -114,7 +114,7 @@ pub fn print_replies(rt: &HostRuntime) -> io::Result<ExitCode> {
     let maker = move || {
         let kind = one_of([b'+', b'-', b':', b'$', b'*']);
         let text = many::<Vec<u8>, _>(alloc, satisfy(|byte: u8| byte != b'\r'));
-        let line = (kind, skip(text, crlf()));
+        let line = (kind, skip(text, (token(b'\r'), token(b'\n'))));
         let bytes = move |items: &Items| {
             let length = items.length.unwrap_or(0);
             let bytes = count_min_max::<Vec<u8>, _>(alloc, length, length, any());
