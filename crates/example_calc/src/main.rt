@@ -6,14 +6,12 @@
 #![tactic(auto)]
 
 mod arithmetic;
-mod line;
 
-use combine::easy;
-use combine::stream::position;
+use arithmetic::value_in;
+use combine::easy::TextStream;
+use combine::stream::position::Stream;
 use example_program::Program;
-use line::value_in;
-use std::io;
-use std::io::{BufRead, BufReader};
+use std::io::{self, BufRead, BufReader};
 use std::process::ExitCode;
 
 const CALC: Program = Program {
@@ -39,19 +37,17 @@ fn main(rt: HostRuntime) -> ExitCode {
 /// Prints the value of each line, or why and where it has none.
 fn print_values(rt: &HostRuntime) -> io::Result<ExitCode> {
     let mut status = ExitCode::SUCCESS;
-    let mut number: u64 = 0;
-    for line in BufReader::new(rt.alloc(), rt.reader())?.lines(rt.alloc()) {
+    let lines = BufReader::new(rt.alloc(), rt.reader())?.lines(rt.alloc());
+    for (before, line) in (0..u64::MAX).zip(lines) {
         let line = line?;
-        number = number.saturating_add(1);
         if line.as_str().trim().is_empty() {
             continue;
         }
-        let stream = easy::Stream::new(rt.alloc(), position::Stream::new(line.as_str()));
+        let stream = TextStream::new(rt.alloc(), Stream::new(line.as_str()));
         match value_in(rt.alloc(), stream) {
             Ok(value) => println!(rt; "{value}")?,
-            Err(mut error) => {
-                error.position.line = number;
-                CALC.print_error(rt, line.as_str(), &error)?;
+            Err(error) => {
+                CALC.print_error(rt, before, line.as_str(), error)?;
                 status = ExitCode::FAILURE;
             }
         }

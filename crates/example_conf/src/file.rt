@@ -8,12 +8,12 @@ use combine::parser::combinator::map;
 use combine::parser::error::expected;
 use combine::parser::repeat::{Sink, many, many1, sep_by, skip_many};
 use combine::parser::sequence::{between, skip, with};
-use combine::parser::token::{eof, none_of, one_of, satisfy, satisfy_map};
+use combine::parser::token::{eof, satisfy, satisfy_map};
 use combine::stream::Stream;
 use std::alloc::Global;
 
 /// What a line says, apart from its comment.
-#[derive(Debug, PartialEq, Drop)]
+#[derive(Drop)]
 pub enum Line {
     /// `[name]`.
     Section(String),
@@ -49,11 +49,13 @@ where
     Input::Error: ParseError<char, Input::Range, Input::Position>,
 {
     let escape = with(char('\\'), satisfy_map(escaped));
-    let text = many::<String, _>(alloc, or(none_of(['"', '\\', '\n']), escape));
+    let plain = satisfy(|character: char| !matches!(character, '"' | '\\' | '\n'));
+    let text = many::<String, _>(alloc, or(plain, escape));
     let word = many1::<String, _>(alloc, satisfy(is_word_character));
     let value = expected(or(between(char('"'), char('"'), text), word), "value");
     let name = many1::<String, _>(alloc, satisfy(is_name_character));
-    let blanks = many::<Sink, _>(alloc, one_of([' ', '\t', '\r']));
+    let blank = satisfy(|character: char| matches!(character, ' ' | '\t' | '\r'));
+    let blanks = many::<Sink, _>(alloc, blank);
     let section = map(
         between(char('['), char(']'), expected(name, "name")),
         |name: String| Line::Section(name),
@@ -63,11 +65,9 @@ where
         (expected(name, "name"), equals, value),
         |(name, _equals, value)| Line::Setting(name, value),
     );
-    let comment = optional((char('#'), skip_many(none_of(['\n']))));
+    let in_line = satisfy(|character: char| character != '\n');
+    let comment = optional((char('#'), skip_many(in_line)));
     let line = between(blanks, (blanks, comment), optional(or(section, setting)));
     let lines = sep_by::<Vec<Option<Line>>, _, _>(alloc, line, newline());
-    match skip(lines, eof()).parse(input) {
-        Ok((lines, _end)) => Ok(lines),
-        Err(error) => Err(error),
-    }
+    skip(lines, eof()).parse(input).map(|(lines, _end)| lines)
 }

@@ -7,9 +7,8 @@
 
 mod file;
 
-use combine::easy;
-use combine::stream::position;
-use example_program::place::line_at;
+use combine::easy::TextStream;
+use combine::stream::position::Stream;
 use example_program::{Arguments, Program};
 use file::{Line, read_lines};
 use std::process::ExitCode;
@@ -57,15 +56,14 @@ fn print_file(rt: &HostRuntime, path: Path) -> io::Result<ExitCode> {
         Some(path) => fs::read_to_string(rt, path.as_str())?,
         None => io::read_to_string(rt.alloc(), rt.reader())?,
     };
-    let stream = easy::Stream::new(rt.alloc(), position::Stream::new(text.as_str()));
+    let stream = TextStream::new(rt.alloc(), Stream::new(text.as_str()));
     match read_lines(rt.alloc(), stream) {
         Ok(lines) => {
             print_settings(rt, &lines)?;
             Ok(ExitCode::SUCCESS)
         }
         Err(error) => {
-            let line = line_at(text.as_str(), error.position);
-            CONF.print_error(rt, line, &error)?;
+            CONF.print_error(rt, 0, text.as_str(), error)?;
             Ok(ExitCode::FAILURE)
         }
     }

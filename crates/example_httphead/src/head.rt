@@ -12,14 +12,14 @@ use combine::struct_parser;
 use std::alloc::Global;
 
 /// A header, as its line has it; no blanks stand around its value.
-#[derive(Clone, Copy, Debug, PartialEq)]
+#[derive(Clone, Copy)]
 pub struct Header<R> {
     pub name: R,
     pub value: R,
 }
 
 /// The head of a request, in parts of the input.
-#[derive(Debug, Drop, PartialEq)]
+#[derive(Drop)]
 pub struct Head<R> {
     pub method: R,
     pub target: R,

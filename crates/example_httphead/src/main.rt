@@ -11,8 +11,7 @@ use combine::stream::position::{SliceStream, Stream as Placed};
 use combine::stream::{Positioned, RangeStream};
 use example_program::Program;
 use head::{Head, read_head};
-use std::io;
-use std::io::Read;
+use std::io::{self, Read};
 use std::process::ExitCode;
 
 const HTTPHEAD: Program = Program {

@@ -8,7 +8,7 @@ pub mod place;
 
 use combine::easy::Errors;
 use combine::stream::position::SourcePosition;
-use place::caret_under;
+use place::{caret_under, line_at};
 use std::process::ExitCode;
 use std::{env, io};
 
@@ -79,15 +79,18 @@ impl Program {
         body(arguments)
     }
 
-    /// Prints why and where a text is refused: the line and the column, the reasons, the line itself, and a caret under the place.
+    /// Says on standard error why and where a text is refused that stands behind so many lines: the line and the column, the reasons, the line itself, and a caret under the place.
     pub fn print_error(
         self,
         rt: &HostRuntime,
-        line: &str,
-        error: &Errors<char, &str, SourcePosition>,
+        before: u64,
+        text: &str,
+        mut error: Errors<char, &str, SourcePosition>,
     ) -> io::Result<()> {
         let name = self.name;
+        let line = line_at(text, error.position);
         let caret = caret_under(rt.alloc(), line, error.position.column)?;
+        error.position.line = error.position.line.saturating_add(before);
         eprint!(rt; "{name}: {error}{line}\n{caret}\n")
     }
 }
