@@ -1,9 +1,7 @@
-use Rattle.std.specs.Prelude.{◌≡◌, ◌≢◌, ◌⊎◌, ℤ, pos, ◌+ℤ◌, ◌-ℤ◌, ◌*ℤ◌, FitsSigned, int_div}
+use Rattle.std.specs.Prelude.{◌≡◌, ◌≢◌, ◌⊎◌, ℕ, ℤ, pos, ◌+ℤ◌, ◌-ℤ◌, ◌*ℤ◌, FitsSigned, List, codes, int_div}
 use Rattle.std.specs.Int.{w64}
 use Rattle.example_calc.specs.declared.arithmetic.Operator.{Operator}
 use Rattle.example_calc.specs.declared.arithmetic.Operator.TheVariants.{Plus, Minus, Times, Divide}
-use Rattle.example_calc.specs.declared.arithmetic.Fault.{Fault}
-use Rattle.example_calc.specs.declared.arithmetic.Fault.TheVariants.{DivisionByZero, Overflow}
 
 -- what an operator makes of two integers
 abbrev pub exact : Operator → ℤ → ℤ → ℤ
@@ -16,7 +14,12 @@ exact Divide left right = int_div left right
 abbrev pub IsExact : Operator → ℤ → ℤ → ℤ → Type 0
 IsExact operator left right value = (value ≡ exact operator left right) × (operator ≡ Divide → right ≢ pos 0)
 
--- nothing else is refused
-abbrev pub IsFault : Operator → ℤ → ℤ → Fault → Type 0
-IsFault operator left right DivisionByZero = (operator ≡ Divide) × (right ≡ pos 0)
-IsFault operator left right Overflow = ¬ (FitsSigned w64 (exact operator left right))
+-- nothing else is refused, and the message says which it is
+abbrev pub IsFault : Operator → ℤ → ℤ → List ℕ → Type 0
+IsFault operator left right message =
+    ((operator ≡ Divide) × (right ≡ pos 0) × (message ≡ codes "division by zero"))
+    ⊎ (¬ (FitsSigned w64 (exact operator left right)) × (message ≡ codes "overflow"))
+
+-- whatever the message
+abbrev pub IsRefused : Operator → ℤ → ℤ → Type 0
+IsRefused operator left right = (message : List ℕ) × IsFault operator left right message

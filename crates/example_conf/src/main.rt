@@ -2,18 +2,21 @@
 //!
 //! A file that is refused is said with the line and the column, the line itself, and a caret under the place.
 //!
-//! Proved: no input makes it crash, and it ends when its input does. The caret stands under the place, as the contract of [`place::caret_under`] says: before it stands a tab for each tab before the place, and a blank for each other character.
+//! Proved: no input makes it crash, and it ends when its input does. The caret stands under the place, as the contract of `caret_under` in `example_program` says.
 #![tactic(auto)]
 
 mod file;
-mod place;
 
-use file::{ConfError, Line, read_lines};
-use place::{caret_under, line_at};
+use combine::easy::TextStream;
+use combine::stream::position::Stream;
+use example_program::{Arguments, Program};
+use file::{Line, read_lines};
 use std::process::ExitCode;
-use std::{env, fs, io};
+use std::{fs, io};
 
-const HELP: &str = "Usage: conf [FILE]
+const CONF: Program = Program {
+    name: "conf",
+    help: "Usage: conf [FILE]
 
 Reads a configuration file, or standard input, and prints its settings, each as
 section.name = \"value\".
@@ -27,67 +30,57 @@ A file that is refused is said on standard error, with the place of the mistake.
 
 The status is 0 where the file is well formed, 1 where it isn't or can't be
 read, and 2 where the arguments are wrong.
-";
+",
+};
 
-fn main(rt: HostRuntime) -> ExitCode {
-    match run(&rt) {
-        Ok(status) => status,
-        Err(error) => {
-            let _unwritten = eprintln!(rt; "conf: {error}");
-            ExitCode::FAILURE
+/// The file that is named, if one is.
+#[derive(Default, Drop)]
+struct Path(Option<String>);
+
+impl Arguments for Path {
+    fn with(self, word: String) -> Result<Path, String> {
+        if self.0.is_some() || word.as_str().starts_with('-') {
+            return Err(word);
         }
+        Ok(Path(Some(word)))
     }
 }
 
-fn run(rt: &HostRuntime) -> io::Result<ExitCode> {
-    let mut path = None;
-    for word in env::args(rt)?.skip(1) {
-        if word.as_str() == "--help" {
-            print!(rt; "{HELP}")?;
-            return Ok(ExitCode::SUCCESS);
-        }
-        if path.is_some() || word.as_str().starts_with('-') {
-            eprintln!(rt; "conf: unexpected argument `{word}`; try `conf --help`")?;
-            return Ok(ExitCode::from(2));
-        }
-        path = Some(word);
-    }
-    let text = match path {
+fn main(rt: HostRuntime) -> ExitCode {
+    CONF.run(&rt, |path: Path| print_file(&rt, path))
+}
+
+/// Prints the settings of a file, or why and where it is refused.
+fn print_file(rt: &HostRuntime, path: Path) -> io::Result<ExitCode> {
+    let text = match path.0 {
         Some(path) => fs::read_to_string(rt, path.as_str())?,
         None => io::read_to_string(rt.alloc(), rt.reader())?,
     };
-    match read_lines(rt.alloc(), text.as_str()) {
+    let stream = TextStream::new(rt.alloc(), Stream::new(text.as_str()));
+    match read_lines(rt.alloc(), stream) {
         Ok(lines) => {
             print_settings(rt, &lines)?;
             Ok(ExitCode::SUCCESS)
         }
         Err(error) => {
-            print_error(rt, text.as_str(), &error)?;
+            CONF.print_error(rt, 0, text.as_str(), error)?;
             Ok(ExitCode::FAILURE)
         }
     }
 }
 
 /// Prints each setting, with its section before it.
-fn print_settings(rt: &HostRuntime, lines: &[Line]) -> io::Result<()> {
+fn print_settings(rt: &HostRuntime, lines: &[Option<Line>]) -> io::Result<()> {
     let mut section = "";
     for line in lines {
         match line {
-            Line::Blank => {}
-            Line::Section(name) => section = name.as_str(),
-            Line::Setting(name, value) if section.is_empty() => {
+            None => {}
+            Some(Line::Section(name)) => section = name.as_str(),
+            Some(Line::Setting(name, value)) if section.is_empty() => {
                 println!(rt; "{name} = {value:?}")?;
             }
-            Line::Setting(name, value) => println!(rt; "{section}.{name} = {value:?}")?,
+            Some(Line::Setting(name, value)) => println!(rt; "{section}.{name} = {value:?}")?,
         }
     }
     Ok(())
-}
-
-/// Prints why and where a file is refused.
-fn print_error(rt: &HostRuntime, text: &str, error: &ConfError<'_>) -> io::Result<()> {
-    let place = error.position;
-    let line = line_at(text, place);
-    let caret = caret_under(rt.alloc(), line, place.column)?;
-    eprint!(rt; "conf: {error}{line}\n{caret}\n")
 }

@@ -1,26 +1,25 @@
 //! The grammar of a head.
 
-use combine::error::{ParseError, UnexpectedParse};
+use combine::error::ParseError;
 use combine::parser::Parser;
 use combine::parser::byte::{ShowsBytes, bytes, crlf, digit};
 use combine::parser::combinator::attempt;
 use combine::parser::range::{recognize, take_while, take_while1};
 use combine::parser::repeat::{many, skip_many};
 use combine::parser::token::token;
-use combine::stream::position::SliceStream;
 use combine::stream::{Range, RangeStream, Stream};
 use combine::struct_parser;
 use std::alloc::Global;
 
 /// A header, as its line has it; no blanks stand around its value.
-#[derive(Clone, Copy, Debug, PartialEq)]
+#[derive(Clone, Copy)]
 pub struct Header<R> {
     pub name: R,
     pub value: R,
 }
 
 /// The head of a request, in parts of the input.
-#[derive(Debug, Drop, PartialEq)]
+#[derive(Drop)]
 pub struct Head<R> {
     pub method: R,
     pub target: R,
@@ -46,16 +45,8 @@ fn is_blank(byte: u8) -> bool {
     byte == b' ' || byte == b'\t'
 }
 
-/// Reads the head that is next in a slice. Where there is none the stream stands at the place of the mistake.
-pub fn read_head<'a>(
-    alloc: Global,
-    stream: &mut SliceStream<'a, u8>,
-) -> Result<Head<&'a [u8]>, UnexpectedParse> {
-    head_of(alloc, stream)
-}
-
-/// Says what a head is, over any stream of bytes that hands out ranges.
-fn head_of<Input: Stream<Token = u8> + RangeStream>(
+/// Reads the head that is next in a stream of bytes that hands out ranges. Where there is none the stream stands at the place of the mistake.
+pub fn read_head<Input: Stream<Token = u8> + RangeStream>(
     alloc: Global,
     input: &mut Input,
 ) -> Result<Head<Input::Range>, Input::Error>
@@ -70,29 +61,18 @@ where
         value: recognize(skip_many(word)),
         _: (take_while(is_blank), crlf()),
     });
-    run(
-        struct_parser!(Head {
-            method: take_while1(is_token_byte),
-            _: token(b' '),
-            target: take_while1(is_visible),
-            _: token(b' '),
-            version: recognize((bytes(b"HTTP/1."), digit())),
-            _: crlf(),
-            headers: many::<Vec<Header<Input::Range>>, _>(alloc, header),
-            _: crlf(),
-        }),
-        input,
-    )
-}
-
-/// Runs a parser from the start, over a stream that goes on behind it.
-fn run<Input: Stream, P: Parser<Input> + Drop>(
-    parser: P,
-    input: &mut Input,
-) -> Result<P::Output, Input::Error>
-    requires { P.lawful parser }
-{
-    let mut parser = parser;
-    let mut state = P::PartialState::default();
-    parser.parse_with_state(input, &mut state)
+    let mut head = struct_parser!(Head {
+        method: take_while1(is_token_byte),
+        _: token(b' '),
+        target: take_while1(is_visible),
+        _: token(b' '),
+        version: recognize((bytes(b"HTTP/1."), digit())),
+        _: crlf(),
+        headers: many::<Vec<Header<Input::Range>>, _>(alloc, header),
+        _: crlf(),
+    });
+    match head.parse_stream(input).into_result() {
+        Ok((head, _commit)) => Ok(head),
+        Err(error) => Err(error.into_inner().error),
+    }
 }

@@ -9,12 +9,14 @@ mod head;
 
 use combine::stream::position::{SliceStream, Stream as Placed};
 use combine::stream::{Positioned, RangeStream};
+use example_program::Program;
 use head::{Head, read_head};
-use std::io::Read;
+use std::io::{self, Read};
 use std::process::ExitCode;
-use std::{env, io};
 
-const HELP: &str = "Usage: httphead < FILE
+const HTTPHEAD: Program = Program {
+    name: "httphead",
+    help: "Usage: httphead < FILE
 
 Reads heads of HTTP/1 requests from standard input, one after another, and
 prints each: its method, target and version, and a line for each header.
@@ -26,44 +28,27 @@ What is no head is said on standard error, with the line where it is none.
 
 The status is 0 where the input is heads alone, 1 where it isn't or can't be
 read, and 2 where the arguments are wrong.
-";
+",
+};
 
 fn main(rt: HostRuntime) -> ExitCode {
-    match run(&rt) {
-        Ok(status) => status,
-        Err(error) => {
-            let _unwritten = eprintln!(rt; "httphead: {error}");
-            ExitCode::FAILURE
-        }
-    }
+    HTTPHEAD.run(&rt, |(): ()| print_heads(&rt))
 }
 
-fn run(rt: &HostRuntime) -> io::Result<ExitCode> {
-    for word in env::args(rt)?.skip(1) {
-        if word.as_str() == "--help" {
-            print!(rt; "{HELP}")?;
-            return Ok(ExitCode::SUCCESS);
-        }
-        eprintln!(rt; "httphead: unexpected argument `{word}`; try `httphead --help`")?;
-        return Ok(ExitCode::from(2));
-    }
+/// Prints each head of standard input, up to what is none.
+fn print_heads(rt: &HostRuntime) -> io::Result<ExitCode> {
     let mut input = Vec::new(rt.alloc());
     rt.reader().read_to_end(&mut input)?;
-    print_heads(rt, &input)
-}
-
-/// Prints each head, up to what is none.
-fn print_heads(rt: &HostRuntime, input: &[u8]) -> io::Result<ExitCode> {
-    let mut stream: SliceStream<'_, u8> = Placed::new(input);
+    let mut stream: SliceStream<'_, u8> = Placed::new(&input);
     // Each head takes a byte at least.
-    for _head in input {
+    for _head in &input {
         if stream.range().is_empty() {
             break;
         }
         match read_head(rt.alloc(), &mut stream) {
             Ok(head) => print_head(rt, &head)?,
             Err(_refusal) => {
-                let line = line_at(input, stream.position());
+                let line = line_at(&input, stream.position());
                 eprintln!(rt; "httphead: line {line}: no head of a request")?;
                 return Ok(ExitCode::FAILURE);
             }

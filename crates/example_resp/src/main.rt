@@ -6,13 +6,14 @@
 #![tactic(auto)]
 
 mod reply;
-mod session;
 
+use example_program::Program;
 use reply::print_replies;
 use std::process::ExitCode;
-use std::{env, io};
 
-const HELP: &str = "Usage: resp < FILE
+const RESP: Program = Program {
+    name: "resp",
+    help: "Usage: resp < FILE
 
 Reads replies of RESP from standard input, and prints each as soon as it has
 come. Arrays may stand up to 32 inside one another.
@@ -21,26 +22,9 @@ What is no reply ends the program, and is said on standard error.
 
 The status is 0 where the input is replies alone, 1 where it isn't or can't be
 read, and 2 where the arguments are wrong.
-";
+",
+};
 
 fn main(rt: HostRuntime) -> ExitCode {
-    match run(&rt) {
-        Ok(status) => status,
-        Err(error) => {
-            let _unwritten = eprintln!(rt; "resp: {error}");
-            ExitCode::FAILURE
-        }
-    }
-}
-
-fn run(rt: &HostRuntime) -> io::Result<ExitCode> {
-    for word in env::args(rt)?.skip(1) {
-        if word.as_str() == "--help" {
-            print!(rt; "{HELP}")?;
-            return Ok(ExitCode::SUCCESS);
-        }
-        eprintln!(rt; "resp: unexpected argument `{word}`; try `resp --help`")?;
-        return Ok(ExitCode::from(2));
-    }
-    print_replies(rt)
+    RESP.run(&rt, |(): ()| print_replies(&rt))
 }

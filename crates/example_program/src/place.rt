@@ -1,21 +1,15 @@
 //! The place of a mistake, shown under its line.
 ghost use Rattle.std.specs.Prelude.{◌≡◌, ◌-◌, ◌++◌, IfOk, codes, map, take, string_bytes};
 ghost use Rattle.std.specs.Str.{chars, encode_utf8_all};
-ghost use Rattle.example_conf.specs.Carets.{mark};
+ghost use Rattle.example_program.specs.Carets.{mark};
 
 use combine::stream::position::SourcePosition;
 use std::alloc::{AllocError, Global};
 
 /// Returns the line at a place, without its end; nothing where the text has fewer lines.
 pub fn line_at(text: &str, place: SourcePosition) -> &str {
-    let mut line: u64 = 1;
-    for each in text.lines() {
-        if line == place.line {
-            return each;
-        }
-        line = line.saturating_add(1);
-    }
-    ""
+    let before = place.line.saturating_sub(1) as usize;
+    text.lines().nth(before).unwrap_or("")
 }
 
 /// Returns a caret that stands under a column of the line, counted from 1: before it a tab for each tab of the line, and a blank for each other character.

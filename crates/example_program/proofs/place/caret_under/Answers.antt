@@ -1,8 +1,8 @@
 use Rattle.std.proofs.Common.{rules, arith, string_bytes, ◌-◌, ◌++◌, ◌∷◌, [], Ok, ap, ◌∙◌}
 use Rattle.std.proofs.lemmas.Iterator.{YieldsList-from_chars, YieldsList-from_map, YieldsList-from_take, text_from_collect}
 use Rattle.std.proofs.lemmas.Str.{encode_ascii}
-use Rattle.example_conf.specs.Carets.{mark}
-use Rattle.example_conf.proofs.place.caret_under.Goals as goal
+use Rattle.example_program.specs.Carets.{mark}
+use Rattle.example_program.proofs.place.caret_under.Goals as goal
 
 pub returns : goal.returns
 returns c =

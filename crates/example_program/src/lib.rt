@@ -1,0 +1,96 @@
+//! What the programs share: what becomes of their arguments, how they end, the place of a mistake, and messages from standard input.
+//!
+//! Proved: no call panics, and each returns. The caret stands under the place, as the contract of [`place::caret_under`] says: before it stands a tab for each tab before the place, and a blank for each other character.
+#![tactic(auto)]
+
+pub mod messages;
+pub mod place;
+
+use combine::easy::Errors;
+use combine::stream::position::SourcePosition;
+use place::{caret_under, line_at};
+use std::process::ExitCode;
+use std::{env, io};
+
+/// What the arguments of a program say.
+pub trait Arguments: Default + Drop {
+    /// Returns what they say with one more, or that one where it may not stand there.
+    fn with(self, word: String) -> Result<Self, String>;
+}
+
+/// No arguments.
+impl Arguments for () {
+    fn with(self, word: String) -> Result<(), String> {
+        Err(word)
+    }
+}
+
+/// A program.
+#[derive(Clone, Copy)]
+pub struct Program {
+    pub name: &'static str,
+    /// What `--help` prints.
+    pub help: &'static str,
+}
+
+impl Program {
+    /// Runs `body` on what the arguments say, and returns the status with which the program ends.
+    ///
+    /// That is 0 where `--help` stands among the arguments, whose text is printed then, and 2 where an argument may not stand there. Where `body` fails it is 1. The last two are said on standard error.
+    pub fn run<A: Arguments, F: FnOnce(A) -> io::Result<ExitCode>>(
+        self,
+        rt: &HostRuntime,
+        body: F,
+    ) -> ExitCode
+        requires { F.IsAlwaysCallable body }
+    {
+        match self.try_run(rt, body) {
+            Ok(status) => status,
+            Err(error) => {
+                let name = self.name;
+                let _unwritten = eprintln!(rt; "{name}: {error}");
+                ExitCode::FAILURE
+            }
+        }
+    }
+
+    fn try_run<A: Arguments, F: FnOnce(A) -> io::Result<ExitCode>>(
+        self,
+        rt: &HostRuntime,
+        body: F,
+    ) -> io::Result<ExitCode>
+        requires { F.IsAlwaysCallable body }
+    {
+        let Program { name, help } = self;
+        let mut arguments = A::default();
+        for word in env::args(rt)?.skip(1) {
+            if word.as_str() == "--help" {
+                print!(rt; "{help}")?;
+                return Ok(ExitCode::SUCCESS);
+            }
+            match arguments.with(word) {
+                Ok(more) => arguments = more,
+                Err(word) => {
+                    eprintln!(rt; "{name}: unexpected argument `{word}`; try `{name} --help`")?;
+                    return Ok(ExitCode::from(2));
+                }
+            }
+        }
+        body(arguments)
+    }
+
+    /// Says on standard error why and where a text is refused that stands behind so many lines: the line and the column, the reasons, the line itself, and a caret under the place.
+    pub fn print_error(
+        self,
+        rt: &HostRuntime,
+        before: u64,
+        text: &str,
+        mut error: Errors<char, &str, SourcePosition>,
+    ) -> io::Result<()> {
+        let name = self.name;
+        let line = line_at(text, error.position);
+        let caret = caret_under(rt.alloc(), line, error.position.column)?;
+        error.position.line = error.position.line.saturating_add(before);
+        eprint!(rt; "{name}: {error}{line}\n{caret}\n")
+    }
+}
