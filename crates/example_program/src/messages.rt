@@ -15,7 +15,7 @@ const PIECE: usize = 4096;
 ///
 /// # Errors
 ///
-/// After the messages before it, what is none is refused with an error that says so, and so is an input that ends within one.
+/// After the messages before it, what is none is refused with an error that says which it would be, and so is an input that ends within one.
 pub fn print_messages<P: Parser<fed::Stream<u8>, Output = String> + Drop, M: Fn() -> P + Drop>(
     rt: &HostRuntime,
     what: &str,
@@ -27,6 +27,7 @@ pub fn print_messages<P: Parser<fed::Stream<u8>, Output = String> + Drop, M: Fn(
     let mut input = rt.reader();
     let mut piece = [0u8; PIECE];
     let mut decoder = Decoder::new(rt.alloc(), maker);
+    let mut number: u64 = 1;
     'pieces: for _piece in 0..u64::MAX {
         let count = input.read(&mut piece)?;
         if count == 0 {
@@ -37,15 +38,16 @@ pub fn print_messages<P: Parser<fed::Stream<u8>, Output = String> + Drop, M: Fn(
         };
         for text in &batch.messages {
             print!(rt; "{text}")?;
+            number = number.saturating_add(1);
         }
         if batch.end != BatchEnd::More {
-            let said = format!(in rt.alloc(); "no {what}")?;
+            let said = format!(in rt.alloc(); "{what} {number} is malformed")?;
             return Err(io::Error::other(said.as_str()));
         }
     }
     if decoder.at_boundary() {
         return Ok(ExitCode::SUCCESS);
     }
-    let said = format!(in rt.alloc(); "the input ends within a {what}")?;
+    let said = format!(in rt.alloc(); "the input ends within {what} {number}")?;
     Err(io::Error::other(said.as_str()))
 }
