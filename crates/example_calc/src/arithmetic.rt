@@ -12,7 +12,7 @@ use combine::parser::choice::or;
 use combine::parser::combinator::{and_then, map};
 use combine::parser::repeat::{Sink, many, many1};
 use combine::parser::sequence::{skip, with};
-use combine::parser::token::{eof, one_of};
+use combine::parser::token::{eof, one_of, satisfy};
 use combine::stream::Stream;
 use std::alloc::Global;
 
@@ -92,7 +92,8 @@ pub fn value_in<Input: Stream<Token = char>, E: StreamError<char, Input::Range>>
 where
     Input::Error: ParseError<char, Input::Range, Input::Position, StreamError = E>,
 {
-    let blanks = many::<Sink, _>(alloc, one_of([' ', '\t']));
+    let blank = satisfy(|character: char| matches!(character, ' ' | '\t'));
+    let blanks = many::<Sink, _>(alloc, blank);
     let operand = |digits: String| -> Result<Lexeme, E>
         ensures { IfErr result (λ said. E.kind said ≡ kinds.Refused) }
     {
