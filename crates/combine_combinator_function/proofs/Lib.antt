@@ -1,2 +1,5 @@
+pub mod Again
 pub mod Calling
 pub mod Changing
+pub mod Once
+pub mod OneOutcome

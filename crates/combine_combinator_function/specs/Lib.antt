@@ -4,6 +4,7 @@ pub use Rattle.combine_token.specs.ListAnswers
 pub use Rattle.combine_token.specs.Stateless
 pub mod Changes
 pub mod Functions
+pub mod Once
 pub mod Parsers
 pub mod Refusing
 pub mod Running

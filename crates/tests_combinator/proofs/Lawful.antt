@@ -7,8 +7,8 @@ use Rattle.combine_base.specs.declared.error.ParseResult.{ParseResult}
 use Rattle.combine_base.specs.declared.stream.Failures.{Failures}
 use Rattle.combine_combinator_function.specs.Functions.{AnswersAt, AnswersWith, IsFunction}
 use Rattle.tests_combinator.specs.Nests.{byte, byte_is_reading, byte_pair, byte_pair_is_reading}
-use Rattle.tests_combinator.specs.Once.{RunsOnce}
-use Rattle.tests_combinator.proofs.Once.{env_is_function, plain_is_function}
+use Rattle.combine_combinator_function.specs.Once.{RunsOnce}
+use Rattle.combine_combinator_function.proofs.Once.{env_is_function, plain_is_function}
 
 module _ {I P R E C X : Type 0} (step : P → ℕ → P) (s : Errors ℕ R P E) (steady : Type 0) (view : I → View P ℕ) (marks : I → C → View P ℕ → Type 0) (failures : I → Failures) where
   pub pair_is_function : (into : X → ParseResult (ℕ × ℕ) E) (a b : ℕ) (post : MutBor I → X → MutBor I → Type 0) → ((shown after : MutBor I) (own : X) → post shown own after → RunsOnce step s steady view marks failures (byte_pair step a b) shown.now after.now (into own)) → IsFunction step s.kind view (AnswersAt post into) marks failures steady

@@ -1,4 +1,2 @@
-mod Again
 mod Lawful
 mod Nesting
-mod Once

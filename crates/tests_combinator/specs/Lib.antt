@@ -1,2 +1,1 @@
 pub mod Nests
-pub mod Once

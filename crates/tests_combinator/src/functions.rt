@@ -1,7 +1,7 @@
 //! Parsers that are functions of a stream.
 ghost use Rattle.combine_base.specs.Error.Results.{from_standard};
 ghost use Rattle.tests_combinator.specs.Nests.{byte, byte_pair};
-ghost use Rattle.tests_combinator.specs.Once.{RunsOnce};
+ghost use Rattle.combine_combinator_function.specs.Once.{RunsOnce};
 
 use combine_base::error::{ParseError, ParseResult, StdParseResult, UnexpectedParse};
 use combine_base::parser::{Answer, Parser, Session, SessionError, parse_pieces};

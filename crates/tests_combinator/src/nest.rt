@@ -2,7 +2,7 @@
 ghost use Rattle.std.specs.Prelude.{◌≡◌, ◌<◌, true};
 ghost use Rattle.combine_base.specs.Sequence.Parts.{joined_answer};
 ghost use Rattle.tests_combinator.specs.Nests.{closed as closed_round, inside as inside_of, nest as nest_of, nesting, nesting_is_meaning, nesting_means_one, opened as opened_by};
-ghost use Rattle.tests_combinator.specs.Once.{RunsOnce};
+ghost use Rattle.combine_combinator_function.specs.Once.{RunsOnce};
 
 use combine_base::error::{ErrorOffset, ParseError, ParseResult, Tracked};
 use combine_base::parser::{Outputs, ParseMode, Parser};

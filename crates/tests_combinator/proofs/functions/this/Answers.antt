@@ -1,4 +1,4 @@
-use Rattle.tests_combinator.proofs.Once.{run_once, standard_back}
+use Rattle.combine_combinator_function.proofs.Once.{run_once, standard_back}
 use Rattle.tests_combinator.proofs.functions.this.Goals as goal
 
 pub returns : goal.returns

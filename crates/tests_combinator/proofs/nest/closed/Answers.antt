@@ -1,4 +1,4 @@
-use Rattle.tests_combinator.proofs.Once.{run_once}
+use Rattle.combine_combinator_function.proofs.Once.{run_once}
 use Rattle.tests_combinator.proofs.nest.closed.Goals as goal
 
 pub returns : goal.returns

@@ -1,7 +1,7 @@
 use Rattle.std.proofs.Common.{sym, true, ◌∙◌}
 use Rattle.std.proofs.lemmas.Bool.{false≢true}
 use Rattle.tests_combinator.specs.Nests.{nest}
-use Rattle.tests_combinator.proofs.Again.{again_back, again_err, again_ok, again_peek_err, again_peek_ok, again_stuck}
+use Rattle.combine_combinator_function.proofs.Again.{again_back, again_err, again_ok, again_peek_err, again_peek_ok, again_stuck}
 use Rattle.tests_combinator.proofs.nest.NestParser.parse_mode.Goals as goal
 
 pub returns-in-CommitOk-clause-answers : goal.returns-in-CommitOk-clause-answers

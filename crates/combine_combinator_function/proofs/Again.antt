@@ -19,7 +19,7 @@ use Rattle.combine_base.specs.declared.stream.Kind.{Kind}
 use Rattle.combine_base.specs.declared.stream.Kind.TheVariants as kinds
 use Rattle.combine_token.specs.Stateless.{stateless}
 use Rattle.combine_token.proofs.Stateless.{asks, into_begun}
-use Rattle.tests_combinator.specs.Once.{RunsOnce, once, once_world}
+use Rattle.combine_combinator_function.specs.Once.{RunsOnce, once, once_world}
 
 module _ {I P T R E C S V : Type 0} (step : P → T → P) (s : Errors T R P E) (steady : Type 0) (view : I → View P T) (marks : I → C → View P T → Type 0) (failures : I → Failures) (fresh : S → Type 0) (read : Reading P T V) (first : Bool) (state left : S) (d : fresh left) (input mid : I) where
   abbrev w : World P T S E

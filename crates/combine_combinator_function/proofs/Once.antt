@@ -25,7 +25,7 @@ use Rattle.combine_base.specs.declared.stream.Failures.{Failures}
 use Rattle.combine_base.specs.declared.stream.Kind.TheVariants as kinds
 use Rattle.combine_combinator_function.specs.Functions.{AnswersAt, AnswersWith, IsFunction, KeepsLaws}
 use Rattle.combine_combinator_function.specs.Running.{run_keeps_laws}
-use Rattle.tests_combinator.specs.Once.{RunsOnce, once, once_is_meaning}
+use Rattle.combine_combinator_function.specs.Once.{RunsOnce, once, once_is_meaning}
 
 module _ {P T R E : Type 0} (step : P → T → P) (s : Errors T R P E) (steady : Type 0) where
   abbrev w : {S : Type 0} → (S → Type 0) → World P T S E
