@@ -2,4 +2,3 @@ pub mod Again
 pub mod Calling
 pub mod Changing
 pub mod Once
-pub mod OneOutcome
