@@ -1,5 +1,5 @@
 //! RESP, the protocol of Redis: a reply of a server, from pieces.
-ghost use Rattle.std.specs.Prelude.{ℤ};
+ghost use Rattle.std.specs.Prelude.{ℕ, ℤ};
 
 use combine::error::UnexpectedParse;
 use combine::parser::byte::{byte, crlf, digit};
@@ -7,7 +7,7 @@ use combine::parser::choice::{Dispatch3, choice, optional};
 use combine::parser::combinator::{from_str, map, recognize};
 use combine::parser::error::unexpected_any;
 use combine::parser::repeat::{count_min_max, many, skip_many1};
-use combine::parser::sequence::{skip, then, with};
+use combine::parser::sequence::{between, skip, then};
 use combine::parser::token::{any, satisfy, value};
 use combine::parser::{Answer, Parser, parse_pieces};
 use combine::stream::{Kind, fed};
@@ -79,10 +79,20 @@ pub fn read_reply(alloc: Global, pieces: &[&[u8]]) -> InPieces<Reply> {
 ///
 /// It and the three below make what the next one needs: one parser of all replies is too large for one function.
 pub fn with_replies<D: Reads>(alloc: Global, driver: D) -> D::Answer {
-    let number = move || {
-        let digits = (optional(byte(b'-')), skip_many1(digit()));
-        skip(from_str(recognize::<Vec<u8>, _>(alloc, digits)), crlf())
+    let line = move |kind: u8| {
+        let text = many::<Vec<u8>, _>(alloc, satisfy(|b: u8| b != b'\r'));
+        between(byte(kind), crlf(), text)
     };
+    let number = move |kind: u8| {
+        let digits = (optional(byte(b'-')), skip_many1(digit()));
+        let number = from_str(recognize::<Vec<u8>, _>(alloc, digits));
+        between(byte(kind), crlf(), number)
+    };
+    let lines = move || choice((
+        map(line(b'+'), |text: Vec<u8>| Reply::Simple(text)),
+        map(line(b'-'), |text: Vec<u8>| Reply::Error(text)),
+        map(number(b':'), |number: i64| Reply::Integer(number)),
+    ));
     let bulk = move || {
         let bytes = move |length: i64| match length {
             0..=MOST_BYTES => {
@@ -93,21 +103,25 @@ pub fn with_replies<D: Reads>(alloc: Global, driver: D) -> D::Answer {
             -1 => Dispatch3::B(value(None)),
             _ => Dispatch3::C(unexpected_any("length")),
         };
-        with(byte(b'$'), then(number(), bytes))
+        then(number(b'$'), bytes)
     };
-    with_items(alloc, number, bulk, driver)
+    with_items(alloc, lines, number, bulk, driver)
 }
 
 /// Makes the parser of an array's items, by their count.
 fn with_items<
     D: Reads,
+    P: Parser<fed::Stream<u8>, Output = Reply> + Drop,
+    F: Fn() -> P + Drop,
     N: Parser<fed::Stream<u8>, Output = i64> + Drop,
-    M: Fn() -> N + Copy + Drop,
+    M: Fn(u8) -> N + Drop,
     B: Parser<fed::Stream<u8>, Output = Option<Vec<u8>>> + Drop,
     L: Fn() -> B + Copy + Drop,
->(alloc: Global, number: M, bulk: L, driver: D) -> D::Answer
+>(alloc: Global, lines: F, number: M, bulk: L, driver: D) -> D::Answer
+    requires calls_lines { F.IsAlwaysCallable lines }
+    requires lawful_lines { (p : P) → F.post lines p → P.lawful p }
     requires calls_number { M.IsAlwaysCallable number }
-    requires lawful_number { (p : N) → M.post number p → N.lawful p }
+    requires lawful_number { (kind : ℕ) (p : N) → M.post number kind p → N.lawful p }
     requires calls_bulk { L.IsAlwaysCallable bulk }
     requires lawful_bulk { (p : B) → L.post bulk p → B.lawful p }
 {
@@ -120,44 +134,33 @@ fn with_items<
         -1 => Dispatch3::B(value(None)),
         _ => Dispatch3::C(unexpected_any("count")),
     };
-    with_kinds(alloc, number, bulk, &items, driver)
+    with_kinds(lines, number, bulk, &items, driver)
 }
 
 /// Makes the parsers of the kinds of replies.
 fn with_kinds<
     D: Reads,
+    P: Parser<fed::Stream<u8>, Output = Reply> + Drop,
+    F: Fn() -> P + Drop,
     N: Parser<fed::Stream<u8>, Output = i64> + Drop,
-    M: Fn() -> N + Copy + Drop,
+    M: Fn(u8) -> N + Drop,
     B: Parser<fed::Stream<u8>, Output = Option<Vec<u8>>> + Drop,
     L: Fn() -> B + Drop,
     I: Parser<fed::Stream<u8>, Output = Option<Vec<Option<Vec<u8>>>>> + Drop,
     K: Fn(i64) -> I + Copy + Drop,
->(alloc: Global, number: M, bulk: L, items: K, driver: D) -> D::Answer
+>(lines: F, number: M, bulk: L, items: K, driver: D) -> D::Answer
+    requires calls_lines { F.IsAlwaysCallable lines }
+    requires lawful_lines { (p : P) → F.post lines p → P.lawful p }
     requires calls_number { M.IsAlwaysCallable number }
-    requires lawful_number { (p : N) → M.post number p → N.lawful p }
+    requires lawful_number { (kind : ℕ) (p : N) → M.post number kind p → N.lawful p }
     requires calls_bulk { L.IsAlwaysCallable bulk }
     requires lawful_bulk { (p : B) → L.post bulk p → B.lawful p }
     requires calls_items { K.IsAlwaysCallable items }
     requires lawful_items { (count : ℤ) (p : I) → K.post items count p → I.lawful p }
 {
-    let line = move || skip(
-        many::<Vec<u8>, _>(alloc, satisfy(|b: u8| b != b'\r')),
-        crlf(),
-    );
-    let lines = move || choice((
-        map(
-            with(byte(b'+'), line()),
-            |text: Vec<u8>| Reply::Simple(text),
-        ),
-        map(with(byte(b'-'), line()), |text: Vec<u8>| Reply::Error(text)),
-        map(
-            with(byte(b':'), number()),
-            |number: i64| Reply::Integer(number),
-        ),
-    ));
     let bulks = move || map(bulk(), |bytes: Option<Vec<u8>>| Reply::Bulk(bytes));
     let arrays = move || map(
-        with(byte(b'*'), then(number(), items)),
+        then(number(b'*'), items),
         |items: Option<Vec<Option<Vec<u8>>>>| Reply::Array(items),
     );
     with_choice(lines, bulks, arrays, driver)
