@@ -8,4 +8,6 @@ mod messages;
 #[cfg(test)]
 mod record;
 #[cfg(test)]
+mod replies;
+#[cfg(test)]
 mod resp;
