@@ -8,6 +8,8 @@ mod changed;
 #[cfg(test)]
 mod choices;
 #[cfg(test)]
+mod partial;
+#[cfg(test)]
 mod promises;
 #[cfg(test)]
 mod put_back;
