@@ -8,6 +8,8 @@ mod changed;
 #[cfg(test)]
 mod choices;
 #[cfg(test)]
+mod lists;
+#[cfg(test)]
 mod partial;
 #[cfg(test)]
 mod promises;
