@@ -4,11 +4,15 @@
 #[cfg(test)]
 mod asking;
 #[cfg(test)]
+mod called;
+#[cfg(test)]
 mod changed;
 #[cfg(test)]
 mod choices;
 #[cfg(test)]
 mod lists;
+#[cfg(test)]
+mod made;
 #[cfg(test)]
 mod partial;
 #[cfg(test)]
@@ -21,3 +25,5 @@ mod repetitions;
 mod sequences;
 #[cfg(test)]
 mod tokens;
+#[cfg(test)]
+mod values;
