@@ -20,6 +20,8 @@ mod promises;
 #[cfg(test)]
 mod put_back;
 #[cfg(test)]
+mod ranges;
+#[cfg(test)]
 mod repetitions;
 #[cfg(test)]
 mod sequences;
