@@ -14,6 +14,8 @@ mod lists;
 #[cfg(test)]
 mod made;
 #[cfg(test)]
+mod nesting;
+#[cfg(test)]
 mod partial;
 #[cfg(test)]
 mod promises;
