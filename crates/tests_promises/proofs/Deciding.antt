@@ -1,13 +1,18 @@
 -- parsers of which a caller's functions are asked have one outcome, where those answer from their arguments alone
 use Rattle.std.proofs.Common.{ℕ, ◌≡◌, ◌∙◌, Bool, true, List, [], ◌∷◌, ap, sym, subst}
+use Rattle.combine_base.specs.Error.Errors.{Nothing}
 use Rattle.combine_base.specs.Parser.Meaning.{IsSingle, Reading}
 use Rattle.combine_base.specs.Parser.Outcome.{Accepted}
 use Rattle.combine_byte_num.specs.WholeNumbers.{whole_number}
 use Rattle.combine_combinator_function.specs.Changes.{DecidesOne}
 use Rattle.combine_combinator_lazy.specs.Made.{Makes, MakesOne}
 use Rattle.combine_repeat_iterate.specs.Items as items
+use Rattle.combine_repeat_turns.specs.CountLaws.{repeated_means_one}
+use Rattle.combine_repeat_turns.specs.Counts.{count_min_max}
+use Rattle.combine_repeat_turns.specs.Turns.{Collecting}
+use Rattle.combine_repeat_turns.specs.declared.turns.Bounds.TheVariants.{Counted}
 use Rattle.combine_sequence.specs.Answered as second
-use Rattle.combine_token.specs.OneToken.{of_function, one_token, one_token_at, satisfied}
+use Rattle.combine_token.specs.OneToken.{of_function, of_function_is_predicate, one_token, one_token_at, satisfied, satisfied_is_test, takes_one, takes_one_means_one}
 
 any_at : {T : Type 0} (o : Bool) (us : List T) (a b : T) (n m : ℕ) (k c : Bool) → one_token_at (satisfied (of_function (λ t. true))) o us (Accepted a n k) → one_token_at (satisfied (of_function (λ t. true))) o us (Accepted b m c) → a ≡ b
 any_at o [] a b n m k c p q = absurd p.1
@@ -32,3 +37,9 @@ one_for_number width value {means} made h = record {
       let e : a ≡ b = x.1 ∙ sym y.1 in
       (h a).one u o z (subst (λ s. means s u o) i w) (subst (λ s. means s u z) (j ∙ ap made (sym e)) d);
 }
+
+-- so many of any tokens, collected
+pub counted_is_single : {P T V : Type 0} (step : P → T → P) (c : Collecting T V) (n : ℕ) → IsSingle (count_min_max {R = Unit {0}} {S = Unit {0}} step c n n (takes_one (satisfied (of_function (λ t. true))) (Unit {0}) Nothing)).whole
+counted_is_single step c n =
+    let any = satisfied (of_function (λ t. true)) in
+    (repeated_means_one {R = Unit {0}} {S = Unit {0}} step (Counted n n) c (λ s. Unit {0}) (takes_one any (Unit {0}) Nothing) (takes_one_means_one any (Unit {0}) Nothing (λ s. Unit {0}) (satisfied_is_test _ (of_function_is_predicate (λ t. true))))).whole

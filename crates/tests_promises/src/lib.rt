@@ -10,6 +10,8 @@ mod changed;
 #[cfg(test)]
 mod choices;
 #[cfg(test)]
+mod decoding;
+#[cfg(test)]
 mod lists;
 #[cfg(test)]
 mod made;
