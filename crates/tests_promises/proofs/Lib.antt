@@ -1,1 +1,3 @@
+pub mod Deciding
 pub mod Exactly
+pub mod Running

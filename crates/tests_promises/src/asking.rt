@@ -1,4 +1,5 @@
 //! Need of more, exactly where the written meaning is undecided: of a call of each form of choice, of `then`, and of `tokens`.
+ghost use Rattle.std.specs.Prelude.{◌≡◌, nat_eq};
 ghost use Rattle.tests_promises.specs.Asking.{AsksExactly};
 
 use combine::error::{ParseError, ParseResult};
@@ -8,7 +9,7 @@ use combine::parser::choice::{Dispatch3, Slice, choice, optional, or};
 use combine::parser::combinator::Either;
 use combine::parser::sequence::then;
 use combine::parser::token::types::{Any, Token};
-use combine::parser::token::{any, token, value};
+use combine::parser::token::{any, token, tokens, tokens_cmp, value};
 use combine::stream::{Stream, fed};
 
 /// Calls a parser that has one outcome, from the start. Unless a fault stops it, it asks for more exactly where what it means is undecided.
@@ -69,6 +70,18 @@ fn lists(input: &mut fed::Stream<u8>) {
     let _compared = call_afresh(bytes_cmp(b"let", equal), input);
 }
 
+/// The same of lists of any kind.
+fn any_lists<Input: Stream<Token = u8>>(input: &mut Input)
+where
+    Input::Error: ParseError<u8, Input::Range, Input::Position>,
+{
+    let equal = |wanted: u8, byte: u8| -> bool
+        ensures { result ≡ nat_eq wanted byte }
+    { wanted == byte };
+    let _tokens = call_afresh(tokens(equal, "ab", [b'a', b'b']), input);
+    let _compared = call_afresh(tokens_cmp([b'a', b'b'], equal), input);
+}
+
 #[test]
 fn asked(rt: HostRuntime) {
     let alloc = rt.alloc();
@@ -76,4 +89,5 @@ fn asked(rt: HostRuntime) {
     variants(&mut fed::Stream::<u8>::new(alloc));
     answered(&mut fed::Stream::<u8>::new(alloc));
     lists(&mut fed::Stream::<u8>::new(alloc));
+    any_lists(&mut fed::Stream::<u8>::new(alloc));
 }

@@ -16,9 +16,20 @@ pub fn keeps_without_memory<Input: Stream, P: Parser<Input> + Drop>(parser: P)
     requires lean { (P.meaning parser).lean }
 {}
 
-/// Takes a parser that has one outcome, on need of more takes nothing, and asks for no memory.
+/// Takes a parser that has one outcome, and on need of more takes nothing.
 pub fn puts_back<Input: Stream, P: Parser<Input> + Drop>(parser: P)
     requires determined { P.determined parser }
     requires puts_back { (P.meaning parser).puts_back }
+{}
+
+/// Takes a parser that also asks for no memory.
+pub fn puts_back_without_memory<Input: Stream, P: Parser<Input> + Drop>(parser: P)
+    requires determined { P.determined parser }
+    requires puts_back { (P.meaning parser).puts_back }
     requires lean { (P.meaning parser).lean }
+{}
+
+/// Takes a parser that on need of more leaves nothing unread.
+pub fn keeps_alone<Input: Stream, P: Parser<Input> + Drop>(parser: P)
+    requires { (P.meaning parser).keeps }
 {}

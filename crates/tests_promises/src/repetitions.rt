@@ -4,10 +4,10 @@ use crate::promises::{keeps, keeps_without_memory};
 use combine::error::ParseError;
 use combine::parser::combinator::map;
 use combine::parser::repeat::{
-    Sink, chainl1, count_min_max, many, many1, sep_by, sep_end_by, skip_count, skip_many,
-    skip_many1,
+    Sink, chainl1, count, count_min_max, escaped, many, many1, sep_by, sep_by1, sep_count_min_max,
+    sep_end_by, sep_end_by1, skip_count, skip_count_min_max, skip_many, skip_many1,
 };
-use combine::parser::token::{any, token};
+use combine::parser::token::{any, satisfy, token};
 use combine::stream::{Stream, fed};
 use std::alloc::Global;
 
@@ -21,7 +21,18 @@ where
     keeps::<Input, _>(many1::<Vec<u8>, _>(alloc, token(b'a')));
     keeps_without_memory::<Input, _>(skip_many(token(b'a')));
     keeps_without_memory::<Input, _>(skip_many1(token(b'a')));
+    let plain = satisfy(|byte: u8| byte != b'\\');
+    keeps_without_memory::<Input, _>(escaped(plain, b'\\', any()));
+}
+
+/// So many turns.
+fn counted<Input: Stream<Token = u8>>(alloc: Global)
+where
+    Input::Error: ParseError<u8, Input::Range, Input::Position>,
+{
     keeps::<Input, _>(count_min_max::<Vec<u8>, _>(alloc, 1, 2, any()));
+    keeps::<Input, _>(count::<Vec<u8>, _>(alloc, 2, any()));
+    keeps_without_memory::<Input, _>(skip_count_min_max(1, 2, any()));
     keeps_without_memory::<Input, _>(skip_count(2, any()));
 }
 
@@ -30,8 +41,11 @@ fn separated<Input: Stream<Token = u8>>(alloc: Global)
 where
     Input::Error: ParseError<u8, Input::Range, Input::Position>,
 {
+    keeps::<Input, _>(sep_count_min_max::<Vec<u8>, _, _>(alloc, 1, 2, token(b'a'), token(b',')));
     keeps::<Input, _>(sep_by::<Vec<u8>, _, _>(alloc, token(b'a'), token(b',')));
+    keeps::<Input, _>(sep_by1::<Vec<u8>, _, _>(alloc, token(b'a'), token(b',')));
     keeps::<Input, _>(sep_end_by::<Vec<u8>, _, _>(alloc, token(b'a'), token(b',')));
+    keeps::<Input, _>(sep_end_by1::<Vec<u8>, _, _>(alloc, token(b'a'), token(b',')));
     let operator = map(token(b'^'), |_: u8| |left: u8, right: u8| left ^ right);
     keeps_without_memory::<Input, _>(chainl1(any(), operator));
 }
@@ -39,5 +53,6 @@ where
 #[test]
 fn promised(rt: HostRuntime) {
     turns::<fed::Stream<u8>>(rt.alloc());
+    counted::<fed::Stream<u8>>(rt.alloc());
     separated::<fed::Stream<u8>>(rt.alloc());
 }

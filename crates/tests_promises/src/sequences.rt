@@ -3,16 +3,38 @@
 use crate::promises::keeps_without_memory;
 use combine::error::ParseError;
 use combine::parser::choice::Dispatch3;
-use combine::parser::sequence::{between, skip, then, with};
+use combine::parser::sequence::{between, skip, then, then_partial, then_ref, with};
 use combine::parser::token::{any, token, value};
 use combine::stream::{Stream, fed};
 
-fn several<Input: Stream<Token = u8>>()
+/// Tuples.
+fn tuples<Input: Stream<Token = u8>>()
 where
     Input::Error: ParseError<u8, Input::Range, Input::Position>,
 {
+    keeps_without_memory::<Input, _>((any(),));
     keeps_without_memory::<Input, _>((any(), token(b'a')));
+    keeps_without_memory::<Input, _>((any(), any(), token(b'a')));
+    keeps_without_memory::<Input, _>((any(), any(), any(), token(b'a')));
     keeps_without_memory::<Input, _>((any(), any(), any(), any(), token(b'a')));
+}
+
+/// Longer tuples.
+fn longer_tuples<Input: Stream<Token = u8>>()
+where
+    Input::Error: ParseError<u8, Input::Range, Input::Position>,
+{
+    let last = token(b'a');
+    keeps_without_memory::<Input, _>((any(), any(), any(), any(), any(), last));
+    keeps_without_memory::<Input, _>((any(), any(), any(), any(), any(), any(), last));
+    keeps_without_memory::<Input, _>((any(), any(), any(), any(), any(), any(), any(), last));
+}
+
+/// Tuples of whose values one is kept.
+fn of_one_value<Input: Stream<Token = u8>>()
+where
+    Input::Error: ParseError<u8, Input::Range, Input::Position>,
+{
     keeps_without_memory::<Input, _>(with(any(), token(b'a')));
     keeps_without_memory::<Input, _>(skip(any(), token(b'a')));
     keeps_without_memory::<Input, _>(between(any(), any(), token(b'a')));
@@ -24,6 +46,8 @@ where
     Input::Error: ParseError<u8, Input::Range, Input::Position>,
 {
     keeps_without_memory::<Input, _>(then(any(), |byte: u8| token(byte)));
+    keeps_without_memory::<Input, _>(then_partial(any(), |byte: &mut u8| token(*byte)));
+    keeps_without_memory::<Input, _>(then_ref(any(), |byte: &u8| token(*byte)));
     keeps_without_memory::<Input, _>(then(any(), |kind: u8| match kind {
         b'1' => Dispatch3::A(any()),
         b'2' => Dispatch3::B(token(kind)),
@@ -33,6 +57,8 @@ where
 
 #[test]
 fn promised() {
-    several::<fed::Stream<u8>>();
+    tuples::<fed::Stream<u8>>();
+    longer_tuples::<fed::Stream<u8>>();
+    of_one_value::<fed::Stream<u8>>();
     answered::<fed::Stream<u8>>();
 }

@@ -1,0 +1,45 @@
+-- parsers of which a caller's functions are asked have one outcome, where those answer from their arguments alone
+use Rattle.std.proofs.Common.{ℕ, ◌≡◌, ◌∙◌, Bool, true, List, [], ◌∷◌, ap, sym, subst}
+use Rattle.combine_base.specs.Error.Errors.{Nothing}
+use Rattle.combine_base.specs.Parser.Meaning.{IsSingle, Reading}
+use Rattle.combine_base.specs.Parser.Outcome.{Accepted}
+use Rattle.combine_byte_num.specs.WholeNumbers.{whole_number}
+use Rattle.combine_combinator_function.specs.Changes.{DecidesOne}
+use Rattle.combine_combinator_lazy.specs.Made.{Makes, MakesOne}
+use Rattle.combine_repeat_iterate.specs.Items as items
+use Rattle.combine_repeat_turns.specs.CountLaws.{repeated_means_one}
+use Rattle.combine_repeat_turns.specs.Counts.{count_min_max}
+use Rattle.combine_repeat_turns.specs.Turns.{Collecting}
+use Rattle.combine_repeat_turns.specs.declared.turns.Bounds.TheVariants.{Counted}
+use Rattle.combine_sequence.specs.Answered as second
+use Rattle.combine_token.specs.OneToken.{of_function, of_function_is_predicate, one_token, one_token_at, satisfied, satisfied_is_test, takes_one, takes_one_means_one}
+
+any_at : {T : Type 0} (o : Bool) (us : List T) (a b : T) (n m : ℕ) (k c : Bool) → one_token_at (satisfied (of_function (λ t. true))) o us (Accepted a n k) → one_token_at (satisfied (of_function (λ t. true))) o us (Accepted b m c) → a ≡ b
+any_at o [] a b n m k c p q = absurd p.1
+any_at o (t ∷ ts) a b n m k c p q = p.0.0 ∙ sym q.0.0
+
+-- what any token is changed into, where none is both changed and refused
+pub any_decides : {P T B : Type 0} (step : P → T → P) (gives : P → T → B → Type 0) (denies : T → Type 0) → ((at : P) (a : T) (b : B) → gives at a b → denies a → ⊥) → DecidesOne step (one_token (satisfied (of_function (λ t. true)))) gives denies
+any_decides step gives denies apart = record { one = λ v a b n m k c p q z g d. apart _ a z g (subst denies (sym (any_at v.is_open v.unread a b n m k c p q)) d) }
+
+-- the one parser that is made
+pub one_made : {P T N B : Type 0} {makes : Makes P T N} {means : N → Reading P T B} (made : N) → ((v : _) (n : N) → makes v n → n ≡ made) → IsSingle (means made) → MakesOne makes means
+one_made {means = means} made same h = record { one = λ v n m p q o u w z. h.one v o u (subst (λ s. means s v o) (same v n p) w) (subst (λ s. means s v u) (same v m q) z) }
+
+-- the one parser that is answered for an item
+pub one_asked : {P T I N B : Type 0} {answers : I → N → Type 0} {means : N → Reading P T B} (made : I → N) → ((x : I) (n : N) → answers x n → n ≡ made x) → ((x : I) → IsSingle (means (made x))) → items.AnswersOne answers means
+one_asked {means = means} made same h = record { one = λ x n m p q v o u w z. (h x).one v o u (subst (λ s. means s v o) (same x n p) w) (subst (λ s. means s v u) (same x m q) z) }
+
+-- the one parser that is answered for a number
+pub one_for_number : {P T N A B : Type 0} (width : ℕ) (value : List T → A) {means : N → Reading P T B} (made : A → N) → ((a : A) → IsSingle (means (made a))) → second.AnswersOne (whole_number width value) (λ a n. n ≡ made a) means
+one_for_number width value {means} made h = record {
+  one = λ v a b n c x y p q i j u o z w d.
+      let e : a ≡ b = x.1 ∙ sym y.1 in
+      (h a).one u o z (subst (λ s. means s u o) i w) (subst (λ s. means s u z) (j ∙ ap made (sym e)) d);
+}
+
+-- so many of any tokens, collected
+pub counted_is_single : {P T V : Type 0} (step : P → T → P) (c : Collecting T V) (n : ℕ) → IsSingle (count_min_max {R = Unit {0}} {S = Unit {0}} step c n n (takes_one (satisfied (of_function (λ t. true))) (Unit {0}) Nothing)).whole
+counted_is_single step c n =
+    let any = satisfied (of_function (λ t. true)) in
+    (repeated_means_one {R = Unit {0}} {S = Unit {0}} step (Counted n n) c (λ s. Unit {0}) (takes_one any (Unit {0}) Nothing) (takes_one_means_one any (Unit {0}) Nothing (λ s. Unit {0}) (satisfied_is_test _ (of_function_is_predicate (λ t. true))))).whole
