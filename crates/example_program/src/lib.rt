@@ -1,9 +1,10 @@
-//! What the programs share: what becomes of their arguments, how they end, the place of a mistake, and messages from standard input.
+//! What the programs share: what becomes of their arguments, how they end, the place of a mistake, the integers of their grammars, and messages from standard input.
 //!
 //! Proved: no call panics, and each returns. The caret stands under the place, as the contract of [`place::caret_under`] says: before it stands a tab for each tab before the place, and a blank for each other character.
 #![tactic(auto)]
 
 pub mod messages;
+pub mod number;
 pub mod place;
 
 use combine::easy::Errors;
@@ -79,18 +80,19 @@ impl Program {
         body(arguments)
     }
 
-    /// Says on standard error why and where a text is refused that stands behind so many lines: the line and the column, the reasons, the line itself, and a caret under the place.
+    /// Says on standard error why and where a text is refused that stands behind so many lines: the line and the column, the reasons, the line itself, and a caret under the place. Returns the status of that.
     pub fn print_error(
         self,
         rt: &HostRuntime,
         before: u64,
         text: &str,
         mut error: Errors<char, &str, SourcePosition>,
-    ) -> io::Result<()> {
+    ) -> io::Result<ExitCode> {
         let name = self.name;
         let line = line_at(text, error.position);
         let caret = caret_under(rt.alloc(), line, error.position.column)?;
         error.position.line = error.position.line.saturating_add(before);
-        eprint!(rt; "{name}: {error}{line}\n{caret}\n")
+        eprint!(rt; "{name}: {error}{line}\n{caret}\n")?;
+        Ok(ExitCode::FAILURE)
     }
 }
