@@ -1,6 +1,4 @@
-//! `calc` reads lines of arithmetic from standard input, and prints the value of each; `calc --help` says more.
-//!
-//! A line is read by `expression`, which keeps open parentheses in memory: no input overflows the call stack.
+//! `calc` reads lines of arithmetic from standard input, and prints the value of each; `calc --help` says more. A line is read by `expression`, which keeps open parentheses in memory: no input overflows the call stack.
 //!
 //! Proved: no input makes it crash, and it ends when its input does. Each step of arithmetic is exact, as the contract of [`Operator`] says: it answers the sum, the difference, the product or the quotient of two integers, and refuses exactly a division by zero and a result that is no `i64`.
 #![tactic(auto)]
@@ -36,9 +34,7 @@ A line has integers, + - * / with the usual precedence, a - before an operand,
 and parentheses, up to 100 inside one another; / rounds towards zero. Values are
 from -9223372036854775808 to 9223372036854775807. Blank lines are passed over.
 
-What has no value is said on standard error, with the place of the mistake. The
-status is 0 where each line has a value, 1 where one has none or the input can't
-be read, and 2 where the arguments are wrong.
+What has no value is said on standard error, with the place of the mistake.
 ",
 };
 
@@ -82,9 +78,6 @@ impl expression::Operator for Operator {
     }
 }
 
-/// What a step reads.
-type Lexeme = Item<Operator, i64>;
-
 /// How many parentheses may stand inside one another.
 const MOST_PARENTHESES: usize = 100;
 
@@ -92,7 +85,7 @@ const MOST_PARENTHESES: usize = 100;
 const LEVELS: [Fixity; 3] = [Fixity::Left, Fixity::Left, Fixity::Prefix];
 
 /// What stands before an operand: `-` or `(`.
-fn prefix(character: char) -> Lexeme {
+fn prefix(character: char) -> Item<Operator, i64> {
     match character {
         '-' => Item::Prefix(2, Operator::Minus),
         _ => Item::Open,
@@ -100,7 +93,7 @@ fn prefix(character: char) -> Lexeme {
 }
 
 /// What stands behind an operand: an operator or `)`.
-fn suffix(character: char) -> Lexeme {
+fn suffix(character: char) -> Item<Operator, i64> {
     match character {
         '+' => Item::Infix(0, Operator::Plus),
         '-' => Item::Infix(0, Operator::Minus),
@@ -122,10 +115,10 @@ where
     let blanks = many::<Sink, _>(alloc, blank);
     let digits = many1::<String, _>(alloc, digit());
     let number = and_then(digits, parse_integer::<Input::Range, E>);
-    let operand = map(number, |number: i64| -> Lexeme { Item::Operand(number) });
+    let operand = map(number, |number: i64| Item::Operand(number));
     let awaited = or(operand, map(one_of(['-', '(']), prefix));
     let inside = map(one_of(['+', '-', '*', '/', ')']), suffix);
-    let end = map(eof(), |_end: ()| -> Lexeme { Item::Close });
+    let end = map(eof(), |_end: ()| Item::Close);
     let outside = or(map(one_of(['+', '-', '*', '/']), suffix), end);
     let sum = expression::expression::<Operator, _, _, _, _>(
         alloc,

@@ -24,9 +24,6 @@ stand for one character. A word of digits, or of - and digits, is an integer,
 from -9223372036854775808 to 9223372036854775807.
 
 A file that is refused is said on standard error, with the place of the mistake.
-
-The status is 0 where the file is well formed, 1 where it isn't or can't be
-read, and 2 where the arguments are wrong.
 ",
 };
 

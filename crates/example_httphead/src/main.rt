@@ -24,9 +24,6 @@ A head is a request line, a line for each header, and an empty line; lines end
 with CR LF. A body behind a head isn't passed over.
 
 What is no head is said on standard error, with the line where it is none.
-
-The status is 0 where the input is heads alone, 1 where it isn't or can't be
-read, and 2 where the arguments are wrong.
 ",
 };
 

@@ -26,11 +26,17 @@ impl Arguments for () {
     }
 }
 
+/// What `--help` says of each program's status.
+const STATUSES: &str = "
+The status is 0 where nothing is said on standard error, 2 where the arguments
+are wrong, and else 1.
+";
+
 /// A program.
 #[derive(Clone, Copy)]
 pub struct Program {
     pub name: &'static str,
-    /// What `--help` prints.
+    /// What `--help` prints, before what it says of the status.
     pub help: &'static str,
 }
 
@@ -66,7 +72,7 @@ impl Program {
         let mut arguments = A::default();
         for word in env::args(rt)?.skip(1) {
             if word.as_str() == "--help" {
-                print!(rt; "{help}")?;
+                print!(rt; "{help}{STATUSES}")?;
                 return Ok(ExitCode::SUCCESS);
             }
             match arguments.with(word) {
