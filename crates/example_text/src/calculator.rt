@@ -1,13 +1,12 @@
 //! Sums and products of unsigned integers, folded from the left: over a whole text, and over bytes in pieces.
 
-use combine::error::{ParseError, UnexpectedParse};
+use combine::error::UnexpectedParse;
 use combine::parser::char::digit;
 use combine::parser::combinator::map;
 use combine::parser::repeat::{chainl1, many1, skip_many};
 use combine::parser::sequence::{skip, with};
 use combine::parser::token::{eof, one_of, satisfy};
 use combine::parser::{Parser, parse_pieces};
-use combine::stream::Stream;
 use example_callers::answers::InPieces;
 use example_callers::slices::is_digit;
 use std::alloc::Global;
@@ -74,42 +73,16 @@ pub fn value(alloc: Global, text: &str) -> Result<Number, UnexpectedParse> {
         skip(digits, skip_many(satisfy(|c: char| c == ' '))),
         |digits: String| number_of(digits.as_bytes()),
     );
-    with_products(number, text)
-}
-
-/// Says what a product is.
-///
-/// It and the one below are over any stream, and hand a parser on to the next: two chains within each other over a text, in one function, want a proof of why each operator can be called.
-fn with_products<Input: Stream<Token = char>, N: Parser<Input, Output = Number> + Drop>(
-    number: N,
-    input: Input,
-) -> Result<Number, Input::Error>
-where
-    Input::Error: ParseError<char, Input::Range, Input::Position>,
-    requires { N.lawful number }
-{
     let times = map(
         skip(one_of(['*', '/']), skip_many(satisfy(|c: char| c == ' '))),
         |operator: char| move |left: Number, right: Number| applied(operator, left, right),
     );
-    sum_of(chainl1(number, times), input)
-}
-
-/// The value of a sum, with blanks before it and nothing behind.
-fn sum_of<Input: Stream<Token = char>, P: Parser<Input, Output = Number> + Drop>(
-    product: P,
-    input: Input,
-) -> Result<Number, Input::Error>
-where
-    Input::Error: ParseError<char, Input::Range, Input::Position>,
-    requires { P.lawful product }
-{
     let plus = map(
         skip(one_of(['+', '-']), skip_many(satisfy(|c: char| c == ' '))),
         |operator: char| move |left: Number, right: Number| applied(operator, left, right),
     );
-    let sum = skip(chainl1(product, plus), eof());
-    match with(skip_many(satisfy(|c: char| c == ' ')), sum).parse(input) {
+    let sum = skip(chainl1(chainl1(number, times), plus), eof());
+    match with(skip_many(satisfy(|c: char| c == ' ')), sum).parse(text) {
         Ok((number, _end)) => Ok(number),
         Err(error) => Err(error),
     }
