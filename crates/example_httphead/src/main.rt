@@ -5,9 +5,10 @@
 //! Proved: no input makes it crash, and it ends when its input does.
 #![tactic(auto)]
 
+use combine::error::UnexpectedParse;
 use combine::parser::Parser;
 use combine::stream::position::{SliceStream, Stream as Placed};
-use combine::stream::{Positioned, RangeStream, Stream};
+use combine::stream::{Kind, Positioned, RangeStream, Stream};
 use example_http::{Head, Runs, read_head};
 use example_program::Program;
 use std::io::{self, Read};
@@ -59,6 +60,9 @@ fn print_heads(rt: &HostRuntime) -> io::Result<ExitCode> {
         }
         match read_head(rt.alloc(), Next(&mut stream)) {
             Ok(head) => print_head(rt, &head)?,
+            Err(UnexpectedParse(Kind::Memory)) => {
+                return Err(io::Error::from(io::ErrorKind::OutOfMemory));
+            }
             Err(_refusal) => {
                 let line = line_at(&input, stream.position());
                 eprintln!(rt; "httphead: line {line}: no head of a request")?;

@@ -8,6 +8,7 @@ pub mod number;
 pub mod place;
 
 use combine::easy::Errors;
+use combine::stream::Kind;
 use combine::stream::position::SourcePosition;
 use place::{caret_under, line_at};
 use std::process::ExitCode;
@@ -87,6 +88,10 @@ impl Program {
     }
 
     /// Says on standard error why and where a text is refused that stands behind so many lines: the line and the column, the reasons, the line itself, and a caret under the place. Returns the status of that.
+    ///
+    /// # Errors
+    ///
+    /// Where it was no refusal, but no memory was left, that is answered, and nothing is said.
     pub fn print_error(
         self,
         rt: &HostRuntime,
@@ -94,6 +99,9 @@ impl Program {
         text: &str,
         mut error: Errors<char, &str, SourcePosition>,
     ) -> io::Result<ExitCode> {
+        if error.kind == Kind::Memory {
+            return Err(io::Error::from(io::ErrorKind::OutOfMemory));
+        }
         let name = self.name;
         let line = line_at(text, error.position);
         let caret = caret_under(rt.alloc(), line, error.position.column)?;
