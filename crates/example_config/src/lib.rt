@@ -161,17 +161,15 @@ where
     Input::Error: ParseError<char, Input::Range, Input::Position>,
     requires { V.lawful value }
 {
-    let name = || {
-        let name = many1::<String, _>(alloc, satisfy(is_name_character));
-        expected(name, "name")
-    };
+    let name = many1::<String, _>(alloc, satisfy(is_name_character));
     let blank = satisfy(|character: char| matches!(character, ' ' | '\t' | '\r'));
     let blanks = many::<Sink, _>(alloc, blank);
-    let section = map(between(char('['), char(']'), name()), |name: String| {
-        Line::Section(name)
-    });
+    let section = map(
+        between(char('['), char(']'), expected(name, "name")),
+        |name: String| Line::Section(name),
+    );
     let setting = map(
-        (name(), (blanks, char('='), blanks), value),
+        (expected(name, "name"), (blanks, char('='), blanks), value),
         |(name, _equals, value)| Line::Setting(name, value),
     );
     let in_line = satisfy(|character: char| character != '\n');
