@@ -1,8 +1,8 @@
 //! The reader, over any stream of bytes.
 
-use crate::grammar::{Lexeme, Open};
+use crate::grammar::{Item, Lexeme, Open};
 use crate::node::Document;
-use crate::texts::{Piece, Text};
+use crate::texts::{Bytes, Piece, Text, Word};
 use combine_base::error::{ParseError, UnexpectedParse};
 use combine_base::parser::{Answer, Parser, SessionError, parse_pieces};
 use combine_base::repeat::Sink;
@@ -10,12 +10,12 @@ use combine_base::stream::{Stream, fed};
 use combine_combinator::combinator::{ignore, map};
 use combine_combinator_recognize::combinator::recognize;
 use combine_error::easy;
-use combine_nested::nested::{always, nested};
+use combine_nested::nested::nested;
 use combine_repeat::repeat::{many, many1};
-use combine_sequence::sequence::{between, skip, with};
+use combine_sequence::sequence::{between, with};
 use combine_stream::position;
 use combine_token::choice::{optional, or};
-use combine_token::token::{eof, one_of, satisfy, satisfy_map, token};
+use combine_token::token::{eof, satisfy, satisfy_map, token};
 use std::alloc::Global;
 
 /// Why an input is refused, and behind how many bytes.
@@ -72,19 +72,34 @@ fn is_digit(byte: u8) -> bool {
     byte.is_ascii_digit()
 }
 
+/// Whether a byte is a bracket, a comma or a colon.
+fn is_sign(byte: u8) -> bool {
+    matches!(byte, b'[' | b']' | b'{' | b'}' | b',' | b':')
+}
+
 fn is_letter(byte: u8) -> bool {
     byte.is_ascii_alphabetic()
 }
 
-/// The piece that a byte behind a backslash says by itself.
-fn escaped(byte: u8) -> Option<Piece> {
+/// Whether a byte begins an exponent.
+fn is_exponent(byte: u8) -> bool {
+    matches!(byte, b'e' | b'E')
+}
+
+/// Whether a byte is the sign of an exponent.
+fn is_plus_or_minus(byte: u8) -> bool {
+    matches!(byte, b'+' | b'-')
+}
+
+/// The character that a byte behind a backslash says by itself.
+fn escaped(byte: u8) -> Option<u32> {
     match byte {
-        b'"' | b'\\' | b'/' => Some(Piece::Byte(byte)),
-        b'b' => Some(Piece::Byte(8)),
-        b'f' => Some(Piece::Byte(12)),
-        b'n' => Some(Piece::Byte(b'\n')),
-        b'r' => Some(Piece::Byte(b'\r')),
-        b't' => Some(Piece::Byte(b'\t')),
+        b'"' | b'\\' | b'/' => Some(u32::from(byte)),
+        b'b' => Some(8),
+        b'f' => Some(12),
+        b'n' => Some(10),
+        b'r' => Some(13),
+        b't' => Some(9),
         _ => None,
     }
 }
@@ -108,14 +123,17 @@ where
     let digit = satisfy_map(hexadecimal);
     let unit = map(
         (digit, digit, digit, digit),
-        |(a, b, c, d): (u32, u32, u32, u32)| Piece::Unit((a << 12) | (b << 8) | (c << 4) | d),
+        |(a, b, c, d): (u32, u32, u32, u32)| (a << 12) | (b << 8) | (c << 4) | d,
     );
     let escape = with(
         token(b'\\'),
         or(satisfy_map(escaped), with(token(b'u'), unit)),
     );
-    let plain = map(satisfy(is_plain), |byte: u8| Piece::Byte(byte));
-    let text = many::<Text, _>(alloc, or(plain, escape));
+    let piece = or(
+        map(satisfy(is_plain), |byte: u8| Piece::Byte(byte)),
+        map(escape, |unit: u32| Piece::Unit(unit)),
+    );
+    let text = many::<Text, _>(alloc, piece);
     with_text(
         alloc,
         depth,
@@ -139,13 +157,20 @@ where
         optional(token(b'-')),
         or(ignore(token(b'0')), ignore(digits)),
         optional((token(b'.'), digits)),
-        optional((one_of([b'e', b'E']), optional(one_of([b'+', b'-'])), digits)),
+        optional((
+            satisfy(is_exponent),
+            optional(satisfy(is_plus_or_minus)),
+            digits,
+        )),
     );
     let number = map(
-        recognize::<Vec<u8>, _>(alloc, number),
-        |number: Vec<u8>| Lexeme::Number(number),
+        recognize::<Bytes, _>(alloc, number),
+        |number: Bytes| Lexeme::Number(number.0),
     );
-    let text = map(text, |text: Text| Lexeme::Text(text));
+    let text = map(text, |text: Text| match text.finished() {
+        Ok(text) => Lexeme::Text(text),
+        Err(why) => Lexeme::NoText(why),
+    });
     with_values(alloc, depth, or(text, number), driver)
 }
 
@@ -160,15 +185,27 @@ where
     requires { V.lawful value }
 {
     let blanks = many::<Sink, _>(alloc, satisfy(is_blank));
-    let sign = map(
-        one_of([b'[', b']', b'{', b'}', b',', b':']),
-        |sign: u8| Lexeme::Sign(sign),
-    );
     let word = map(
-        many1::<Vec<u8>, _>(alloc, satisfy(is_letter)),
-        |word: Vec<u8>| Lexeme::Word(word),
+        many1::<Word, _>(alloc, satisfy(is_letter)),
+        |word: Word| Lexeme::of_word(word.letters()),
     );
-    let step = always(skip(or(sign, or(value, word)), blanks));
+    let value = or(value, word);
+    let step = move |open: &Open| {
+        let place = open.place();
+        let sign = map(
+            (satisfy(is_sign), blanks),
+            |(sign, _blanks): (u8, Sink)| Item {
+                lexeme: Lexeme::Sign(sign),
+                sign: None,
+            },
+        );
+        let behind = optional(satisfy(move |sign: u8| place.is_followed_by(sign)));
+        let value = map(
+            (value, blanks, behind, blanks),
+            |(lexeme, _, sign, _): (Lexeme, Sink, Option<u8>, Sink)| Item { lexeme, sign },
+        );
+        or(sign, value)
+    };
     let document = nested(alloc, depth, move || Open::new(alloc), step);
     driver.run(between(blanks, eof(), document))
 }
