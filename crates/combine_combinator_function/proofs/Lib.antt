@@ -2,3 +2,4 @@ pub mod Again
 pub mod Calling
 pub mod Changing
 pub mod Once
+pub mod Promised

@@ -2,5 +2,6 @@ mod Cuts
 mod Dividing
 mod EachItem
 mod Judging
+pub mod OneAsked
 pub mod Ranges
 mod Stepping

@@ -1,5 +1,5 @@
 -- what separators give, and turns that begin with it
-use Rattle.std.specs.Prelude.{ℕ, ◌≡◌, Bool, false}
+use Rattle.std.specs.Prelude.{ℕ, Bool, false}
 use Rattle.std.proofs.Common.{sym, subst}
 use Rattle.combine_base.specs.Stream.View.{View}
 use Rattle.combine_base.specs.Parser.Given.{GivesOnly, ReadsOnly}
@@ -12,7 +12,6 @@ use Rattle.combine_repeat_sep.specs.Pair.{led_valid, pair, put_to}
 use Rattle.combine_repeat_sep.specs.Separated.{first_element, first_then, kept_reading, later_turn, lead_good, separated_valid, then_element, turn_place, valid_at}
 use Rattle.combine_repeat_sep.specs.declared.pair.PairState.{PairState}
 use Rattle.combine_repeat_sep.specs.declared.pair.PairState.TheVariants.{Separator, Part}
-use Rattle.combine_repeat_sep.specs.declared.separated.Element.{Element}
 use Rattle.combine_repeat_sep.specs.declared.separated.TurnPlace.{TurnPlace}
 use Rattle.combine_repeat_sep.specs.declared.separated.TurnPlace.TheVariants.{First, Later}
 

@@ -1,5 +1,4 @@
 -- a parser that means what another does, and adds nothing to errors
-use Rattle.std.specs.Prelude.{◌↔◌, List}
 use Rattle.combine_base.specs.Error.Errors.{Nothing}
 use Rattle.combine_base.specs.Parser.Meaning.{Meaning, Alike, IsMeaning, MeansOne, MeansSame}
 

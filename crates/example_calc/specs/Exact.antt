@@ -1,7 +1,7 @@
 use Rattle.std.specs.Prelude.{◌≡◌, ◌≢◌, ◌⊎◌, ℕ, ℤ, pos, ◌+ℤ◌, ◌-ℤ◌, ◌*ℤ◌, FitsSigned, List, codes, int_div}
 use Rattle.std.specs.Int.{w64}
-use Rattle.example_calc.specs.declared.arithmetic.Operator.{Operator}
-use Rattle.example_calc.specs.declared.arithmetic.Operator.TheVariants.{Plus, Minus, Times, Divide}
+use Rattle.example_calc.specs.declared.Operator.{Operator}
+use Rattle.example_calc.specs.declared.Operator.TheVariants.{Plus, Minus, Times, Divide}
 
 -- what an operator makes of two integers
 abbrev pub exact : Operator → ℤ → ℤ → ℤ

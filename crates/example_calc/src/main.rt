@@ -1,16 +1,26 @@
-//! `calc` reads lines of arithmetic from standard input, and prints the value of each; `calc --help` says more.
+//! `calc` reads lines of arithmetic from standard input, and prints the value of each; `calc --help` says more. A line is read by `expression`, which keeps open parentheses in memory: no input overflows the call stack.
 //!
-//! A line is read by `expression`, which keeps open parentheses in memory: no input overflows the call stack.
-//!
-//! Proved: no input makes it crash, and it ends when its input does. Each step of arithmetic is exact, as the contract of [`arithmetic::Operator`] says: it answers the sum, the difference, the product or the quotient of two integers, and refuses exactly a division by zero and a result that is no `i64`.
+//! Proved: no input makes it crash, and it ends when its input does. Each step of arithmetic is exact, as the contract of [`Operator`] says: it answers the sum, the difference, the product or the quotient of two integers, and refuses exactly a division by zero and a result that is no `i64`.
 #![tactic(auto)]
 
-mod arithmetic;
+ghost use Rattle.std.specs.Prelude.{◌≡◌, ℤ, pos, MatchResult};
+ghost use Rattle.example_calc.specs.Exact.{IsExact, IsFault, IsRefused};
 
-use arithmetic::value_in;
 use combine::easy::TextStream;
-use combine::stream::position::Stream;
+use combine::error::{ParseError, StreamError};
+use combine::expression::{self, Fixity, Item};
+use combine::nested::always;
+use combine::parser::Parser;
+use combine::parser::char::digit;
+use combine::parser::choice::or;
+use combine::parser::combinator::{and_then, map};
+use combine::parser::repeat::{Sink, many, many1};
+use combine::parser::sequence::{skip, with};
+use combine::parser::token::{eof, one_of, satisfy};
+use combine::stream::{Stream, position};
 use example_program::Program;
+use example_program::number::parse_integer;
+use std::alloc::Global;
 use std::io::{self, BufRead, BufReader};
 use std::process::ExitCode;
 
@@ -24,11 +34,102 @@ A line has integers, + - * / with the usual precedence, a - before an operand,
 and parentheses, up to 100 inside one another; / rounds towards zero. Values are
 from -9223372036854775808 to 9223372036854775807. Blank lines are passed over.
 
-What has no value is said on standard error, with the place of the mistake. The
-status is 0 where each line has a value, 1 where one has none or the input can't
-be read, and 2 where the arguments are wrong.
+What has no value is said on standard error, with the place of the mistake.
 ",
 };
+
+/// An operator between two numbers, or in front of one.
+#[derive(Clone, Copy, Drop)]
+enum Operator {
+    Plus,
+    Minus,
+    Times,
+    Divide,
+}
+
+impl expression::Operator for Operator {
+    type Value = i64;
+
+    ghost changes = { λ operator. IsExact operator (pos 0) };
+
+    ghost joins = { IsExact };
+
+    ghost refuses_operand = { λ operator. IsRefused operator (pos 0) };
+
+    ghost refuses_operands = { IsRefused };
+
+    /// Returns what the operator makes of 0 and the number behind it.
+    fn change(self, operand: i64) -> Result<i64, &'static str> {
+        self.join(0, operand)
+    }
+
+    /// Returns what the operator makes of two numbers; a quotient is rounded towards zero.
+    fn join(self, left: i64, right: i64) -> Result<i64, &'static str>
+        ensures { MatchResult result (IsExact self left right) (λ message. IsFault self left right message.now) }
+    {
+        let value = match self {
+            Operator::Plus => left.checked_add(right),
+            Operator::Minus => left.checked_sub(right),
+            Operator::Times => left.checked_mul(right),
+            Operator::Divide if right == 0 => return Err("division by zero"),
+            Operator::Divide => left.checked_div(right),
+        };
+        value.ok_or("overflow")
+    }
+}
+
+/// How many parentheses may stand inside one another.
+const MOST_PARENTHESES: usize = 100;
+
+/// Sums, products, and a minus in front.
+const LEVELS: [Fixity; 3] = [Fixity::Left, Fixity::Left, Fixity::Prefix];
+
+/// What stands before an operand: `-` or `(`.
+fn prefix(character: char) -> Item<Operator, i64> {
+    match character {
+        '-' => Item::Prefix(2, Operator::Minus),
+        _ => Item::Open,
+    }
+}
+
+/// What stands behind an operand: an operator or `)`.
+fn suffix(character: char) -> Item<Operator, i64> {
+    match character {
+        '+' => Item::Infix(0, Operator::Plus),
+        '-' => Item::Infix(0, Operator::Minus),
+        '*' => Item::Infix(1, Operator::Times),
+        '/' => Item::Infix(1, Operator::Divide),
+        _ => Item::Close,
+    }
+}
+
+/// Returns the value of a line, which any stream of characters may hold.
+fn value_in<Input: Stream<Token = char>, E: StreamError<char, Input::Range>>(
+    alloc: Global,
+    line: Input,
+) -> Result<i64, Input::Error>
+where
+    Input::Error: ParseError<char, Input::Range, Input::Position, StreamError = E>,
+{
+    let blank = satisfy(|character: char| matches!(character, ' ' | '\t'));
+    let blanks = many::<Sink, _>(alloc, blank);
+    let digits = many1::<String, _>(alloc, digit());
+    let number = and_then(digits, parse_integer::<Input::Range, E>);
+    let operand = map(number, |number: i64| Item::Operand(number));
+    let awaited = or(operand, map(one_of(['-', '(']), prefix));
+    let inside = map(one_of(['+', '-', '*', '/', ')']), suffix);
+    let end = map(eof(), |_end: ()| Item::Close);
+    let outside = or(map(one_of(['+', '-', '*', '/']), suffix), end);
+    let sum = expression::expression::<Operator, _, _, _, _>(
+        alloc,
+        MOST_PARENTHESES,
+        LEVELS,
+        always(skip(awaited, blanks)),
+        always(skip(inside, blanks)),
+        always(skip(outside, blanks)),
+    );
+    with(blanks, sum).parse(line).map(|(value, _end)| value)
+}
 
 fn main(rt: HostRuntime) -> ExitCode {
     CALC.run(&rt, |(): ()| print_values(&rt))
@@ -43,13 +144,10 @@ fn print_values(rt: &HostRuntime) -> io::Result<ExitCode> {
         if line.as_str().trim().is_empty() {
             continue;
         }
-        let stream = TextStream::new(rt.alloc(), Stream::new(line.as_str()));
+        let stream = TextStream::new(rt.alloc(), position::Stream::new(line.as_str()));
         match value_in(rt.alloc(), stream) {
             Ok(value) => println!(rt; "{value}")?,
-            Err(error) => {
-                CALC.print_error(rt, before, line.as_str(), error)?;
-                status = ExitCode::FAILURE;
-            }
+            Err(error) => status = CALC.print_error(rt, before, line.as_str(), error)?,
         }
     }
     Ok(status)

@@ -5,12 +5,8 @@
 //! Proved: no input makes it crash, and it ends when its input does. The caret stands under the place, as the contract of `caret_under` in `example_program` says.
 #![tactic(auto)]
 
-mod file;
-
-use combine::easy::TextStream;
-use combine::stream::position::Stream;
+use example_config::{Line, read_config};
 use example_program::{Arguments, Program};
-use file::{Line, read_lines};
 use std::process::ExitCode;
 use std::{fs, io};
 
@@ -19,17 +15,15 @@ const CONF: Program = Program {
     help: "Usage: conf [FILE]
 
 Reads a configuration file, or standard input, and prints its settings, each as
-section.name = \"value\".
+section.name = value: an integer as it is, and every other value in quotes.
 
 A line is [section], name = value, or blank; a comment begins with # and goes to
 the line's end. Names are letters, digits, - and _. A value is a word, in which
 . / and : may stand too, or a text in double quotes, in which \\\\, \\\", \\n and \\t
-stand for one character.
+stand for one character. A word of digits, or of - and digits, is an integer,
+from -9223372036854775808 to 9223372036854775807.
 
 A file that is refused is said on standard error, with the place of the mistake.
-
-The status is 0 where the file is well formed, 1 where it isn't or can't be
-read, and 2 where the arguments are wrong.
 ",
 };
 
@@ -56,30 +50,24 @@ fn print_file(rt: &HostRuntime, path: Path) -> io::Result<ExitCode> {
         Some(path) => fs::read_to_string(rt, path.as_str())?,
         None => io::read_to_string(rt.alloc(), rt.reader())?,
     };
-    let stream = TextStream::new(rt.alloc(), Stream::new(text.as_str()));
-    match read_lines(rt.alloc(), stream) {
+    match read_config(rt.alloc(), text.as_str()) {
         Ok(lines) => {
             print_settings(rt, &lines)?;
             Ok(ExitCode::SUCCESS)
         }
-        Err(error) => {
-            CONF.print_error(rt, 0, text.as_str(), error)?;
-            Ok(ExitCode::FAILURE)
-        }
+        Err(error) => CONF.print_error(rt, 0, text.as_str(), error),
     }
 }
 
 /// Prints each setting, with its section before it.
-fn print_settings(rt: &HostRuntime, lines: &[Option<Line>]) -> io::Result<()> {
+fn print_settings(rt: &HostRuntime, lines: &[Line]) -> io::Result<()> {
     let mut section = "";
     for line in lines {
         match line {
-            None => {}
-            Some(Line::Section(name)) => section = name.as_str(),
-            Some(Line::Setting(name, value)) if section.is_empty() => {
-                println!(rt; "{name} = {value:?}")?;
-            }
-            Some(Line::Setting(name, value)) => println!(rt; "{section}.{name} = {value:?}")?,
+            Line::Blank => {}
+            Line::Section(name) => section = name.as_str(),
+            Line::Setting(name, value) if section.is_empty() => println!(rt; "{name} = {value}")?,
+            Line::Setting(name, value) => println!(rt; "{section}.{name} = {value}")?,
         }
     }
     Ok(())

@@ -5,12 +5,12 @@
 //! Proved: no input makes it crash, and it ends when its input does.
 #![tactic(auto)]
 
-mod head;
-
+use combine::error::UnexpectedParse;
+use combine::parser::Parser;
 use combine::stream::position::{SliceStream, Stream as Placed};
-use combine::stream::{Positioned, RangeStream};
+use combine::stream::{Kind, Positioned, RangeStream, Stream};
+use example_http::{Head, Runs, read_head};
 use example_program::Program;
-use head::{Head, read_head};
 use std::io::{self, Read};
 use std::process::ExitCode;
 
@@ -25,14 +25,27 @@ A head is a request line, a line for each header, and an empty line; lines end
 with CR LF. A body behind a head isn't passed over.
 
 What is no head is said on standard error, with the line where it is none.
-
-The status is 0 where the input is heads alone, 1 where it isn't or can't be
-read, and 2 where the arguments are wrong.
 ",
 };
 
 fn main(rt: HostRuntime) -> ExitCode {
     HTTPHEAD.run(&rt, |(): ()| print_heads(&rt))
+}
+
+/// A stream in which a head is next. Where there is none the stream stands at the place of the mistake.
+struct Next<'s, Input>(&'s mut Input);
+
+impl<'s, Input: Stream> Runs<Input> for Next<'s, Input> {
+    type Answer = Result<Head<Input::Range>, Input::Error>;
+
+    fn run<P: Parser<Input, Output = Head<Input::Range>> + Drop>(self, head: P) -> Self::Answer {
+        let Next(input) = self;
+        let mut head = head;
+        match head.parse_stream(input).into_result() {
+            Ok((head, _commit)) => Ok(head),
+            Err(error) => Err(error.into_inner().error),
+        }
+    }
 }
 
 /// Prints each head of standard input, up to what is none.
@@ -45,8 +58,11 @@ fn print_heads(rt: &HostRuntime) -> io::Result<ExitCode> {
         if stream.range().is_empty() {
             break;
         }
-        match read_head(rt.alloc(), &mut stream) {
+        match read_head(rt.alloc(), Next(&mut stream)) {
             Ok(head) => print_head(rt, &head)?,
+            Err(UnexpectedParse(Kind::Memory)) => {
+                return Err(io::Error::from(io::ErrorKind::OutOfMemory));
+            }
             Err(_refusal) => {
                 let line = line_at(&input, stream.position());
                 eprintln!(rt; "httphead: line {line}: no head of a request")?;

@@ -1,67 +1,17 @@
-//! HTTP/1.1: the head of a request, which is a line with its method, target and version, a line for each header, and an empty line. Its parts stand in the input, so nothing is copied.
+//! The head of an HTTP request, as [`example_http`] reads it: of a whole slice, and window by window.
 
-use combine::error::{ParseError, UnexpectedParse};
-use combine::parser::byte::{ShowsBytes, bytes, crlf, digit};
-use combine::parser::combinator::attempt;
-use combine::parser::range::{recognize, take_while, take_while1};
-use combine::parser::repeat::{many, skip_many};
-use combine::parser::sequence::with;
-use combine::parser::token::token;
+use combine::error::UnexpectedParse;
 use combine::parser::{Answer, Parser, cuts_fit, parse_cuts};
 use combine::stream::position::{Stream as Placed, Windowed};
-use combine::stream::{MaybePartialStream, Range, RangeStream, Stream, StreamOnce};
-use combine::struct_parser;
+use combine::stream::{MaybePartialStream, Stream, StreamOnce};
+use example_http::{Head, Header, Runs, read_head};
 use std::alloc::Global;
 
 mod cut_heads;
 mod whole_heads;
 
-/// A header, as its line has it; no blanks stand around its value.
-#[derive(Clone, Copy, Debug, PartialEq)]
-pub struct Header<R> {
-    pub name: R,
-    pub value: R,
-}
-
-/// The head of a request, in parts of the input.
-#[derive(Debug, Drop, PartialEq)]
-pub struct Head<R> {
-    pub method: R,
-    pub target: R,
-    pub version: R,
-    pub headers: Vec<Header<R>>,
-}
-
 /// How many windows ask for more, and what is answered to the whole.
 pub type AnswerOver<'a> = (usize, Answer<Head<&'a [u8]>, UnexpectedParse>);
-
-/// Whether a byte may stand in a method, or in the name of a header.
-fn is_token_byte(byte: u8) -> bool {
-    match byte {
-        b'!' | b'#' | b'$' | b'%' | b'&' | b'\'' | b'*' | b'+' => true,
-        b'-' | b'.' | b'^' | b'_' | b'`' | b'|' | b'~' => true,
-        _ => byte.is_ascii_alphanumeric(),
-    }
-}
-
-/// Whether a byte is neither a space nor a control: a target is made of these, and so are the words of a value.
-fn is_visible(byte: u8) -> bool {
-    byte > b' ' && byte != 0x7f
-}
-
-/// Whether a byte is a space or a tab.
-fn is_blank(byte: u8) -> bool {
-    byte == b' ' || byte == b'\t'
-}
-
-/// What the parser of a head is handed to.
-trait Runs<Input: Stream> {
-    type Answer;
-
-    /// What the parser answers.
-    fn run<P: Parser<Input, Output = Head<Input::Range>> + Drop>(self, head: P) -> Self::Answer
-        requires { P.lawful head };
-}
 
 /// A stream that is parsed once, to its end.
 struct Whole<Input>(Input);
@@ -107,36 +57,6 @@ impl<'c, S: Windowed> Runs<MaybePartialStream<Placed<S, S::Placed>>> for Windows
             Err(_memory) => None,
         }
     }
-}
-
-/// Hands on the parser of a head.
-///
-/// It is over any stream of bytes that hands out ranges: values that hold parts of a slice can't be collected in a function that names the slice.
-fn read_head<Input: Stream<Token = u8> + RangeStream, D: Runs<Input>>(
-    alloc: Global,
-    driver: D,
-) -> D::Answer
-where
-    Input::Range: Range + ShowsBytes,
-    Input::Error: ParseError<u8, Input::Range, Input::Position>,
-{
-    let word = attempt((take_while(is_blank), take_while1(is_visible)));
-    let header = struct_parser!(Header {
-        name: take_while1(is_token_byte),
-        _: (token(b':'), take_while(is_blank)),
-        value: recognize(skip_many(word)),
-        _: (take_while(is_blank), crlf()),
-    });
-    driver.run(struct_parser!(Head {
-        method: take_while1(is_token_byte),
-        _: token(b' '),
-        target: take_while1(is_visible),
-        _: token(b' '),
-        version: recognize((bytes(b"HTTP/1."), digit())),
-        _: crlf(),
-        headers: many::<Vec<Header<Input::Range>>, _>(alloc, header),
-        _: crlf(),
-    }))
 }
 
 /// The head that a slice begins with, and what is behind it.

@@ -19,9 +19,6 @@ Reads replies of RESP from standard input, and prints each as soon as it has
 come. Arrays may stand up to 32 inside one another.
 
 What is no reply ends the program, and is said on standard error.
-
-The status is 0 where the input is replies alone, 1 where it isn't or can't be
-read, and 2 where the arguments are wrong.
 ",
 };
 

@@ -5,8 +5,6 @@ use Rattle.combine_base.specs.Parser.Meaning.{IsSingle, Reading}
 use Rattle.combine_base.specs.Parser.Outcome.{Accepted}
 use Rattle.combine_byte_num.specs.WholeNumbers.{whole_number}
 use Rattle.combine_combinator_function.specs.Changes.{DecidesOne}
-use Rattle.combine_combinator_lazy.specs.Made.{Makes, MakesOne}
-use Rattle.combine_repeat_iterate.specs.Items as items
 use Rattle.combine_repeat_turns.specs.CountLaws.{repeated_means_one}
 use Rattle.combine_repeat_turns.specs.Counts.{count_min_max}
 use Rattle.combine_repeat_turns.specs.Turns.{Collecting}
@@ -21,14 +19,6 @@ any_at o (t ∷ ts) a b n m k c p q = p.0.0 ∙ sym q.0.0
 -- what any token is changed into, where none is both changed and refused
 pub any_decides : {P T B : Type 0} (step : P → T → P) (gives : P → T → B → Type 0) (denies : T → Type 0) → ((at : P) (a : T) (b : B) → gives at a b → denies a → ⊥) → DecidesOne step (one_token (satisfied (of_function (λ t. true)))) gives denies
 any_decides step gives denies apart = record { one = λ v a b n m k c p q z g d. apart _ a z g (subst denies (sym (any_at v.is_open v.unread a b n m k c p q)) d) }
-
--- the one parser that is made
-pub one_made : {P T N B : Type 0} {makes : Makes P T N} {means : N → Reading P T B} (made : N) → ((v : _) (n : N) → makes v n → n ≡ made) → IsSingle (means made) → MakesOne makes means
-one_made {means = means} made same h = record { one = λ v n m p q o u w z. h.one v o u (subst (λ s. means s v o) (same v n p) w) (subst (λ s. means s v u) (same v m q) z) }
-
--- the one parser that is answered for an item
-pub one_asked : {P T I N B : Type 0} {answers : I → N → Type 0} {means : N → Reading P T B} (made : I → N) → ((x : I) (n : N) → answers x n → n ≡ made x) → ((x : I) → IsSingle (means (made x))) → items.AnswersOne answers means
-one_asked {means = means} made same h = record { one = λ x n m p q v o u w z. (h x).one v o u (subst (λ s. means s v o) (same x n p) w) (subst (λ s. means s v u) (same x m q) z) }
 
 -- the one parser that is answered for a number
 pub one_for_number : {P T N A B : Type 0} (width : ℕ) (value : List T → A) {means : N → Reading P T B} (made : A → N) → ((a : A) → IsSingle (means (made a))) → second.AnswersOne (whole_number width value) (λ a n. n ≡ made a) means

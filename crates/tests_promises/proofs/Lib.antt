@@ -1,3 +1,2 @@
 pub mod Deciding
 pub mod Exactly
-pub mod Running

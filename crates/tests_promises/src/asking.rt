@@ -5,7 +5,9 @@ ghost use Rattle.tests_promises.specs.Asking.{AsksExactly};
 use combine::error::{ParseError, ParseResult};
 use combine::parser::Parser;
 use combine::parser::byte::{bytes, bytes_cmp};
-use combine::parser::choice::{Dispatch3, Slice, choice, optional, or};
+use combine::parser::choice::{
+    Dispatch3, Dispatch4, Dispatch5, Dispatch6, Dispatch7, Dispatch8, Slice, choice, optional, or,
+};
 use combine::parser::combinator::Either;
 use combine::parser::sequence::then;
 use combine::parser::token::types::{Any, Token};
@@ -33,6 +35,8 @@ where
     let _or = call_afresh(or(token(b'a'), any()), input);
     let _optional = call_afresh(optional(token(b'a')), input);
     let _tuple = call_afresh(choice((token(b'a'), token(b'b'), any())), input);
+    let mut tuple = (token(b'a'), token(b'b'));
+    let _lent = call_afresh(choice(&mut tuple), input);
     let _array = call_afresh(choice([token(b'a'), token(b'b')]), input);
     let mut alternatives = [token(b'a'), token(b'b')];
     let _slice = call_afresh(choice(Slice(&mut alternatives)), input);
@@ -47,6 +51,23 @@ where
     let _either = call_afresh(right, input);
     let second: Dispatch3<Any<Input>, Token<Input, u8>, Any<Input>> = Dispatch3::B(token(b'a'));
     let _dispatch = call_afresh(second, input);
+}
+
+/// One of more: the last of each.
+fn more_variants<Input: Stream, P: Parser<Input> + Copy + Drop>(part: P, input: &mut Input)
+    requires lawful { P.lawful part }
+    requires determined { P.determined part }
+{
+    let fourth: Dispatch4<P, P, P, P> = Dispatch4::D(part);
+    let _fourth = call_afresh(fourth, input);
+    let fifth: Dispatch5<P, P, P, P, P> = Dispatch5::E(part);
+    let _fifth = call_afresh(fifth, input);
+    let sixth: Dispatch6<P, P, P, P, P, P> = Dispatch6::F(part);
+    let _sixth = call_afresh(sixth, input);
+    let seventh: Dispatch7<P, P, P, P, P, P, P> = Dispatch7::G(part);
+    let _seventh = call_afresh(seventh, input);
+    let eighth: Dispatch8<P, P, P, P, P, P, P, P> = Dispatch8::H(part);
+    let _eighth = call_afresh(eighth, input);
 }
 
 /// A parser that a function answers.
@@ -87,6 +108,7 @@ fn asked(rt: HostRuntime) {
     let alloc = rt.alloc();
     choices(&mut fed::Stream::<u8>::new(alloc));
     variants(&mut fed::Stream::<u8>::new(alloc));
+    more_variants(any(), &mut fed::Stream::<u8>::new(alloc));
     answered(&mut fed::Stream::<u8>::new(alloc));
     lists(&mut fed::Stream::<u8>::new(alloc));
     any_lists(&mut fed::Stream::<u8>::new(alloc));

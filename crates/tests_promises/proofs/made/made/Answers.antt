@@ -2,7 +2,8 @@ use Rattle.std.proofs.Common.{nat_eq, of_calls, refl, sym}
 use Rattle.combine_repeat_iterate.specs.Iterated.{gives_one}
 use Rattle.combine_token.specs.OneToken.{of_function, of_function_is_predicate, one_token_is_single, satisfied, satisfied_is_test}
 use Rattle.combine_token.specs.TokenParsers.{token_parser}
-use Rattle.tests_promises.proofs.Deciding.{one_asked, one_made}
+use Rattle.combine_combinator_lazy.proofs.OneMade.{one_made}
+use Rattle.combine_repeat_iterate.proofs.OneAsked.{one_asked}
 use Rattle.tests_promises.proofs.made.made.Goals as goal
 
 pub keeps_without_memory-requires-2-clause-determined : goal.keeps_without_memory-requires-2-clause-determined

@@ -1,4 +1,5 @@
-//! The grammar of a head.
+//! HTTP/1: the grammar of the head of a request, which is a line with its method, target and version, a line for each header, and an empty line. Its parts stand in the input, so nothing is copied.
+#![tactic(auto)]
 
 use combine::error::ParseError;
 use combine::parser::Parser;
@@ -12,14 +13,14 @@ use combine::struct_parser;
 use std::alloc::Global;
 
 /// A header, as its line has it; no blanks stand around its value.
-#[derive(Clone, Copy)]
+#[derive(Clone, Copy, Debug, PartialEq)]
 pub struct Header<R> {
     pub name: R,
     pub value: R,
 }
 
 /// The head of a request, in parts of the input.
-#[derive(Drop)]
+#[derive(Debug, Drop, PartialEq)]
 pub struct Head<R> {
     pub method: R,
     pub target: R,
@@ -27,7 +28,7 @@ pub struct Head<R> {
     pub headers: Vec<Header<R>>,
 }
 
-/// Whether a byte may stand in a method, or in the name of a header.
+/// Returns whether a byte may stand in a method, or in the name of a header.
 fn is_token_byte(byte: u8) -> bool {
     match byte {
         b'!' | b'#' | b'$' | b'%' | b'&' | b'\'' | b'*' | b'+' => true,
@@ -36,20 +37,32 @@ fn is_token_byte(byte: u8) -> bool {
     }
 }
 
-/// Whether a byte is neither a space nor a control.
+/// Returns whether a byte is neither a space nor a control: a target is made of these, and so are the words of a value.
 fn is_visible(byte: u8) -> bool {
     byte > b' ' && byte != 0x7f
 }
 
+/// Returns whether a byte is a space or a tab.
 fn is_blank(byte: u8) -> bool {
     byte == b' ' || byte == b'\t'
 }
 
-/// Reads the head that is next in a stream of bytes that hands out ranges. Where there is none the stream stands at the place of the mistake.
-pub fn read_head<Input: Stream<Token = u8> + RangeStream>(
+/// What the parser of a head is handed to.
+pub trait Runs<Input: Stream> {
+    type Answer;
+
+    /// Runs the parser, and returns what comes of it.
+    fn run<P: Parser<Input, Output = Head<Input::Range>> + Drop>(self, head: P) -> Self::Answer
+        requires { P.lawful head };
+}
+
+/// Hands on the parser of a head.
+///
+/// It is over any stream of bytes that hands out ranges: values that hold parts of a slice can't be collected in a function that names the slice.
+pub fn read_head<Input: Stream<Token = u8> + RangeStream, D: Runs<Input>>(
     alloc: Global,
-    input: &mut Input,
-) -> Result<Head<Input::Range>, Input::Error>
+    driver: D,
+) -> D::Answer
 where
     Input::Range: Range + ShowsBytes,
     Input::Error: ParseError<u8, Input::Range, Input::Position>,
@@ -61,7 +74,7 @@ where
         value: recognize(skip_many(word)),
         _: (take_while(is_blank), crlf()),
     });
-    let mut head = struct_parser!(Head {
+    driver.run(struct_parser!(Head {
         method: take_while1(is_token_byte),
         _: token(b' '),
         target: take_while1(is_visible),
@@ -70,9 +83,5 @@ where
         _: crlf(),
         headers: many::<Vec<Header<Input::Range>>, _>(alloc, header),
         _: crlf(),
-    });
-    match head.parse_stream(input).into_result() {
-        Ok((head, _commit)) => Ok(head),
-        Err(error) => Err(error.into_inner().error),
-    }
+    }))
 }

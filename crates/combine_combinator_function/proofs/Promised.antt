@@ -1,8 +1,7 @@
 -- a function that runs a parser from its start has one outcome where that parser has one, and asks for no memory where it asks for none
-use Rattle.std.proofs.Common.{ℕ, ◌≡◌, ◌⊎◌, inl, inr, Bool, true, false, length, arith, ap, refl, sym, subst, ◌∙◌, length-drop}
+use Rattle.std.proofs.Common.{ℕ, ◌≡◌, ◌⊎◌, inl, inr, Bool, true, false, length, arith, ap, sym, subst, ◌∙◌, length-drop}
 use denote.Ref.{MutBor}
 use Rattle.combine_base.specs.Error.Errors.{Errors}
-use Rattle.combine_base.specs.Error.Results.{from_standard, standard}
 use Rattle.combine_base.specs.Parser.Answer.{Run, World, answers, ends, fails, peeks, world}
 use Rattle.combine_base.specs.Parser.Drivers.{Starts, afresh}
 use Rattle.combine_base.specs.Parser.Meaning.{IsReading, IsSingle, Meaning}
@@ -100,10 +99,3 @@ module _ {I P T R V E S : Type 0} (step : P → T → P) (errors : Errors T R P 
 
       pub env_needs_no_memory : errors.frugal → m.lean → NeedsNoMemory step errors.kind view (AnswersWith clone post into)
       env_needs_no_memory = run_needs_no_memory (AnswersWith clone post into) env_runs
-
--- an answer as a standard one, and back
-pub standard_back : {V E : Type 0} (y : ParseResult V E) → from_standard (standard y) ≡ y
-standard_back (CommitOk v) = refl
-standard_back (PeekOk v) = refl
-standard_back (CommitErr e) = refl
-standard_back (PeekErr t) = refl

@@ -1,0 +1,19 @@
+//! The integers of a grammar.
+ghost use Rattle.std.specs.Prelude.{◌≡◌, IfErr};
+ghost use Rattle.combine_base.specs.declared.stream.Kind.TheVariants as kinds;
+
+use combine::error::{Info, StreamError};
+
+/// Returns the integer that digits say, perhaps behind a `-`: what `and_then` asks of a function.
+///
+/// # Errors
+///
+/// What is no `i64` is refused, with the message that it is too large.
+pub fn parse_integer<R, E: StreamError<char, R>>(digits: String) -> Result<i64, E>
+    ensures { IfErr result (λ said. E.kind said ≡ kinds.Refused) }
+{
+    match digits.as_str().parse::<i64>() {
+        Ok(number) => Ok(number),
+        Err(_error) => Err(E::message(Info::Static("number too large"))),
+    }
+}
