@@ -2,6 +2,7 @@
 
 use crate::node::{Document, Node};
 use crate::places::{Place, Step};
+use crate::texts::NoText;
 use combine_nested::nested::{Frame, Next};
 use std::alloc::{AllocError, Global};
 
@@ -17,9 +18,7 @@ pub struct Item {
 #[derive(Drop)]
 pub enum Lexeme {
     Number(Vec<u8>),
-    Text(String),
-    /// What stands in quotes and is no text, and why.
-    NoText(&'static str),
+    Text(Result<String, NoText>),
     /// `null`, `true` or `false`.
     Word(Option<bool>),
     /// Letters that say nothing.
@@ -99,8 +98,9 @@ impl Frame for Open {
         let Item { lexeme, sign } = item;
         let part = match lexeme {
             Lexeme::Number(number) => Node::Number(number),
-            Lexeme::Text(text) if self.place.takes_name() => Node::Name(text),
-            Lexeme::Text(text) => Node::Text(text),
+            Lexeme::Text(Ok(text)) if self.place.takes_name() => Node::Name(text),
+            Lexeme::Text(Ok(text)) => Node::Text(text),
+            Lexeme::Text(Err(why)) => return Ok(Next::Refuse(why.message())),
             Lexeme::Word(None) => Node::Null,
             Lexeme::Word(Some(value)) => Node::Bool(value),
             Lexeme::Sign(b'[') => Node::ArrayBegins,
@@ -114,7 +114,6 @@ impl Frame for Open {
                     .map(|place: Place| Step::To(place));
                 return Ok(self.stepping(step, None));
             }
-            Lexeme::NoText(why) => return Ok(Next::Refuse(why)),
             Lexeme::NoWord => return Ok(Next::Refuse(self.place.expected())),
         };
         let step = self.place.step(&part);

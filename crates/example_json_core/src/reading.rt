@@ -142,7 +142,7 @@ where
     )
 }
 
-/// Says what a number is.
+/// Says what a number and a word are.
 fn with_text<
     Input: Stream<Token = u8>,
     Q: Parser<Input, Output = Text> + Copy + Drop,
@@ -167,11 +167,12 @@ where
         recognize::<Bytes, _>(alloc, number),
         |number: Bytes| Lexeme::Number(number.0),
     );
-    let text = map(text, |text: Text| match text.finished() {
-        Ok(text) => Lexeme::Text(text),
-        Err(why) => Lexeme::NoText(why),
-    });
-    with_values(alloc, depth, or(text, number), driver)
+    let text = map(text, |text: Text| Lexeme::Text(text.finished()));
+    let word = map(
+        many1::<Word, _>(alloc, satisfy(is_letter)),
+        |word: Word| Lexeme::of_word(word.letters()),
+    );
+    with_values(alloc, depth, or(or(text, number), word), driver)
 }
 
 /// Says what a document is: one value with blanks round it, and nothing else.
@@ -184,25 +185,20 @@ where
     Input::Error: ParseError<u8, Input::Range, Input::Position>,
     requires { V.lawful value }
 {
-    let blanks = many::<Sink, _>(alloc, satisfy(is_blank));
-    let word = map(
-        many1::<Word, _>(alloc, satisfy(is_letter)),
-        |word: Word| Lexeme::of_word(word.letters()),
+    let blanks = many::<Sink, _>(alloc, satisfy(|byte: u8| is_blank(byte)));
+    let sign = map(
+        (satisfy(|byte: u8| is_sign(byte)), blanks),
+        |(sign, _blanks): (u8, Sink)| Item {
+            lexeme: Lexeme::Sign(sign),
+            sign: None,
+        },
     );
-    let value = or(value, word);
     let step = move |open: &Open| {
         let place = open.place();
-        let sign = map(
-            (satisfy(is_sign), blanks),
-            |(sign, _blanks): (u8, Sink)| Item {
-                lexeme: Lexeme::Sign(sign),
-                sign: None,
-            },
-        );
         let behind = optional(satisfy(move |sign: u8| place.is_followed_by(sign)));
         let value = map(
-            (value, blanks, behind, blanks),
-            |(lexeme, _, sign, _): (Lexeme, Sink, Option<u8>, Sink)| Item { lexeme, sign },
+            (value, between(blanks, blanks, behind)),
+            |(lexeme, sign): (Lexeme, Option<u8>)| Item { lexeme, sign },
         );
         or(sign, value)
     };

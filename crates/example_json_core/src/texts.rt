@@ -117,6 +117,25 @@ enum Half {
     Alone,
 }
 
+/// Why what stands in quotes is no text.
+#[derive(Clone, Copy, Drop)]
+pub enum NoText {
+    /// It has half of a pair of surrogates alone.
+    Half,
+    /// Its bytes are no UTF-8.
+    Utf8,
+}
+
+impl NoText {
+    /// Returns what is said of it.
+    pub fn message(self) -> &'static str {
+        match self {
+            NoText::Half => "half of a pair of surrogates",
+            NoText::Utf8 => "text is not UTF-8",
+        }
+    }
+}
+
 /// A text so far.
 #[derive(Drop)]
 pub struct Text {
@@ -126,10 +145,10 @@ pub struct Text {
 
 impl Text {
     /// Returns the whole text, or why it is none.
-    pub fn finished(self) -> Result<String, &'static str> {
+    pub fn finished(self) -> Result<String, NoText> {
         match self.half {
-            Half::None => String::from_utf8(self.bytes).map_err(|_error| "text is not UTF-8"),
-            _ => Err("half of a pair of surrogates"),
+            Half::None => String::from_utf8(self.bytes).map_err(|_error| NoText::Utf8),
+            _ => Err(NoText::Half),
         }
     }
 
