@@ -2,7 +2,7 @@
 
 use crate::node::{Document, Node};
 use crate::places::{Place, Step};
-use crate::texts::NoText;
+use crate::texts::Text;
 use combine_nested::nested::{Frame, Next};
 use std::alloc::{AllocError, Global};
 
@@ -18,7 +18,7 @@ pub struct Item {
 #[derive(Drop)]
 pub enum Lexeme {
     Number(Vec<u8>),
-    Text(Result<String, NoText>),
+    Text(Text),
     /// `null`, `true` or `false`.
     Word(Option<bool>),
     /// Letters that say nothing.
@@ -98,9 +98,11 @@ impl Frame for Open {
         let Item { lexeme, sign } = item;
         let part = match lexeme {
             Lexeme::Number(number) => Node::Number(number),
-            Lexeme::Text(Ok(text)) if self.place.takes_name() => Node::Name(text),
-            Lexeme::Text(Ok(text)) => Node::Text(text),
-            Lexeme::Text(Err(why)) => return Ok(Next::Refuse(why.message())),
+            Lexeme::Text(text) => match text.finished() {
+                Ok(text) if self.place.takes_name() => Node::Name(text),
+                Ok(text) => Node::Text(text),
+                Err(why) => return Ok(Next::Refuse(why)),
+            },
             Lexeme::Word(None) => Node::Null,
             Lexeme::Word(Some(value)) => Node::Bool(value),
             Lexeme::Sign(b'[') => Node::ArrayBegins,

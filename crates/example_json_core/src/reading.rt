@@ -2,7 +2,7 @@
 
 use crate::grammar::{Item, Lexeme, Open};
 use crate::node::Document;
-use crate::texts::{Bytes, Piece, Text, Word};
+use crate::texts::{Piece, Text, Word};
 use combine_base::error::{ParseError, UnexpectedParse};
 use combine_base::parser::{Answer, Parser, SessionError, parse_pieces};
 use combine_base::repeat::Sink;
@@ -104,9 +104,13 @@ fn escaped(byte: u8) -> Option<u32> {
     }
 }
 
-/// The number that a hexadecimal digit says.
-fn hexadecimal(byte: u8) -> Option<u32> {
-    char::from(byte).to_digit(16)
+/// The number that four hexadecimal digits say.
+fn unit((a, b, c, d): (u8, u8, u8, u8)) -> u32 {
+    let mut unit = 0;
+    for digit in [a, b, c, d] {
+        unit = (unit << 4) | char::from(digit).to_digit(16).unwrap_or(0);
+    }
+    unit
 }
 
 /// Says what a text is, and hands the parser of a document to `driver`.
@@ -120,11 +124,8 @@ fn read_document<Input: Stream<Token = u8>, D: Runs<Input>>(
 where
     Input::Error: ParseError<u8, Input::Range, Input::Position>,
 {
-    let digit = satisfy_map(hexadecimal);
-    let unit = map(
-        (digit, digit, digit, digit),
-        |(a, b, c, d): (u32, u32, u32, u32)| (a << 12) | (b << 8) | (c << 4) | d,
-    );
+    let digit = satisfy(|byte: u8| byte.is_ascii_hexdigit());
+    let unit = map((digit, digit, digit, digit), unit);
     let escape = with(
         token(b'\\'),
         or(satisfy_map(escaped), with(token(b'u'), unit)),
@@ -164,10 +165,10 @@ where
         )),
     );
     let number = map(
-        recognize::<Bytes, _>(alloc, number),
-        |number: Bytes| Lexeme::Number(number.0),
+        recognize::<Vec<u8>, _>(alloc, number),
+        |number: Vec<u8>| Lexeme::Number(number),
     );
-    let text = map(text, |text: Text| Lexeme::Text(text.finished()));
+    let text = map(text, |text: Text| Lexeme::Text(text));
     let word = map(
         many1::<Word, _>(alloc, satisfy(is_letter)),
         |word: Word| Lexeme::of_word(word.letters()),
