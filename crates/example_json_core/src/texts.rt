@@ -153,10 +153,12 @@ impl Append<Piece> for Text {
 
     #[inline(always)]
     fn append(&mut self, piece: Piece) -> Result<(), AllocError> {
-        let byte = match (self.half, piece) {
-            (Half::None, Piece::Byte(byte)) => byte,
-            (_, Piece::Byte(byte)) => return self.add(Piece::Byte(byte)),
-            (_, Piece::Unit(unit)) => return self.add(Piece::Unit(unit)),
+        let byte = match piece {
+            Piece::Byte(byte) => byte,
+            Piece::Unit(unit) => return self.add(Piece::Unit(unit)),
+        };
+        let Half::None = self.half else {
+            return self.add(Piece::Byte(byte));
         };
         if self.bytes.capacity() <= self.bytes.len() {
             return self.add(Piece::Byte(byte));
