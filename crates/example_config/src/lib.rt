@@ -92,22 +92,23 @@ trait Runs<Input: Stream> {
         requires { P.lawful file };
 }
 
-/// A text, whose errors say the line and the column, what stood there and what was expected.
-struct Text<'a> {
+/// A stream that is parsed with errors that say what stood there and what was expected.
+struct Easily<S> {
     alloc: Global,
-    text: &'a str,
+    input: S,
 }
 
-impl<'a> Runs<easy::TextStream<'a>> for Text<'a> {
-    type Answer = Result<Vec<Line>, ConfigError<'a>>;
+impl<S: Stream> Runs<easy::Stream<S>> for Easily<S>
+where
+    S::Token: PartialEq,
+    S::Range: PartialEq,
+{
+    type Answer = Result<Vec<Line>, Errors<S::Token, S::Range, S::Position>>;
 
-    fn run<P: Parser<easy::TextStream<'a>, Output = Vec<Line>> + Drop>(
-        self,
-        file: P,
-    ) -> Self::Answer {
-        let Text { alloc, text } = self;
+    fn run<P: Parser<easy::Stream<S>, Output = Vec<Line>> + Drop>(self, file: P) -> Self::Answer {
+        let Easily { alloc, input } = self;
         let mut file = file;
-        match file.easy_parse(alloc, position::Stream::new(text)) {
+        match file.easy_parse(alloc, input) {
             Ok((lines, _end)) => Ok(lines),
             Err(error) => Err(error),
         }
@@ -116,7 +117,8 @@ impl<'a> Runs<easy::TextStream<'a>> for Text<'a> {
 
 /// Returns the lines of a configuration file, or why and where it is refused.
 pub fn read_config<'a>(alloc: Global, text: &'a str) -> Result<Vec<Line>, ConfigError<'a>> {
-    with_values(alloc, Text { alloc, text })
+    let input = position::Stream::new(text);
+    with_values(alloc, Easily { alloc, input })
 }
 
 /// Says what a value is, and hands on its parser.
