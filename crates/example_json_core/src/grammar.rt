@@ -1,42 +1,20 @@
 //! What is open, and what comes of what is read there.
 
 use crate::node::{Document, Node};
-use crate::places::{Place, Step};
+use crate::places::{Mark, Place, Step};
 use crate::texts::Text;
 use combine_nested::nested::{Frame, Next};
 use std::alloc::{AllocError, Global};
 
 /// What one step reads.
 #[derive(Drop)]
-pub struct Item {
-    pub lexeme: Lexeme,
-    /// The comma or the colon that stands behind it, where it was read with it.
-    pub sign: Option<u8>,
-}
-
-/// What stands between blanks.
-#[derive(Drop)]
 pub enum Lexeme {
     Number(Vec<u8>),
     Text(Text),
-    /// `null`, `true` or `false`.
-    Word(Option<bool>),
-    /// Letters that say nothing.
-    NoWord,
+    /// Letters.
+    Word(Vec<u8>),
     /// A comma, a colon or a bracket.
     Sign(u8),
-}
-
-impl Lexeme {
-    /// Returns what such a word is.
-    pub fn of_word(word: Option<&[u8]>) -> Lexeme {
-        match word {
-            Some(b"null") => Lexeme::Word(None),
-            Some(b"true") => Lexeme::Word(Some(true)),
-            Some(b"false") => Lexeme::Word(Some(false)),
-            _ => Lexeme::NoWord,
-        }
-    }
 }
 
 /// An array or an object that is open, or the whole. The innermost has the parts of the document so far.
@@ -50,6 +28,28 @@ pub struct Open {
 /// What comes of what is open.
 type Then = Next<Open, Document>;
 
+/// What a word is, and the part that it says.
+fn named(word: &[u8]) -> (Mark, Option<Node>) {
+    match word {
+        b"null" => (Mark::Value, Some(Node::Null)),
+        b"true" => (Mark::Value, Some(Node::Bool(true))),
+        b"false" => (Mark::Value, Some(Node::Bool(false))),
+        _ => (Mark::Other, None),
+    }
+}
+
+/// What a sign is, and the part that it says.
+fn signed(sign: u8) -> (Mark, Option<Node>) {
+    match sign {
+        b'[' => (Mark::ArrayBegins, Some(Node::ArrayBegins)),
+        b']' => (Mark::ArrayEnds, Some(Node::ArrayEnds)),
+        b'{' => (Mark::ObjectBegins, Some(Node::ObjectBegins)),
+        b'}' => (Mark::ObjectEnds, Some(Node::ObjectEnds)),
+        b',' => (Mark::Comma, None),
+        _ => (Mark::Colon, None),
+    }
+}
+
 impl Open {
     /// Returns the whole, of which nothing was read.
     pub fn new(alloc: Global) -> Open {
@@ -60,21 +60,11 @@ impl Open {
         }
     }
 
-    /// Returns what may come next.
+    /// What comes of such a step.
     #[inline(always)]
-    pub fn place(&self) -> Place {
-        self.place
-    }
-
-    /// What comes of such a step, with that sign behind it.
-    #[inline(always)]
-    fn stepping(self, step: Option<Step>, sign: Option<u8>) -> Then {
+    fn stepping(self, step: Option<Step>) -> Then {
         match step {
-            Some(Step::To(place)) => {
-                let behind = sign.and_then(|sign: u8| place.behind_sign(sign));
-                let place = behind.unwrap_or(place);
-                Next::Stay(Open { place, ..self })
-            }
+            Some(Step::To(place)) => Next::Stay(Open { place, ..self }),
             Some(Step::Into(place)) => {
                 let around = Open {
                     place: self.place,
@@ -89,39 +79,28 @@ impl Open {
 }
 
 impl Frame for Open {
-    type Item = Item;
+    type Item = Lexeme;
 
     type Value = Document;
 
     #[inline(always)]
-    fn take(self, item: Item) -> Result<Then, AllocError> {
-        let Item { lexeme, sign } = item;
-        let part = match lexeme {
-            Lexeme::Number(number) => Node::Number(number),
+    fn take(self, item: Lexeme) -> Result<Then, AllocError> {
+        let (mark, node) = match item {
+            Lexeme::Number(number) => (Mark::Value, Some(Node::Number(number))),
             Lexeme::Text(text) => match text.finished() {
-                Ok(text) if self.place.takes_name() => Node::Name(text),
-                Ok(text) => Node::Text(text),
+                Ok(text) if self.place.takes_name() => (Mark::Text, Some(Node::Name(text))),
+                Ok(text) => (Mark::Text, Some(Node::Text(text))),
                 Err(why) => return Ok(Next::Refuse(why)),
             },
-            Lexeme::Word(None) => Node::Null,
-            Lexeme::Word(Some(value)) => Node::Bool(value),
-            Lexeme::Sign(b'[') => Node::ArrayBegins,
-            Lexeme::Sign(b']') => Node::ArrayEnds,
-            Lexeme::Sign(b'{') => Node::ObjectBegins,
-            Lexeme::Sign(b'}') => Node::ObjectEnds,
-            Lexeme::Sign(sign) => {
-                let step = self
-                    .place
-                    .behind_sign(sign)
-                    .map(|place: Place| Step::To(place));
-                return Ok(self.stepping(step, None));
-            }
-            Lexeme::NoWord => return Ok(Next::Refuse(self.place.expected())),
+            Lexeme::Word(word) => named(word.as_slice()),
+            Lexeme::Sign(sign) => signed(sign),
         };
-        let step = self.place.step(&part);
         let mut open = self;
-        open.nodes.push(part)?;
-        Ok(open.stepping(step, sign))
+        if let Some(node) = node {
+            open.nodes.push(node)?;
+        }
+        let step = open.place.step(mark);
+        Ok(open.stepping(step))
     }
 
     #[inline(always)]
@@ -131,6 +110,6 @@ impl Frame for Open {
             nodes: value,
             ..self
         };
-        Ok(open.stepping(step, None))
+        Ok(open.stepping(step))
     }
 }
