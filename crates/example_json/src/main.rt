@@ -12,6 +12,7 @@ mod tests;
 
 use combine_base::error::Info;
 use combine_base::parser::Answer;
+use combine_base::stream::Kind;
 use combine_error::easy::Error;
 use example_json_core::{Document, JsonError, read_easily, read_pieces, write_document};
 use std::ascii::escape_default;
@@ -118,6 +119,9 @@ fn print_document(rt: &HostRuntime, document: &Document) -> io::Result<()> {
 
 /// Prints why the input is refused, each reason behind the line and the column.
 fn print_error(rt: &HostRuntime, input: &[u8], error: &JsonError<'_>) -> io::Result<()> {
+    if error.kind == Kind::Memory {
+        return Err(io::Error::from(io::ErrorKind::OutOfMemory));
+    }
     let (line, column) = place_of(input, error.position);
     for reason in &error.errors {
         match reason {
