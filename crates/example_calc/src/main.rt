@@ -3,7 +3,8 @@
 //! Proved: no input makes it crash, and it ends when its input does. Each step of arithmetic is exact, as the contract of [`Operator`] says: it answers the sum, the difference, the product or the quotient of two integers, and refuses exactly a division by zero and a result that is no `i64`.
 #![tactic(auto)]
 
-ghost use Rattle.std.specs.Prelude.{◌≡◌, ℤ, pos, MatchResult};
+ghost use Rattle.std.specs.Prelude.{◌≡◌, ℤ, pos, IfErr, MatchResult};
+ghost use Rattle.combine_base.specs.declared.stream.Kind.TheVariants as kinds;
 ghost use Rattle.example_calc.specs.Exact.{IsExact, IsFault, IsRefused};
 
 use combine::easy::TextStream;
@@ -113,9 +114,17 @@ where
 {
     let blank = satisfy(|character: char| matches!(character, ' ' | '\t'));
     let blanks = many::<Sink, _>(alloc, blank);
-    let digits = many1::<String, _>(alloc, digit());
-    let number = and_then(digits, parse_integer::<Input::Range, E>);
-    let operand = map(number, |number: i64| Item::Operand(number));
+    let operand = and_then(
+        many1::<String, _>(alloc, digit()),
+        |digits: String| -> Result<Item<Operator, i64>, E>
+            ensures { IfErr result (λ said. E.kind said ≡ kinds.Refused) }
+        {
+            match parse_integer(digits) {
+                Ok(number) => Ok(Item::Operand(number)),
+                Err(error) => Err(error),
+            }
+        },
+    );
     let awaited = or(operand, map(one_of(['-', '(']), prefix));
     let inside = map(one_of(['+', '-', '*', '/', ')']), suffix);
     let end = map(eof(), |_end: ()| Item::Close);
