@@ -4,7 +4,7 @@ use Rattle.std.proofs.Common.{arith, refl, subst}
 use Rattle.combine_base.specs.Stream.View.{View}
 use Rattle.combine_base.specs.Error.Errors.{Errors}
 use Rattle.combine_base.specs.Error.Results.{as_result}
-use Rattle.combine_base.specs.Parser.Meaning.{Meaning}
+use Rattle.combine_base.specs.Parser.Meaning.{Meaning, Reasons}
 use Rattle.combine_base.specs.Parser.Answer.{World, Run, Answers, fails, peeks}
 use Rattle.combine_base.specs.Parser.Drivers.{Results, Starts, StartResults}
 use Rattle.combine_base.specs.declared.stream.Kind.{Kind}
@@ -34,7 +34,7 @@ abbrev pub NoStreamFaultIn : {V E : Type 0} → (E → Kind) → Result V E → 
 NoStreamFaultIn kind (Ok v) = Unit {0}
 NoStreamFaultIn kind (Err e) = IsStreamFault (kind e) → ⊥
 
-module _ {P T R V S E : Type 0} (w : World P T S E) (m : Meaning P T R V S) where
+module _ {P T R V S E : Type 0} (w : World P T S E) (m : Meaning P T R E V S) where
   module _ (r : Run P T S) (steady : r.after ≡ r.before) where
     failing : (k : Kind) → fails w m r k → IsStreamFault k → ⊥
     failing kinds.Refused p f = f
@@ -70,13 +70,13 @@ module _ {P T R V S E : Type 0} (w : World P T S E) (m : Meaning P T R V S) wher
   starts_without_fault old new before after e answer h = no_stream_fault (record { first = true; state = h.state; left = h.left; old = old; new = new; before = before; after = after }) e answer h.answers
 
   -- nor a driver from a state, nor one that begins afresh
-  pub results_without_fault : (s : Errors T R P E) (refuses : Bool → E → Type 0) (r : Run P T S) → r.after ≡ r.before → (result : Result V E) → Results w m s refuses r result → NoStreamFaultIn w.kind result
-  results_without_fault s refuses r e result h = subst (NoStreamFaultIn w.kind) h.is (as_results h.answer (no_stream_fault r e h.answer h.answers))
+  pub results_without_fault : (s : Errors T R P E) (reasons : Reasons P T E) (r : Run P T S) → r.after ≡ r.before → (result : Result V E) → Results w m s reasons r result → NoStreamFaultIn w.kind result
+  results_without_fault s reasons r e result h = subst (NoStreamFaultIn w.kind) h.is (as_results h.answer (no_stream_fault r e h.answer h.answers))
 
-  pub start_results_without_fault : (s : Errors T R P E) (refuses : Bool → E → Type 0) (old new : View P T) (before after : Failures) → after ≡ before → (result : Result V E) → StartResults w m s refuses old new before after result → NoStreamFaultIn w.kind result
-  start_results_without_fault s refuses old new before after e result h = results_without_fault s refuses (record { first = true; state = h.state; left = h.left; old = old; new = new; before = before; after = after }) e result h.results
+  pub start_results_without_fault : (s : Errors T R P E) (old new : View P T) (before after : Failures) → after ≡ before → (result : Result V E) → StartResults w m s old new before after result → NoStreamFaultIn w.kind result
+  start_results_without_fault s old new before after e result h = results_without_fault s m.refuses (record { first = true; state = h.state; left = h.left; old = old; new = new; before = before; after = after }) e result h.results
 
   -- nor `parse`
-  pub parse_without_fault : {I X : Type 0} (s : Errors T R P E) (refuses : Bool → E → Type 0) (view : I → View P T) (old : View P T) (counts : Failures) (accepts : X → Type 0) (result : Result X E) → MatchResult result accepts (λ e. (left : I) × StartResults w m s refuses old (view left) counts counts (Err e)) → NoStreamFaultIn w.kind result
-  parse_without_fault s refuses view old counts accepts (Ok p) h = tt
-  parse_without_fault s refuses view old counts accepts (Err e) h = start_results_without_fault s refuses old (view h.0) counts counts refl (Err e) h.1
+  pub parse_without_fault : {I X : Type 0} (s : Errors T R P E) (view : I → View P T) (old : View P T) (counts : Failures) (accepts : X → Type 0) (result : Result X E) → MatchResult result accepts (λ e. (left : I) × StartResults w m s old (view left) counts counts (Err e)) → NoStreamFaultIn w.kind result
+  parse_without_fault s view old counts accepts (Ok p) h = tt
+  parse_without_fault s view old counts accepts (Err e) h = start_results_without_fault s old (view h.0) counts counts refl (Err e) h.1

@@ -44,13 +44,13 @@ joined_answer c f (CommitErr e) = CommitErr e
 joined_answer c f (PeekErr t) = refused_as c t
 
 -- the last part and the states of the sequence
-module _ {P T R B C S L U Z E : Type 0} (w : World P T U E) (errors : Errors T R P E) (valid : U → Type 0) (fresh : Z → Type 0) (place : Z → SequencePlace S L) (m : Meaning P T R B U) (c : Bool) (f : B → C) (kept : U → L) (left : Z) (old new : View P T) (before after : Failures) (result : ParseResult C E) where
+module _ {P T R B C S L U Z E : Type 0} (w : World P T U E) (errors : Errors T R P E) (valid : U → Type 0) (fresh : Z → Type 0) (place : Z → SequencePlace S L) (m : Meaning P T R E B U) (c : Bool) (f : B → C) (kept : U → L) (left : Z) (old new : View P T) (before after : Failures) (result : ParseResult C E) where
   -- The last part was run from a state, with c and f for what was before it: the sequence answers what it answered, joined. A peeked refusal was explained.
   pub record Runs (state : U) : Type 0 where
     pub stopped : U
     pub answer : ParseResult B E
     pub answers : Answers w m (run_from state stopped old new before after) answer
-    pub explained : Explained errors m (λ committed e. Unit {0}) old new answer
+    pub explained : Explained errors m (m.refuses_from state) old new answer
     pub is : result ≡ joined_answer c f answer
     -- need of more keeps the state in which it stopped; every other answer leaves one that begins the sequence
     pub leaves : (NeedsMore w.kind new.is_open answer × (place left ≡ Last (kept stopped)) × valid stopped) ⊎ ((NeedsMore w.kind new.is_open answer → ⊥) × fresh left)
@@ -61,7 +61,7 @@ module _ {P T R B C S L U Z E : Type 0} (w : World P T U E) (errors : Errors T R
     pub afresh : w.fresh state
     pub runs : Runs state
 
-module _ {P T R A B C S U Z E : Type 0} (w : World P T U E) (errors : Errors T R P E) (valid : U → Type 0) (fresh : Z → Type 0) (place : Z → SequencePlace S (SequenceState A U)) (f : A → B → C) (m : Meaning P T R B U) (kept : S) (left : Z) (old new : View P T) (before after : Failures) (result : ParseResult C E) where
+module _ {P T R A B C S U Z E : Type 0} (w : World P T U E) (errors : Errors T R P E) (valid : U → Type 0) (fresh : Z → Type 0) (place : Z → SequencePlace S (SequenceState A U)) (f : A → B → C) (m : Meaning P T R E B U) (kept : S) (left : Z) (old new : View P T) (before after : Failures) (result : ParseResult C E) where
   -- the last part was not run
   pub record Stops (same : ParseResult C E) (leaves : Type 0) : Type 0 where
     pub answer : result ≡ same

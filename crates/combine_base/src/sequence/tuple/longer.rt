@@ -20,6 +20,7 @@ trait Front<Input: Stream> {
     ghost use Rattle.std.specs.Prelude.{◌≡◌, true};
     ghost use Rattle.combine_base.specs.Parser.Meaning.{Meaning, IsMeaning, MeansSame};
     ghost use Rattle.combine_base.specs.Parser.Answer.{Answers, world};
+    ghost use Rattle.combine_base.specs.Parser.Reasons.{Reasoned};
     ghost use Rattle.combine_base.specs.Sequence.Parts.{run_from};
     ghost use Rattle.combine_base.specs.Stream.Calls.{Passes};
 
@@ -34,7 +35,7 @@ trait Front<Input: Stream> {
     /// The states that begin the parts.
     ghost fresh: { Self.State → Type 0 };
 
-    ghost meaning: { Self → Meaning Input.Position Input.Token Input.Range Self.Output Self.State };
+    ghost meaning: { Self → Meaning Input.Position Input.Token Input.Range Input.Error Self.Output Self.State };
 
     /// The same parts are lent.
     ghost same: { Self → Self → Type 0 };
@@ -60,7 +61,8 @@ trait Front<Input: Stream> {
         ensures valid { valid state.new }
         ensures same { MeansSame (meaning self.old) (meaning self.new) }
         ensures passes { Passes (Input.marks input.old) (Input.marks input.new) (Input.failures input.old) (Input.failures input.new) }
-        ensures answers { Answers (world Input.step Input.Error.seen Input.steady fresh) (meaning self.old) (run_from from state.new (Input.view input.old) (Input.view input.new) (Input.failures input.old) (Input.failures input.new)) result };
+        ensures answers { Answers (world Input.step Input.Error.seen Input.steady fresh) (meaning self.old) (run_from from state.new (Input.view input.old) (Input.view input.new) (Input.failures input.old) (Input.failures input.new)) result }
+        ensures refuses { Reasoned Input.Error.seen.kind (Input.view input.new).is_open ((meaning self.old).refuses_from from (Input.view input.old) (Input.view input.new)) result };
 
     ghost fresh_valid: { (s : Self.State) → fresh s → valid s };
 
@@ -82,7 +84,7 @@ impl<Input: Stream, A: Parser<Input>, B: Parser<Input>, C: Parser<Input>, D: Par
 
     ghost fresh = { begins_4 (first_fresh A.PartialState.is_default) };
 
-    ghost meaning = { λ p. tuple_4 Input.step (A.meaning p.0.now) (B.meaning p.1.now) (C.meaning p.2.now) (D.meaning p.3.now) };
+    ghost meaning = { λ p. tuple_4 Input.step Input.Error.seen (A.meaning p.0.now) (B.meaning p.1.now) (C.meaning p.2.now) (D.meaning p.3.now) };
 
     ghost same = { λ p q. (p.0.ghost_name ≡ q.0.ghost_name) × (p.1.ghost_name ≡ q.1.ghost_name) × (p.2.ghost_name ≡ q.2.ghost_name) × (p.3.ghost_name ≡ q.3.ghost_name) };
 
@@ -106,7 +108,7 @@ impl<Input: Stream, A: Parser<Input>, B: Parser<Input>, C: Parser<Input>, D: Par
 
     ghost fresh_valid = { begins_valid_4 B.valid C.valid D.valid A.default_valid };
 
-    ghost laws = { λ p l. tuple_4_is_meaning Input.step (A.laws p.0.now l.0) (B.laws p.1.now l.1) (C.laws p.2.now l.2) (D.laws p.3.now l.3) };
+    ghost laws = { λ p l. tuple_4_is_meaning Input.step Input.Error.seen (A.laws p.0.now l.0) (B.laws p.1.now l.1) (C.laws p.2.now l.2) (D.laws p.3.now l.3) };
 }
 
 /// Runs parts that were lent, and one more, from what is kept of them. Need of more is kept in `state`, which begins them, and which every other answer leaves as it was.
@@ -171,7 +173,7 @@ fn parse_two_after<
     requires fresh { begins S.place (begins N.place Q.fresh) state.old }
     ensures lent { Q.same before.old before.new }
     ensures lawful { Q.lawful before.new × E.lawful e.new × F.lawful f.new }
-    ensures follows { Follows S.place V.pushed Input.StreamOnce Input.Error.seen (begins N.place Q.fresh) (valid_in N.place Q.valid E.valid) F.Parser (followed Input.step N.place T.pushed (Q.meaning before.old) (E.meaning e.old)) (followed Input.step N.place T.pushed (Q.meaning before.new) (E.meaning e.new)) f.old f.new input.old input.new from state.new result }
+    ensures follows { Follows S.place V.pushed Input.StreamOnce Input.Error.seen (begins N.place Q.fresh) (valid_in N.place Q.valid E.valid) F.Parser (followed Input.step Input.Error.seen N.place T.pushed (Q.meaning before.old) (E.meaning e.old)) (followed Input.step Input.Error.seen N.place T.pushed (Q.meaning before.new) (E.meaning e.new)) f.old f.new input.old input.new from state.new result }
 {
     match from.into_place() {
         SequencePlace::Before(at) => {
@@ -214,7 +216,7 @@ fn parse_three_after<
     requires fresh { begins S.place (begins N.place (begins L.place Q.fresh)) state.old }
     ensures lent { Q.same before.old before.new }
     ensures lawful { Q.lawful before.new × E.lawful e.new × F.lawful f.new × G.lawful g.new }
-    ensures follows { Follows S.place W.pushed Input.StreamOnce Input.Error.seen (begins N.place (begins L.place Q.fresh)) (valid_in N.place (valid_in L.place Q.valid E.valid) F.valid) G.Parser (followed Input.step N.place V.pushed (followed Input.step L.place T.pushed (Q.meaning before.old) (E.meaning e.old)) (F.meaning f.old)) (followed Input.step N.place V.pushed (followed Input.step L.place T.pushed (Q.meaning before.new) (E.meaning e.new)) (F.meaning f.new)) g.old g.new input.old input.new from state.new result }
+    ensures follows { Follows S.place W.pushed Input.StreamOnce Input.Error.seen (begins N.place (begins L.place Q.fresh)) (valid_in N.place (valid_in L.place Q.valid E.valid) F.valid) G.Parser (followed Input.step Input.Error.seen N.place V.pushed (followed Input.step Input.Error.seen L.place T.pushed (Q.meaning before.old) (E.meaning e.old)) (F.meaning f.old)) (followed Input.step Input.Error.seen N.place V.pushed (followed Input.step Input.Error.seen L.place T.pushed (Q.meaning before.new) (E.meaning e.new)) (F.meaning f.new)) g.old g.new input.old input.new from state.new result }
 {
     match from.into_place() {
         SequencePlace::Before(at) => {
@@ -263,7 +265,7 @@ fn parse_four_after<
     requires fresh { begins S.place (begins N.place (begins L.place (begins K.place Q.fresh))) state.old }
     ensures lent { Q.same before.old before.new }
     ensures lawful { Q.lawful before.new × E.lawful e.new × F.lawful f.new × G.lawful g.new × H.lawful h.new }
-    ensures follows { Follows S.place Y.pushed Input.StreamOnce Input.Error.seen (begins N.place (begins L.place (begins K.place Q.fresh))) (valid_in N.place (valid_in L.place (valid_in K.place Q.valid E.valid) F.valid) G.valid) H.Parser (followed Input.step N.place W.pushed (followed Input.step L.place V.pushed (followed Input.step K.place T.pushed (Q.meaning before.old) (E.meaning e.old)) (F.meaning f.old)) (G.meaning g.old)) (followed Input.step N.place W.pushed (followed Input.step L.place V.pushed (followed Input.step K.place T.pushed (Q.meaning before.new) (E.meaning e.new)) (F.meaning f.new)) (G.meaning g.new)) h.old h.new input.old input.new from state.new result }
+    ensures follows { Follows S.place Y.pushed Input.StreamOnce Input.Error.seen (begins N.place (begins L.place (begins K.place Q.fresh))) (valid_in N.place (valid_in L.place (valid_in K.place Q.valid E.valid) F.valid) G.valid) H.Parser (followed Input.step Input.Error.seen N.place W.pushed (followed Input.step Input.Error.seen L.place V.pushed (followed Input.step Input.Error.seen K.place T.pushed (Q.meaning before.old) (E.meaning e.old)) (F.meaning f.old)) (G.meaning g.old)) (followed Input.step Input.Error.seen N.place W.pushed (followed Input.step Input.Error.seen L.place V.pushed (followed Input.step Input.Error.seen K.place T.pushed (Q.meaning before.new) (E.meaning e.new)) (F.meaning f.new)) (G.meaning g.new)) h.old h.new input.old input.new from state.new result }
 {
     match from.into_place() {
         SequencePlace::Before(at) => {
@@ -330,7 +332,7 @@ impl<
 
     ghost valid = { valid_5 A.valid B.valid C.valid D.valid E.valid };
 
-    ghost meaning = { λ p. tuple_5 Input.step (A.meaning p.0) (B.meaning p.1) (C.meaning p.2) (D.meaning p.3) (E.meaning p.4) };
+    ghost meaning = { λ p. tuple_5 Input.step Input.Error.seen (A.meaning p.0) (B.meaning p.1) (C.meaning p.2) (D.meaning p.3) (E.meaning p.4) };
 
     ghost parts = { λ p. min (A.parts p.0 + B.parts p.1 + C.parts p.2 + D.parts p.3 + E.parts p.4) 255 };
 
@@ -367,9 +369,9 @@ impl<
 
     ghost default_valid = { begins_valid_5 B.valid C.valid D.valid E.valid A.default_valid };
 
-    ghost laws = { λ p l. tuple_5_is_meaning Input.step (A.laws p.0 l.0) (B.laws p.1 l.1) (C.laws p.2 l.2) (D.laws p.3 l.3) (E.laws p.4 l.4) };
+    ghost laws = { λ p l. tuple_5_is_meaning Input.step Input.Error.seen (A.laws p.0 l.0) (B.laws p.1 l.1) (C.laws p.2 l.2) (D.laws p.3 l.3) (E.laws p.4 l.4) };
 
-    ghost single = { λ p l d. tuple_5_means_one Input.step (A.single p.0 l.0 d.0) (B.single p.1 l.1 d.1) (C.single p.2 l.2 d.2) (D.single p.3 l.3 d.3) (E.single p.4 l.4 d.4) };
+    ghost single = { λ p l d. tuple_5_means_one Input.step Input.Error.seen (A.single p.0 l.0 d.0) (B.single p.1 l.1 d.1) (C.single p.2 l.2 d.2) (D.single p.3 l.3 d.3) (E.single p.4 l.4 d.4) };
 }
 
 type State6<Input, A, B, C, D, E, F> = PartialState6<
@@ -444,7 +446,7 @@ impl<
 
     ghost valid = { valid_6 A.valid B.valid C.valid D.valid E.valid F.valid };
 
-    ghost meaning = { λ p. tuple_6 Input.step (A.meaning p.0) (B.meaning p.1) (C.meaning p.2) (D.meaning p.3) (E.meaning p.4) (F.meaning p.5) };
+    ghost meaning = { λ p. tuple_6 Input.step Input.Error.seen (A.meaning p.0) (B.meaning p.1) (C.meaning p.2) (D.meaning p.3) (E.meaning p.4) (F.meaning p.5) };
 
     ghost parts = { λ p. min (A.parts p.0 + B.parts p.1 + C.parts p.2 + D.parts p.3 + E.parts p.4 + F.parts p.5) 255 };
 
@@ -492,9 +494,9 @@ impl<
 
     ghost default_valid = { begins_valid_6 B.valid C.valid D.valid E.valid F.valid A.default_valid };
 
-    ghost laws = { λ p l. tuple_6_is_meaning Input.step (A.laws p.0 l.0) (B.laws p.1 l.1) (C.laws p.2 l.2) (D.laws p.3 l.3) (E.laws p.4 l.4) (F.laws p.5 l.5) };
+    ghost laws = { λ p l. tuple_6_is_meaning Input.step Input.Error.seen (A.laws p.0 l.0) (B.laws p.1 l.1) (C.laws p.2 l.2) (D.laws p.3 l.3) (E.laws p.4 l.4) (F.laws p.5 l.5) };
 
-    ghost single = { λ p l d. tuple_6_means_one Input.step (A.single p.0 l.0 d.0) (B.single p.1 l.1 d.1) (C.single p.2 l.2 d.2) (D.single p.3 l.3 d.3) (E.single p.4 l.4 d.4) (F.single p.5 l.5 d.5) };
+    ghost single = { λ p l d. tuple_6_means_one Input.step Input.Error.seen (A.single p.0 l.0 d.0) (B.single p.1 l.1 d.1) (C.single p.2 l.2 d.2) (D.single p.3 l.3 d.3) (E.single p.4 l.4 d.4) (F.single p.5 l.5 d.5) };
 }
 
 type State7<Input, A, B, C, D, E, F, G> = PartialState7<
@@ -583,7 +585,7 @@ impl<
 
     ghost valid = { valid_7 A.valid B.valid C.valid D.valid E.valid F.valid G.valid };
 
-    ghost meaning = { λ p. tuple_7 Input.step (A.meaning p.0) (B.meaning p.1) (C.meaning p.2) (D.meaning p.3) (E.meaning p.4) (F.meaning p.5) (G.meaning p.6) };
+    ghost meaning = { λ p. tuple_7 Input.step Input.Error.seen (A.meaning p.0) (B.meaning p.1) (C.meaning p.2) (D.meaning p.3) (E.meaning p.4) (F.meaning p.5) (G.meaning p.6) };
 
     ghost parts = { λ p. min (A.parts p.0 + B.parts p.1 + C.parts p.2 + D.parts p.3 + E.parts p.4 + F.parts p.5 + G.parts p.6) 255 };
 
@@ -635,9 +637,9 @@ impl<
 
     ghost default_valid = { begins_valid_7 B.valid C.valid D.valid E.valid F.valid G.valid A.default_valid };
 
-    ghost laws = { λ p l. tuple_7_is_meaning Input.step (A.laws p.0 l.0) (B.laws p.1 l.1) (C.laws p.2 l.2) (D.laws p.3 l.3) (E.laws p.4 l.4) (F.laws p.5 l.5) (G.laws p.6 l.6) };
+    ghost laws = { λ p l. tuple_7_is_meaning Input.step Input.Error.seen (A.laws p.0 l.0) (B.laws p.1 l.1) (C.laws p.2 l.2) (D.laws p.3 l.3) (E.laws p.4 l.4) (F.laws p.5 l.5) (G.laws p.6 l.6) };
 
-    ghost single = { λ p l d. tuple_7_means_one Input.step (A.single p.0 l.0 d.0) (B.single p.1 l.1 d.1) (C.single p.2 l.2 d.2) (D.single p.3 l.3 d.3) (E.single p.4 l.4 d.4) (F.single p.5 l.5 d.5) (G.single p.6 l.6 d.6) };
+    ghost single = { λ p l d. tuple_7_means_one Input.step Input.Error.seen (A.single p.0 l.0 d.0) (B.single p.1 l.1 d.1) (C.single p.2 l.2 d.2) (D.single p.3 l.3 d.3) (E.single p.4 l.4 d.4) (F.single p.5 l.5 d.5) (G.single p.6 l.6 d.6) };
 }
 
 type State8<Input, A, B, C, D, E, F, G, H> = PartialState8<
@@ -741,7 +743,7 @@ impl<
 
     ghost valid = { valid_8 A.valid B.valid C.valid D.valid E.valid F.valid G.valid H.valid };
 
-    ghost meaning = { λ p. tuple_8 Input.step (A.meaning p.0) (B.meaning p.1) (C.meaning p.2) (D.meaning p.3) (E.meaning p.4) (F.meaning p.5) (G.meaning p.6) (H.meaning p.7) };
+    ghost meaning = { λ p. tuple_8 Input.step Input.Error.seen (A.meaning p.0) (B.meaning p.1) (C.meaning p.2) (D.meaning p.3) (E.meaning p.4) (F.meaning p.5) (G.meaning p.6) (H.meaning p.7) };
 
     ghost parts = { λ p. min (A.parts p.0 + B.parts p.1 + C.parts p.2 + D.parts p.3 + E.parts p.4 + F.parts p.5 + G.parts p.6 + H.parts p.7) 255 };
 
@@ -797,7 +799,7 @@ impl<
 
     ghost default_valid = { begins_valid_8 B.valid C.valid D.valid E.valid F.valid G.valid H.valid A.default_valid };
 
-    ghost laws = { λ p l. tuple_8_is_meaning Input.step (A.laws p.0 l.0) (B.laws p.1 l.1) (C.laws p.2 l.2) (D.laws p.3 l.3) (E.laws p.4 l.4) (F.laws p.5 l.5) (G.laws p.6 l.6) (H.laws p.7 l.7) };
+    ghost laws = { λ p l. tuple_8_is_meaning Input.step Input.Error.seen (A.laws p.0 l.0) (B.laws p.1 l.1) (C.laws p.2 l.2) (D.laws p.3 l.3) (E.laws p.4 l.4) (F.laws p.5 l.5) (G.laws p.6 l.6) (H.laws p.7 l.7) };
 
-    ghost single = { λ p l d. tuple_8_means_one Input.step (A.single p.0 l.0 d.0) (B.single p.1 l.1 d.1) (C.single p.2 l.2 d.2) (D.single p.3 l.3 d.3) (E.single p.4 l.4 d.4) (F.single p.5 l.5 d.5) (G.single p.6 l.6 d.6) (H.single p.7 l.7 d.7) };
+    ghost single = { λ p l d. tuple_8_means_one Input.step Input.Error.seen (A.single p.0 l.0 d.0) (B.single p.1 l.1 d.1) (C.single p.2 l.2 d.2) (D.single p.3 l.3 d.3) (E.single p.4 l.4 d.4) (F.single p.5 l.5 d.5) (G.single p.6 l.6 d.6) (H.single p.7 l.7 d.7) };
 }
