@@ -2,6 +2,7 @@
 use Rattle.std.proofs.Common.{◌≡◌, List, Bool, false, refl}
 use Rattle.combine_base.specs.Stream.View.{View}
 use Rattle.combine_base.specs.Error.Items.{Item}
+use Rattle.combine_base.specs.Parser.Meaning.{never}
 use Rattle.combine_base.specs.Parser.Outcome.{Accepted}
 use Rattle.combine_base.specs.Parser.Answer.{Run, World, Answers}
 use Rattle.combine_base.proofs.Progress.{takes_none}
@@ -16,7 +17,7 @@ module _ {P T R B S E : Type 0} (w : World P T S E) (f : P → B → Type 0) (le
   unread = record { first = first; state = state; left = left; old = v; new = v; before = so_far; after = so_far }
 
   pub value_given : (b : B) → f v.position b → Answers w (gives f lean adds) unread (PeekOk b)
-  value_given b p = record { is = record { count = 0; meant = into_begun (given f) (Unit {0}) lean adds first state v (Accepted b 0 false) (p, refl, refl); taken = takes_none w.step v; state = d; failures = λ s. refl } }
+  value_given b p = record { is = record { count = 0; meant = into_begun (given f) (Unit {0}) lean adds never first state v (Accepted b 0 false) (p, refl, refl); taken = takes_none w.step v; state = d; failures = λ s. refl } }
 
   -- making the value found no memory
   pub value_unmade : (e : E) → w.kind e ≡ kinds.Memory → (lean → ⊥) → Answers w (gives f lean adds) unread (CommitErr e)

@@ -3,7 +3,7 @@ use Rattle.std.proofs.Common.{ℕ, zero, suc, ◌<◌, ◌≡◌, List, [], ◌�
 use Rattle.combine_base.specs.Stream.View.{View}
 use Rattle.combine_base.specs.Error.Items.{Item}
 use Rattle.combine_base.specs.Parser.Outcome.{Outcome}
-use Rattle.combine_base.specs.Parser.Meaning.{Alike, MeansSame}
+use Rattle.combine_base.specs.Parser.Meaning.{Alike, MeansSame, Reasons, unsaid}
 use Rattle.combine_base.specs.Parser.Answer.{Answers, Run, World}
 use Rattle.combine_base.proofs.Same.{answers_alike}
 use Rattle.combine_base.specs.declared.error.ParseResult.{ParseResult}
@@ -69,9 +69,9 @@ module _ {P T V : Type 0} (l l' : TokenList T) (h : Within l l') (k : Within l' 
   both_ways : (n : ℕ) (v : View P T) (o : Outcome V) → matching l {P = P} gives n v o ↔ matching l' gives' n v o
   both_ways n v o = (matching_within l l' h gives gives' (λ x. (g x).0) n v.is_open v.unread o, matching_within l' l k gives' gives (λ x. (g x).1) n v.is_open v.unread o)
 
-  module _ {R S : Type 0} (matched : S → ℕ) (lean lean' : Type 0) (f : lean ↔ lean') (adds adds' : List (Item T R) → Type 0) where
-    -- whatever they add to errors
-    pub token_list_alike : Alike (token_list l {P = P} gives matched lean adds) (token_list l' gives' matched lean' adds')
+  module _ {R E S : Type 0} (matched : S → ℕ) (lean lean' : Type 0) (f : lean ↔ lean') (adds adds' : List (Item T R) → Type 0) (reasons reasons' : ℕ → Reasons P T E) where
+    -- whatever they say of errors
+    pub token_list_alike : Alike (token_list l {P = P} gives matched lean adds reasons) (token_list l' gives' matched lean' adds' reasons')
     token_list_alike = record {
       whole = both_ways 0;
       rest = λ s. both_ways (matched s);
@@ -81,12 +81,12 @@ module _ {P T V : Type 0} (l l' : TokenList T) (h : Within l l') (k : Within l' 
       lean = f;
     }
 
-    pub token_list_means_same : ((is : List (Item T R)) → adds is ↔ adds' is) → MeansSame (token_list l {P = P} gives matched lean adds) (token_list l' gives' matched lean' adds')
-    token_list_means_same j =
+    pub token_list_means_same : ((is : List (Item T R)) → adds is ↔ adds' is) → ((n : ℕ) (v w : View P T) (c : Bool) (e : E) → reasons n v w c e ↔ reasons' n v w c e) → MeansSame (token_list l {P = P} gives matched lean adds reasons) (token_list l' gives' matched lean' adds' reasons')
+    token_list_means_same j i =
         let a = token_list_alike in
-        record { whole = a.whole; rest = a.rest; lost = a.lost; keeps = a.keeps; puts_back = a.puts_back; lean = a.lean; adds = j }
+        record { whole = a.whole; rest = a.rest; lost = a.lost; keeps = a.keeps; puts_back = a.puts_back; lean = a.lean; adds = j; refuses = i 0; refuses_from = λ s. i (matched s) }
 
 -- the same list, whose value is a clone of it: such a parser asks for memory where a clone does
-module _ {P T R V S E : Type 0} (w : World P T S E) (l : TokenList T) (gives : V → Type 0) (matched : S → ℕ) (lean : Type 0) (adds : List (Item T R) → Type 0) (r : Run P T S) where
-  pub answers_cloned : (result : ParseResult V E) → Answers w (token_list l gives matched (lean × lean) adds) r result → Answers w (token_list l gives matched lean adds) r result
-  answers_cloned = answers_alike w (token_list l gives matched lean adds) (token_list l gives matched (lean × lean) adds) (token_list_alike l l (within_same l) (within_same l) gives gives (λ v. (λ p. p, λ p. p)) matched lean (lean × lean) (λ p. (p, p), λ p. p.0) adds adds) r
+module _ {P T R V S E : Type 0} (w : World P T S E) (l : TokenList T) (gives : V → Type 0) (matched : S → ℕ) (lean : Type 0) (adds : List (Item T R) → Type 0) (reasons : ℕ → Reasons P T E) (r : Run P T S) where
+  pub answers_cloned : (result : ParseResult V E) → Answers w (token_list l gives matched (lean × lean) adds (λ n. unsaid)) r result → Answers w (token_list l gives matched lean adds reasons) r result
+  answers_cloned = answers_alike w (token_list l gives matched lean adds reasons) (token_list l gives matched (lean × lean) adds (λ n. unsaid)) (token_list_alike l l (within_same l) (within_same l) gives gives (λ v. (λ p. p, λ p. p)) matched lean (lean × lean) (λ p. (p, p), λ p. p.0) adds adds reasons (λ n. unsaid)) r

@@ -5,7 +5,7 @@ use Rattle.combine_base.specs.Stream.View.{View}
 use Rattle.combine_base.specs.Error.Items.{Item}
 use Rattle.combine_base.specs.Error.Errors.{Nothing}
 use Rattle.combine_base.specs.Parser.Outcome.{Outcome, Accepted, Refused, Undecided, IsDecided, shape}
-use Rattle.combine_base.specs.Parser.Meaning.{Meaning, Reading, IsReading, IsSingle, IsMeaning, MeansOne}
+use Rattle.combine_base.specs.Parser.Meaning.{Meaning, Reading, Reasons, unsaid, IsReading, IsSingle, IsMeaning, MeansOne}
 use Rattle.combine_base.specs.Parser.Answer.{World, Answers}
 use Rattle.combine_base.specs.declared.stream.Failures.{Failures}
 use Rattle.combine_base.specs.declared.error.ParseResult.{ParseResult}
@@ -129,16 +129,16 @@ module _ {P T B : Type 0} where
   pub one_token_is_single : (f : Option T → Option B → Type 0) → IsTest f → IsSingle (one_token f)
   one_token_is_single f h = record { one = λ v o o'. one_shape f h v.is_open v.unread o o' }
 
-module _ {P T R B S : Type 0} (f : Option T → Option B → Type 0) (lean : Type 0) (adds : List (Item T R) → Type 0) where
+module _ {P T R E B S : Type 0} (f : Option T → Option B → Type 0) (lean : Type 0) (adds : List (Item T R) → Type 0) (refuses : Reasons P T E) where
   -- more is asked for only where nothing is unread
-  abbrev pub takes_one : Meaning P T R B S
-  takes_one = stateless (one_token f) (Unit {0}) lean adds
+  abbrev pub takes_one : Meaning P T R E B S
+  takes_one = stateless (one_token f) (Unit {0}) lean adds refuses
 
   pub takes_one_is_meaning : (fresh valid : S → Type 0) → IsMeaning fresh valid takes_one
-  takes_one_is_meaning fresh valid = stateless_is_meaning fresh valid (one_token f) (Unit {0}) lean adds (one_token_is_reading f)
+  takes_one_is_meaning fresh valid = stateless_is_meaning fresh valid (one_token f) (Unit {0}) lean adds refuses (one_token_is_reading f)
 
   pub takes_one_means_one : (valid : S → Type 0) → IsTest f → MeansOne valid takes_one
-  takes_one_means_one valid h = stateless_means_one valid (one_token f) (Unit {0}) lean adds (one_token_is_single f h)
+  takes_one_means_one valid h = stateless_means_one valid (one_token f) (Unit {0}) lean adds refuses (one_token_is_single f h)
 
 -- a peeked refusal leaves the stream as it was
 abbrev pub PutBack : {P T B E : Type 0} → View P T → View P T → ParseResult B E → Type 0
@@ -149,7 +149,7 @@ PutBack old new (PeekErr t) = new ≡ old
 
 -- what a call answers that reads one token under a test: what a parser does that takes no memory, in first mode or not, and from any state
 pub record ReadsToken {P T B S E : Type 0} (w : World P T S E) (f : Option T → Option B → Type 0) (old new : View P T) (before after : Failures) (result : ParseResult B E) : Type 0 where
-  pub answers : (first : Bool) (state left : S) → w.fresh left → Answers w (takes_one {R = Unit {0}} f (Unit {0}) Nothing) (record { first = first; state = state; left = left; old = old; new = new; before = before; after = after }) result
+  pub answers : (first : Bool) (state left : S) → w.fresh left → Answers w (takes_one {R = Unit {0}} f (Unit {0}) Nothing unsaid) (record { first = first; state = state; left = left; old = old; new = new; before = before; after = after }) result
 
 -- the same under a predicate
 pub record ReadsTokenIf {P T S E : Type 0} (w : World P T S E) (p : T → Bool → Type 0) (old new : View P T) (before after : Failures) (result : ParseResult T E) : Type 0 where

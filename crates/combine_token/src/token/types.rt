@@ -90,9 +90,7 @@ impl<Input: Stream> Parser<Input> for Any<Input> {
 
     ghost valid = { λ s. Unit {0} };
 
-    ghost meaning = { λ p. takes_one (satisfied (of_function (λ t. true))) (Unit {0}) Nothing };
-
-    ghost refuses = { λ p k. RefusesToken Input.Error.seen };
+    ghost meaning = { λ p. takes_one (satisfied (of_function (λ t. true))) (Unit {0}) Nothing (RefusesToken Input.Error.seen) };
 
     ghost parts = { λ p. 1 };
 
@@ -121,9 +119,9 @@ impl<Input: Stream> Parser<Input> for Any<Input> {
 
     ghost default_valid = { λ s d. tt };
 
-    ghost laws = { λ p l. takes_one_is_meaning (satisfied (of_function (λ t. true))) _ _ _ _ };
+    ghost laws = { λ p l. takes_one_is_meaning (satisfied (of_function (λ t. true))) _ _ _ _ _ };
 
-    ghost single = { λ p l d. takes_one_means_one (satisfied (of_function (λ t. true))) _ _ _ (satisfied_is_test _ (of_function_is_predicate (λ t. true))) };
+    ghost single = { λ p l d. takes_one_means_one (satisfied (of_function (λ t. true))) _ _ _ _ (satisfied_is_test _ (of_function_is_predicate (λ t. true))) };
 }
 
 impl<Input: StreamOnce, F> Outputs<Input> for Satisfy<Input, F> {
@@ -139,9 +137,7 @@ impl<Input: Stream, F: Fn(Input::Token) -> bool> Parser<Input> for Satisfy<Input
 
     ghost valid = { λ s. Unit {0} };
 
-    ghost meaning = { λ p. takes_one (satisfied (F.post p.predicate)) (Unit {0}) Nothing };
-
-    ghost refuses = { λ p k. RefusesToken Input.Error.seen };
+    ghost meaning = { λ p. takes_one (satisfied (F.post p.predicate)) (Unit {0}) Nothing (RefusesToken Input.Error.seen) };
 
     ghost parts = { λ p. 1 };
 
@@ -165,9 +161,9 @@ impl<Input: Stream, F: Fn(Input::Token) -> bool> Parser<Input> for Satisfy<Input
 
     ghost default_valid = { λ s d. tt };
 
-    ghost laws = { λ p l. takes_one_is_meaning (satisfied (F.post p.predicate)) _ _ _ _ };
+    ghost laws = { λ p l. takes_one_is_meaning (satisfied (F.post p.predicate)) _ _ _ _ _ };
 
-    ghost single = { λ p l d. takes_one_means_one (satisfied (F.post p.predicate)) _ _ _ (satisfied_is_test _ d) };
+    ghost single = { λ p l d. takes_one_means_one (satisfied (F.post p.predicate)) _ _ _ _ (satisfied_is_test _ d) };
 }
 
 impl<Input, B: Drop, F> Outputs<Input> for SatisfyMap<Input, F, B> {
@@ -184,9 +180,7 @@ impl<Input: Stream, B: Drop, F: Fn(Input::Token) -> Option<B>> Parser<Input>
 
     ghost valid = { λ s. Unit {0} };
 
-    ghost meaning = { λ p. takes_one (of_token (F.post p.predicate)) (Unit {0}) Nothing };
-
-    ghost refuses = { λ p k. RefusesToken Input.Error.seen };
+    ghost meaning = { λ p. takes_one (of_token (F.post p.predicate)) (Unit {0}) Nothing (RefusesToken Input.Error.seen) };
 
     ghost parts = { λ p. 1 };
 
@@ -210,9 +204,9 @@ impl<Input: Stream, B: Drop, F: Fn(Input::Token) -> Option<B>> Parser<Input>
 
     ghost default_valid = { λ s d. tt };
 
-    ghost laws = { λ p l. takes_one_is_meaning (of_token (F.post p.predicate)) _ _ _ _ };
+    ghost laws = { λ p l. takes_one_is_meaning (of_token (F.post p.predicate)) _ _ _ _ _ };
 
-    ghost single = { λ p l d. takes_one_means_one (of_token (F.post p.predicate)) _ _ _ (of_token_is_test _ d) };
+    ghost single = { λ p l d. takes_one_means_one (of_token (F.post p.predicate)) _ _ _ _ (of_token_is_test _ d) };
 }
 
 impl<Input, T: Drop> Outputs<Input> for Token<Input, T> {
@@ -231,9 +225,7 @@ where
 
     ghost valid = { λ s. Unit {0} };
 
-    ghost meaning = { λ p. takes_one (satisfied (of_function (λ t. Input.Token.eq t p.token))) (Unit {0}) (Only (Expected (OfToken p.token))) };
-
-    ghost refuses = { λ p k. RefusesToken Input.Error.seen };
+    ghost meaning = { λ p. takes_one (satisfied (of_function (λ t. Input.Token.eq t p.token))) (Unit {0}) (Only (Expected (OfToken p.token))) (RefusesToken Input.Error.seen) };
 
     ghost parts = { λ p. 1 };
 
@@ -265,9 +257,9 @@ where
 
     ghost default_valid = { λ s d. tt };
 
-    ghost laws = { λ p l. takes_one_is_meaning (satisfied (of_function (λ t. Input.Token.eq t p.token))) _ _ _ _ };
+    ghost laws = { λ p l. takes_one_is_meaning (satisfied (of_function (λ t. Input.Token.eq t p.token))) _ _ _ _ _ };
 
-    ghost single = { λ p l d. takes_one_means_one (satisfied (of_function (λ t. Input.Token.eq t p.token))) _ _ _ (satisfied_is_test _ (of_function_is_predicate (λ t. Input.Token.eq t p.token))) };
+    ghost single = { λ p l d. takes_one_means_one (satisfied (of_function (λ t. Input.Token.eq t p.token))) _ _ _ _ (satisfied_is_test _ (of_function_is_predicate (λ t. Input.Token.eq t p.token))) };
 }
 
 impl<Input: StreamOnce> Outputs<Input> for Position<Input> {
@@ -284,8 +276,6 @@ impl<Input: Stream> Parser<Input> for Position<Input> {
     ghost valid = { λ s. Unit {0} };
 
     ghost meaning = { λ p. gives (λ at v. v ≡ at) (Unit {0}) Nothing };
-
-    ghost refuses = { λ p k v committed e. ⊥ };
 
     ghost parts = { λ p. 1 };
 
@@ -328,8 +318,6 @@ impl<Input: Stream, T: Clone> Parser<Input> for Value<Input, T> {
     ghost valid = { λ s. Unit {0} };
 
     ghost meaning = { λ p. gives (λ at v. T.is_clone p.value v) (T.is_infallible p.value) Nothing };
-
-    ghost refuses = { λ p k v committed e. ⊥ };
 
     ghost parts = { λ p. 1 };
 
@@ -376,8 +364,6 @@ impl<Input: Stream, B: Drop, F: Fn() -> B> Parser<Input> for Produce<Input, F, B
 
     ghost meaning = { λ p. gives (λ at v. F.post p.function v) (Unit {0}) Nothing };
 
-    ghost refuses = { λ p k v committed e. ⊥ };
-
     ghost parts = { λ p. 1 };
 
     #[inline(always)]
@@ -418,9 +404,7 @@ impl<Input: Stream> Parser<Input> for Eof<Input> {
 
     ghost valid = { λ s. Unit {0} };
 
-    ghost meaning = { λ p. takes_one ends_there (Unit {0}) (Only (Expected (Fixed (codes "end of input")))) };
-
-    ghost refuses = { λ p k. RefusesToken Input.Error.seen };
+    ghost meaning = { λ p. takes_one ends_there (Unit {0}) (Only (Expected (Fixed (codes "end of input")))) (RefusesToken Input.Error.seen) };
 
     ghost parts = { λ p. 1 };
 
@@ -456,7 +440,7 @@ impl<Input: Stream> Parser<Input> for Eof<Input> {
 
     ghost default_valid = { λ s d. tt };
 
-    ghost laws = { λ p l. takes_one_is_meaning ends_there _ _ _ _ };
+    ghost laws = { λ p l. takes_one_is_meaning ends_there _ _ _ _ _ };
 
-    ghost single = { λ p l d. takes_one_means_one ends_there _ _ _ ends_there_is_test };
+    ghost single = { λ p l d. takes_one_means_one ends_there _ _ _ _ ends_there_is_test };
 }

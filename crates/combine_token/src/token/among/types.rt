@@ -45,9 +45,7 @@ where
 
     ghost valid = { λ s. Unit {0} };
 
-    ghost meaning = { λ p. takes_one (satisfied (among T.is_clone T.into_iter_gives T.IntoIter.next_gives p.tokens Input.Token.eq)) (T.is_infallible p.tokens) (expects_each T.is_clone T.into_iter_gives T.IntoIter.next_gives p.tokens) };
-
-    ghost refuses = { λ p k. RefusesToken Input.Error.seen };
+    ghost meaning = { λ p. takes_one (satisfied (among T.is_clone T.into_iter_gives T.IntoIter.next_gives p.tokens Input.Token.eq)) (T.is_infallible p.tokens) (expects_each T.is_clone T.into_iter_gives T.IntoIter.next_gives p.tokens) (RefusesToken Input.Error.seen) };
 
     ghost parts = { λ p. 1 };
 
@@ -88,9 +86,9 @@ where
 
     ghost default_valid = { λ s d. tt };
 
-    ghost laws = { λ p l. takes_one_is_meaning (satisfied (among T.is_clone T.into_iter_gives T.IntoIter.next_gives p.tokens Input.Token.eq)) _ _ _ _ };
+    ghost laws = { λ p l. takes_one_is_meaning (satisfied (among T.is_clone T.into_iter_gives T.IntoIter.next_gives p.tokens Input.Token.eq)) _ _ _ _ _ };
 
-    ghost single = { λ p l d. takes_one_means_one (satisfied (among T.is_clone T.into_iter_gives T.IntoIter.next_gives p.tokens Input.Token.eq)) _ _ _ (satisfied_is_test _ d) };
+    ghost single = { λ p l d. takes_one_means_one (satisfied (among T.is_clone T.into_iter_gives T.IntoIter.next_gives p.tokens Input.Token.eq)) _ _ _ _ (satisfied_is_test _ d) };
 }
 
 impl<Input: StreamOnce, T> Outputs<Input> for NoneOf<T, Input> {
@@ -109,9 +107,7 @@ where
 
     ghost valid = { λ s. Unit {0} };
 
-    ghost meaning = { λ p. takes_one (satisfied (beside T.is_clone T.into_iter_gives T.IntoIter.next_gives p.tokens Input.Token.eq)) (T.is_infallible p.tokens) Nothing };
-
-    ghost refuses = { λ p k. RefusesToken Input.Error.seen };
+    ghost meaning = { λ p. takes_one (satisfied (beside T.is_clone T.into_iter_gives T.IntoIter.next_gives p.tokens Input.Token.eq)) (T.is_infallible p.tokens) Nothing (RefusesToken Input.Error.seen) };
 
     ghost parts = { λ p. 1 };
 
@@ -147,7 +143,7 @@ where
 
     ghost default_valid = { λ s d. tt };
 
-    ghost laws = { λ p l. takes_one_is_meaning (satisfied (beside T.is_clone T.into_iter_gives T.IntoIter.next_gives p.tokens Input.Token.eq)) _ _ _ _ };
+    ghost laws = { λ p l. takes_one_is_meaning (satisfied (beside T.is_clone T.into_iter_gives T.IntoIter.next_gives p.tokens Input.Token.eq)) _ _ _ _ _ };
 
-    ghost single = { λ p l d. takes_one_means_one (satisfied (beside T.is_clone T.into_iter_gives T.IntoIter.next_gives p.tokens Input.Token.eq)) _ _ _ (satisfied_is_test _ (not_is_predicate _ d)) };
+    ghost single = { λ p l d. takes_one_means_one (satisfied (beside T.is_clone T.into_iter_gives T.IntoIter.next_gives p.tokens Input.Token.eq)) _ _ _ _ (satisfied_is_test _ (not_is_predicate _ d)) };
 }

@@ -46,7 +46,7 @@ pub returns-in-PeekOk-clause-refuses : goal.returns-in-PeekOk-clause-refuses
 returns-in-PeekOk-clause-refuses g c = reasons_peek_ok _ _ _ _
 
 pub returns-in-CommitErr-clause-refuses : goal.returns-in-CommitErr-clause-refuses
-returns-in-CommitErr-clause-refuses g c = reasons_hand_on _ _ _ _ _ (λ x p. p) c.in-CommitErr.ensures.refuses
+returns-in-CommitErr-clause-refuses g c = reasons_hand_on _ _ _ _ _ (λ x p. record { afresh = λ i. record { is = refl; refused = p.afresh i }; resumed = λ i. record { is = refl; refused = p.resumed i } }) c.in-CommitErr.ensures.refuses
 
 pub returns-in-Ok-clause-refuses : goal.returns-in-Ok-clause-refuses
 returns-in-Ok-clause-refuses g c = reasons_peek_ok _ _ _ _

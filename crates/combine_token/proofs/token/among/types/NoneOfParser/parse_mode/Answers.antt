@@ -1,5 +1,5 @@
 use Rattle.combine_base.specs.declared.stream.Kind.TheVariants as kinds
-use Rattle.combine_base.proofs.Reasoning.{reasons_fault}
+use Rattle.combine_base.proofs.Reasoning.{reasons_always, reasons_fault}
 use Rattle.combine_base.proofs.Same.{same_none}
 use Rattle.combine_token.specs.Among.{beside}
 use Rattle.combine_token.proofs.OneToken.{takes_if}
@@ -9,10 +9,10 @@ pub returns-clause-same : goal.returns-clause-same
 returns-clause-same g c = same_none _
 
 pub returns-clause-answers : goal.returns-clause-answers
-returns-clause-answers g c = takes_if _ _ (beside g.T.Clone.is_clone g.T.IntoIterator.into_iter_gives g.T.IntoIter.Iterator.next_gives c.args.self.now.tokens g.Input.Token.PartialEq.eq) _ _ _ tt _ c.token_if.ensures.reads (λ t b e. (c.into_iter-items.result, record { clone = c.in-Ok.list; is_clone = c.in-Ok.ensures.cases; made = c.into_iter-items.ensures.into_iter_gives }, e))
+returns-clause-answers g c = takes_if _ _ (beside g.T.Clone.is_clone g.T.IntoIterator.into_iter_gives g.T.IntoIter.Iterator.next_gives c.args.self.now.tokens g.Input.Token.PartialEq.eq) _ _ _ _ tt _ c.token_if.ensures.reads (λ t b e. (c.into_iter-items.result, record { clone = c.in-Ok.list; is_clone = c.in-Ok.ensures.cases; made = c.into_iter-items.ensures.into_iter_gives }, e))
 
 pub returns-clause-refuses : goal.returns-clause-refuses
-returns-clause-refuses g c = c.token_if.ensures.refuses
+returns-clause-refuses g c = reasons_always c.token_if.ensures.refuses
 
 pub returns-in-Err-clause-same : goal.returns-in-Err-clause-same
 returns-in-Err-clause-same g c = same_none _
