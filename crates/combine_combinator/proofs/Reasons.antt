@@ -1,12 +1,12 @@
 -- the error that a refusal of `attempt` has, and that of a mapped parser
 use Rattle.std.proofs.Common.{ℕ, ◌≡◌, Bool, true, false, if◌then◌else◌, ap, sym, subst, refl, ◌∙◌, nat_lt}
-use Rattle.std.specs.Prelude.{Option, Some, None, Result, Ok, Err}
+use Rattle.std.specs.Prelude.{Result, Ok, Err}
 use Rattle.combine_base.specs.Stream.View.{View, Takes, advanced}
 use Rattle.combine_base.specs.Parser.Outcome.{Outcome, Accepted, Refused, Undecided, after}
-use Rattle.combine_base.specs.Parser.Meaning.{Meaning, begun}
+use Rattle.combine_base.specs.Parser.Meaning.{Meaning, Reasons, begun, begun_refuses}
 use Rattle.combine_base.specs.Parser.Answer.{Run, World, Answers, ends, fails}
 use Rattle.combine_base.specs.Parser.Judged.{IsRefusal}
-use Rattle.combine_base.specs.Parser.Reasons.{Reasoned, kept_from}
+use Rattle.combine_base.specs.Parser.Reasons.{Reasoned}
 use Rattle.combine_base.proofs.Calls.{around}
 use Rattle.combine_base.proofs.Explaining.{reason_committed, reason_peeked}
 use Rattle.combine_base.proofs.Progress.{takes_open}
@@ -16,7 +16,7 @@ use Rattle.combine_base.specs.declared.stream.Kind.TheVariants as kinds
 use Rattle.combine_base.specs.declared.error.Tracked.{Tracked}
 use Rattle.combine_base.specs.declared.error.ParseResult.{ParseResult}
 use Rattle.combine_base.specs.declared.error.ParseResult.TheVariants.{CommitOk, PeekOk, CommitErr, PeekErr}
-use Rattle.combine_combinator.specs.Attempt.{IsFresh, attempt_refuses, attempted, part_refuses, refused_peeked, refusing}
+use Rattle.combine_combinator.specs.Attempt.{IsFresh, attempted, refused_peeked, refusing}
 use Rattle.combine_combinator.specs.PutBack.{KeepsDistance, PutsBack, keeps_distance}
 use Rattle.combine_combinator.specs.declared.combinator.TryState.{TryState}
 
@@ -35,7 +35,7 @@ never_committed d k (Accepted v n b) e = absurd (cc)
 never_committed d k (Refused b) e = absurd (cc)
 never_committed d k Undecided e = absurd (cc)
 
-module _ {P T R V S E : Type 0} (w : World P T S E) (m : Meaning P T R V S) where
+module _ {P T R V S E : Type 0} (w : World P T S E) (m : Meaning P T R E V S) where
   module _ (u : Run P T (TryState S)) (says : Bool → E → Type 0) where
     never_refused : (b : Bool) (v : View P T) → begun (attempted w.step m) b u.state v (Refused true) → ⊥
     never_refused true v p = never_committed 0 false p.inner p.is
@@ -84,21 +84,20 @@ refusal kinds.Read b i q = absurd (cc)
 refusal kinds.Reset b i q = absurd (cc)
 refusal kinds.Lost b i q = absurd (cc)
 
-module _ {P T S E : Type 0} (step : P → T → P) (part : Option S → View P T → Bool → E → Type 0) (d : ℕ) (first : Bool) (state : TryState S) (s : S) (old now : View P T) (distance : d ≡ (if first then 0 else state.distance)) (same : s ≡ state.part) (taken : Takes step d old now) where
+module _ {P T R V S E : Type 0} (step : P → T → P) (m : Meaning P T R E V S) (d : ℕ) (first : Bool) (state : TryState S) (s : S) (old now left new : View P T) (distance : d ≡ (if first then 0 else state.distance)) (same : s ≡ state.part) (taken : Takes step d old now) where
   -- an error of the part is one that `attempt` may have
-  from_part : (k : Bool) (e : E) → part (kept_from first s) now k e → attempt_refuses step part (kept_from first state) old false e
-  from_part k e p = (k, by_first first distance p)
+  from_part : (k : Bool) (e : E) → begun_refuses m first s now left k e → begun_refuses (attempted step m) first state old new false e
+  from_part k e x = record {
+    afresh = λ i. record { peeked = refl; own = k; left = left; refused = there (subst (λ b. d ≡ (if b then 0 else state.distance)) i distance) m.refuses (x.afresh i) };
+    resumed = λ i. record { peeked = refl; own = k; left = left; refused = there (subst (λ b. d ≡ (if b then 0 else state.distance)) i distance) (m.refuses_from state.part) (subst (λ s. m.refuses_from s now left k e) same (x.resumed i)) };
+  }
     where
-      there : (b : Bool) → d ≡ (if b then 0 else state.distance) → now ≡ advanced step (if b then 0 else state.distance) old
-      there b i = taken.rest ∙ ap (λ n. advanced step n old) i
+      there : {n : ℕ} → d ≡ n → (r : Reasons P T E) → r now left k e → r (advanced step n old) left k e
+      there i r y = subst (λ v. r v left k e) (taken.rest ∙ ap (λ n. advanced step n old) i) y
 
-      by_first : (b : Bool) → d ≡ (if b then 0 else state.distance) → part (kept_from b s) now k e → part_refuses step part (kept_from b state) old k e
-      by_first true i p = subst (λ v. part None v k e) (there true i) p
-      by_first false i p = subst (λ v. part (Some state.part) v k e) (there false i) (subst (λ s. part (Some s) now k e) same p)
+  module _ (kind : E → Kind) (is_open : Bool) where
+    pub from_peeked : (t : Tracked E) → Reasoned {V = V} kind is_open (begun_refuses m first s now left) (PeekErr t) → begun_refuses (attempted step m) first state old new false t.error
+    from_peeked t h = from_part false t.error (reason_peeked kind is_open (begun_refuses m first s now left) t h)
 
-  module _ {V : Type 0} (kind : E → Kind) (is_open : Bool) where
-    pub from_peeked : (t : Tracked E) → Reasoned {V = V} kind is_open (part (kept_from first s) now) (PeekErr t) → attempt_refuses step part (kept_from first state) old false t.error
-    from_peeked t h = from_part false t.error (reason_peeked kind is_open (part (kept_from first s) now) t h)
-
-    pub from_committed : (e : E) (t : Tracked E) → t.error ≡ e → refusing (kind e) ≡ true → ((kind e ≡ kinds.End) × (is_open ≡ true) → ⊥) → Reasoned {V = V} kind is_open (part (kept_from first s) now) (CommitErr e) → attempt_refuses step part (kept_from first state) old false t.error
-    from_committed e t j i q h = subst (attempt_refuses step part (kept_from first state) old false) (sym j) (from_part true e (reason_committed kind is_open (part (kept_from first s) now) e h (refusal (kind e) is_open i q)))
+    pub from_committed : (e : E) (t : Tracked E) → t.error ≡ e → refusing (kind e) ≡ true → ((kind e ≡ kinds.End) × (is_open ≡ true) → ⊥) → Reasoned {V = V} kind is_open (begun_refuses m first s now left) (CommitErr e) → begun_refuses (attempted step m) first state old new false t.error
+    from_committed e t j i q h = subst (begun_refuses (attempted step m) first state old new false) (sym j) (from_part true e (reason_committed kind is_open (begun_refuses m first s now left) e h (refusal (kind e) is_open i q)))

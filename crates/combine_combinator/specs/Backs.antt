@@ -32,5 +32,5 @@ abbrev pub refuses_followed : {T R P E : Type 0} → Errors T R P E → P → Bo
 refuses_followed s place true e = ⊥
 refuses_followed s place false e = New s kinds.Refused place e
 
-pub record RefusesFollowed {T R P E : Type 0} (s : Errors T R P E) (v : View P T) (committed : Bool) (e : E) : Type 0 where
+pub record RefusesFollowed {T R P E : Type 0} (s : Errors T R P E) (v w : View P T) (committed : Bool) (e : E) : Type 0 where
   pub is : refuses_followed s v.position committed e
