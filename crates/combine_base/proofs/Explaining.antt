@@ -3,7 +3,7 @@ use Rattle.std.proofs.Common.{◌≡◌, ◌<◌, ◌≤◌, ◌+◌, ◌⊎◌,
 use Rattle.combine_base.specs.Stream.View.{View, Takes, Moves}
 use Rattle.combine_base.specs.Error.Items.{Item}
 use Rattle.combine_base.specs.Error.Errors.{Errors, Says, Added, Unstored}
-use Rattle.combine_base.specs.Parser.Meaning.{Meaning, MeansSame, Reasons}
+use Rattle.combine_base.specs.Parser.Meaning.{BegunRefuses, Meaning, MeansSame, Reasons}
 use Rattle.combine_base.specs.Sequence.Behind.{at_token_into, says_into}
 use Rattle.combine_base.specs.Parser.Drivers.{AtToken, Explained, Broke, LooksAt}
 use Rattle.combine_base.specs.Stream.Calls.{TakesToken}
@@ -38,6 +38,14 @@ explained_into {result = CommitOk v} f h = record { is = tt }
 explained_into {result = PeekOk v} f h = record { is = tt }
 explained_into {new} {result = CommitErr e} f h = record { is = λ i. f new true e (h.is i) }
 explained_into {result = PeekErr t} f h = record { is = record { own = h.is.own; left = h.is.left; refused = f h.is.left false h.is.own h.is.refused; back = h.is.back; says = h.is.says } }
+
+-- of a call that begins afresh, and of one that goes on from a state
+module _ {P T R V S E : Type 0} {s : Errors T R P E} {m : Meaning P T R E V S} {start kept : Reasons P T E} {old new : View P T} {result : ParseResult V E} where
+  pub explained_afresh : Explained s m (BegunRefuses true start kept) old new result → Explained s m start old new result
+  explained_afresh h = explained_into {a = BegunRefuses true start kept} {b = start} (λ w c e x. x.afresh refl) h
+
+  pub explained_resumed : Explained s m (BegunRefuses false start kept) old new result → Explained s m kept old new result
+  explained_resumed h = explained_into {a = BegunRefuses false start kept} {b = kept} (λ w c e x. x.resumed refl) h
 
 -- the error of a refusal, by which kind of answer it is
 module _ {V E : Type 0} (kind : E → Kind) (is_open : Bool) (refuses : Bool → E → Type 0) where

@@ -5,12 +5,17 @@ use Rattle.combine_base.specs.Parser.Answer.{World, Run, Answers, Accepts, world
 use Rattle.combine_base.specs.Parser.Given.{GivesOnly}
 use Rattle.combine_base.specs.Parser.Judged.{NeedsMore}
 use Rattle.combine_base.specs.Parser.Kept.{KeptOf}
-use Rattle.combine_base.specs.Parser.Meaning.{Meaning, IsMeaning, MeansSame}
+use Rattle.combine_base.specs.Parser.Meaning.{Meaning, IsMeaning, MeansSame, begun_refuses}
+use Rattle.combine_base.specs.Parser.Reasons.{Reasoned}
+use Rattle.combine_base.specs.Sequence.Behind.{behind_by}
 use Rattle.combine_base.specs.Parser.Outcome.{Outcome, Accepted}
 use Rattle.combine_base.specs.Sequence.Meanings.{Second as After, rest_at, lost_at}
 use Rattle.combine_base.specs.Sequence.Parts.{RunsFrom, run_from}
 use Rattle.combine_base.specs.Sequence.Readings.{following, following_same}
 use Rattle.combine_base.specs.Stream.View.{View}
+use Rattle.combine_base.proofs.Explaining.{reason_peeked}
+use Rattle.combine_base.proofs.Reasoning.{reasons_hand_on, reasons_peeked}
+use Rattle.combine_base.proofs.Refusing.{refuses_at_rest, refuses_in_first, refuses_in_last, refuses_in_second, runs_reasons}
 use Rattle.combine_base.proofs.Same.{same_more, same_none}
 use Rattle.combine_base.proofs.SequenceAnswers.{Holds, accepted_before, refused_before, runs_answer, stops_before}
 use Rattle.combine_base.proofs.Starting.{at_rest, progress_here, progress_left}
@@ -47,12 +52,12 @@ module _ {Q K N Input A B S U Checkpoint T R P E X : Type 0} (q : parser.Ghosts 
     same = same_none (p.meaning n);
   }
 
-module _ {N Input V A B C S U Checkpoint T R P E X : Type 0} (p : parser.Ghosts N Input U B Checkpoint T R P E X) (i : stream.Ghosts Input T R P E X) (seen : Errors T R P E) (last_fresh : U → Type 0) (fresh valid : S → Type 0) (keep : A → V) (join : V → B → C) (answers : A → N → Type 0) (some : N → Type 0) (m : Meaning P T R A S) where
-  abbrev both : Meaning P T R C (AnsweredState S V N U)
-  both = then i.step keep join answers some m p.meaning
+module _ {N Input V A B C S U Checkpoint T R P E X : Type 0} (p : parser.Ghosts N Input U B Checkpoint T R P E X) (i : stream.Ghosts Input T R P E X) (seen : Errors T R P E) (last_fresh : U → Type 0) (fresh valid : S → Type 0) (keep : A → V) (join : V → B → C) (answers : A → N → Type 0) (some : N → Type 0) (m : Meaning P T R E A S) where
+  abbrev both : Meaning P T R E C (AnsweredState S V N U)
+  both = then i.step seen keep join answers some m p.meaning
 
-  abbrev second : After P T A B C (Answering V N U)
-  second = answered keep join answers p.meaning some
+  abbrev second : After P T E A B C (Answering V N U)
+  second = answered seen keep join answers p.meaning some
 
   abbrev kept : N → Type 0
   kept = KeptOf p.lawful p.meaning some
@@ -100,6 +105,11 @@ module _ {N Input V A B C S U Checkpoint T R P E X : Type 0} (p : parser.Ghosts 
       let q = progress_here last_world (both.rest z) here old before (λ v o x. subst (λ k. rest_at i.step step_of m second k v o) (sym e) x) in
       runs_answer i.step seen i.steady fresh step_of m second (p.meaning l.parser) last_fresh p.valid l.committed (join l.value) (kept_with l g.parser) (holds l d g.parser g.same) l.state z state old old (i.view left) before before (i.failures left) q (omega arith) (omega arith) (λ x. subst (λ k. lost_at i.step step_of m second k old) (sym e) x) y g.runs
 
+  -- and its error, which is that of the answered parser
+  pub resumes_reasons : {first : Bool} {input left : Input} {l : Answering V N U} {z state : AnsweredState S V N U} {y : ParseResult C E} → z ≡ Second l → CalledAnswered p i seen last_fresh fresh join first input left l state y → Reasoned seen.kind (i.view left).is_open (both.refuses_from z (i.view input) (i.view left)) y
+  resumes_reasons {input = input} {left = left} {l = l} {z = z} {state = state} {y = y} is g c x j =
+      refuses_in_last i.step step_of m second z (ap step_of is) (i.view input) (i.view left) c x (runs_reasons last_world seen p.valid (starts_first fresh) step_of (p.meaning l.parser) l.committed (join l.value) (kept_with l g.parser) state (i.view input) (i.view left) (i.failures input) (i.failures left) l.state y g.runs c x j)
+
   module _ (h : IsMeaning fresh valid m) where
     -- The call begins in the first parser, which was run in that mode.
     module _ {first : Bool} {z : AnsweredState S V N U} {at stopped : S} (is : z ≡ First at) (starts : first ≡ true → starts_first fresh z) {input mid : Input} where
@@ -119,6 +129,16 @@ module _ {N Input V A B C S U Checkpoint T R P E X : Type 0} (p : parser.Ghosts 
       pub then_refuses : {t : Tracked E} {state : AnsweredState S V N U} → starts_first fresh state → Answers first_world m (call_of first at stopped input mid) (PeekErr t) → Answers all_world both (run_from z state (i.view input) (i.view mid) (i.failures input) (i.failures mid)) (PeekErr t)
       then_refuses {t} {state} d a = refused_before i.step seen i.steady fresh step_of m second at stopped z state (ap step_of is) (i.view input) (i.view mid) (i.failures input) (i.failures mid) t d (at_first a)
 
+      -- the errors of the first parser
+      own : (c : Bool) (e : E) → begun_refuses m first at (i.view input) (i.view mid) c e → both.refuses_from z (i.view input) (i.view mid) c e
+      own c e x = refuses_in_first i.step step_of m second z (ap step_of is) (i.view input) (i.view mid) c e (refuses_at_rest fresh valid m h first at (λ e. subst (starts_first fresh) is (starts e)) (i.view input) (i.view mid) c e x)
+
+      pub then_stops_reasons : {x : E} → Reasoned {V = A} seen.kind (i.view mid).is_open (begun_refuses m first at (i.view input) (i.view mid)) (CommitErr x) → Reasoned {V = C} seen.kind (i.view mid).is_open (both.refuses_from z (i.view input) (i.view mid)) (CommitErr x)
+      then_stops_reasons {x = x} r = reasons_hand_on seen.kind (i.view mid).is_open (begun_refuses m first at (i.view input) (i.view mid)) (both.refuses_from z (i.view input) (i.view mid)) x (own true) r
+
+      pub then_refuses_reasons : {t : Tracked E} → Reasoned {V = A} seen.kind (i.view mid).is_open (begun_refuses m first at (i.view input) (i.view mid)) (PeekErr t) → Reasoned {V = C} seen.kind (i.view mid).is_open (both.refuses_from z (i.view input) (i.view mid)) (PeekErr t)
+      then_refuses_reasons {t = t} r = reasons_peeked seen.kind (i.view mid).is_open (both.refuses_from z (i.view input) (i.view mid)) t (own false t.error (reason_peeked seen.kind (i.view mid).is_open (begun_refuses m first at (i.view input) (i.view mid)) t r))
+
       -- it was accepted, and the answered one was run from its beginning
       module _ (d : valid at) {a : A} {n : N} (j : answers a n) (w : kept n) (k : IsMeaning last_fresh p.valid (p.meaning n)) {u : U} (b : last_fresh u) {left : Input} {state : AnsweredState S V N U} {y : ParseResult C E} (reads : (i.failures input).reads ≤ (i.failures mid).reads) (resets : (i.failures input).resets ≤ (i.failures mid).resets) where
         goes_on : (c : Bool) → Accepts first_world m (call_of false at stopped input mid) a c → CalledAnswered p i seen last_fresh fresh join true mid left (record { value = keep a; parser = n; committed = c; state = u }) state y → Answers all_world both (run_from z state (i.view input) (i.view left) (i.failures input) (i.failures left)) y
@@ -133,3 +153,16 @@ module _ {N Input V A B C S U Checkpoint T R P E X : Type 0} (p : parser.Ghosts 
 
         pub then_peeks : Answers first_world m (call_of first at stopped input mid) (PeekOk a) → CalledAnswered p i seen last_fresh fresh join true mid left (record { value = keep a; parser = n; committed = false; state = u }) state y → Answers all_world both (run_from z state (i.view input) (i.view left) (i.failures input) (i.failures left)) y
         then_peeks x g = goes_on false (at_first x).is g
+
+        behind : (c : Bool) → Accepts first_world m (call_of false at stopped input mid) a c → CalledAnswered p i seen last_fresh fresh join true mid left (record { value = keep a; parser = n; committed = c; state = u }) state y → Reasoned seen.kind (i.view left).is_open (both.refuses_from z (i.view input) (i.view left)) y
+        behind c x g t o r =
+            let l : Answering V N U = record { value = keep a; parser = n; committed = c; state = u } in
+            let own = runs_reasons last_world seen p.valid (starts_first fresh) step_of (p.meaning n) c (join (keep a)) (kept_with l g.parser) state (i.view mid) (i.view left) (i.failures mid) (i.failures left) u y g.runs t o r in
+            let afresh = behind_by seen (p.meaning n) ((p.meaning n).refuses_from u) (p.meaning n).refuses (λ v w c e. (k.reasons u v w c e b).0) c (i.view mid) (i.view left) t o own in
+            refuses_in_second i.step step_of m second z (ap step_of is) (i.view input) (i.view mid) (i.view left) a x.count c x.meant x.taken.rest t o (record { parser = n; is_answered = j; refuses = afresh })
+
+        pub then_commits_reasons : Answers first_world m (call_of first at stopped input mid) (CommitOk a) → CalledAnswered p i seen last_fresh fresh join true mid left (record { value = keep a; parser = n; committed = true; state = u }) state y → Reasoned seen.kind (i.view left).is_open (both.refuses_from z (i.view input) (i.view left)) y
+        then_commits_reasons x g = behind true (at_first x).is g
+
+        pub then_peeks_reasons : Answers first_world m (call_of first at stopped input mid) (PeekOk a) → CalledAnswered p i seen last_fresh fresh join true mid left (record { value = keep a; parser = n; committed = false; state = u }) state y → Reasoned seen.kind (i.view left).is_open (both.refuses_from z (i.view input) (i.view left)) y
+        then_peeks_reasons x g = behind false (at_first x).is g

@@ -16,6 +16,10 @@ Reasons Position Token Error = View Position Token → View Position Token → B
 abbrev pub unsaid : {Position Token Error : Type 0} → Reasons Position Token Error
 unsaid v w committed e = Unit {0}
 
+-- no error: it never refuses
+abbrev pub never : {Position Token Error : Type 0} → Reasons Position Token Error
+never v w committed e = ⊥
+
 -- What a parser means: which outcome it has on a view from the start, and from each kept state.
 pub record Meaning (Position Token Range Error Value State : Type 0) : Type 1 where
   -- from the start

@@ -1,10 +1,11 @@
 use Rattle.std.proofs.Common.{false, refl, subst, sym, true}
 use Rattle.combine_base.proofs.Giving.{gives_same, good_ok, good_peek_ok}
+use Rattle.combine_base.proofs.Refusing.{reasons_in_mode}
 use Rattle.combine_base.proofs.Starting.{in_mode}
 use Rattle.combine_base.specs.Parser.Given.{gives_as}
 use Rattle.combine_base.specs.Parser.Kept.{KeptOf}
 use Rattle.combine_sequence.specs.Answered.{asked_part, starts_valid, then_is_meaning, then_means_same}
-use Rattle.combine_sequence.proofs.Keeping.{accepted_kept, by_some, committed_at, leaves_valid, peeked_at, then_resumes, then_stops, then_refuses, then_commits, then_peeks, valid_from}
+use Rattle.combine_sequence.proofs.Keeping.{accepted_kept, by_some, committed_at, leaves_valid, peeked_at, then_resumes, then_stops, then_refuses, then_commits, then_peeks, resumes_reasons, then_stops_reasons, then_refuses_reasons, then_commits_reasons, then_peeks_reasons, valid_from}
 use Rattle.combine_sequence.proofs.sequence.answered.AnsweredParser.parse_mode.Goals as goal
 use Rattle.combine_sequence.proofs.sequence.answered.AnsweredParser.parse_mode.Goals.{in-CommitOk, in-PeekOk}
 
@@ -28,13 +29,13 @@ returns-in-Second-clause-answers g c =
     let from = c.in-Second.ensures.from in
     let v = valid_from (starts_valid (KeptOf g.N.Parser.lawful g.N.Parser.meaning some) g.N.Parser.valid g.met.P.Parser.default_valid) from c.requires.valid in
     let call = then_resumes _ _ _ _ _ g.P.Parser.valid g.K.Asked.keeps _ answers some (g.P.Parser.meaning c.args.self.now.first) refl v.0 c.resume_answered.ensures in
-    in_mode _ _ _ (then_is_meaning _ g.K.Asked.keeps g.V.Join.joined answers some g.N.Parser.lawful laws g.met.N.Parser.laws (gives_as (λ a h. h.1) c.requires.lawful.1)) _ _ _ _ from _ _ _ _ _ call
+    in_mode _ _ _ (then_is_meaning _ _ g.K.Asked.keeps g.V.Join.joined answers some g.N.Parser.lawful laws g.met.N.Parser.laws (gives_as (λ a h. h.1) c.requires.lawful.1)) _ _ _ _ from _ _ _ _ _ call
 
 pub returns-in-CommitErr-clause-lawful : goal.returns-in-CommitErr-clause-lawful
 returns-in-CommitErr-clause-lawful g c = (c.parse_mode.ensures.lawful, gives_same c.parse_mode.ensures.same c.requires.lawful.1)
 
 pub returns-in-CommitErr-clause-same : goal.returns-in-CommitErr-clause-same
-returns-in-CommitErr-clause-same g c = then_means_same _ g.K.Asked.keeps g.V.Join.joined (g.K.Asked.answers (asked_part c.args.self.now)) (by_some g.P.Parser g.N.Parser g.K.Asked.callable g.K.Asked.answers) g.N.Parser.meaning c.parse_mode.ensures.same
+returns-in-CommitErr-clause-same g c = then_means_same _ _ g.K.Asked.keeps g.V.Join.joined (g.K.Asked.answers (asked_part c.args.self.now)) (by_some g.P.Parser g.N.Parser g.K.Asked.callable g.K.Asked.answers) g.N.Parser.meaning c.parse_mode.ensures.same
 
 pub returns-in-CommitErr-clause-answers : goal.returns-in-CommitErr-clause-answers
 returns-in-CommitErr-clause-answers g c =
@@ -43,13 +44,13 @@ returns-in-CommitErr-clause-answers g c =
     let laws = g.met.P.Parser.laws _ c.requires.lawful.0 in
     let from = c.in-First.ensures.from in
     let call = then_stops g.N.Parser g.Input.StreamOnce g.Input.Error.ParseError.seen g.N.PartialState.Default.is_default _ g.P.Parser.valid g.K.Asked.keeps g.V.Join.joined answers some _ laws refl from.afresh refl c.in-CommitErr.ensures.answers in
-    in_mode _ _ _ (then_is_meaning _ g.K.Asked.keeps g.V.Join.joined answers some g.N.Parser.lawful laws g.met.N.Parser.laws (gives_as (λ a h. h.1) c.requires.lawful.1)) _ _ _ _ from _ _ _ _ _ call
+    in_mode _ _ _ (then_is_meaning _ _ g.K.Asked.keeps g.V.Join.joined answers some g.N.Parser.lawful laws g.met.N.Parser.laws (gives_as (λ a h. h.1) c.requires.lawful.1)) _ _ _ _ from _ _ _ _ _ call
 
 pub returns-in-PeekErr-clause-lawful : goal.returns-in-PeekErr-clause-lawful
 returns-in-PeekErr-clause-lawful g c = (c.parse_mode.ensures.lawful, gives_same c.parse_mode.ensures.same c.requires.lawful.1)
 
 pub returns-in-PeekErr-clause-same : goal.returns-in-PeekErr-clause-same
-returns-in-PeekErr-clause-same g c = then_means_same _ g.K.Asked.keeps g.V.Join.joined (g.K.Asked.answers (asked_part c.args.self.now)) (by_some g.P.Parser g.N.Parser g.K.Asked.callable g.K.Asked.answers) g.N.Parser.meaning c.parse_mode.ensures.same
+returns-in-PeekErr-clause-same g c = then_means_same _ _ g.K.Asked.keeps g.V.Join.joined (g.K.Asked.answers (asked_part c.args.self.now)) (by_some g.P.Parser g.N.Parser g.K.Asked.callable g.K.Asked.answers) g.N.Parser.meaning c.parse_mode.ensures.same
 
 pub returns-in-PeekErr-clause-answers : goal.returns-in-PeekErr-clause-answers
 returns-in-PeekErr-clause-answers g c =
@@ -58,7 +59,7 @@ returns-in-PeekErr-clause-answers g c =
     let laws = g.met.P.Parser.laws _ c.requires.lawful.0 in
     let from = c.in-First.ensures.from in
     let call = then_refuses g.N.Parser g.Input.StreamOnce g.Input.Error.ParseError.seen g.N.PartialState.Default.is_default _ g.P.Parser.valid g.K.Asked.keeps g.V.Join.joined answers some _ laws refl from.afresh c.take_state.ensures.left c.in-PeekErr.ensures.answers in
-    in_mode _ _ _ (then_is_meaning _ g.K.Asked.keeps g.V.Join.joined answers some g.N.Parser.lawful laws g.met.N.Parser.laws (gives_as (λ a h. h.1) c.requires.lawful.1)) _ _ _ _ from _ _ _ _ _ call
+    in_mode _ _ _ (then_is_meaning _ _ g.K.Asked.keeps g.V.Join.joined answers some g.N.Parser.lawful laws g.met.N.Parser.laws (gives_as (λ a h. h.1) c.requires.lawful.1)) _ _ _ _ from _ _ _ _ _ call
 
 pub ask-value-requires : goal.ask-value-requires
 ask-value-requires g c =
@@ -72,7 +73,7 @@ pub returns-clause-lawful : goal.returns-clause-lawful
 returns-clause-lawful g c = (c.parse_mode.ensures.lawful, gives_same c.parse_mode.ensures.same c.requires.lawful.1)
 
 pub returns-clause-same : goal.returns-clause-same
-returns-clause-same g c = then_means_same _ g.K.Asked.keeps g.V.Join.joined (g.K.Asked.answers (asked_part c.args.self.now)) (by_some g.P.Parser g.N.Parser g.K.Asked.callable g.K.Asked.answers) g.N.Parser.meaning c.parse_mode.ensures.same
+returns-clause-same g c = then_means_same _ _ g.K.Asked.keeps g.V.Join.joined (g.K.Asked.answers (asked_part c.args.self.now)) (by_some g.P.Parser g.N.Parser g.K.Asked.callable g.K.Asked.answers) g.N.Parser.meaning c.parse_mode.ensures.same
 
 pub parse_answered-requires-clause-ready : goal.parse_answered-requires-clause-ready
 parse_answered-requires-clause-ready g c =
@@ -113,7 +114,7 @@ returns-clause-answers g c =
     let peeked = peeked_at g.N.Parser g.Input.StreamOnce g.Input.Error.ParseError.seen g.N.PartialState.Default.is_default _ g.P.Parser.valid g.K.Asked.keeps g.V.Join.joined answers some _ laws refl from.afresh in
     let passes = c.parse_mode.ensures.passes in
     let asked = rw c.ask-value.ensures.kept at c.parse_answered.ensures in
-    let whole = in_mode _ _ _ (then_is_meaning _ g.K.Asked.keeps g.V.Join.joined answers some g.N.Parser.lawful laws g.met.N.Parser.laws (gives_as (λ a h. h.1) c.requires.lawful.1)) _ _ _ _ from _ _ _ _ _ in
+    let whole = in_mode _ _ _ (then_is_meaning _ _ g.K.Asked.keeps g.V.Join.joined answers some g.N.Parser.lawful laws g.met.N.Parser.laws (gives_as (λ a h. h.1) c.requires.lawful.1)) _ _ _ _ from _ _ _ _ _ in
     elim c.match-parse_mode.branch [
       | in-CommitOk w ↦
           let answered = rw w.value-is at c.ask-value.ensures.answers in
@@ -123,4 +124,54 @@ returns-clause-answers g c =
           let answered = rw w.value-is at c.ask-value.ensures.answers in
           let kept = may_keep _ false (peeked _ w.in-PeekOk.ensures.answers) _ answered in
           whole (then_peeks g.N.Parser g.Input.StreamOnce g.Input.Error.ParseError.seen g.N.PartialState.Default.is_default _ g.P.Parser.valid g.K.Asked.keeps g.V.Join.joined answers some _ laws refl from.afresh v answered kept (g.met.N.Parser.laws _ kept.is_lawful) c.default.ensures passes.reads passes.resets w.in-PeekOk.ensures.answers (rw w.value-is at asked))
+    ]
+
+pub returns-in-Second-clause-refuses : goal.returns-in-Second-clause-refuses
+returns-in-Second-clause-refuses g c =
+    let answers = g.K.Asked.answers (asked_part c.args.self.now) in
+    let some = by_some g.P.Parser g.N.Parser g.K.Asked.callable g.K.Asked.answers in
+    let laws = g.met.P.Parser.laws _ c.requires.lawful.0 in
+    let call = resumes_reasons _ _ _ _ _ g.P.Parser.valid g.K.Asked.keeps _ answers some (g.P.Parser.meaning c.args.self.now.first) refl c.resume_answered.ensures in
+    reasons_in_mode _ _ _ (then_is_meaning _ _ g.K.Asked.keeps g.V.Join.joined answers some g.N.Parser.lawful laws g.met.N.Parser.laws (gives_as (λ a h. h.1) c.requires.lawful.1)) c.in-Second.ensures.from call
+
+pub returns-in-CommitErr-clause-refuses : goal.returns-in-CommitErr-clause-refuses
+returns-in-CommitErr-clause-refuses g c =
+    let answers = g.K.Asked.answers (asked_part c.args.self.now) in
+    let some = by_some g.P.Parser g.N.Parser g.K.Asked.callable g.K.Asked.answers in
+    let laws = g.met.P.Parser.laws _ c.requires.lawful.0 in
+    let from = c.in-First.ensures.from in
+    let call = then_stops_reasons g.N.Parser g.Input.StreamOnce g.Input.Error.ParseError.seen g.N.PartialState.Default.is_default _ g.P.Parser.valid g.K.Asked.keeps g.V.Join.joined answers some _ laws refl from.afresh c.in-CommitErr.ensures.refuses in
+    reasons_in_mode _ _ _ (then_is_meaning _ _ g.K.Asked.keeps g.V.Join.joined answers some g.N.Parser.lawful laws g.met.N.Parser.laws (gives_as (λ a h. h.1) c.requires.lawful.1)) from call
+
+pub returns-in-PeekErr-clause-refuses : goal.returns-in-PeekErr-clause-refuses
+returns-in-PeekErr-clause-refuses g c =
+    let answers = g.K.Asked.answers (asked_part c.args.self.now) in
+    let some = by_some g.P.Parser g.N.Parser g.K.Asked.callable g.K.Asked.answers in
+    let laws = g.met.P.Parser.laws _ c.requires.lawful.0 in
+    let from = c.in-First.ensures.from in
+    let call = then_refuses_reasons g.N.Parser g.Input.StreamOnce g.Input.Error.ParseError.seen g.N.PartialState.Default.is_default _ g.P.Parser.valid g.K.Asked.keeps g.V.Join.joined answers some _ laws refl from.afresh c.in-PeekErr.ensures.refuses in
+    reasons_in_mode _ _ _ (then_is_meaning _ _ g.K.Asked.keeps g.V.Join.joined answers some g.N.Parser.lawful laws g.met.N.Parser.laws (gives_as (λ a h. h.1) c.requires.lawful.1)) from call
+
+pub returns-clause-refuses : goal.returns-clause-refuses
+returns-clause-refuses g c =
+    let answers = g.K.Asked.answers (asked_part c.args.self.now) in
+    let some = by_some g.P.Parser g.N.Parser g.K.Asked.callable g.K.Asked.answers in
+    let from = c.in-First.ensures.from in
+    let laws = g.met.P.Parser.laws _ c.requires.lawful.0 in
+    let kept = KeptOf g.N.Parser.lawful g.N.Parser.meaning some in
+    let v = valid_from (starts_valid kept g.N.Parser.valid g.met.P.Parser.default_valid) from c.requires.valid in
+    let may_keep = accepted_kept g.P.Parser g.N.Parser g.K.Asked.callable g.K.Asked.answers c.args.self.now.first (asked_part c.args.self.now) c.requires.lawful.0 c.requires.lawful.1 _ v (g.Input.StreamOnce.view c.args.input.now) in
+    let committed = committed_at g.N.Parser g.Input.StreamOnce g.Input.Error.ParseError.seen g.N.PartialState.Default.is_default _ g.P.Parser.valid g.K.Asked.keeps g.V.Join.joined answers some _ laws refl from.afresh in
+    let peeked = peeked_at g.N.Parser g.Input.StreamOnce g.Input.Error.ParseError.seen g.N.PartialState.Default.is_default _ g.P.Parser.valid g.K.Asked.keeps g.V.Join.joined answers some _ laws refl from.afresh in
+    let passes = c.parse_mode.ensures.passes in
+    let asked = rw c.ask-value.ensures.kept at c.parse_answered.ensures in
+    elim c.match-parse_mode.branch [
+      | in-CommitOk w ↦
+          let answered = rw w.value-is at c.ask-value.ensures.answers in
+          let kept = may_keep _ true (committed _ w.in-CommitOk.ensures.answers) _ answered in
+          reasons_in_mode _ _ _ (then_is_meaning _ _ g.K.Asked.keeps g.V.Join.joined answers some g.N.Parser.lawful laws g.met.N.Parser.laws (gives_as (λ a h. h.1) c.requires.lawful.1)) from (then_commits_reasons g.N.Parser g.Input.StreamOnce g.Input.Error.ParseError.seen g.N.PartialState.Default.is_default _ g.P.Parser.valid g.K.Asked.keeps g.V.Join.joined answers some _ laws refl from.afresh v answered kept (g.met.N.Parser.laws _ kept.is_lawful) c.default.ensures passes.reads passes.resets w.in-CommitOk.ensures.answers (rw w.value-is at asked))
+      | in-PeekOk w ↦
+          let answered = rw w.value-is at c.ask-value.ensures.answers in
+          let kept = may_keep _ false (peeked _ w.in-PeekOk.ensures.answers) _ answered in
+          reasons_in_mode _ _ _ (then_is_meaning _ _ g.K.Asked.keeps g.V.Join.joined answers some g.N.Parser.lawful laws g.met.N.Parser.laws (gives_as (λ a h. h.1) c.requires.lawful.1)) from (then_peeks_reasons g.N.Parser g.Input.StreamOnce g.Input.Error.ParseError.seen g.N.PartialState.Default.is_default _ g.P.Parser.valid g.K.Asked.keeps g.V.Join.joined answers some _ laws refl from.afresh v answered kept (g.met.N.Parser.laws _ kept.is_lawful) c.default.ensures passes.reads passes.resets w.in-PeekOk.ensures.answers (rw w.value-is at asked))
     ]
