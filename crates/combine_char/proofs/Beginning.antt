@@ -16,11 +16,11 @@ use Rattle.combine_base.specs.declared.error.ParseResult.TheVariants.{CommitOk, 
 use Rattle.combine_token.proofs.Stateless.{asks, into_begun}
 use Rattle.combine_char.specs.Again.{BeginsAgain, begun_again}
 
-module _ {P T R V S Z E : Type 0} (w : World P T S E) (fresh : Z → Type 0) (m : Meaning P T R V S) (s left : S) (first : Bool) (z z' : Z) (d : fresh z') (old mid : View P T) (f0 f1 : Failures) where
+module _ {P T R V S Z E : Type 0} (w : World P T S E) (fresh : Z → Type 0) (m : Meaning P T R E V S) (s left : S) (first : Bool) (z z' : Z) (d : fresh z') (old mid : View P T) (f0 f1 : Failures) where
   abbrev inner : Run P T S
   inner = record { first = true; state = s; left = left; old = old; new = mid; before = f0; after = f1 }
 
-  abbrev again : Meaning P T R V Z
+  abbrev again : Meaning P T R E V Z
   again = begun_again m
 
   abbrev outer : View P T → Failures → Run P T Z
@@ -78,7 +78,7 @@ module _ {P T R V S Z E : Type 0} (w : World P T S E) (fresh : Z → Type 0) (m 
         unreset (around w fresh) again (outer new f2) x (j ∙ b.is.0) (record { count = y.count + n.count; taken = takes_more w.step y.count n.count old mid new y.taken n.taken; state = d }) (omega arith)
 
 -- the same by the clause of such a call, in first mode or not
-module _ {P T R V S Z E : Type 0} (w : World P T S E) (fresh : Z → Type 0) (m : Meaning P T R V S) (old mid : View P T) (f0 f1 : Failures) where
+module _ {P T R V S Z E : Type 0} (w : World P T S E) (fresh : Z → Type 0) (m : Meaning P T R E V S) (old mid : View P T) (f0 f1 : Failures) where
   pub begins_accepted : (v : V) → Starts w m old mid f0 f1 (CommitOk v) → BeginsAgain (around w fresh) m old mid f0 f1 (CommitOk v)
   begins_accepted v p = record { answers = λ first z z' d. accepted_too w fresh m p.state p.left first z z' d old mid f0 f1 v p.answers }
 

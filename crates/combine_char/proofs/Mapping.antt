@@ -11,7 +11,7 @@ use Rattle.combine_base.proofs.Mapped.{mapped_err, mapped_peek_err, mapped_ok, m
 use Rattle.combine_base.specs.declared.error.ParseResult.{ParseResult}
 use Rattle.combine_base.specs.declared.error.ParseResult.TheVariants.{CommitOk, PeekOk, CommitErr, PeekErr}
 
-pub mapped_answer : {P T R A B S E : Type 0} (w : World P T S E) (m : Meaning P T R A S) (f : A → B → Type 0) (r : Run P T S) (g : A → B → Type 0) → ((a : A) (b : B) → g a b → f a b) → (x : ParseResult A E) (y : ParseResult B E) → MapsValue g x y → Answers w m r x → Answers w (mapped m f) r y
+pub mapped_answer : {P T R A B S E : Type 0} (w : World P T S E) (m : Meaning P T R E A S) (f : A → B → Type 0) (r : Run P T S) (g : A → B → Type 0) → ((a : A) (b : B) → g a b → f a b) → (x : ParseResult A E) (y : ParseResult B E) → MapsValue g x y → Answers w m r x → Answers w (mapped m f) r y
 mapped_answer w m f r g i (CommitOk a) (CommitOk b) p h = mapped_ok w m f r a b (i a b p) h
 mapped_answer w m f r g i (PeekOk a) (PeekOk b) p h = mapped_peek_ok w m f r a b (i a b p) h
 mapped_answer w m f r g i (CommitErr e) (CommitErr d) p h = rw p (mapped_err w m f r e h)

@@ -5,7 +5,7 @@ use Rattle.combine_base.specs.Stream.Calls.{TakesToken, no_token}
 use Rattle.combine_base.specs.Error.Items.{Item}
 use Rattle.combine_base.specs.Error.Errors.{Errors, New}
 use Rattle.combine_base.specs.Parser.Answer.{World}
-use Rattle.combine_base.specs.Parser.Meaning.{BegunRefuses, Reasons}
+use Rattle.combine_base.specs.Parser.Meaning.{BegunRefuses}
 use Rattle.combine_base.specs.Parser.Reasons.{Reasoned}
 use Rattle.combine_base.proofs.Progress.{takes_open}
 use Rattle.combine_base.specs.declared.error.Info.{Info}
@@ -15,8 +15,8 @@ use Rattle.combine_base.specs.declared.stream.Failures.{Failures}
 use Rattle.combine_base.specs.declared.error.ParseResult.{ParseResult}
 use Rattle.combine_base.specs.declared.error.ParseResult.TheVariants.{CommitOk, PeekOk, CommitErr, PeekErr}
 use Rattle.combine_token.specs.ListAnswers.{Accepted, FindsNone, Mismatch}
-use Rattle.combine_token.specs.Reasons.{RefusesList, SaysEnded, begins_at, peeked_only, refuses_next}
-use Rattle.combine_token.specs.TokenLists.{TokenList, stops}
+use Rattle.combine_token.specs.Reasons.{SaysEnded, begins_at, peeked_only, refuses_next}
+use Rattle.combine_token.specs.TokenLists.{RefusesList, TokenList, stops}
 use Rattle.combine_token.proofs.ListAnswered.{stops_at_end, stops_at_token}
 use Rattle.combine_token.proofs.Matches.{Arrived}
 use Rattle.combine_base.proofs.Reasoning.{reasons_ok, reasons_peek_ok, reasons_committed, reasons_fault, reasons_into}
@@ -29,9 +29,9 @@ accepted_reasons kind is_open says gives infallible committed (CommitErr e) h = 
 accepted_reasons kind is_open says gives infallible committed (PeekErr t) h = absurd h.is
 
 -- the match has come to place n, where an item stands
-module _ {P T R V S E : Type 0} (w : World P T S E) (l : TokenList T) (gives : V → Type 0) (matched : S → ℕ) (lean : Type 0) (adds : List (Item T R) → Type 0) (reasons : ℕ → Reasons P T E) (first : Bool) (state : S) (n : ℕ) (old now : View P T) (before later : Failures) (q : Arrived w l gives matched lean adds reasons first state n old now before later) (s : Errors T R P E) (expected : Option (Info T R)) (left : View P T) (h : l.has n) where
+module _ {P T R V S E : Type 0} (w : World P T S E) (l : TokenList T) (gives : V → Type 0) (matched : S → ℕ) (lean : Type 0) (adds : List (Item T R) → Type 0) (s : Errors T R P E) (expected : Option (Info T R)) (first : Bool) (state : S) (n : ℕ) (old now : View P T) (before later : Failures) (q : Arrived w l gives matched lean adds s expected first state n old now before later) (left : View P T) (h : l.has n) where
   abbrev says : Bool → E → Type 0
-  says = RefusesList s l expected (begins_at matched first state) old left
+  says = RefusesList l s expected (begins_at matched first state) old left
 
   same_rest : now.unread ≡ drop q.progress.count old.unread
   same_rest = ap (λ (v : View P T). v.unread) q.progress.taken.rest
@@ -90,9 +90,9 @@ module _ {P T R V S E : Type 0} (w : World P T S E) (l : TokenList T) (gives : V
     unread_reasons kinds.Lost result x o p r = absurd x
 
 -- from the item that the call begins at, whatever its mode
-module _ {P T S V E : Type 0} {f : ℕ → Reasons P T E} {matched : S → ℕ} {first : Bool} {state : S} {kind : E → Kind} {is_open : Bool} {v w : View P T} {result : ParseResult V E} where
-  pub list_begun : Reasoned kind is_open (f (begins_at matched first state) v w) result → Reasoned kind is_open (BegunRefuses first (f 0) (f (matched state)) v w) result
+module _ {P T R V E : Type 0} {s : Errors T R P E} {l : TokenList T} {expected : Option (Info T R)} {first : Bool} {n : ℕ} {is_open : Bool} {v w : View P T} {result : ParseResult V E} where
+  pub list_begun : Reasoned s.kind is_open (RefusesList l s expected (begins_at (λ k. k) first n) v w) result → Reasoned s.kind is_open (BegunRefuses first (RefusesList l s expected 0) (RefusesList l s expected n) v w) result
   list_begun r c e x = record {
-    afresh = λ i. subst (λ b. f (begins_at matched b state) v w c e) i (r c e x);
-    resumed = λ i. subst (λ b. f (begins_at matched b state) v w c e) i (r c e x);
+    afresh = λ i. subst (λ b. RefusesList l s expected (begins_at (λ k. k) b n) v w c e) i (r c e x);
+    resumed = λ i. subst (λ b. RefusesList l s expected (begins_at (λ k. k) b n) v w c e) i (r c e x);
   }

@@ -6,10 +6,9 @@ use Rattle.combine_base.specs.Stream.View.{View}
 use Rattle.combine_base.specs.Error.Errors.{Errors}
 use Rattle.combine_base.specs.Parser.Outcome.{Outcome, Accepted, Refused, Undecided}
 use Rattle.combine_base.specs.declared.error.Info.{Info}
-use Rattle.combine_token.specs.TokenLists.{TokenList, ComparesOnce, Matched, all_fit, stops, matching_at}
+use Rattle.combine_token.specs.TokenLists.{RefusesList, TokenList, ComparesOnce, Matched, all_fit, stops, matching_at}
 use Rattle.combine_token.specs.Iterated.{Stands, Ends, IsIterated, iterated}
 use Rattle.combine_token.specs.Listed.{Lists, Within, listed}
-use Rattle.combine_token.specs.Reasons.{RefusesList}
 
 module _ {I A B : Type 0} (steps : I → Option A → I → Type 0) (v : A → B) where
   item_at : (xs : List A) (ys : List B) (s t u : I) (x : A) → AlwaysYields steps v s ys → Yields steps s xs t → steps t (Some x) u → slice_get ys (length xs) ≡ Some (v x)
@@ -82,8 +81,8 @@ module _ {T : Type 0} (l l' : TokenList T) (h : Within l l') where
   matching_within gives gives' g n b us Undecided p = (p.0, h.has (n + length us) p.1, matched_within n (length us) us p.2)
 
   -- and what its errors say
-  pub refuses_within : {R P E : Type 0} (s : Errors T R P E) (expected : Option (Info T R)) (n : ℕ) (v : View P T) (committed : Bool) (e : E) → RefusesList s l expected n v committed e → RefusesList s l' expected n v committed e
-  refuses_within s expected n v committed e p = record {
+  pub refuses_within : {R P E : Type 0} (s : Errors T R P E) (expected : Option (Info T R)) (n : ℕ) (v w : View P T) (committed : Bool) (e : E) → RefusesList l s expected n v w committed e → RefusesList l' s expected n v w committed e
+  refuses_within s expected n v w committed e p = record {
     count = p.count;
     has = h.has (n + p.count) p.has;
     matched = matched_within n p.count v.unread p.matched;

@@ -1,5 +1,5 @@
 -- what the errors of the refusals of these parsers are
-use Rattle.std.specs.Prelude.{ℕ, ◌+◌, ◌≡◌, ◌⊎◌, ◌↔◌, List, [], ◌∷◌, drop, Bool, true, false, nat_lt, Option}
+use Rattle.std.specs.Prelude.{ℕ, ◌≡◌, ◌⊎◌, ◌↔◌, List, [], ◌∷◌, Bool, true, false, Option}
 use Rattle.std.proofs.Common.{inl, inr}
 use Rattle.std.specs.declared.cmp.Ordering.{Ordering}
 use Rattle.combine_base.specs.Parser.Meaning.{Reasons}
@@ -10,7 +10,6 @@ use Rattle.combine_base.specs.Refusals.{Saying}
 use Rattle.combine_base.specs.declared.error.Info.{Info}
 use Rattle.combine_base.specs.declared.stream.Kind.TheVariants as kinds
 use Rattle.combine_token.specs.ListAnswers.{Mismatch}
-use Rattle.combine_token.specs.TokenLists.{TokenList, Matched, stops}
 
 -- peeked refusals, and no committed one
 abbrev pub peeked_only : {E : Type 0} → (E → Type 0) → Bool → E → Type 0
@@ -37,15 +36,6 @@ module _ {T R P E : Type 0} (s : Errors T R P E) where
   refuses_next place expected [] committed e = Saying s kinds.End place (Only end_of_input) e
   refuses_next place expected (t ∷ ts) true e = Mismatch s place t expected e
   refuses_next place expected (t ∷ ts) false e = New s kinds.Refused place e
-
-  -- the error of a parser of a list that begins there at item n: so many tokens fit, and the next item finds none that does
-  pub record RefusesList (l : TokenList T) (expected : Option (Info T R)) (n : ℕ) (v w : View P T) (committed : Bool) (e : E) : Type 0 where
-    pub count : ℕ
-    pub has : l.has (n + count)
-    pub matched : Matched l n count v.unread
-    pub stops : stops l (n + count) v.is_open (drop count v.unread)
-    pub commits : committed ≡ nat_lt 0 (n + count)
-    pub says : refuses_next v.position expected (drop count v.unread) committed e
 
 -- the item that a call begins at: the first where it begins afresh, and else the one behind those that were matched before
 abbrev pub begins_at : {S : Type 0} → (S → ℕ) → Bool → S → ℕ

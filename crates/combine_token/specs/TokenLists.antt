@@ -1,8 +1,12 @@
 -- a list of tokens that is matched one by one: the list is known by what its items answer, and by where it ends
-use Rattle.std.specs.Prelude.{ℕ, ◌+◌, ◌-◌, ◌<◌, ◌≤◌, ◌≡◌, List, [], ◌∷◌, take, drop, length, Bool, true, false, nat_lt}
+use Rattle.std.specs.Prelude.{ℕ, ◌+◌, ◌-◌, ◌<◌, ◌≤◌, ◌≡◌, List, [], ◌∷◌, take, drop, length, Bool, true, false, nat_lt, Option}
+use Rattle.combine_base.specs.Error.Errors.{Errors}
 use Rattle.combine_base.specs.Error.Items.{Item}
 use Rattle.combine_base.specs.Parser.Outcome.{Outcome, Accepted, Refused, Undecided}
-use Rattle.combine_base.specs.Parser.Meaning.{Meaning, Reading, Reasons}
+use Rattle.combine_base.specs.Parser.Meaning.{Meaning, Reading}
+use Rattle.combine_base.specs.Stream.View.{View}
+use Rattle.combine_base.specs.declared.error.Info.{Info}
+use Rattle.combine_token.specs.Reasons.{refuses_next}
 
 -- what is known of a list, and of how its items compare with tokens
 pub record TokenList (T : Type 0) : Type 1 where
@@ -48,6 +52,16 @@ module _ {T : Type 0} (l : TokenList T) where
     abbrev pub matching : (V → Type 0) → ℕ → Reading P T V
     matching gives n v o = matching_at gives n v.is_open v.unread o
 
-    -- the list from its beginning, or from a state after as many items as it counts; the errors by how many those are
-    abbrev pub token_list : {R E S : Type 0} → (V → Type 0) → (S → ℕ) → Type 0 → (List (Item T R) → Type 0) → (ℕ → Reasons P T E) → Meaning P T R E V S
-    token_list gives matched lean adds refuses = record { whole = matching gives 0; rest = λ s. matching gives (matched s); lost = λ s v. ⊥; keeps = Unit {0}; puts_back = ⊥; lean = lean; adds = adds; refuses = refuses 0; refuses_from = λ s. refuses (matched s) }
+  -- the error of a refusal that begins there at item n: so many tokens fit, and the next item finds none that does
+  module _ {R P E : Type 0} (s : Errors T R P E) (expected : Option (Info T R)) where
+    pub record RefusesList (n : ℕ) (v w : View P T) (committed : Bool) (e : E) : Type 0 where
+      pub count : ℕ
+      pub has : l.has (n + count)
+      pub matched : Matched n count v.unread
+      pub stops : stops (n + count) v.is_open (drop count v.unread)
+      pub commits : committed ≡ nat_lt 0 (n + count)
+      pub says : refuses_next s v.position expected (drop count v.unread) committed e
+
+  -- the list from its beginning, or from a state after as many items as it counts; an error may say what was expected
+  abbrev pub token_list : {P R E V S : Type 0} → (V → Type 0) → (S → ℕ) → Type 0 → (List (Item T R) → Type 0) → Errors T R P E → Option (Info T R) → Meaning P T R E V S
+  token_list gives matched lean adds s expected = record { whole = matching gives 0; rest = λ z. matching gives (matched z); lost = λ z v. ⊥; keeps = Unit {0}; puts_back = ⊥; lean = lean; adds = adds; refuses = RefusesList s expected 0; refuses_from = λ z. RefusesList s expected (matched z) }

@@ -4,11 +4,10 @@ ghost use Rattle.std.specs.Option.{option_copied};
 ghost use Rattle.combine_base.specs.Parser.Answer.{Answers, world};
 ghost use Rattle.combine_base.specs.Stream.Calls.{Passes};
 ghost use Rattle.combine_token.specs.Iterated.{IsIterated, iterated};
-ghost use Rattle.combine_base.specs.Parser.Meaning.{unsaid};
 ghost use Rattle.combine_base.specs.Parser.Reasons.{Reasoned};
 ghost use Rattle.combine_token.specs.ListAnswers.{expecting};
-ghost use Rattle.combine_token.specs.Reasons.{RefusesList, begins_at};
-ghost use Rattle.combine_token.specs.TokenLists.{token_list};
+ghost use Rattle.combine_token.specs.Reasons.{begins_at};
+ghost use Rattle.combine_token.specs.TokenLists.{RefusesList, token_list};
 ghost use Rattle.combine_token.specs.TokenParsers.{matched_before, tokens_cmp_of, tokens_of};
 
 mod answers;
@@ -85,11 +84,11 @@ where
     requires list { IsIterated T.is_clone T.into_iter_gives T.IntoIter.next_gives list.now T.IntoIter.can_next T.IntoIter.remaining }
     ensures passes { Passes (Input.marks input.old) (Input.marks input.new) (Input.failures input.old) (Input.failures input.new) }
     ensures answers { Answers (world Input.step Input.Error.seen Input.steady (λ s. matched_before s ≡ 0))
-        (token_list (iterated T.is_clone T.into_iter_gives T.IntoIter.next_gives list.now (λ x t b. C.post cmp.now x t b)) (V.is_clone value.now) matched_before (T.is_infallible list.now × V.is_infallible value.now) (λ is. is ≡ expecting (option_copied expected.entry)) (λ n. unsaid))
+        (token_list (iterated T.is_clone T.into_iter_gives T.IntoIter.next_gives list.now (λ x t b. C.post cmp.now x t b)) (V.is_clone value.now) matched_before (T.is_infallible list.now × V.is_infallible value.now) (λ is. is ≡ expecting (option_copied expected.entry)) Input.Error.seen (option_copied expected.entry))
         (record { first = M.first mode; state = state.old; left = state.new; old = Input.view input.old; new = Input.view input.new; before = Input.failures input.old; after = Input.failures input.new })
         result }
     ensures refuses { Reasoned Input.Error.seen.kind (Input.view input.new).is_open
-        (RefusesList Input.Error.seen (iterated T.is_clone T.into_iter_gives T.IntoIter.next_gives list.now (λ x t b. C.post cmp.now x t b)) (option_copied expected.entry) (begins_at matched_before (M.first mode) state.old) (Input.view input.old) (Input.view input.new))
+        (RefusesList (iterated T.is_clone T.into_iter_gives T.IntoIter.next_gives list.now (λ x t b. C.post cmp.now x t b)) Input.Error.seen (option_copied expected.entry) (begins_at matched_before (M.first mode) state.old) (Input.view input.old) (Input.view input.new))
         result }
 {
     let mut matched = state.begin(!mode.is_first());

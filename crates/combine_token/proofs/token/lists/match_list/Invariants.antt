@@ -1,7 +1,6 @@
 use Rattle.std.proofs.Common.{◌+◌, ◌<◌, ◌≡◌, ◌^◌}
 use Rattle.std.specs.Option.{option_copied}
 use Rattle.combine_base.specs.Parser.Answer.{world}
-use Rattle.combine_base.specs.Parser.Meaning.{unsaid}
 use Rattle.combine_base.specs.Stream.Calls.{Passes}
 use Rattle.combine_token.proofs.Matches.{Arrived}
 use Rattle.combine_token.specs.Iterated.{Reached, iterated}
@@ -19,7 +18,7 @@ invariant-items g l =
       few : l.matched + (goal.iterator-items g).remaining l.item-iterator < 2 ^ 64;
       arrived : Arrived
           (world g.Input.StreamOnce.step g.Input.Error.ParseError.seen g.Input.StreamOnce.steady (λ (s : TokensState). s.matched ≡ 0))
-          list (g.V.Clone.is_clone l.fn.value) (λ (s : TokensState). s.matched) (g.T.Clone.is_infallible l.fn.list × g.V.Clone.is_infallible l.fn.value) (λ is. is ≡ expecting (option_copied l.fn.expected)) (λ n. unsaid)
+          list (g.V.Clone.is_clone l.fn.value) (λ (s : TokensState). s.matched) (g.T.Clone.is_infallible l.fn.list × g.V.Clone.is_infallible l.fn.value) (λ is. is ≡ expecting (option_copied l.fn.expected)) g.Input.Error.ParseError.seen (option_copied l.fn.expected)
           (g.M.ParseMode.first l.fn.mode) l.fn.state
           l.matched (g.Input.StreamOnce.view l.fn.input) (g.Input.StreamOnce.view l.input) (g.Input.StreamOnce.failures l.fn.input) (g.Input.StreamOnce.failures l.input);
     }
