@@ -11,7 +11,7 @@ use Rattle.combine_token.specs.Stateless.{stateless, stateless_is_meaning, state
 module _ {P T R E V S Z : Type 0} where
   -- it keeps no state, and on need of more it has taken nothing
   abbrev pub begun_again : Meaning P T R E V S → Meaning P T R E V Z
-  begun_again m = stateless m.whole ⊥ m.lean m.adds
+  begun_again m = stateless m.whole ⊥ m.lean m.adds m.refuses
 
   pub begun_again_means_same : (m m' : Meaning P T R E V S) → MeansSame m m' → MeansSame (begun_again m) (begun_again m')
   begun_again_means_same m m' h = record {
@@ -22,6 +22,8 @@ module _ {P T R E V S Z : Type 0} where
     puts_back = (λ p. p, λ p. p);
     lean = h.lean;
     adds = h.adds;
+    refuses = h.refuses;
+    refuses_from = λ s. h.refuses;
   }
 
 -- what a call answers that begins again: in first mode or not
@@ -38,10 +40,10 @@ module _ {P T R E A B S Z : Type 0} where
   whole_pair m = mapped (begun_again m) is_second
 
   pub whole_pair_is_meaning : {fresh valid : S → Type 0} (fresh' valid' : Z → Type 0) (m : Meaning P T R E (A × B) S) → IsMeaning fresh valid m → IsMeaning fresh' valid' (whole_pair m)
-  whole_pair_is_meaning fresh' valid' m h = mapped_is_meaning fresh' valid' (begun_again m) is_second (stateless_is_meaning fresh' valid' m.whole ⊥ m.lean m.adds h.whole)
+  whole_pair_is_meaning fresh' valid' m h = mapped_is_meaning fresh' valid' (begun_again m) is_second (stateless_is_meaning fresh' valid' m.whole ⊥ m.lean m.adds m.refuses h.whole)
 
   pub whole_pair_means_one : {valid : S → Type 0} (valid' : Z → Type 0) (m : Meaning P T R E (A × B) S) → MeansOne valid m → MeansOne valid' (whole_pair m)
-  whole_pair_means_one valid' m h = mapped_means_one valid' (begun_again m) is_second (stateless_means_one valid' m.whole ⊥ m.lean m.adds h.whole)
+  whole_pair_means_one valid' m h = mapped_means_one valid' (begun_again m) is_second (stateless_means_one valid' m.whole ⊥ m.lean m.adds m.refuses h.whole)
 
   pub whole_pair_means_same : (m m' : Meaning P T R E (A × B) S) → MeansSame m m' → MeansSame (whole_pair m) (whole_pair m')
   whole_pair_means_same m m' h = mapped_means_same (begun_again m) (begun_again m') is_second (begun_again_means_same m m' h)

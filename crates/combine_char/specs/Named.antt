@@ -15,10 +15,12 @@ module _ {P T R E V S : Type 0} (text : List ℕ) where
     puts_back = m.puts_back;
     lean = m.lean;
     adds = Only (Expected (Fixed text));
+    refuses = m.refuses;
+    refuses_from = m.refuses_from;
   }
 
   pub named_is_meaning : (fresh valid : S → Type 0) (m : Meaning P T R E V S) → IsMeaning fresh valid m → IsMeaning fresh valid (named m)
-  named_is_meaning fresh valid m h = record { whole = h.whole; rest = h.rest; start = h.start; found = h.found }
+  named_is_meaning fresh valid m h = record { whole = h.whole; rest = h.rest; start = h.start; found = h.found; reasons = h.reasons }
 
   pub named_means_one : (valid : S → Type 0) (m : Meaning P T R E V S) → MeansOne valid m → MeansOne valid (named m)
   named_means_one valid m h = record { whole = h.whole; rest = h.rest }
@@ -32,6 +34,8 @@ module _ {P T R E V S : Type 0} (text : List ℕ) where
     puts_back = h.puts_back;
     lean = h.lean;
     adds = λ is. (λ p. p, λ p. p);
+    refuses = h.refuses;
+    refuses_from = h.refuses_from;
   }
 
   pub named_alike : (m : Meaning P T R E V S) → Alike (named m) m

@@ -3,11 +3,11 @@ ghost use Rattle.std.specs.Prelude.{◌≡◌, ◌<◌, ◌^◌, None, length};
 ghost use Rattle.std.specs.Slice.Iter.{iter_rest};
 ghost use Rattle.combine_base.specs.Error.Errors.{Nothing};
 ghost use Rattle.combine_base.specs.Parser.Answer.{Answers, world};
-ghost use Rattle.combine_base.specs.Parser.Reasons.{Reasoned, kept_from};
+ghost use Rattle.combine_base.specs.Parser.Reasons.{Reasoned};
 ghost use Rattle.combine_base.specs.Stream.Calls.{Passes};
 ghost use Rattle.combine_token.specs.Listed.{listed};
-ghost use Rattle.combine_token.specs.Reasons.{RefusesList, begins_at};
-ghost use Rattle.combine_token.specs.TokenLists.{token_list};
+ghost use Rattle.combine_token.specs.Reasons.{begins_at};
+ghost use Rattle.combine_token.specs.TokenLists.{RefusesList, token_list};
 ghost use Rattle.combine_token.specs.TokenListLaws.{token_list_is_meaning, token_list_means_one};
 ghost use Rattle.combine_token.specs.TokenParsers.{matched_before};
 ghost use Rattle.combine_char.specs.TextParsers.{bytes_of, fits_of_bytes, in_bytes_parser};
@@ -121,9 +121,7 @@ where
 
     ghost valid = { λ s. Unit {0} };
 
-    ghost meaning = { λ p. token_list (listed (F.compares (fits_of_bytes p)) (S.list (bytes_of p))) (λ v. v ≡ bytes_of p) matched_before (Unit {0}) (SaysRange (Input.Range.shows (S.list (bytes_of p)))) };
-
-    ghost refuses = { λ p k. RefusesList Input.Error.seen (listed (F.compares (fits_of_bytes p)) (S.list (bytes_of p))) None (begins_at matched_before k) };
+    ghost meaning = { λ p. token_list (listed (F.compares (fits_of_bytes p)) (S.list (bytes_of p))) (λ v. v ≡ bytes_of p) matched_before (Unit {0}) (SaysRange (Input.Range.shows (S.list (bytes_of p)))) Input.Error.seen None };
 
     ghost parts = { λ p. 1 };
 
@@ -151,9 +149,9 @@ where
 
     ghost default_valid = { λ s d. tt };
 
-    ghost laws = { λ p l. token_list_is_meaning _ _ _ _ _ _ _ (λ s d. d) };
+    ghost laws = { λ p l. token_list_is_meaning _ _ _ _ _ _ _ _ _ (λ s d. d) };
 
-    ghost single = { λ p l d. token_list_means_one (λ _. Unit {0}) _ _ _ _ _ _ (listed_ends_once _ _) (listed_compares_once _ _ (F.once (fits_of_bytes p) d)) };
+    ghost single = { λ p l d. token_list_means_one (λ _. Unit {0}) _ _ _ _ _ _ _ _ (listed_ends_once _ _) (listed_compares_once _ _ (F.once (fits_of_bytes p) d)) };
 }
 
 /// One call of a parser of the bytes of a list.
@@ -170,11 +168,11 @@ where
     requires { F.ready fits.now }
     ensures passes { Passes (Input.marks input.old) (Input.marks input.new) (Input.failures input.old) (Input.failures input.new) }
     ensures answers { Answers (world Input.step Input.Error.seen Input.steady (λ s. matched_before s ≡ 0))
-        (token_list (listed (F.compares fits.now) (S.list bytes)) (λ v. v ≡ bytes) matched_before (Unit {0}) (Nothing {R = Input.Range}))
+        (token_list (listed (F.compares fits.now) (S.list bytes)) (λ v. v ≡ bytes) matched_before (Unit {0}) (Nothing {R = Input.Range}) Input.Error.seen None)
         (record { first = M.first mode; state = state.old; left = state.new; old = Input.view input.old; new = Input.view input.new; before = Input.failures input.old; after = Input.failures input.new })
         result }
     ensures refuses { Reasoned Input.Error.seen.kind (Input.view input.new).is_open
-        (RefusesList Input.Error.seen (listed (F.compares fits.now) (S.list bytes)) None (begins_at matched_before (kept_from (M.first mode) state.old)) (Input.view input.old))
+        (RefusesList (listed (F.compares fits.now) (S.list bytes)) Input.Error.seen None (begins_at matched_before (M.first mode) state.old) (Input.view input.old) (Input.view input.new))
         result }
 {
     let items = listed_items(bytes);

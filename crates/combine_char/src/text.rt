@@ -5,11 +5,11 @@ ghost use Rattle.std.specs.Str.Iter.{chars_rest};
 ghost use Rattle.combine_base.specs.Error.Errors.{Nothing, Only};
 ghost use Rattle.combine_base.specs.Error.Items.{Expected, Fixed};
 ghost use Rattle.combine_base.specs.Parser.Answer.{Answers, world};
-ghost use Rattle.combine_base.specs.Parser.Reasons.{Reasoned, kept_from};
+ghost use Rattle.combine_base.specs.Parser.Reasons.{Reasoned};
 ghost use Rattle.combine_base.specs.Stream.Calls.{Passes};
 ghost use Rattle.combine_token.specs.Listed.{listed};
-ghost use Rattle.combine_token.specs.Reasons.{RefusesList, begins_at};
-ghost use Rattle.combine_token.specs.TokenLists.{token_list};
+ghost use Rattle.combine_token.specs.Reasons.{begins_at};
+ghost use Rattle.combine_token.specs.TokenLists.{RefusesList, token_list};
 ghost use Rattle.combine_token.specs.TokenListLaws.{token_list_is_meaning, token_list_means_one};
 ghost use Rattle.combine_token.specs.TokenParsers.{matched_before};
 ghost use Rattle.combine_char.specs.TextParsers.{fits_of_text, in_text_parser, text_of};
@@ -93,9 +93,7 @@ impl<Input: Stream, F: Fits<char, Input::Token>, S: LastingText> Parser<Input>
 
     ghost valid = { λ s. Unit {0} };
 
-    ghost meaning = { λ p. token_list (listed (F.compares (fits_of_text p)) (chars (S.bytes (text_of p)))) (λ v. v ≡ text_of p) matched_before (Unit {0}) (Only (Expected (Fixed (S.bytes (text_of p))))) };
-
-    ghost refuses = { λ p k. RefusesList Input.Error.seen (listed (F.compares (fits_of_text p)) (chars (S.bytes (text_of p)))) None (begins_at matched_before k) };
+    ghost meaning = { λ p. token_list (listed (F.compares (fits_of_text p)) (chars (S.bytes (text_of p)))) (λ v. v ≡ text_of p) matched_before (Unit {0}) (Only (Expected (Fixed (S.bytes (text_of p))))) Input.Error.seen None };
 
     ghost parts = { λ p. 1 };
 
@@ -122,9 +120,9 @@ impl<Input: Stream, F: Fits<char, Input::Token>, S: LastingText> Parser<Input>
 
     ghost default_valid = { λ s d. tt };
 
-    ghost laws = { λ p l. token_list_is_meaning _ _ _ _ _ _ _ (λ s d. d) };
+    ghost laws = { λ p l. token_list_is_meaning _ _ _ _ _ _ _ _ _ (λ s d. d) };
 
-    ghost single = { λ p l d. token_list_means_one (λ _. Unit {0}) _ _ _ _ _ _ (listed_ends_once _ _) (listed_compares_once _ _ (F.once (fits_of_text p) d)) };
+    ghost single = { λ p l d. token_list_means_one (λ _. Unit {0}) _ _ _ _ _ _ _ _ (listed_ends_once _ _) (listed_compares_once _ _ (F.once (fits_of_text p) d)) };
 }
 
 /// One call of a parser of the characters of a text.
@@ -141,11 +139,11 @@ where
     requires { F.ready fits.now }
     ensures passes { Passes (Input.marks input.old) (Input.marks input.new) (Input.failures input.old) (Input.failures input.new) }
     ensures answers { Answers (world Input.step Input.Error.seen Input.steady (λ s. matched_before s ≡ 0))
-        (token_list (listed (F.compares fits.now) (chars (S.bytes text))) (λ v. v ≡ text) matched_before (Unit {0}) (Nothing {R = Input.Range}))
+        (token_list (listed (F.compares fits.now) (chars (S.bytes text))) (λ v. v ≡ text) matched_before (Unit {0}) (Nothing {R = Input.Range}) Input.Error.seen None)
         (record { first = M.first mode; state = state.old; left = state.new; old = Input.view input.old; new = Input.view input.new; before = Input.failures input.old; after = Input.failures input.new })
         result }
     ensures refuses { Reasoned Input.Error.seen.kind (Input.view input.new).is_open
-        (RefusesList Input.Error.seen (listed (F.compares fits.now) (chars (S.bytes text))) None (begins_at matched_before (kept_from (M.first mode) state.old)) (Input.view input.old))
+        (RefusesList (listed (F.compares fits.now) (chars (S.bytes text))) Input.Error.seen None (begins_at matched_before (M.first mode) state.old) (Input.view input.old) (Input.view input.new))
         result }
 {
     let items = characters(text);

@@ -33,9 +33,7 @@ impl<Input: Stream, C: Class<Input::Token>> Parser<Input> for InClass<Input, C> 
 
     ghost valid = { λ s. Unit {0} };
 
-    ghost meaning = { λ p. takes_one (satisfied (of_function C.members)) (Unit {0}) (Only (Expected (Fixed C.bytes))) };
-
-    ghost refuses = { λ p k. RefusesToken Input.Error.seen };
+    ghost meaning = { λ p. takes_one (satisfied (of_function C.members)) (Unit {0}) (Only (Expected (Fixed C.bytes))) (RefusesToken Input.Error.seen) };
 
     ghost parts = { λ p. 1 };
 
@@ -67,7 +65,7 @@ impl<Input: Stream, C: Class<Input::Token>> Parser<Input> for InClass<Input, C> 
 
     ghost default_valid = { λ s d. tt };
 
-    ghost laws = { λ p l. takes_one_is_meaning (satisfied (of_function C.members)) _ _ _ _ };
+    ghost laws = { λ p l. takes_one_is_meaning (satisfied (of_function C.members)) _ _ _ _ _ };
 
-    ghost single = { λ p l d. takes_one_means_one (satisfied (of_function C.members)) _ _ _ (satisfied_is_test _ (of_function_is_predicate C.members)) };
+    ghost single = { λ p l d. takes_one_means_one (satisfied (of_function C.members)) _ _ _ _ (satisfied_is_test _ (of_function_is_predicate C.members)) };
 }

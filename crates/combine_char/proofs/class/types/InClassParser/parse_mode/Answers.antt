@@ -1,12 +1,13 @@
+use Rattle.combine_base.proofs.Reasoning.{reasons_always}
 use Rattle.combine_base.proofs.Same.{same_none}
 use Rattle.combine_token.proofs.OneToken.{takes_if}
 use Rattle.combine_char.proofs.class.types.InClassParser.parse_mode.Goals as goal
 
 pub returns-clause-answers : goal.returns-clause-answers
-returns-clause-answers g c = takes_if _ _ _ _ _ _ tt _ c.token_if.ensures.reads (λ t b e. e)
+returns-clause-answers g c = takes_if _ _ _ _ _ _ _ tt _ c.token_if.ensures.reads (λ t b e. e)
 
 pub returns-clause-same : goal.returns-clause-same
 returns-clause-same g c = same_none _
 
 pub returns-clause-refuses : goal.returns-clause-refuses
-returns-clause-refuses g c = c.token_if.ensures.refuses
+returns-clause-refuses g c = reasons_always c.token_if.ensures.refuses
