@@ -24,6 +24,15 @@ number_parser = record { reads = record {}; order = record {}; number = record {
 abbrev pub worth : {T N : Type 0} → (ℕ → N) → (List T → ℕ) → List T → N
 worth of_sum number bytes = of_sum (number bytes)
 
+module _ {T R P E : Type 0} (s : Errors T R P E) where
+  abbrev pub refuses_short : P → Bool → E → Type 0
+  refuses_short place true e = ⊥
+  refuses_short place false e = Saying s kinds.End place (Only end_of_input) e
+
+  -- the error of too few bytes: peeked, made where they began, and it says that the input ended
+  pub record RefusesShort (v w : View P T) (committed : Bool) (e : E) : Type 0 where
+    pub is : refuses_short v.position committed e
+
 module _ {P T N : Type 0} (width : ℕ) (value : List T → N) where
   -- that many bytes are taken; too few are refused peeked, or more is asked for
   abbrev pub whole_number : Reading P T N
@@ -57,25 +66,16 @@ module _ {P T N : Type 0} (width : ℕ) (value : List T → N) where
     within = λ v a n k p. let i = p.0 in let j = p.2 in omega arith;
   }
 
-  module _ {R S : Type 0} where
+  module _ {R E S : Type 0} (s : Errors T R P E) where
     -- it keeps no state, and on need of more it has taken nothing
-    abbrev pub takes_number : Meaning P T R N S
-    takes_number = stateless whole_number ⊥ (Unit {0}) Nothing
+    abbrev pub takes_number : Meaning P T R E N S
+    takes_number = stateless whole_number ⊥ (Unit {0}) Nothing (RefusesShort s)
 
     pub takes_number_is_meaning : (fresh valid : S → Type 0) → IsMeaning fresh valid takes_number
-    takes_number_is_meaning fresh valid = stateless_is_meaning fresh valid whole_number ⊥ (Unit {0}) Nothing whole_number_is_reading
+    takes_number_is_meaning fresh valid = stateless_is_meaning fresh valid whole_number ⊥ (Unit {0}) Nothing (RefusesShort s) whole_number_is_reading
 
     pub takes_number_means_one : (valid : S → Type 0) → MeansOne valid takes_number
-    takes_number_means_one valid = stateless_means_one valid whole_number ⊥ (Unit {0}) Nothing (record { one = one })
-
-module _ {T R P E : Type 0} (s : Errors T R P E) where
-  abbrev pub refuses_short : P → Bool → E → Type 0
-  refuses_short place true e = ⊥
-  refuses_short place false e = Saying s kinds.End place (Only end_of_input) e
-
-  -- the error of too few bytes: peeked, made where they began, and it says that the input ended
-  pub record RefusesShort (v : View P T) (committed : Bool) (e : E) : Type 0 where
-    pub is : refuses_short v.position committed e
+    takes_number_means_one valid = stateless_means_one valid whole_number ⊥ (Unit {0}) Nothing (RefusesShort s) (record { one = one })
 
 module _ {T R P V E : Type 0} (steady : Type 0) (step : P → T → P) (s : Errors T R P E) (marked : View P T → Type 0) (place : P) (old new : View P T) (before after : Failures) where
   -- the stream was put back, and the end is answered

@@ -2,9 +2,10 @@ use Rattle.std.proofs.Common.{rules, ◌≡◌, arith, ap, sym, ◌∙◌, lengt
 use Rattle.combine_base.specs.declared.stream.Kind.TheVariants as kinds
 use Rattle.combine_base.proofs.Distances.{takes_token}
 use Rattle.combine_base.proofs.Progress.{takes_more}
+use Rattle.combine_base.proofs.Reasoning.{reasons_always}
 use Rattle.combine_base.proofs.Same.{passes_more}
 use Rattle.combine_byte_num.specs.WholeNumbers.{worth}
-use Rattle.combine_byte_num.proofs.Taking.{number_cut, number_unread, take_next}
+use Rattle.combine_byte_num.proofs.Taking.{cut_reasons, number_cut, number_unread, take_next, unread_reasons}
 use Rattle.combine_byte_num.proofs.whole.WholeNumberParser.parse_mode.Goals as goal
 
 pub returns-then-eq-clause-answers : goal.returns-then-eq-clause-answers
@@ -35,3 +36,11 @@ bytes-preserved g c =
       value = c.push-sum.ensures.value _ l i.value ∙ ap g.O.Order.number (sym (take_next _ _ _ _ d));
       fits = c.push-sum.ensures.fits;
     }
+
+pub returns-then-eq-clause-refuses : goal.returns-then-eq-clause-refuses
+returns-then-eq-clause-refuses g c = reasons_always (cut_reasons _ _ _ _ _ _ _ _ _ _ _ c.position-position.ensures c.too_few.ensures.back)
+
+pub returns-in-Err-clause-refuses : goal.returns-in-Err-clause-refuses
+returns-in-Err-clause-refuses g c =
+    let other : c.in-Err.kind ≡ kinds.End → ⊥ = search rules in
+    reasons_always (unread_reasons _ _ _ _ _ _ _ _ _ _ c.in-Err.ensures.read.is other _ c.new_error.ensures.kind)
