@@ -2,10 +2,11 @@
 use Rattle.std.proofs.Common.{◌≡◌, ◌⊎◌, inl, inr, List, Bool, true, false, sym, subst}
 use Rattle.combine_base.specs.Error.Items.{Item}
 use Rattle.combine_base.specs.Error.Errors.{Errors, Only, Says, Added, Unstored, Cleared}
-use Rattle.combine_base.specs.Parser.Meaning.{Meaning}
+use Rattle.combine_base.specs.Parser.Meaning.{BegunRefuses, Meaning, Reasons}
 use Rattle.combine_base.specs.Parser.Answer.{Run, World, Answers, fails, peeks, world}
 use Rattle.combine_base.specs.Parser.Judged.{IsRefusal}
 use Rattle.combine_base.specs.Parser.Reasons.{Reasoned}
+use Rattle.combine_base.specs.Stream.View.{View}
 use Rattle.combine_base.proofs.Calls.{left_settled}
 use Rattle.combine_base.proofs.Explaining.{reason_committed, reason_peeked}
 use Rattle.combine_base.proofs.Reasoning.{reasons_committed, reasons_ok, reasons_peek_ok, reasons_peeked}
@@ -14,7 +15,7 @@ use Rattle.combine_base.specs.declared.stream.Kind.{Kind}
 use Rattle.combine_base.specs.declared.stream.Kind.TheVariants as kinds
 use Rattle.combine_base.specs.declared.error.ParseResult.{ParseResult}
 use Rattle.combine_base.specs.declared.error.ParseResult.TheVariants.{CommitOk, PeekOk, CommitErr, PeekErr}
-use Rattle.combine_error.specs.Saying.{saying, saying_alike, Tells, tells, Hushes, hushes, ToldLess, ToldMore, told_more}
+use Rattle.combine_error.specs.Saying.{saying, saying_alike, Tells, tells, Hushes, hushes, Told, ToldLess, ToldMore, less_into, told_into, told_more}
 
 no_need : (b : Bool) (k : Kind) → IsRefusal b k → (k ≡ kinds.End) × (b ≡ true) → ⊥
 no_need b kinds.Refused i q = let e = q.0 in cc
@@ -25,18 +26,18 @@ no_need b kinds.Read i q = i
 no_need b kinds.Reset i q = i
 no_need b kinds.Lost i q = i
 
-module _ {P T R A S E : Type 0} (s : Errors T R P E) (step : P → T → P) (steady : Type 0) (fresh : S → Type 0) (m : Meaning P T R A S) (adds : List (Item T R) → Type 0) (r : Run P T S) where
+module _ {P T R A S E : Type 0} (s : Errors T R P E) (step : P → T → P) (steady : Type 0) (fresh : S → Type 0) (m : Meaning P T R E A S) (adds : List (Item T R) → Type 0) (start : Reasons P T E) (kept : S → Reasons P T E) (r : Run P T S) where
   abbrev here : World P T S E
   here = world step s steady fresh
 
-  abbrev other : Meaning P T R A S
-  other = saying m adds
+  abbrev other : Meaning P T R E A S
+  other = saying m adds start kept
 
   same_kind : (e e' : E) → s.kind e' ≡ s.kind e → Answers here other r (CommitErr e) → Answers here other r (CommitErr e')
   same_kind e e' i p = record { is = subst (fails here other r) (sym i) p.is }
 
   pub told : (says : List (Item T R) → Type 0) (x y : ParseResult A E) → Tells s r.new.is_open says x y → Answers here m r x → Answers here other r y
-  told says x y t p = by_case x y t.is (answers_alike here other m (saying_alike m adds) r x p)
+  told says x y t p = by_case x y t.is (answers_alike here other m (saying_alike m adds start kept) r x p)
     where
       by_says : (e e' : E) → IsRefusal r.new.is_open (s.kind e) → ((is : List (Item T R)) × says is × Added s is e e') ⊎ Unstored s (Unit {0}) e e' → Answers here other r (CommitErr e) → Answers here other r (CommitErr e')
       by_says e e' i (inl w) p = same_kind e e' w.2.kind p
@@ -56,7 +57,7 @@ module _ {P T R A S E : Type 0} (s : Errors T R P E) (step : P → T → P) (ste
       by_case (PeekErr t) y i p = rw i p
 
   pub hushed : (x y : ParseResult A E) → Hushes s r.new.is_open x y → Answers here m r x → Answers here other r y
-  hushed x y t p = by_case x y t.is (answers_alike here other m (saying_alike m adds) r x p)
+  hushed x y t p = by_case x y t.is (answers_alike here other m (saying_alike m adds start kept) r x p)
     where
       by_commit : (e e' : E) → (IsRefusal r.new.is_open (s.kind e) × Cleared s e e') ⊎ ((IsRefusal r.new.is_open (s.kind e) → ⊥) × (e' ≡ e)) → Answers here other r (CommitErr e) → Answers here other r (CommitErr e')
       by_commit e e' (inl i) p = same_kind e e' i.1.kind p
@@ -115,3 +116,21 @@ module _ {T R P V E : Type 0} (s : Errors T R P E) (is_open : Bool) (part : Bool
       by_case (PeekErr t) (CommitErr e) j p = absurd j
       by_case (CommitOk v) y j p = rw j (reasons_ok s.kind is_open (ToldLess s part) v)
       by_case (PeekOk v) y j p = rw j (reasons_peek_ok s.kind is_open (ToldLess s part) v)
+
+-- of a call that begins afresh, or goes on
+module _ {P T R V E : Type 0} (s : Errors T R P E) (is_open first : Bool) (start kept : Reasons P T E) (v w : View P T) where
+  pub told_begun : (i : Item T R) (x y : ParseResult V E) → Tells s is_open (Only i) x y → Reasoned s.kind is_open (BegunRefuses first start kept v w) x → Reasoned s.kind is_open (BegunRefuses first (λ v w. Told s (start v w) i) (λ v w. Told s (kept v w) i) v w) y
+  told_begun i x y t p c e q =
+      let r : Told s (BegunRefuses first start kept v w) i c e = record { is = told_reasons s is_open (BegunRefuses first start kept v w) i x y t p c e q } in
+      record {
+        afresh = λ j. told_into s (BegunRefuses first start kept v w) (start v w) i (λ c e b. b.afresh j) c e r;
+        resumed = λ j. told_into s (BegunRefuses first start kept v w) (kept v w) i (λ c e b. b.resumed j) c e r;
+      }
+
+  pub hushed_begun : (x y : ParseResult V E) → Hushes s is_open x y → Reasoned s.kind is_open (BegunRefuses first start kept v w) x → Reasoned s.kind is_open (BegunRefuses first (λ v w. ToldLess s (start v w)) (λ v w. ToldLess s (kept v w)) v w) y
+  hushed_begun x y t p c e q =
+      let r = hushed_reasons s is_open (BegunRefuses first start kept v w) x y t p c e q in
+      record {
+        afresh = λ j. less_into s (BegunRefuses first start kept v w) (start v w) (λ c e b. b.afresh j) c e r;
+        resumed = λ j. less_into s (BegunRefuses first start kept v w) (kept v w) (λ c e b. b.resumed j) c e r;
+      }

@@ -1,11 +1,11 @@
 //! The parsers that shape errors.
 ghost use Rattle.std.specs.Prelude.{◌≡◌, ◌↔◌, true};
-ghost use Rattle.combine_base.specs.Error.Errors.{Nothing, Only};
+ghost use Rattle.combine_base.specs.Error.Errors.{Only};
 ghost use Rattle.combine_base.specs.Error.Items as items;
 ghost use Rattle.combine_base.specs.Error.Items.{shown};
 ghost use Rattle.combine_base.specs.Parser.Judged.{IsRefusal};
 ghost use Rattle.combine_error.specs.Copies.{NoText};
-ghost use Rattle.combine_error.specs.Saying.{AndThen, Hushes, InPlace, Tells, ToldLess, saying, saying_is_meaning, saying_means_one, told_more};
+ghost use Rattle.combine_error.specs.Saying.{Hushes, Tells, hushing, hushing_is_meaning, hushing_means_one, naming, naming_is_meaning, naming_means_one, telling, telling_is_meaning, telling_means_one};
 ghost use Rattle.combine_error.specs.Shaped.{hushed_part, named_info, named_part, told_info, told_part};
 
 use crate::info::copied;
@@ -133,17 +133,15 @@ impl<Input: Stream, P: Parser<Input>> Parser<Input>
 
     ghost valid = { P.valid };
 
-    ghost meaning = { λ p. saying (P.meaning (told_part p)) (AndThen (P.meaning (told_part p)).adds (items.Message (shown (told_info p)))) };
-
-    ghost refuses = { λ p k v. told_more Input.Error.seen (P.refuses (told_part p) k v) (items.Message (shown (told_info p))) };
+    ghost meaning = { λ p. telling Input.Error.seen (P.meaning (told_part p)) (items.Message (shown (told_info p))) };
 
     ghost parts = { λ p. P.parts (told_part p) };
 
     ghost default_valid = { P.default_valid };
 
-    ghost laws = { λ p l. saying_is_meaning P.PartialState.is_default P.valid (P.meaning (told_part p)) (AndThen (P.meaning (told_part p)).adds (items.Message (shown (told_info p)))) (P.laws (told_part p) l) };
+    ghost laws = { λ p l. telling_is_meaning Input.Error.seen P.PartialState.is_default P.valid (P.meaning (told_part p)) (items.Message (shown (told_info p))) (P.laws (told_part p) l) };
 
-    ghost single = { λ p l d. saying_means_one P.valid (P.meaning (told_part p)) (AndThen (P.meaning (told_part p)).adds (items.Message (shown (told_info p)))) (P.single (told_part p) l d) };
+    ghost single = { λ p l d. telling_means_one Input.Error.seen P.valid (P.meaning (told_part p)) (items.Message (shown (told_info p))) (P.single (told_part p) l d) };
 
     #[inline(always)]
     fn parse_mode<M: ParseMode>(
@@ -181,17 +179,15 @@ impl<Input: Stream, P: Parser<Input>> Parser<Input> for Silent<P> {
 
     ghost valid = { P.valid };
 
-    ghost meaning = { λ p. saying (P.meaning (hushed_part p)) Nothing };
-
-    ghost refuses = { λ p k v. ToldLess Input.Error.seen (P.refuses (hushed_part p) k v) };
+    ghost meaning = { λ p. hushing Input.Error.seen (P.meaning (hushed_part p)) };
 
     ghost parts = { λ p. P.parts (hushed_part p) };
 
     ghost default_valid = { P.default_valid };
 
-    ghost laws = { λ p l. saying_is_meaning P.PartialState.is_default P.valid (P.meaning (hushed_part p)) Nothing (P.laws (hushed_part p) l) };
+    ghost laws = { λ p l. hushing_is_meaning Input.Error.seen P.PartialState.is_default P.valid (P.meaning (hushed_part p)) (P.laws (hushed_part p) l) };
 
-    ghost single = { λ p l d. saying_means_one P.valid (P.meaning (hushed_part p)) Nothing (P.single (hushed_part p) l d) };
+    ghost single = { λ p l d. hushing_means_one Input.Error.seen P.valid (P.meaning (hushed_part p)) (P.single (hushed_part p) l d) };
 
     #[inline(always)]
     fn parse_mode<M: ParseMode>(
@@ -227,17 +223,15 @@ impl<Input: Stream, P: Parser<Input>> Parser<Input>
 
     ghost valid = { P.valid };
 
-    ghost meaning = { λ p. saying (P.meaning (named_part p)) (InPlace (P.meaning (named_part p)).adds (items.Expected (shown (named_info p)))) };
-
-    ghost refuses = { λ p. P.refuses (named_part p) };
+    ghost meaning = { λ p. naming (P.meaning (named_part p)) (items.Expected (shown (named_info p))) };
 
     ghost parts = { λ p. P.parts (named_part p) };
 
     ghost default_valid = { P.default_valid };
 
-    ghost laws = { λ p l. saying_is_meaning P.PartialState.is_default P.valid (P.meaning (named_part p)) (InPlace (P.meaning (named_part p)).adds (items.Expected (shown (named_info p)))) (P.laws (named_part p) l) };
+    ghost laws = { λ p l. naming_is_meaning P.PartialState.is_default P.valid (P.meaning (named_part p)) (items.Expected (shown (named_info p))) (P.laws (named_part p) l) };
 
-    ghost single = { λ p l d. saying_means_one P.valid (P.meaning (named_part p)) (InPlace (P.meaning (named_part p)).adds (items.Expected (shown (named_info p)))) (P.single (named_part p) l d) };
+    ghost single = { λ p l d. naming_means_one P.valid (P.meaning (named_part p)) (items.Expected (shown (named_info p))) (P.single (named_part p) l d) };
 
     #[inline(always)]
     fn parse_mode<M: ParseMode>(

@@ -6,7 +6,7 @@ pub returns-clause-same : goal.returns-clause-same
 returns-clause-same g c = in_place_same _ _ _ c.parse_mode.ensures.same
 
 pub returns-clause-answers : goal.returns-clause-answers
-returns-clause-answers g c = answers_alike _ _ _ (saying_alike _ _) _ _ c.parse_mode.ensures.answers
+returns-clause-answers g c = answers_alike _ _ _ (saying_alike _ _ _ _) _ _ c.parse_mode.ensures.answers
 
 pub returns-clause-refuses : goal.returns-clause-refuses
 returns-clause-refuses g c = c.parse_mode.ensures.refuses
