@@ -29,7 +29,7 @@ module _ {I P T R C V S E : Type 0} (step : P → T → P) (s : Errors T R P E) 
   abbrev lean : Type 0
   lean = given × NeedsNoMemory step s.kind view answers
 
-  abbrev m : Meaning P T R V S
+  abbrev m : Meaning P T R E V S
   m = as_function step s.kind view answers lean
 
   abbrev run : View P T → Failures → Run P T S
@@ -45,7 +45,7 @@ module _ {I P T R C V S E : Type 0} (step : P → T → P) (s : Errors T R P E) 
 
     module _ (answer : ParseResult V E) (met : answers input answer left) where
       meant : (o : Outcome V) → answer_outcome step s.kind (view input) (view left) answer o → begun m first state (view input) o
-      meant o p = into_begun read ⊥ lean (Nothing {R = R}) first state (view input) o (record { input = input; left = left; answer = answer; met = met; stands = p; place = inl refl })
+      meant o p = into_begun read ⊥ lean (Nothing {R = R}) (RefusesCalled view answers) first state (view input) o (record { input = input; left = left; answer = answer; met = met; stands = p; place = inl refl })
 
     leaves : Settled step s.kind view answers marks failures steady input left → Leaves w end
     leaves k = record { count = k.moves.count; taken = k.moves.taken; state = d }
@@ -106,7 +106,7 @@ module _ {I P T R C V S E : Type 0} (step : P → T → P) (s : Errors T R P E) 
         pub called_back : ResetTo steady step marked (view left) new (failures left) later (Ok tt) → Answers w m (run new later) (CommitErr e)
         called_back b =
             let undecided : read (view input) Undecided = record { input = input; left = left; answer = CommitErr e; met = met; stands = rw (is_open, q.0) refl; place = inl refl } in
-            let a = asks w read ⊥ lean (Nothing {R = R}) (run new later) is_open undecided (λ x. absurd x) (b.is.0 (view input) i) (λ x. b.is.1 x ∙ settled.counts x) in
+            let a = asks w read ⊥ lean (Nothing {R = R}) (RefusesCalled view answers) (run new later) is_open undecided (λ x. absurd x) (b.is.0 (view input) i) (λ x. b.is.1 x ∙ settled.counts x) in
             record { is = rw q.0 (subst (ends w m (run new later)) (sym is_open) a) }
 
         pub back_open : ResetTo steady step marked (view left) new (failures left) later (Ok tt) → new.is_open ≡ true
@@ -121,8 +121,8 @@ module _ {I P T R C V S E : Type 0} (step : P → T → P) (s : Errors T R P E) 
 
 -- the error of a refusal is the function's
 module _ {I P T V E : Type 0} (kind : E → Kind) (is_open : Bool) (view : I → View P T) (answers : I → ParseResult V E → I → Type 0) (input left : I) where
-  pub called_says : (e : E) → answers input (CommitErr e) left → Reasoned {V = V} kind is_open (RefusesCalled view answers (view input)) (CommitErr e)
-  called_says e met = reasons_committed kind is_open (RefusesCalled view answers (view input)) e (λ r. record { input = input; left = left; answer = CommitErr e; met = met; place = refl; refused = (refl, refl) })
+  pub called_says : (e : E) → answers input (CommitErr e) left → Reasoned {V = V} kind is_open (RefusesCalled view answers (view input) (view left)) (CommitErr e)
+  called_says e met = reasons_committed kind is_open (RefusesCalled view answers (view input) (view left)) e (λ r. record { input = input; left = left; answer = CommitErr e; met = met; place = refl; leaves = refl; refused = (refl, refl) })
 
-  pub called_says_peeked : (t : Tracked E) → answers input (PeekErr t) left → Reasoned {V = V} kind is_open (RefusesCalled view answers (view input)) (PeekErr t)
-  called_says_peeked t met = reasons_peeked kind is_open (RefusesCalled view answers (view input)) t (record { input = input; left = left; answer = PeekErr t; met = met; place = refl; refused = (refl, refl) })
+  pub called_says_peeked : (t : Tracked E) → answers input (PeekErr t) left → Reasoned {V = V} kind is_open (RefusesCalled view answers (view input) (view left)) (PeekErr t)
+  called_says_peeked t met = reasons_peeked kind is_open (RefusesCalled view answers (view input) (view left)) t (record { input = input; left = left; answer = PeekErr t; met = met; place = refl; leaves = refl; refused = (refl, refl) })

@@ -1,16 +1,16 @@
 -- values changed by a function, or refused by it, which is known by its relation; kind and count are kept
 use denote.Ref.{MutBor}
 use Rattle.std.specs.Str.{IsUtf8}
-use Rattle.std.specs.Prelude.{ℕ, codes, ◌≡◌, ◌⊎◌, ◌↔◌, refl, List, Bool, true, Result, Ok, Err, Option, Some, None}
+use Rattle.std.specs.Prelude.{ℕ, codes, ◌≡◌, ◌⊎◌, ◌↔◌, refl, List, Bool, true, Result, Ok, Err}
 use Rattle.std.proofs.Common.{ap, sym, subst, inl, inr}
-use Rattle.combine_base.specs.Stream.View.{View, advanced, extended}
+use Rattle.combine_base.specs.Stream.View.{View, Takes, advanced, extended}
 use Rattle.combine_base.specs.Stream.Advance.{advanced_extended}
 use Rattle.combine_base.specs.Error.Errors.{Errors, New, Only, Says}
 use Rattle.combine_base.specs.Error.Items.{Item, Expected, Fixed, Message}
 use Rattle.combine_base.specs.Stream.Calls.{Passes}
 use Rattle.combine_base.specs.declared.stream.Failures.{Failures}
 use Rattle.combine_base.specs.Parser.Outcome.{Outcome, Accepted, Refused, Undecided, IsDecided, shape}
-use Rattle.combine_base.specs.Parser.Meaning.{Meaning, Reading, IsReading, IsSingle, IsMeaning, MeansOne, MeansSame}
+use Rattle.combine_base.specs.Parser.Meaning.{Meaning, Reading, Reasons, IsReading, IsSingle, IsMeaning, MeansOne, MeansSame}
 use Rattle.combine_base.specs.declared.stream.Kind.{Kind}
 use Rattle.combine_base.specs.declared.stream.Kind.TheVariants as kinds
 
@@ -38,6 +38,29 @@ pub record Denied {P T A : Type 0} (denies : A → Type 0) (r : Reading P T A) (
 pub record DecidesOne {P T A B : Type 0} (step : P → T → P) (r : Reading P T A) (gives : P → A → B → Type 0) (denies : A → Type 0) : Type 0 where
   pub one : (v : View P T) (a a' : A) (n m : ℕ) (k c : Bool) → r v (Accepted a n k) → r v (Accepted a' m c) → (b : B) → gives (advanced step n v).position a b → denies a' → ⊥
 
+module _ {P T A E : Type 0} (step : P → T → P) (says : P → A → E → Type 0) where
+  -- a value was accepted, and then refused with that error; the stream is left where the value ended
+  pub record RefusesValue (read : Reading P T A) (v w : View P T) (committed : Bool) (e : E) : Type 0 where
+    pub value : A
+    pub count : ℕ
+    pub accepted : read v (Accepted value count committed)
+    pub taken : Takes step count v w
+    pub said : says v.position value e
+
+  -- the error of a refusal is the part's, or that of the value
+  pub record RefusesChanged (read : Reading P T A) (part : Reasons P T E) (v w : View P T) (committed : Bool) (e : E) : Type 0 where
+    pub is : part v w committed e ⊎ RefusesValue read v w committed e
+
+  changed_refuses_into : (r t : Reading P T A) (a b : Reasons P T E) → ((v : View P T) (o : Outcome A) → r v o → t v o) → ((v w : View P T) (c : Bool) (e : E) → a v w c e → b v w c e) → (v w : View P T) (c : Bool) (e : E) → RefusesChanged r a v w c e → RefusesChanged t b v w c e
+  changed_refuses_into r t a b h i v w c e x = record { is = by_case x.is }
+    where
+      by_case : a v w c e ⊎ RefusesValue r v w c e → b v w c e ⊎ RefusesValue t v w c e
+      by_case (inl y) = inl (i v w c e y)
+      by_case (inr y) = inr (record { value = y.value; count = y.count; accepted = h v (Accepted y.value y.count c) y.accepted; taken = y.taken; said = y.said })
+
+  changed_refuses_same : (r t : Reading P T A) (a b : Reasons P T E) → ((v : View P T) (o : Outcome A) → r v o ↔ t v o) → ((v w : View P T) (c : Bool) (e : E) → a v w c e ↔ b v w c e) → (v w : View P T) (c : Bool) (e : E) → RefusesChanged r a v w c e ↔ RefusesChanged t b v w c e
+  changed_refuses_same r t a b h i v w c e = (changed_refuses_into r t a b (λ v o. (h v o).0) (λ v w c e. (i v w c e).0) v w c e, changed_refuses_into t r b a (λ v o. (h v o).1) (λ v w c e. (i v w c e).1) v w c e)
+
 module _ {P T A B : Type 0} (step : P → T → P) (gives : P → A → B → Type 0) (denies : A → Type 0) where
   -- a value that is accepted is changed, or refused with the same kind
   abbrev pub changed_reading : Reading P T A → Reading P T B
@@ -45,8 +68,8 @@ module _ {P T A B : Type 0} (step : P → T → P) (gives : P → A → B → Ty
   changed_reading r v (Refused k) = r v (Refused k) ⊎ Denied denies r v k
   changed_reading r v Undecided = r v Undecided
 
-  abbrev pub changed : {R S : Type 0} → Type 0 → Meaning P T R A S → Meaning P T R B S
-  changed spared m = record { whole = changed_reading m.whole; rest = λ s. changed_reading (m.rest s); lost = m.lost; keeps = m.keeps; puts_back = m.puts_back; lean = m.lean × spared; adds = m.adds }
+  abbrev pub changed : {R E S : Type 0} → (P → A → E → Type 0) → Type 0 → Meaning P T R E A S → Meaning P T R E B S
+  changed says spared m = record { whole = changed_reading m.whole; rest = λ s. changed_reading (m.rest s); lost = m.lost; keeps = m.keeps; puts_back = m.puts_back; lean = m.lean × spared; adds = m.adds; refuses = RefusesChanged step says m.whole m.refuses; refuses_from = λ s. RefusesChanged step says (m.rest s) (m.refuses_from s) }
 
   changed_stays : (r : Reading P T A) → IsReading r → (v : View P T) (x : List T) (m : Bool) (o : Outcome B) → v.is_open ≡ true → IsDecided o → changed_reading r v o → changed_reading r (extended x m v) o
   changed_stays r h v x m (Accepted b n k) e d p =
@@ -91,23 +114,24 @@ module _ {P T A B : Type 0} (step : P → T → P) (gives : P → A → B → Ty
   both_ways : (r t : Reading P T A) → ((v : View P T) (o : Outcome A) → r v o ↔ t v o) → (v : View P T) (o : Outcome B) → changed_reading r v o ↔ changed_reading t v o
   both_ways r t h v o = (into r t (λ v o. (h v o).0) v o, into t r (λ v o. (h v o).1) v o)
 
-  module _ {R S : Type 0} (spared : Type 0) where
-    pub changed_is_meaning : {fresh valid : S → Type 0} {m : Meaning P T R A S} → IsMeaning fresh valid m → IsMeaning fresh valid (changed spared m)
+  module _ {R E S : Type 0} (says : P → A → E → Type 0) (spared : Type 0) where
+    pub changed_is_meaning : {fresh valid : S → Type 0} {m : Meaning P T R E A S} → IsMeaning fresh valid m → IsMeaning fresh valid (changed says spared m)
     changed_is_meaning {fresh} {valid} {m} h = record {
       whole = changed_is_reading m.whole h.whole;
       rest = λ s k. changed_is_reading (m.rest s) (h.rest s k);
       start = λ s v o d. both_ways (m.rest s) m.whole (λ v o. h.start s v o d) v o;
       found = h.found;
+      reasons = λ s v w c e d. changed_refuses_same step says (m.rest s) m.whole (m.refuses_from s) m.refuses (λ v o. h.start s v o d) (λ v w c e. h.reasons s v w c e d) v w c e;
     }
 
-    pub changed_means_one : {valid : S → Type 0} {m : Meaning P T R A S} → MeansOne valid m → DecidesOne step m.whole gives denies → ((s : S) → valid s → DecidesOne step (m.rest s) gives denies) → MeansOne valid (changed spared m)
+    pub changed_means_one : {valid : S → Type 0} {m : Meaning P T R E A S} → MeansOne valid m → DecidesOne step m.whole gives denies → ((s : S) → valid s → DecidesOne step (m.rest s) gives denies) → MeansOne valid (changed says spared m)
     changed_means_one {valid} {m} h d e = record {
       whole = record { one = changed_one m.whole h.whole d };
       rest = λ s k. record { one = changed_one (m.rest s) (h.rest s k) (e s k) };
     }
 
-  pub changed_means_same : {R S : Type 0} {spared spared' : Type 0} {m m' : Meaning P T R A S} → spared ↔ spared' → MeansSame m m' → MeansSame (changed spared m) (changed spared' m')
-  changed_means_same {R} {S} {spared} {spared'} {m} {m'} i h = record {
+  pub changed_means_same : {R E S : Type 0} (says : P → A → E → Type 0) {spared spared' : Type 0} {m m' : Meaning P T R E A S} → spared ↔ spared' → MeansSame m m' → MeansSame (changed says spared m) (changed says spared' m')
+  changed_means_same {R} {E} {S} says {spared} {spared'} {m} {m'} i h = record {
     whole = both_ways m.whole m'.whole h.whole;
     rest = λ s. both_ways (m.rest s) (m'.rest s) (h.rest s);
     lost = h.lost;
@@ -115,24 +139,9 @@ module _ {P T A B : Type 0} (step : P → T → P) (gives : P → A → B → Ty
     puts_back = h.puts_back;
     lean = (λ x. (h.lean.0 x.0, i.0 x.1), λ x. (h.lean.1 x.0, i.1 x.1));
     adds = h.adds;
+    refuses = changed_refuses_same step says m.whole m'.whole m.refuses m'.refuses h.whole h.refuses;
+    refuses_from = λ s. changed_refuses_same step says (m.rest s) (m'.rest s) (m.refuses_from s) (m'.refuses_from s) (h.rest s) (h.refuses_from s);
   }
-
--- the reading that a call begins with, by what it was given
-abbrev pub read_from : {P T R A S : Type 0} → Meaning P T R A S → Option S → Reading P T A
-read_from m None = m.whole
-read_from m (Some s) = m.rest s
-
-module _ {P T R A S E : Type 0} (m : Meaning P T R A S) (part : Option S → View P T → Bool → E → Type 0) (says : P → A → E → Type 0) where
-  -- a value was accepted, and then refused with that error
-  pub record RefusesValue (from : Option S) (v : View P T) (committed : Bool) (e : E) : Type 0 where
-    pub value : A
-    pub count : ℕ
-    pub accepted : read_from m from v (Accepted value count committed)
-    pub said : says v.position value e
-
-  -- the error of a refusal is the part's, or that of the value
-  pub record RefusesChanged (from : Option S) (v : View P T) (committed : Bool) (e : E) : Type 0 where
-    pub is : part from v committed e ⊎ RefusesValue from v committed e
 
 -- a function's errors for a value are refusals or want of memory
 module _ {B E : Type 0} (kind : E → Kind) (post : Result B E → Type 0) where

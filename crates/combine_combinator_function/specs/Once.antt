@@ -3,7 +3,7 @@ use Rattle.std.specs.Prelude.{◌≡◌, Bool, true, false}
 use Rattle.combine_base.specs.Error.Errors.{Errors, Nothing}
 use Rattle.combine_base.specs.Parser.Answer.{World, world}
 use Rattle.combine_base.specs.Parser.Drivers.{Starts}
-use Rattle.combine_base.specs.Parser.Meaning.{IsMeaning, IsReading, Meaning, Reading}
+use Rattle.combine_base.specs.Parser.Meaning.{IsMeaning, IsReading, Meaning, Reading, unsaid}
 use Rattle.combine_base.specs.Stream.Calls.{Passes}
 use Rattle.combine_base.specs.Stream.View.{View}
 use Rattle.combine_base.specs.declared.error.ParseResult.{ParseResult}
@@ -14,19 +14,20 @@ abbrev pub unless_stopped : {P T V : Type 0} → Reading P T V → Bool → Read
 unless_stopped read true v o = ⊥
 unless_stopped read false v o = read v o
 
-abbrev pub once : {P T R V : Type 0} → Reading P T V → Meaning P T R V Bool
-once read = record { whole = read; rest = unless_stopped read; lost = λ s v. ⊥; keeps = ⊥; puts_back = ⊥; lean = Unit {0}; adds = Nothing }
+abbrev pub once : {P T R E V : Type 0} → Reading P T V → Meaning P T R E V Bool
+once read = record { whole = read; rest = unless_stopped read; lost = λ s v. ⊥; keeps = ⊥; puts_back = ⊥; lean = Unit {0}; adds = Nothing; refuses = unsaid; refuses_from = λ s. unsaid }
 
 unless_stopped_is_reading : {P T V : Type 0} (read : Reading P T V) → IsReading read → (s : Bool) → IsReading (unless_stopped read s)
 unless_stopped_is_reading read h true = record { ended = λ v e p. p; stays = λ v x m o e d p. p; peeked = λ v a n p. absurd p; within = λ v a n k p. absurd p }
 unless_stopped_is_reading read h false = record { ended = h.ended; stays = h.stays; peeked = h.peeked; within = h.within }
 
-pub once_is_meaning : {P T R V : Type 0} (read : Reading P T V) → IsReading read → IsMeaning (λ s. s ≡ false) (λ s. Unit {0}) (once {R = R} read)
+pub once_is_meaning : {P T R E V : Type 0} (read : Reading P T V) → IsReading read → IsMeaning (λ s. s ≡ false) (λ s. Unit {0}) (once {R = R} {E = E} read)
 once_is_meaning read h = record {
   whole = h;
   rest = λ s d. unless_stopped_is_reading read h s;
   start = λ s v o d. rw d (λ p. p, λ p. p);
   found = λ s v d p. p;
+  reasons = λ s v w c e d. (λ p. p, λ p. p);
 }
 
 module _ {I P T R E C : Type 0} (step : P → T → P) (errors : Errors T R P E) (steady : Type 0) (view : I → View P T) (marks : I → C → View P T → Type 0) (failures : I → Failures) where
