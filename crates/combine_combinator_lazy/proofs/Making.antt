@@ -49,7 +49,7 @@ module _ {I P T N C V F : Type 0} (view : I → View P T) (marks : I → C → V
   }
 
 module _ {N Input V U Checkpoint T R P E X : Type 0} (p : parser.Ghosts N Input U V Checkpoint T R P E X) (i : stream.Ghosts Input T R P E X) (seen : Errors T R P E) (fresh : U → Type 0) (makes : Makes P T N) (makable : N → Type 0) (adds : List (Item T R) → Type 0) where
-  abbrev all : Meaning P T R V (MadeState N U)
+  abbrev all : Meaning P T R E V (MadeState N U)
   all = made makes makable p.meaning adds
 
   abbrev kept : N → Type 0

@@ -124,10 +124,10 @@ pub record MakesOne {P T V N : Type 0} (makes : Makes P T N) (means : N → Read
   pub one : (v : View P T) (n n' : N) → makes v n → makes v n' → (o o' : Outcome V) → means n v o → means n' v o' → shape o ≡ shape o'
 
 -- the items of a parser that may be answered
-abbrev pub Adds : {P T R V N U : Type 0} → (N → Type 0) → (N → Meaning P T R V U) → List (Item T R) → Type 0
+abbrev pub Adds : {P T R E V N U : Type 0} → (N → Type 0) → (N → Meaning P T R E V U) → List (Item T R) → Type 0
 Adds {N = N} answers means is = (n : N) × answers n × (means n).adds is
 
-module _ {P T R V N U : Type 0} (makes : Makes P T N) (makable : N → Type 0) (means : N → Meaning P T R V U) (adds : List (Item T R) → Type 0) where
+module _ {P T R E V N U : Type 0} (makes : Makes P T N) (makable : N → Type 0) (means : N → Meaning P T R E V U) (adds : List (Item T R) → Type 0) where
   -- any parser that may be made there
   abbrev pub made_whole : Reading P T V
   made_whole v o = (n : N) × makes v n × (means n).whole v o
@@ -141,7 +141,7 @@ module _ {P T R V N U : Type 0} (makes : Makes P T N) (makable : N → Type 0) (
   made_lost (Kept k) v = (means k.parser).lost k.state v
 
   -- a kept parser means what one that is makable does
-  abbrev pub made : Meaning P T R V (MadeState N U)
+  abbrev pub made : Meaning P T R E V (MadeState N U)
   made = record {
     whole = made_whole;
     rest = made_rest;

@@ -2,32 +2,32 @@
 use Rattle.std.proofs.Common.{ℕ, ◌+◌, ◌<◌, ◌≤◌, ◌≡◌, List, ◌++◌, Bool, true, false, take, drop, arith, ap, sym, subst, refl, ◌∙◌, Ok, Err}
 use Rattle.combine_base.specs.Stream.View.{View, Follows, extended}
 use Rattle.combine_base.specs.Parser.Outcome.{Outcome, Accepted, Refused, Undecided, after, IsCommitted}
-use Rattle.combine_base.specs.Parser.Meaning.{Meaning, Reading, IsReading}
+use Rattle.combine_base.specs.Parser.Meaning.{BegunRefuses, Meaning, Reading, IsReading}
 use Rattle.combine_base.specs.Parser.Answer.{Run, World, Answers, Asks, fails, Leaves}
-use Rattle.combine_base.specs.Parser.Reasons.{kept_from}
+use Rattle.combine_base.specs.Parser.Reasons.{Reasoned}
 use Rattle.combine_base.specs.Sequence.Parts.{RunsFrom, run_from}
 use Rattle.combine_base.proofs.Calls.{around, needs}
 use Rattle.combine_base.proofs.Inside.{Inside, inside_fails, inside_refuses}
 use Rattle.combine_base.proofs.Progress.{progress_none}
+use Rattle.combine_base.specs.declared.error.ParseResult.{ParseResult}
 use Rattle.combine_base.specs.declared.error.ParseResult.TheVariants.{CommitOk, PeekOk, CommitErr, PeekErr}
 use Rattle.combine_base.specs.declared.error.Tracked.{Tracked}
 use Rattle.combine_base.specs.declared.stream.Failures.{Failures}
 use Rattle.combine_base.specs.declared.stream.Kind.{Kind}
 use Rattle.combine_base.specs.declared.stream.Kind.TheVariants as kinds
-use Rattle.combine_combinator_recognize.specs.Gathered.{Collects, HasValid, IsFresh, all_more, begins_with, collected_by, hinders, recognized, recognizes}
+use Rattle.combine_combinator_recognize.specs.Gathered.{Collects, HasValid, IsFresh, all_more, collected_by, hinders, recognized, recognizes}
 use Rattle.combine_combinator_recognize.specs.declared.combinator.types.Collected.TheVariants.{Tokens}
 use Rattle.combine_combinator_recognize.specs.declared.combinator.types.RecognizeState.{RecognizeState}
 use Rattle.combine_combinator_recognize.proofs.Gathering.{collected_on}
 
--- the part begins with its state in what the call runs from
-pub part_begins : {F S : Type 0} {fresh : RecognizeState F S → Type 0} {first : Bool} {given s : RecognizeState F S} → RunsFrom fresh first given s → begins_with (kept_from first given) ≡ kept_from first s.part
-part_begins {F} {S} {fresh} {first} {given} {s} r = by_mode first r
-  where
-    by_mode : (first : Bool) → RunsFrom fresh first given s → begins_with (kept_from first given) ≡ kept_from first s.part
-    by_mode true r = refl
-    by_mode false r = rw (r.kept refl) refl
+-- the errors of the part, which begins with its state in what the call runs from
+module _ {P T R A B S E F : Type 0} {fresh : RecognizeState F S → Type 0} (m : Meaning P T R E A S) {first : Bool} {given s : RecognizeState F S} (from : RunsFrom fresh first given s) {kind : E → Kind} {is_open : Bool} {v w : View P T} {result : ParseResult B E} where
+  pub part_reasons : Reasoned kind is_open (BegunRefuses first m.refuses (m.refuses_from s.part) v w) result → Reasoned kind is_open (BegunRefuses first m.refuses (m.refuses_from given.part) v w) result
+  part_reasons r c e x =
+      let p = r c e x in
+      record { afresh = p.afresh; resumed = λ i. subst (λ (z : RecognizeState F S). m.refuses_from z.part v w c e) (from.kept i) (p.resumed i) }
 
--- and it is valid
+-- the state of the part is valid
 pub part_valid : {F S : Type 0} {fresh valid : S → Type 0} {first : Bool} {given s : RecognizeState F S} → ((s : S) → fresh s → valid s) → RunsFrom (IsFresh fresh) first given s → HasValid valid given → HasValid valid s
 part_valid {F} {S} {fresh} {valid} {first} {given} {s} h r v = by_mode first r
   where
@@ -35,8 +35,8 @@ part_valid {F} {S} {fresh} {valid} {first} {given} {s} h r v = by_mode first r
     by_mode true r = h s.part (r.afresh refl).1
     by_mode false r = subst (HasValid valid) (sym (r.kept refl)) v
 
-module _ {P T R A S E F Held : Type 0} (w : World P T S E) (held : F → Held) (none : Held) (more : Held → T → Held) (lean : Type 0) (m : Meaning P T R A S) (s left : RecognizeState F S) (stopped : S) (old mid : View P T) (before between : Failures) where
-  abbrev all : Meaning P T R F (RecognizeState F S)
+module _ {P T R A S E F Held : Type 0} (w : World P T S E) (held : F → Held) (none : Held) (more : Held → T → Held) (lean : Type 0) (m : Meaning P T R E A S) (s left : RecognizeState F S) (stopped : S) (old mid : View P T) (before between : Failures) where
+  abbrev all : Meaning P T R E F (RecognizeState F S)
   all = recognized held none more lean m
 
   abbrev all_world : World P T (RecognizeState F S) E

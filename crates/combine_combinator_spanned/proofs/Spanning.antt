@@ -4,11 +4,11 @@ use Rattle.std.specs.declared.cmp.Ordering.{Ordering}
 use Rattle.std.specs.declared.cmp.Ordering.TheVariants.{Less, Equal, Greater}
 use Rattle.std.specs.Ordering.{is_eq}
 use Rattle.combine_base.specs.Error.Errors.{Errors, Placed}
-use Rattle.combine_base.specs.Parser.Answer.{Answers, Leaves, Run, World, fails, peeks, world}
+use Rattle.combine_base.specs.Parser.Answer.{Answers, Run, World, fails, peeks, world}
 use Rattle.combine_base.specs.Parser.Judged.{IsRefusal}
-use Rattle.combine_base.specs.Parser.Meaning.{Meaning}
+use Rattle.combine_base.specs.Parser.Meaning.{BegunRefuses, Meaning, Reasons}
 use Rattle.combine_base.specs.Parser.Reasons.{Reasoned}
-use Rattle.combine_base.proofs.Calls.{left_by, peeked_refusal, same_mark}
+use Rattle.combine_base.specs.Stream.View.{View}
 use Rattle.combine_base.proofs.Explaining.{reason_committed, reason_peeked}
 use Rattle.combine_base.proofs.Reasoning.{reasons_committed, reasons_ok, reasons_peek_ok, reasons_peeked}
 use Rattle.combine_base.specs.declared.error.ParseResult.{ParseResult}
@@ -40,7 +40,7 @@ module _ {T R Q E : Type 0} (cmp : Q → Q → Ordering) (s : Errors T R (Span Q
   pub spans_none : (span : Span Q) (e : E) → s.position e ≡ None → Spans cmp s span e e
   spans_none span e i = record { is = inr (λ a. rw i at a, refl) }
 
-  module _ {A S : Type 0} (step : Span Q → T → Span Q) (steady : Type 0) (fresh : S → Type 0) (m : Meaning (Span Q) T R A S) (r : Run (Span Q) T S) (span : Span Q) where
+  module _ {A S : Type 0} (step : Span Q → T → Span Q) (steady : Type 0) (fresh : S → Type 0) (m : Meaning (Span Q) T R E A S) (r : Run (Span Q) T S) (span : Span Q) where
     abbrev here : World (Span Q) T S E
     here = world step s steady fresh
 
@@ -60,35 +60,38 @@ module _ {T R Q E : Type 0} (cmp : Q → Q → Ordering) (s : Errors T R (Span Q
         by_case (PeekOk v) y i p = rw i p
 
   -- the span is that from where the call began to where it left the stream: `from` and `to` are the positions there
-  module _ {A S : Type 0} (step : Span Q → T → Span Q) (steady : Type 0) (fresh : S → Type 0) (m : Meaning (Span Q) T R A S) (r : Run (Span Q) T S) (part : Bool → E → Type 0) (from to : Span Q) (begins : from ≡ r.old.position) (ends : to ≡ r.new.position) where
+  module _ (is_open first : Bool) (start kept : Reasons (Span Q) T E) (v w : View (Span Q) T) (from to : Span Q) (begins : from ≡ v.position) (ends : to ≡ w.position) where
     abbrev read : Span Q
-    read = record { start = r.old.position.start; end = r.new.position.end }
+    read = record { start = v.position.start; end = w.position.end }
+
+    abbrev part : Bool → E → Type 0
+    part = BegunRefuses first start kept v w
 
     abbrev reason : Bool → E → Type 0
-    reason = SpansReason cmp s step r.old part
+    reason = BegunRefuses first (SpansReason cmp s start) (SpansReason cmp s kept) v w
 
-    abbrev around : World (Span Q) T S E
-    around = world step s steady fresh
-
-    pub spanned_reasons : (x y : ParseResult A E) → SpansAnswer cmp s (record { start = from.start; end = to.end }) x y → Answers around m r x → Reasoned s.kind r.new.is_open part x → Reasoned s.kind r.new.is_open reason y
-    spanned_reasons x y t p q = by_case x y (rw (begins, ends) at t).is p q
+    pub spanned_reasons : {A : Type 0} (x y : ParseResult A E) → SpansAnswer cmp s (record { start = from.start; end = to.end }) x y → Reasoned s.kind is_open part x → Reasoned s.kind is_open reason y
+    spanned_reasons {A} x y t q = by_case x y (rw (begins, ends) at t).is q
       where
-        refused : (committed : Bool) (e e' : E) → part committed e → Leaves around r → Spans cmp s read e e' → reason committed e'
-        refused committed e e' q l i = record { own = e; refused = q; count = l.count; left = r.new; taken = l.taken; spans = i }
+        refused : (committed : Bool) (e e' : E) → part committed e → Spans cmp s read e e' → reason committed e'
+        refused committed e e' q i = record {
+          afresh = λ j. record { own = e; refused = q.afresh j; spans = i };
+          resumed = λ j. record { own = e; refused = q.resumed j; spans = i };
+        }
 
-        committed : (e e' : E) → Spans cmp s read e e' → Answers around m r (CommitErr e) → Reasoned {V = A} s.kind r.new.is_open part (CommitErr e) → IsRefusal r.new.is_open (s.kind e') → reason true e'
-        committed e e' i p q h =
-            let own : IsRefusal r.new.is_open (s.kind e) = rw (sym (same_kind read e e' i)) h in
-            refused true e e' (reason_committed s.kind r.new.is_open part e q own) (left_by around m r e (λ j o. rw (j, same_mark around m r e p ∙ o) at own) p) i
+        committed : (e e' : E) → Spans cmp s read e e' → Reasoned {V = A} s.kind is_open part (CommitErr e) → IsRefusal is_open (s.kind e') → reason true e'
+        committed e e' i q h =
+            let own : IsRefusal is_open (s.kind e) = rw (sym (same_kind read e e' i)) h in
+            refused true e e' (reason_committed s.kind is_open part e q own) i
 
-        by_case : (x y : ParseResult A E) → spans_answer cmp s read x y → Answers around m r x → Reasoned s.kind r.new.is_open part x → Reasoned s.kind r.new.is_open reason y
-        by_case (CommitErr e) (CommitErr e') i p q = reasons_committed s.kind r.new.is_open reason e' (committed e e' i p q)
-        by_case (CommitErr e) (CommitOk v) i p q = absurd i
-        by_case (CommitErr e) (PeekOk v) i p q = absurd i
-        by_case (CommitErr e) (PeekErr t) i p q = absurd i
-        by_case (PeekErr t) (PeekErr t') i p q = reasons_peeked s.kind r.new.is_open reason t' (refused false t.error t'.error (reason_peeked s.kind r.new.is_open part t q) (peeked_refusal around m r (s.kind t.error) p.is).leaves i)
-        by_case (PeekErr t) (CommitOk v) i p q = absurd i
-        by_case (PeekErr t) (PeekOk v) i p q = absurd i
-        by_case (PeekErr t) (CommitErr e) i p q = absurd i
-        by_case (CommitOk v) y i p q = rw i (reasons_ok s.kind r.new.is_open reason v)
-        by_case (PeekOk v) y i p q = rw i (reasons_peek_ok s.kind r.new.is_open reason v)
+        by_case : (x y : ParseResult A E) → spans_answer cmp s read x y → Reasoned s.kind is_open part x → Reasoned s.kind is_open reason y
+        by_case (CommitErr e) (CommitErr e') i q = reasons_committed s.kind is_open reason e' (committed e e' i q)
+        by_case (CommitErr e) (CommitOk v) i q = absurd i
+        by_case (CommitErr e) (PeekOk v) i q = absurd i
+        by_case (CommitErr e) (PeekErr t) i q = absurd i
+        by_case (PeekErr t) (PeekErr t') i q = reasons_peeked s.kind is_open reason t' (refused false t.error t'.error (reason_peeked s.kind is_open part t q) i)
+        by_case (PeekErr t) (CommitOk v) i q = absurd i
+        by_case (PeekErr t) (PeekOk v) i q = absurd i
+        by_case (PeekErr t) (CommitErr e) i q = absurd i
+        by_case (CommitOk v) y i q = rw i (reasons_ok s.kind is_open reason v)
+        by_case (PeekOk v) y i q = rw i (reasons_peek_ok s.kind is_open reason v)

@@ -1,9 +1,10 @@
 -- errors that are made to stand at a span
-use Rattle.std.specs.Prelude.{ℕ, ◌≡◌, ◌⊎◌, Bool, Option, Some, None}
+use Rattle.std.specs.Prelude.{◌≡◌, ◌⊎◌, ◌↔◌, Bool, Option, Some, None}
 use Rattle.std.specs.declared.cmp.Ordering.{Ordering}
 use Rattle.std.specs.declared.cmp.Ordering.TheVariants.{Equal}
 use Rattle.combine_base.specs.Error.Errors.{Errors, Placed}
-use Rattle.combine_base.specs.Stream.View.{View, Takes}
+use Rattle.combine_base.specs.Parser.Meaning.{Alike, IsMeaning, Meaning, MeansOne, MeansSame, Reasons}
+use Rattle.combine_base.specs.Stream.View.{View}
 use Rattle.combine_base.specs.declared.error.ParseResult.{ParseResult}
 use Rattle.combine_base.specs.declared.error.ParseResult.TheVariants.{CommitOk, PeekOk, CommitErr, PeekErr}
 use Rattle.combine_error.specs.declared.span.Span.{Span}
@@ -40,11 +41,37 @@ module _ {T R Q E : Type 0} (cmp : Q → Q → Ordering) (s : Errors T R (Span Q
   pub record SpansAnswer {V : Type 0} (span : Span Q) (x y : ParseResult V E) : Type 0 where
     pub is : spans_answer span x y
 
-  -- the error of the part's refusal, at the span from where the call began to where the refusal left the stream, some tokens later
-  pub record SpansReason (step : Span Q → T → Span Q) (v : View (Span Q) T) (part : Bool → E → Type 0) (committed : Bool) (e : E) : Type 0 where
+  -- the error of the part's refusal, at the span from where the call began to where the refusal left the stream
+  pub record SpansReason (reasons : Reasons (Span Q) T E) (v w : View (Span Q) T) (committed : Bool) (e : E) : Type 0 where
     pub own : E
-    pub refused : part committed own
-    pub count : ℕ
-    pub left : View (Span Q) T
-    pub taken : Takes step count v left
-    pub spans : Spans (record { start = v.position.start; end = left.position.end }) own e
+    pub refused : reasons v w committed own
+    pub spans : Spans (record { start = v.position.start; end = w.position.end }) own e
+
+  spans_into : (a b : Reasons (Span Q) T E) → ((v w : View (Span Q) T) (c : Bool) (e : E) → a v w c e → b v w c e) → (v w : View (Span Q) T) (c : Bool) (e : E) → SpansReason a v w c e → SpansReason b v w c e
+  spans_into a b h v w c e x = record { own = x.own; refused = h v w c x.own x.refused; spans = x.spans }
+
+  spans_same : (a b : Reasons (Span Q) T E) → ((v w : View (Span Q) T) (c : Bool) (e : E) → a v w c e ↔ b v w c e) → (v w : View (Span Q) T) (c : Bool) (e : E) → SpansReason a v w c e ↔ SpansReason b v w c e
+  spans_same a b h v w c e = (spans_into a b (λ v w c e. (h v w c e).0) v w c e, spans_into b a (λ v w c e. (h v w c e).1) v w c e)
+
+  -- as the part, but for where its errors stand
+  module _ {A S : Type 0} where
+    abbrev pub spanning : Meaning (Span Q) T R E A S → Meaning (Span Q) T R E A S
+    spanning m = record { whole = m.whole; rest = m.rest; lost = m.lost; keeps = m.keeps; puts_back = m.puts_back; lean = m.lean; adds = m.adds; refuses = SpansReason m.refuses; refuses_from = λ z. SpansReason (m.refuses_from z) }
+
+    pub spanning_is_meaning : (fresh valid : S → Type 0) (m : Meaning (Span Q) T R E A S) → IsMeaning fresh valid m → IsMeaning fresh valid (spanning m)
+    spanning_is_meaning fresh valid m h = record { whole = h.whole; rest = h.rest; start = h.start; found = h.found; reasons = λ z v w c e d. (spans_into_at z d v w c e, spans_from_at z d v w c e) }
+      where
+        spans_into_at : (z : S) → fresh z → (v w : View (Span Q) T) (c : Bool) (e : E) → SpansReason (m.refuses_from z) v w c e → SpansReason m.refuses v w c e
+        spans_into_at z d = spans_into (m.refuses_from z) m.refuses (λ v w c e. (h.reasons z v w c e d).0)
+
+        spans_from_at : (z : S) → fresh z → (v w : View (Span Q) T) (c : Bool) (e : E) → SpansReason m.refuses v w c e → SpansReason (m.refuses_from z) v w c e
+        spans_from_at z d = spans_into m.refuses (m.refuses_from z) (λ v w c e. (h.reasons z v w c e d).1)
+
+    pub spanning_means_one : (valid : S → Type 0) (m : Meaning (Span Q) T R E A S) → MeansOne valid m → MeansOne valid (spanning m)
+    spanning_means_one valid m h = record { whole = h.whole; rest = h.rest }
+
+    pub spanning_means_same : (m m' : Meaning (Span Q) T R E A S) → MeansSame m m' → MeansSame (spanning m) (spanning m')
+    spanning_means_same m m' h = record { whole = h.whole; rest = h.rest; lost = h.lost; keeps = h.keeps; puts_back = h.puts_back; lean = h.lean; adds = h.adds; refuses = spans_same m.refuses m'.refuses h.refuses; refuses_from = λ z. spans_same (m.refuses_from z) (m'.refuses_from z) (h.refuses_from z) }
+
+    pub spanning_alike : (m : Meaning (Span Q) T R E A S) → Alike (spanning m) m
+    spanning_alike m = record { whole = λ v o. (λ i. i, λ i. i); rest = λ s v o. (λ i. i, λ i. i); lost = λ s v. (λ i. i, λ i. i); keeps = (λ i. i, λ i. i); puts_back = (λ i. i, λ i. i); lean = (λ i. i, λ i. i) }

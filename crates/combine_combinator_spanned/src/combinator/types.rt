@@ -1,6 +1,6 @@
 //! The parser that `spanned` answers.
 ghost use Rattle.std.specs.Prelude.{◌≡◌};
-ghost use Rattle.combine_combinator_spanned.specs.Spanned.{Spans, SpansAnswer, SpansReason, spanned_part};
+ghost use Rattle.combine_combinator_spanned.specs.Spanned.{Spans, SpansAnswer, spanned_part, spanning, spanning_is_meaning, spanning_means_one};
 
 use combine_base::error::{ErrorOffset, ParseError, ParseResult, Tracked};
 use combine_base::parser::{Outputs, ParseMode, Parser};
@@ -64,17 +64,15 @@ where
 
     ghost valid = { P.valid };
 
-    ghost meaning = { λ p. P.meaning (spanned_part p) };
-
-    ghost refuses = { λ p k v. SpansReason Q.cmp Input.Error.seen Input.step v (P.refuses (spanned_part p) k v) };
+    ghost meaning = { λ p. spanning Q.cmp Input.Error.seen (P.meaning (spanned_part p)) };
 
     ghost parts = { λ p. 1 };
 
     ghost default_valid = { P.default_valid };
 
-    ghost laws = { λ p l. P.laws (spanned_part p) l };
+    ghost laws = { λ p l. spanning_is_meaning Q.cmp Input.Error.seen P.PartialState.is_default P.valid (P.meaning (spanned_part p)) (P.laws (spanned_part p) l) };
 
-    ghost single = { λ p l d. P.single (spanned_part p) l d };
+    ghost single = { λ p l d. spanning_means_one Q.cmp Input.Error.seen P.valid (P.meaning (spanned_part p)) (P.single (spanned_part p) l d) };
 
     #[inline(always)]
     fn parse_mode<M: ParseMode>(

@@ -1,8 +1,9 @@
 use Rattle.std.proofs.Common.{refl}
 use Rattle.combine_base.specs.Parser.Answer.{world}
+use Rattle.combine_base.proofs.Reasoning.{reasons_err, reasons_peek_err}
 use Rattle.combine_base.proofs.Starting.{at_rest, in_mode}
 use Rattle.combine_combinator_recognize.specs.Gathered.{recognized_is_meaning}
-use Rattle.combine_combinator_recognize.proofs.Recognizing.{part_valid, recognize_asks, recognize_peeks}
+use Rattle.combine_combinator_recognize.proofs.Recognizing.{part_reasons, part_valid, recognize_asks, recognize_peeks}
 use Rattle.combine_combinator_recognize.proofs.combinator.types.RecognizeParser.parse_mode.Goals as goal
 
 pub returns-in-PeekOk-clause-answers : goal.returns-in-PeekOk-clause-answers
@@ -26,3 +27,9 @@ returns-in-Ok-collect_since-clause-answers g c =
     let stands = g.met.Input.ResetStream.lasts _ _ _ _ c.parse_mode.ensures.passes.marks c.checkpoint-start.ensures.stands in
     let need = c.needs_more.ensures.0 c.if-needs_more.true in
     in_mode _ _ _ (recognized_is_meaning g.F.Append.held g.F.Append.none g.F.Append.more g.F.Append.lean laws) _ _ _ _ from _ _ _ _ _ (recognize_asks w g.F.Append.held g.F.Append.none g.F.Append.more g.F.Append.lean m s _ c.parse_mode.new.state _ _ _ _ c.or_empty-then-needs_more.result c.or_empty-then-needs_more.ensures _ _ c.in-Ok-collect_since.tokens refl _ need a (λ x. c.in-Ok-collect_since.ensures.collects x.count _ stands x.taken))
+
+pub returns-else-needs_more-clause-refuses : goal.returns-else-needs_more-clause-refuses
+returns-else-needs_more-clause-refuses g c = part_reasons (g.P.Parser.meaning c.args.self.now.parser) c.take_state-collected.ensures.from (reasons_err _ _ _ _ c.in-CommitErr.ensures.refuses)
+
+pub returns-in-PeekErr-clause-refuses : goal.returns-in-PeekErr-clause-refuses
+returns-in-PeekErr-clause-refuses g c = part_reasons (g.P.Parser.meaning c.args.self.now.parser) c.take_state-collected.ensures.from (reasons_peek_err _ _ _ _ c.in-PeekErr.ensures.refuses)
