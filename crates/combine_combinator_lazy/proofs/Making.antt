@@ -1,5 +1,5 @@
 -- the answers of `lazy` and `factory`, by those of the parser that was made
-use Rattle.std.proofs.Common.{◌≡◌, ◌⊎◌, inl, inr, Bool, true, false, List, refl, sym, subst, arith, Some, None}
+use Rattle.std.proofs.Common.{◌≡◌, ◌⊎◌, inl, inr, Bool, true, false, List, refl, sym, subst, arith}
 use denote.Ref.{MutBor}
 use Rattle.std.specs.Fn.{Shared, always_fn}
 use Rattle.combine_base.specs.Error.Errors.{Errors}
@@ -8,12 +8,13 @@ use Rattle.combine_base.specs.Parser.Answer.{World, Run, Answers, Resumes, world
 use Rattle.combine_base.specs.Parser.Drivers.{Starts}
 use Rattle.combine_base.specs.Parser.Judged.{NeedsMore}
 use Rattle.combine_base.specs.Parser.Kept.{KeptOf}
-use Rattle.combine_base.specs.Parser.Meaning.{Meaning, Reading, IsMeaning}
-use Rattle.combine_base.specs.Parser.Reasons.{Reasoned, kept_from}
+use Rattle.combine_base.specs.Parser.Meaning.{Meaning, Reading, IsMeaning, begun_refuses}
+use Rattle.combine_base.specs.Parser.Reasons.{Reasoned}
 use Rattle.combine_base.specs.Sequence.Parts.{RunsFrom, run_from}
 use Rattle.combine_base.specs.Stream.View.{View, extended}
 use Rattle.combine_base.proofs.Inside.{Inside, Keeps, inside_asks, inside_commits, inside_fails, inside_peeks, inside_refuses}
 use Rattle.combine_base.proofs.Progress.{Progress, after_none, takes_none}
+use Rattle.combine_base.proofs.Reasoning.{reasons_afresh}
 use Rattle.combine_base.proofs.Same.{same_more, same_none}
 use Rattle.combine_base.proofs.Starting.{in_mode, progress_here}
 use Rattle.combine_base.specs.declared.error.ParseResult.{ParseResult}
@@ -22,7 +23,7 @@ use Rattle.combine_base.specs.declared.parser.Parser as parser
 use Rattle.combine_base.specs.declared.stream.StreamOnce as stream
 use Rattle.combine_base.specs.declared.stream.Failures.{Failures}
 use Rattle.combine_combinator_lazy.specs.Calling.{CalledMade}
-use Rattle.combine_combinator_lazy.specs.Made.{InPlace, Lasts, MadeAt, Makes, RefusesMade, by_factory, is_unmade, made, made_rest, made_there, valid_made}
+use Rattle.combine_combinator_lazy.specs.Made.{InPlace, Lasts, MadeAt, Makes, by_factory, is_unmade, made, made_rest, made_there, valid_made}
 use Rattle.combine_combinator_lazy.specs.declared.combinator.made.Made.{Made}
 use Rattle.combine_combinator_lazy.specs.declared.combinator.made.MadeState.{MadeState}
 use Rattle.combine_combinator_lazy.specs.declared.combinator.made.MadeState.TheVariants.{Unmade, Kept}
@@ -137,16 +138,21 @@ module _ {N Input V U Checkpoint T R P E X : Type 0} (p : parser.Ghosts N Input 
     begins_in_place old before e f lasts h k m = subst (λ v. Answers all_world all (run_from Unmade state v (i.view left) before (i.failures left)) y) e (subst (λ b. Answers all_world all (run_from Unmade state (i.view input) (i.view left) b (i.failures left)) y) f (begins_made lasts h k (subst (λ v. makes v l.parser) (sym e) m)))
 
     -- and the error of its refusal
-    pub reasons_kept : (first ≡ false) → Reasoned seen.kind (i.view left).is_open (RefusesMade makes fresh p.refuses (kept_from first (Kept l)) (i.view input)) y
-    reasons_kept e committed x r = rw e record { is = (rw e at g.refuses) committed x r }
+    pub reasons_kept : (given : MadeState N U) → RunsFrom is_unmade first given (Kept l) → Reasoned seen.kind (i.view left).is_open (begun_refuses all first given (i.view input) (i.view left)) y
+    reasons_kept given from c x r =
+        let q = g.refuses c x r in
+        record {
+          afresh = λ j. absurd (let e = from.afresh j in cc);
+          resumed = λ j. subst (λ (z : MadeState N U). all.refuses_from z (i.view input) (i.view left) c x) (from.kept j) (q.resumed j);
+        }
 
-    module _ (given : MadeState N U) (from : RunsFrom is_unmade first given Unmade) (f : fresh l.state) (m : makes (i.view input) l.parser) where
-      pub reasons_made : Reasoned seen.kind (i.view left).is_open (RefusesMade makes fresh p.refuses (kept_from first given) (i.view input)) y
-      reasons_made committed x r = by_mode first from (g.refuses committed x r)
-        where
-          by_mode : (b : Bool) → RunsFrom is_unmade b given Unmade → p.refuses l.parser (kept_from b l.state) (i.view input) committed x → RefusesMade makes fresh p.refuses (kept_from b given) (i.view input) committed x
-          by_mode true k j = record { is = record { parser = l.parser; made = m; at = None; begins = tt; said = j } }
-          by_mode false k j = rw (sym (k.kept refl)) record { is = record { parser = l.parser; made = m; at = Some l.state; begins = f; said = j } }
+    pub reasons_made : (given : MadeState N U) → RunsFrom is_unmade first given Unmade → IsMeaning fresh p.valid (p.meaning l.parser) → fresh l.state → makes (i.view input) l.parser → Reasoned seen.kind (i.view left).is_open (begun_refuses all first given (i.view input) (i.view left)) y
+    reasons_made given from h f m c x r =
+        let q = g.refuses c x r in
+        record {
+          afresh = λ j. record { parser = l.parser; made = m; said = q.afresh j };
+          resumed = λ j. subst (λ (z : MadeState N U). all.refuses_from z (i.view input) (i.view left) c x) (from.kept j) (record { parser = l.parser; made = m; said = (h.reasons l.state (i.view input) (i.view left) c x f).0 (q.resumed j) });
+        }
 
 -- the same as an answer of the parser that was made, from its start, where the maker left the stream in place
 module _ {N Input V U Checkpoint T R P E X : Type 0} (p : parser.Ghosts N Input U V Checkpoint T R P E X) (i : stream.Ghosts Input T R P E X) (seen : Errors T R P E) (fresh : U → Type 0) {old asked left : Input} {n : N} {u : U} {state : MadeState N U} {y : ParseResult V E} (g : CalledMade p i seen fresh true asked left (record { parser = n; state = u }) state y) (e : i.view asked ≡ i.view old) where
@@ -163,5 +169,5 @@ module _ {N Input V U Checkpoint T R P E X : Type 0} (p : parser.Ghosts N Input 
     answers = in_mode around p.valid (p.meaning n) h true u u g.stopped (record { afresh = λ k. d; kept = λ k. refl }) (i.view old) (i.view left) (i.failures old) (i.failures left) y (subst (λ v. from_view v (i.failures old)) e (subst (from_view (i.view asked)) f g.answers));
   }
 
-  pub refuses_made : Reasoned seen.kind (i.view left).is_open (p.refuses n None (i.view old)) y
-  refuses_made = subst (λ v. Reasoned seen.kind (i.view left).is_open (p.refuses n None v) y) e g.refuses
+  pub refuses_made : Reasoned seen.kind (i.view left).is_open ((p.meaning n).refuses (i.view old) (i.view left)) y
+  refuses_made = subst (λ v. Reasoned seen.kind (i.view left).is_open ((p.meaning n).refuses v (i.view left)) y) e (reasons_afresh g.refuses)

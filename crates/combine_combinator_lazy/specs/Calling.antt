@@ -1,12 +1,12 @@
 -- what a run of a parser that was made promises
-use Rattle.std.specs.Prelude.{◌≡◌, ◌⊎◌, Bool, None}
+use Rattle.std.specs.Prelude.{◌≡◌, ◌⊎◌, Bool}
 use denote.Ref.{MutBor}
 use Rattle.combine_base.specs.Error.Errors.{Errors}
 use Rattle.combine_base.specs.Parser.Answer.{Answers, world}
 use Rattle.combine_base.specs.Parser.Drivers.{Starts}
 use Rattle.combine_base.specs.Parser.Judged.{NeedsMore}
-use Rattle.combine_base.specs.Parser.Meaning.{MeansSame}
-use Rattle.combine_base.specs.Parser.Reasons.{Reasoned, kept_from}
+use Rattle.combine_base.specs.Parser.Meaning.{MeansSame, begun_refuses}
+use Rattle.combine_base.specs.Parser.Reasons.{Reasoned}
 use Rattle.combine_base.specs.Sequence.Parts.{run_from}
 use Rattle.combine_base.specs.Stream.Calls.{Passes}
 use Rattle.combine_base.specs.declared.error.ParseResult.{ParseResult}
@@ -27,7 +27,7 @@ module _ {N Input V U Checkpoint T R P E X : Type 0} (p : parser.Ghosts N Input 
     pub passes : Passes (i.marks input) (i.marks left) (i.failures input) (i.failures left)
     pub answers : Answers (world i.step seen i.steady fresh) (p.meaning from.parser) (run_from from.state stopped (i.view input) (i.view left) (i.failures input) (i.failures left)) result
     pub leaves : (NeedsMore seen.kind (i.view left).is_open result × (state ≡ Kept (record { parser = parser; state = stopped })) × p.valid stopped) ⊎ ((NeedsMore seen.kind (i.view left).is_open result → ⊥) × (state ≡ Unmade))
-    pub refuses : Reasoned seen.kind (i.view left).is_open (p.refuses from.parser (kept_from first from.state) (i.view input)) result
+    pub refuses : Reasoned seen.kind (i.view left).is_open (begun_refuses (p.meaning from.parser) first from.state (i.view input) (i.view left)) result
 
   module _ (post : MutBor Input → N → MutBor Input → Type 0) where
     -- The maker was asked for this very stream, which it left in place, and the parser that it answered was run from a default state.
@@ -48,4 +48,4 @@ module _ {N Input V U Checkpoint T R P E X : Type 0} (p : parser.Ghosts N Input 
       pub parser : N
       pub made : MadeFor i.view post input asked parser
       pub answers : Starts (world i.step seen i.steady fresh) (p.meaning parser) (i.view input) (i.view left) (i.failures input) (i.failures left) result
-      pub refuses : Reasoned seen.kind (i.view left).is_open (p.refuses parser None (i.view input)) result
+      pub refuses : Reasoned seen.kind (i.view left).is_open ((p.meaning parser).refuses (i.view input) (i.view left)) result

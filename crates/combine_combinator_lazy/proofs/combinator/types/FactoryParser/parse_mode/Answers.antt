@@ -3,7 +3,7 @@ use Rattle.combine_base.proofs.Starting.{in_mode}
 use Rattle.combine_base.specs.Error.Errors.{Nothing}
 use Rattle.combine_base.specs.Parser.Kept.{KeptOf}
 use Rattle.combine_combinator_lazy.specs.Made.{MadeAt, by_factory, factory_maker, made_at_lasts, made_at_of_for, made_is_meaning}
-use Rattle.combine_combinator_lazy.proofs.Making.{begins_in_place, factory_makable, kept_valid, leaves_valid, makable_kept, reasons_made, resumes_made}
+use Rattle.combine_combinator_lazy.proofs.Making.{begins_in_place, factory_makable, kept_valid, leaves_valid, makable_kept, reasons_kept, reasons_made, resumes_made}
 use Rattle.combine_combinator_lazy.proofs.combinator.types.FactoryParser.parse_mode.Goals as goal
 
 pub resume_made-requires-clause-ready : goal.resume_made-requires-clause-ready
@@ -73,4 +73,12 @@ returns-clause-refuses g c =
     let e = run.view in
     let made = made_at_of_for view (λ i n l. g.F.Fn.post (factory_maker c.args.self.now) (i, tt) (n, (l, tt))) _ _ _ run.made in
     let kept = makable_kept g.N.Parser g.Input.StreamOnce g.Input.Error.ParseError.seen g.N.PartialState.Default.is_default made_at makable Nothing run.parser (every _ _ made) (factory_makable view g.Input.StreamOnce.marks g.Input.StreamOnce.failures g.F.Fn g.N.Parser.lawful (factory_maker c.args.self.now) c.requires.lawful.0 c.requires.lawful.1 every _ _ made) in
-    rw e at (reasons_made g.N.Parser g.Input.StreamOnce g.Input.Error.ParseError.seen g.N.PartialState.Default.is_default made_at makable Nothing kept run.called _ c.in_default.ensures.from run.is_default (rw e made))
+    rw e at (reasons_made g.N.Parser g.Input.StreamOnce g.Input.Error.ParseError.seen g.N.PartialState.Default.is_default made_at makable Nothing kept run.called _ c.in_default.ensures.from (g.met.N.Parser.laws _ (every _ _ made)) run.is_default (rw e made))
+
+pub returns-in-Kept-clause-refuses : goal.returns-in-Kept-clause-refuses
+returns-in-Kept-clause-refuses g c =
+    let view = g.Input.StreamOnce.view in
+    let made_at = MadeAt view (λ i n l. g.F.Fn.post (factory_maker c.args.self.now) (i, tt) (n, (l, tt))) in
+    let makable = by_factory view g.Input.StreamOnce.marks g.Input.StreamOnce.failures g.F.Fn g.N.Parser.lawful in
+    let v = kept_valid (KeptOf g.N.Parser.lawful g.N.Parser.meaning makable) g.N.Parser.valid c.in-Kept.ensures.from c.requires.valid in
+    reasons_kept g.N.Parser g.Input.StreamOnce g.Input.Error.ParseError.seen g.N.PartialState.Default.is_default made_at makable Nothing v.0 c.resume_made.ensures _ c.in-Kept.ensures.from

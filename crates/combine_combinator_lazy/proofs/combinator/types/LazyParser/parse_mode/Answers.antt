@@ -1,7 +1,7 @@
 use Rattle.combine_base.proofs.Starting.{in_mode}
 use Rattle.combine_base.specs.Parser.Kept.{KeptOf}
 use Rattle.combine_combinator_lazy.specs.Made.{Adds, at_any, at_any_lasts, by_lazy, lazy_maker, made_is_meaning}
-use Rattle.combine_combinator_lazy.proofs.Making.{begins_made, makable_kept, kept_valid, leaves_valid, resumes_made}
+use Rattle.combine_combinator_lazy.proofs.Making.{begins_made, makable_kept, kept_valid, leaves_valid, reasons_kept, reasons_made, resumes_made}
 use Rattle.combine_combinator_lazy.proofs.combinator.types.LazyParser.parse_mode.Goals as goal
 
 pub resume_made-requires-clause-ready : goal.resume_made-requires-clause-ready
@@ -40,3 +40,19 @@ returns-clause-answers g c =
     let lawful = every c.call-parser.result c.call-parser.ensures in
     let kept = makable_kept g.N.Parser g.Input.StreamOnce g.Input.Error.ParseError.seen g.N.PartialState.Default.is_default (at_any answers) makable (Adds answers g.N.Parser.meaning) c.call-parser.result lawful (record { maker = lazy_maker c.args.self.now; is_callable = c.requires.lawful.0; all = every; made = c.call-parser.ensures }) in
     in_mode _ _ _ laws _ _ _ _ from _ _ _ _ _ (begins_made g.N.Parser g.Input.StreamOnce g.Input.Error.ParseError.seen g.N.PartialState.Default.is_default (at_any answers) makable (Adds answers g.N.Parser.meaning) kept c.run_made.ensures (at_any_lasts answers) (g.met.N.Parser.laws _ lawful) c.default.ensures c.call-parser.ensures)
+
+pub returns-in-Kept-clause-refuses : goal.returns-in-Kept-clause-refuses
+returns-in-Kept-clause-refuses g c =
+    let makable = by_lazy g.F.Fn g.N.Parser.lawful in
+    let answers = g.F.Fn.post (lazy_maker c.args.self.now) tt in
+    let v = kept_valid (KeptOf g.N.Parser.lawful g.N.Parser.meaning makable) g.N.Parser.valid c.in-Kept.ensures.from c.requires.valid in
+    reasons_kept g.N.Parser g.Input.StreamOnce g.Input.Error.ParseError.seen g.N.PartialState.Default.is_default (at_any answers) makable (Adds answers g.N.Parser.meaning) v.0 c.resume_made.ensures _ c.in-Kept.ensures.from
+
+pub returns-clause-refuses : goal.returns-clause-refuses
+returns-clause-refuses g c =
+    let makable = by_lazy g.F.Fn g.N.Parser.lawful in
+    let answers = g.F.Fn.post (lazy_maker c.args.self.now) tt in
+    let every = c.requires.lawful.1 in
+    let lawful = every c.call-parser.result c.call-parser.ensures in
+    let kept = makable_kept g.N.Parser g.Input.StreamOnce g.Input.Error.ParseError.seen g.N.PartialState.Default.is_default (at_any answers) makable (Adds answers g.N.Parser.meaning) c.call-parser.result lawful (record { maker = lazy_maker c.args.self.now; is_callable = c.requires.lawful.0; all = every; made = c.call-parser.ensures }) in
+    reasons_made g.N.Parser g.Input.StreamOnce g.Input.Error.ParseError.seen g.N.PartialState.Default.is_default (at_any answers) makable (Adds answers g.N.Parser.meaning) kept c.run_made.ensures _ c.in_default.ensures.from (g.met.N.Parser.laws _ lawful) c.default.ensures c.call-parser.ensures
