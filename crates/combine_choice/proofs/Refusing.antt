@@ -51,7 +51,7 @@ peeked_joined b kinds.Read k p q = absurd p
 peeked_joined b kinds.Reset k p q = absurd p
 peeked_joined b kinds.Lost k p q = absurd p
 
-module _ {X P T R V S E : Type 0} (w : World P T S E) (m : X → Meaning P T R V S) (xs : List X) (began : Bool) (given : SliceState S) (old : View P T) (before : Failures) where
+module _ {X P T R V S E : Type 0} (w : World P T S E) (m : X → Meaning P T R E V S) (xs : List X) (began : Bool) (given : SliceState S) (old : View P T) (before : Failures) where
   -- the alternatives before ys were refused peeked
   pub record Refusing (ys : List X) (now : View P T) (so_far : Failures) (why : Kind) : Type 0 where
     pub gives : (x : List T) (b : Bool) (o : Outcome V) → Follows old.is_open x b → first_of m ys (extended x b old) o → begun (choice_of m xs) began given (extended x b old) o
@@ -69,7 +69,7 @@ module _ {X P T R V S E : Type 0} (w : World P T S E) (m : X → Meaning P T R V
   abbrev pub TriesOne : X → List X → Bool → S → View P T → Failures → Type 0
   TriesOne x ys first s now so_far = Tries w (λ (s : SliceState S). s ≡ Peek) (m x) (first_of m ys) (choice_of m xs) first s now so_far began given old before
 
-  peeks_kind : (a : Meaning P T R V S) (r : Run P T S) (k : Kind) → r.old ≡ old → peeks w a r k → IsPeeked old.is_open k
+  peeks_kind : (a : Meaning P T R E V S) (r : Run P T S) (k : Kind) → r.old ≡ old → peeks w a r k → IsPeeked old.is_open k
   peeks_kind a r kinds.Refused e p = tt
   peeks_kind a r kinds.End e p = ap (λ (v : View P T). v.is_open) (sym e) ∙ p.0
   peeks_kind a r kinds.Memory e p = p
@@ -131,18 +131,18 @@ module _ {X P T R V S E : Type 0} (w : World P T S E) (m : X → Meaning P T R V
   }
 
 -- the alternative at an index begins
-pub begins_at : {X P T R V S E : Type 0} (w : World P T S E) (valid : S → Type 0) (m : X → Meaning P T R V S) (xs : List X) (i : ℕ) (x : X) (ys : List X) → drop i xs ≡ x ∷ ys → IsMeaning w.fresh valid (m x) → (first : Bool) (s : S) → (first ≡ true → w.fresh s) → (v : View P T) (f : Failures) → TriesOne w m xs false (At i s) v f x ys first s v f
+pub begins_at : {X P T R V S E : Type 0} (w : World P T S E) (valid : S → Type 0) (m : X → Meaning P T R E V S) (xs : List X) (i : ℕ) (x : X) (ys : List X) → drop i xs ≡ x ∷ ys → IsMeaning w.fresh valid (m x) → (first : Bool) (s : S) → (first ≡ true → w.fresh s) → (v : View P T) (f : Failures) → TriesOne w m xs false (At i s) v f x ys first s v f
 begins_at {X} {P} {T} {R} {V} {S} w valid m xs i x ys here h first s d v f =
     tries_start w (λ s. s ≡ Peek) (m x) (first_of m ys) (choice_of m xs) valid h first s (At i s) d
     (λ v o j. subst (λ zs. goes_on m (first_of m xs) zs s v o) (sym here) j)
     (λ v j. subst (λ zs. running_lost m zs s v) (sym here) j)
     (λ k. (at_here (λ a. a.keeps) k).0) (λ k. (at_here (λ a. a.puts_back) k).0) (λ k. (at_here (λ a. a.lean) k).0) v f
   where
-    at_here : (g : Meaning P T R V S → Type 0) → every m g xs → every m g (x ∷ ys)
+    at_here : (g : Meaning P T R E V S → Type 0) → every m g xs → every m g (x ∷ ys)
     at_here g k = subst (λ zs. every m g zs) here (every_drop m g i xs k)
 
 -- what a turn peeks is no fault
-pub turn_no_fault : {P T R V S S' E : Type 0} (w : World P T S E) (m : Meaning P T R V S) (peek : S') (at : S → S') (first : Bool) (given : S) (kept : S') (old new : View P T) (before after : Failures) (answer : ParseResult V E) → Turn w m peek at first given kept old new before after answer → PeeksNoFault w.kind answer
+pub turn_no_fault : {P T R V S S' E : Type 0} (w : World P T S E) (m : Meaning P T R E V S) (peek : S') (at : S → S') (first : Bool) (given : S) (kept : S') (old new : View P T) (before after : Failures) (answer : ParseResult V E) → Turn w m peek at first given kept old new before after answer → PeeksNoFault w.kind answer
 turn_no_fault w m peek at first given kept old new before after (CommitOk v) t = tt
 turn_no_fault w m peek at first given kept old new before after (PeekOk v) t = tt
 turn_no_fault w m peek at first given kept old new before after (CommitErr e) t = tt
@@ -155,7 +155,7 @@ IsSettled (PeekOk v) = Unit {0}
 IsSettled (CommitErr e) = Unit {0}
 IsSettled (PeekErr t) = ⊥
 
-module _ {X P T R V S E : Type 0} (step : P → T → P) (errors : Errors T R P E) (steady : Type 0) (fresh : S → Type 0) (m : X → Meaning P T R V S) (xs : List X) (began : Bool) (given : SliceState S) (old : View P T) (before : Failures) where
+module _ {X P T R V S E : Type 0} (step : P → T → P) (errors : Errors T R P E) (steady : Type 0) (fresh : S → Type 0) (m : X → Meaning P T R E V S) (xs : List X) (began : Bool) (given : SliceState S) (old : View P T) (before : Failures) where
   abbrev inner : World P T S E
   inner = world step errors steady fresh
 

@@ -1,11 +1,13 @@
 -- a call of the choice over a slice: where it begins, and that over no alternatives
 use Rattle.std.proofs.Common.{ℕ, zero, suc, ◌<◌, ◌≡◌, inl, List, [], ◌∷◌, Bool, true, false, length, drop, arith, refl, sym, subst}
+use Rattle.std.specs.declared.cmp.Ordering.{Ordering}
 use Rattle.combine_base.specs.Stream.View.{View}
 use Rattle.combine_base.specs.Parser.Outcome.{Outcome, Refused}
 use Rattle.combine_base.specs.Error.Errors.{Errors, Says}
 use Rattle.combine_base.specs.Parser.Meaning.{Meaning, IsMeaning, begun}
 use Rattle.combine_base.specs.Parser.Answer.{Run, World, Answers, world}
 use Rattle.combine_base.proofs.Progress.{takes_none}
+use Rattle.combine_base.proofs.Same.{answers_alike}
 use Rattle.combine_base.specs.declared.stream.Failures.{Failures}
 use Rattle.combine_base.specs.declared.error.ParseResult.{ParseResult}
 use Rattle.combine_base.specs.declared.error.ParseResult.TheVariants.{CommitOk, PeekOk, CommitErr, PeekErr}
@@ -13,12 +15,13 @@ use Rattle.combine_token.specs.Choice.{refused, last_is, either_into}
 use Rattle.combine_token.proofs.Choosing.{Tries}
 use Rattle.combine_token.proofs.Adding.{says_together}
 use Rattle.combine_choice.specs.Chosen.{first_of, goes_on, every, choice_of, chosen_lost, chosen_rest, adds_all}
+use Rattle.combine_choice.specs.Merged.{choosing, choosing_alike}
 use Rattle.combine_choice.specs.OneTurn.{NoAlternative, Afresh, InFirst, AtPeek, PastLast}
 use Rattle.combine_choice.proofs.Listed.{drop_past}
 use Rattle.combine_choice.specs.declared.choice.slice.SliceState.{SliceState}
 use Rattle.combine_choice.specs.declared.choice.slice.SliceState.TheVariants.{Peek, At}
 
-module _ {X P T R V S E : Type 0} (w : World P T (SliceState S) E) (m : X → Meaning P T R V S) (xs : List X) where
+module _ {X P T R V S E : Type 0} (w : World P T (SliceState S) E) (m : X → Meaning P T R E V S) (xs : List X) where
   abbrev pub Begins : SliceState S → Bool → SliceState S → View P T → Failures → Type 0
   Begins s first given v f = Tries w w.fresh (choice_of m xs) refused (choice_of m xs) false s v f first given v f
 
@@ -74,7 +77,7 @@ module _ {X P T R V S E : Type 0} (w : World P T (SliceState S) E) (m : X → Me
   afresh first given (PastLast e j s q l) = past_last first given j s e q (drop_past xs j l)
 
 -- there is no alternative
-module _ {X P T R V S E : Type 0} (step : P → T → P) (errors : Errors T R P E) (steady : Type 0) (m : X → Meaning P T R V S) (first : Bool) (given left : SliceState S) (v : View P T) (f : Failures) where
+module _ {X P T R V S E : Type 0} (step : P → T → P) (errors : Errors T R P E) (steady : Type 0) (cmp : P → P → Ordering) (m : X → Meaning P T R E V S) (first : Bool) (given left : SliceState S) (v : View P T) (f : Failures) where
   abbrev empty_run : Run P T (SliceState S)
   empty_run = record { first = first; state = given; left = left; old = v; new = v; before = f; after = f }
 
@@ -84,14 +87,17 @@ module _ {X P T R V S E : Type 0} (step : P → T → P) (errors : Errors T R P 
   refuses_whole xs e false (At zero s) = rw e refl
   refuses_whole xs e false (At (suc i) s) = rw e refl
 
-  pub empty_answers : (xs : List X) → xs ≡ [] → left ≡ Peek → (result : ParseResult V E) → NoAlternative errors v.position result → Answers (world step errors steady (λ s. s ≡ Peek)) (choice_of m xs) empty_run result
-  empty_answers xs e l (CommitOk a) h = absurd h.is
-  empty_answers xs e l (PeekOk a) h = absurd h.is
-  empty_answers xs e l (CommitErr k) h = record { is = let i = h.is in rw i.0 (λ f l. i.1 f, record { count = 0; taken = takes_none step v; state = l }) }
-  empty_answers xs e l (PeekErr t) h = record { is = let i = h.is.0 in rw i (record { meant = refuses_whole xs e first given; leaves = record { count = 0; taken = takes_none step v; state = l }; failures = λ s. refl }) }
+  emptied : (xs : List X) → xs ≡ [] → left ≡ Peek → (result : ParseResult V E) → NoAlternative errors v.position result → Answers (world step errors steady (λ s. s ≡ Peek)) (choice_of m xs) empty_run result
+  emptied xs e l (CommitOk a) h = absurd h.is
+  emptied xs e l (PeekOk a) h = absurd h.is
+  emptied xs e l (CommitErr k) h = record { is = let i = h.is in rw i.0 (λ f l. i.1 f, record { count = 0; taken = takes_none step v; state = l }) }
+  emptied xs e l (PeekErr t) h = record { is = let i = h.is.0 in rw i (record { meant = refuses_whole xs e first given; leaves = record { count = 0; taken = takes_none step v; state = l }; failures = λ s. refl }) }
+
+  pub empty_answers : (xs : List X) → xs ≡ [] → left ≡ Peek → (result : ParseResult V E) → NoAlternative errors v.position result → Answers (world step errors steady (λ s. s ≡ Peek)) (choosing errors cmp m xs) empty_run result
+  empty_answers xs e l result h = answers_alike (world step errors steady (λ s. s ≡ Peek)) (choosing errors cmp m xs) (choice_of m xs) (choosing_alike errors cmp m xs) empty_run result (emptied xs e l result h)
 
 -- what the alternatives add to an error, from one place on
-module _ {X P T R V S E : Type 0} (errors : Errors T R P E) (m : X → Meaning P T R V S) where
+module _ {X P T R V S E : Type 0} (errors : Errors T R P E) (m : X → Meaning P T R E V S) where
   -- what those from here on add makes up what all do
   pub record Adding (xs ys : List X) (old now : E) : Type 0 where
     pub rest : (e : E) → Says errors (every m (λ a. a.lean) ys) (adds_all m ys) now e → Says errors (every m (λ a. a.lean) xs) (adds_all m xs) old e

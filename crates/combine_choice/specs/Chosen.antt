@@ -4,7 +4,7 @@ use Rattle.std.specs.List.{All, AllZip, AllByRecursion}
 use Rattle.std.proofs.lemmas.List.Elements.{recursion_from_All}
 use Rattle.combine_base.specs.Stream.View.{View}
 use Rattle.combine_base.specs.Error.Items.{Item}
-use Rattle.combine_base.specs.Parser.Meaning.{Meaning, Reading, IsReading, IsSingle, IsMeaning, MeansOne, MeansSame}
+use Rattle.combine_base.specs.Parser.Meaning.{Meaning, Reading, IsReading, IsSingle, IsMeaning, MeansOne, MeansSame, unsaid}
 use Rattle.combine_token.specs.Alternatives.{Together, together_both}
 use Rattle.combine_token.specs.Choice.{Agree, Either, refused, refused_is_reading, refused_is_single, either_is_reading, either_is_single, either_both, agree_self}
 use Rattle.combine_choice.specs.declared.choice.slice.SliceState.{SliceState}
@@ -14,7 +14,7 @@ abbrev pub slice_valid : {S : Type 0} → (S → Type 0) → SliceState S → Ty
 slice_valid f Peek = Unit {0}
 slice_valid f (At i s) = f s
 
-module _ {X P T R V S : Type 0} (m : X → Meaning P T R V S) where
+module _ {X P T R E V S : Type 0} (m : X → Meaning P T R E V S) where
   -- the first that isn't refused peeked
   abbrev pub first_of : List X → Reading P T V
   first_of [] = refused
@@ -39,7 +39,7 @@ module _ {X P T R V S : Type 0} (m : X → Meaning P T R V S) where
   chosen_lost xs (At i s) v = running_lost (drop i xs) s v
 
   -- what holds of the meaning of every alternative
-  abbrev pub every : (Meaning P T R V S → Type 0) → List X → Type 0
+  abbrev pub every : (Meaning P T R E V S → Type 0) → List X → Type 0
   every f [] = Unit {0}
   every f (x ∷ xs) = f (m x) × every f xs
 
@@ -48,7 +48,8 @@ module _ {X P T R V S : Type 0} (m : X → Meaning P T R V S) where
   adds_all [] is = is ≡ []
   adds_all (x ∷ xs) is = Together ((m x).adds) (adds_all xs) is
 
-  abbrev pub choice_of : List X → Meaning P T R V (SliceState S)
+  -- whatever its errors are
+  abbrev pub choice_of : List X → Meaning P T R E V (SliceState S)
   choice_of xs = record {
     whole = first_of xs;
     rest = chosen_rest xs;
@@ -57,23 +58,25 @@ module _ {X P T R V S : Type 0} (m : X → Meaning P T R V S) where
     puts_back = every (λ a. a.puts_back) xs;
     lean = every (λ a. a.lean) xs;
     adds = adds_all xs;
+    refuses = unsaid;
+    refuses_from = λ s. unsaid;
   }
 
-  every_by_recursion : (L : X → Type 0) (f : Meaning P T R V S → Type 0) → ((x : X) → L x → f (m x)) → (xs : List X) → AllByRecursion L xs → every f xs
+  every_by_recursion : (L : X → Type 0) (f : Meaning P T R E V S → Type 0) → ((x : X) → L x → f (m x)) → (xs : List X) → AllByRecursion L xs → every f xs
   every_by_recursion L f g [] h = tt
   every_by_recursion L f g (x ∷ xs) h = (g x h.0, every_by_recursion L f g xs h.1)
 
-  pub every_all : (L : X → Type 0) (f : Meaning P T R V S → Type 0) → ((x : X) → L x → f (m x)) → (xs : List X) → All L xs → every f xs
+  pub every_all : (L : X → Type 0) (f : Meaning P T R E V S → Type 0) → ((x : X) → L x → f (m x)) → (xs : List X) → All L xs → every f xs
   every_all L f g xs h = every_by_recursion L f g xs (recursion_from_All L xs h)
 
-  both_by_recursion : (L D : X → Type 0) (f : Meaning P T R V S → Type 0) → ((x : X) → L x → D x → f (m x)) → (xs : List X) → AllByRecursion L xs → AllByRecursion D xs → every f xs
+  both_by_recursion : (L D : X → Type 0) (f : Meaning P T R E V S → Type 0) → ((x : X) → L x → D x → f (m x)) → (xs : List X) → AllByRecursion L xs → AllByRecursion D xs → every f xs
   both_by_recursion L D f g [] h k = tt
   both_by_recursion L D f g (x ∷ xs) h k = (g x h.0 k.0, both_by_recursion L D f g xs h.1 k.1)
 
-  pub every_both : (L D : X → Type 0) (f : Meaning P T R V S → Type 0) → ((x : X) → L x → D x → f (m x)) → (xs : List X) → All L xs → All D xs → every f xs
+  pub every_both : (L D : X → Type 0) (f : Meaning P T R E V S → Type 0) → ((x : X) → L x → D x → f (m x)) → (xs : List X) → All L xs → All D xs → every f xs
   every_both L D f g xs h k = both_by_recursion L D f g xs (recursion_from_All L xs h) (recursion_from_All D xs k)
 
-  pub every_drop : (f : Meaning P T R V S → Type 0) (i : ℕ) (xs : List X) → every f xs → every f (drop i xs)
+  pub every_drop : (f : Meaning P T R E V S → Type 0) (i : ℕ) (xs : List X) → every f xs → every f (drop i xs)
   every_drop f zero xs h = h
   every_drop f (suc i) [] h = tt
   every_drop f (suc i) (x ∷ xs) h = every_drop f i xs h.1
@@ -97,6 +100,7 @@ module _ {X P T R V S : Type 0} (m : X → Meaning P T R V S) where
       rest = rest_reads xs h;
       start = λ s v o d. rw d (λ p. p, λ p. p);
       found = λ s v d. rw d (λ p. p);
+      reasons = λ s v w c e d. (λ p. p, λ p. p);
     }
 
     first_one : (xs : List X) → every (MeansOne valid) xs → IsSingle (first_of xs)
@@ -118,7 +122,7 @@ module _ {X P T R V S : Type 0} (m : X → Meaning P T R V S) where
   abbrev pub AllSame : List X → List X → Type 0
   AllSame = AllZip (λ x y. MeansSame (m x) (m y))
 
-  same_drop : (i : ℕ) (xs ys : List X) → AllSame xs ys → AllSame (drop i xs) (drop i ys)
+  pub same_drop : (i : ℕ) (xs ys : List X) → AllSame xs ys → AllSame (drop i xs) (drop i ys)
   same_drop zero xs ys h = h
   same_drop (suc i) [] [] h = h
   same_drop (suc i) [] (y ∷ ys) h = absurd h
@@ -151,7 +155,7 @@ module _ {X P T R V S : Type 0} (m : X → Meaning P T R V S) where
   lost_same xs ys h Peek v = (λ p. p, λ p. p)
   lost_same xs ys h (At i s) v = running_same (drop i xs) (drop i ys) (same_drop i xs ys h) s v
 
-  every_same : (f : Meaning P T R V S → Type 0) → ((x y : X) → MeansSame (m x) (m y) → f (m x) ↔ f (m y)) → (xs ys : List X) → AllSame xs ys → every f xs ↔ every f ys
+  every_same : (f : Meaning P T R E V S → Type 0) → ((x y : X) → MeansSame (m x) (m y) → f (m x) ↔ f (m y)) → (xs ys : List X) → AllSame xs ys → every f xs ↔ every f ys
   every_same f g [] [] h = (λ p. p, λ p. p)
   every_same f g [] (y ∷ ys) h = absurd h
   every_same f g (x ∷ xs) [] h = absurd h
@@ -175,4 +179,6 @@ module _ {X P T R V S : Type 0} (m : X → Meaning P T R V S) where
     puts_back = every_same (λ a. a.puts_back) (λ x y k. k.puts_back) xs ys h;
     lean = every_same (λ a. a.lean) (λ x y k. k.lean) xs ys h;
     adds = adds_same xs ys h;
+    refuses = λ v w c e. (λ p. p, λ p. p);
+    refuses_from = λ s v w c e. (λ p. p, λ p. p);
   }

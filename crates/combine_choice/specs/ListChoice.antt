@@ -3,6 +3,8 @@ use Rattle.std.specs.Prelude.{◌≡◌, List, [], ◌∷◌, ◌++◌, ◌↔�
 use Rattle.std.proofs.Common.{ap, subst, sym, ◌∙◌}
 use Rattle.std.proofs.lemmas.List.{append-nil}
 use Rattle.combine_base.specs.Stream.View.{View}
+use Rattle.std.specs.declared.cmp.Ordering.{Ordering}
+use Rattle.combine_base.specs.Error.Errors.{Errors}
 use Rattle.combine_base.specs.Error.Items.{Item}
 use Rattle.combine_base.specs.Parser.Outcome.{Outcome, Accepted, Refused, Undecided}
 use Rattle.combine_base.specs.Parser.Meaning.{Meaning, Reading}
@@ -44,7 +46,7 @@ module _ {I : Type 0} where
     λ p. record { first = []; second = is; adds_first = refl; adds_second = p; all = refl },
   )
 
-module _ {X P T R V S : Type 0} (m : X → Meaning P T R V S) where
+module _ {X P T R E V S : Type 0} (m : X → Meaning P T R E V S) where
   first_append : (xs ys : List X) → Agree (Either (first_of m xs) (first_of m ys)) (first_of m (xs ++ ys))
   first_append [] ys = none_first (first_of m ys)
   first_append (x ∷ xs) ys =
@@ -53,7 +55,7 @@ module _ {X P T R V S : Type 0} (m : X → Meaning P T R V S) where
       let c = first_of m ys in
       agree_more (Either (Either a b) c) (Either a (Either b c)) (Either a (first_of m (xs ++ ys))) (either_assoc a b c) (either_both a a (Either b c) (first_of m (xs ++ ys)) (agree_self a) (first_append xs ys))
 
-  every_append : (f : Meaning P T R V S → Type 0) (xs ys : List X) → (every m f xs × every m f ys) ↔ every m f (xs ++ ys)
+  every_append : (f : Meaning P T R E V S → Type 0) (xs ys : List X) → (every m f xs × every m f ys) ↔ every m f (xs ++ ys)
   every_append f [] ys = (λ p. p.1, λ p. (tt, p))
   every_append f (x ∷ xs) ys =
       let i = every_append f xs ys in
@@ -75,8 +77,8 @@ module _ {X P T R V S : Type 0} (m : X → Meaning P T R V S) where
   }
 
   -- two choices are the choice of all their alternatives
-  pub both_start : {S1 S2 : Type 0} {a : Meaning P T R V S1} {b : Meaning P T R V S2} (xs ys : List X) → StartsSame a (choice_of m xs) → StartsSame b (choice_of m ys) → StartsSame (either_of a b) (choice_of m (xs ++ ys))
-  both_start {S1} {S2} {a} {b} xs ys h k =
+  pub both_start : {S1 S2 : Type 0} (s : Errors T R P E) (cmp : P → P → Ordering) {a : Meaning P T R E V S1} {b : Meaning P T R E V S2} (xs ys : List X) → StartsSame a (choice_of m xs) → StartsSame b (choice_of m ys) → StartsSame (either_of s cmp a b) (choice_of m (xs ++ ys))
+  both_start {S1} {S2} s cmp {a} {b} xs ys h k =
       let p = first_of m xs in
       let q = first_of m ys in
       let last = Either b.whole refused in

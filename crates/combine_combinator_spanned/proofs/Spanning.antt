@@ -1,5 +1,5 @@
 -- the answers of `spanned`, by those of its part, and the errors of its refusals
-use Rattle.std.proofs.Common.{◌≡◌, inl, inr, Bool, true, false, Some, None, sym, subst, refl, ◌∙◌}
+use Rattle.std.proofs.Common.{◌≡◌, inl, inr, Bool, true, false, Some, None, sym, subst, refl}
 use Rattle.std.specs.declared.cmp.Ordering.{Ordering}
 use Rattle.std.specs.declared.cmp.Ordering.TheVariants.{Less, Equal, Greater}
 use Rattle.std.specs.Ordering.{is_eq}

@@ -26,8 +26,6 @@ impl<Input: Stream, A: Parser<Input>> ChoiceParser<Input> for (A,) {
 
     ghost meaning = { λ p. A.meaning p.0 };
 
-    ghost refuses = { λ p. A.refuses p.0 };
-
     ghost default_valid = { A.default_valid };
 
     ghost laws = { λ p l. A.laws p.0 l };
@@ -55,10 +53,7 @@ impl<Input, A: Outputs<Input>, B> ChoiceOutputs<Input> for (A, B) {
 
 impl<Input: Stream, A: Parser<Input>, B: Parser<Input, Output = A::Output>> ChoiceParser<Input>
     for (A, B) {
-    ghost use Rattle.std.specs.Prelude.{◌≡◌};
     ghost use Rattle.combine_token.specs.Or.{either_of, or_valid};
-    ghost use Rattle.combine_token.specs.Reasons.{RefusesOr};
-    ghost use Rattle.combine_token.specs.declared.choice.OrState.TheVariants.{Peek};
     ghost use Rattle.combine_choice.specs.Nested.{nest_laws, nest_one};
 
     type PartialState = State2<Input, A, B>;
@@ -69,15 +64,13 @@ impl<Input: Stream, A: Parser<Input>, B: Parser<Input, Output = A::Output>> Choi
 
     ghost valid = { or_valid A.valid B.valid };
 
-    ghost meaning = { λ p. either_of (A.meaning p.0) (B.meaning p.1) };
-
-    ghost refuses = { λ p. RefusesOr Input.Error.seen Input.Position.cmp A.PartialState.is_default B.PartialState.is_default (A.refuses p.0) (B.refuses p.1) };
+    ghost meaning = { λ p. either_of Input.Error.seen Input.Position.cmp (A.meaning p.0) (B.meaning p.1) };
 
     ghost default_valid = { λ s d. rw d tt };
 
-    ghost laws = { λ p l. nest_laws (A.laws p.0 l.0) (B.laws p.1 l.1) };
+    ghost laws = { λ p l. nest_laws Input.Error.seen Input.Position.cmp (A.laws p.0 l.0) (B.laws p.1 l.1) };
 
-    ghost single = { λ p l d. nest_one (A.single p.0 l.0 d.0) (B.single p.1 l.1 d.1) };
+    ghost single = { λ p l d. nest_one Input.Error.seen Input.Position.cmp (A.single p.0 l.0 d.0) (B.single p.1 l.1 d.1) };
 
     #[inline(always)]
     fn parse_mode_choice<M: ParseMode>(
@@ -105,10 +98,7 @@ impl<
     B: Parser<Input, Output = A::Output>,
     C: Parser<Input, Output = A::Output>,
 > ChoiceParser<Input> for (A, B, C) {
-    ghost use Rattle.std.specs.Prelude.{◌≡◌};
     ghost use Rattle.combine_token.specs.Or.{either_of, or_valid};
-    ghost use Rattle.combine_token.specs.Reasons.{RefusesOr};
-    ghost use Rattle.combine_token.specs.declared.choice.OrState.TheVariants.{Peek};
     ghost use Rattle.combine_choice.specs.Nested.{nest_laws, nest_one};
 
     type PartialState = State3<Input, A, B, C>;
@@ -119,15 +109,13 @@ impl<
 
     ghost valid = { or_valid A.valid (or_valid B.valid C.valid) };
 
-    ghost meaning = { λ p. either_of (A.meaning p.0) (either_of (B.meaning p.1) (C.meaning p.2)) };
-
-    ghost refuses = { λ p. RefusesOr Input.Error.seen Input.Position.cmp A.PartialState.is_default (λ s. s ≡ Peek) (A.refuses p.0) (RefusesOr Input.Error.seen Input.Position.cmp B.PartialState.is_default C.PartialState.is_default (B.refuses p.1) (C.refuses p.2)) };
+    ghost meaning = { λ p. either_of Input.Error.seen Input.Position.cmp (A.meaning p.0) (either_of Input.Error.seen Input.Position.cmp (B.meaning p.1) (C.meaning p.2)) };
 
     ghost default_valid = { λ s d. rw d tt };
 
-    ghost laws = { λ p l. nest_laws (A.laws p.0 l.0) (nest_laws (B.laws p.1 l.1.0) (C.laws p.2 l.1.1)) };
+    ghost laws = { λ p l. nest_laws Input.Error.seen Input.Position.cmp (A.laws p.0 l.0) (nest_laws Input.Error.seen Input.Position.cmp (B.laws p.1 l.1.0) (C.laws p.2 l.1.1)) };
 
-    ghost single = { λ p l d. nest_one (A.single p.0 l.0 d.0) (nest_one (B.single p.1 l.1.0 d.1.0) (C.single p.2 l.1.1 d.1.1)) };
+    ghost single = { λ p l d. nest_one Input.Error.seen Input.Position.cmp (A.single p.0 l.0 d.0) (nest_one Input.Error.seen Input.Position.cmp (B.single p.1 l.1.0 d.1.0) (C.single p.2 l.1.1 d.1.1)) };
 
     #[inline(always)]
     fn parse_mode_choice<M: ParseMode>(
@@ -157,10 +145,7 @@ impl<
     C: Parser<Input, Output = A::Output>,
     D: Parser<Input, Output = A::Output>,
 > ChoiceParser<Input> for (A, B, C, D) {
-    ghost use Rattle.std.specs.Prelude.{◌≡◌};
     ghost use Rattle.combine_token.specs.Or.{either_of, or_valid};
-    ghost use Rattle.combine_token.specs.Reasons.{RefusesOr};
-    ghost use Rattle.combine_token.specs.declared.choice.OrState.TheVariants.{Peek};
     ghost use Rattle.combine_choice.specs.Nested.{nest_laws, nest_one};
 
     type PartialState = State4<Input, A, B, C, D>;
@@ -171,15 +156,13 @@ impl<
 
     ghost valid = { or_valid (or_valid A.valid B.valid) (or_valid C.valid D.valid) };
 
-    ghost meaning = { λ p. either_of (either_of (A.meaning p.0) (B.meaning p.1)) (either_of (C.meaning p.2) (D.meaning p.3)) };
-
-    ghost refuses = { λ p. RefusesOr Input.Error.seen Input.Position.cmp (λ s. s ≡ Peek) (λ s. s ≡ Peek) (RefusesOr Input.Error.seen Input.Position.cmp A.PartialState.is_default B.PartialState.is_default (A.refuses p.0) (B.refuses p.1)) (RefusesOr Input.Error.seen Input.Position.cmp C.PartialState.is_default D.PartialState.is_default (C.refuses p.2) (D.refuses p.3)) };
+    ghost meaning = { λ p. either_of Input.Error.seen Input.Position.cmp (either_of Input.Error.seen Input.Position.cmp (A.meaning p.0) (B.meaning p.1)) (either_of Input.Error.seen Input.Position.cmp (C.meaning p.2) (D.meaning p.3)) };
 
     ghost default_valid = { λ s d. rw d tt };
 
-    ghost laws = { λ p l. nest_laws (nest_laws (A.laws p.0 l.0.0) (B.laws p.1 l.0.1)) (nest_laws (C.laws p.2 l.1.0) (D.laws p.3 l.1.1)) };
+    ghost laws = { λ p l. nest_laws Input.Error.seen Input.Position.cmp (nest_laws Input.Error.seen Input.Position.cmp (A.laws p.0 l.0.0) (B.laws p.1 l.0.1)) (nest_laws Input.Error.seen Input.Position.cmp (C.laws p.2 l.1.0) (D.laws p.3 l.1.1)) };
 
-    ghost single = { λ p l d. nest_one (nest_one (A.single p.0 l.0.0 d.0.0) (B.single p.1 l.0.1 d.0.1)) (nest_one (C.single p.2 l.1.0 d.1.0) (D.single p.3 l.1.1 d.1.1)) };
+    ghost single = { λ p l d. nest_one Input.Error.seen Input.Position.cmp (nest_one Input.Error.seen Input.Position.cmp (A.single p.0 l.0.0 d.0.0) (B.single p.1 l.0.1 d.0.1)) (nest_one Input.Error.seen Input.Position.cmp (C.single p.2 l.1.0 d.1.0) (D.single p.3 l.1.1 d.1.1)) };
 
     #[inline(always)]
     fn parse_mode_choice<M: ParseMode>(
@@ -219,10 +202,7 @@ impl<
     D: Parser<Input, Output = A::Output>,
     E: Parser<Input, Output = A::Output>,
 > ChoiceParser<Input> for (A, B, C, D, E) {
-    ghost use Rattle.std.specs.Prelude.{◌≡◌};
     ghost use Rattle.combine_token.specs.Or.{either_of, or_valid};
-    ghost use Rattle.combine_token.specs.Reasons.{RefusesOr};
-    ghost use Rattle.combine_token.specs.declared.choice.OrState.TheVariants.{Peek};
     ghost use Rattle.combine_choice.specs.Nested.{nest_laws, nest_one};
 
     type PartialState = State5<Input, A, B, C, D, E>;
@@ -233,15 +213,13 @@ impl<
 
     ghost valid = { or_valid A.valid (or_valid (or_valid B.valid C.valid) (or_valid D.valid E.valid)) };
 
-    ghost meaning = { λ p. either_of (A.meaning p.0) (either_of (either_of (B.meaning p.1) (C.meaning p.2)) (either_of (D.meaning p.3) (E.meaning p.4))) };
-
-    ghost refuses = { λ p. RefusesOr Input.Error.seen Input.Position.cmp A.PartialState.is_default (λ s. s ≡ Peek) (A.refuses p.0) (RefusesOr Input.Error.seen Input.Position.cmp (λ s. s ≡ Peek) (λ s. s ≡ Peek) (RefusesOr Input.Error.seen Input.Position.cmp B.PartialState.is_default C.PartialState.is_default (B.refuses p.1) (C.refuses p.2)) (RefusesOr Input.Error.seen Input.Position.cmp D.PartialState.is_default E.PartialState.is_default (D.refuses p.3) (E.refuses p.4))) };
+    ghost meaning = { λ p. either_of Input.Error.seen Input.Position.cmp (A.meaning p.0) (either_of Input.Error.seen Input.Position.cmp (either_of Input.Error.seen Input.Position.cmp (B.meaning p.1) (C.meaning p.2)) (either_of Input.Error.seen Input.Position.cmp (D.meaning p.3) (E.meaning p.4))) };
 
     ghost default_valid = { λ s d. rw d tt };
 
-    ghost laws = { λ p l. nest_laws (A.laws p.0 l.0) (nest_laws (nest_laws (B.laws p.1 l.1.0.0) (C.laws p.2 l.1.0.1)) (nest_laws (D.laws p.3 l.1.1.0) (E.laws p.4 l.1.1.1))) };
+    ghost laws = { λ p l. nest_laws Input.Error.seen Input.Position.cmp (A.laws p.0 l.0) (nest_laws Input.Error.seen Input.Position.cmp (nest_laws Input.Error.seen Input.Position.cmp (B.laws p.1 l.1.0.0) (C.laws p.2 l.1.0.1)) (nest_laws Input.Error.seen Input.Position.cmp (D.laws p.3 l.1.1.0) (E.laws p.4 l.1.1.1))) };
 
-    ghost single = { λ p l d. nest_one (A.single p.0 l.0 d.0) (nest_one (nest_one (B.single p.1 l.1.0.0 d.1.0.0) (C.single p.2 l.1.0.1 d.1.0.1)) (nest_one (D.single p.3 l.1.1.0 d.1.1.0) (E.single p.4 l.1.1.1 d.1.1.1))) };
+    ghost single = { λ p l d. nest_one Input.Error.seen Input.Position.cmp (A.single p.0 l.0 d.0) (nest_one Input.Error.seen Input.Position.cmp (nest_one Input.Error.seen Input.Position.cmp (B.single p.1 l.1.0.0 d.1.0.0) (C.single p.2 l.1.0.1 d.1.0.1)) (nest_one Input.Error.seen Input.Position.cmp (D.single p.3 l.1.1.0 d.1.1.0) (E.single p.4 l.1.1.1 d.1.1.1))) };
 
     #[inline(always)]
     fn parse_mode_choice<M: ParseMode>(
@@ -284,10 +262,7 @@ impl<
     E: Parser<Input, Output = A::Output>,
     F: Parser<Input, Output = A::Output>,
 > ChoiceParser<Input> for (A, B, C, D, E, F) {
-    ghost use Rattle.std.specs.Prelude.{◌≡◌};
     ghost use Rattle.combine_token.specs.Or.{either_of, or_valid};
-    ghost use Rattle.combine_token.specs.Reasons.{RefusesOr};
-    ghost use Rattle.combine_token.specs.declared.choice.OrState.TheVariants.{Peek};
     ghost use Rattle.combine_choice.specs.Nested.{nest_laws, nest_one};
 
     type PartialState = State6<Input, A, B, C, D, E, F>;
@@ -298,15 +273,13 @@ impl<
 
     ghost valid = { or_valid (or_valid A.valid B.valid) (or_valid (or_valid C.valid D.valid) (or_valid E.valid F.valid)) };
 
-    ghost meaning = { λ p. either_of (either_of (A.meaning p.0) (B.meaning p.1)) (either_of (either_of (C.meaning p.2) (D.meaning p.3)) (either_of (E.meaning p.4) (F.meaning p.5))) };
-
-    ghost refuses = { λ p. RefusesOr Input.Error.seen Input.Position.cmp (λ s. s ≡ Peek) (λ s. s ≡ Peek) (RefusesOr Input.Error.seen Input.Position.cmp A.PartialState.is_default B.PartialState.is_default (A.refuses p.0) (B.refuses p.1)) (RefusesOr Input.Error.seen Input.Position.cmp (λ s. s ≡ Peek) (λ s. s ≡ Peek) (RefusesOr Input.Error.seen Input.Position.cmp C.PartialState.is_default D.PartialState.is_default (C.refuses p.2) (D.refuses p.3)) (RefusesOr Input.Error.seen Input.Position.cmp E.PartialState.is_default F.PartialState.is_default (E.refuses p.4) (F.refuses p.5))) };
+    ghost meaning = { λ p. either_of Input.Error.seen Input.Position.cmp (either_of Input.Error.seen Input.Position.cmp (A.meaning p.0) (B.meaning p.1)) (either_of Input.Error.seen Input.Position.cmp (either_of Input.Error.seen Input.Position.cmp (C.meaning p.2) (D.meaning p.3)) (either_of Input.Error.seen Input.Position.cmp (E.meaning p.4) (F.meaning p.5))) };
 
     ghost default_valid = { λ s d. rw d tt };
 
-    ghost laws = { λ p l. nest_laws (nest_laws (A.laws p.0 l.0.0) (B.laws p.1 l.0.1)) (nest_laws (nest_laws (C.laws p.2 l.1.0.0) (D.laws p.3 l.1.0.1)) (nest_laws (E.laws p.4 l.1.1.0) (F.laws p.5 l.1.1.1))) };
+    ghost laws = { λ p l. nest_laws Input.Error.seen Input.Position.cmp (nest_laws Input.Error.seen Input.Position.cmp (A.laws p.0 l.0.0) (B.laws p.1 l.0.1)) (nest_laws Input.Error.seen Input.Position.cmp (nest_laws Input.Error.seen Input.Position.cmp (C.laws p.2 l.1.0.0) (D.laws p.3 l.1.0.1)) (nest_laws Input.Error.seen Input.Position.cmp (E.laws p.4 l.1.1.0) (F.laws p.5 l.1.1.1))) };
 
-    ghost single = { λ p l d. nest_one (nest_one (A.single p.0 l.0.0 d.0.0) (B.single p.1 l.0.1 d.0.1)) (nest_one (nest_one (C.single p.2 l.1.0.0 d.1.0.0) (D.single p.3 l.1.0.1 d.1.0.1)) (nest_one (E.single p.4 l.1.1.0 d.1.1.0) (F.single p.5 l.1.1.1 d.1.1.1))) };
+    ghost single = { λ p l d. nest_one Input.Error.seen Input.Position.cmp (nest_one Input.Error.seen Input.Position.cmp (A.single p.0 l.0.0 d.0.0) (B.single p.1 l.0.1 d.0.1)) (nest_one Input.Error.seen Input.Position.cmp (nest_one Input.Error.seen Input.Position.cmp (C.single p.2 l.1.0.0 d.1.0.0) (D.single p.3 l.1.0.1 d.1.0.1)) (nest_one Input.Error.seen Input.Position.cmp (E.single p.4 l.1.1.0 d.1.1.0) (F.single p.5 l.1.1.1 d.1.1.1))) };
 
     #[inline(always)]
     fn parse_mode_choice<M: ParseMode>(
@@ -352,10 +325,7 @@ impl<
     F: Parser<Input, Output = A::Output>,
     G: Parser<Input, Output = A::Output>,
 > ChoiceParser<Input> for (A, B, C, D, E, F, G) {
-    ghost use Rattle.std.specs.Prelude.{◌≡◌};
     ghost use Rattle.combine_token.specs.Or.{either_of, or_valid};
-    ghost use Rattle.combine_token.specs.Reasons.{RefusesOr};
-    ghost use Rattle.combine_token.specs.declared.choice.OrState.TheVariants.{Peek};
     ghost use Rattle.combine_choice.specs.Nested.{nest_laws, nest_one};
 
     type PartialState = State7<Input, A, B, C, D, E, F, G>;
@@ -366,15 +336,13 @@ impl<
 
     ghost valid = { or_valid (or_valid A.valid (or_valid B.valid C.valid)) (or_valid (or_valid D.valid E.valid) (or_valid F.valid G.valid)) };
 
-    ghost meaning = { λ p. either_of (either_of (A.meaning p.0) (either_of (B.meaning p.1) (C.meaning p.2))) (either_of (either_of (D.meaning p.3) (E.meaning p.4)) (either_of (F.meaning p.5) (G.meaning p.6))) };
-
-    ghost refuses = { λ p. RefusesOr Input.Error.seen Input.Position.cmp (λ s. s ≡ Peek) (λ s. s ≡ Peek) (RefusesOr Input.Error.seen Input.Position.cmp A.PartialState.is_default (λ s. s ≡ Peek) (A.refuses p.0) (RefusesOr Input.Error.seen Input.Position.cmp B.PartialState.is_default C.PartialState.is_default (B.refuses p.1) (C.refuses p.2))) (RefusesOr Input.Error.seen Input.Position.cmp (λ s. s ≡ Peek) (λ s. s ≡ Peek) (RefusesOr Input.Error.seen Input.Position.cmp D.PartialState.is_default E.PartialState.is_default (D.refuses p.3) (E.refuses p.4)) (RefusesOr Input.Error.seen Input.Position.cmp F.PartialState.is_default G.PartialState.is_default (F.refuses p.5) (G.refuses p.6))) };
+    ghost meaning = { λ p. either_of Input.Error.seen Input.Position.cmp (either_of Input.Error.seen Input.Position.cmp (A.meaning p.0) (either_of Input.Error.seen Input.Position.cmp (B.meaning p.1) (C.meaning p.2))) (either_of Input.Error.seen Input.Position.cmp (either_of Input.Error.seen Input.Position.cmp (D.meaning p.3) (E.meaning p.4)) (either_of Input.Error.seen Input.Position.cmp (F.meaning p.5) (G.meaning p.6))) };
 
     ghost default_valid = { λ s d. rw d tt };
 
-    ghost laws = { λ p l. nest_laws (nest_laws (A.laws p.0 l.0.0) (nest_laws (B.laws p.1 l.0.1.0) (C.laws p.2 l.0.1.1))) (nest_laws (nest_laws (D.laws p.3 l.1.0.0) (E.laws p.4 l.1.0.1)) (nest_laws (F.laws p.5 l.1.1.0) (G.laws p.6 l.1.1.1))) };
+    ghost laws = { λ p l. nest_laws Input.Error.seen Input.Position.cmp (nest_laws Input.Error.seen Input.Position.cmp (A.laws p.0 l.0.0) (nest_laws Input.Error.seen Input.Position.cmp (B.laws p.1 l.0.1.0) (C.laws p.2 l.0.1.1))) (nest_laws Input.Error.seen Input.Position.cmp (nest_laws Input.Error.seen Input.Position.cmp (D.laws p.3 l.1.0.0) (E.laws p.4 l.1.0.1)) (nest_laws Input.Error.seen Input.Position.cmp (F.laws p.5 l.1.1.0) (G.laws p.6 l.1.1.1))) };
 
-    ghost single = { λ p l d. nest_one (nest_one (A.single p.0 l.0.0 d.0.0) (nest_one (B.single p.1 l.0.1.0 d.0.1.0) (C.single p.2 l.0.1.1 d.0.1.1))) (nest_one (nest_one (D.single p.3 l.1.0.0 d.1.0.0) (E.single p.4 l.1.0.1 d.1.0.1)) (nest_one (F.single p.5 l.1.1.0 d.1.1.0) (G.single p.6 l.1.1.1 d.1.1.1))) };
+    ghost single = { λ p l d. nest_one Input.Error.seen Input.Position.cmp (nest_one Input.Error.seen Input.Position.cmp (A.single p.0 l.0.0 d.0.0) (nest_one Input.Error.seen Input.Position.cmp (B.single p.1 l.0.1.0 d.0.1.0) (C.single p.2 l.0.1.1 d.0.1.1))) (nest_one Input.Error.seen Input.Position.cmp (nest_one Input.Error.seen Input.Position.cmp (D.single p.3 l.1.0.0 d.1.0.0) (E.single p.4 l.1.0.1 d.1.0.1)) (nest_one Input.Error.seen Input.Position.cmp (F.single p.5 l.1.1.0 d.1.1.0) (G.single p.6 l.1.1.1 d.1.1.1))) };
 
     #[inline(always)]
     fn parse_mode_choice<M: ParseMode>(
@@ -424,10 +392,7 @@ impl<
     G: Parser<Input, Output = A::Output>,
     H: Parser<Input, Output = A::Output>,
 > ChoiceParser<Input> for (A, B, C, D, E, F, G, H) {
-    ghost use Rattle.std.specs.Prelude.{◌≡◌};
     ghost use Rattle.combine_token.specs.Or.{either_of, or_valid};
-    ghost use Rattle.combine_token.specs.Reasons.{RefusesOr};
-    ghost use Rattle.combine_token.specs.declared.choice.OrState.TheVariants.{Peek};
     ghost use Rattle.combine_choice.specs.Nested.{nest_laws, nest_one};
 
     type PartialState = State8<Input, A, B, C, D, E, F, G, H>;
@@ -438,15 +403,13 @@ impl<
 
     ghost valid = { or_valid (or_valid (or_valid A.valid B.valid) (or_valid C.valid D.valid)) (or_valid (or_valid E.valid F.valid) (or_valid G.valid H.valid)) };
 
-    ghost meaning = { λ p. either_of (either_of (either_of (A.meaning p.0) (B.meaning p.1)) (either_of (C.meaning p.2) (D.meaning p.3))) (either_of (either_of (E.meaning p.4) (F.meaning p.5)) (either_of (G.meaning p.6) (H.meaning p.7))) };
-
-    ghost refuses = { λ p. RefusesOr Input.Error.seen Input.Position.cmp (λ s. s ≡ Peek) (λ s. s ≡ Peek) (RefusesOr Input.Error.seen Input.Position.cmp (λ s. s ≡ Peek) (λ s. s ≡ Peek) (RefusesOr Input.Error.seen Input.Position.cmp A.PartialState.is_default B.PartialState.is_default (A.refuses p.0) (B.refuses p.1)) (RefusesOr Input.Error.seen Input.Position.cmp C.PartialState.is_default D.PartialState.is_default (C.refuses p.2) (D.refuses p.3))) (RefusesOr Input.Error.seen Input.Position.cmp (λ s. s ≡ Peek) (λ s. s ≡ Peek) (RefusesOr Input.Error.seen Input.Position.cmp E.PartialState.is_default F.PartialState.is_default (E.refuses p.4) (F.refuses p.5)) (RefusesOr Input.Error.seen Input.Position.cmp G.PartialState.is_default H.PartialState.is_default (G.refuses p.6) (H.refuses p.7))) };
+    ghost meaning = { λ p. either_of Input.Error.seen Input.Position.cmp (either_of Input.Error.seen Input.Position.cmp (either_of Input.Error.seen Input.Position.cmp (A.meaning p.0) (B.meaning p.1)) (either_of Input.Error.seen Input.Position.cmp (C.meaning p.2) (D.meaning p.3))) (either_of Input.Error.seen Input.Position.cmp (either_of Input.Error.seen Input.Position.cmp (E.meaning p.4) (F.meaning p.5)) (either_of Input.Error.seen Input.Position.cmp (G.meaning p.6) (H.meaning p.7))) };
 
     ghost default_valid = { λ s d. rw d tt };
 
-    ghost laws = { λ p l. nest_laws (nest_laws (nest_laws (A.laws p.0 l.0.0.0) (B.laws p.1 l.0.0.1)) (nest_laws (C.laws p.2 l.0.1.0) (D.laws p.3 l.0.1.1))) (nest_laws (nest_laws (E.laws p.4 l.1.0.0) (F.laws p.5 l.1.0.1)) (nest_laws (G.laws p.6 l.1.1.0) (H.laws p.7 l.1.1.1))) };
+    ghost laws = { λ p l. nest_laws Input.Error.seen Input.Position.cmp (nest_laws Input.Error.seen Input.Position.cmp (nest_laws Input.Error.seen Input.Position.cmp (A.laws p.0 l.0.0.0) (B.laws p.1 l.0.0.1)) (nest_laws Input.Error.seen Input.Position.cmp (C.laws p.2 l.0.1.0) (D.laws p.3 l.0.1.1))) (nest_laws Input.Error.seen Input.Position.cmp (nest_laws Input.Error.seen Input.Position.cmp (E.laws p.4 l.1.0.0) (F.laws p.5 l.1.0.1)) (nest_laws Input.Error.seen Input.Position.cmp (G.laws p.6 l.1.1.0) (H.laws p.7 l.1.1.1))) };
 
-    ghost single = { λ p l d. nest_one (nest_one (nest_one (A.single p.0 l.0.0.0 d.0.0.0) (B.single p.1 l.0.0.1 d.0.0.1)) (nest_one (C.single p.2 l.0.1.0 d.0.1.0) (D.single p.3 l.0.1.1 d.0.1.1))) (nest_one (nest_one (E.single p.4 l.1.0.0 d.1.0.0) (F.single p.5 l.1.0.1 d.1.0.1)) (nest_one (G.single p.6 l.1.1.0 d.1.1.0) (H.single p.7 l.1.1.1 d.1.1.1))) };
+    ghost single = { λ p l d. nest_one Input.Error.seen Input.Position.cmp (nest_one Input.Error.seen Input.Position.cmp (nest_one Input.Error.seen Input.Position.cmp (A.single p.0 l.0.0.0 d.0.0.0) (B.single p.1 l.0.0.1 d.0.0.1)) (nest_one Input.Error.seen Input.Position.cmp (C.single p.2 l.0.1.0 d.0.1.0) (D.single p.3 l.0.1.1 d.0.1.1))) (nest_one Input.Error.seen Input.Position.cmp (nest_one Input.Error.seen Input.Position.cmp (E.single p.4 l.1.0.0 d.1.0.0) (F.single p.5 l.1.0.1 d.1.0.1)) (nest_one Input.Error.seen Input.Position.cmp (G.single p.6 l.1.1.0 d.1.1.0) (H.single p.7 l.1.1.1 d.1.1.1))) };
 
     #[inline(always)]
     fn parse_mode_choice<M: ParseMode>(

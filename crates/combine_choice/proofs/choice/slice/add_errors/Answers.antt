@@ -1,7 +1,7 @@
 use Rattle.std.proofs.Common.{◌≤◌, ◌<◌, ◌∙◌, length, arith, rules, refl}
 use Rattle.std.proofs.lemmas.List.{drop-set-lt}
 use Rattle.std.proofs.lemmas.List.Elements.{All-set}
-use Rattle.combine_choice.specs.Chosen.{chosen_same}
+use Rattle.combine_choice.specs.Merged.{choosing_same}
 use Rattle.combine_choice.proofs.Listed.{drop_here, drop_past, same_self, same_set}
 use Rattle.combine_choice.proofs.SliceCalls.{adding_all, adding_more, adding_none}
 use Rattle.combine_choice.proofs.choice.slice.add_errors.Goals as goal
@@ -26,7 +26,7 @@ loop-at-preserved g c =
     }
 
 pub returns-clause-same : goal.returns-clause-same
-returns-clause-same g c = chosen_same g.P.Parser.meaning _ _ c.loop-at.invariant.same
+returns-clause-same g c = choosing_same g.Input.Error.ParseError.seen g.Input.Position.Ord.cmp g.P.Parser.meaning _ _ c.loop-at.invariant.same
 
 pub returns-clause-says : goal.returns-clause-says
 returns-clause-says g c =

@@ -7,7 +7,7 @@ use Rattle.combine_token.proofs.Choosing.{begun_reads}
 use Rattle.combine_choice.specs.Chosen.{every_drop}
 use Rattle.combine_choice.proofs.Listed.{drop_at, drop_here, drop_past, same_self, same_set}
 use Rattle.combine_choice.proofs.Refusing.{begins_at, later_refuses, later_settles, peeked_no_fault, refusing_end, refusing_here, refusing_next, refusing_unreset, turn_no_fault, turn_settles}
-use Rattle.combine_base.proofs.Reasoning.{reasons_fault, reasons_ok, reasons_peek_ok}
+use Rattle.combine_base.proofs.Reasoning.{reasons_afresh, reasons_fault, reasons_ok, reasons_peek_ok}
 use Rattle.combine_base.specs.declared.stream.Kind.TheVariants as kinds
 use Rattle.combine_choice.proofs.MergedErrors.{first_commits, goes_end, goes_first, goes_next, next_reasons}
 use Rattle.combine_choice.proofs.choice.slice.choose.Goals as goal
@@ -55,7 +55,7 @@ loop-at-init g c =
       untried = λ k l. drop-set-lt k c.args.alternatives.now c.args.index _ (omega arith);
       state = t.ends (λ a. a);
       passes = c.in-PeekErr.ensures.passes;
-      goes = goes_first _ _ g.P.Parser.refuses _ _ _ _ _ here _ _ c.in-PeekErr.ensures.refuses;
+      goes = goes_first _ _ g.P.Parser.meaning _ _ _ _ _ here _ _ _ _ c.in-PeekErr.ensures.refuses;
       refusing = refusing_next w g.P.Parser.meaning _ _ _ _ _ _ _ _ z (begun_reads _ _ _ h _ _ c.requires.valid) _ t.answers c.in-PeekErr.ensures.passes (every_drop g.P.Parser.meaning (λ a. a.keeps) _ _) (every_drop g.P.Parser.meaning (λ a. a.puts_back) _ _) (every_drop g.P.Parser.meaning (λ a. a.lean) _ _);
     }
 
@@ -136,7 +136,7 @@ loop-at-preserved g c =
       untried = λ k l. drop-set-lt k c.loop-at.alternatives c.loop-at.at _ (omega arith) ∙ c.loop-at.invariant.untried k (omega arith);
       state = q.1;
       passes = passes_more _ _ _ _ _ _ (passes_more _ _ _ _ _ _ c.loop-at.invariant.passes c.in-Ok.ensures.passes) c.take_turn-answer.ensures.passes;
-      goes = goes_next _ _ g.P.Parser.refuses _ _ _ _ _ here _ c.loop-at.invariant.goes _ _ (rw back at c.take_turn-answer.ensures.refuses) _ c.in-PeekErr-after_refusal.ensures;
+      goes = goes_next _ _ g.P.Parser.meaning _ _ _ _ _ here _ _ c.loop-at.invariant.goes _ _ _ (reasons_afresh (rw back at c.take_turn-answer.ensures.refuses)) _ c.in-PeekErr-after_refusal.ensures;
       refusing = q.0;
     }
 
@@ -154,7 +154,7 @@ returns-in-PeekOk-clause-refuses g c = reasons_peek_ok _ _ _ _
 pub returns-in-CommitErr-clause-refuses : goal.returns-in-CommitErr-clause-refuses
 returns-in-CommitErr-clause-refuses g c =
     let here = drop_at _ _ c.index-alternatives-index.result c.requires.within in
-    first_commits _ _ g.P.Parser.refuses _ _ _ _ _ here _ _ c.in-CommitErr.ensures.refuses
+    first_commits _ _ g.P.Parser.meaning _ _ _ _ _ here _ _ _ _ c.in-CommitErr.ensures.refuses
 
 pub returns-in-Err-clause-refuses : goal.returns-in-Err-clause-refuses
 returns-in-Err-clause-refuses g c = reasons_fault _ _ _ _ kinds.Reset (c.new_error.ensures.kind ∙ c.in-Err.ensures.to.is.0) tt
@@ -165,7 +165,7 @@ returns-in-CommitOk-after_refusal-clause-refuses g c =
     let here = drop_here _ _ _ c.index-alternatives-at.result c.loop-at.invariant.untried within in
     let n = c.in-Ok.ensures.to.is in
     let back = n.0 _ (g.met.Input.ResetStream.lasts _ _ _ _ c.loop-at.invariant.passes.marks c.checkpoint-start.ensures.stands) in
-    next_reasons _ _ g.P.Parser.refuses _ _ _ _ _ here _ c.loop-at.invariant.goes _ _ (rw back at c.take_turn-answer.ensures.refuses) _ tt c.in-CommitOk-after_refusal.ensures
+    next_reasons _ _ g.P.Parser.meaning _ _ _ _ _ here _ _ c.loop-at.invariant.goes _ _ _ (reasons_afresh (rw back at c.take_turn-answer.ensures.refuses)) _ tt c.in-CommitOk-after_refusal.ensures
 
 pub returns-in-PeekOk-after_refusal-clause-refuses : goal.returns-in-PeekOk-after_refusal-clause-refuses
 returns-in-PeekOk-after_refusal-clause-refuses g c =
@@ -173,7 +173,7 @@ returns-in-PeekOk-after_refusal-clause-refuses g c =
     let here = drop_here _ _ _ c.index-alternatives-at.result c.loop-at.invariant.untried within in
     let n = c.in-Ok.ensures.to.is in
     let back = n.0 _ (g.met.Input.ResetStream.lasts _ _ _ _ c.loop-at.invariant.passes.marks c.checkpoint-start.ensures.stands) in
-    next_reasons _ _ g.P.Parser.refuses _ _ _ _ _ here _ c.loop-at.invariant.goes _ _ (rw back at c.take_turn-answer.ensures.refuses) _ tt c.in-PeekOk-after_refusal.ensures
+    next_reasons _ _ g.P.Parser.meaning _ _ _ _ _ here _ _ c.loop-at.invariant.goes _ _ _ (reasons_afresh (rw back at c.take_turn-answer.ensures.refuses)) _ tt c.in-PeekOk-after_refusal.ensures
 
 pub returns-in-CommitErr-after_refusal-clause-refuses : goal.returns-in-CommitErr-after_refusal-clause-refuses
 returns-in-CommitErr-after_refusal-clause-refuses g c =
@@ -181,9 +181,9 @@ returns-in-CommitErr-after_refusal-clause-refuses g c =
     let here = drop_here _ _ _ c.index-alternatives-at.result c.loop-at.invariant.untried within in
     let n = c.in-Ok.ensures.to.is in
     let back = n.0 _ (g.met.Input.ResetStream.lasts _ _ _ _ c.loop-at.invariant.passes.marks c.checkpoint-start.ensures.stands) in
-    next_reasons _ _ g.P.Parser.refuses _ _ _ _ _ here _ c.loop-at.invariant.goes _ _ (rw back at c.take_turn-answer.ensures.refuses) _ tt c.in-CommitErr-after_refusal.ensures
+    next_reasons _ _ g.P.Parser.meaning _ _ _ _ _ here _ _ c.loop-at.invariant.goes _ _ _ (reasons_afresh (rw back at c.take_turn-answer.ensures.refuses)) _ tt c.in-CommitErr-after_refusal.ensures
 
 pub returns-clause-refuses : goal.returns-clause-refuses
 returns-clause-refuses g c =
     let past : length c.args.alternatives.now ≤ c.loop-at.at = search (rules, arith) in
-    goes_end _ _ g.P.Parser.refuses _ _ _ _ (drop_past _ _ past) _ c.loop-at.invariant.goes
+    goes_end _ _ g.P.Parser.meaning _ _ _ _ (drop_past _ _ past) _ _ c.loop-at.invariant.goes
