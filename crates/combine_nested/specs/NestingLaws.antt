@@ -61,7 +61,7 @@ module _ {P T V : Type 0} where
     within = λ v a n k w. let i : n ≡ 0 = cc in omega arith;
   }
 
-module _ {P T R F I V N U : Type 0} (step : P → T → P) (depth : ℕ) (roots : F → Type 0) (answers : F → N → Type 0) (takes : F → I → Next F V → Type 0) (joins : F → V → Next F V → Type 0) (some : N → Type 0) (means : N → Meaning P T R I U) where
+module _ {P T R E F I V N U : Type 0} (step : P → T → P) (depth : ℕ) (roots : F → Type 0) (answers : F → N → Type 0) (takes : F → I → Next F V → Type 0) (joins : F → V → Next F V → Type 0) (some : N → Type 0) (means : N → Meaning P T R E I U) where
   module _ (lawful : N → Type 0) {fresh valid : U → Type 0} (laws : (n : N) → lawful n → IsMeaning fresh valid (means n)) (every : (f : F) (n : N) → answers f n → lawful n) where
     abbrev answered_at : F → Reading P T I
     answered_at f = answered step depth roots answers takes joins some means f
@@ -140,4 +140,4 @@ module _ {P T R F I V N U : Type 0} (step : P → T → P) (depth : ℕ) (roots 
     finds (states.Running l) v d w = d
 
     pub nesting_is_meaning : IsMeaning begins_steps (valid_step (KeptOf lawful means some) valid) (nesting step depth roots answers takes joins some means)
-    nesting_is_meaning = record { whole = whole_is_reading; rest = rest_is_reading; start = starts; found = finds }
+    nesting_is_meaning = record { whole = whole_is_reading; rest = rest_is_reading; start = starts; found = finds; reasons = λ s v w c e d. (λ p. p, λ p. p) }

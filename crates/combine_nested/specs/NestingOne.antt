@@ -45,7 +45,7 @@ pub record GivesOne {P T I : Type 0} (alike_items : I → I → Type 0) (r : Rea
   pub one : (v : View P T) (a a' : I) (n : ℕ) (c : Bool) → r v (Accepted a n c) → r v (Accepted a' n c) → alike_items a a'
 
 -- What comes of alike frames is alike, where they are given alike items or values; and they are given parsers that mean the same, whose items are alike.
-pub record NestsOne {P T R F I V N U : Type 0} (roots : F → Type 0) (answers : F → N → Type 0) (takes : F → I → Next F V → Type 0) (joins : F → V → Next F V → Type 0) (some : N → Type 0) (means : N → Meaning P T R I U) (valid : U → Type 0) (alike : F → F → Type 0) (alike_items : I → I → Type 0) (alike_values : V → V → Type 0) : Type 0 where
+pub record NestsOne {P T R E F I V N U : Type 0} (roots : F → Type 0) (answers : F → N → Type 0) (takes : F → I → Next F V → Type 0) (joins : F → V → Next F V → Type 0) (some : N → Type 0) (means : N → Meaning P T R E I U) (valid : U → Type 0) (alike : F → F → Type 0) (alike_items : I → I → Type 0) (alike_values : V → V → Type 0) : Type 0 where
   pub same : (f : F) → alike f f
   pub root : (f g : F) → roots f → roots g → alike f g
   pub asks : (f g : F) → alike f g → (n m : N) → answers f n → answers g m → (v : View P T) (o : Outcome I) → (means n).whole v o ↔ (means m).whole v o
@@ -54,7 +54,7 @@ pub record NestsOne {P T R F I V N U : Type 0} (roots : F → Type 0) (answers :
   pub take : (f g : F) → alike f g → (a b : I) → alike_items a b → (x y : Next F V) → takes f a x → takes g b y → nexts_alike alike alike_values x y
   pub join : (f g : F) → alike f g → (v w : V) → alike_values v w → (x y : Next F V) → joins f v x → joins g w y → nexts_alike alike alike_values x y
 
-module _ {P T R F I V N U : Type 0} (step : P → T → P) (depth : ℕ) {roots : F → Type 0} {answers : F → N → Type 0} {takes : F → I → Next F V → Type 0} {joins : F → V → Next F V → Type 0} {some : N → Type 0} {means : N → Meaning P T R I U} {valid : U → Type 0} {alike : F → F → Type 0} {alike_items : I → I → Type 0} {alike_values : V → V → Type 0} (h : NestsOne roots answers takes joins some means valid alike alike_items alike_values) where
+module _ {P T R E F I V N U : Type 0} (step : P → T → P) (depth : ℕ) {roots : F → Type 0} {answers : F → N → Type 0} {takes : F → I → Next F V → Type 0} {joins : F → V → Next F V → Type 0} {some : N → Type 0} {means : N → Meaning P T R E I U} {valid : U → Type 0} {alike : F → F → Type 0} {alike_items : I → I → Type 0} {alike_values : V → V → Type 0} (h : NestsOne roots answers takes joins some means valid alike alike_items alike_values) where
   abbrev alls : List F → List F → Type 0
   alls = all_alike alike alike_values
 

@@ -5,7 +5,7 @@ use Rattle.std.proofs.lemmas.List.{take-append-le}
 use Rattle.combine_base.specs.Stream.View.{View, advanced, extended}
 use Rattle.combine_base.specs.Stream.Advance.{advanced_extended}
 use Rattle.combine_base.specs.Parser.Outcome.{Outcome, Accepted, Refused, Undecided, shape, IsDecided}
-use Rattle.combine_base.specs.Parser.Meaning.{Meaning, Reading, IsReading, IsSingle, IsMeaning, MeansOne, MeansSame}
+use Rattle.combine_base.specs.Parser.Meaning.{Meaning, Reading, IsReading, IsSingle, IsMeaning, MeansOne, MeansSame, unsaid}
 use Rattle.combine_stream.specs.Ranges.{size_of, Place, Inside}
 use Rattle.combine_stream.specs.RangeFacts.{one_place, place_stays, inside_stays}
 use Rattle.combine_base.specs.declared.error.ParseResult.{ParseResult}
@@ -72,7 +72,7 @@ module _ {P T V R : Type 0} (size : T → ℕ) (spells : R → List T → Type 0
     -- the kept distance ends inside a token: no call keeps such a one
     Split : (split : Inside size v.unread d) (is : o ≡ Refused false) → Recognizes d r v o
 
-  abbrev pub recognized : {S : Type 0} → Meaning P T R V S → Meaning P T R (R × V) (RecognizeState S)
+  abbrev pub recognized : {S E : Type 0} → Meaning P T R E V S → Meaning P T R E (R × V) (RecognizeState S)
   recognized m = record {
     whole = Recognizes 0 m.whole;
     rest = λ s. Recognizes s.distance (m.rest s.part);
@@ -81,6 +81,8 @@ module _ {P T V R : Type 0} (size : T → ℕ) (spells : R → List T → Type 0
     puts_back = Unit {0};
     lean = m.lean;
     adds = m.adds;
+    refuses = unsaid;
+    refuses_from = λ s. unsaid;
   }
 
   shape_of : (us : List T) (n : ℕ) (i : Outcome V) (o : Outcome (R × V)) → sliced us n i o → shape o ≡ slice_shape n (shape i)
@@ -177,22 +179,23 @@ module _ {P T V R : Type 0} (size : T → ℕ) (spells : R → List T → Type 0
   recognizes_both : (d : ℕ) (r r' : Reading P T V) → ((v : View P T) (o : Outcome V) → r v o ↔ r' v o) → (v : View P T) (o : Outcome (R × V)) → Recognizes d r v o ↔ Recognizes d r' v o
   recognizes_both d r r' i v o = (recognizes_into d r r' (λ v o. (i v o).0) v o, recognizes_into d r' r (λ v o. (i v o).1) v o)
 
-  module _ {S : Type 0} (filled : (t : T) → 0 < size t) where
-    pub recognized_is_meaning : (fresh valid : S → Type 0) (m : Meaning P T R V S) → IsMeaning fresh valid m → IsMeaning (IsFresh fresh) (HasValid valid) (recognized m)
+  module _ {S E : Type 0} (filled : (t : T) → 0 < size t) where
+    pub recognized_is_meaning : (fresh valid : S → Type 0) (m : Meaning P T R E V S) → IsMeaning fresh valid m → IsMeaning (IsFresh fresh) (HasValid valid) (recognized m)
     recognized_is_meaning fresh valid m h = record {
       whole = recognizes_is_reading filled 0 m.whole h.whole;
       rest = λ s k. recognizes_is_reading filled s.distance (m.rest s.part) (h.rest s.part k);
       start = λ s v o d. rw d.0 (recognizes_both 0 (m.rest s.part) m.whole (λ v o. h.start s.part v o d.1) v o);
       found = λ s v d. never_lost size step s.distance (m.lost s.part) (λ v. h.found s.part v d.1) v d.0;
+      reasons = λ s v w c e d. (λ p. p, λ p. p);
     }
 
-    pub recognized_means_one : (valid : S → Type 0) (m : Meaning P T R V S) → MeansOne valid m → MeansOne (HasValid valid) (recognized m)
+    pub recognized_means_one : (valid : S → Type 0) (m : Meaning P T R E V S) → MeansOne valid m → MeansOne (HasValid valid) (recognized m)
     recognized_means_one valid m h = record {
       whole = record { one = recognizes_one filled 0 m.whole h.whole };
       rest = λ s k. record { one = recognizes_one filled s.distance (m.rest s.part) (h.rest s.part k) };
     }
 
-  pub recognized_means_same : {S : Type 0} (m m' : Meaning P T R V S) → MeansSame m m' → MeansSame (recognized m) (recognized m')
+  pub recognized_means_same : {S E : Type 0} (m m' : Meaning P T R E V S) → MeansSame m m' → MeansSame (recognized m) (recognized m')
   recognized_means_same m m' h = record {
     whole = recognizes_both 0 m.whole m'.whole h.whole;
     rest = λ s. recognizes_both s.distance (m.rest s.part) (m'.rest s.part) (h.rest s.part);
@@ -201,4 +204,6 @@ module _ {P T V R : Type 0} (size : T → ℕ) (spells : R → List T → Type 0
     puts_back = (λ k. k, λ k. k);
     lean = h.lean;
     adds = h.adds;
+    refuses = λ v w c e. (λ p. p, λ p. p);
+    refuses_from = λ s v w c e. (λ p. p, λ p. p);
   }

@@ -20,7 +20,7 @@ use Rattle.combine_repeat_sep.specs.declared.pair.PairState.{PairState}
 use Rattle.combine_repeat_sep.specs.declared.pair.PairState.TheVariants.{Separator, Part as PairPart}
 
 -- what is left is valid
-module _ {P T R A B S S' E : Type 0} (w : World P T S E) (m : Meaning P T R A S) (valid : S → Type 0) (f : A → B) (keep : S → S') (valid' : S' → Type 0) where
+module _ {P T R A B S S' E : Type 0} (w : World P T S E) (m : Meaning P T R E A S) (valid : S → Type 0) (f : A → B) (keep : S → S') (valid' : S' → Type 0) where
   pub ran_valid : ((s : S) → valid s → valid' (keep s)) → {first : Bool} {state : S} {start left : S'} {old new : View P T} {before after : Failures} {result : ParseResult B E} → valid' start → Ran w m valid f keep first state start left old new before after result → valid' left
   ran_valid h {start = start} {left = left} {new = new} d p = by_left p.leaves
     where
@@ -28,8 +28,8 @@ module _ {P T R A B S S' E : Type 0} (w : World P T S E) (m : Meaning P T R A S)
       by_left (inl q) = rw q.1 (h p.stopped q.2)
       by_left (inr q) = rw q.1 d
 
-module _ {P T R A C D O W U E : Type 0} (w : World P T U E) (fresh' : PairState O W U → Type 0) (m : Meaning P T R D U) (n : Meaning P T R C (PairState O W U)) (j : D → A) (f : C → A) where
-  abbrev turn : Bool → Meaning P T R A (SeparatedState O W U)
+module _ {P T R A C D O W U E : Type 0} (w : World P T U E) (fresh' : PairState O W U → Type 0) (m : Meaning P T R E D U) (n : Meaning P T R E C (PairState O W U)) (j : D → A) (f : C → A) where
+  abbrev turn : Bool → Meaning P T R E A (SeparatedState O W U)
   turn later = called (first_then j f m n) (later_turn f n) later
 
   keeps_first : (later : Bool) → Keeping w (separated_fresh w.fresh) m (turn later) j (λ s. Part leads.Nothing s)

@@ -53,7 +53,7 @@ module _ {P T : Type 0} where
     sequel_good : ReadsOnly (sequel step put_to r q) (λ t. good t.0)
     sequel_good = record { one = λ v t n k w. continues_good v w.0 w.1 t n k w.2 }
 
-module _ {P T R O V W U : Type 0} (step : P → T → P) {good : O → Type 0} {valid : W → Type 0} (part_valid : U → Type 0) {s : Meaning P T R O W} (m : Meaning P T R V U) (h : GivesOnly valid s good) where
+module _ {P T R E O V W U : Type 0} (step : P → T → P) {good : O → Type 0} {valid : W → Type 0} (part_valid : U → Type 0) {s : Meaning P T R E O W} (m : Meaning P T R E V U) (h : GivesOnly valid s good) where
   pair_gives : GivesOnly (led_valid good valid part_valid) (pair step s m) (λ t. good t.0)
   pair_gives = record { whole = sequel_good step good s.whole (λ _. m.whole) h.whole; rest = resting }
     where
@@ -76,5 +76,5 @@ module _ {P T R O V W U : Type 0} (step : P → T → P) {good : O → Type 0} {
       resting (Later z) d = later ((pair step s m).rest z) (pair_gives.rest z d)
 
 -- where nothing is asked of what a separator gives
-pub any_given : {P T R O W : Type 0} {valid : W → Type 0} {s : Meaning P T R O W} → GivesOnly valid s (λ _. Unit {0})
+pub any_given : {P T R E O W : Type 0} {valid : W → Type 0} {s : Meaning P T R E O W} → GivesOnly valid s (λ _. Unit {0})
 any_given = record { whole = record { one = λ v a n c w. tt }; rest = λ s k. record { one = λ v a n c w. tt } }

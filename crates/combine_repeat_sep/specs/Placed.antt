@@ -8,7 +8,7 @@ use Rattle.combine_base.specs.Sequence.Parts.{joined_answer}
 use Rattle.combine_base.specs.declared.stream.Failures.{Failures}
 use Rattle.combine_base.specs.declared.error.ParseResult.{ParseResult}
 
-module _ {P T R A B S S' E : Type 0} (w : World P T S E) (m : Meaning P T R A S) (valid : S → Type 0) (f : A → B) (keep : S → S') where
+module _ {P T R A B S S' E : Type 0} (w : World P T S E) (m : Meaning P T R E A S) (valid : S → Type 0) (f : A → B) (keep : S → S') where
   -- the part was run so; on need of more its state is kept, and else what was there at the start
   pub record Ran (first : Bool) (state : S) (start left : S') (old new : View P T) (before after : Failures) (result : ParseResult B E) : Type 0 where
     pub stopped : S

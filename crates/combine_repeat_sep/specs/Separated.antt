@@ -2,7 +2,7 @@
 use Rattle.std.specs.Prelude.{false, ◌↔◌}
 use Rattle.combine_base.specs.Stream.View.{View}
 use Rattle.combine_base.specs.Parser.Outcome.{Outcome}
-use Rattle.combine_base.specs.Parser.Meaning.{Meaning, Reading, IsReading, IsMeaning, MeansOne, MeansSame}
+use Rattle.combine_base.specs.Parser.Meaning.{Meaning, Reading, IsReading, IsMeaning, MeansOne, MeansSame, unsaid}
 use Rattle.combine_base.specs.Sequence.Readings.{following, following_is_reading, following_is_single, following_same}
 use Rattle.combine_repeat_turns.specs.Turn.{IsTurn, TurnsSame, EndsOnce, TurnsOnce, never_ends}
 use Rattle.combine_repeat_sep.specs.declared.pair.PairState.{PairState}
@@ -72,20 +72,20 @@ pub separated_default : {O W U : Type 0} (fresh valid : U → Type 0) (valid' : 
 separated_default fresh valid valid' h s d = default_at fresh valid valid' h (turn_place s) d
 
 -- a later turn, whose value is changed by f
-abbrev pub later_turn : {P T R A C W : Type 0} → (C → A) → Meaning P T R C W → Reading P T A
+abbrev pub later_turn : {P T R E A C W : Type 0} → (C → A) → Meaning P T R E C W → Reading P T A
 later_turn f n = following false f n.whole
 
-module _ {P T R A C D O W U : Type 0} (e : D → A) (f : C → A) where
-  abbrev pub kept_reading : Meaning P T R D U → Meaning P T R C (PairState O W U) → TurnPlace U (PairState O W U) → Reading P T A
+module _ {P T R E A C D O W U : Type 0} (e : D → A) (f : C → A) where
+  abbrev pub kept_reading : Meaning P T R E D U → Meaning P T R E C (PairState O W U) → TurnPlace U (PairState O W U) → Reading P T A
   kept_reading m n (at.First s) = following false e (m.rest s)
   kept_reading m n (at.Later s) = following false f (n.rest s)
 
-  abbrev pub kept_lost : Meaning P T R D U → Meaning P T R C (PairState O W U) → TurnPlace U (PairState O W U) → View P T → Type 0
+  abbrev pub kept_lost : Meaning P T R E D U → Meaning P T R E C (PairState O W U) → TurnPlace U (PairState O W U) → View P T → Type 0
   kept_lost m n (at.First s) = m.lost s
   kept_lost m n (at.Later s) = n.lost s
 
   -- the first turn is m, and later ones are n, whose value is changed by f
-  abbrev pub first_then : Meaning P T R D U → Meaning P T R C (PairState O W U) → Meaning P T R A (SeparatedState O W U)
+  abbrev pub first_then : Meaning P T R E D U → Meaning P T R E C (PairState O W U) → Meaning P T R E A (SeparatedState O W U)
   first_then m n = record {
     whole = following false e m.whole;
     rest = λ z. kept_reading m n (turn_place z);
@@ -94,9 +94,11 @@ module _ {P T R A C D O W U : Type 0} (e : D → A) (f : C → A) where
     puts_back = ⊥;
     lean = m.lean × n.lean;
     adds = m.adds;
+    refuses = unsaid;
+    refuses_from = λ s. unsaid;
   }
 
-  module _ {fresh valid : U → Type 0} {fresh' valid' : PairState O W U → Type 0} {m : Meaning P T R D U} {n : Meaning P T R C (PairState O W U)} where
+  module _ {fresh valid : U → Type 0} {fresh' valid' : PairState O W U → Type 0} {m : Meaning P T R E D U} {n : Meaning P T R E C (PairState O W U)} where
     pub then_is_turn : IsMeaning fresh valid m → IsMeaning fresh' valid' n → IsTurn (separated_fresh fresh) (separated_valid valid valid') (first_then m n) (later_turn f n)
     then_is_turn h k = record {
       meaning = record {
@@ -120,7 +122,7 @@ module _ {P T R A C D O W U : Type 0} (e : D → A) (f : C → A) where
         finding (at.First s) v d = h.found s v d
         finding (at.Later s) v d = absurd d
 
-  module _ {valid : U → Type 0} {valid' : PairState O W U → Type 0} {m : Meaning P T R D U} {n : Meaning P T R C (PairState O W U)} where
+  module _ {valid : U → Type 0} {valid' : PairState O W U → Type 0} {m : Meaning P T R E D U} {n : Meaning P T R E C (PairState O W U)} where
     pub then_once : MeansOne valid m → MeansOne valid' n → TurnsOnce (separated_valid valid valid') (λ _. false) (first_then m n) (later_turn f n)
     then_once h k = record {
       whole = never_ends (following_is_single false e m.whole h.whole);
@@ -132,7 +134,7 @@ module _ {P T R A C D O W U : Type 0} (e : D → A) (f : C → A) where
         resting (at.First s) d = never_ends (following_is_single false e (m.rest s) (h.rest s d))
         resting (at.Later s) d = never_ends (following_is_single false f (n.rest s) (k.rest s d))
 
-  pub then_same : (m m' : Meaning P T R D U) (n n' : Meaning P T R C (PairState O W U)) → MeansSame m m' → MeansSame n n' → TurnsSame (first_then m n) (later_turn f n) (first_then m' n') (later_turn f n')
+  pub then_same : (m m' : Meaning P T R E D U) (n n' : Meaning P T R E C (PairState O W U)) → MeansSame m m' → MeansSame n n' → TurnsSame (first_then m n) (later_turn f n) (first_then m' n') (later_turn f n')
   then_same m m' n n' h k = record {
     meaning = record {
       whole = following_same false e m.whole m'.whole h.whole;

@@ -165,8 +165,8 @@ module _ {A : Type 0} (b : Bounds) (ending : A → Bool) where
     judged_once : IsJudgedOnce (bounded b ending) g r
     judged_once = record { one = h.one; judged = λ v o o' p q. same_turn v o o' p q (h.one v o o' p q) }
 
-module _ {P T R A V S : Type 0} (step : P → T → P) (b : Bounds) (ending : A → Bool) (c : Collecting A V) (start : SoFar Place c.Held) where
-  pub turns_is_meaning : (fresh valid : S → Type 0) (m : Meaning P T R A S) (again : Reading P T A) → IsTurn fresh valid m again → IsMeaning (fresh_turns fresh) (λ s. valid (running_turn s)) (turns_from step b ending c start m again)
+module _ {P T R E A V S : Type 0} (step : P → T → P) (b : Bounds) (ending : A → Bool) (c : Collecting A V) (start : SoFar Place c.Held) where
+  pub turns_is_meaning : (fresh valid : S → Type 0) (m : Meaning P T R E A S) (again : Reading P T A) → IsTurn fresh valid m again → IsMeaning (fresh_turns fresh) (λ s. valid (running_turn s)) (turns_from step b ending c start m again)
   turns_is_meaning fresh valid m again t =
       let h = t.meaning in
       record {
@@ -174,6 +174,7 @@ module _ {P T R A V S : Type 0} (step : P → T → P) (b : Bounds) (ending : A 
         rest = λ s k. turned_is_reading step (bounded b ending) (bounded_is_rule b ending) c (λ _. again) (λ _. t.later) (m.rest (running_turn s)) (h.rest (running_turn s) k) (so_far_or start c.held s.earlier);
         start = starting;
         found = finding;
+        reasons = λ s v w c e d. (λ p. p, λ p. p);
       }
     where
       starting : (s : TurnsState V S) (v : View P T) (o : Outcome V) → fresh_turns fresh s → (turns_from step b ending c start m again).rest s v o ↔ (turns_from step b ending c start m again).whole v o
@@ -185,13 +186,13 @@ module _ {P T R A V S : Type 0} (step : P → T → P) (b : Bounds) (ending : A 
       finding : (s : TurnsState V S) (v : View P T) → fresh_turns fresh s → m.lost (running_turn s) v → ⊥
       finding s v d = t.meaning.found s.running v d.1
 
-  pub turns_means_one : (valid : S → Type 0) (m : Meaning P T R A S) (again : Reading P T A) → TurnsOnce valid ending m again → MeansOne (λ (s : TurnsState V S). valid (running_turn s)) (turns_from step b ending c start m again)
+  pub turns_means_one : (valid : S → Type 0) (m : Meaning P T R E A S) (again : Reading P T A) → TurnsOnce valid ending m again → MeansOne (λ (s : TurnsState V S). valid (running_turn s)) (turns_from step b ending c start m again)
   turns_means_one valid m again h = record {
     whole = turned_is_single step (bounded b ending) c (λ _. again) (λ g. judged_once b ending again g h.later) m.whole start (judged_once b ending m.whole start.mark h.whole);
     rest = λ s k. turned_is_single step (bounded b ending) c (λ _. again) (λ g. judged_once b ending again g h.later) (m.rest (running_turn s)) (so_far_or start c.held s.earlier) (judged_once b ending (m.rest (running_turn s)) (so_far_or start c.held s.earlier).mark (h.rest (running_turn s) k));
   }
 
-  pub turns_means_same : (m m' : Meaning P T R A S) (again again' : Reading P T A) → TurnsSame m again m' again' → MeansSame {State = TurnsState V S} (turns_from step b ending c start m again) (turns_from step b ending c start m' again')
+  pub turns_means_same : (m m' : Meaning P T R E A S) (again again' : Reading P T A) → TurnsSame m again m' again' → MeansSame {State = TurnsState V S} (turns_from step b ending c start m again) (turns_from step b ending c start m' again')
   turns_means_same m m' again again' t = record {
     whole = λ v o. (there m.whole m'.whole (λ v o. (h.whole v o).0) start v o, back m.whole m'.whole (λ v o. (h.whole v o).1) start v o);
     rest = λ s v o. (there (m.rest (running_turn s)) (m'.rest (running_turn s)) (λ v o. (h.rest (running_turn s) v o).0) (so_far_or start c.held s.earlier) v o, back (m.rest (running_turn s)) (m'.rest (running_turn s)) (λ v o. (h.rest (running_turn s) v o).1) (so_far_or start c.held s.earlier) v o);
@@ -200,6 +201,8 @@ module _ {P T R A V S : Type 0} (step : P → T → P) (b : Bounds) (ending : A 
     puts_back = (λ b. b, λ b. b);
     lean = (λ l. (h.lean.0 l.0, l.1), λ l. (h.lean.1 l.0, l.1));
     adds = h.adds;
+    refuses = λ v w c e. (λ p. p, λ p. p);
+    refuses_from = λ s v w c e. (λ p. p, λ p. p);
   }
     where
       h : MeansSame m m'

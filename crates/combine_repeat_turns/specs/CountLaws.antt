@@ -8,12 +8,12 @@ use Rattle.combine_repeat_turns.specs.Counts.{never, repeated}
 use Rattle.combine_repeat_turns.specs.declared.turns.Bounds.{Bounds}
 use Rattle.combine_repeat_turns.specs.declared.turns.TurnsState.{TurnsState}
 
-module _ {P T R A V S : Type 0} (step : P → T → P) (b : Bounds) (c : Collecting A V) where
-  pub repeated_is_meaning : (fresh valid : S → Type 0) (m : Meaning P T R A S) → IsMeaning fresh valid m → IsMeaning (fresh_turns fresh) (λ s. valid (running_turn s)) (repeated step b c m)
+module _ {P T R E A V S : Type 0} (step : P → T → P) (b : Bounds) (c : Collecting A V) where
+  pub repeated_is_meaning : (fresh valid : S → Type 0) (m : Meaning P T R E A S) → IsMeaning fresh valid m → IsMeaning (fresh_turns fresh) (λ s. valid (running_turn s)) (repeated step b c m)
   repeated_is_meaning fresh valid m h = turns_is_meaning step b never c (none_yet c.none) fresh valid m m.whole (plain_is_turn h)
 
-  pub repeated_means_one : (valid : S → Type 0) (m : Meaning P T R A S) → MeansOne valid m → MeansOne (λ (s : TurnsState V S). valid (running_turn s)) (repeated step b c m)
+  pub repeated_means_one : (valid : S → Type 0) (m : Meaning P T R E A S) → MeansOne valid m → MeansOne (λ (s : TurnsState V S). valid (running_turn s)) (repeated step b c m)
   repeated_means_one valid m h = turns_means_one step b never c (none_yet c.none) valid m m.whole (plain_once h)
 
-  pub repeated_means_same : (m m' : Meaning P T R A S) → MeansSame m m' → MeansSame {State = TurnsState V S} (repeated step b c m) (repeated step b c m')
+  pub repeated_means_same : (m m' : Meaning P T R E A S) → MeansSame m m' → MeansSame {State = TurnsState V S} (repeated step b c m) (repeated step b c m')
   repeated_means_same m m' h = turns_means_same step b never c (none_yet c.none) m m' m.whole m'.whole (plain_same h)

@@ -50,7 +50,7 @@ pub trait Turn<Input: Stream> {
     ghost valid: { Self.Running → Type 0 };
 
     /// The first turn from its start, and any from a kept state.
-    ghost meaning: { Self → Meaning Input.Position Input.Token Input.Range Self.Value Self.Running };
+    ghost meaning: { Self → Meaning Input.Position Input.Token Input.Range Input.Error Self.Value Self.Running };
 
     /// A later turn from its start.
     ghost again: { Self → Reading Input.Position Input.Token Self.Value };

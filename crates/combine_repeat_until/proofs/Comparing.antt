@@ -20,7 +20,7 @@ module _ {A Held : Type 0} (more : Held → A → Held) where
   folds_on h (None ∷ xs) = let r = folds_on h xs in (r.0, (h, refl, r.1))
   folds_on h (Some x ∷ xs) = let r = folds_on (more h x) xs in (r.0, (more h x, refl, r.1))
 
-module _ {P T R A B V S U Held : Type 0} (step : P → T → P) (held : V → Held) (none : Held) (more : Held → A → Held) (lean : Type 0) (part : Meaning P T R A S) (end : Meaning P T R B U) where
+module _ {P T R E A B V S U Held : Type 0} (step : P → T → P) (held : V → Held) (none : Held) (more : Held → A → Held) (lean : Type 0) (part : Meaning P T R E A S) (end : Meaning P T R E B U) where
   -- the same blocks, collected as that
   alike : {W : Type 0} (v : View P T) (o : Outcome V) (i : Outcome W) → shape i ≡ shape o → Collects (some_dropped {A = A} {V = W}) i tt → (repeat_until step (some_appended held none more lean) part end).whole v o → (repeat_until step (some_dropped {V = W}) part end).whole v i
   alike v o i e q t = record { enough = t.enough; blocks = t.blocks; last = t.last; held = tt; divided = t.divided; joined = e ∙ t.joined; folded = drops_all (values t.blocks); collected = q }

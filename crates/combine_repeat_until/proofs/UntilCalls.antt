@@ -57,7 +57,7 @@ both_true : (a b : Bool) → (a && b) ≡ true → a ≡ true
 both_true true b e = refl
 both_true false b e = absurd (cc)
 
-module _ {P T R A V S E : Type 0} (w : World P T S E) (c : Collecting (Option A) V) (m : Meaning P T R (Option A) S) where
+module _ {P T R A V S E : Type 0} (w : World P T S E) (c : Collecting (Option A) V) (m : Meaning P T R E (Option A) S) where
   -- a call that began so has come to a turn that runs so and began at that place
   pub record Reaches (first : Bool) (state : UntilState V S) (old : View P T) (earlier : Failures) (turn_first : Bool) (turn_state : S) (place now : View P T) (later : Failures) (s : SoFar Bool c.Held) : Type 0 where
     pub before : ℕ
@@ -416,7 +416,7 @@ module _ {P T R A V S E : Type 0} (w : World P T S E) (c : Collecting (Option A)
       by_kind kinds.Lost y = absurd y
 
 -- what one turn did is what it did of another parser that means the same
-module _ {P T R A V S E : Type 0} (w : World P T S E) (c : Collecting (Option A) V) (m m' : Meaning P T R (Option A) S) (h : MeansSame m m') (r : Run P T S) (marked : View P T → Type 0) (b : Blocks V) where
+module _ {P T R A V S E : Type 0} (w : World P T S E) (c : Collecting (Option A) V) (m m' : Meaning P T R E (Option A) S) (h : MeansSame m m') (r : Run P T S) (marked : View P T → Type 0) (b : Blocks V) where
   begun_back : (first : Bool) (o : Outcome (Option A)) → begun m' first r.state r.old o → begun m first r.state r.old o
   begun_back true o p = (h.whole r.old o).1 p
   begun_back false o p = (h.rest r.state r.old o).1 p
@@ -443,7 +443,7 @@ module _ {P T R A V S E : Type 0} (w : World P T S E) (c : Collecting (Option A)
   pub turn_back : (x : Step V E) → OneTurn w m' c r marked b x → OneTurn w m c r marked b x
   turn_back x p = record { is = turned_back x p.is }
 
-pub begun_reads : {P T R A S : Type 0} (fresh valid : S → Type 0) (m : Meaning P T R A S) → IsMeaning fresh valid m → (first : Bool) (s : S) → valid s → IsReading (begun m first s)
+pub begun_reads : {P T R E A S : Type 0} (fresh valid : S → Type 0) (m : Meaning P T R E A S) → IsMeaning fresh valid m → (first : Bool) (s : S) → valid s → IsReading (begun m first s)
 begun_reads fresh valid m h true s v = h.whole
 begun_reads fresh valid m h false s v = h.rest s v
 

@@ -197,27 +197,28 @@ loses_into : {P T : Type 0} (step : P → T → P) (d : ℕ) (l l' : View P T �
 loses_into step d l l' i v (Short p) = Short p
 loses_into step d l l' i v (Within p) = Within (i _ p)
 
-module _ {P T R A V S : Type 0} (step : P → T → P) (c : Collecting (Option A) V) where
-  pub until_is_meaning : (fresh valid : S → Type 0) (m : Meaning P T R (Option A) S) → IsMeaning fresh valid m → IsMeaning until_fresh (until_valid valid) (until step c m)
+module _ {P T R E A V S : Type 0} (step : P → T → P) (c : Collecting (Option A) V) where
+  pub until_is_meaning : (fresh valid : S → Type 0) (m : Meaning P T R E (Option A) S) → IsMeaning fresh valid m → IsMeaning until_fresh (until_valid valid) (until step c m)
   until_is_meaning fresh valid m h = record {
     whole = until_is_reading step c m.whole h.whole 0 0 m.whole h.whole (no_blocks c.none);
     rest = resting;
     start = λ s v o d. rw d (λ x. x, λ x. x);
     found = λ s v d. rw d (λ x. x);
+    reasons = λ s v w c e d. (λ p. p, λ p. p);
   }
     where
       resting : (s : UntilState V S) → until_valid valid s → IsReading (until_rest step c m s)
       resting Begin d = until_is_reading step c m.whole h.whole 0 0 m.whole h.whole (no_blocks c.none)
       resting (At k) d = until_is_reading step c m.whole h.whole k.before k.beyond (m.rest k.running) (h.rest k.running d) (blocks_so_far c.held k.blocks)
 
-  pub until_means_one : (valid : S → Type 0) (m : Meaning P T R (Option A) S) → TurnsOnce valid is_none m m.whole → MeansOne (until_valid valid) (until step c m)
+  pub until_means_one : (valid : S → Type 0) (m : Meaning P T R E (Option A) S) → TurnsOnce valid is_none m m.whole → MeansOne (until_valid valid) (until step c m)
   until_means_one valid m h = record { whole = until_is_single step c m.whole h.whole 0 0 m.whole h.whole (no_blocks c.none); rest = resting }
     where
       resting : (s : UntilState V S) → until_valid valid s → IsSingle (until_rest step c m s)
       resting Begin d = until_is_single step c m.whole h.whole 0 0 m.whole h.whole (no_blocks c.none)
       resting (At k) d = until_is_single step c m.whole h.whole k.before k.beyond (m.rest k.running) (h.rest k.running d) (blocks_so_far c.held k.blocks)
 
-  module _ (m m' : Meaning P T R (Option A) S) (h : MeansSame m m') where
+  module _ (m m' : Meaning P T R E (Option A) S) (h : MeansSame m m') where
     there : (before beyond : ℕ) (r r' : Reading P T (Option A)) → ((v : View P T) (o : Outcome (Option A)) → r v o → r' v o) → (s : SoFar Bool c.Held) (v : View P T) (o : Outcome V) → Until step c m.whole before beyond r s v o → Until step c m'.whole before beyond r' s v o
     there before beyond r r' i = until_into step c m.whole m'.whole (λ v o. (h.whole v o).0) before beyond r r' i
 
@@ -241,4 +242,6 @@ module _ {P T R A V S : Type 0} (step : P → T → P) (c : Collecting (Option A
       puts_back = (λ x. x, λ x. x);
       lean = (λ l. (h.lean.0 l.0, l.1), λ l. (h.lean.1 l.0, l.1));
       adds = h.adds;
+      refuses = λ v w c e. (λ p. p, λ p. p);
+      refuses_from = λ s v w c e. (λ p. p, λ p. p);
     }

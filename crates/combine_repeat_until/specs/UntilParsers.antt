@@ -63,7 +63,7 @@ blocks_end p = next_end p.turn
 abbrev pub blocks_part : {F A X Y : Type 0} → BlocksUntil F A X Y → X
 blocks_part p = next_part p.turn
 
-module _ {P T R A B V S U : Type 0} (step : P → T → P) (c : Collecting (Option A) V) where
+module _ {P T R E A B V S U : Type 0} (step : P → T → P) (c : Collecting (Option A) V) where
   -- blocks of a parser, up to the first place where the other one isn't refused peeked
-  abbrev pub repeat_until : Meaning P T R A S → Meaning P T R B U → Meaning P T R V (UntilState V (OrState U S))
+  abbrev pub repeat_until : Meaning P T R E A S → Meaning P T R E B U → Meaning P T R E V (UntilState V (OrState U S))
   repeat_until part end = until step c (next end part)

@@ -56,7 +56,7 @@ module _ {P T C : Type 0} (steady : Type 0) (step : P → T → P) (stands : C �
   pub record ComesTo (result : Result C Kind) : Type 0 where
     pub is : comes_to result
 
-module _ {P T R A V S E : Type 0} (w : World P T S E) (m : Meaning P T R (Option A) S) (c : Collecting (Option A) V) (r : Run P T S) (marked : View P T → Type 0) (old : Blocks V) where
+module _ {P T R A V S E : Type 0} (w : World P T S E) (m : Meaning P T R E (Option A) S) (c : Collecting (Option A) V) (r : Run P T S) (marked : View P T → Type 0) (old : Blocks V) where
   -- the turn is a block
   pub record GoesOn (new : Blocks V) : Type 0 where
     pub value : A

@@ -26,7 +26,7 @@ module _ {P T : Type 0} where
   abbrev pub window_at : (P → T → P) → P → List T → ℕ → ℕ → Bool → View P T
   window_at step start whole from to more = advanced step from (up_to start whole to more)
 
-module _ {P T R Value State : Type 0} (frugal : Type 0) (start : P) (m : Meaning P T R Value State) where
+module _ {P T R E Value State : Type 0} (frugal : Type 0) (start : P) (m : Meaning P T R E Value State) where
   -- the outcome on these tokens from the start, open or ended
   abbrev pub on : List T → Bool → Outcome Value → Type 0
   on x more = m.whole (record { position = start; unread = x; is_open = more })
@@ -57,7 +57,7 @@ module _ {P T R Value State : Type 0} (frugal : Type 0) (start : P) (m : Meaning
       pub is : ran result
 
 -- one call on a window
-pub record ParsesWindow {P T R Value State E : Type 0} (frugal steady : Type 0) (step : P → T → P) (kind : E → Kind) (fresh : State → Type 0) (start : P) (m : Meaning P T R Value State) (state left : State) (whole : List T) (from to : ℕ) (more : Bool) (taken : ℕ) (result : Result (Answer Value E) Kind) : Type 0 where
+pub record ParsesWindow {P T R Value State E : Type 0} (frugal steady : Type 0) (step : P → T → P) (kind : E → Kind) (fresh : State → Type 0) (start : P) (m : Meaning P T R E Value State) (state left : State) (whole : List T) (from to : ℕ) (more : Bool) (taken : ℕ) (result : Result (Answer Value E) Kind) : Type 0 where
   pub new : View P T
   pub failures : Failures
   pub parsed : ParseResult Value E
