@@ -6,7 +6,7 @@ use Rattle.combine_base.specs.Error.Items.{Item}
 use Rattle.combine_base.specs.Parser.Answer.{Answers, Asks, Run, World, ends, world}
 use Rattle.combine_base.specs.Parser.Drivers.{Starts, afresh}
 use Rattle.combine_base.specs.Parser.Judged.{NeedsMore}
-use Rattle.combine_base.specs.Parser.Meaning.{Meaning, Reading}
+use Rattle.combine_base.specs.Parser.Meaning.{Meaning, Reading, unsaid}
 use Rattle.combine_base.specs.Stream.Calls.{ResetTo}
 use Rattle.combine_base.specs.Stream.View.{View}
 use Rattle.combine_base.proofs.Calls.{need_of_more, same_mark, unreset}
@@ -95,7 +95,7 @@ module _ {I P T R E C S V : Type 0} (step : P → T → P) (s : Errors T R P E) 
 
   as_run : (from to : Bool) → Inside here1 fresh (once {R = R} read) m (ran from to) first state left (view input) (failures input) false read
   as_run from to = record {
-    progress = progress_here here1 _ read (view input) (failures input) (λ v o p. into_begun read ⊥ ⊥ (Anything {R = R}) first state v o p);
+    progress = progress_here here1 _ read (view input) (failures input) (λ v o p. into_begun read ⊥ ⊥ (Anything {R = R}) unsaid first state v o p);
     reads = omega arith;
     resets = omega arith;
     refuses = λ k x. x;
@@ -123,7 +123,7 @@ module _ {I P T R E C S V : Type 0} (step : P → T → P) (s : Errors T R P E) 
 
       put_back : ResetTo steady step marked (view mid) new (failures mid) later (Ok tt) → Answers here m (run new later) (CommitErr e)
       put_back b =
-          let a = asks here read ⊥ ⊥ (Anything {R = R}) (run new later) is_open asked.meant (λ z. absurd z) (b.is.0 (view input) i) (λ z. b.is.1 z ∙ asked.failures z) in
+          let a = asks here read ⊥ ⊥ (Anything {R = R}) unsaid (run new later) is_open asked.meant (λ z. absurd z) (b.is.0 (view input) i) (λ z. b.is.1 z ∙ asked.failures z) in
           record { is = rw q.0 (subst (ends here m (run new later)) (sym is_open) a) }
 
       stuck : (k : Kind) → ResetTo steady step marked (view mid) new (failures mid) later (Err k) → (f : E) → s.kind f ≡ k → Answers here m (run new later) (CommitErr f)

@@ -49,10 +49,10 @@ module _ {P T R E : Type 0} (errors : Errors T R P E) where
 -- each call begins again, for which it may take memory
 module _ {P T R E V S : Type 0} (read : Reading P T V) where
   abbrev pub apart : Meaning P T R E V S
-  apart = stateless read ⊥ ⊥ Anything
+  apart = stateless read ⊥ ⊥ Anything unsaid
 
   pub apart_is_meaning : (fresh valid : S → Type 0) → IsReading read → IsMeaning fresh valid apart
-  apart_is_meaning fresh valid h = stateless_is_meaning fresh valid read ⊥ ⊥ Anything h
+  apart_is_meaning fresh valid h = stateless_is_meaning fresh valid read ⊥ ⊥ Anything unsaid h
 
   pub apart_means_one : (valid : S → Type 0) → IsSingle read → MeansOne valid apart
-  apart_means_one valid h = stateless_means_one valid read ⊥ ⊥ Anything h
+  apart_means_one valid h = stateless_means_one valid read ⊥ ⊥ Anything unsaid h

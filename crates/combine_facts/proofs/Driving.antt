@@ -33,14 +33,14 @@ module _ {P T R A S E : Type 0} {w : World P T S E} {m : Meaning P T R E A S} wh
   accepted (CommitErr f) a e h = absurd (cc)
   accepted (PeekErr t) a e h = absurd (cc)
 
-  start_reads : {s : Errors T R P E} {refuses : Bool → E → Type 0} {old new : View P T} {before after : Failures} {a : A} {says : List T → A → Type 0} → Reads m.whole says → StartResults w m s refuses old new before after (Ok a) → (xs : List T) × says xs a × (old.unread ≡ xs ++ new.unread)
+  start_reads : {s : Errors T R P E} {old new : View P T} {before after : Failures} {a : A} {says : List T → A → Type 0} → Reads m.whole says → StartResults w m s old new before after (Ok a) → (xs : List T) × says xs a × (old.unread ≡ xs ++ new.unread)
   start_reads {old} {new} {a} h z =
       let x = accepted z.results.answer a z.results.is z.results.answers in
       let i = h.one old a x.1.count x.0 x.1.meant in
       (take x.1.count old.unread, i.1, sym (ap (λ v. take x.1.count old.unread ++ v.unread) x.1.taken.rest ∙ take-append-drop x.1.count old.unread))
 
   -- `parse`: exactly those are taken, and whatever follows from that holds of its answer
-  pub parse_reads : {s : Errors T R P E} {refuses : Bool → E → Type 0} {I : Type 0} {old : View P T} {new : A × I → View P T} {before : Failures} {after : A × I → Failures} {says : List T → A → Type 0} {holds : A × I → Type 0} (result : Result (A × I) E) → Reads m.whole says → ((p : A × I) → result ≡ Ok p → StartResults w m s refuses old (new p) before (after p) (Ok p.0)) → ((p : A × I) (xs : List T) → says xs p.0 → old.unread ≡ xs ++ (new p).unread → holds p) → IfOk result holds
+  pub parse_reads : {s : Errors T R P E} {I : Type 0} {old : View P T} {new : A × I → View P T} {before : Failures} {after : A × I → Failures} {says : List T → A → Type 0} {holds : A × I → Type 0} (result : Result (A × I) E) → Reads m.whole says → ((p : A × I) → result ≡ Ok p → StartResults w m s old (new p) before (after p) (Ok p.0)) → ((p : A × I) (xs : List T) → says xs p.0 → old.unread ≡ xs ++ (new p).unread → holds p) → IfOk result holds
   parse_reads (Ok p) h z f = let x = start_reads h (z p refl) in f p x.0 x.1 x.2
   parse_reads (Err e) h z f = tt
 

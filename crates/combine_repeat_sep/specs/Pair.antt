@@ -2,6 +2,7 @@
 use Rattle.std.specs.Prelude.{ℕ, ◌≡◌, Bool}
 use Rattle.combine_base.specs.Stream.View.{View}
 use Rattle.combine_base.specs.Parser.Outcome.{Accepted}
+use Rattle.combine_base.specs.Error.Errors.{Errors}
 use Rattle.combine_base.specs.Parser.Meaning.{Meaning, IsMeaning, MeansOne, MeansSame}
 use Rattle.combine_base.specs.Sequence.Places.{begins, valid_in}
 use Rattle.combine_base.specs.Sequence.Tuples.{followed, followed_is_meaning, followed_means_one, followed_means_same}
@@ -54,19 +55,19 @@ module _ {P T R E O W U : Type 0} (s : Meaning P T R E O W) where
   pub record LedBy (from left : PairState O W U) : Type 0 where
     pub is : led_by from left
 
-module _ {P T R E O V W U : Type 0} (step : P → T → P) where
+module _ {P T R E O V W U : Type 0} (step : P → T → P) (errors : Errors T R P E) where
   -- a separator, and then a part
   abbrev pub pair : Meaning P T R E O W → Meaning P T R E V U → Meaning P T R E (O × V) (PairState O W U)
-  pair s m = followed step pair_place put_to s m
+  pair s m = followed step errors pair_place put_to s m
 
   pub pair_is_meaning : {fresh valid : W → Type 0} {s : Meaning P T R E O W} {part_fresh part_valid : U → Type 0} {m : Meaning P T R E V U} → IsMeaning fresh valid s → IsMeaning part_fresh part_valid m → IsMeaning (pair_begins fresh) (pair_valid valid part_valid) (pair s m)
-  pair_is_meaning h k = followed_is_meaning step pair_place put_to h k
+  pair_is_meaning h k = followed_is_meaning step errors pair_place put_to h k
 
   pub pair_means_one : {valid : W → Type 0} {s : Meaning P T R E O W} {part_valid : U → Type 0} {m : Meaning P T R E V U} → MeansOne valid s → MeansOne part_valid m → MeansOne (pair_valid valid part_valid) (pair s m)
-  pair_means_one h k = followed_means_one step pair_place put_to h k
+  pair_means_one h k = followed_means_one step errors pair_place put_to h k
 
   pub pair_means_same : {s s' : Meaning P T R E O W} {m m' : Meaning P T R E V U} → MeansSame s s' → MeansSame m m' → MeansSame (pair s m) (pair s' m')
-  pair_means_same h k = followed_means_same step pair_place put_to h k
+  pair_means_same h k = followed_means_same step errors pair_place put_to h k
 
 -- the same, from fewer states
 module _ {P T R E A S : Type 0} {valid fewer : S → Type 0} {m : Meaning P T R E A S} (f : (s : S) → fewer s → valid s) where

@@ -1,5 +1,7 @@
 -- the parsers that the constructors build, and their parts
 use Rattle.std.specs.declared.alloc.Global.{Global}
+use Rattle.std.specs.declared.cmp.Ordering.{Ordering}
+use Rattle.combine_base.specs.Error.Errors.{Errors}
 use Rattle.combine_base.specs.Parser.Meaning.{Meaning}
 use Rattle.combine_combinator.specs.Parsers.{picked_of, picked_part}
 use Rattle.combine_combinator.specs.declared.combinator.values.Nothing.{Nothing}
@@ -63,7 +65,7 @@ blocks_end p = next_end p.turn
 abbrev pub blocks_part : {F A X Y : Type 0} → BlocksUntil F A X Y → X
 blocks_part p = next_part p.turn
 
-module _ {P T R E A B V S U : Type 0} (step : P → T → P) (c : Collecting (Option A) V) where
+module _ {P T R E A B V S U : Type 0} (step : P → T → P) (errors : Errors T R P E) (cmp : P → P → Ordering) (c : Collecting (Option A) V) where
   -- blocks of a parser, up to the first place where the other one isn't refused peeked
   abbrev pub repeat_until : Meaning P T R E A S → Meaning P T R E B U → Meaning P T R E V (UntilState V (OrState U S))
-  repeat_until part end = until step c (next end part)
+  repeat_until part end = until step c (next errors cmp end part)

@@ -2,10 +2,7 @@
 use Rattle.std.proofs.Common.{◌≡◌, Bool, true, false, Some, None, refl, arith}
 use Rattle.combine_base.specs.Stream.View.{View}
 use Rattle.combine_base.specs.Parser.Mapped.{mapped}
-use Rattle.combine_base.specs.Parser.Meaning.{BegunRefuses, Meaning, Reading, Reasons}
-use Rattle.combine_base.specs.Parser.Reasons.{Reasoned}
-use Rattle.combine_base.specs.declared.stream.Kind.{Kind}
-use Rattle.combine_token.specs.Reasons.{CommittedOnly}
+use Rattle.combine_base.specs.Parser.Meaning.{Meaning, Reading}
 use Rattle.combine_base.specs.Parser.Answer.{Run, World, Answers}
 use Rattle.combine_base.proofs.Calls.{peeked_refusal}
 use Rattle.combine_base.proofs.Mapped.{mapped_err, mapped_peek_err, mapped_ok, mapped_peek_ok}
@@ -38,9 +35,3 @@ module _ {P T R A S E : Type 0} (w : World P T S E) (m : Meaning P T R E A S) (r
   optional_none e now later n f p =
       let fresh = (peeked_refusal w m r (w.kind e.error) p.is).leaves.state in
       tries_falls w w.fresh (mapped m is_some) nothing (optional m) r (record r { new = now; after = later }) tries None refl e (mapped_peek_err w m is_some r e p) n f fresh
-
--- a committed error, which is the optional parser's
-module _ {P T A B E : Type 0} {kind : E → Kind} {is_open first : Bool} {start kept : Reasons P T E} {v w : View P T} {e : E} where
-  pub optional_reasons : Reasoned {V = A} kind is_open (BegunRefuses first start kept v w) (CommitErr e) → Reasoned {V = B} kind is_open (BegunRefuses first (CommittedOnly start) (CommittedOnly kept) v w) (CommitErr e)
-  optional_reasons r true x h = let y = r true x (record { is = h.is }) in record { afresh = λ i. record { is = refl; refused = y.afresh i }; resumed = λ i. record { is = refl; refused = y.resumed i } }
-  optional_reasons r false x h = absurd h.is

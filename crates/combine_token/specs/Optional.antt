@@ -5,7 +5,6 @@ use Rattle.combine_base.specs.Parser.Outcome.{Accepted}
 use Rattle.combine_base.specs.Parser.Meaning.{Meaning, Reading, IsReading, IsSingle, IsMeaning, MeansOne, MeansSame}
 use Rattle.combine_base.specs.Parser.Mapped.{mapped, mapped_is_meaning, mapped_means_one, mapped_means_same}
 use Rattle.combine_token.specs.Choice.{Either, either_is_reading, either_is_single, either_both, agree_self}
-use Rattle.combine_token.specs.Reasons.{CommittedOnly, committed_same}
 use Rattle.combine_token.specs.declared.choice.types.Optional.{Optional}
 
 -- this parser, or no value
@@ -23,8 +22,8 @@ module _ {P T R E V S : Type 0} where
     puts_back = m.puts_back;
     lean = m.lean;
     adds = m.adds;
-    refuses = CommittedOnly m.refuses;
-    refuses_from = λ s. CommittedOnly (m.refuses_from s);
+    refuses = m.refuses;
+    refuses_from = m.refuses_from;
   }
 
   pub otherwise_is_meaning : (fresh valid : S → Type 0) (m : Meaning P T R E V S) (q : Reading P T V) → IsMeaning fresh valid m → IsReading q → IsMeaning fresh valid (otherwise m q)
@@ -33,7 +32,7 @@ module _ {P T R E V S : Type 0} where
     rest = λ s d. either_is_reading (m.rest s) q (h.rest s d) k;
     start = λ s v o d. either_both (m.rest s) m.whole q q (λ v o. h.start s v o d) (agree_self q) v o;
     found = h.found;
-    reasons = λ s v w c e d. committed_same (m.refuses_from s) m.refuses (λ v w c e. h.reasons s v w c e d) v w c e;
+    reasons = h.reasons;
   }
 
   pub otherwise_means_one : (valid : S → Type 0) (m : Meaning P T R E V S) (q : Reading P T V) → MeansOne valid m → IsSingle q → MeansOne valid (otherwise m q)
@@ -48,8 +47,8 @@ module _ {P T R E V S : Type 0} where
     puts_back = h.puts_back;
     lean = h.lean;
     adds = h.adds;
-    refuses = committed_same m.refuses m'.refuses h.refuses;
-    refuses_from = λ s. committed_same (m.refuses_from s) (m'.refuses_from s) (h.refuses_from s);
+    refuses = h.refuses;
+    refuses_from = h.refuses_from;
   }
 
 abbrev pub is_some : {A : Type 0} → A → Option A → Type 0

@@ -1,5 +1,5 @@
 -- what the errors of the refusals of these parsers are
-use Rattle.std.specs.Prelude.{ℕ, ◌≡◌, ◌⊎◌, ◌↔◌, List, [], ◌∷◌, Bool, true, false, Option}
+use Rattle.std.specs.Prelude.{ℕ, ◌≡◌, ◌⊎◌, List, [], ◌∷◌, Bool, true, false, Option}
 use Rattle.std.proofs.Common.{inl, inr}
 use Rattle.std.specs.declared.cmp.Ordering.{Ordering}
 use Rattle.combine_base.specs.Parser.Meaning.{Reasons}
@@ -41,14 +41,6 @@ module _ {T R P E : Type 0} (s : Errors T R P E) where
 abbrev pub begins_at : {S : Type 0} → (S → ℕ) → Bool → S → ℕ
 begins_at matched true s = 0
 begins_at matched false s = matched s
-
--- the committed refusals, and no peeked one
-pub record CommittedOnly {P T E : Type 0} (reasons : Reasons P T E) (v w : View P T) (committed : Bool) (e : E) : Type 0 where
-  pub is : committed ≡ true
-  pub refused : reasons v w true e
-
-pub committed_same : {P T E : Type 0} (a b : Reasons P T E) → ((v w : View P T) (c : Bool) (e : E) → a v w c e ↔ b v w c e) → (v w : View P T) (c : Bool) (e : E) → CommittedOnly a v w c e ↔ CommittedOnly b v w c e
-committed_same a b h v w c e = (λ x. record { is = x.is; refused = (h v w true e).0 x.refused }, λ x. record { is = x.is; refused = (h v w true e).1 x.refused })
 
 module _ {T R P E : Type 0} (s : Errors T R P E) (cmp : P → P → Ordering) (first second : Reasons P T E) where
   -- both were refused peeked, the second where the stream had been put back, and their errors are merged in order

@@ -2,6 +2,7 @@
 ghost use Rattle.std.specs.Prelude.{◌≡◌};
 ghost use Rattle.combine_base.specs.Error.Errors.{Nothing, Only};
 ghost use Rattle.combine_base.specs.Error.Items.{Expected, OfRange};
+ghost use Rattle.combine_base.specs.Parser.Meaning.{unsaid};
 ghost use Rattle.combine_token.specs.Stateless.{stateless, stateless_is_meaning, stateless_means_one};
 ghost use Rattle.combine_range.specs.Lengths.{matching, matching_is_reading, matching_is_single, taking, taking_is_reading, taking_is_single};
 ghost use Rattle.combine_range.specs.Wanted.{Fair, given};
@@ -43,7 +44,7 @@ where
 
     ghost valid = { λ s. Unit {0} };
 
-    ghost meaning = { λ p. stateless (taking Input.size Input.spells p.count) ⊥ (Unit {0}) Nothing };
+    ghost meaning = { λ p. stateless (taking Input.size Input.spells p.count) ⊥ (Unit {0}) Nothing unsaid };
 
     ghost parts = { λ p. 1 };
 
@@ -78,9 +79,9 @@ where
 
     ghost default_valid = { λ s d. tt };
 
-    ghost laws = { λ p l. stateless_is_meaning _ _ _ _ _ _ (taking_is_reading _ _ Input.filled _) };
+    ghost laws = { λ p l. stateless_is_meaning _ _ _ _ _ _ _ (taking_is_reading _ _ Input.filled _) };
 
-    ghost single = { λ p l d. stateless_means_one _ _ _ _ _ (taking_is_single _ _ Input.filled _) };
+    ghost single = { λ p l d. stateless_means_one _ _ _ _ _ _ (taking_is_single _ _ Input.filled _) };
 }
 
 impl<Input, R: Drop> Outputs<Input> for Range<Input, R> {
@@ -100,7 +101,7 @@ where
 
     ghost valid = { λ s. Unit {0} };
 
-    ghost meaning = { λ p. stateless (matching Input.size Input.spells (given Input.Range.count Input.Range.eq p.wanted)) ⊥ (Unit {0}) (Only (Expected (OfRange p.wanted))) };
+    ghost meaning = { λ p. stateless (matching Input.size Input.spells (given Input.Range.count Input.Range.eq p.wanted)) ⊥ (Unit {0}) (Only (Expected (OfRange p.wanted))) unsaid };
 
     ghost parts = { λ p. 1 };
 
@@ -143,7 +144,7 @@ where
 
     ghost default_valid = { λ s d. tt };
 
-    ghost laws = { λ p l. stateless_is_meaning _ _ _ _ _ _ (matching_is_reading _ _ Input.filled _) };
+    ghost laws = { λ p l. stateless_is_meaning _ _ _ _ _ _ _ (matching_is_reading _ _ Input.filled _) };
 
-    ghost single = { λ p l d. stateless_means_one _ _ _ _ _ (matching_is_single _ _ Input.filled _ d) };
+    ghost single = { λ p l d. stateless_means_one _ _ _ _ _ _ (matching_is_single _ _ Input.filled _ d) };
 }
