@@ -2,7 +2,7 @@
 
 A source is read token by token, and no more of it than these scripts ask for: modules, what `use` brings in, functions
 with their signatures, structs, enums, traits, impls, aliases and macros. What is tested alone is left out, and so is
-what is ghost.
+what is ghost, but for what an impl of a trait has to give.
 """
 import itertools, os, re
 from dataclasses import dataclass, field
@@ -368,6 +368,11 @@ def read_item(reader, module):
     public = read_visibility(reader)
     words = [it.text for it in reader.tokens[reader.at : reader.at + 3]]
     kind = next((it for it in words if it in READS), words[0])
+    if words[0] == "ghost" and words[1] != "use" and words[2] == ":":
+        item = Item("ghost", words[1], False, doc, reader.file, reader.line())
+        item.head = reader.skip_to(";")
+        reader.take()
+        return item
     if words[0] == "ghost":
         reader.skip_to(";")
         reader.take()
