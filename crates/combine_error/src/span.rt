@@ -5,7 +5,7 @@ ghost use Rattle.combine_error.specs.Spans.{AtSpan};
 
 use crate::easy::Errors;
 use combine_base::error::{ParseError, UnexpectedParse};
-use combine_base::stream::{Failures, Kind, Positioned, ResetStream, StreamOnce};
+use combine_base::stream::{self, Failures, Kind, Positioned, ResetStream, StreamOnce};
 use combine_stream::range::{Range, RangeStream, Test};
 
 /// A part of the input, from a position to another. The order is that of `start`, and then that of `end`.
@@ -153,6 +153,11 @@ where
         }
     }
 }
+
+impl<S: stream::Stream> stream::Stream for Stream<S>
+where
+    S::Error: SpannedError<S::Token, S::Range, S::Position>,
+{}
 
 /// The ranges are those of the stream inside.
 impl<S: RangeStream> RangeStream for Stream<S>

@@ -7,7 +7,7 @@ ghost use Rattle.combine_stream.specs.Ranges.{UnconsRange, UnconsWhile};
 use crate::position::types::{Indexed, PlacedText};
 use crate::range::{Range, RangeStream, Test};
 use crate::{MaybePartialStream, position};
-use combine_base::stream::{Failures, Kind, Positioned, ResetStream, StreamOnce, fed};
+use combine_base::stream::{Failures, Kind, Positioned, ResetStream, Stream, StreamOnce, fed};
 
 /// A stream whose reads and resets never fail. Our own.
 pub trait Unfailing: ResetStream {
@@ -239,6 +239,8 @@ impl<S: Unfailing + Positioned> Positioned for Faulty<S> {
         self.inner.position()
     }
 }
+
+impl<S: Unfailing + Stream> Stream for Faulty<S> {}
 
 /// The ranges are those of the stream inside.
 impl<S: Unfailing + RangeStream> RangeStream for Faulty<S>

@@ -88,6 +88,8 @@ impl<S: Positioned> Positioned for MaybePartialStream<S> {
     }
 }
 
+impl<S: Stream> Stream for MaybePartialStream<S> {}
+
 impl<S: RangeStream> RangeStream for MaybePartialStream<S>
 where
     S::Range: Range,

@@ -3,7 +3,7 @@ ghost use Rattle.std.specs.Prelude.{◌≡◌, ℕ, ◌≤◌, drop, false, leng
 ghost use Rattle.combine_base.specs.Stream.View.{View, advanced};
 
 use crate::range::{Range, RangeStream, Test};
-use combine_base::stream::{Failures, Kind, Positioned, ResetStream, StreamOnce};
+use combine_base::stream::{self, Failures, Kind, Positioned, ResetStream, StreamOnce};
 use std::marker::PhantomData;
 
 mod indexed;
@@ -223,6 +223,8 @@ impl<S, P: Positioned> Positioned for Stream<S, P> {
         self.placed.position()
     }
 }
+
+impl<S, P: stream::Stream> stream::Stream for Stream<S, P> {}
 
 impl<S, P: RangeStream> RangeStream for Stream<S, P>
 where

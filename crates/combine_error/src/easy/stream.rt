@@ -3,7 +3,7 @@ ghost use Rattle.std.specs.Prelude.{◌≡◌};
 ghost use Rattle.combine_error.specs.Easy.{inside};
 
 use crate::easy::Errors;
-use combine_base::stream::{Failures, Kind, Positioned, ResetStream, StreamOnce};
+use combine_base::stream::{self, Failures, Kind, Positioned, ResetStream, StreamOnce};
 use combine_stream::position;
 use combine_stream::range::{Range, RangeStream, Test};
 use std::alloc::Global;
@@ -135,6 +135,12 @@ where
         self.inner.position()
     }
 }
+
+impl<S: stream::Stream> stream::Stream for Stream<S>
+where
+    S::Token: PartialEq,
+    S::Range: PartialEq,
+{}
 
 /// The ranges are those of the stream inside.
 impl<S: RangeStream> RangeStream for Stream<S>

@@ -5,7 +5,7 @@ use crate::position::{DefaultPositioned, Windowed};
 use crate::range::slices::count_while;
 use crate::range::{RangeStream, Test};
 use combine_base::error::UnexpectedParse;
-use combine_base::stream::{Failures, Kind, Positioned, ResetStream, StreamOnce};
+use combine_base::stream::{Failures, Kind, Positioned, ResetStream, Stream, StreamOnce};
 use std::alloc::AllocError;
 
 /// The tokens of a slice, and how many of them are taken.
@@ -198,6 +198,8 @@ impl<'a, T: Copy> Positioned for Indexed<'a, T> {
         self.at
     }
 }
+
+impl<'a, T: Copy> Stream for Indexed<'a, T> {}
 
 impl<'a, T: Copy> RangeStream for Indexed<'a, T> {
     ghost use Rattle.std.specs.Prelude.{◌≡◌, ℕ, ◌<◌};

@@ -12,7 +12,9 @@ use crate::position::{DefaultPositioned, Windowed};
 use crate::range::texts::{bytes_while, cut};
 use crate::range::{Range, RangeStream, Test};
 use combine_base::error::UnexpectedParse;
-use combine_base::stream::{Failures, Kind, Positioned, ResetStream, StreamOnce, split_first};
+use combine_base::stream::{
+    Failures, Kind, Positioned, ResetStream, Stream, StreamOnce, split_first,
+};
 use std::fmt;
 
 /// A line and a column, both counted from 1. A line feed begins a line, at column 1; every other character is a column more. A later position is greater.
@@ -238,6 +240,8 @@ impl<'a> Positioned for PlacedText<'a> {
         self.place
     }
 }
+
+impl<'a> Stream for PlacedText<'a> {}
 
 impl<'a> RangeStream for PlacedText<'a> {
     ghost use Rattle.combine_stream.specs.TextRanges.{text_of, char_filled, text_measured};
