@@ -1,4 +1,5 @@
 //! What is collected as it is read: texts, piece by piece, and words.
+ghost use Rattle.std.specs.Prelude.{◌<◌, OnOk, vec_capacity, vec_len};
 
 use combine_base::repeat::Append;
 use std::alloc::{AllocError, Global};
@@ -70,6 +71,8 @@ enum Half {
 }
 
 /// A text so far.
+///
+/// What is done rarely takes it by value, so that a text which a loop collects needs no place in memory.
 #[derive(Drop)]
 pub struct Text {
     bytes: Vec<u8>,
@@ -85,21 +88,16 @@ impl Text {
         String::from_utf8(self.bytes).map_err(|_error| "text is not UTF-8")
     }
 
-    /// Adds a piece, with room for several bytes.
-    fn push(&mut self, piece: Piece) -> Result<(), AllocError> {
-        self.bytes.reserve(32)?;
-        let character = match (self.half, piece) {
-            (Half::None, Piece::Byte(byte)) => {
-                self.bytes.push(byte)?;
+    /// Adds what an escape says.
+    fn push(&mut self, unit: u32) -> Result<(), AllocError> {
+        let character = match (self.half, unit) {
+            (Half::None, 0xd800..=0xdbff) => {
+                self.half = Half::First(unit);
                 return Ok(());
             }
-            (Half::None, Piece::Unit(high @ 0xd800..=0xdbff)) => {
-                self.half = Half::First(high);
-                return Ok(());
-            }
-            (Half::None, Piece::Unit(unit)) => char::from_u32(unit),
-            (Half::First(high), Piece::Unit(low @ 0xdc00..=0xdfff)) => {
-                let above = ((high & 0x3ff) << 10) | (low & 0x3ff);
+            (Half::None, _) => char::from_u32(unit),
+            (Half::First(high), 0xdc00..=0xdfff) => {
+                let above = ((high & 0x3ff) << 10) | (unit & 0x3ff);
                 char::from_u32(above.saturating_add(0x10000))
             }
             _ => None,
@@ -114,23 +112,25 @@ impl Text {
         self.bytes.extend_from_slice(utf8.as_bytes())
     }
 
-    /// The text with that piece behind it. By value, so that a text which a loop collects needs no place in memory.
+    /// The text with what an escape says behind it.
     #[cold]
     #[inline(never)]
-    fn with(self, piece: Piece) -> (Text, Result<(), AllocError>) {
+    fn with(self, unit: u32) -> (Text, Result<(), AllocError>) {
         let mut text = self;
-        let done = text.push(piece);
+        let done = text.push(unit);
         (text, done)
     }
+}
 
-    /// Adds a piece that isn't a byte for which there is room.
-    #[inline(always)]
-    fn add(&mut self, piece: Piece) -> Result<(), AllocError> {
-        let empty = Text::empty(*self.bytes.allocator());
-        let (text, done) = mem::replace(self, empty).with(piece);
-        *self = text;
-        done
-    }
+/// The bytes, with room for more where that is found.
+#[cold]
+#[inline(never)]
+fn with_room(bytes: Vec<u8>) -> (Vec<u8>, Result<(), AllocError>)
+    ensures { OnOk result.1 (vec_len result.0 < vec_capacity result.0) }
+{
+    let mut bytes = bytes;
+    let found = bytes.reserve(32);
+    (bytes, found)
 }
 
 impl Append<Piece> for Text {
@@ -153,15 +153,23 @@ impl Append<Piece> for Text {
 
     #[inline(always)]
     fn append(&mut self, piece: Piece) -> Result<(), AllocError> {
+        let alloc = *self.bytes.allocator();
         let byte = match piece {
             Piece::Byte(byte) => byte,
-            Piece::Unit(unit) => return self.add(Piece::Unit(unit)),
+            Piece::Unit(unit) => {
+                let (text, done) = mem::replace(self, Text::empty(alloc)).with(unit);
+                *self = text;
+                return done;
+            }
         };
         let Half::None = self.half else {
-            return self.add(Piece::Byte(byte));
+            self.half = Half::Alone;
+            return Ok(());
         };
         if self.bytes.capacity() <= self.bytes.len() {
-            return self.add(Piece::Byte(byte));
+            let (bytes, found) = with_room(mem::replace(&mut self.bytes, Vec::new(alloc)));
+            self.bytes = bytes;
+            found?;
         }
         self.bytes.push_reserved(byte);
         Ok(())
