@@ -1,54 +1,50 @@
 //! What is open, and what comes of what is read there.
 
 use crate::node::{Document, Node};
-use crate::places::{Mark, Place, Step};
+use crate::places::{Place, Step};
 use crate::texts::Text;
 use combine_nested::nested::{Frame, Next};
 use std::alloc::{AllocError, Global};
 
-/// What one step reads.
+/// What one step reads, and the comma or the colon behind it, where one was read with it.
+pub type Item = (Lexeme, Option<u8>);
+
+/// What stands between blanks.
 #[derive(Drop)]
 pub enum Lexeme {
     Number(Vec<u8>),
     Text(Text),
-    /// Letters.
-    Word(Vec<u8>),
+    /// `null`, `true` or `false`.
+    Word(Option<bool>),
+    /// Letters that say nothing.
+    NoWord,
     /// A comma, a colon or a bracket.
     Sign(u8),
+}
+
+impl Lexeme {
+    /// Returns what such a word is.
+    pub fn of_word(word: Option<&[u8]>) -> Lexeme {
+        match word {
+            Some(b"null") => Lexeme::Word(None),
+            Some(b"true") => Lexeme::Word(Some(true)),
+            Some(b"false") => Lexeme::Word(Some(false)),
+            _ => Lexeme::NoWord,
+        }
+    }
 }
 
 /// An array or an object that is open, or the whole. The innermost has the parts of the document so far.
 #[derive(Drop)]
 pub struct Open {
     alloc: Global,
-    place: Place,
+    /// What may come next.
+    pub place: Place,
     nodes: Document,
 }
 
 /// What comes of what is open.
 type Then = Next<Open, Document>;
-
-/// What a word is, and the part that it says.
-fn named(word: &[u8]) -> (Mark, Option<Node>) {
-    match word {
-        b"null" => (Mark::Value, Some(Node::Null)),
-        b"true" => (Mark::Value, Some(Node::Bool(true))),
-        b"false" => (Mark::Value, Some(Node::Bool(false))),
-        _ => (Mark::Other, None),
-    }
-}
-
-/// What a sign is, and the part that it says.
-fn signed(sign: u8) -> (Mark, Option<Node>) {
-    match sign {
-        b'[' => (Mark::ArrayBegins, Some(Node::ArrayBegins)),
-        b']' => (Mark::ArrayEnds, Some(Node::ArrayEnds)),
-        b'{' => (Mark::ObjectBegins, Some(Node::ObjectBegins)),
-        b'}' => (Mark::ObjectEnds, Some(Node::ObjectEnds)),
-        b',' => (Mark::Comma, None),
-        _ => (Mark::Colon, None),
-    }
-}
 
 impl Open {
     /// Returns the whole, of which nothing was read.
@@ -60,11 +56,15 @@ impl Open {
         }
     }
 
-    /// What comes of such a step.
+    /// What comes of such a step, with that sign behind it.
     #[inline(always)]
-    fn stepping(self, step: Option<Step>) -> Then {
+    fn stepping(self, step: Option<Step>, sign: Option<u8>) -> Then {
         match step {
-            Some(Step::To(place)) => Next::Stay(Open { place, ..self }),
+            Some(Step::To(place)) => {
+                let behind = sign.and_then(|sign: u8| place.behind_sign(sign));
+                let place = behind.unwrap_or(place);
+                Next::Stay(Open { place, ..self })
+            }
             Some(Step::Into(place)) => {
                 let around = Open {
                     place: self.place,
@@ -79,28 +79,39 @@ impl Open {
 }
 
 impl Frame for Open {
-    type Item = Lexeme;
+    type Item = Item;
 
     type Value = Document;
 
     #[inline(always)]
-    fn take(self, item: Lexeme) -> Result<Then, AllocError> {
-        let (mark, node) = match item {
-            Lexeme::Number(number) => (Mark::Value, Some(Node::Number(number))),
+    fn take(self, item: Item) -> Result<Then, AllocError> {
+        let (lexeme, sign) = item;
+        let part = match lexeme {
+            Lexeme::Number(number) => Node::Number(number),
             Lexeme::Text(text) => match text.finished() {
-                Ok(text) if self.place.takes_name() => (Mark::Text, Some(Node::Name(text))),
-                Ok(text) => (Mark::Text, Some(Node::Text(text))),
+                Ok(text) if self.place.takes_name() => Node::Name(text),
+                Ok(text) => Node::Text(text),
                 Err(why) => return Ok(Next::Refuse(why)),
             },
-            Lexeme::Word(word) => named(word.as_slice()),
-            Lexeme::Sign(sign) => signed(sign),
+            Lexeme::Word(None) => Node::Null,
+            Lexeme::Word(Some(value)) => Node::Bool(value),
+            Lexeme::Sign(b'[') => Node::ArrayBegins,
+            Lexeme::Sign(b']') => Node::ArrayEnds,
+            Lexeme::Sign(b'{') => Node::ObjectBegins,
+            Lexeme::Sign(b'}') => Node::ObjectEnds,
+            Lexeme::Sign(sign) => {
+                let step = self
+                    .place
+                    .behind_sign(sign)
+                    .map(|place: Place| Step::To(place));
+                return Ok(self.stepping(step, None));
+            }
+            Lexeme::NoWord => return Ok(Next::Refuse(self.place.expected())),
         };
+        let step = self.place.step(&part);
         let mut open = self;
-        if let Some(node) = node {
-            open.nodes.push(node)?;
-        }
-        let step = open.place.step(mark);
-        Ok(open.stepping(step))
+        open.nodes.push(part)?;
+        Ok(open.stepping(step, sign))
     }
 
     #[inline(always)]
@@ -110,6 +121,6 @@ impl Frame for Open {
             nodes: value,
             ..self
         };
-        Ok(open.stepping(step))
+        Ok(open.stepping(step, None))
     }
 }

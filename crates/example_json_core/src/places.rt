@@ -1,5 +1,7 @@
 //! What may come next, by what was read.
 
+use crate::node::Node;
+
 /// What may come next where an array, an object or the whole is open.
 #[derive(Clone, Copy)]
 pub enum Place {
@@ -23,23 +25,7 @@ pub enum Place {
     ValueEnd,
 }
 
-/// What is read.
-#[derive(Clone, Copy)]
-pub enum Mark {
-    /// A value that is no text.
-    Value,
-    /// A text, which is a value or a name.
-    Text,
-    ArrayBegins,
-    ArrayEnds,
-    ObjectBegins,
-    ObjectEnds,
-    Comma,
-    Colon,
-    Other,
-}
-
-/// Where it leads.
+/// Where a part leads.
 #[derive(Clone, Copy)]
 pub enum Step {
     /// On to this place.
@@ -51,19 +37,18 @@ pub enum Step {
 }
 
 impl Place {
-    /// Returns where a mark leads that is read here, if it may stand here.
+    /// Returns where a part leads that is read here, if it may stand here.
     #[inline(always)]
-    pub fn step(self, mark: Mark) -> Option<Step> {
-        match (mark, self) {
-            (Mark::Text, Place::Object | Place::Name) => Some(Step::To(Place::NameEnd)),
-            (Mark::Value | Mark::Text, _) => self.behind_value(),
-            (Mark::ArrayBegins, _) if self.takes_value() => Some(Step::Into(Place::Array)),
-            (Mark::ObjectBegins, _) if self.takes_value() => Some(Step::Into(Place::Object)),
-            (Mark::ArrayEnds, Place::Array | Place::ElementEnd) => Some(Step::Out),
-            (Mark::ObjectEnds, Place::Object | Place::ValueEnd) => Some(Step::Out),
-            (Mark::Comma, Place::ElementEnd) => Some(Step::To(Place::Element)),
-            (Mark::Comma, Place::ValueEnd) => Some(Step::To(Place::Name)),
-            (Mark::Colon, Place::NameEnd) => Some(Step::To(Place::Value)),
+    pub fn step(self, part: &Node) -> Option<Step> {
+        match (part, self) {
+            (Node::Name(_), _) => Some(Step::To(Place::NameEnd)),
+            (Node::ArrayBegins, _) if self.takes_value() => Some(Step::Into(Place::Array)),
+            (Node::ObjectBegins, _) if self.takes_value() => Some(Step::Into(Place::Object)),
+            (Node::ArrayEnds, Place::Array | Place::ElementEnd) => Some(Step::Out),
+            (Node::ObjectEnds, Place::Object | Place::ValueEnd) => Some(Step::Out),
+            (Node::Null | Node::Bool(_) | Node::Number(_) | Node::Text(_), _) => {
+                self.behind_value()
+            }
             _ => None,
         }
     }
@@ -76,6 +61,27 @@ impl Place {
             Place::Array | Place::Element => Some(Step::To(Place::ElementEnd)),
             Place::Value => Some(Step::To(Place::ValueEnd)),
             _ => None,
+        }
+    }
+
+    /// Returns where the comma or the colon leads that stands here, if one may.
+    #[inline(always)]
+    pub fn behind_sign(self, sign: u8) -> Option<Place> {
+        match (self, sign) {
+            (Place::ElementEnd, b',') => Some(Place::Element),
+            (Place::ValueEnd, b',') => Some(Place::Name),
+            (Place::NameEnd, b':') => Some(Place::Value),
+            _ => None,
+        }
+    }
+
+    /// Whether this sign may stand behind the text, the number or the word that comes here.
+    #[inline(always)]
+    pub fn is_followed_by(self, sign: u8) -> bool {
+        match self {
+            Place::Array | Place::Element | Place::Value => sign == b',',
+            Place::Object | Place::Name => sign == b':',
+            _ => false,
         }
     }
 

@@ -2,7 +2,7 @@
 
 use crate::grammar::{Lexeme, Open};
 use crate::node::Document;
-use crate::texts::{Piece, Text};
+use crate::texts::{Piece, Text, Word};
 use combine_base::error::{ParseError, UnexpectedParse};
 use combine_base::parser::{Answer, Parser, SessionError, parse_pieces};
 use combine_base::repeat::Sink;
@@ -10,12 +10,12 @@ use combine_base::stream::{Stream, fed};
 use combine_combinator::combinator::{ignore, map};
 use combine_combinator_recognize::combinator::recognize;
 use combine_error::easy;
-use combine_nested::nested::{always, nested};
+use combine_nested::nested::nested;
 use combine_repeat::repeat::{many, many1};
-use combine_sequence::sequence::{between, skip, with};
+use combine_sequence::sequence::{between, with};
 use combine_stream::position;
 use combine_token::choice::{optional, or};
-use combine_token::token::{eof, one_of, satisfy, satisfy_map, token};
+use combine_token::token::{eof, satisfy, satisfy_map, token};
 use std::alloc::Global;
 
 /// Why an input is refused, and behind how many bytes.
@@ -72,26 +72,45 @@ fn is_digit(byte: u8) -> bool {
     byte.is_ascii_digit()
 }
 
+/// Whether a byte is a bracket, a comma or a colon.
+fn is_sign(byte: u8) -> bool {
+    matches!(byte, b'[' | b']' | b'{' | b'}' | b',' | b':')
+}
+
 fn is_letter(byte: u8) -> bool {
     byte.is_ascii_alphabetic()
 }
 
-/// The piece that a byte behind a backslash says by itself.
-fn escaped(byte: u8) -> Option<Piece> {
+/// Whether a byte begins an exponent.
+fn is_exponent(byte: u8) -> bool {
+    matches!(byte, b'e' | b'E')
+}
+
+/// Whether a byte is the sign of an exponent.
+fn is_plus_or_minus(byte: u8) -> bool {
+    matches!(byte, b'+' | b'-')
+}
+
+/// The character that a byte behind a backslash says by itself.
+fn escaped(byte: u8) -> Option<u32> {
     match byte {
-        b'"' | b'\\' | b'/' => Some(Piece::Byte(byte)),
-        b'b' => Some(Piece::Byte(8)),
-        b'f' => Some(Piece::Byte(12)),
-        b'n' => Some(Piece::Byte(b'\n')),
-        b'r' => Some(Piece::Byte(b'\r')),
-        b't' => Some(Piece::Byte(b'\t')),
+        b'"' | b'\\' | b'/' => Some(u32::from(byte)),
+        b'b' => Some(8),
+        b'f' => Some(12),
+        b'n' => Some(10),
+        b'r' => Some(13),
+        b't' => Some(9),
         _ => None,
     }
 }
 
-/// The number that a hexadecimal digit says.
-fn hexadecimal(byte: u8) -> Option<u32> {
-    char::from(byte).to_digit(16)
+/// The number that four hexadecimal digits say.
+fn unit((a, b, c, d): (u8, u8, u8, u8)) -> u32 {
+    let mut unit = 0;
+    for digit in [a, b, c, d] {
+        unit = (unit << 4) | char::from(digit).to_digit(16).unwrap_or(0);
+    }
+    unit
 }
 
 /// Says what a text is, and hands the parser of a document to `driver`.
@@ -105,17 +124,17 @@ fn read_document<Input: Stream<Token = u8>, D: Runs<Input>>(
 where
     Input::Error: ParseError<u8, Input::Range, Input::Position>,
 {
-    let digit = satisfy_map(hexadecimal);
-    let unit = map(
-        (digit, digit, digit, digit),
-        |(a, b, c, d): (u32, u32, u32, u32)| Piece::Unit((a << 12) | (b << 8) | (c << 4) | d),
-    );
+    let digit = satisfy(|byte: u8| byte.is_ascii_hexdigit());
+    let unit = map((digit, digit, digit, digit), unit);
     let escape = with(
         token(b'\\'),
         or(satisfy_map(escaped), with(token(b'u'), unit)),
     );
-    let plain = map(satisfy(is_plain), |byte: u8| Piece::Byte(byte));
-    let text = many::<Text, _>(alloc, or(plain, escape));
+    let piece = or(
+        map(satisfy(is_plain), |byte: u8| Piece::Byte(byte)),
+        map(escape, |unit: u32| Piece::Unit(unit)),
+    );
+    let text = many::<Text, _>(alloc, piece);
     with_text(
         alloc,
         depth,
@@ -124,7 +143,7 @@ where
     )
 }
 
-/// Says what a number is.
+/// Says what a number and a word are.
 fn with_text<
     Input: Stream<Token = u8>,
     Q: Parser<Input, Output = Text> + Copy + Drop,
@@ -139,14 +158,22 @@ where
         optional(token(b'-')),
         or(ignore(token(b'0')), ignore(digits)),
         optional((token(b'.'), digits)),
-        optional((one_of([b'e', b'E']), optional(one_of([b'+', b'-'])), digits)),
+        optional((
+            satisfy(is_exponent),
+            optional(satisfy(is_plus_or_minus)),
+            digits,
+        )),
     );
     let number = map(
         recognize::<Vec<u8>, _>(alloc, number),
         |number: Vec<u8>| Lexeme::Number(number),
     );
     let text = map(text, |text: Text| Lexeme::Text(text));
-    with_values(alloc, depth, or(text, number), driver)
+    let word = map(
+        many1::<Word, _>(alloc, satisfy(is_letter)),
+        |word: Word| Lexeme::of_word(word.letters()),
+    );
+    with_values(alloc, depth, or(or(text, number), word), driver)
 }
 
 /// Says what a document is: one value with blanks round it, and nothing else.
@@ -159,16 +186,16 @@ where
     Input::Error: ParseError<u8, Input::Range, Input::Position>,
     requires { V.lawful value }
 {
-    let blanks = many::<Sink, _>(alloc, satisfy(is_blank));
+    let blanks = many::<Sink, _>(alloc, satisfy(|byte: u8| is_blank(byte)));
     let sign = map(
-        one_of([b'[', b']', b'{', b'}', b',', b':']),
-        |sign: u8| Lexeme::Sign(sign),
+        (satisfy(|byte: u8| is_sign(byte)), blanks),
+        |(sign, _blanks): (u8, Sink)| (Lexeme::Sign(sign), None),
     );
-    let word = map(
-        many1::<Vec<u8>, _>(alloc, satisfy(is_letter)),
-        |word: Vec<u8>| Lexeme::Word(word),
-    );
-    let step = always(skip(or(sign, or(value, word)), blanks));
+    let step = move |open: &Open| {
+        let place = open.place;
+        let behind = optional(satisfy(move |sign: u8| place.is_followed_by(sign)));
+        or(sign, (value, between(blanks, blanks, behind)))
+    };
     let document = nested(alloc, depth, move || Open::new(alloc), step);
     driver.run(between(blanks, eof(), document))
 }
