@@ -1,4 +1,5 @@
 //! Parsers that are one of several, each of which means the one that it holds.
+ghost use Rattle.std.specs.Prelude.{◌≡◌};
 ghost use Rattle.combine_choice_dispatch.specs.Held.{Started};
 
 pub mod dispatch3;
@@ -9,6 +10,7 @@ pub mod dispatch7;
 pub mod dispatch8;
 pub mod either;
 
+use combine_base::error::ParseResult;
 pub use dispatch3::Dispatch3;
 pub use dispatch4::Dispatch4;
 pub use dispatch5::Dispatch5;
@@ -25,5 +27,18 @@ fn start<S: Default + Drop>(kept: Option<S>) -> S
     match kept {
         Some(kept) => kept,
         None => S::default(),
+    }
+}
+
+/// The same answer, made anew in each case: so what asks for the case next is compiled behind each variant, and not behind the place where their answers meet.
+#[inline(always)]
+fn passed_on<O, E>(answer: ParseResult<O, E>) -> ParseResult<O, E>
+    ensures { result ≡ answer }
+{
+    match answer {
+        ParseResult::CommitOk(value) => ParseResult::CommitOk(value),
+        ParseResult::PeekOk(value) => ParseResult::PeekOk(value),
+        ParseResult::CommitErr(error) => ParseResult::CommitErr(error),
+        ParseResult::PeekErr(refusal) => ParseResult::PeekErr(refusal),
     }
 }

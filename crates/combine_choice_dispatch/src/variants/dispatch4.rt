@@ -2,7 +2,7 @@
 ghost use Rattle.std.specs.Prelude.{◌≡◌};
 ghost use Rattle.combine_choice_dispatch.specs.Variants4.{each_4, pick_a, pick_b, pick_c, pick_d};
 
-use super::start;
+use super::{passed_on, start};
 use combine_base::error::{ErrorOffset, ParseResult, Tracked};
 use combine_base::parser::{Outputs, ParseMode, Parser};
 use combine_base::stream::Stream;
@@ -119,25 +119,25 @@ impl<
                 let mut kept = start(take(state).into_a());
                 let answer = parser.parse_mode(mode, input, &mut kept);
                 *state = Dispatch4::A(kept);
-                answer
+                passed_on(answer)
             }
             Dispatch4::B(parser) => {
                 let mut kept = start(take(state).into_b());
                 let answer = parser.parse_mode(mode, input, &mut kept);
                 *state = Dispatch4::B(kept);
-                answer
+                passed_on(answer)
             }
             Dispatch4::C(parser) => {
                 let mut kept = start(take(state).into_c());
                 let answer = parser.parse_mode(mode, input, &mut kept);
                 *state = Dispatch4::C(kept);
-                answer
+                passed_on(answer)
             }
             Dispatch4::D(parser) => {
                 let mut kept = start(take(state).into_d());
                 let answer = parser.parse_mode(mode, input, &mut kept);
                 *state = Dispatch4::D(kept);
-                answer
+                passed_on(answer)
             }
         }
     }

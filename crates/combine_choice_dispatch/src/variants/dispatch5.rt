@@ -2,7 +2,7 @@
 ghost use Rattle.std.specs.Prelude.{◌≡◌};
 ghost use Rattle.combine_choice_dispatch.specs.Variants5.{each_5, pick_a, pick_b, pick_c, pick_d, pick_e};
 
-use super::start;
+use super::{passed_on, start};
 use combine_base::error::{ErrorOffset, ParseResult, Tracked};
 use combine_base::parser::{Outputs, ParseMode, Parser};
 use combine_base::stream::Stream;
@@ -133,31 +133,31 @@ impl<
                 let mut kept = start(take(state).into_a());
                 let answer = parser.parse_mode(mode, input, &mut kept);
                 *state = Dispatch5::A(kept);
-                answer
+                passed_on(answer)
             }
             Dispatch5::B(parser) => {
                 let mut kept = start(take(state).into_b());
                 let answer = parser.parse_mode(mode, input, &mut kept);
                 *state = Dispatch5::B(kept);
-                answer
+                passed_on(answer)
             }
             Dispatch5::C(parser) => {
                 let mut kept = start(take(state).into_c());
                 let answer = parser.parse_mode(mode, input, &mut kept);
                 *state = Dispatch5::C(kept);
-                answer
+                passed_on(answer)
             }
             Dispatch5::D(parser) => {
                 let mut kept = start(take(state).into_d());
                 let answer = parser.parse_mode(mode, input, &mut kept);
                 *state = Dispatch5::D(kept);
-                answer
+                passed_on(answer)
             }
             Dispatch5::E(parser) => {
                 let mut kept = start(take(state).into_e());
                 let answer = parser.parse_mode(mode, input, &mut kept);
                 *state = Dispatch5::E(kept);
-                answer
+                passed_on(answer)
             }
         }
     }

@@ -2,7 +2,7 @@
 ghost use Rattle.std.specs.Prelude.{◌≡◌};
 ghost use Rattle.combine_choice_dispatch.specs.Variants6.{each_6, pick_a, pick_b, pick_c, pick_d, pick_e, pick_f};
 
-use super::start;
+use super::{passed_on, start};
 use combine_base::error::{ErrorOffset, ParseResult, Tracked};
 use combine_base::parser::{Outputs, ParseMode, Parser};
 use combine_base::stream::Stream;
@@ -170,37 +170,37 @@ impl<
                 let mut kept = start(take(state).into_a());
                 let answer = parser.parse_mode(mode, input, &mut kept);
                 *state = Dispatch6::A(kept);
-                answer
+                passed_on(answer)
             }
             Dispatch6::B(parser) => {
                 let mut kept = start(take(state).into_b());
                 let answer = parser.parse_mode(mode, input, &mut kept);
                 *state = Dispatch6::B(kept);
-                answer
+                passed_on(answer)
             }
             Dispatch6::C(parser) => {
                 let mut kept = start(take(state).into_c());
                 let answer = parser.parse_mode(mode, input, &mut kept);
                 *state = Dispatch6::C(kept);
-                answer
+                passed_on(answer)
             }
             Dispatch6::D(parser) => {
                 let mut kept = start(take(state).into_d());
                 let answer = parser.parse_mode(mode, input, &mut kept);
                 *state = Dispatch6::D(kept);
-                answer
+                passed_on(answer)
             }
             Dispatch6::E(parser) => {
                 let mut kept = start(take(state).into_e());
                 let answer = parser.parse_mode(mode, input, &mut kept);
                 *state = Dispatch6::E(kept);
-                answer
+                passed_on(answer)
             }
             Dispatch6::F(parser) => {
                 let mut kept = start(take(state).into_f());
                 let answer = parser.parse_mode(mode, input, &mut kept);
                 *state = Dispatch6::F(kept);
-                answer
+                passed_on(answer)
             }
         }
     }

@@ -2,7 +2,7 @@
 ghost use Rattle.std.specs.Prelude.{◌≡◌};
 ghost use Rattle.combine_choice_dispatch.specs.Variants7.{each_7, pick_a, pick_b, pick_c, pick_d, pick_e, pick_f, pick_g};
 
-use super::start;
+use super::{passed_on, start};
 use combine_base::error::{ErrorOffset, ParseResult, Tracked};
 use combine_base::parser::{Outputs, ParseMode, Parser};
 use combine_base::stream::Stream;
@@ -194,43 +194,43 @@ impl<
                 let mut kept = start(take(state).into_a());
                 let answer = parser.parse_mode(mode, input, &mut kept);
                 *state = Dispatch7::A(kept);
-                answer
+                passed_on(answer)
             }
             Dispatch7::B(parser) => {
                 let mut kept = start(take(state).into_b());
                 let answer = parser.parse_mode(mode, input, &mut kept);
                 *state = Dispatch7::B(kept);
-                answer
+                passed_on(answer)
             }
             Dispatch7::C(parser) => {
                 let mut kept = start(take(state).into_c());
                 let answer = parser.parse_mode(mode, input, &mut kept);
                 *state = Dispatch7::C(kept);
-                answer
+                passed_on(answer)
             }
             Dispatch7::D(parser) => {
                 let mut kept = start(take(state).into_d());
                 let answer = parser.parse_mode(mode, input, &mut kept);
                 *state = Dispatch7::D(kept);
-                answer
+                passed_on(answer)
             }
             Dispatch7::E(parser) => {
                 let mut kept = start(take(state).into_e());
                 let answer = parser.parse_mode(mode, input, &mut kept);
                 *state = Dispatch7::E(kept);
-                answer
+                passed_on(answer)
             }
             Dispatch7::F(parser) => {
                 let mut kept = start(take(state).into_f());
                 let answer = parser.parse_mode(mode, input, &mut kept);
                 *state = Dispatch7::F(kept);
-                answer
+                passed_on(answer)
             }
             Dispatch7::G(parser) => {
                 let mut kept = start(take(state).into_g());
                 let answer = parser.parse_mode(mode, input, &mut kept);
                 *state = Dispatch7::G(kept);
-                answer
+                passed_on(answer)
             }
         }
     }

@@ -2,7 +2,7 @@
 ghost use Rattle.std.specs.Prelude.{◌≡◌};
 ghost use Rattle.combine_choice_dispatch.specs.Variants8.{each_8, pick_a, pick_b, pick_c, pick_d, pick_e, pick_f, pick_g, pick_h};
 
-use super::start;
+use super::{passed_on, start};
 use combine_base::error::{ErrorOffset, ParseResult, Tracked};
 use combine_base::parser::{Outputs, ParseMode, Parser};
 use combine_base::stream::Stream;
@@ -238,49 +238,49 @@ impl<
                 let mut kept = start(take(state).into_a());
                 let answer = parser.parse_mode(mode, input, &mut kept);
                 *state = Dispatch8::A(kept);
-                answer
+                passed_on(answer)
             }
             Dispatch8::B(parser) => {
                 let mut kept = start(take(state).into_b());
                 let answer = parser.parse_mode(mode, input, &mut kept);
                 *state = Dispatch8::B(kept);
-                answer
+                passed_on(answer)
             }
             Dispatch8::C(parser) => {
                 let mut kept = start(take(state).into_c());
                 let answer = parser.parse_mode(mode, input, &mut kept);
                 *state = Dispatch8::C(kept);
-                answer
+                passed_on(answer)
             }
             Dispatch8::D(parser) => {
                 let mut kept = start(take(state).into_d());
                 let answer = parser.parse_mode(mode, input, &mut kept);
                 *state = Dispatch8::D(kept);
-                answer
+                passed_on(answer)
             }
             Dispatch8::E(parser) => {
                 let mut kept = start(take(state).into_e());
                 let answer = parser.parse_mode(mode, input, &mut kept);
                 *state = Dispatch8::E(kept);
-                answer
+                passed_on(answer)
             }
             Dispatch8::F(parser) => {
                 let mut kept = start(take(state).into_f());
                 let answer = parser.parse_mode(mode, input, &mut kept);
                 *state = Dispatch8::F(kept);
-                answer
+                passed_on(answer)
             }
             Dispatch8::G(parser) => {
                 let mut kept = start(take(state).into_g());
                 let answer = parser.parse_mode(mode, input, &mut kept);
                 *state = Dispatch8::G(kept);
-                answer
+                passed_on(answer)
             }
             Dispatch8::H(parser) => {
                 let mut kept = start(take(state).into_h());
                 let answer = parser.parse_mode(mode, input, &mut kept);
                 *state = Dispatch8::H(kept);
-                answer
+                passed_on(answer)
             }
         }
     }

@@ -2,7 +2,7 @@
 ghost use Rattle.std.specs.Prelude.{◌≡◌};
 ghost use Rattle.combine_choice_dispatch.specs.Variants2.{each_2, pick_left, pick_right};
 
-use super::start;
+use super::{passed_on, start};
 use combine_base::error::{ErrorOffset, ParseResult, Tracked};
 use combine_base::parser::{Outputs, ParseMode, Parser};
 use combine_base::stream::Stream;
@@ -87,13 +87,13 @@ impl<Input: Stream, L: Parser<Input>, R: Parser<Input, Output = L::Output>> Pars
                 let mut kept = start(take(state).into_left());
                 let answer = parser.parse_mode(mode, input, &mut kept);
                 *state = Either::Left(kept);
-                answer
+                passed_on(answer)
             }
             Either::Right(parser) => {
                 let mut kept = start(take(state).into_right());
                 let answer = parser.parse_mode(mode, input, &mut kept);
                 *state = Either::Right(kept);
-                answer
+                passed_on(answer)
             }
         }
     }
