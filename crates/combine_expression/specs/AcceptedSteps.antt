@@ -38,7 +38,7 @@ module _ {P T R F I V N U : Type 0} (step : P → T → P) (depth : ℕ) (roots 
       ends_so (Closed b) s a k c w =
           let g : b ≡ a = cc in
           record { items = i ∷ []; accepted = last f fs v i m d x a r t (subst (λ y. settles depth joins fs x (Closed y)) g s) }
-      ends_so Denied s a k c w = absurd (cc)
+      ends_so (Denied text) s a k c w = absurd (cc)
       ends_so TooDeep s a k c w = absurd (cc)
 
       joined_so : (e : Ends F V) → settles depth joins fs x e → (q : Outcome V) → ended step depth roots answers takes joins some means (steps_at n) h took e (advanced step m v) q → (b : I × Bool) (a : V) (k : ℕ) (c : Bool) → Accepted a k c ≡ joined m d (last_value b) q → ReadsItems f fs v a

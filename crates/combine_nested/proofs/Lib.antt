@@ -1,3 +1,4 @@
 mod Settling
 mod Stepping
+mod StepErrors
 mod EachStep

@@ -12,8 +12,8 @@ module _ {F V : Type 0} (depth : ℕ) (joins : F → V → Next F V → Type 0) 
   pub stays_open : (fs : List F) (next : Next F V) (f : F) → next ≡ nexts.Stay f → settles depth joins fs next (Opened f fs)
   stays_open fs next f e = subst (λ x. settles depth joins fs x (Opened f fs)) (sym e) refl
 
-  pub denies : (fs : List F) (next : Next F V) (m : _) → next ≡ nexts.Refuse m → settles depth joins fs next Denied
-  denies fs next m e = subst (λ x. settles depth joins fs x Denied) (sym e) refl
+  pub denies : (fs : List F) (next : Next F V) (m : _) → next ≡ nexts.Refuse m → settles depth joins fs next (Denied m.now)
+  denies fs next m e = subst (λ x. settles depth joins fs x (Denied m.now)) (sym e) refl
 
   opens_at : (b : Bool) (f g : F) (fs : List F) → nat_lt (length fs) depth ≡ b → b ≡ true → settles depth joins fs (nexts.Open f g) (Opened g (f ∷ fs))
   opens_at b f g fs e t = rw (e, t) refl
@@ -53,6 +53,6 @@ module _ {F V : Type 0} (depth : ℕ) (joins : F → V → Next F V → Type 0) 
   pub one_higher : (fs : List F) (x : Next F V) (g : F) (gs : List F) → settles depth joins fs x (Opened g gs) → length gs ≤ length fs + 1
   one_higher fs (nexts.Stay f) g gs w = let j : gs ≡ fs = (let i : ◌≡◌ {A = Ends F V} (Opened g gs) (Opened f fs) = w in cc) in rw j (omega arith)
   one_higher fs (nexts.Open f h) g gs w = one_higher_in (nat_lt (length fs) depth) f h g fs gs refl w
-  one_higher fs (nexts.Refuse m) g gs w = absurd (let i : ◌≡◌ {A = Ends F V} (Opened g gs) Denied = w in cc)
+  one_higher fs (nexts.Refuse m) g gs w = absurd (let i : ◌≡◌ {A = Ends F V} (Opened g gs) (Denied m.now) = w in cc)
   one_higher [] (nexts.Close v) g gs w = absurd (let i : ◌≡◌ {A = Ends F V} (Opened g gs) (Closed v) = w in cc)
   one_higher (f ∷ fs) (nexts.Close v) g gs w = let i = one_higher fs w.0 g gs w.2 in let j : length (f ∷ fs) ≡ length fs + 1 = omega arith in omega arith

@@ -53,7 +53,7 @@ module _ {P T R F I V N U : Type 0} (step : P → T → P) (depth : ℕ) (roots 
     bounded_end : (h : ℕ) (took : Bool) (e : Ends F V) (v : View P T) (o : Outcome V) → ended step depth roots answers takes joins some means runs_at h took e v o → (n : ℕ) × ended step depth roots answers takes joins some means (steps_at n) h took e v o
     bounded_end h took (Opened g gs) v o w = bounded_on (took || nat_lt (length gs) h) g gs v o w
     bounded_end h took (Closed a) v o w = (0, w)
-    bounded_end h took Denied v o w = (0, w)
+    bounded_end h took (Denied text) v o w = (0, w)
     bounded_end h took TooDeep v o w = (0, w)
 
     bounded : (v : View P T) (p : Outcome (I × Bool)) (o : Outcome V) → continues step last_value (then step depth roots answers takes joins some means runs_at f fs) v p o → (n : ℕ) × continues step last_value (then step depth roots answers takes joins some means (steps_at n) f fs) v p o

@@ -8,6 +8,7 @@ pub use Rattle.combine_base.specs.Stream.Calls
 pub use Rattle.combine_base.specs.Stream.View
 pub mod Asks
 pub mod Nesting
+pub mod NestingErrors
 pub mod NestingLaws
 pub mod NestingOne
 pub mod StepCalls

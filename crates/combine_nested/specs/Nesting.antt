@@ -50,8 +50,8 @@ pub data Ends (F V : Type 0) : Type 0 where
   Opened : (top : F) (others : List F) → Ends F V
   -- the outermost is closed
   Closed : (value : V) → Ends F V
-  -- a frame refuses
-  Denied : Ends F V
+  -- a frame refuses, with this message
+  Denied : (text : List ℕ) → Ends F V
   TooDeep : Ends F V
 
 module _ {F V : Type 0} (depth : ℕ) (joins : F → V → Next F V → Type 0) where
@@ -63,7 +63,7 @@ module _ {F V : Type 0} (depth : ℕ) (joins : F → V → Next F V → Type 0) 
   abbrev pub settles : List F → Next F V → Ends F V → Type 0
   settles fs (nexts.Stay f) e = e ≡ Opened f fs
   settles fs (nexts.Open f g) e = opens (nat_lt (length fs) depth) f g fs e
-  settles fs (nexts.Refuse m) e = e ≡ Denied
+  settles fs (nexts.Refuse m) e = e ≡ Denied m.now
   settles [] (nexts.Close v) e = e ≡ Closed v
   settles (f ∷ fs) (nexts.Close v) e = (x : Next F V) × joins f v x × settles fs x e
 
@@ -97,7 +97,7 @@ module _ {P T R F I V N U : Type 0} (step : P → T → P) (depth : ℕ) (roots 
     abbrev pub ended : ℕ → Bool → Ends F V → Reading P T V
     ended h took (Opened f fs) v o = goes_on (took || nat_lt (length fs) h) f fs v o
     ended h took (Closed a) v o = o ≡ Accepted a 0 false
-    ended h took Denied v o = o ≡ Refused false
+    ended h took (Denied text) v o = o ≡ Refused false
     ended h took TooDeep v o = o ≡ Refused true
 
     -- after an item that the innermost frame takes

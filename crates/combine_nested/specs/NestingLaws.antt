@@ -91,7 +91,7 @@ module _ {P T R F I V N U : Type 0} (step : P → T → P) (depth : ℕ) (roots 
       ended_is_reading : (n : ℕ) (took : Bool) (e : Ends F V) → IsReading (ended step depth roots answers takes joins some means again n took e)
       ended_is_reading n took (Opened f fs) = goes_on_is_reading (took || nat_lt (length fs) n) f fs
       ended_is_reading n took (Closed a) = closed_is_reading a
-      ended_is_reading n took Denied = refused_is_reading false
+      ended_is_reading n took (Denied text) = refused_is_reading false
       ended_is_reading n took TooDeep = refused_is_reading true
 
       then_is_reading : (f : F) (fs : List F) (b : I × Bool) → IsReading (then step depth roots answers takes joins some means again f fs b)

@@ -30,7 +30,7 @@ module _ {F V : Type 0} (alike : F → F → Type 0) (alike_values : V → V →
   abbrev pub ends_alike : Ends F V → Ends F V → Type 0
   ends_alike (Opened f fs) (Opened g gs) = alike f g × all_alike fs gs
   ends_alike (Closed v) (Closed w) = Unit {0}
-  ends_alike Denied Denied = Unit {0}
+  ends_alike (Denied text) (Denied other) = Unit {0}
   ends_alike TooDeep TooDeep = Unit {0}
   ends_alike _ _ = ⊥
 
@@ -120,20 +120,20 @@ module _ {P T R F I V N U : Type 0} (step : P → T → P) (depth : ℕ) {roots 
         let l = same_lengths alike alike_values fs gs a.1 in
         goes_one (took || nat_lt (length fs) n) (took || nat_lt (length gs) m) (ap (λ x. took || nat_lt x n) l ∙ ap (λ x. took || nat_lt (length gs) x) q) f g a.0 fs gs a.1 v o o' w w'
     ended_one n m q took (Closed x) (Closed y) a v o o' w w' = ap shape w ∙ sym (ap shape w')
-    ended_one n m q took Denied Denied a v o o' w w' = ap shape w ∙ sym (ap shape w')
+    ended_one n m q took (Denied text) (Denied told) a v o o' w w' = ap shape w ∙ sym (ap shape w')
     ended_one n m q took TooDeep TooDeep a v o o' w w' = ap shape w ∙ sym (ap shape w')
     ended_one n m q took (Opened f fs) (Closed y) a v o o' w w' = absurd a
-    ended_one n m q took (Opened f fs) Denied a v o o' w w' = absurd a
+    ended_one n m q took (Opened f fs) (Denied text) a v o o' w w' = absurd a
     ended_one n m q took (Opened f fs) TooDeep a v o o' w w' = absurd a
     ended_one n m q took (Closed x) (Opened g gs) a v o o' w w' = absurd a
-    ended_one n m q took (Closed x) Denied a v o o' w w' = absurd a
+    ended_one n m q took (Closed x) (Denied text) a v o o' w w' = absurd a
     ended_one n m q took (Closed x) TooDeep a v o o' w w' = absurd a
-    ended_one n m q took Denied (Opened g gs) a v o o' w w' = absurd a
-    ended_one n m q took Denied (Closed y) a v o o' w w' = absurd a
-    ended_one n m q took Denied TooDeep a v o o' w w' = absurd a
+    ended_one n m q took (Denied text) (Opened g gs) a v o o' w w' = absurd a
+    ended_one n m q took (Denied text) (Closed y) a v o o' w w' = absurd a
+    ended_one n m q took (Denied text) TooDeep a v o o' w w' = absurd a
     ended_one n m q took TooDeep (Opened g gs) a v o o' w w' = absurd a
     ended_one n m q took TooDeep (Closed y) a v o o' w w' = absurd a
-    ended_one n m q took TooDeep Denied a v o o' w w' = absurd a
+    ended_one n m q took TooDeep (Denied text) a v o o' w w' = absurd a
 
     module _ (f g : F) (a : alike f g) (fs gs : List F) (k : alls fs gs) where
       abbrev then_again : I × Bool → Reading P T V

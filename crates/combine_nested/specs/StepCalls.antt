@@ -1,19 +1,21 @@
 -- what a run of one step's parser promises
-use Rattle.std.specs.Prelude.{◌≡◌, ℕ, ◌⊎◌, ◌||◌, Bool, true, false, nat_lt, List, length}
+use Rattle.std.specs.Prelude.{codes, ◌≡◌, ℕ, ◌⊎◌, ◌||◌, Bool, true, false, nat_lt, List, length}
 use Rattle.combine_base.specs.Error.Errors.{Errors}
 use Rattle.combine_base.specs.Parser.Answer.{Answers, world}
+use Rattle.combine_base.specs.Parser.Drivers.{Explained}
 use Rattle.combine_base.specs.Parser.Judged.{NeedsMore}
 use Rattle.combine_base.specs.Parser.Meaning.{MeansSame}
+use Rattle.combine_base.specs.Parser.Reasons.{kept_from}
 use Rattle.combine_base.specs.Sequence.Parts.{refused_as, run_from}
 use Rattle.combine_base.specs.Stream.Calls.{Passes}
 use Rattle.combine_base.specs.Stream.View.{Takes}
-use Rattle.combine_base.specs.declared.stream.Kind.{Kind}
 use Rattle.combine_base.specs.declared.stream.Kind.TheVariants as kinds
 use Rattle.combine_base.specs.declared.error.ParseResult.{ParseResult}
 use Rattle.combine_base.specs.declared.error.ParseResult.TheVariants.{CommitOk, PeekOk, CommitErr, PeekErr}
 use Rattle.combine_base.specs.declared.parser.Parser as parser
 use Rattle.combine_base.specs.declared.stream.StreamOnce as stream
 use Rattle.combine_nested.specs.Nesting.{Ends, Opened, Closed, Denied, TooDeep, around, begins_steps, settles}
+use Rattle.combine_nested.specs.NestingErrors.{Tells}
 use Rattle.combine_nested.specs.declared.nested.Next.{Next}
 use Rattle.combine_nested.specs.declared.nested.steps.Did.{Did}
 use Rattle.combine_nested.specs.declared.nested.steps.Did.TheVariants as dids
@@ -27,17 +29,17 @@ use Rattle.combine_nested.specs.declared.nested.steps.NestedState.TheVariants as
 abbrev pub ends_of : {F V : Type 0} → Settled F V → Ends F V
 ends_of (settled.Open l) = Opened l.top (around l)
 ends_of (settled.Closed v) = Closed v
-ends_of (settled.Denied m) = Denied
+ends_of (settled.Denied m) = Denied m.now
 ends_of settled.TooDeep = TooDeep
 
-module _ {V E : Type 0} (kind : E → Kind) where
+module _ {T R P V E : Type 0} (seen : Errors T R P E) (place : P) (text : List ℕ) where
   abbrev pub denies : Bool → ParseResult V E → Type 0
   denies committed (CommitOk v) = ⊥
   denies committed (PeekOk v) = ⊥
-  denies committed (CommitErr e) = (kind e ≡ kinds.Memory) ⊎ ((kind e ≡ kinds.Refused) × (committed ≡ true))
-  denies committed (PeekErr t) = (kind t.error ≡ kinds.Refused) × (committed ≡ false)
+  denies committed (CommitErr e) = (seen.kind e ≡ kinds.Memory) ⊎ ((seen.kind e ≡ kinds.Refused) × (committed ≡ true) × Tells seen place text e)
+  denies committed (PeekErr t) = (seen.kind t.error ≡ kinds.Refused) × (committed ≡ false) × Tells seen place text t.error
 
-  -- a frame's refusal, committed where a step was, or want of memory for its message
+  -- a frame's refusal with that message, committed where a step was, or want of memory for the message
   pub record Denies (committed : Bool) (result : ParseResult V E) : Type 0 where
     pub is : denies committed result
 
@@ -48,20 +50,26 @@ module _ {F I V : Type 0} (depth : ℕ) (takes : F → I → Next F V → Type 0
     pub taken : takes f item next
     pub settles : settles depth joins fs next e
 
-  module _ {E : Type 0} (kind : E → Kind) (frames : Frames F) (committed took : Bool) (item : I) where
+  module _ {T R P E : Type 0} (seen : Errors T R P E) (place : P) (frames : Frames F) (committed took : Bool) (item : I) where
     abbrev pub takes_to : Ends F V → Type 0
     takes_to = TakesItem frames.top (around frames) item
 
     -- a refusal that is committed whatever was before: a frame too many, or no token taken and as many frames as there were
-    pub data StepRefuses : Type 0 where
-      IsTooDeep : (taken : takes_to TooDeep) → StepRefuses
-      TakesNothing : (f : F) (fs : List F) (taken : takes_to (Opened f fs)) (stays : (took || nat_lt (length fs) (length (around frames))) ≡ false) → StepRefuses
+    pub data StepRefuses (e : E) : Type 0 where
+      IsTooDeep : (taken : takes_to TooDeep) (tells : Tells seen place (codes "nesting too deep") e) → StepRefuses e
+      TakesNothing : (f : F) (fs : List F) (taken : takes_to (Opened f fs)) (stays : (took || nat_lt (length fs) (length (around frames))) ≡ false) (tells : Tells seen place (codes "repetition takes nothing") e) → StepRefuses e
+
+    -- a frame's own, with its message
+    pub record FrameRefuses (e : E) : Type 0 where
+      pub text : List ℕ
+      pub taken : takes_to (Denied text)
+      pub tells : Tells seen place text e
 
     abbrev pub stops_so : ParseResult V E → Type 0
     stops_so (CommitOk v) = takes_to (Closed v) × (committed ≡ true)
     stops_so (PeekOk v) = takes_to (Closed v) × (committed ≡ false)
-    stops_so (CommitErr e) = (kind e ≡ kinds.Memory) ⊎ ((kind e ≡ kinds.Refused) × (StepRefuses ⊎ (takes_to Denied × (committed ≡ true))))
-    stops_so (PeekErr t) = (kind t.error ≡ kinds.Refused) × takes_to Denied × (committed ≡ false)
+    stops_so (CommitErr e) = (seen.kind e ≡ kinds.Memory) ⊎ ((seen.kind e ≡ kinds.Refused) × (StepRefuses e ⊎ (FrameRefuses e × (committed ≡ true))))
+    stops_so (PeekErr t) = (seen.kind t.error ≡ kinds.Refused) × FrameRefuses t.error × (committed ≡ false)
 
     -- what an item's step did, where it or one before was committed
     abbrev pub item_did : Did F V E → Type 0
@@ -82,7 +90,7 @@ module _ {F I V N Input U Checkpoint T R P E X : Type 0} (p : parser.Ghosts N In
   pub record DidItem (input left : Input) (from : RunningStep F N U) (item : I) (commits : Bool) (result : Did F V E) : Type 0 where
     pub took : Bool
     pub is : (n : ℕ) → Takes i.step n (i.view input) (i.view left) → took ≡ (from.begun || nat_lt 0 n)
-    pub did : item_did depth takes joins seen.kind from.frames (from.committed || commits) took item result
+    pub did : item_did depth takes joins seen (i.view input).position from.frames (from.committed || commits) took item result
 
   abbrev pub step_did : Input → Input → RunningStep F N U → ParseResult I E → Did F V E → Type 0
   step_did input left from (CommitOk a) result = DidItem input left from a true result
@@ -90,7 +98,7 @@ module _ {F I V N Input U Checkpoint T R P E X : Type 0} (p : parser.Ghosts N In
   step_did input left from (CommitErr e) result = result ≡ dids.Stops (CommitErr e)
   step_did input left from (PeekErr t) result = result ≡ dids.Stops (refused_as from.committed t)
 
-  pub record CalledStep (input left : Input) (from : RunningStep F N U) (state : NestedState F N U) (result : Did F V E) : Type 0 where
+  pub record CalledStep (first : Bool) (input left : Input) (from : RunningStep F N U) (state : NestedState F N U) (result : Did F V E) : Type 0 where
     pub parser : N
     pub lawful : p.lawful parser
     pub same : MeansSame (p.meaning from.parser) (p.meaning parser)
@@ -98,5 +106,6 @@ module _ {F I V N Input U Checkpoint T R P E X : Type 0} (p : parser.Ghosts N In
     pub stopped : U
     pub answer : ParseResult I E
     pub answers : Answers (world i.step seen i.steady fresh) (p.meaning from.parser) (run_from from.state stopped (i.view input) (i.view left) (i.failures input) (i.failures left)) answer
+    pub explained : Explained seen (p.meaning from.parser) (p.refuses from.parser (kept_from first from.state) (i.view input)) (i.view input) (i.view left) answer
     pub did : step_did input left from answer result
     pub keeps : keeps_step input left from parser stopped state answer

@@ -124,7 +124,7 @@ fn denied<V, Input: Stream>(
     committed: bool,
     message: &'static str,
 ) -> ParseResult<V, Input::Error>
-    ensures { Denies Input.Error.seen.kind committed result }
+    ensures { Denies Input.Error.seen position message.now committed result }
 {
     let error = refusal_saying(input, position, message);
     if committed {
@@ -143,7 +143,7 @@ fn finish_step<Input: Stream, F: Frame>(
     committed: bool,
     took: bool,
 ) -> Did<F, F::Value, Input::Error>
-    ensures { item_did depth F.takes F.joins Input.Error.seen.kind frames committed took item result }
+    ensures { item_did depth F.takes F.joins Input.Error.seen position frames committed took item result }
 {
     let before = frames.outer.len();
     match take_item(depth, frames, item) {
@@ -180,7 +180,7 @@ pub(super) fn run_step<
     requires ready { ⟦<N as Calls<Input>>⟧.ready from.parser from.state }
     requires starts { M.first mode ≡ true → N.PartialState.is_default from.state }
     requires fresh { begins_steps state.old }
-    ensures { CalledStep N.Parser Input.StreamOnce Input.Error.seen N.PartialState.is_default depth F.takes F.joins input.old input.new from state.new result }
+    ensures { CalledStep N.Parser Input.StreamOnce Input.Error.seen N.PartialState.is_default depth F.takes F.joins (M.first mode) input.old input.new from state.new result }
 {
     let RunningStep {
         frames,

@@ -3,6 +3,7 @@ ghost use Rattle.std.specs.Prelude.{◌≡◌};
 ghost use Rattle.combine_base.specs.Parser.Kept.{KeptOf};
 ghost use Rattle.combine_nested.specs.Asks.{asked_by_some, asked_so};
 ghost use Rattle.combine_nested.specs.Nesting.{asked_part, depth_part, nesting, root_part, starts_valid, valid_step};
+ghost use Rattle.combine_nested.specs.NestingErrors.{RefusesNested};
 ghost use Rattle.combine_nested.specs.NestingLaws.{nesting_is_meaning};
 ghost use Rattle.combine_nested.specs.NestingOne.{NestsOne, nesting_means_one};
 
@@ -50,6 +51,8 @@ impl<
     ghost valid = { valid_step (KeptOf N.lawful N.meaning (asked_by_some S.callable S.answers N.lawful)) N.valid };
 
     ghost meaning = { λ p. nesting Input.step (depth_part p) (R.makes (root_part p)) (S.answers (asked_part p)) F.takes F.joins (asked_by_some S.callable S.answers N.lawful) N.meaning };
+
+    ghost refuses = { λ p. RefusesNested Input.step (depth_part p) (R.makes (root_part p)) (S.answers (asked_part p)) F.takes F.joins N.meaning Input.Error.seen N.refuses };
 
     ghost parts = { λ _. 1 };
 

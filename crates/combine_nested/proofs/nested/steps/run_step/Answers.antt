@@ -18,6 +18,7 @@ returns-then-needs_more g c =
       stopped = _;
       answer = CommitErr c.in-CommitErr.error;
       answers = at_rest around _ _ (g.met.N.Parser.laws c.args.from.parser c.requires.ready.lawful) _ c.requires.starts _ c.in-CommitErr.ensures.answers;
+      explained = c.in-CommitErr.ensures.explained;
       did = refl;
       keeps = inl (c.needs_more.ensures.0 c.if-needs_more.true, record { begun = _; is = refl; took = λ n t. c.has_taken.ensures n _ (g.met.Input.ResetStream.lasts _ _ _ _ call.passes.marks c.checkpoint-since.ensures.stands) t; valid = c.in-CommitErr.ensures.valid });
     }
@@ -34,6 +35,7 @@ returns-in-CommitErr g c =
       stopped = _;
       answer = CommitErr c.in-CommitErr.error;
       answers = at_rest around _ _ (g.met.N.Parser.laws c.args.from.parser c.requires.ready.lawful) _ c.requires.starts _ c.in-CommitErr.ensures.answers;
+      explained = c.in-CommitErr.ensures.explained;
       did = refl;
       keeps = inr (λ q. let e = c.needs_more.ensures.1 q in let f = c.if-needs_more.false in cc, c.requires.fresh);
     }
@@ -50,6 +52,7 @@ returns-in-PeekErr g c =
       stopped = _;
       answer = PeekErr c.in-PeekErr.refusal;
       answers = at_rest around _ _ (g.met.N.Parser.laws c.args.from.parser c.requires.ready.lawful) _ c.requires.starts _ c.in-PeekErr.ensures.answers;
+      explained = c.in-PeekErr.ensures.explained;
       did = ap dids.Stops c.refused_after.ensures;
       keeps = inr (λ q. q, c.requires.fresh);
     }
@@ -67,7 +70,8 @@ returns g c =
         stopped = _;
         answer = CommitOk _;
         answers = at_rest around _ _ (g.met.N.Parser.laws c.args.from.parser c.requires.ready.lawful) _ c.requires.starts _ w.in-CommitOk.ensures.answers;
-        did = record { took = c.has_taken-took.result; is = λ n t. c.has_taken-took.ensures n _ (g.met.Input.ResetStream.lasts _ _ _ _ call.passes.marks c.checkpoint-since.ensures.stands) t; did = rw (c.one_of-commits.ensures, w.item-is) at c.finish_step.ensures };
+        explained = w.in-CommitOk.ensures.explained;
+        did = record { took = c.has_taken-took.result; is = λ n t. c.has_taken-took.ensures n _ (g.met.Input.ResetStream.lasts _ _ _ _ call.passes.marks c.checkpoint-since.ensures.stands) t; did = rw (c.position-position.ensures, c.one_of-commits.ensures, w.item-is) at c.finish_step.ensures };
         keeps = inr (λ q. q, c.requires.fresh);
       }
       | in-PeekOk w ↦ record {
@@ -78,7 +82,8 @@ returns g c =
         stopped = _;
         answer = PeekOk _;
         answers = at_rest around _ _ (g.met.N.Parser.laws c.args.from.parser c.requires.ready.lawful) _ c.requires.starts _ w.in-PeekOk.ensures.answers;
-        did = record { took = c.has_taken-took.result; is = λ n t. c.has_taken-took.ensures n _ (g.met.Input.ResetStream.lasts _ _ _ _ call.passes.marks c.checkpoint-since.ensures.stands) t; did = rw (c.one_of-commits.ensures, w.item-is) at c.finish_step.ensures };
+        explained = w.in-PeekOk.ensures.explained;
+        did = record { took = c.has_taken-took.result; is = λ n t. c.has_taken-took.ensures n _ (g.met.Input.ResetStream.lasts _ _ _ _ call.passes.marks c.checkpoint-since.ensures.stands) t; did = rw (c.position-position.ensures, c.one_of-commits.ensures, w.item-is) at c.finish_step.ensures };
         keeps = inr (λ q. q, c.requires.fresh);
       }
     ]

@@ -1,5 +1,5 @@
 use Rattle.std.proofs.Common.{rules, vec_items}
-use Rattle.combine_nested.specs.Nesting.{Denied, TooDeep}
+use Rattle.combine_nested.specs.Nesting.{TooDeep}
 use Rattle.combine_nested.proofs.Settling.{closes, opens_so, stays_open, too_deep, denies}
 use Rattle.combine_nested.proofs.nested.steps.settle.Goals as goal
 
@@ -16,4 +16,4 @@ pub returns-in_default : goal.returns-in_default
 returns-in_default g c = c.frames.invariant _ (closes c.args.depth g.F.Frame.joins (vec_items c.frames.outer) _ _ c.in-Close.is (search rules))
 
 pub returns-in-Refuse : goal.returns-in-Refuse
-returns-in-Refuse g c = c.frames.invariant Denied (denies c.args.depth g.F.Frame.joins _ _ _ c.in-Refuse.is)
+returns-in-Refuse g c = c.frames.invariant _ (denies c.args.depth g.F.Frame.joins _ _ _ c.in-Refuse.is)

@@ -30,7 +30,7 @@ steps-init g c =
       | in-Running w ↦
           let from = w.in-Running.ensures.from in
           let v = valid_from (starts_valid (KeptOf p.lawful p.meaning some) p.valid) from c.requires.valid in
-          let runs = runs_first p i seen fresh depth roots answers g.F.Frame.takes g.F.Frame.joins some w.in-Running.step (i.view c.args.input.now) (i.failures c.args.input.now) v.0 in
+          let runs = runs_first p i seen fresh depth roots answers g.F.Frame.takes g.F.Frame.joins some _ _ w.in-Running.step from (i.view c.args.input.now) (i.failures c.args.input.now) v.0 in
           let leads = step_leads p i seen fresh depth roots answers g.F.Frame.takes g.F.Frame.joins some (omega arith) (omega arith) laws (g.met.N.Parser.laws _ v.0.is_lawful) v.1 from runs w.run_step-next.ensures in
           rw (w.input-is, w.state-is, w.next-is) (record { self = refl; passes = w.run_step-next.ensures.passes; leads = leads })
       | in-Start w ↦
