@@ -9,10 +9,12 @@ mod answer;
 mod calls;
 mod references;
 mod session;
+mod states;
 
 pub use answer::{Answer, judge};
 pub use calls::Calls;
 pub use session::{Session, SessionError, parse_pieces};
+pub use states::{DropState, Of, put_state};
 
 /// How a call begins: afresh, or from a kept state.
 pub trait ParseMode: Copy {
@@ -84,8 +86,8 @@ pub trait Parser<Input: Stream>: Outputs<Input> {
     ghost use Rattle.combine_base.specs.Stream.Calls.{Passes};
     ghost use Rattle.combine_base.specs.declared.stream.Failures.{Failures};
 
-    /// What is kept while more input is needed.
-    type PartialState: Default + Drop;
+    /// What is kept while more input is needed. It is let go by `drop_state`, and need not be `Drop`.
+    type PartialState: Default;
 
     /// What a call needs of a caller's functions and types.
     ghost lawful: { Self → Type 0 };
@@ -104,6 +106,11 @@ pub trait Parser<Input: Stream>: Outputs<Input> {
 
     /// What error a refusal may have, committed or not, of a call that begins afresh (`None`) or from that state, on a view. A parser that doesn't define it promises nothing of it.
     ghost refuses: { Self → Option Self.PartialState → View Input.Position Input.Token → Bool → Input.Error → Type 0 } = { λ _ _ _ _ _. Unit {0} };
+
+    /// Lets a kept state go.
+    ///
+    /// A state of a composed parser hands each state that it holds to the parser that keeps it. Our own: in the crate a state is dropped.
+    fn drop_state(state: Self::PartialState);
 
     /// Parses, afresh or from the kept state.
     ///
@@ -247,7 +254,9 @@ pub trait Parser<Input: Stream>: Outputs<Input> {
         ensures refuses { Reasoned Input.Error.seen.kind (Input.view input.new).is_open (refuses self.old None (Input.view input.old)) result }
     {
         let mut state = Self::PartialState::default();
-        self.parse_mode(FirstMode, input, &mut state)
+        let answer = self.parse_mode(FirstMode, input, &mut state);
+        Self::drop_state(state);
+        answer
     }
 
     /// Parses from the start. On a peeked refusal the stream is put back and the error says which token stands there and what was expected.
@@ -261,7 +270,9 @@ pub trait Parser<Input: Stream>: Outputs<Input> {
         ensures explained { Explained Input.Error.seen (meaning self.old) (refuses self.old None (Input.view input.old)) (Input.view input.old) (Input.view input.new) result }
     {
         let mut state = Self::PartialState::default();
-        self.parse_explained(FirstMode, input, &mut state)
+        let answer = self.parse_explained(FirstMode, input, &mut state);
+        Self::drop_state(state);
+        answer
     }
 
     /// Goes on from the kept state, and answers as `parse_stream` does.
@@ -299,10 +310,9 @@ pub trait Parser<Input: Stream>: Outputs<Input> {
     {
         let mut input = input;
         let mut state = Self::PartialState::default();
-        match self
-            .parse_explained(FirstMode, &mut input, &mut state)
-            .without_commit()
-        {
+        let answer = self.parse_explained(FirstMode, &mut input, &mut state);
+        Self::drop_state(state);
+        match answer.without_commit() {
             Ok(value) => Ok((value, input)),
             Err(error) => Err(error),
         }

@@ -31,6 +31,11 @@ impl<Input: Stream, P: Parser<Input>> Parser<Input> for &mut P {
     ghost single = { λ p h d. P.single p.now h d };
 
     #[inline(always)]
+    fn drop_state(state: P::PartialState) {
+        P::drop_state(state)
+    }
+
+    #[inline(always)]
     fn parse_mode<M: ParseMode>(
         &mut self,
         mode: M,

@@ -5,8 +5,8 @@ ghost use Rattle.combine_base.specs.Sequence.Places.{begins_valid_1, begins_vali
 ghost use Rattle.combine_base.specs.Sequence.Tuples.{tuple_1, tuple_1_is_meaning, tuple_1_means_one, tuple_2, tuple_2_is_meaning, tuple_2_means_one, tuple_3, tuple_3_is_meaning, tuple_3_means_one, tuple_4, tuple_4_is_meaning, tuple_4_means_one};
 
 use crate::error::{ErrorOffset, ParseResult, Tracked};
-use crate::parser::{Calls, Outputs, ParseMode, Parser};
-use crate::sequence::part::{parse_rest, resume_last, take_state};
+use crate::parser::{Calls, DropState, Of, Outputs, ParseMode, Parser, put_state};
+use crate::sequence::part::{After, First, parse_rest, resume_last, take_state};
 use crate::sequence::{
     PartialState1, PartialState2, PartialState3, PartialState4, Placed, SequencePlace,
     SequenceState,
@@ -48,6 +48,18 @@ type State4<Input, A, B, C, D> = PartialState4<
     >,
 >;
 
+/// Lets the states of a tuple of one go.
+pub type Drop1<Input, A> = First<Of<Input, A>>;
+
+/// Lets the states of a tuple of two go.
+pub type Drop2<Input, A, B> = After<Drop1<Input, A>, Of<Input, B>>;
+
+/// Lets the states of a tuple of three go.
+pub(crate) type Drop3<Input, A, B, C> = After<Drop2<Input, A, B>, Of<Input, C>>;
+
+/// Lets the states of a tuple of four go.
+pub(crate) type Drop4<Input, A, B, C, D> = After<Drop3<Input, A, B, C>, Of<Input, D>>;
+
 /// How many parsers two are, at most 255.
 fn add_counts(before: ErrorOffset, last: ErrorOffset) -> ErrorOffset
     ensures { result.0 ≡ min (before.0 + last.0) 255 }
@@ -76,17 +88,27 @@ pub fn parse_1<Input: Stream, A: Parser<Input>, M: ParseMode>(
         state: mut kept,
     } = from.into_only();
     match a.parse_mode(mode, input, &mut kept) {
-        ParseResult::CommitOk(value) => ParseResult::CommitOk((value,)),
-        ParseResult::PeekOk(value) => ParseResult::PeekOk((value,)),
+        ParseResult::CommitOk(value) => {
+            A::drop_state(kept);
+            ParseResult::CommitOk((value,))
+        }
+        ParseResult::PeekOk(value) => {
+            A::drop_state(kept);
+            ParseResult::PeekOk((value,))
+        }
         ParseResult::CommitErr(error) => {
-            *state = PartialState1::A(SequenceState {
+            let at = PartialState1::A(SequenceState {
                 value: (),
                 committed: false,
                 state: kept,
             });
+            put_state::<_, Drop1<Input, A>>(state, at);
             ParseResult::CommitErr(error)
         }
-        ParseResult::PeekErr(refusal) => ParseResult::PeekErr(refusal),
+        ParseResult::PeekErr(refusal) => {
+            A::drop_state(kept);
+            ParseResult::PeekErr(refusal)
+        }
     }
 }
 
@@ -110,9 +132,11 @@ pub fn parse_2<Input: Stream, A: Parser<Input>, B: Parser<Input>, M: ParseMode>(
         SequencePlace::Before(at) => {
             let mut kept = PartialState1::default();
             let answer = parse_1(a, mode, input, at, &mut kept);
-            parse_rest(answer, kept, b, mode, input, state)
+            parse_rest::<_, _, _, _, Drop1<Input, A>, _>(answer, kept, b, mode, input, state)
         }
-        SequencePlace::Last(at) => resume_last(b, mode, input, at, state),
+        SequencePlace::Last(at) => resume_last::<_, _, _, _, Drop1<Input, A>, _>(
+            b, mode, input, at, state,
+        ),
     }
 }
 
@@ -136,9 +160,11 @@ fn parse_3<Input: Stream, A: Parser<Input>, B: Parser<Input>, C: Parser<Input>, 
         SequencePlace::Before(at) => {
             let mut kept = PartialState2::default();
             let answer = parse_2(a, b, mode, input, at, &mut kept);
-            parse_rest(answer, kept, c, mode, input, state)
+            parse_rest::<_, _, _, _, Drop2<Input, A, B>, _>(answer, kept, c, mode, input, state)
         }
-        SequencePlace::Last(at) => resume_last(c, mode, input, at, state),
+        SequencePlace::Last(at) => resume_last::<_, _, _, _, Drop2<Input, A, B>, _>(
+            c, mode, input, at, state,
+        ),
     }
 }
 
@@ -170,9 +196,11 @@ fn parse_4<
         SequencePlace::Before(at) => {
             let mut kept = PartialState3::default();
             let answer = parse_3(a, b, c, mode, input, at, &mut kept);
-            parse_rest(answer, kept, d, mode, input, state)
+            parse_rest::<_, _, _, _, Drop3<Input, A, B, C>, _>(answer, kept, d, mode, input, state)
         }
-        SequencePlace::Last(at) => resume_last(d, mode, input, at, state),
+        SequencePlace::Last(at) => resume_last::<_, _, _, _, Drop3<Input, A, B, C>, _>(
+            d, mode, input, at, state,
+        ),
     }
 }
 
@@ -194,13 +222,18 @@ impl<Input: Stream, A: Parser<Input>> Parser<Input> for (A,) {
     ghost parts = { λ p. A.parts p.0 };
 
     #[inline(always)]
+    fn drop_state(state: State1<Input, A>) {
+        <Drop1<Input, A> as DropState<_>>::drop_state(state)
+    }
+
+    #[inline(always)]
     fn parse_mode<M: ParseMode>(
         &mut self,
         mode: M,
         input: &mut Input,
         state: &mut Self::PartialState,
     ) -> ParseResult<(A::Output,), Input::Error> {
-        let from = take_state(mode, state);
+        let from = take_state::<_, Drop1<Input, A>, _>(mode, state);
         parse_1(&mut self.0, mode, input, from, state)
     }
 
@@ -239,13 +272,18 @@ impl<Input: Stream, A: Parser<Input>, B: Parser<Input>> Parser<Input> for (A, B)
     ghost parts = { λ p. min (A.parts p.0 + B.parts p.1) 255 };
 
     #[inline(always)]
+    fn drop_state(state: State2<Input, A, B>) {
+        <Drop2<Input, A, B> as DropState<_>>::drop_state(state)
+    }
+
+    #[inline(always)]
     fn parse_mode<M: ParseMode>(
         &mut self,
         mode: M,
         input: &mut Input,
         state: &mut Self::PartialState,
     ) -> ParseResult<(A::Output, B::Output), Input::Error> {
-        let from = take_state(mode, state);
+        let from = take_state::<_, Drop2<Input, A, B>, _>(mode, state);
         parse_2(&mut self.0, &mut self.1, mode, input, from, state)
     }
 
@@ -285,13 +323,18 @@ impl<Input: Stream, A: Parser<Input>, B: Parser<Input>, C: Parser<Input>> Parser
     ghost parts = { λ p. min (A.parts p.0 + B.parts p.1 + C.parts p.2) 255 };
 
     #[inline(always)]
+    fn drop_state(state: State3<Input, A, B, C>) {
+        <Drop3<Input, A, B, C> as DropState<_>>::drop_state(state)
+    }
+
+    #[inline(always)]
     fn parse_mode<M: ParseMode>(
         &mut self,
         mode: M,
         input: &mut Input,
         state: &mut Self::PartialState,
     ) -> ParseResult<(A::Output, B::Output, C::Output), Input::Error> {
-        let from = take_state(mode, state);
+        let from = take_state::<_, Drop3<Input, A, B, C>, _>(mode, state);
         parse_3(
             &mut self.0,
             &mut self.1,
@@ -345,13 +388,18 @@ impl<Input: Stream, A: Parser<Input>, B: Parser<Input>, C: Parser<Input>, D: Par
     ghost parts = { λ p. min (A.parts p.0 + B.parts p.1 + C.parts p.2 + D.parts p.3) 255 };
 
     #[inline(always)]
+    fn drop_state(state: State4<Input, A, B, C, D>) {
+        <Drop4<Input, A, B, C, D> as DropState<_>>::drop_state(state)
+    }
+
+    #[inline(always)]
     fn parse_mode<M: ParseMode>(
         &mut self,
         mode: M,
         input: &mut Input,
         state: &mut Self::PartialState,
     ) -> ParseResult<(A::Output, B::Output, C::Output, D::Output), Input::Error> {
-        let from = take_state(mode, state);
+        let from = take_state::<_, Drop4<Input, A, B, C, D>, _>(mode, state);
         parse_4(
             &mut self.0,
             &mut self.1,

@@ -6,9 +6,9 @@ ghost use Rattle.combine_base.specs.Sequence.Places.{begins, begins_4, begins_va
 ghost use Rattle.combine_base.specs.Sequence.Tuples.{followed, tuple_4, tuple_4_is_meaning};
 
 use crate::error::{ErrorOffset, ParseResult, Tracked};
-use crate::parser::{Outputs, ParseMode, Parser};
-use crate::sequence::part::{Push, parse_rest, resume_last, take_state};
-use crate::sequence::tuple::{State4, add_counts, parse_4};
+use crate::parser::{DropState, Of, Outputs, ParseMode, Parser};
+use crate::sequence::part::{After, Push, parse_rest, resume_last, take_state};
+use crate::sequence::tuple::{Drop4, State4, add_counts, parse_4};
 use crate::sequence::{
     PartialState4, PartialState5, PartialState6, PartialState7, PartialState8, Placed,
     SequencePlace, SequenceState,
@@ -25,7 +25,10 @@ trait Front<Input: Stream> {
 
     type Output: Drop;
 
-    type State: Drop;
+    type State;
+
+    /// How states of the parts are let go.
+    type Dropper: DropState<Self::State>;
 
     ghost lawful: { Self → Type 0 };
 
@@ -76,6 +79,8 @@ impl<Input: Stream, A: Parser<Input>, B: Parser<Input>, C: Parser<Input>, D: Par
 
     type State = State4<Input, A, B, C, D>;
 
+    type Dropper = Drop4<Input, A, B, C, D>;
+
     ghost lawful = { λ p. A.lawful p.0.now × B.lawful p.1.now × C.lawful p.2.now × D.lawful p.3.now };
 
     ghost valid = { valid_4 A.valid B.valid C.valid D.valid };
@@ -116,7 +121,7 @@ fn parse_one_after<
     T: Push<E::Output> + Drop,
     Q: Front<Input, Output = T>,
     E: Parser<Input>,
-    S: Placed<Before = Q::State, Last = SequenceState<T, E::PartialState>> + Drop,
+    S: Placed<Before = Q::State, Last = SequenceState<T, E::PartialState>>,
     M: ParseMode,
 >(
     before: &mut Q,
@@ -138,9 +143,11 @@ fn parse_one_after<
         SequencePlace::Before(at) => {
             let mut kept = Q::begin();
             let answer = before.run(mode, input, at, &mut kept);
-            parse_rest(answer, kept, e, mode, input, state)
+            parse_rest::<_, _, _, _, Q::Dropper, _>(answer, kept, e, mode, input, state)
         }
-        SequencePlace::Last(at) => resume_last(e, mode, input, at, state),
+        SequencePlace::Last(at) => resume_last::<_, _, _, _, Q::Dropper, _>(
+            e, mode, input, at, state,
+        ),
     }
 }
 
@@ -153,8 +160,8 @@ fn parse_two_after<
     Q: Front<Input, Output = T>,
     E: Parser<Input>,
     F: Parser<Input>,
-    N: Placed<Before = Q::State, Last = SequenceState<T, E::PartialState>> + Drop,
-    S: Placed<Before = N, Last = SequenceState<V, F::PartialState>> + Drop,
+    N: Placed<Before = Q::State, Last = SequenceState<T, E::PartialState>>,
+    S: Placed<Before = N, Last = SequenceState<V, F::PartialState>>,
     M: ParseMode,
 >(
     before: &mut Q,
@@ -177,9 +184,13 @@ fn parse_two_after<
         SequencePlace::Before(at) => {
             let mut kept = N::from_place(SequencePlace::Before(Q::begin()));
             let answer = parse_one_after(before, e, mode, input, at, &mut kept);
-            parse_rest(answer, kept, f, mode, input, state)
+            parse_rest::<_, _, _, _, After<Q::Dropper, Of<Input, E>>, _>(
+                answer, kept, f, mode, input, state,
+            )
         }
-        SequencePlace::Last(at) => resume_last(f, mode, input, at, state),
+        SequencePlace::Last(at) => resume_last::<_, _, _, _, After<Q::Dropper, Of<Input, E>>, _>(
+            f, mode, input, at, state,
+        ),
     }
 }
 
@@ -194,9 +205,9 @@ fn parse_three_after<
     E: Parser<Input>,
     F: Parser<Input>,
     G: Parser<Input>,
-    L: Placed<Before = Q::State, Last = SequenceState<T, E::PartialState>> + Drop,
-    N: Placed<Before = L, Last = SequenceState<V, F::PartialState>> + Drop,
-    S: Placed<Before = N, Last = SequenceState<W, G::PartialState>> + Drop,
+    L: Placed<Before = Q::State, Last = SequenceState<T, E::PartialState>>,
+    N: Placed<Before = L, Last = SequenceState<V, F::PartialState>>,
+    S: Placed<Before = N, Last = SequenceState<W, G::PartialState>>,
     M: ParseMode,
 >(
     before: &mut Q,
@@ -222,9 +233,18 @@ fn parse_three_after<
                 Q::begin(),
             ))));
             let answer = parse_two_after(before, e, f, mode, input, at, &mut kept);
-            parse_rest(answer, kept, g, mode, input, state)
+            parse_rest::<_, _, _, _, After<After<Q::Dropper, Of<Input, E>>, Of<Input, F>>, _>(
+                answer, kept, g, mode, input, state,
+            )
         }
-        SequencePlace::Last(at) => resume_last(g, mode, input, at, state),
+        SequencePlace::Last(at) => resume_last::<
+            _,
+            _,
+            _,
+            _,
+            After<After<Q::Dropper, Of<Input, E>>, Of<Input, F>>,
+            _,
+        >(g, mode, input, at, state),
     }
 }
 
@@ -241,10 +261,10 @@ fn parse_four_after<
     F: Parser<Input>,
     G: Parser<Input>,
     H: Parser<Input>,
-    K: Placed<Before = Q::State, Last = SequenceState<T, E::PartialState>> + Drop,
-    L: Placed<Before = K, Last = SequenceState<V, F::PartialState>> + Drop,
-    N: Placed<Before = L, Last = SequenceState<W, G::PartialState>> + Drop,
-    S: Placed<Before = N, Last = SequenceState<Y, H::PartialState>> + Drop,
+    K: Placed<Before = Q::State, Last = SequenceState<T, E::PartialState>>,
+    L: Placed<Before = K, Last = SequenceState<V, F::PartialState>>,
+    N: Placed<Before = L, Last = SequenceState<W, G::PartialState>>,
+    S: Placed<Before = N, Last = SequenceState<Y, H::PartialState>>,
     M: ParseMode,
 >(
     before: &mut Q,
@@ -271,11 +291,28 @@ fn parse_four_after<
                 K::from_place(SequencePlace::Before(Q::begin())),
             ))));
             let answer = parse_three_after(before, e, f, g, mode, input, at, &mut kept);
-            parse_rest(answer, kept, h, mode, input, state)
+            parse_rest::<
+                _,
+                _,
+                _,
+                _,
+                After<After<After<Q::Dropper, Of<Input, E>>, Of<Input, F>>, Of<Input, G>>,
+                _,
+            >(answer, kept, h, mode, input, state)
         }
-        SequencePlace::Last(at) => resume_last(h, mode, input, at, state),
+        SequencePlace::Last(at) => resume_last::<
+            _,
+            _,
+            _,
+            _,
+            After<After<After<Q::Dropper, Of<Input, E>>, Of<Input, F>>, Of<Input, G>>,
+            _,
+        >(h, mode, input, at, state),
     }
 }
+
+/// Lets the states of a tuple of five go.
+pub type Drop5<Input, A, B, C, D, E> = After<Drop4<Input, A, B, C, D>, Of<Input, E>>;
 
 type State5<Input, A, B, C, D, E> = PartialState5<
     SequenceState<(), <A as Parser<Input>>::PartialState>,
@@ -335,13 +372,18 @@ impl<
     ghost parts = { λ p. min (A.parts p.0 + B.parts p.1 + C.parts p.2 + D.parts p.3 + E.parts p.4) 255 };
 
     #[inline(always)]
+    fn drop_state(state: State5<Input, A, B, C, D, E>) {
+        <Drop5<Input, A, B, C, D, E> as DropState<_>>::drop_state(state)
+    }
+
+    #[inline(always)]
     fn parse_mode<M: ParseMode>(
         &mut self,
         mode: M,
         input: &mut Input,
         state: &mut Self::PartialState,
     ) -> ParseResult<Self::Output, Input::Error> {
-        let from = take_state(mode, state);
+        let from = take_state::<_, Drop5<Input, A, B, C, D, E>, _>(mode, state);
         let mut before = (&mut self.0, &mut self.1, &mut self.2, &mut self.3);
         parse_one_after(&mut before, &mut self.4, mode, input, from, state)
     }
@@ -371,6 +413,9 @@ impl<
 
     ghost single = { λ p l d. tuple_5_means_one Input.step (A.single p.0 l.0 d.0) (B.single p.1 l.1 d.1) (C.single p.2 l.2 d.2) (D.single p.3 l.3 d.3) (E.single p.4 l.4 d.4) };
 }
+
+/// Lets the states of a tuple of six go.
+pub type Drop6<Input, A, B, C, D, E, F> = After<Drop5<Input, A, B, C, D, E>, Of<Input, F>>;
 
 type State6<Input, A, B, C, D, E, F> = PartialState6<
     SequenceState<(), <A as Parser<Input>>::PartialState>,
@@ -449,13 +494,18 @@ impl<
     ghost parts = { λ p. min (A.parts p.0 + B.parts p.1 + C.parts p.2 + D.parts p.3 + E.parts p.4 + F.parts p.5) 255 };
 
     #[inline(always)]
+    fn drop_state(state: State6<Input, A, B, C, D, E, F>) {
+        <Drop6<Input, A, B, C, D, E, F> as DropState<_>>::drop_state(state)
+    }
+
+    #[inline(always)]
     fn parse_mode<M: ParseMode>(
         &mut self,
         mode: M,
         input: &mut Input,
         state: &mut Self::PartialState,
     ) -> ParseResult<Self::Output, Input::Error> {
-        let from = take_state(mode, state);
+        let from = take_state::<_, Drop6<Input, A, B, C, D, E, F>, _>(mode, state);
         let mut before = (&mut self.0, &mut self.1, &mut self.2, &mut self.3);
         parse_two_after(
             &mut before,
@@ -496,6 +546,9 @@ impl<
 
     ghost single = { λ p l d. tuple_6_means_one Input.step (A.single p.0 l.0 d.0) (B.single p.1 l.1 d.1) (C.single p.2 l.2 d.2) (D.single p.3 l.3 d.3) (E.single p.4 l.4 d.4) (F.single p.5 l.5 d.5) };
 }
+
+/// Lets the states of a tuple of seven go.
+pub type Drop7<Input, A, B, C, D, E, F, G> = After<Drop6<Input, A, B, C, D, E, F>, Of<Input, G>>;
 
 type State7<Input, A, B, C, D, E, F, G> = PartialState7<
     SequenceState<(), <A as Parser<Input>>::PartialState>,
@@ -588,13 +641,18 @@ impl<
     ghost parts = { λ p. min (A.parts p.0 + B.parts p.1 + C.parts p.2 + D.parts p.3 + E.parts p.4 + F.parts p.5 + G.parts p.6) 255 };
 
     #[inline(always)]
+    fn drop_state(state: State7<Input, A, B, C, D, E, F, G>) {
+        <Drop7<Input, A, B, C, D, E, F, G> as DropState<_>>::drop_state(state)
+    }
+
+    #[inline(always)]
     fn parse_mode<M: ParseMode>(
         &mut self,
         mode: M,
         input: &mut Input,
         state: &mut Self::PartialState,
     ) -> ParseResult<Self::Output, Input::Error> {
-        let from = take_state(mode, state);
+        let from = take_state::<_, Drop7<Input, A, B, C, D, E, F, G>, _>(mode, state);
         let mut before = (&mut self.0, &mut self.1, &mut self.2, &mut self.3);
         parse_three_after(
             &mut before,
@@ -639,6 +697,12 @@ impl<
 
     ghost single = { λ p l d. tuple_7_means_one Input.step (A.single p.0 l.0 d.0) (B.single p.1 l.1 d.1) (C.single p.2 l.2 d.2) (D.single p.3 l.3 d.3) (E.single p.4 l.4 d.4) (F.single p.5 l.5 d.5) (G.single p.6 l.6 d.6) };
 }
+
+/// Lets the states of a tuple of eight go.
+pub type Drop8<Input, A, B, C, D, E, F, G, H> = After<
+    Drop7<Input, A, B, C, D, E, F, G>,
+    Of<Input, H>,
+>;
 
 type State8<Input, A, B, C, D, E, F, G, H> = PartialState8<
     SequenceState<(), <A as Parser<Input>>::PartialState>,
@@ -746,13 +810,18 @@ impl<
     ghost parts = { λ p. min (A.parts p.0 + B.parts p.1 + C.parts p.2 + D.parts p.3 + E.parts p.4 + F.parts p.5 + G.parts p.6 + H.parts p.7) 255 };
 
     #[inline(always)]
+    fn drop_state(state: State8<Input, A, B, C, D, E, F, G, H>) {
+        <Drop8<Input, A, B, C, D, E, F, G, H> as DropState<_>>::drop_state(state)
+    }
+
+    #[inline(always)]
     fn parse_mode<M: ParseMode>(
         &mut self,
         mode: M,
         input: &mut Input,
         state: &mut Self::PartialState,
     ) -> ParseResult<Self::Output, Input::Error> {
-        let from = take_state(mode, state);
+        let from = take_state::<_, Drop8<Input, A, B, C, D, E, F, G, H>, _>(mode, state);
         let mut before = (&mut self.0, &mut self.1, &mut self.2, &mut self.3);
         parse_four_after(
             &mut before,

@@ -1,0 +1,36 @@
+//! How kept states are let go.
+//!
+//! Our own. A bound `Drop` on the state of a parser would do for all of this. But what shows that a composed state is `Drop` is written out whole, state within state, at each parser round it; a call of the parser's own is shown once.
+ghost use Rattle.std.specs.Prelude.{◌≡◌};
+
+use crate::parser::Parser;
+use crate::stream::Stream;
+use std::marker::PhantomData;
+use std::mem::replace;
+
+/// Lets states of a type go.
+pub trait DropState<S> {
+    /// Lets the state go.
+    fn drop_state(state: S);
+}
+
+/// Lets the states of a parser over a stream go.
+pub struct Of<Input, P> {
+    stream: PhantomData<Input>,
+    parser: PhantomData<P>,
+}
+
+impl<Input: Stream, P: Parser<Input>> DropState<P::PartialState> for Of<Input, P> {
+    #[inline(always)]
+    fn drop_state(state: P::PartialState) {
+        P::drop_state(state)
+    }
+}
+
+/// Puts a state into a place, and lets the one go that stood there.
+#[inline(always)]
+pub fn put_state<S, D: DropState<S>>(place: &mut S, state: S)
+    ensures { place.new ≡ state }
+{
+    D::drop_state(replace(place, state));
+}
