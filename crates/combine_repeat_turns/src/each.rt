@@ -36,6 +36,11 @@ impl<Input: Stream, P: Parser<Input>> Turn<Input> for Plain<P> {
     ghost gives = { λ _. Unit {0} };
 
     #[inline(always)]
+    fn drop_running(state: P::PartialState) {
+        P::drop_state(state)
+    }
+
+    #[inline(always)]
     fn parse_turn<M: ParseMode>(
         &mut self,
         later: bool,

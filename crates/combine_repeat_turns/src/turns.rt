@@ -19,13 +19,14 @@ mod entry;
 pub mod limits;
 
 use combine_base::error::{Info, ParseError, ParseResult, Tracked};
-use combine_base::parser::{ParseMode, Parser};
+use combine_base::parser::{DropState, ParseMode, Parser, put_state};
 use combine_base::refusal::refusal_saying;
 use combine_base::sequence::{accepted_after, refused_after};
 use combine_base::stream::{Kind, Stream, has_taken, needs_more};
 use entry::{Afresh, Entry, Resumed};
 use limits::{Bounded, JoinedFrom, is_enough};
 use std::alloc::AllocError;
+use std::marker::PhantomData;
 use std::mem;
 
 /// What runs in a turn: the first one, or any later one, which may differ.
@@ -40,8 +41,8 @@ pub trait Turn<Input: Stream> {
     /// What a turn gives.
     type Value: Drop;
 
-    /// What is kept of a running turn.
-    type Running: Default + Drop;
+    /// What is kept of a running turn. It is let go by `drop_running`, and need not be `Drop`.
+    type Running: Default;
 
     ghost lawful: { Self → Type 0 };
 
@@ -60,6 +61,9 @@ pub trait Turn<Input: Stream> {
 
     /// What holds of each value that a turn gives.
     ghost gives: { Self.Value → Type 0 };
+
+    /// Lets what is kept of a turn go.
+    fn drop_running(state: Self::Running);
 
     fn parse_turn<M: ParseMode>(
         &mut self,
@@ -98,6 +102,19 @@ pub trait Turn<Input: Stream> {
     ghost once: { (p : Self) → lawful p → determined p → TurnsOnce valid ending (meaning p) (again p) };
 
     ghost gives_only: { (p : Self) → lawful p → TurnsGive valid (meaning p) (again p) gives };
+}
+
+/// Lets what is kept of turns over a stream go.
+pub struct RunningOf<Input, P> {
+    stream: PhantomData<Input>,
+    turn: PhantomData<P>,
+}
+
+impl<Input: Stream, P: Turn<Input>> DropState<P::Running> for RunningOf<Input, P> {
+    #[inline(always)]
+    fn drop_state(state: P::Running) {
+        P::drop_running(state)
+    }
 }
 
 /// How what turns give is gathered.
@@ -322,17 +339,33 @@ impl<F, S: Default> Default for TurnsState<F, S> {
     }
 }
 
-impl<F: Drop, S: Default + Drop> TurnsState<F, S> {
+/// Lets the states of a repetition go, by how that of a turn is.
+pub struct TurnsOf<D> {
+    turn: PhantomData<D>,
+}
+
+impl<F: Drop, S, D: DropState<S>> DropState<TurnsState<F, S>> for TurnsOf<D> {
+    #[inline(always)]
+    fn drop_state(state: TurnsState<F, S>) {
+        let TurnsState {
+            earlier: _,
+            running,
+        } = state;
+        D::drop_state(running)
+    }
+}
+
+impl<F: Drop, S: Default> TurnsState<F, S> {
     /// Hands out the turns that are kept, if the call resumes. Else there are none, and the state of the turn that runs is a default one.
     #[inline(always)]
-    fn hand_out(&mut self, first: bool) -> Earlier<F>
+    fn hand_out<D: DropState<S>>(&mut self, first: bool) -> Earlier<F>
         ensures resumed { first ≡ false → (result ≡ self.old.earlier) × (self.new.running ≡ self.old.running) }
         ensures afresh { first ≡ true → (result ≡ Earlier.Nothing) × S.is_default self.new.running }
         ensures left { self.new.earlier ≡ Earlier.Nothing }
     {
         let earlier = mem::replace(&mut self.earlier, Earlier::Nothing);
         if first {
-            self.running = S::default();
+            put_state::<S, D>(&mut self.running, S::default());
             return Earlier::Nothing;
         }
         earlier
@@ -340,13 +373,13 @@ impl<F: Drop, S: Default + Drop> TurnsState<F, S> {
 
     /// The turns that are kept, if the call resumes and there are any; else those of the start.
     #[inline(always)]
-    fn begin(&mut self, first: bool, start: Turns<F>) -> Turns<F>
+    fn begin<D: DropState<S>>(&mut self, first: bool, start: Turns<F>) -> Turns<F>
         ensures turns { result ≡ (if first then start else kept_or start self.old.earlier) }
         ensures resumed { first ≡ false → self.new.running ≡ self.old.running }
         ensures afresh { first ≡ true → S.is_default self.new.running }
         ensures left { self.new.earlier ≡ Earlier.Nothing }
     {
-        match self.hand_out(first) {
+        match self.hand_out::<D>(first) {
             Earlier::Turns(turns) => turns,
             Earlier::Nothing => start,
         }
@@ -575,10 +608,7 @@ fn first_turn<G: Gather<P::Value>, Input: Stream, P: Turn<Input>, M: ParseMode>(
 
 /// What turns answer that stop so; on need of more they are kept.
 #[inline(always)]
-fn stopped<F: Drop, S: Drop, E: Drop>(
-    why: Stop<F, E>,
-    state: &mut TurnsState<F, S>,
-) -> ParseResult<F, E>
+fn stopped<F: Drop, S, E: Drop>(why: Stop<F, E>, state: &mut TurnsState<F, S>) -> ParseResult<F, E>
     ensures answer { result ≡ stopped_answer why }
     ensures state { state.new ≡ stopped_state why state.old }
 {
@@ -615,11 +645,11 @@ pub fn take_turns<G: Gather<P::Value>, Input: Stream, P: Turn<Input>, M: ParseMo
         (record { first = M.first mode; state = state.old; left = state.new; old = Input.view input.old; new = Input.view input.new; before = Input.failures input.old; after = Input.failures input.new })
         result }
 {
-    let mut turns = state.begin(mode.is_first(), start);
+    let mut turns = state.begin::<RunningOf<Input, P>>(mode.is_first(), start);
     let mut later = false;
     if !mode.is_first() {
         if bounds.is_full(turns.place) {
-            state.running = P::Running::default();
+            put_state::<_, RunningOf<Input, P>>(&mut state.running, P::Running::default());
             return turns.end();
         }
         match one_turn::<G, Input, P, B, Resumed<M>>(
@@ -684,7 +714,7 @@ pub fn take_joined<G: Gather<P::Value>, Input: Stream, P: Turn<Input>, M: ParseM
 {
     let bounds = JoinedFrom { least: 1 };
     let mut turns: Turns<G::Into>;
-    let given = state.hand_out(mode.is_first());
+    let given = state.hand_out::<RunningOf<Input, P>>(mode.is_first());
     match given {
         Earlier::Turns(kept) => {
             match one_turn::<G, Input, P, JoinedFrom, Resumed<M>>(

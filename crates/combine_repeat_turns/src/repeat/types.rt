@@ -7,9 +7,9 @@ ghost use Rattle.combine_repeat_turns.specs.CountLaws.{repeated_is_meaning, repe
 
 use crate::each::{Dropped, Each, Plain};
 use crate::turns::limits::Between;
-use crate::turns::{Turns, TurnsState, take_turns};
+use crate::turns::{Turns, TurnsOf, TurnsState, take_turns};
 use combine_base::error::{ErrorOffset, ParseResult, Tracked};
-use combine_base::parser::{Outputs, ParseMode, Parser};
+use combine_base::parser::{DropState, Of, Outputs, ParseMode, Parser, put_state};
 use combine_base::repeat::Append;
 use combine_base::stream::{Kind, Positioned, Stream, StreamOnce};
 use std::alloc::{AllocError, Global};
@@ -43,14 +43,14 @@ fn room_for<A, F: Append<A>>(alloc: Global, begins: bool, values: usize) -> Resu
 
 /// Answers that no memory was found before anything was read, and leaves a default state.
 #[cold]
-fn without_room<O, Input: Stream, S: Default + Drop>(
+fn without_room<O, Input: Stream, S: Default, D: DropState<S>>(
     input: &Input,
     state: &mut S,
 ) -> ParseResult<O, Input::Error>
     ensures error { (e : Input.Error) × (result ≡ ParseResult.CommitErr e) × (Input.Error.seen.kind e ≡ Kind.Memory) }
     ensures fresh { S.is_default state.new }
 {
-    *state = S::default();
+    put_state::<S, D>(state, S::default());
     ParseResult::CommitErr(input.new_error(Kind::Memory, input.position()))
 }
 
@@ -81,6 +81,11 @@ impl<Input: Stream, P: Parser<Input>, F: Append<P::Output>> Parser<Input> for Co
     ghost single = { λ p l d. repeated_means_one Input.step (Counted (least_of_count_min_max p) (most_of_count_min_max p)) (appended F.held F.none F.more F.lean) P.valid (P.meaning (repeated_by_count_min_max p)) (P.single (repeated_by_count_min_max p) l d) };
 
     #[inline(always)]
+    fn drop_state(state: TurnsState<F, P::PartialState>) {
+        <TurnsOf<Of<Input, P>> as DropState<_>>::drop_state(state)
+    }
+
+    #[inline(always)]
     fn parse_mode<M: ParseMode>(
         &mut self,
         mode: M,
@@ -88,7 +93,7 @@ impl<Input: Stream, P: Parser<Input>, F: Append<P::Output>> Parser<Input> for Co
         state: &mut Self::PartialState,
     ) -> ParseResult<F, Input::Error> {
         let Ok(empty) = room_for(self.alloc, mode.is_first(), self.least) else {
-            return without_room(input, state);
+            return without_room::<_, _, _, TurnsOf<Of<Input, P>>>(input, state);
         };
         let start = Turns::none_yet(empty);
         let bounds = Between {
@@ -151,6 +156,11 @@ impl<Input: Stream, P: Parser<Input>> Parser<Input> for SkipCountMinMax<P> {
     ghost laws = { λ p l. repeated_is_meaning Input.step (Counted (least_of_skip_count_min_max p) (most_of_skip_count_min_max p)) dropped P.PartialState.is_default P.valid (P.meaning (repeated_by_skip_count_min_max p)) (P.laws (repeated_by_skip_count_min_max p) l) };
 
     ghost single = { λ p l d. repeated_means_one Input.step (Counted (least_of_skip_count_min_max p) (most_of_skip_count_min_max p)) dropped P.valid (P.meaning (repeated_by_skip_count_min_max p)) (P.single (repeated_by_skip_count_min_max p) l d) };
+
+    #[inline(always)]
+    fn drop_state(state: TurnsState<(), P::PartialState>) {
+        <TurnsOf<Of<Input, P>> as DropState<_>>::drop_state(state)
+    }
 
     #[inline(always)]
     fn parse_mode<M: ParseMode>(
@@ -223,6 +233,11 @@ impl<Input: Stream, P: Parser<Input>, F: Append<P::Output>> Parser<Input> for Co
     ghost single = { λ p l d. repeated_means_one Input.step (Counted 0 (most_of_count p)) (appended F.held F.none F.more F.lean) P.valid (P.meaning (repeated_by_count p)) (P.single (repeated_by_count p) l d) };
 
     #[inline(always)]
+    fn drop_state(state: TurnsState<F, P::PartialState>) {
+        <TurnsOf<Of<Input, P>> as DropState<_>>::drop_state(state)
+    }
+
+    #[inline(always)]
     fn parse_mode<M: ParseMode>(
         &mut self,
         mode: M,
@@ -289,6 +304,11 @@ impl<Input: Stream, P: Parser<Input>> Parser<Input> for SkipCount<P> {
     ghost laws = { λ p l. repeated_is_meaning Input.step (Counted 0 (most_of_skip_count p)) dropped P.PartialState.is_default P.valid (P.meaning (repeated_by_skip_count p)) (P.laws (repeated_by_skip_count p) l) };
 
     ghost single = { λ p l d. repeated_means_one Input.step (Counted 0 (most_of_skip_count p)) dropped P.valid (P.meaning (repeated_by_skip_count p)) (P.single (repeated_by_skip_count p) l d) };
+
+    #[inline(always)]
+    fn drop_state(state: TurnsState<(), P::PartialState>) {
+        <TurnsOf<Of<Input, P>> as DropState<_>>::drop_state(state)
+    }
 
     #[inline(always)]
     fn parse_mode<M: ParseMode>(

@@ -1,9 +1,9 @@
 //! How a turn is called: a type each, so that it is known where the turn is compiled.
 ghost use Rattle.std.specs.Prelude.{true, false};
 
-use crate::turns::Turn;
+use crate::turns::{RunningOf, Turn};
 use combine_base::error::ParseResult;
-use combine_base::parser::{FirstMode, ParseMode};
+use combine_base::parser::{FirstMode, ParseMode, put_state};
 use combine_base::stream::{Stream, needs_more};
 
 /// How a turn is called.
@@ -62,9 +62,11 @@ impl Entry for Afresh {
         let answer = parser.parse_turn(later, FirstMode, input, &mut own);
         if let ParseResult::CommitErr(error) = &answer {
             if needs_more(input, error) {
-                *state = own;
+                put_state::<_, RunningOf<Input, P>>(state, own);
+                return answer;
             }
         }
+        P::drop_running(own);
         answer
     }
 }

@@ -8,7 +8,7 @@ use Rattle.combine_repeat_turns.proofs.turns.take_turns.Goals.{then-not-is_first
 pub returns-then-is_full-clause-answers : goal.returns-then-is_full-clause-answers
 returns-then-is_full-clause-answers g c =
     let z = comes_first _ _ _ _ _ _ _ _ _ _ _ _ _ _ refl (rw c.is_first.ensures at c.begin-turns.ensures.turns) (rw c.is_first.ensures at c.begin-turns.ensures.resumed) in
-    comes_full _ _ _ _ _ (g.P.Turn.meaning c.args.parser.now) (g.P.Turn.again c.args.parser.now) _ false _ _ _ z (sym c.is_full.ensures ∙ c.if-is_full.true) (c.begin-turns.ensures.left, c.default.ensures) _ c.end.ensures
+    comes_full _ _ _ _ _ (g.P.Turn.meaning c.args.parser.now) (g.P.Turn.again c.args.parser.now) _ false _ _ _ z (sym c.is_full.ensures ∙ c.if-is_full.true) (c.begin-turns.ensures.left, rw c.put_state.ensures c.default.ensures) _ c.end.ensures
 
 pub returns-in-Stops-clause-answers : goal.returns-in-Stops-clause-answers
 returns-in-Stops-clause-answers g c =
