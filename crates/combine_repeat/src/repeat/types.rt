@@ -6,12 +6,12 @@ ghost use Rattle.combine_repeat_turns.specs.CountLaws.{repeated_is_meaning, repe
 ghost use Rattle.combine_repeat_turns.specs.Counts.{appended, dropped};
 
 use combine_base::error::{ErrorOffset, ParseResult, Tracked};
-use combine_base::parser::{Outputs, ParseMode, Parser};
+use combine_base::parser::{DropState, Of, Outputs, ParseMode, Parser};
 use combine_base::repeat::Append;
 use combine_base::stream::Stream;
 use combine_repeat_turns::each::{Dropped, Each, Plain};
 use combine_repeat_turns::turns::limits::{AnyNumber, JoinedFrom};
-use combine_repeat_turns::turns::{Turns, TurnsState, take_turns};
+use combine_repeat_turns::turns::{Turns, TurnsOf, TurnsState, take_turns};
 use std::alloc::Global;
 use std::marker::PhantomData;
 
@@ -48,6 +48,11 @@ impl<Input: Stream, P: Parser<Input>, F: Append<P::Output>> Parser<Input> for Ma
     ghost laws = { λ p l. repeated_is_meaning Input.step Any (appended F.held F.none F.more F.lean) P.PartialState.is_default P.valid (P.meaning (repeated_by_many p)) (P.laws (repeated_by_many p) l) };
 
     ghost single = { λ p l d. repeated_means_one Input.step Any (appended F.held F.none F.more F.lean) P.valid (P.meaning (repeated_by_many p)) (P.single (repeated_by_many p) l d) };
+
+    #[inline(always)]
+    fn drop_state(state: TurnsState<F, P::PartialState>) {
+        <TurnsOf<Of<Input, P>> as DropState<_>>::drop_state(state)
+    }
 
     #[inline(always)]
     fn parse_mode<M: ParseMode>(
@@ -117,6 +122,11 @@ impl<Input: Stream, P: Parser<Input>, F: Append<P::Output>> Parser<Input> for Ma
     ghost single = { λ p l d. repeated_means_one Input.step (Joined 1 None) (appended F.held F.none F.more F.lean) P.valid (P.meaning (repeated_by_many1 p)) (P.single (repeated_by_many1 p) l d) };
 
     #[inline(always)]
+    fn drop_state(state: TurnsState<F, P::PartialState>) {
+        <TurnsOf<Of<Input, P>> as DropState<_>>::drop_state(state)
+    }
+
+    #[inline(always)]
     fn parse_mode<M: ParseMode>(
         &mut self,
         mode: M,
@@ -178,6 +188,11 @@ impl<Input: Stream, P: Parser<Input>> Parser<Input> for SkipMany<P> {
     ghost single = { λ p l d. repeated_means_one Input.step Any dropped P.valid (P.meaning (repeated_by_skip_many p)) (P.single (repeated_by_skip_many p) l d) };
 
     #[inline(always)]
+    fn drop_state(state: TurnsState<(), P::PartialState>) {
+        <TurnsOf<Of<Input, P>> as DropState<_>>::drop_state(state)
+    }
+
+    #[inline(always)]
     fn parse_mode<M: ParseMode>(
         &mut self,
         mode: M,
@@ -231,6 +246,11 @@ impl<Input: Stream, P: Parser<Input>> Parser<Input> for SkipMany1<P> {
     ghost laws = { λ p l. repeated_is_meaning Input.step (Joined 1 None) dropped P.PartialState.is_default P.valid (P.meaning (repeated_by_skip_many1 p)) (P.laws (repeated_by_skip_many1 p) l) };
 
     ghost single = { λ p l d. repeated_means_one Input.step (Joined 1 None) dropped P.valid (P.meaning (repeated_by_skip_many1 p)) (P.single (repeated_by_skip_many1 p) l d) };
+
+    #[inline(always)]
+    fn drop_state(state: TurnsState<(), P::PartialState>) {
+        <TurnsOf<Of<Input, P>> as DropState<_>>::drop_state(state)
+    }
 
     #[inline(always)]
     fn parse_mode<M: ParseMode>(
