@@ -8,9 +8,10 @@ ghost use Rattle.combine_base.specs.Sequence.Parts.{CalledLast, CalledRest};
 ghost use Rattle.combine_repeat_sep.specs.Pair.{LedBy, pair_begins, pair_place, pair_valid, put_to};
 
 use combine_base::error::ParseResult;
-use combine_base::parser::{Calls, Outputs, ParseMode, Parser};
+use combine_base::parser::{Calls, DropState, Of, Outputs, ParseMode, Parser, put_state};
 use combine_base::sequence::{accepted_after, refused_after};
 use combine_base::stream::{Stream, needs_more};
+use std::marker::PhantomData;
 
 /// What is kept of a separator and a part while one of them runs: the state of the separator, or what it gave, whether that was committed, and the state of the part.
 #[derive(Drop)]
@@ -25,6 +26,23 @@ impl<O, W: Default, U> Default for PairState<O, W, U> {
     #[inline]
     fn default() -> Self {
         PairState::Separator(W::default())
+    }
+}
+
+/// Lets the states of a separator and a part go, by how those of the two are.
+pub struct PairOf<D, E> {
+    separator: PhantomData<D>,
+    part: PhantomData<E>,
+}
+
+impl<O: Drop, W, U, D: DropState<W>, E: DropState<U>> DropState<PairState<O, W, U>>
+    for PairOf<D, E> {
+    #[inline(always)]
+    fn drop_state(state: PairState<O, W, U>) {
+        match state {
+            PairState::Separator(kept) => D::drop_state(kept),
+            PairState::Part(_value, _committed, kept) => E::drop_state(kept),
+        }
     }
 }
 
@@ -58,17 +76,19 @@ pub fn parse_pair<Input: Stream, S: Parser<Input>, P: Parser<Input>, M: ParseMod
         PairState::Separator(kept) => {
             let mut kept = kept;
             let answer = separator.parse_mode(mode, input, &mut kept);
-            parse_rest(answer, kept, part, mode, input, state)
+            parse_rest::<_, _, _, Of<Input, S>, _, _>(answer, kept, part, mode, input, state)
         }
         PairState::Part(value, committed, kept) => {
-            resume_part(value, committed, kept, part, mode, input, state)
+            resume_part::<_, _, _, Of<Input, S>, _, _>(
+                value, committed, kept, part, mode, input, state,
+            )
         }
     }
 }
 
 /// Goes on with the part, from its start, where the separator has accepted. `kept` is the state that it left.
 #[inline(always)]
-fn parse_rest<Input: Stream, O: Drop, W: Drop, P: Parser<Input>, M: ParseMode>(
+fn parse_rest<Input: Stream, O: Drop, W, D: DropState<W>, P: Parser<Input>, M: ParseMode>(
     answer: ParseResult<O, Input::Error>,
     kept: W,
     part: &mut P,
@@ -83,22 +103,22 @@ fn parse_rest<Input: Stream, O: Drop, W: Drop, P: Parser<Input>, M: ParseMode>(
         ParseResult::CommitOk(value) => (value, true),
         ParseResult::PeekOk(value) => (value, false),
         ParseResult::CommitErr(error) => {
-            *state = PairState::Separator(kept);
+            put_state::<_, PairOf<D, Of<Input, P>>>(state, PairState::Separator(kept));
             return ParseResult::CommitErr(error);
         }
         ParseResult::PeekErr(refusal) => {
-            drop(kept);
+            D::drop_state(kept);
             return ParseResult::PeekErr(refusal);
         }
     };
-    drop(kept);
+    D::drop_state(kept);
     let kept = P::PartialState::default();
-    parse_part(value, committed, kept, part, mode, input, state)
+    parse_part::<_, _, _, D, _, _>(value, committed, kept, part, mode, input, state)
 }
 
 /// Runs the part, from what is kept of it, where the separator gave a value. A peeked refusal is put back to where the part began, and explained by it. Need of more is kept in `state`, which every other answer leaves as it was.
 #[inline(always)]
-fn parse_part<Input: Stream, O: Drop, W: Drop, P: Parser<Input>, M: ParseMode>(
+fn parse_part<Input: Stream, O: Drop, W, D: DropState<W>, P: Parser<Input>, M: ParseMode>(
     value: O,
     committed: bool,
     kept: P::PartialState,
@@ -113,21 +133,32 @@ fn parse_part<Input: Stream, O: Drop, W: Drop, P: Parser<Input>, M: ParseMode>(
 {
     let mut kept = kept;
     match part.parse_explained(mode, input, &mut kept) {
-        ParseResult::CommitOk(last) => ParseResult::CommitOk((value, last)),
-        ParseResult::PeekOk(last) => accepted_after(committed, (value, last)),
+        ParseResult::CommitOk(last) => {
+            P::drop_state(kept);
+            ParseResult::CommitOk((value, last))
+        }
+        ParseResult::PeekOk(last) => {
+            P::drop_state(kept);
+            accepted_after(committed, (value, last))
+        }
         ParseResult::CommitErr(error) => {
             if needs_more(input, &error) {
-                *state = PairState::Part(value, committed, kept);
+                let at = PairState::Part(value, committed, kept);
+                put_state::<_, PairOf<D, Of<Input, P>>>(state, at);
                 return ParseResult::CommitErr(error);
             }
+            P::drop_state(kept);
             ParseResult::CommitErr(error)
         }
-        ParseResult::PeekErr(refusal) => refused_after(committed, refusal),
+        ParseResult::PeekErr(refusal) => {
+            P::drop_state(kept);
+            refused_after(committed, refusal)
+        }
     }
 }
 
 /// As `parse_part`, for a call that resumes: apart from the code of calls that begin afresh, which holds each part once.
-fn resume_part<Input: Stream, O: Drop, W: Drop, P: Parser<Input>, M: ParseMode>(
+fn resume_part<Input: Stream, O: Drop, W, D: DropState<W>, P: Parser<Input>, M: ParseMode>(
     value: O,
     committed: bool,
     kept: P::PartialState,
@@ -140,5 +171,5 @@ fn resume_part<Input: Stream, O: Drop, W: Drop, P: Parser<Input>, M: ParseMode>(
     requires starts { M.first mode ≡ true → P.PartialState.is_default kept }
     ensures { CalledLast P.Parser Input.StreamOnce Input.Error.seen P.PartialState.is_default (λ z. z ≡ state.old) pair_place put_to part.old part.new input.old input.new (record { value = value; committed = committed; state = kept }) state.new result }
 {
-    parse_part(value, committed, kept, part, mode, input, state)
+    parse_part::<_, _, _, D, _, _>(value, committed, kept, part, mode, input, state)
 }

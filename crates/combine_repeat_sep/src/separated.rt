@@ -9,9 +9,9 @@ ghost use Rattle.combine_repeat_sep.specs.Leads.{separated_gives};
 ghost use Rattle.combine_repeat_sep.specs.Placed.{Ran};
 ghost use Rattle.combine_repeat_sep.specs.Separated.{first_element, first_then, later_kept, later_turn, lead_good, part_of, separated_default, separated_fresh, separated_valid, separator_of, then_element, then_is_turn, then_once, turn_place};
 
-use crate::pair::{PairState, PairStateOf, parse_pair};
+use crate::pair::{PairOf, PairState, PairStateOf, parse_pair};
 use combine_base::error::{ParseResult, Tracked};
-use combine_base::parser::{FirstMode, ParseMode, Parser};
+use combine_base::parser::{DropState, FirstMode, Of, ParseMode, Parser, put_state};
 use combine_base::stream::{Stream, needs_more};
 use combine_repeat_turns::turns::Turn;
 use std::marker::PhantomData;
@@ -53,6 +53,23 @@ impl<O, W, U: Default> Default for SeparatedState<O, W, U> {
     #[inline]
     fn default() -> Self {
         SeparatedState::Part(Lead::Nothing, U::default())
+    }
+}
+
+/// Lets the states of a running turn go, by how those of the separator and the part are.
+pub struct SeparatedOf<D, E> {
+    separator: PhantomData<D>,
+    part: PhantomData<E>,
+}
+
+impl<O: Drop, W, U, D: DropState<W>, E: DropState<U>> DropState<SeparatedState<O, W, U>>
+    for SeparatedOf<D, E> {
+    #[inline(always)]
+    fn drop_state(state: SeparatedState<O, W, U>) {
+        match state {
+            SeparatedState::Separator(kept) => D::drop_state(kept),
+            SeparatedState::Part(_lead, kept) => E::drop_state(kept),
+        }
     }
 }
 
@@ -143,7 +160,7 @@ pub struct Separated<P, S, L> {
 
 /// Runs the first part, from what is kept of it.
 #[inline(always)]
-fn run_first<Input: Stream, P: Parser<Input>, O: Drop, W: Drop, M: ParseMode>(
+fn run_first<Input: Stream, P: Parser<Input>, O: Drop, W, D: DropState<W>, M: ParseMode>(
     parser: &mut P,
     mode: M,
     kept: P::PartialState,
@@ -160,16 +177,27 @@ fn run_first<Input: Stream, P: Parser<Input>, O: Drop, W: Drop, M: ParseMode>(
 {
     let mut kept = kept;
     match parser.parse_mode(mode, input, &mut kept) {
-        ParseResult::CommitOk(value) => ParseResult::CommitOk(Element::First(value)),
-        ParseResult::PeekOk(value) => ParseResult::PeekOk(Element::First(value)),
+        ParseResult::CommitOk(value) => {
+            P::drop_state(kept);
+            ParseResult::CommitOk(Element::First(value))
+        }
+        ParseResult::PeekOk(value) => {
+            P::drop_state(kept);
+            ParseResult::PeekOk(Element::First(value))
+        }
         ParseResult::CommitErr(error) => {
             if needs_more(input, &error) {
-                *state = SeparatedState::Part(Lead::Nothing, kept);
+                let at = SeparatedState::Part(Lead::Nothing, kept);
+                put_state::<_, SeparatedOf<D, Of<Input, P>>>(state, at);
                 return ParseResult::CommitErr(error);
             }
+            P::drop_state(kept);
             ParseResult::CommitErr(error)
         }
-        ParseResult::PeekErr(refusal) => ParseResult::PeekErr(refusal),
+        ParseResult::PeekErr(refusal) => {
+            P::drop_state(kept);
+            ParseResult::PeekErr(refusal)
+        }
     }
 }
 
@@ -196,21 +224,28 @@ fn run_later<Input: Stream, P: Parser<Input>, S: Parser<Input>, M: ParseMode>(
     let mut left = PairState::default();
     match parse_pair(separator, parser, mode, input, kept, &mut left) {
         ParseResult::CommitOk(pair) => {
+            <PairOf<Of<Input, S>, Of<Input, P>> as DropState<_>>::drop_state(left);
             let (separator, value) = pair;
             ParseResult::CommitOk(Element::Then(separator, value))
         }
         ParseResult::PeekOk(pair) => {
+            <PairOf<Of<Input, S>, Of<Input, P>> as DropState<_>>::drop_state(left);
             let (separator, value) = pair;
             ParseResult::PeekOk(Element::Then(separator, value))
         }
         ParseResult::CommitErr(error) => {
             if needs_more(input, &error) {
-                *state = SeparatedState::later(left);
+                let at = SeparatedState::later(left);
+                put_state::<_, SeparatedOf<Of<Input, S>, Of<Input, P>>>(state, at);
                 return ParseResult::CommitErr(error);
             }
+            <PairOf<Of<Input, S>, Of<Input, P>> as DropState<_>>::drop_state(left);
             ParseResult::CommitErr(error)
         }
-        ParseResult::PeekErr(refusal) => ParseResult::PeekErr(refusal),
+        ParseResult::PeekErr(refusal) => {
+            <PairOf<Of<Input, S>, Of<Input, P>> as DropState<_>>::drop_state(left);
+            ParseResult::PeekErr(refusal)
+        }
     }
 }
 
@@ -235,6 +270,11 @@ impl<Input: Stream, P: Parser<Input>, S: Parser<Input>, L: Leads<S::Output, P::O
     ghost gives = { lead_good L.good };
 
     #[inline(always)]
+    fn drop_running(state: SeparatedState<S::Output, S::PartialState, P::PartialState>) {
+        <SeparatedOf<Of<Input, S>, Of<Input, P>> as DropState<_>>::drop_state(state)
+    }
+
+    #[inline(always)]
     fn parse_turn<M: ParseMode>(
         &mut self,
         later: bool,
@@ -244,6 +284,7 @@ impl<Input: Stream, P: Parser<Input>, S: Parser<Input>, L: Leads<S::Output, P::O
     ) -> ParseResult<Self::Value, Input::Error> {
         let given = mem::take(state);
         if mode.is_first() {
+            <SeparatedOf<Of<Input, S>, Of<Input, P>> as DropState<_>>::drop_state(given);
             if later {
                 let kept = PairState::default();
                 return run_later(
@@ -256,10 +297,22 @@ impl<Input: Stream, P: Parser<Input>, S: Parser<Input>, L: Leads<S::Output, P::O
                 );
             }
             let kept = P::PartialState::default();
-            return run_first(&mut self.parser, FirstMode, kept, input, state);
+            return run_first::<_, _, _, _, Of<Input, S>, _>(
+                &mut self.parser,
+                FirstMode,
+                kept,
+                input,
+                state,
+            );
         }
         match given.into_place() {
-            TurnPlace::First(kept) => run_first(&mut self.parser, mode, kept, input, state),
+            TurnPlace::First(kept) => run_first::<_, _, _, _, Of<Input, S>, _>(
+                &mut self.parser,
+                mode,
+                kept,
+                input,
+                state,
+            ),
             TurnPlace::Later(kept) => run_later(
                 &mut self.separator,
                 &mut self.parser,

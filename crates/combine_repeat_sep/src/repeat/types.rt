@@ -10,13 +10,13 @@ ghost use Rattle.combine_repeat_sep.specs.JoinedLaws.{joined_is_meaning, joined_
 ghost use Rattle.combine_repeat_sep.specs.Separated.{any_lead, separated_default, separated_fresh, separated_valid};
 
 use crate::elements::{EachElement, Folded};
-use crate::separated::{Anything, Folds, Operator, Separated, SeparatedState};
+use crate::separated::{Anything, Folds, Operator, Separated, SeparatedOf, SeparatedState};
 use combine_base::error::{ErrorOffset, ParseResult, Tracked};
-use combine_base::parser::{Outputs, ParseMode, Parser};
+use combine_base::parser::{DropState, Of, Outputs, ParseMode, Parser};
 use combine_base::repeat::Append;
 use combine_base::stream::Stream;
 use combine_repeat_turns::turns::limits::{JoinedBetween, JoinedFrom};
-use combine_repeat_turns::turns::{Turns, TurnsState, take_joined, take_turns};
+use combine_repeat_turns::turns::{Turns, TurnsOf, TurnsState, take_joined, take_turns};
 use std::alloc::Global;
 use std::marker::PhantomData;
 
@@ -56,6 +56,13 @@ impl<Input: Stream, P: Parser<Input>, S: Parser<Input>, F: Append<P::Output>> Pa
     ghost laws = { λ p l. joined_is_meaning Input.step (Joined (least_of p) (Some (most_of p))) (elements (appended F.held F.none F.more F.lean)) any_lead P.PartialState.is_default P.valid S.PartialState.is_default S.valid (P.meaning (counted_part p)) (S.meaning (counted_separator p)) (P.laws (counted_part p) l.1) (S.laws (counted_separator p) l.0) };
 
     ghost single = { λ p l d. joined_means_one Input.step (Joined (least_of p) (Some (most_of p))) (elements (appended F.held F.none F.more F.lean)) any_lead P.valid S.valid (P.meaning (counted_part p)) (S.meaning (counted_separator p)) (P.single (counted_part p) l.1 d.1) (S.single (counted_separator p) l.0 d.0) };
+
+    #[inline(always)]
+    fn drop_state(
+        state: TurnsState<F, SeparatedState<S::Output, S::PartialState, P::PartialState>>,
+    ) {
+        <TurnsOf<SeparatedOf<Of<Input, S>, Of<Input, P>>> as DropState<_>>::drop_state(state)
+    }
 
     #[inline(always)]
     fn parse_mode<M: ParseMode>(
@@ -129,6 +136,13 @@ impl<Input: Stream, P: Parser<Input>, S: Parser<Input>, F: Append<P::Output>> Pa
     ghost single = { λ p l d. joined_means_one Input.step (Joined 0 None) (elements (appended F.held F.none F.more F.lean)) any_lead P.valid S.valid (P.meaning (separated_part p)) (S.meaning (separated_separator p)) (P.single (separated_part p) l.1 d.1) (S.single (separated_separator p) l.0 d.0) };
 
     #[inline(always)]
+    fn drop_state(
+        state: TurnsState<F, SeparatedState<S::Output, S::PartialState, P::PartialState>>,
+    ) {
+        <TurnsOf<SeparatedOf<Of<Input, S>, Of<Input, P>>> as DropState<_>>::drop_state(state)
+    }
+
+    #[inline(always)]
     fn parse_mode<M: ParseMode>(
         &mut self,
         mode: M,
@@ -197,6 +211,13 @@ impl<Input: Stream, P: Parser<Input>, S: Parser<Input>, F: Append<P::Output>> Pa
     ghost single = { λ p l d. joined_means_one Input.step (Joined 1 None) (elements (appended F.held F.none F.more F.lean)) any_lead P.valid S.valid (P.meaning (separated1_part p)) (S.meaning (separated1_separator p)) (P.single (separated1_part p) l.1 d.1) (S.single (separated1_separator p) l.0 d.0) };
 
     #[inline(always)]
+    fn drop_state(
+        state: TurnsState<F, SeparatedState<S::Output, S::PartialState, P::PartialState>>,
+    ) {
+        <TurnsOf<SeparatedOf<Of<Input, S>, Of<Input, P>>> as DropState<_>>::drop_state(state)
+    }
+
+    #[inline(always)]
     fn parse_mode<M: ParseMode>(
         &mut self,
         mode: M,
@@ -263,6 +284,13 @@ where
     ghost laws = { λ p l. joined_is_meaning Input.step (Joined 1 None) (folded (λ f x y r. S.Output.answers f x y r)) (λ f. S.Output.callable f) P.PartialState.is_default P.valid S.PartialState.is_default S.valid (P.meaning (chained_part p)) (S.meaning (chained_operator p)) (P.laws (chained_part p) l.2) (S.laws (chained_operator p) l.1) };
 
     ghost single = { λ p l d. joined_means_one Input.step (Joined 1 None) (folded (λ f x y r. S.Output.answers f x y r)) (λ f. S.Output.callable f) P.valid S.valid (P.meaning (chained_part p)) (S.meaning (chained_operator p)) (P.single (chained_part p) l.2 d.1) (S.single (chained_operator p) l.1 d.0) };
+
+    #[inline(always)]
+    fn drop_state(
+        state: TurnsState<P::Output, SeparatedState<S::Output, S::PartialState, P::PartialState>>,
+    ) {
+        <TurnsOf<SeparatedOf<Of<Input, S>, Of<Input, P>>> as DropState<_>>::drop_state(state)
+    }
 
     #[inline(always)]
     fn parse_mode<M: ParseMode>(
