@@ -3,10 +3,10 @@ ghost use Rattle.std.specs.Prelude.{◌≡◌};
 ghost use Rattle.combine_combinator_lazy.specs.Calling.{ParsesMade};
 ghost use Rattle.combine_combinator_lazy.specs.Made.{factory_maker};
 
-use crate::combinator::made::{MadeState, make_and_run};
+use crate::combinator::made::{MadeOf, MadeState, make_and_run};
 use crate::combinator::types::Factory;
 use combine_base::error::ParseResult;
-use combine_base::parser::{FirstMode, Parser};
+use combine_base::parser::{DropState, FirstMode, Of, Parser};
 use combine_base::stream::Stream;
 
 /// Parses from the start as the parser that the maker of a `factory` answers for this very stream. The `factory` is lawful: its maker may always be called, and what it answers is lawful.
@@ -21,5 +21,7 @@ pub fn make_and_parse<Input: Stream, N: Parser<Input> + Drop, F: Fn(&mut Input) 
     ensures { ParsesMade N.Parser Input.StreamOnce Input.Error.seen N.PartialState.is_default (λ i n l. F.post (factory_maker factory.now) i n l) input.old input.new result }
 {
     let mut state = MadeState::Unmade;
-    make_and_run(&factory.0, FirstMode, input, &mut state)
+    let answer = make_and_run(&factory.0, FirstMode, input, &mut state);
+    <MadeOf<Of<Input, N>> as DropState<_>>::drop_state(state);
+    answer
 }

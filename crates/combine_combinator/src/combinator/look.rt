@@ -65,6 +65,9 @@ impl<Input: Stream, P: Parser<Input>> Parser<Input> for LookAhead<P> {
 
     ghost single = { λ p l d. table_means_one looks looks_is_table _ (P.meaning (look_part p)).adds (P.single (look_part p) l d) };
 
+    #[inline(always)]
+    fn drop_state(_state: ()) {}
+
     #[inline]
     fn parse_mode<M: ParseMode>(
         &mut self,
@@ -128,6 +131,9 @@ impl<Input: Stream, P: Parser<Input>> Parser<Input> for NotFollowedBy<P> {
     ghost laws = { λ p l. table_is_meaning is_not not_is_table _ _ Nothing (P.laws (denied_part p) l) };
 
     ghost single = { λ p l d. table_means_one is_not not_is_table _ Nothing (P.single (denied_part p) l d) };
+
+    #[inline(always)]
+    fn drop_state(_state: ()) {}
 
     #[inline]
     fn parse_mode<M: ParseMode>(
@@ -207,6 +213,9 @@ impl<Input: Stream, P: Parser<Input>> Parser<Input> for NoPartial<P> {
     ghost laws = { λ p l. table_is_meaning stays stays_is_table _ _ (P.meaning (whole_part p)).adds (P.laws (whole_part p) l) };
 
     ghost single = { λ p l d. table_means_one stays stays_is_table _ (P.meaning (whole_part p)).adds (P.single (whole_part p) l d) };
+
+    #[inline(always)]
+    fn drop_state(_state: ()) {}
 
     #[inline]
     fn parse_mode<M: ParseMode>(

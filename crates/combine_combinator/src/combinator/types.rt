@@ -12,7 +12,7 @@ pub use super::look::{LookAhead, NoPartial, NotFollowedBy};
 pub use super::values::{Ignore, Nothing, Pick, Picked};
 use combine_base::distance::{measure, pass_over};
 use combine_base::error::{ErrorOffset, ParseError, ParseResult, Tracked};
-use combine_base::parser::{Outputs, ParseMode, Parser};
+use combine_base::parser::{DropState, Of, Outputs, ParseMode, Parser, put_state};
 use combine_base::sequence::accepted_after;
 use combine_base::stream::{Kind, Positioned, ResetStream, Stream, StreamOnce, needs_more};
 use std::marker::PhantomData;
@@ -91,6 +91,11 @@ impl<Input: Stream, P: Parser<Input>, B: Drop, F: Maps<P::Output, B>> Parser<Inp
     ghost single = { λ p l d. mapped_means_one P.valid (P.meaning (map_part p)) (F.answers (map_function p)) (P.single (map_part p) l.0 d) };
 
     #[inline(always)]
+    fn drop_state(state: P::PartialState) {
+        P::drop_state(state)
+    }
+
+    #[inline(always)]
     fn parse_mode<M: ParseMode>(
         &mut self,
         mode: M,
@@ -148,6 +153,11 @@ impl<Input: Stream, P: Parser<Input>> Parser<Input> for Try<P> {
     ghost single = { λ p l d. attempted_means_one _ _ (P.meaning (attempt_part p)) (P.single (attempt_part p) l d) };
 
     #[inline(always)]
+    fn drop_state(state: TryState<P::PartialState>) {
+        P::drop_state(state.part)
+    }
+
+    #[inline(always)]
     fn parse_mode<M: ParseMode>(
         &mut self,
         mode: M,
@@ -158,23 +168,25 @@ impl<Input: Stream, P: Parser<Input>> Parser<Input> for Try<P> {
         let position = input.position();
         let distance = state.begin(mode.is_first());
         if let Err(kind) = pass_over(input, distance) {
-            return fault(input, lost(kind), position, &mut state.part);
+            return fault::<_, _, _, Of<Input, P>>(input, lost(kind), position, &mut state.part);
         }
         match self.0.parse_mode(mode, input, &mut state.part) {
             ParseResult::CommitOk(value) => ParseResult::CommitOk(value),
             ParseResult::PeekOk(value) => accepted_after(distance > 0, value),
             ParseResult::PeekErr(refusal) => {
-                put_back(input, start, position, refusal, &mut state.part)
+                put_back::<_, _, _, Of<Input, P>>(input, start, position, refusal, &mut state.part)
             }
             ParseResult::CommitErr(error) => {
                 if needs_more(input, &error) {
-                    return keep_distance(input, start, position, error, state);
+                    return keep_distance::<_, _, _, Of<Input, P>>(
+                        input, start, position, error, state,
+                    );
                 }
                 if !refuses(error.kind()) {
                     return ParseResult::CommitErr(error);
                 }
                 let refusal = Tracked::from(error);
-                put_back(input, start, position, refusal, &mut state.part)
+                put_back::<_, _, _, Of<Input, P>>(input, start, position, refusal, &mut state.part)
             }
         }
     }
@@ -213,7 +225,7 @@ pub(super) fn refuses(kind: Kind) -> bool
 
 /// Puts the stream back to where the part began, refused peeked.
 #[inline(always)]
-fn put_back<O, Input: Stream, S: Default + Drop>(
+fn put_back<O, Input: Stream, S: Default, D: DropState<S>>(
     input: &mut Input,
     start: Input::Checkpoint,
     position: Input::Position,
@@ -225,12 +237,12 @@ fn put_back<O, Input: Stream, S: Default + Drop>(
 {
     match input.reset(start) {
         Ok(()) => ParseResult::PeekErr(refusal),
-        Err(kind) => fault(input, kind, position, state),
+        Err(kind) => fault::<_, _, _, D>(input, kind, position, state),
     }
 }
 
 /// Puts the stream back on need of more, and keeps the distance that was read.
-fn keep_distance<O, Input: Stream, S: Default + Drop>(
+fn keep_distance<O, Input: Stream, S: Default, D: DropState<S>>(
     input: &mut Input,
     start: Input::Checkpoint,
     position: Input::Position,
@@ -245,13 +257,13 @@ fn keep_distance<O, Input: Stream, S: Default + Drop>(
             state.distance = distance;
             ParseResult::CommitErr(need)
         }
-        Err(kind) => fault(input, kind, position, &mut state.part),
+        Err(kind) => fault::<_, _, _, D>(input, kind, position, &mut state.part),
     }
 }
 
 /// A fault at that position, which leaves a default state.
 #[cold]
-fn fault<O, Input: Stream, S: Default + Drop>(
+fn fault<O, Input: Stream, S: Default, D: DropState<S>>(
     input: &Input,
     why: Kind,
     position: Input::Position,
@@ -260,6 +272,6 @@ fn fault<O, Input: Stream, S: Default + Drop>(
     ensures error { (e : Input.Error) × (result ≡ ParseResult.CommitErr e) × (Input.Error.seen.kind e ≡ why) }
     ensures fresh { S.is_default state.new }
 {
-    *state = S::default();
+    put_state::<_, D>(state, S::default());
     ParseResult::CommitErr(input.new_error(why, position))
 }

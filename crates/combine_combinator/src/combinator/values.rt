@@ -104,6 +104,11 @@ impl<Input: Stream, P: Parser<Input>, B: Drop, W: Pick<P::Output, Output = B>> P
     ghost single = { λ p l d. mapped_means_one P.valid (P.meaning (picked_part p)) (Picks W.picked) (P.single (picked_part p) l d) };
 
     #[inline(always)]
+    fn drop_state(state: P::PartialState) {
+        P::drop_state(state)
+    }
+
+    #[inline(always)]
     fn parse_mode<M: ParseMode>(
         &mut self,
         mode: M,

@@ -106,6 +106,11 @@ impl<Input: Stream, P: Parser<Input>, B: Drop, C: Change<Input, P::Output, Outpu
     ghost single = { λ p l d. changed_means_one Input.step (C.gives (change_part p)) (C.denies (change_part p)) (GivesOnly P.valid (P.meaning (changed_part p)) (spares (C.starves (change_part p)))) (P.single (changed_part p) l.0 d.0) d.1 d.2 };
 
     #[inline(always)]
+    fn drop_state(state: P::PartialState) {
+        P::drop_state(state)
+    }
+
+    #[inline(always)]
     fn parse_mode<M: ParseMode>(
         &mut self,
         mode: M,

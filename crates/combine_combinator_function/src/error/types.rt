@@ -67,6 +67,9 @@ impl<Input: Stream, V: Drop> Parser<Input>
     ghost parts = { λ p. 1 };
 
     #[inline(always)]
+    fn drop_state(_state: ()) {}
+
+    #[inline(always)]
     fn parse_mode<M: ParseMode>(
         &mut self,
         mode: M,

@@ -116,6 +116,9 @@ impl<Input: Stream, C: Call<Input>> Parser<Input> for Called<Input, C> {
     ghost parts = { λ p. 1 };
 
     #[inline(always)]
+    fn drop_state(_state: ()) {}
+
+    #[inline(always)]
     fn parse_mode<M: ParseMode>(
         &mut self,
         mode: M,

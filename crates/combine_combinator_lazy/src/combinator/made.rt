@@ -5,8 +5,9 @@ ghost use Rattle.combine_combinator_lazy.specs.Calling.{CalledMade, RunsMade};
 ghost use Rattle.combine_combinator_lazy.specs.Made.{InPlace, MadeAt, MadeFor};
 
 use combine_base::error::ParseResult;
-use combine_base::parser::{Calls, ParseMode, Parser};
+use combine_base::parser::{Calls, DropState, Of, ParseMode, Parser, put_state};
 use combine_base::stream::{Stream, needs_more};
+use std::marker::PhantomData;
 
 /// A parser that was made, and its state.
 #[derive(Drop)]
@@ -35,6 +36,21 @@ impl<N, U> Default for MadeState<N, U> {
     }
 }
 
+/// Lets the states of `lazy` and `factory` go, by how those of the parsers are that were made.
+pub struct MadeOf<D> {
+    parser: PhantomData<D>,
+}
+
+impl<N: Drop, U, D: DropState<U>> DropState<MadeState<N, U>> for MadeOf<D> {
+    #[inline(always)]
+    fn drop_state(state: MadeState<N, U>) {
+        match state {
+            MadeState::Unmade => {}
+            MadeState::Kept(Made { parser: _, state }) => D::drop_state(state),
+        }
+    }
+}
+
 /// Runs a parser that was made, from its state. Need of more is kept in `state`, which is a default one.
 #[inline(always)]
 pub fn run_made<Input: Stream, N: Parser<Input> + Drop, M: ParseMode>(
@@ -53,19 +69,30 @@ pub fn run_made<Input: Stream, N: Parser<Input> + Drop, M: ParseMode>(
         state: mut kept,
     } = from;
     match parser.parse_mode(mode, input, &mut kept) {
-        ParseResult::CommitOk(value) => ParseResult::CommitOk(value),
-        ParseResult::PeekOk(value) => ParseResult::PeekOk(value),
+        ParseResult::CommitOk(value) => {
+            N::drop_state(kept);
+            ParseResult::CommitOk(value)
+        }
+        ParseResult::PeekOk(value) => {
+            N::drop_state(kept);
+            ParseResult::PeekOk(value)
+        }
         ParseResult::CommitErr(error) => {
             if needs_more(input, &error) {
-                *state = MadeState::Kept(Made {
+                let made = MadeState::Kept(Made {
                     parser,
                     state: kept,
                 });
+                put_state::<_, MadeOf<Of<Input, N>>>(state, made);
                 return ParseResult::CommitErr(error);
             }
+            N::drop_state(kept);
             ParseResult::CommitErr(error)
         }
-        ParseResult::PeekErr(refusal) => ParseResult::PeekErr(refusal),
+        ParseResult::PeekErr(refusal) => {
+            N::drop_state(kept);
+            ParseResult::PeekErr(refusal)
+        }
     }
 }
 

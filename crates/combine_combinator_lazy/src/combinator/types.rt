@@ -5,10 +5,10 @@ ghost use Rattle.combine_base.specs.Parser.Kept.{KeptOf};
 ghost use Rattle.combine_base.specs.Stream.View.{View};
 ghost use Rattle.combine_combinator_lazy.specs.Made.{Adds, InPlace, MadeAt, MakesOne, RefusesMade, at_any, at_any_lasts, by_factory, by_lazy, factory_maker, is_unmade_valid, lazy_maker, made, made_at_lasts, made_is_meaning, made_means_one, valid_made};
 
-pub use super::made::{Made, MadeState};
+pub use super::made::{Made, MadeOf, MadeState};
 use super::made::{make_and_run, resume_made, run_made};
 use combine_base::error::{ErrorOffset, ParseResult, Tracked};
-use combine_base::parser::{Outputs, ParseMode, Parser};
+use combine_base::parser::{DropState, Of, Outputs, ParseMode, Parser};
 use combine_base::sequence::take_state;
 use combine_base::stream::Stream;
 
@@ -97,13 +97,18 @@ impl<Input: Stream, N: Parser<Input> + Drop, F: Fn() -> N> Parser<Input> for Laz
     ghost single = { λ p l d. made_means_one _ (by_lazy F.Fn N.lawful) N.meaning _ N.lawful (λ n i. N.single n (i.all n i.made) (d.0 n i)) d.1 };
 
     #[inline(always)]
+    fn drop_state(state: MadeState<N, N::PartialState>) {
+        <MadeOf<Of<Input, N>> as DropState<_>>::drop_state(state)
+    }
+
+    #[inline(always)]
     fn parse_mode<M: ParseMode>(
         &mut self,
         mode: M,
         input: &mut Input,
         state: &mut Self::PartialState,
     ) -> ParseResult<N::Output, Input::Error> {
-        if let MadeState::Kept(made) = take_state(mode, state) {
+        if let MadeState::Kept(made) = take_state::<_, MadeOf<Of<Input, N>>, _>(mode, state) {
             return resume_made(mode, input, made, state);
         }
         let parser = (self.0)();
@@ -161,13 +166,18 @@ impl<Input: Stream, N: Parser<Input> + Drop, F: Fn(&mut Input) -> N> Parser<Inpu
     ghost single = { λ p l d. made_means_one _ (by_factory Input.view Input.marks Input.failures F.Fn N.lawful) N.meaning _ N.lawful (λ n i. N.single n (i.all n i.made) (d.0 n i)) d.1 };
 
     #[inline(always)]
+    fn drop_state(state: MadeState<N, N::PartialState>) {
+        <MadeOf<Of<Input, N>> as DropState<_>>::drop_state(state)
+    }
+
+    #[inline(always)]
     fn parse_mode<M: ParseMode>(
         &mut self,
         mode: M,
         input: &mut Input,
         state: &mut Self::PartialState,
     ) -> ParseResult<N::Output, Input::Error> {
-        if let MadeState::Kept(kept) = take_state(mode, state) {
+        if let MadeState::Kept(kept) = take_state::<_, MadeOf<Of<Input, N>>, _>(mode, state) {
             return resume_made(mode, input, kept, state);
         }
         make_and_run(&self.0, mode, input, state)

@@ -4,7 +4,7 @@ ghost use Rattle.combine_combinator_recognize.specs.Gathered.{HasValid, IsFresh,
 
 use crate::collecting::collect_since;
 use combine_base::error::{ErrorOffset, ParseResult, Tracked};
-use combine_base::parser::{Outputs, ParseMode, Parser};
+use combine_base::parser::{DropState, Of, Outputs, ParseMode, Parser, put_state};
 use combine_base::repeat::Append;
 use combine_base::sequence::take_state;
 use combine_base::stream::{Positioned, ResetStream, Stream, StreamOnce, needs_more};
@@ -53,6 +53,18 @@ impl<F, S: Default> Default for RecognizeState<F, S> {
     }
 }
 
+/// Lets the states of `recognize` go, by how those of its part are.
+pub struct RecognizeOf<D> {
+    part: PhantomData<D>,
+}
+
+impl<F: Drop, S, D: DropState<S>> DropState<RecognizeState<F, S>> for RecognizeOf<D> {
+    #[inline(always)]
+    fn drop_state(state: RecognizeState<F, S>) {
+        D::drop_state(state.part)
+    }
+}
+
 /// The parser of [`recognize`](crate::combinator::recognize).
 #[derive(Drop)]
 #[derive_where(Clone, Copy; P)]
@@ -88,6 +100,11 @@ impl<Input: Stream, P: Parser<Input>, F: Append<Input::Token>> Parser<Input> for
     ghost single = { λ p l d. recognized_means_one F.held F.none F.more F.lean (P.single (parser_of p) l d) };
 
     #[inline(always)]
+    fn drop_state(state: RecognizeState<F, P::PartialState>) {
+        <RecognizeOf<Of<Input, P>> as DropState<_>>::drop_state(state)
+    }
+
+    #[inline(always)]
     fn parse_mode<M: ParseMode>(
         &mut self,
         mode: M,
@@ -97,33 +114,45 @@ impl<Input: Stream, P: Parser<Input>, F: Append<Input::Token>> Parser<Input> for
         let RecognizeState {
             collected,
             mut part,
-        } = take_state(mode, state);
+        } = take_state::<_, RecognizeOf<Of<Input, P>>, _>(mode, state);
         let start = input.checkpoint();
         let position = input.position();
         match self.parser.parse_mode(mode, input, &mut part) {
             ParseResult::CommitOk(_value) => {
+                P::drop_state(part);
                 match collect_since(input, start, collected.or_empty(self.alloc)) {
                     Ok(tokens) => ParseResult::CommitOk(tokens),
                     Err(kind) => ParseResult::CommitErr(input.new_error(kind, position)),
                 }
             }
-            ParseResult::PeekOk(_value) => ParseResult::PeekOk(collected.or_empty(self.alloc)),
+            ParseResult::PeekOk(_value) => {
+                P::drop_state(part);
+                ParseResult::PeekOk(collected.or_empty(self.alloc))
+            }
             ParseResult::CommitErr(error) => {
                 if needs_more(input, &error) {
                     return match collect_since(input, start, collected.or_empty(self.alloc)) {
                         Ok(tokens) => {
-                            *state = RecognizeState {
+                            let kept = RecognizeState {
                                 collected: Collected::Tokens(tokens),
                                 part,
                             };
+                            put_state::<_, RecognizeOf<Of<Input, P>>>(state, kept);
                             ParseResult::CommitErr(error)
                         }
-                        Err(kind) => ParseResult::CommitErr(input.new_error(kind, position)),
+                        Err(kind) => {
+                            P::drop_state(part);
+                            ParseResult::CommitErr(input.new_error(kind, position))
+                        }
                     };
                 }
+                P::drop_state(part);
                 ParseResult::CommitErr(error)
             }
-            ParseResult::PeekErr(refusal) => ParseResult::PeekErr(refusal),
+            ParseResult::PeekErr(refusal) => {
+                P::drop_state(part);
+                ParseResult::PeekErr(refusal)
+            }
         }
     }
 

@@ -77,6 +77,11 @@ where
     ghost single = { λ p l d. P.single (spanned_part p) l d };
 
     #[inline(always)]
+    fn drop_state(state: P::PartialState) {
+        P::drop_state(state)
+    }
+
+    #[inline(always)]
     fn parse_mode<M: ParseMode>(
         &mut self,
         mode: M,

@@ -146,6 +146,11 @@ impl<Input: Stream, P: Parser<Input>> Parser<Input>
     ghost single = { λ p l d. saying_means_one P.valid (P.meaning (told_part p)) (AndThen (P.meaning (told_part p)).adds (items.Message (shown (told_info p)))) (P.single (told_part p) l d) };
 
     #[inline(always)]
+    fn drop_state(state: P::PartialState) {
+        P::drop_state(state)
+    }
+
+    #[inline(always)]
     fn parse_mode<M: ParseMode>(
         &mut self,
         mode: M,
@@ -194,6 +199,11 @@ impl<Input: Stream, P: Parser<Input>> Parser<Input> for Silent<P> {
     ghost single = { λ p l d. saying_means_one P.valid (P.meaning (hushed_part p)) Nothing (P.single (hushed_part p) l d) };
 
     #[inline(always)]
+    fn drop_state(state: P::PartialState) {
+        P::drop_state(state)
+    }
+
+    #[inline(always)]
     fn parse_mode<M: ParseMode>(
         &mut self,
         mode: M,
@@ -238,6 +248,11 @@ impl<Input: Stream, P: Parser<Input>> Parser<Input>
     ghost laws = { λ p l. saying_is_meaning P.PartialState.is_default P.valid (P.meaning (named_part p)) (InPlace (P.meaning (named_part p)).adds (items.Expected (shown (named_info p)))) (P.laws (named_part p) l) };
 
     ghost single = { λ p l d. saying_means_one P.valid (P.meaning (named_part p)) (InPlace (P.meaning (named_part p)).adds (items.Expected (shown (named_info p)))) (P.single (named_part p) l d) };
+
+    #[inline(always)]
+    fn drop_state(state: P::PartialState) {
+        P::drop_state(state)
+    }
 
     #[inline(always)]
     fn parse_mode<M: ParseMode>(

@@ -10,10 +10,12 @@ pub(super) mod state;
 
 use asked::{Asked, ByMut, ByRef, ByValue, Join};
 use combine_base::error::{ErrorOffset, ParseResult, Tracked};
-use combine_base::parser::{Calls, FirstMode, Outputs, ParseMode, Parser};
+use combine_base::parser::{
+    Calls, DropState, FirstMode, Of, Outputs, ParseMode, Parser, put_state,
+};
 use combine_base::sequence::{accepted_after, refused_after, take_state};
 use combine_base::stream::{Stream, needs_more};
-use state::{AnsweredState, Answering};
+use state::{AnsweredOf, AnsweredState, Answering};
 use std::marker::PhantomData;
 
 /// A parser, and then the one that a function answers for its value.
@@ -50,6 +52,9 @@ pub type ThenPartial<P, F, B> = Answered<P, ByMut<F>, B>;
 /// The parser of [`then_ref`](crate::sequence::then_ref).
 pub type ThenRef<P, F, B> = Answered<P, ByRef<F>, B>;
 
+/// Lets the states of a parser and of the one that is answered go.
+type DropAnswered<Input, P, N> = AnsweredOf<Of<Input, P>, Of<Input, N>>;
+
 impl<Input, P, K, B: Drop> Outputs<Input> for Answered<P, K, B> {
     type Output = B;
 }
@@ -83,25 +88,36 @@ impl<
     ghost single = { λ p l d. then_means_one Input.step K.keeps V.joined (K.answers (asked_part p)) (AnsweredBySome K.callable K.answers N.lawful P.lawful P.valid P.meaning) N.lawful (P.single (first_part p) l.0 d.0) (λ n i. N.single n (some_lawful K.callable K.answers N.lawful P.lawful P.valid P.meaning n i) (d.1 n i)) d.2 d.3 };
 
     #[inline(always)]
+    fn drop_state(state: AnsweredState<P::PartialState, V, N, N::PartialState>) {
+        <DropAnswered<Input, P, N> as DropState<_>>::drop_state(state)
+    }
+
+    #[inline(always)]
     fn parse_mode<M: ParseMode>(
         &mut self,
         mode: M,
         input: &mut Input,
         state: &mut Self::PartialState,
     ) -> ParseResult<B, Input::Error> {
-        let mut at = match take_state(mode, state) {
+        let mut at = match take_state::<_, DropAnswered<Input, P, N>, _>(mode, state) {
             AnsweredState::First(at) => at,
-            AnsweredState::Second(at) => return resume_answered(mode, input, at, state),
+            AnsweredState::Second(at) => {
+                return resume_answered::<_, _, _, _, Of<Input, P>, _>(mode, input, at, state);
+            }
         };
         let (value, committed) = match self.first.parse_mode(mode, input, &mut at) {
             ParseResult::CommitOk(value) => (value, true),
             ParseResult::PeekOk(value) => (value, false),
             ParseResult::CommitErr(error) => {
-                *state = AnsweredState::First(at);
+                put_state::<_, DropAnswered<Input, P, N>>(state, AnsweredState::First(at));
                 return ParseResult::CommitErr(error);
             }
-            ParseResult::PeekErr(refusal) => return ParseResult::PeekErr(refusal),
+            ParseResult::PeekErr(refusal) => {
+                P::drop_state(at);
+                return ParseResult::PeekErr(refusal);
+            }
         };
+        P::drop_state(at);
         let (value, parser) = self.asked.ask(value);
         let next = Answering {
             value,
@@ -109,7 +125,7 @@ impl<
             committed,
             state: N::PartialState::default(),
         };
-        parse_answered(FirstMode, input, next, state)
+        parse_answered::<_, _, _, _, Of<Input, P>, _>(FirstMode, input, next, state)
     }
 
     /// What the first parser adds.
@@ -131,7 +147,8 @@ fn parse_answered<
     Input: Stream,
     V: Join<N::Output> + Drop,
     N: Parser<Input> + Drop,
-    S: Default + Drop,
+    S: Default,
+    D: DropState<S>,
     M: ParseMode,
 >(
     mode: M,
@@ -151,21 +168,32 @@ fn parse_answered<
         state: mut kept,
     } = from;
     match parser.parse_explained(mode, input, &mut kept) {
-        ParseResult::CommitOk(last) => ParseResult::CommitOk(value.join(last)),
-        ParseResult::PeekOk(last) => accepted_after(committed, value.join(last)),
+        ParseResult::CommitOk(last) => {
+            N::drop_state(kept);
+            ParseResult::CommitOk(value.join(last))
+        }
+        ParseResult::PeekOk(last) => {
+            N::drop_state(kept);
+            accepted_after(committed, value.join(last))
+        }
         ParseResult::CommitErr(error) => {
             if needs_more(input, &error) {
-                *state = AnsweredState::Second(Answering {
+                let at = AnsweredState::Second(Answering {
                     value,
                     parser,
                     committed,
                     state: kept,
                 });
+                put_state::<_, AnsweredOf<D, Of<Input, N>>>(state, at);
                 return ParseResult::CommitErr(error);
             }
+            N::drop_state(kept);
             ParseResult::CommitErr(error)
         }
-        ParseResult::PeekErr(refusal) => refused_after(committed, refusal),
+        ParseResult::PeekErr(refusal) => {
+            N::drop_state(kept);
+            refused_after(committed, refusal)
+        }
     }
 }
 
@@ -175,7 +203,8 @@ fn resume_answered<
     Input: Stream,
     V: Join<N::Output> + Drop,
     N: Parser<Input> + Drop,
-    S: Default + Drop,
+    S: Default,
+    D: DropState<S>,
     M: ParseMode,
 >(
     mode: M,
@@ -188,5 +217,5 @@ fn resume_answered<
     requires fresh { starts_first S.is_default state.old }
     ensures { CalledAnswered N.Parser Input.StreamOnce Input.Error.seen N.PartialState.is_default S.is_default V.joined (M.first mode) input.old input.new from state.new result }
 {
-    parse_answered(mode, input, from, state)
+    parse_answered::<_, _, _, _, D, _>(mode, input, from, state)
 }

@@ -1,4 +1,4 @@
-use Rattle.std.proofs.Common.{inl, inr, refl, sym, ◌∙◌}
+use Rattle.std.proofs.Common.{inl, inr, sym, ◌∙◌}
 use Rattle.std.proofs.lemmas.Bool.{false≢true}
 use Rattle.combine_base.specs.Parser.Answer.{world}
 use Rattle.combine_base.proofs.Starting.{at_rest}
@@ -43,7 +43,7 @@ returns-then-needs_more g c =
       same = call.same;
       passes = call.passes;
       answers = at_rest around _ _ (g.met.N.Parser.laws c.args.from.parser c.requires.ready.lawful) _ c.requires.starts _ c.in-CommitErr.ensures.answers;
-      leaves = inl (c.needs_more.ensures.0 c.if-needs_more.true, refl, c.in-CommitErr.ensures.valid);
+      leaves = inl (c.needs_more.ensures.0 c.if-needs_more.true, c.put_state.ensures, c.in-CommitErr.ensures.valid);
       refuses = c.in-CommitErr.ensures.refuses;
     }
 

@@ -66,7 +66,7 @@ returns-then-needs_more g c =
         answers = at_rest around _ _ (g.met.N.Parser.laws c.args.from.parser c.requires.ready.lawful) _ c.requires.starts _ c.in-CommitErr.ensures.answers;
         explained = explained_only {m = means} {refuses = refuses} c.in-CommitErr.ensures.explained;
         is = refl;
-        leaves = inl (c.needs_more.ensures.0 c.if-needs_more.true, refl, c.in-CommitErr.ensures.valid);
+        leaves = inl (c.needs_more.ensures.0 c.if-needs_more.true, c.put_state.ensures, c.in-CommitErr.ensures.valid);
       };
       refuses = c.in-CommitErr.ensures.explained;
     }

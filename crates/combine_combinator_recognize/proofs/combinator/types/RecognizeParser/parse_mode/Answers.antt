@@ -1,4 +1,3 @@
-use Rattle.std.proofs.Common.{refl}
 use Rattle.combine_base.specs.Parser.Answer.{world}
 use Rattle.combine_base.proofs.Starting.{at_rest, in_mode}
 use Rattle.combine_combinator_recognize.specs.Gathered.{recognized_is_meaning}
@@ -25,4 +24,4 @@ returns-in-Ok-collect_since-clause-answers g c =
     let a = at_rest w _ m laws _ (λ e. (from.afresh e).1) _ c.in-CommitErr.ensures.answers in
     let stands = g.met.Input.ResetStream.lasts _ _ _ _ c.parse_mode.ensures.passes.marks c.checkpoint-start.ensures.stands in
     let need = c.needs_more.ensures.0 c.if-needs_more.true in
-    in_mode _ _ _ (recognized_is_meaning g.F.Append.held g.F.Append.none g.F.Append.more g.F.Append.lean laws) _ _ _ _ from _ _ _ _ _ (recognize_asks w g.F.Append.held g.F.Append.none g.F.Append.more g.F.Append.lean m s _ c.parse_mode.new.state _ _ _ _ c.or_empty-then-needs_more.result c.or_empty-then-needs_more.ensures _ _ c.in-Ok-collect_since.tokens refl _ need a (λ x. c.in-Ok-collect_since.ensures.collects x.count _ stands x.taken))
+    in_mode _ _ _ (recognized_is_meaning g.F.Append.held g.F.Append.none g.F.Append.more g.F.Append.lean laws) _ _ _ _ from _ _ _ _ _ (recognize_asks w g.F.Append.held g.F.Append.none g.F.Append.more g.F.Append.lean m s _ c.parse_mode.new.state _ _ _ _ c.or_empty-then-needs_more.result c.or_empty-then-needs_more.ensures _ _ c.in-Ok-collect_since.tokens c.put_state.ensures _ need a (λ x. c.in-Ok-collect_since.ensures.collects x.count _ stands x.taken))

@@ -1,9 +1,9 @@
-use Rattle.std.proofs.Common.{false, refl, subst, sym, true}
+use Rattle.std.proofs.Common.{ap, false, refl, subst, sym, true}
 use Rattle.combine_base.proofs.Giving.{gives_same, good_ok, good_peek_ok}
 use Rattle.combine_base.proofs.Starting.{in_mode}
 use Rattle.combine_base.specs.Parser.Given.{gives_as}
 use Rattle.combine_base.specs.Parser.Kept.{KeptOf}
-use Rattle.combine_sequence.specs.Answered.{asked_part, starts_valid, then_is_meaning, then_means_same}
+use Rattle.combine_sequence.specs.Answered.{asked_part, starts_valid, step_of, then_is_meaning, then_means_same}
 use Rattle.combine_sequence.proofs.Keeping.{accepted_kept, by_some, committed_at, leaves_valid, peeked_at, then_resumes, then_stops, then_refuses, then_commits, then_peeks, valid_from}
 use Rattle.combine_sequence.proofs.sequence.answered.AnsweredParser.parse_mode.Goals as goal
 use Rattle.combine_sequence.proofs.sequence.answered.AnsweredParser.parse_mode.Goals.{in-CommitOk, in-PeekOk}
@@ -42,7 +42,7 @@ returns-in-CommitErr-clause-answers g c =
     let some = by_some g.P.Parser g.N.Parser g.K.Asked.callable g.K.Asked.answers in
     let laws = g.met.P.Parser.laws _ c.requires.lawful.0 in
     let from = c.in-First.ensures.from in
-    let call = then_stops g.N.Parser g.Input.StreamOnce g.Input.Error.ParseError.seen g.N.PartialState.Default.is_default _ g.P.Parser.valid g.K.Asked.keeps g.V.Join.joined answers some _ laws refl from.afresh refl c.in-CommitErr.ensures.answers in
+    let call = then_stops g.N.Parser g.Input.StreamOnce g.Input.Error.ParseError.seen g.N.PartialState.Default.is_default _ g.P.Parser.valid g.K.Asked.keeps g.V.Join.joined answers some _ laws refl from.afresh (ap step_of c.put_state.ensures) c.in-CommitErr.ensures.answers in
     in_mode _ _ _ (then_is_meaning _ g.K.Asked.keeps g.V.Join.joined answers some g.N.Parser.lawful laws g.met.N.Parser.laws (gives_as (λ a h. h.1) c.requires.lawful.1)) _ _ _ _ from _ _ _ _ _ call
 
 pub returns-in-PeekErr-clause-lawful : goal.returns-in-PeekErr-clause-lawful
