@@ -6,9 +6,10 @@ ghost use Rattle.combine_token.specs.Optional.{optional_parser};
 ghost use Rattle.combine_token.specs.Or.{StartsSame, or_parser};
 
 use combine_base::error::{ParseError, ParseResult, Tracked};
-use combine_base::parser::Parser;
+use combine_base::parser::{DropState, Parser};
 use combine_base::refusal::peeked;
 use combine_base::stream::Stream;
+use std::marker::PhantomData;
 
 pub mod first;
 pub mod lent;
@@ -36,6 +37,23 @@ impl<S, T> Default for OrState<S, T> {
 
     fn default() -> Self {
         OrState::Peek
+    }
+}
+
+/// Lets the states of a choice of two go, by how those of its alternatives are.
+pub struct OrOf<D, E> {
+    first: PhantomData<D>,
+    second: PhantomData<E>,
+}
+
+impl<S, T, D: DropState<S>, E: DropState<T>> DropState<OrState<S, T>> for OrOf<D, E> {
+    #[inline(always)]
+    fn drop_state(state: OrState<S, T>) {
+        match state {
+            OrState::Peek => {}
+            OrState::A(kept) => D::drop_state(kept),
+            OrState::B(kept) => E::drop_state(kept),
+        }
     }
 }
 

@@ -5,9 +5,9 @@ ghost use Rattle.combine_base.specs.Stream.Calls.{Passes};
 ghost use Rattle.combine_token.specs.Chose.{Chose};
 ghost use Rattle.combine_token.specs.Turned.{GoesOn, RunsOn, Settled, Settles};
 
-use super::{OrState, after_refusal};
+use super::{OrOf, OrState, after_refusal};
 use combine_base::error::{ParseResult, Tracked};
-use combine_base::parser::{ParseMode, Parser};
+use combine_base::parser::{DropState, ParseMode, Parser, put_state};
 use combine_base::stream::{Stream, asks_for_more, needs_more};
 use std::mem::replace;
 
@@ -22,7 +22,7 @@ pub enum Turn<V, S, E> {
 
 /// Hands out the state of the part that goes on, or begins: the first one's, or that of the later one.
 #[inline(always)]
-pub fn begin<S: Default + Drop, T: Drop, M: ParseMode>(
+pub fn begin<S: Default, D: DropState<S>, T, E: DropState<T>, M: ParseMode>(
     state: &mut OrState<S, T>,
     mode: M,
 ) -> Result<S, T>
@@ -31,6 +31,7 @@ pub fn begin<S: Default + Drop, T: Drop, M: ParseMode>(
 {
     let kept = replace(state, OrState::Peek);
     if mode.is_first() {
+        <OrOf<D, E> as DropState<_>>::drop_state(kept);
         return Ok(S::default());
     }
     match kept {
@@ -42,7 +43,7 @@ pub fn begin<S: Default + Drop, T: Drop, M: ParseMode>(
 
 /// After the first part's answer: a peeked refusal is put back, and the later part goes on; another answer ends the choice, and on need of more the first part's state is kept.
 #[inline(always)]
-pub fn go_on<O, Input: Stream, S: Drop, T: Default + Drop>(
+pub fn go_on<O, Input: Stream, S, D: DropState<S>, T: Default, E: DropState<T>>(
     start: Input::Checkpoint,
     position: Input::Position,
     input: &mut Input,
@@ -55,24 +56,35 @@ pub fn go_on<O, Input: Stream, S: Drop, T: Default + Drop>(
     ensures goes { GoesOn Input.step Input.Error.seen.kind Input.steady T.is_default (Input.stands input.old start) kept state.new (Input.view input.old) (Input.view input.new) (Input.failures input.old) (Input.failures input.new) answer result }
 {
     match answer {
-        ParseResult::CommitOk(value) => Turn::Ends(ParseResult::CommitOk(value)),
-        ParseResult::PeekOk(value) => Turn::Ends(ParseResult::PeekOk(value)),
+        ParseResult::CommitOk(value) => {
+            D::drop_state(kept);
+            Turn::Ends(ParseResult::CommitOk(value))
+        }
+        ParseResult::PeekOk(value) => {
+            D::drop_state(kept);
+            Turn::Ends(ParseResult::PeekOk(value))
+        }
         ParseResult::CommitErr(error) => {
             if needs_more(input, &error) {
-                *state = OrState::A(kept);
+                put_state::<_, OrOf<D, E>>(state, OrState::A(kept));
+            } else {
+                D::drop_state(kept);
             }
             Turn::Ends(ParseResult::CommitErr(error))
         }
-        ParseResult::PeekErr(refused) => match input.reset(start) {
-            Ok(()) => Turn::Goes(T::default(), Some(refused)),
-            Err(kind) => Turn::Ends(ParseResult::CommitErr(input.new_error(kind, position))),
-        },
+        ParseResult::PeekErr(refused) => {
+            D::drop_state(kept);
+            match input.reset(start) {
+                Ok(()) => Turn::Goes(T::default(), Some(refused)),
+                Err(kind) => Turn::Ends(ParseResult::CommitErr(input.new_error(kind, position))),
+            }
+        }
     }
 }
 
 /// The answer of the later part, after that refusal of the first. On need of more its state is kept.
 #[inline(always)]
-pub fn settle<O, Input: Stream, S: Drop, T: Drop>(
+pub fn settle<O, Input: Stream, S, D: DropState<S>, T, E: DropState<T>>(
     input: &Input,
     refused: Option<Tracked<Input::Error>>,
     kept: T,
@@ -83,7 +95,9 @@ pub fn settle<O, Input: Stream, S: Drop, T: Drop>(
     ensures { Settled Input.Error.seen Input.Position.cmp (Input.view input.now).is_open refused kept state.old state.new answer result }
 {
     if asks_for_more(input, &answer) {
-        *state = OrState::B(kept);
+        put_state::<_, OrOf<D, E>>(state, OrState::B(kept));
+    } else {
+        E::drop_state(kept);
     }
     match refused {
         Some(first) => after_refusal(first, answer),

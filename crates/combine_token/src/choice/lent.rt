@@ -6,10 +6,10 @@ ghost use Rattle.combine_token.specs.Turned.{NoFault, first_valid};
 ghost use Rattle.combine_token.specs.Or.{either_of, or_valid};
 ghost use Rattle.combine_token.specs.Reasons.{RefusesOr};
 
-use super::OrState;
 use super::first::{Turn, begin, call, go_on, settle};
+use super::{OrOf, OrState};
 use combine_base::error::{ParseResult, Tracked};
-use combine_base::parser::{ParseMode, Parser};
+use combine_base::parser::{DropState, Of, ParseMode, Parser};
 use combine_base::stream::Stream;
 
 /// The state of a choice of two.
@@ -18,9 +18,12 @@ pub type State2<Input, A, B> = OrState<
     <B as Parser<Input>>::PartialState,
 >;
 
+/// Lets the states of a choice of two parsers go.
+pub type Drop2<Input, A, B> = OrOf<Of<Input, A>, Of<Input, B>>;
+
 /// The first part of a choice, which goes on, or begins, unless the later part is running.
 #[inline(always)]
-pub fn try_1<Input: Stream, A: Parser<Input>, S: Default + Drop, M: ParseMode>(
+pub fn try_1<Input: Stream, A: Parser<Input>, S: Default, D: DropState<S>, M: ParseMode>(
     a: &mut A,
     mode: M,
     input: &mut Input,
@@ -30,19 +33,19 @@ pub fn try_1<Input: Stream, A: Parser<Input>, S: Default + Drop, M: ParseMode>(
     requires valid { first_valid A.valid state.old }
     ensures { Tried (world Input.step Input.Error.seen Input.steady A.PartialState.is_default) S.is_default A.valid (A.lawful a.new) (A.meaning a.old) (A.meaning a.new) (A.refuses a.old) (Input.marks input.old) (Input.marks input.new) (M.first mode) state.old state.new (Input.view input.old) (Input.view input.new) (Input.failures input.old) (Input.failures input.new) result }
 {
-    let mut kept = match begin(state, mode) {
+    let mut kept = match begin::<_, Of<Input, A>, _, D, _>(state, mode) {
         Ok(kept) => kept,
         Err(kept) => return Turn::Goes(kept, None),
     };
     let start = input.checkpoint();
     let position = input.position();
     let answer = call(a, mode, input, &mut kept);
-    go_on(start, position, input, kept, answer, state)
+    go_on::<_, _, _, Of<Input, A>, _, D>(start, position, input, kept, answer, state)
 }
 
 /// The later part of a choice, which goes on from that state, after that refusal of the first part.
 #[inline(always)]
-pub fn then_1<Input: Stream, A: Parser<Input>, S: Drop, M: ParseMode>(
+pub fn then_1<Input: Stream, A: Parser<Input>, S, D: DropState<S>, M: ParseMode>(
     a: &mut A,
     mode: M,
     input: &mut Input,
@@ -57,7 +60,7 @@ pub fn then_1<Input: Stream, A: Parser<Input>, S: Drop, M: ParseMode>(
 {
     let mut kept = kept;
     let answer = call(a, mode, input, &mut kept);
-    settle(input, refused, kept, answer, state)
+    settle::<_, _, _, D, _, Of<Input, A>>(input, refused, kept, answer, state)
 }
 
 /// The choice of two, which answers as `or` does. The code of each part stands once in it, so that nothing that resumes needs to be a function of its own over the stream.
@@ -78,8 +81,10 @@ pub fn choose_2<
     requires valid { or_valid A.valid B.valid state.old }
     ensures { Chose (world Input.step Input.Error.seen Input.steady (λ s. s ≡ OrState.Peek)) (A.lawful a.new × B.lawful b.new) (or_valid A.valid B.valid) (either_of (A.meaning a.old) (B.meaning b.old)) (either_of (A.meaning a.new) (B.meaning b.new)) (RefusesOr Input.Error.seen Input.Position.cmp A.PartialState.is_default B.PartialState.is_default (A.refuses a.old) (B.refuses b.old)) (Input.marks input.old) (Input.marks input.new) (record { first = M.first mode; state = state.old; left = state.new; old = Input.view input.old; new = Input.view input.new; before = Input.failures input.old; after = Input.failures input.new }) result }
 {
-    match try_1(a, mode, input, state) {
+    match try_1::<_, _, _, Of<Input, B>, _>(a, mode, input, state) {
         Turn::Ends(answer) => answer,
-        Turn::Goes(kept, refused) => { then_1(b, mode, input, refused, kept, state) }
+        Turn::Goes(kept, refused) => {
+            then_1::<_, _, _, Of<Input, A>, _>(b, mode, input, refused, kept, state)
+        }
     }
 }

@@ -5,9 +5,9 @@ ghost use Rattle.combine_token.specs.Optional.{optional, optional_is_meaning, op
 ghost use Rattle.combine_token.specs.Or.{either_of, or_is_meaning, or_means_one, or_valid};
 
 use super::OrState;
-use super::lent::choose_2;
+use super::lent::{Drop2, choose_2};
 use combine_base::error::{ErrorOffset, ParseResult, Tracked};
-use combine_base::parser::{Outputs, ParseMode, Parser};
+use combine_base::parser::{DropState, Outputs, ParseMode, Parser};
 use combine_base::stream::Stream;
 
 /// The choice of two parsers, as `or` makes it.
@@ -39,6 +39,11 @@ impl<Input: Stream, P: Parser<Input>, Q: Parser<Input, Output = P::Output>> Pars
     ghost laws = { λ p l. or_is_meaning P.PartialState.is_default P.valid Q.PartialState.is_default Q.valid _ _ (P.laws p.0 l.0) (Q.laws p.1 l.1) };
 
     ghost single = { λ p l d. or_means_one P.PartialState.is_default P.valid Q.PartialState.is_default Q.valid _ _ (P.single p.0 l.0 d.0) (Q.single p.1 l.1 d.1) };
+
+    #[inline(always)]
+    fn drop_state(state: OrState<P::PartialState, Q::PartialState>) {
+        <Drop2<Input, P, Q> as DropState<_>>::drop_state(state)
+    }
 
     #[inline(always)]
     fn parse_mode<M: ParseMode>(
@@ -90,6 +95,11 @@ impl<Input: Stream, P: Parser<Input>> Parser<Input> for Optional<P> {
     ghost laws = { λ p l. optional_is_meaning _ P.valid (P.meaning p.0) (P.laws p.0 l) };
 
     ghost single = { λ p l d. optional_means_one P.valid (P.meaning p.0) (P.single p.0 l d) };
+
+    #[inline(always)]
+    fn drop_state(state: P::PartialState) {
+        P::drop_state(state)
+    }
 
     #[inline(always)]
     fn parse_mode<M: ParseMode>(

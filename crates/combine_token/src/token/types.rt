@@ -97,6 +97,9 @@ impl<Input: Stream> Parser<Input> for Any<Input> {
     ghost parts = { λ p. 1 };
 
     #[inline(always)]
+    fn drop_state(_state: ()) {}
+
+    #[inline(always)]
     fn parse_mode<M: ParseMode>(
         &mut self,
         mode: M,
@@ -146,6 +149,9 @@ impl<Input: Stream, F: Fn(Input::Token) -> bool> Parser<Input> for Satisfy<Input
     ghost parts = { λ p. 1 };
 
     #[inline(always)]
+    fn drop_state(_state: ()) {}
+
+    #[inline(always)]
     fn parse_mode<M: ParseMode>(
         &mut self,
         mode: M,
@@ -189,6 +195,9 @@ impl<Input: Stream, B: Drop, F: Fn(Input::Token) -> Option<B>> Parser<Input>
     ghost refuses = { λ p k. RefusesToken Input.Error.seen };
 
     ghost parts = { λ p. 1 };
+
+    #[inline(always)]
+    fn drop_state(_state: ()) {}
 
     #[inline(always)]
     fn parse_mode<M: ParseMode>(
@@ -236,6 +245,9 @@ where
     ghost refuses = { λ p k. RefusesToken Input.Error.seen };
 
     ghost parts = { λ p. 1 };
+
+    #[inline(always)]
+    fn drop_state(_state: ()) {}
 
     #[inline(always)]
     fn parse_mode<M: ParseMode>(
@@ -290,6 +302,9 @@ impl<Input: Stream> Parser<Input> for Position<Input> {
     ghost parts = { λ p. 1 };
 
     #[inline(always)]
+    fn drop_state(_state: ()) {}
+
+    #[inline(always)]
     fn parse_mode<M: ParseMode>(
         &mut self,
         mode: M,
@@ -332,6 +347,9 @@ impl<Input: Stream, T: Clone> Parser<Input> for Value<Input, T> {
     ghost refuses = { λ p k v committed e. ⊥ };
 
     ghost parts = { λ p. 1 };
+
+    #[inline(always)]
+    fn drop_state(_state: ()) {}
 
     #[inline(always)]
     fn parse_mode<M: ParseMode>(
@@ -381,6 +399,9 @@ impl<Input: Stream, B: Drop, F: Fn() -> B> Parser<Input> for Produce<Input, F, B
     ghost parts = { λ p. 1 };
 
     #[inline(always)]
+    fn drop_state(_state: ()) {}
+
+    #[inline(always)]
     fn parse_mode<M: ParseMode>(
         &mut self,
         mode: M,
@@ -423,6 +444,9 @@ impl<Input: Stream> Parser<Input> for Eof<Input> {
     ghost refuses = { λ p k. RefusesToken Input.Error.seen };
 
     ghost parts = { λ p. 1 };
+
+    #[inline(always)]
+    fn drop_state(_state: ()) {}
 
     #[inline(always)]
     fn parse_mode<M: ParseMode>(

@@ -52,6 +52,9 @@ where
     ghost parts = { λ p. 1 };
 
     #[inline(always)]
+    fn drop_state(_state: ()) {}
+
+    #[inline(always)]
     fn parse_mode<M: ParseMode>(
         &mut self,
         mode: M,
@@ -114,6 +117,9 @@ where
     ghost refuses = { λ p k. RefusesToken Input.Error.seen };
 
     ghost parts = { λ p. 1 };
+
+    #[inline(always)]
+    fn drop_state(_state: ()) {}
 
     #[inline(always)]
     fn parse_mode<M: ParseMode>(

@@ -104,6 +104,9 @@ where
     ghost single = { λ p l d. token_list_means_one (λ _. Unit {0}) _ _ _ _ _ _ (iterated_ends_once _ _ _ _ _ _ _ l.1) d };
 
     #[inline(always)]
+    fn drop_state(_state: TokensState) {}
+
+    #[inline(always)]
     fn parse_mode<M: ParseMode>(
         &mut self,
         mode: M,
@@ -170,6 +173,9 @@ where
     ghost laws = { λ p l. token_list_is_meaning _ _ _ _ _ _ _ (λ s d. d) };
 
     ghost single = { λ p l d. token_list_means_one (λ _. Unit {0}) _ _ _ _ _ _ (iterated_ends_once _ _ _ _ _ _ _ l.1) d };
+
+    #[inline(always)]
+    fn drop_state(_state: TokensState) {}
 
     #[inline(always)]
     fn parse_mode<M: ParseMode>(
