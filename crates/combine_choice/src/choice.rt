@@ -12,8 +12,8 @@ pub mod slice;
 mod tuples;
 pub mod types;
 
-pub use combine_token::choice::{OrState, optional, or, or_is_associative};
-pub use slice::{Slice, SliceState};
+pub use combine_token::choice::{OrOf, OrState, optional, or, or_is_associative};
+pub use slice::{Slice, SliceOf, SliceState};
 use types::Choice;
 
 /// What a choice of these alternatives answers over a stream, as [`Outputs`](combine_base::parser::Outputs) has it for a parser.
@@ -35,7 +35,9 @@ pub trait ChoiceParser<Input: Stream>: ChoiceOutputs<Input> {
     ghost use Rattle.combine_base.specs.Stream.Calls.{Passes};
 
     /// What is kept while more input is needed: the running alternative and its state.
-    type PartialState: Default + Drop;
+    ///
+    /// It is let go by `drop_state`, and need not be `Drop`.
+    type PartialState: Default;
 
     /// What a call needs of the alternatives.
     ghost lawful: { Self → Type 0 };
@@ -51,6 +53,9 @@ pub trait ChoiceParser<Input: Stream>: ChoiceOutputs<Input> {
 
     /// What error a refusal may have, committed or not, of a call that begins afresh (`None`) or from that state, on a view.
     ghost refuses: { Self → Option Self.PartialState → View Input.Position Input.Token → Bool → Input.Error → Type 0 };
+
+    /// Lets a kept state go.
+    fn drop_state(state: Self::PartialState);
 
     /// Chooses, afresh or from the kept state. It answers as `parse_mode` of a parser does.
     fn parse_mode_choice<M: ParseMode>(
@@ -150,6 +155,11 @@ impl<'a, Input: Stream, P: ChoiceParser<Input>> ChoiceParser<Input> for &'a mut 
     ghost laws = { λ p l. P.laws p.now l };
 
     ghost single = { λ p l d. P.single p.now l d };
+
+    #[inline(always)]
+    fn drop_state(state: P::PartialState) {
+        P::drop_state(state)
+    }
 
     #[inline(always)]
     fn parse_mode_choice<M: ParseMode>(

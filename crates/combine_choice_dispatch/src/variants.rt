@@ -21,7 +21,7 @@ pub use either::Either;
 
 /// The kept state, or a default one.
 #[inline(always)]
-fn start<S: Default + Drop>(kept: Option<S>) -> S
+fn start<S: Default>(kept: Option<S>) -> S
     ensures { Started S.is_default kept result }
 {
     match kept {

@@ -7,11 +7,11 @@ ghost use Rattle.combine_token.specs.Or.{either_of, or_valid};
 ghost use Rattle.combine_token.specs.Reasons.{RefusesOr};
 
 use combine_base::error::{ParseResult, Tracked};
-use combine_base::parser::{ParseMode, Parser};
+use combine_base::parser::{DropState, Of, ParseMode, Parser};
 use combine_base::stream::Stream;
-use combine_token::choice::OrState;
 use combine_token::choice::first::{Turn, begin, go_on, settle};
-use combine_token::choice::lent::{State2, choose_2, then_1, try_1};
+use combine_token::choice::lent::{Drop2, State2, choose_2, then_1, try_1};
+use combine_token::choice::{OrOf, OrState};
 
 /// The state of a choice of three.
 pub type State3<Input, A, B, C> = OrState<<A as Parser<Input>>::PartialState, State2<Input, B, C>>;
@@ -40,13 +40,38 @@ pub type State8<Input, A, B, C, D, E, F, G, H> = OrState<
     State4<Input, E, F, G, H>,
 >;
 
+/// Lets the states of a choice of three go.
+pub(super) type Drop3<Input, A, B, C> = OrOf<Of<Input, A>, Drop2<Input, B, C>>;
+
+/// Lets the states of a choice of four go.
+pub(super) type Drop4<Input, A, B, C, D> = OrOf<Drop2<Input, A, B>, Drop2<Input, C, D>>;
+
+/// Lets the states of a choice of five go.
+pub(super) type Drop5<Input, A, B, C, D, E> = OrOf<Of<Input, A>, Drop4<Input, B, C, D, E>>;
+
+/// Lets the states of a choice of six go.
+pub(super) type Drop6<Input, A, B, C, D, E, F> = OrOf<Drop2<Input, A, B>, Drop4<Input, C, D, E, F>>;
+
+/// Lets the states of a choice of seven go.
+pub(super) type Drop7<Input, A, B, C, D, E, F, G> = OrOf<
+    Drop3<Input, A, B, C>,
+    Drop4<Input, D, E, F, G>,
+>;
+
+/// Lets the states of a choice of eight go.
+pub(super) type Drop8<Input, A, B, C, D, E, F, G, H> = OrOf<
+    Drop4<Input, A, B, C, D>,
+    Drop4<Input, E, F, G, H>,
+>;
+
 /// The first two parts of a choice, which go on, or begin, unless the later part is running.
 #[inline(always)]
 fn try_2<
     Input: Stream,
     A: Parser<Input>,
     B: Parser<Input, Output = A::Output>,
-    S: Default + Drop,
+    S: Default,
+    T: DropState<S>,
     M: ParseMode,
 >(
     a: &mut A,
@@ -59,14 +84,14 @@ fn try_2<
     requires valid { first_valid (or_valid A.valid B.valid) state.old }
     ensures { Tried (world Input.step Input.Error.seen Input.steady (λ s. s ≡ OrState.Peek)) S.is_default (or_valid A.valid B.valid) (A.lawful a.new × B.lawful b.new) (either_of (A.meaning a.old) (B.meaning b.old)) (either_of (A.meaning a.new) (B.meaning b.new)) (RefusesOr Input.Error.seen Input.Position.cmp A.PartialState.is_default B.PartialState.is_default (A.refuses a.old) (B.refuses b.old)) (Input.marks input.old) (Input.marks input.new) (M.first mode) state.old state.new (Input.view input.old) (Input.view input.new) (Input.failures input.old) (Input.failures input.new) result }
 {
-    let mut kept = match begin(state, mode) {
+    let mut kept = match begin::<_, Drop2<Input, A, B>, _, T, _>(state, mode) {
         Ok(kept) => kept,
         Err(kept) => return Turn::Goes(kept, None),
     };
     let start = input.checkpoint();
     let position = input.position();
     let answer = choose_2(a, b, mode, input, &mut kept);
-    go_on(start, position, input, kept, answer, state)
+    go_on::<_, _, _, Drop2<Input, A, B>, _, T>(start, position, input, kept, answer, state)
 }
 
 /// The first three parts of a choice, which go on, or begin, unless the later part is running.
@@ -76,7 +101,8 @@ fn try_3<
     A: Parser<Input>,
     B: Parser<Input, Output = A::Output>,
     C: Parser<Input, Output = A::Output>,
-    S: Default + Drop,
+    S: Default,
+    T: DropState<S>,
     M: ParseMode,
 >(
     a: &mut A,
@@ -90,14 +116,14 @@ fn try_3<
     requires valid { first_valid (or_valid A.valid (or_valid B.valid C.valid)) state.old }
     ensures { Tried (world Input.step Input.Error.seen Input.steady (λ s. s ≡ OrState.Peek)) S.is_default (or_valid A.valid (or_valid B.valid C.valid)) (A.lawful a.new × (B.lawful b.new × C.lawful c.new)) (either_of (A.meaning a.old) (either_of (B.meaning b.old) (C.meaning c.old))) (either_of (A.meaning a.new) (either_of (B.meaning b.new) (C.meaning c.new))) (RefusesOr Input.Error.seen Input.Position.cmp A.PartialState.is_default (λ s. s ≡ OrState.Peek) (A.refuses a.old) (RefusesOr Input.Error.seen Input.Position.cmp B.PartialState.is_default C.PartialState.is_default (B.refuses b.old) (C.refuses c.old))) (Input.marks input.old) (Input.marks input.new) (M.first mode) state.old state.new (Input.view input.old) (Input.view input.new) (Input.failures input.old) (Input.failures input.new) result }
 {
-    let mut kept = match begin(state, mode) {
+    let mut kept = match begin::<_, Drop3<Input, A, B, C>, _, T, _>(state, mode) {
         Ok(kept) => kept,
         Err(kept) => return Turn::Goes(kept, None),
     };
     let start = input.checkpoint();
     let position = input.position();
     let answer = choose_3(a, b, c, mode, input, &mut kept);
-    go_on(start, position, input, kept, answer, state)
+    go_on::<_, _, _, Drop3<Input, A, B, C>, _, T>(start, position, input, kept, answer, state)
 }
 
 /// The first four parts of a choice, which go on, or begin, unless the later part is running.
@@ -108,7 +134,8 @@ fn try_4<
     B: Parser<Input, Output = A::Output>,
     C: Parser<Input, Output = A::Output>,
     D: Parser<Input, Output = A::Output>,
-    S: Default + Drop,
+    S: Default,
+    T: DropState<S>,
     M: ParseMode,
 >(
     a: &mut A,
@@ -123,14 +150,14 @@ fn try_4<
     requires valid { first_valid (or_valid (or_valid A.valid B.valid) (or_valid C.valid D.valid)) state.old }
     ensures { Tried (world Input.step Input.Error.seen Input.steady (λ s. s ≡ OrState.Peek)) S.is_default (or_valid (or_valid A.valid B.valid) (or_valid C.valid D.valid)) ((A.lawful a.new × B.lawful b.new) × (C.lawful c.new × D.lawful d.new)) (either_of (either_of (A.meaning a.old) (B.meaning b.old)) (either_of (C.meaning c.old) (D.meaning d.old))) (either_of (either_of (A.meaning a.new) (B.meaning b.new)) (either_of (C.meaning c.new) (D.meaning d.new))) (RefusesOr Input.Error.seen Input.Position.cmp (λ s. s ≡ OrState.Peek) (λ s. s ≡ OrState.Peek) (RefusesOr Input.Error.seen Input.Position.cmp A.PartialState.is_default B.PartialState.is_default (A.refuses a.old) (B.refuses b.old)) (RefusesOr Input.Error.seen Input.Position.cmp C.PartialState.is_default D.PartialState.is_default (C.refuses c.old) (D.refuses d.old))) (Input.marks input.old) (Input.marks input.new) (M.first mode) state.old state.new (Input.view input.old) (Input.view input.new) (Input.failures input.old) (Input.failures input.new) result }
 {
-    let mut kept = match begin(state, mode) {
+    let mut kept = match begin::<_, Drop4<Input, A, B, C, D>, _, T, _>(state, mode) {
         Ok(kept) => kept,
         Err(kept) => return Turn::Goes(kept, None),
     };
     let start = input.checkpoint();
     let position = input.position();
     let answer = choose_4::<_, _, _, _, _, _, false>(a, b, c, d, mode, input, &mut kept);
-    go_on(start, position, input, kept, answer, state)
+    go_on::<_, _, _, Drop4<Input, A, B, C, D>, _, T>(start, position, input, kept, answer, state)
 }
 
 /// The later two parts of a choice, which go on from that state, after that refusal of the first part.
@@ -139,7 +166,8 @@ fn then_2<
     Input: Stream,
     A: Parser<Input>,
     B: Parser<Input, Output = A::Output>,
-    S: Drop,
+    S,
+    T: DropState<S>,
     M: ParseMode,
 >(
     a: &mut A,
@@ -157,7 +185,7 @@ fn then_2<
 {
     let mut kept = kept;
     let answer = choose_2(a, b, mode, input, &mut kept);
-    settle(input, refused, kept, answer, state)
+    settle::<_, _, _, T, _, Drop2<Input, A, B>>(input, refused, kept, answer, state)
 }
 
 /// The later four parts of a choice, which go on from that state, after that refusal of the first part.
@@ -168,7 +196,8 @@ fn then_4<
     B: Parser<Input, Output = A::Output>,
     C: Parser<Input, Output = A::Output>,
     D: Parser<Input, Output = A::Output>,
-    S: Drop,
+    S,
+    T: DropState<S>,
     M: ParseMode,
 >(
     a: &mut A,
@@ -188,7 +217,7 @@ fn then_4<
 {
     let mut kept = kept;
     let answer = choose_4::<_, _, _, _, _, _, true>(a, b, c, d, mode, input, &mut kept);
-    settle(input, refused, kept, answer, state)
+    settle::<_, _, _, T, _, Drop4<Input, A, B, C, D>>(input, refused, kept, answer, state)
 }
 
 /// The choice of three.
@@ -211,9 +240,11 @@ pub(super) fn choose_3<
     requires valid { or_valid A.valid (or_valid B.valid C.valid) state.old }
     ensures { Chose (world Input.step Input.Error.seen Input.steady (λ s. s ≡ OrState.Peek)) (A.lawful a.new × (B.lawful b.new × C.lawful c.new)) (or_valid A.valid (or_valid B.valid C.valid)) (either_of (A.meaning a.old) (either_of (B.meaning b.old) (C.meaning c.old))) (either_of (A.meaning a.new) (either_of (B.meaning b.new) (C.meaning c.new))) (RefusesOr Input.Error.seen Input.Position.cmp A.PartialState.is_default (λ s. s ≡ OrState.Peek) (A.refuses a.old) (RefusesOr Input.Error.seen Input.Position.cmp B.PartialState.is_default C.PartialState.is_default (B.refuses b.old) (C.refuses c.old))) (Input.marks input.old) (Input.marks input.new) (record { first = M.first mode; state = state.old; left = state.new; old = Input.view input.old; new = Input.view input.new; before = Input.failures input.old; after = Input.failures input.new }) result }
 {
-    match try_1(a, mode, input, state) {
+    match try_1::<_, _, _, Drop2<Input, B, C>, _>(a, mode, input, state) {
         Turn::Ends(answer) => answer,
-        Turn::Goes(kept, refused) => { then_2(b, c, mode, input, refused, kept, state) }
+        Turn::Goes(kept, refused) => {
+            then_2::<_, _, _, _, Of<Input, A>, _>(b, c, mode, input, refused, kept, state)
+        }
     }
 }
 
@@ -242,9 +273,11 @@ pub(super) fn choose_4<
     requires valid { or_valid (or_valid A.valid B.valid) (or_valid C.valid D.valid) state.old }
     ensures { Chose (world Input.step Input.Error.seen Input.steady (λ s. s ≡ OrState.Peek)) ((A.lawful a.new × B.lawful b.new) × (C.lawful c.new × D.lawful d.new)) (or_valid (or_valid A.valid B.valid) (or_valid C.valid D.valid)) (either_of (either_of (A.meaning a.old) (B.meaning b.old)) (either_of (C.meaning c.old) (D.meaning d.old))) (either_of (either_of (A.meaning a.new) (B.meaning b.new)) (either_of (C.meaning c.new) (D.meaning d.new))) (RefusesOr Input.Error.seen Input.Position.cmp (λ s. s ≡ OrState.Peek) (λ s. s ≡ OrState.Peek) (RefusesOr Input.Error.seen Input.Position.cmp A.PartialState.is_default B.PartialState.is_default (A.refuses a.old) (B.refuses b.old)) (RefusesOr Input.Error.seen Input.Position.cmp C.PartialState.is_default D.PartialState.is_default (C.refuses c.old) (D.refuses d.old))) (Input.marks input.old) (Input.marks input.new) (record { first = M.first mode; state = state.old; left = state.new; old = Input.view input.old; new = Input.view input.new; before = Input.failures input.old; after = Input.failures input.new }) result }
 {
-    match try_2(a, b, mode, input, state) {
+    match try_2::<_, _, _, _, Drop2<Input, C, D>, _>(a, b, mode, input, state) {
         Turn::Ends(answer) => answer,
-        Turn::Goes(kept, refused) => { then_2(c, d, mode, input, refused, kept, state) }
+        Turn::Goes(kept, refused) => {
+            then_2::<_, _, _, _, Drop2<Input, A, B>, _>(c, d, mode, input, refused, kept, state)
+        }
     }
 }
 
@@ -272,9 +305,13 @@ pub(super) fn choose_5<
     requires valid { or_valid A.valid (or_valid (or_valid B.valid C.valid) (or_valid D.valid E.valid)) state.old }
     ensures { Chose (world Input.step Input.Error.seen Input.steady (λ s. s ≡ OrState.Peek)) (A.lawful a.new × ((B.lawful b.new × C.lawful c.new) × (D.lawful d.new × E.lawful e.new))) (or_valid A.valid (or_valid (or_valid B.valid C.valid) (or_valid D.valid E.valid))) (either_of (A.meaning a.old) (either_of (either_of (B.meaning b.old) (C.meaning c.old)) (either_of (D.meaning d.old) (E.meaning e.old)))) (either_of (A.meaning a.new) (either_of (either_of (B.meaning b.new) (C.meaning c.new)) (either_of (D.meaning d.new) (E.meaning e.new)))) (RefusesOr Input.Error.seen Input.Position.cmp A.PartialState.is_default (λ s. s ≡ OrState.Peek) (A.refuses a.old) (RefusesOr Input.Error.seen Input.Position.cmp (λ s. s ≡ OrState.Peek) (λ s. s ≡ OrState.Peek) (RefusesOr Input.Error.seen Input.Position.cmp B.PartialState.is_default C.PartialState.is_default (B.refuses b.old) (C.refuses c.old)) (RefusesOr Input.Error.seen Input.Position.cmp D.PartialState.is_default E.PartialState.is_default (D.refuses d.old) (E.refuses e.old)))) (Input.marks input.old) (Input.marks input.new) (record { first = M.first mode; state = state.old; left = state.new; old = Input.view input.old; new = Input.view input.new; before = Input.failures input.old; after = Input.failures input.new }) result }
 {
-    match try_1(a, mode, input, state) {
+    match try_1::<_, _, _, Drop4<Input, B, C, D, E>, _>(a, mode, input, state) {
         Turn::Ends(answer) => answer,
-        Turn::Goes(kept, refused) => { then_4(b, c, d, e, mode, input, refused, kept, state) }
+        Turn::Goes(kept, refused) => {
+            then_4::<_, _, _, _, _, _, Of<Input, A>, _>(
+                b, c, d, e, mode, input, refused, kept, state,
+            )
+        }
     }
 }
 
@@ -304,9 +341,13 @@ pub(super) fn choose_6<
     requires valid { or_valid (or_valid A.valid B.valid) (or_valid (or_valid C.valid D.valid) (or_valid E.valid F.valid)) state.old }
     ensures { Chose (world Input.step Input.Error.seen Input.steady (λ s. s ≡ OrState.Peek)) ((A.lawful a.new × B.lawful b.new) × ((C.lawful c.new × D.lawful d.new) × (E.lawful e.new × F.lawful f.new))) (or_valid (or_valid A.valid B.valid) (or_valid (or_valid C.valid D.valid) (or_valid E.valid F.valid))) (either_of (either_of (A.meaning a.old) (B.meaning b.old)) (either_of (either_of (C.meaning c.old) (D.meaning d.old)) (either_of (E.meaning e.old) (F.meaning f.old)))) (either_of (either_of (A.meaning a.new) (B.meaning b.new)) (either_of (either_of (C.meaning c.new) (D.meaning d.new)) (either_of (E.meaning e.new) (F.meaning f.new)))) (RefusesOr Input.Error.seen Input.Position.cmp (λ s. s ≡ OrState.Peek) (λ s. s ≡ OrState.Peek) (RefusesOr Input.Error.seen Input.Position.cmp A.PartialState.is_default B.PartialState.is_default (A.refuses a.old) (B.refuses b.old)) (RefusesOr Input.Error.seen Input.Position.cmp (λ s. s ≡ OrState.Peek) (λ s. s ≡ OrState.Peek) (RefusesOr Input.Error.seen Input.Position.cmp C.PartialState.is_default D.PartialState.is_default (C.refuses c.old) (D.refuses d.old)) (RefusesOr Input.Error.seen Input.Position.cmp E.PartialState.is_default F.PartialState.is_default (E.refuses e.old) (F.refuses f.old)))) (Input.marks input.old) (Input.marks input.new) (record { first = M.first mode; state = state.old; left = state.new; old = Input.view input.old; new = Input.view input.new; before = Input.failures input.old; after = Input.failures input.new }) result }
 {
-    match try_2(a, b, mode, input, state) {
+    match try_2::<_, _, _, _, Drop4<Input, C, D, E, F>, _>(a, b, mode, input, state) {
         Turn::Ends(answer) => answer,
-        Turn::Goes(kept, refused) => { then_4(c, d, e, f, mode, input, refused, kept, state) }
+        Turn::Goes(kept, refused) => {
+            then_4::<_, _, _, _, _, _, Drop2<Input, A, B>, _>(
+                c, d, e, f, mode, input, refused, kept, state,
+            )
+        }
     }
 }
 
@@ -338,9 +379,13 @@ pub(super) fn choose_7<
     requires valid { or_valid (or_valid A.valid (or_valid B.valid C.valid)) (or_valid (or_valid D.valid E.valid) (or_valid F.valid G.valid)) state.old }
     ensures { Chose (world Input.step Input.Error.seen Input.steady (λ s. s ≡ OrState.Peek)) ((A.lawful a.new × (B.lawful b.new × C.lawful c.new)) × ((D.lawful d.new × E.lawful e.new) × (F.lawful f.new × G.lawful g.new))) (or_valid (or_valid A.valid (or_valid B.valid C.valid)) (or_valid (or_valid D.valid E.valid) (or_valid F.valid G.valid))) (either_of (either_of (A.meaning a.old) (either_of (B.meaning b.old) (C.meaning c.old))) (either_of (either_of (D.meaning d.old) (E.meaning e.old)) (either_of (F.meaning f.old) (G.meaning g.old)))) (either_of (either_of (A.meaning a.new) (either_of (B.meaning b.new) (C.meaning c.new))) (either_of (either_of (D.meaning d.new) (E.meaning e.new)) (either_of (F.meaning f.new) (G.meaning g.new)))) (RefusesOr Input.Error.seen Input.Position.cmp (λ s. s ≡ OrState.Peek) (λ s. s ≡ OrState.Peek) (RefusesOr Input.Error.seen Input.Position.cmp A.PartialState.is_default (λ s. s ≡ OrState.Peek) (A.refuses a.old) (RefusesOr Input.Error.seen Input.Position.cmp B.PartialState.is_default C.PartialState.is_default (B.refuses b.old) (C.refuses c.old))) (RefusesOr Input.Error.seen Input.Position.cmp (λ s. s ≡ OrState.Peek) (λ s. s ≡ OrState.Peek) (RefusesOr Input.Error.seen Input.Position.cmp D.PartialState.is_default E.PartialState.is_default (D.refuses d.old) (E.refuses e.old)) (RefusesOr Input.Error.seen Input.Position.cmp F.PartialState.is_default G.PartialState.is_default (F.refuses f.old) (G.refuses g.old)))) (Input.marks input.old) (Input.marks input.new) (record { first = M.first mode; state = state.old; left = state.new; old = Input.view input.old; new = Input.view input.new; before = Input.failures input.old; after = Input.failures input.new }) result }
 {
-    match try_3(a, b, c, mode, input, state) {
+    match try_3::<_, _, _, _, _, Drop4<Input, D, E, F, G>, _>(a, b, c, mode, input, state) {
         Turn::Ends(answer) => answer,
-        Turn::Goes(kept, refused) => { then_4(d, e, f, g, mode, input, refused, kept, state) }
+        Turn::Goes(kept, refused) => {
+            then_4::<_, _, _, _, _, _, Drop3<Input, A, B, C>, _>(
+                d, e, f, g, mode, input, refused, kept, state,
+            )
+        }
     }
 }
 
@@ -374,8 +419,12 @@ pub(super) fn choose_8<
     requires valid { or_valid (or_valid (or_valid A.valid B.valid) (or_valid C.valid D.valid)) (or_valid (or_valid E.valid F.valid) (or_valid G.valid H.valid)) state.old }
     ensures { Chose (world Input.step Input.Error.seen Input.steady (λ s. s ≡ OrState.Peek)) (((A.lawful a.new × B.lawful b.new) × (C.lawful c.new × D.lawful d.new)) × ((E.lawful e.new × F.lawful f.new) × (G.lawful g.new × H.lawful h.new))) (or_valid (or_valid (or_valid A.valid B.valid) (or_valid C.valid D.valid)) (or_valid (or_valid E.valid F.valid) (or_valid G.valid H.valid))) (either_of (either_of (either_of (A.meaning a.old) (B.meaning b.old)) (either_of (C.meaning c.old) (D.meaning d.old))) (either_of (either_of (E.meaning e.old) (F.meaning f.old)) (either_of (G.meaning g.old) (H.meaning h.old)))) (either_of (either_of (either_of (A.meaning a.new) (B.meaning b.new)) (either_of (C.meaning c.new) (D.meaning d.new))) (either_of (either_of (E.meaning e.new) (F.meaning f.new)) (either_of (G.meaning g.new) (H.meaning h.new)))) (RefusesOr Input.Error.seen Input.Position.cmp (λ s. s ≡ OrState.Peek) (λ s. s ≡ OrState.Peek) (RefusesOr Input.Error.seen Input.Position.cmp (λ s. s ≡ OrState.Peek) (λ s. s ≡ OrState.Peek) (RefusesOr Input.Error.seen Input.Position.cmp A.PartialState.is_default B.PartialState.is_default (A.refuses a.old) (B.refuses b.old)) (RefusesOr Input.Error.seen Input.Position.cmp C.PartialState.is_default D.PartialState.is_default (C.refuses c.old) (D.refuses d.old))) (RefusesOr Input.Error.seen Input.Position.cmp (λ s. s ≡ OrState.Peek) (λ s. s ≡ OrState.Peek) (RefusesOr Input.Error.seen Input.Position.cmp E.PartialState.is_default F.PartialState.is_default (E.refuses e.old) (F.refuses f.old)) (RefusesOr Input.Error.seen Input.Position.cmp G.PartialState.is_default H.PartialState.is_default (G.refuses g.old) (H.refuses h.old)))) (Input.marks input.old) (Input.marks input.new) (record { first = M.first mode; state = state.old; left = state.new; old = Input.view input.old; new = Input.view input.new; before = Input.failures input.old; after = Input.failures input.new }) result }
 {
-    match try_4(a, b, c, d, mode, input, state) {
+    match try_4::<_, _, _, _, _, _, Drop4<Input, E, F, G, H>, _>(a, b, c, d, mode, input, state) {
         Turn::Ends(answer) => answer,
-        Turn::Goes(kept, refused) => { then_4(e, f, g, h, mode, input, refused, kept, state) }
+        Turn::Goes(kept, refused) => {
+            then_4::<_, _, _, _, _, _, Drop4<Input, A, B, C, D>, _>(
+                e, f, g, h, mode, input, refused, kept, state,
+            )
+        }
     }
 }

@@ -12,10 +12,13 @@ ghost use Rattle.combine_choice.specs.OneTurn.{NoAlternative, Resumes, Turn};
 
 use super::{ChoiceOutputs, ChoiceParser};
 use combine_base::error::{ParseResult, Tracked};
-use combine_base::parser::{FirstMode, Outputs, ParseMode, Parser, PartialMode};
+use combine_base::parser::{
+    DropState, FirstMode, Of, Outputs, ParseMode, Parser, PartialMode, put_state,
+};
 use combine_base::refusal::{peeked, refusal_saying};
 use combine_base::stream::{Stream, asks_for_more};
 use combine_token::choice::after_refusal;
+use std::marker::PhantomData;
 use std::mem::replace;
 
 /// The running alternative of a choice over a slice or an array, and its state.
@@ -36,6 +39,21 @@ impl<S> Default for SliceState<S> {
 
     fn default() -> Self {
         SliceState::Peek
+    }
+}
+
+/// Lets the states of a choice over a slice or an array go, by how those of its alternatives are.
+pub struct SliceOf<D> {
+    alternative: PhantomData<D>,
+}
+
+impl<S, D: DropState<S>> DropState<SliceState<S>> for SliceOf<D> {
+    #[inline(always)]
+    fn drop_state(state: SliceState<S>) {
+        match state {
+            SliceState::Peek => {}
+            SliceState::At { index: _, state } => D::drop_state(state),
+        }
     }
 }
 
@@ -68,7 +86,9 @@ fn take_turn<Input: Stream, P: Parser<Input>, M: ParseMode>(
     let mut kept = kept;
     let answer = alternative.parse_mode(mode, input, &mut kept);
     if asks_for_more(input, &answer) {
-        *state = SliceState::At { index, state: kept };
+        put_state::<_, SliceOf<Of<Input, P>>>(state, SliceState::At { index, state: kept });
+    } else {
+        P::drop_state(kept);
     }
     answer
 }
@@ -160,10 +180,15 @@ fn no_alternative<O, Input: Stream>(input: &Input) -> ParseResult<O, Input::Erro
 
 /// The alternative of so many that a call goes on with, and its state: `Peek` where the call begins afresh, also where no alternative has that index.
 #[inline(always)]
-fn running<S: Drop, M: ParseMode>(kept: SliceState<S>, count: usize, mode: M) -> SliceState<S>
+fn running<S, D: DropState<S>, M: ParseMode>(
+    kept: SliceState<S>,
+    count: usize,
+    mode: M,
+) -> SliceState<S>
     ensures { Resumes (M.first mode) kept count result }
 {
     if mode.is_first() {
+        <SliceOf<D> as DropState<_>>::drop_state(kept);
         return SliceState::Peek;
     }
     match kept {
@@ -171,6 +196,7 @@ fn running<S: Drop, M: ParseMode>(kept: SliceState<S>, count: usize, mode: M) ->
             if index < count {
                 return SliceState::At { index, state };
             }
+            D::drop_state(state);
             SliceState::Peek
         }
         SliceState::Peek => SliceState::Peek,
@@ -199,9 +225,10 @@ fn parse_slice<Input: Stream, P: Parser<Input>, M: ParseMode>(
 {
     let kept = replace(state, SliceState::Peek);
     if alternatives.is_empty() {
+        <SliceOf<Of<Input, P>> as DropState<_>>::drop_state(kept);
         return no_alternative(input);
     }
-    match running(kept, alternatives.len(), mode) {
+    match running::<_, Of<Input, P>, _>(kept, alternatives.len(), mode) {
         SliceState::At { index, state: kept } => {
             resume(
                 alternatives,
@@ -263,6 +290,11 @@ impl<'a, Input: Stream, P: Parser<Input>> ChoiceParser<Input> for Slice<'a, P> {
     ghost single = { λ p l d. chosen_means_one P.meaning P.PartialState.is_default P.valid p.0.now (every_both P.meaning P.lawful P.determined (MeansOne P.valid) P.single p.0.now l d) };
 
     #[inline(always)]
+    fn drop_state(state: SliceState<P::PartialState>) {
+        <SliceOf<Of<Input, P>> as DropState<_>>::drop_state(state)
+    }
+
+    #[inline(always)]
     fn parse_mode_choice<M: ParseMode>(
         &mut self,
         mode: M,
@@ -305,6 +337,11 @@ impl<Input: Stream, P: Parser<Input>, const N: usize> ChoiceParser<Input> for [P
     ghost laws = { λ p l. chosen_is_meaning P.meaning P.PartialState.is_default P.valid p (every_all P.meaning P.lawful (IsMeaning P.PartialState.is_default P.valid) P.laws p l) };
 
     ghost single = { λ p l d. chosen_means_one P.meaning P.PartialState.is_default P.valid p (every_both P.meaning P.lawful P.determined (MeansOne P.valid) P.single p l d) };
+
+    #[inline(always)]
+    fn drop_state(state: SliceState<P::PartialState>) {
+        <SliceOf<Of<Input, P>> as DropState<_>>::drop_state(state)
+    }
 
     #[inline(always)]
     fn parse_mode_choice<M: ParseMode>(

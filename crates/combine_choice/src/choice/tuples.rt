@@ -1,14 +1,14 @@
 //! Choices over the parsers of a tuple of 1 to 8.
 
 use super::lent::{
-    State3, State4, State5, State6, State7, State8, choose_3, choose_4, choose_5, choose_6,
-    choose_7, choose_8,
+    Drop3, Drop4, Drop5, Drop6, Drop7, Drop8, State3, State4, State5, State6, State7, State8,
+    choose_3, choose_4, choose_5, choose_6, choose_7, choose_8,
 };
 use super::{ChoiceOutputs, ChoiceParser};
 use combine_base::error::{ParseResult, Tracked};
-use combine_base::parser::{Outputs, ParseMode, Parser};
+use combine_base::parser::{DropState, Outputs, ParseMode, Parser};
 use combine_base::stream::Stream;
-use combine_token::choice::lent::{State2, choose_2};
+use combine_token::choice::lent::{Drop2, State2, choose_2};
 
 impl<Input, A: Outputs<Input>> ChoiceOutputs<Input> for (A,) {
     type Output = A::Output;
@@ -33,6 +33,11 @@ impl<Input: Stream, A: Parser<Input>> ChoiceParser<Input> for (A,) {
     ghost laws = { λ p l. A.laws p.0 l };
 
     ghost single = { λ p l d. A.single p.0 l d };
+
+    #[inline(always)]
+    fn drop_state(state: A::PartialState) {
+        A::drop_state(state)
+    }
 
     #[inline(always)]
     fn parse_mode_choice<M: ParseMode>(
@@ -78,6 +83,11 @@ impl<Input: Stream, A: Parser<Input>, B: Parser<Input, Output = A::Output>> Choi
     ghost laws = { λ p l. nest_laws (A.laws p.0 l.0) (B.laws p.1 l.1) };
 
     ghost single = { λ p l d. nest_one (A.single p.0 l.0 d.0) (B.single p.1 l.1 d.1) };
+
+    #[inline(always)]
+    fn drop_state(state: State2<Input, A, B>) {
+        <Drop2<Input, A, B> as DropState<_>>::drop_state(state)
+    }
 
     #[inline(always)]
     fn parse_mode_choice<M: ParseMode>(
@@ -130,6 +140,11 @@ impl<
     ghost single = { λ p l d. nest_one (A.single p.0 l.0 d.0) (nest_one (B.single p.1 l.1.0 d.1.0) (C.single p.2 l.1.1 d.1.1)) };
 
     #[inline(always)]
+    fn drop_state(state: State3<Input, A, B, C>) {
+        <Drop3<Input, A, B, C> as DropState<_>>::drop_state(state)
+    }
+
+    #[inline(always)]
     fn parse_mode_choice<M: ParseMode>(
         &mut self,
         mode: M,
@@ -180,6 +195,11 @@ impl<
     ghost laws = { λ p l. nest_laws (nest_laws (A.laws p.0 l.0.0) (B.laws p.1 l.0.1)) (nest_laws (C.laws p.2 l.1.0) (D.laws p.3 l.1.1)) };
 
     ghost single = { λ p l d. nest_one (nest_one (A.single p.0 l.0.0 d.0.0) (B.single p.1 l.0.1 d.0.1)) (nest_one (C.single p.2 l.1.0 d.1.0) (D.single p.3 l.1.1 d.1.1)) };
+
+    #[inline(always)]
+    fn drop_state(state: State4<Input, A, B, C, D>) {
+        <Drop4<Input, A, B, C, D> as DropState<_>>::drop_state(state)
+    }
 
     #[inline(always)]
     fn parse_mode_choice<M: ParseMode>(
@@ -242,6 +262,11 @@ impl<
     ghost laws = { λ p l. nest_laws (A.laws p.0 l.0) (nest_laws (nest_laws (B.laws p.1 l.1.0.0) (C.laws p.2 l.1.0.1)) (nest_laws (D.laws p.3 l.1.1.0) (E.laws p.4 l.1.1.1))) };
 
     ghost single = { λ p l d. nest_one (A.single p.0 l.0 d.0) (nest_one (nest_one (B.single p.1 l.1.0.0 d.1.0.0) (C.single p.2 l.1.0.1 d.1.0.1)) (nest_one (D.single p.3 l.1.1.0 d.1.1.0) (E.single p.4 l.1.1.1 d.1.1.1))) };
+
+    #[inline(always)]
+    fn drop_state(state: State5<Input, A, B, C, D, E>) {
+        <Drop5<Input, A, B, C, D, E> as DropState<_>>::drop_state(state)
+    }
 
     #[inline(always)]
     fn parse_mode_choice<M: ParseMode>(
@@ -307,6 +332,11 @@ impl<
     ghost laws = { λ p l. nest_laws (nest_laws (A.laws p.0 l.0.0) (B.laws p.1 l.0.1)) (nest_laws (nest_laws (C.laws p.2 l.1.0.0) (D.laws p.3 l.1.0.1)) (nest_laws (E.laws p.4 l.1.1.0) (F.laws p.5 l.1.1.1))) };
 
     ghost single = { λ p l d. nest_one (nest_one (A.single p.0 l.0.0 d.0.0) (B.single p.1 l.0.1 d.0.1)) (nest_one (nest_one (C.single p.2 l.1.0.0 d.1.0.0) (D.single p.3 l.1.0.1 d.1.0.1)) (nest_one (E.single p.4 l.1.1.0 d.1.1.0) (F.single p.5 l.1.1.1 d.1.1.1))) };
+
+    #[inline(always)]
+    fn drop_state(state: State6<Input, A, B, C, D, E, F>) {
+        <Drop6<Input, A, B, C, D, E, F> as DropState<_>>::drop_state(state)
+    }
 
     #[inline(always)]
     fn parse_mode_choice<M: ParseMode>(
@@ -375,6 +405,11 @@ impl<
     ghost laws = { λ p l. nest_laws (nest_laws (A.laws p.0 l.0.0) (nest_laws (B.laws p.1 l.0.1.0) (C.laws p.2 l.0.1.1))) (nest_laws (nest_laws (D.laws p.3 l.1.0.0) (E.laws p.4 l.1.0.1)) (nest_laws (F.laws p.5 l.1.1.0) (G.laws p.6 l.1.1.1))) };
 
     ghost single = { λ p l d. nest_one (nest_one (A.single p.0 l.0.0 d.0.0) (nest_one (B.single p.1 l.0.1.0 d.0.1.0) (C.single p.2 l.0.1.1 d.0.1.1))) (nest_one (nest_one (D.single p.3 l.1.0.0 d.1.0.0) (E.single p.4 l.1.0.1 d.1.0.1)) (nest_one (F.single p.5 l.1.1.0 d.1.1.0) (G.single p.6 l.1.1.1 d.1.1.1))) };
+
+    #[inline(always)]
+    fn drop_state(state: State7<Input, A, B, C, D, E, F, G>) {
+        <Drop7<Input, A, B, C, D, E, F, G> as DropState<_>>::drop_state(state)
+    }
 
     #[inline(always)]
     fn parse_mode_choice<M: ParseMode>(
@@ -447,6 +482,11 @@ impl<
     ghost laws = { λ p l. nest_laws (nest_laws (nest_laws (A.laws p.0 l.0.0.0) (B.laws p.1 l.0.0.1)) (nest_laws (C.laws p.2 l.0.1.0) (D.laws p.3 l.0.1.1))) (nest_laws (nest_laws (E.laws p.4 l.1.0.0) (F.laws p.5 l.1.0.1)) (nest_laws (G.laws p.6 l.1.1.0) (H.laws p.7 l.1.1.1))) };
 
     ghost single = { λ p l d. nest_one (nest_one (nest_one (A.single p.0 l.0.0.0 d.0.0.0) (B.single p.1 l.0.0.1 d.0.0.1)) (nest_one (C.single p.2 l.0.1.0 d.0.1.0) (D.single p.3 l.0.1.1 d.0.1.1))) (nest_one (nest_one (E.single p.4 l.1.0.0 d.1.0.0) (F.single p.5 l.1.0.1 d.1.0.1)) (nest_one (G.single p.6 l.1.1.0 d.1.1.0) (H.single p.7 l.1.1.1 d.1.1.1))) };
+
+    #[inline(always)]
+    fn drop_state(state: State8<Input, A, B, C, D, E, F, G, H>) {
+        <Drop8<Input, A, B, C, D, E, F, G, H> as DropState<_>>::drop_state(state)
+    }
 
     #[inline(always)]
     fn parse_mode_choice<M: ParseMode>(

@@ -36,6 +36,11 @@ impl<Input: Stream, P: ChoiceParser<Input>> Parser<Input> for Choice<P> {
     ghost single = { λ p l d. P.single p.0 l d };
 
     #[inline(always)]
+    fn drop_state(state: P::PartialState) {
+        P::drop_state(state)
+    }
+
+    #[inline(always)]
     fn parse_mode<M: ParseMode>(
         &mut self,
         mode: M,

@@ -4,8 +4,9 @@ ghost use Rattle.combine_choice_dispatch.specs.Variants3.{each_3, pick_a, pick_b
 
 use super::{passed_on, start};
 use combine_base::error::{ErrorOffset, ParseResult, Tracked};
-use combine_base::parser::{Outputs, ParseMode, Parser};
+use combine_base::parser::{DropState, Of, Outputs, ParseMode, Parser, put_state};
 use combine_base::stream::Stream;
+use std::marker::PhantomData;
 use std::mem::take;
 
 /// One of three parsers, which means the one that it holds; or the state of one of them. In the crate `dispatch!` makes such an enum.
@@ -26,37 +27,67 @@ impl<A: Default, B: Default, C: Default> Default for Dispatch3<A, B, C> {
     }
 }
 
-impl<A: Drop, B: Drop, C: Drop> Dispatch3<A, B, C> {
+/// Lets the states of one of three parsers go, by how those of each are.
+pub struct Dispatch3Of<P, Q, R> {
+    a: PhantomData<P>,
+    b: PhantomData<Q>,
+    c: PhantomData<R>,
+}
+
+impl<A, B, C, P: DropState<A>, Q: DropState<B>, R: DropState<C>> DropState<Dispatch3<A, B, C>>
+    for Dispatch3Of<P, Q, R> {
     #[inline(always)]
-    fn into_a(self) -> Option<A>
+    fn drop_state(state: Dispatch3<A, B, C>) {
+        match state {
+            Dispatch3::A(kept) => P::drop_state(kept),
+            Dispatch3::B(kept) => Q::drop_state(kept),
+            Dispatch3::C(kept) => R::drop_state(kept),
+        }
+    }
+}
+
+impl<A, B, C> Dispatch3<A, B, C> {
+    #[inline(always)]
+    fn into_a<S: DropState<Self>>(self) -> Option<A>
         ensures { result ≡ pick_a self }
     {
         match self {
             Dispatch3::A(kept) => Some(kept),
-            Dispatch3::B(_) | Dispatch3::C(_) => None,
+            other => {
+                S::drop_state(other);
+                None
+            }
         }
     }
 
     #[inline(always)]
-    fn into_b(self) -> Option<B>
+    fn into_b<S: DropState<Self>>(self) -> Option<B>
         ensures { result ≡ pick_b self }
     {
         match self {
             Dispatch3::B(kept) => Some(kept),
-            Dispatch3::A(_) | Dispatch3::C(_) => None,
+            other => {
+                S::drop_state(other);
+                None
+            }
         }
     }
 
     #[inline(always)]
-    fn into_c(self) -> Option<C>
+    fn into_c<S: DropState<Self>>(self) -> Option<C>
         ensures { result ≡ pick_c self }
     {
         match self {
             Dispatch3::C(kept) => Some(kept),
-            Dispatch3::A(_) | Dispatch3::B(_) => None,
+            other => {
+                S::drop_state(other);
+                None
+            }
         }
     }
 }
+
+type Drop3<Input, A, B, C> = Dispatch3Of<Of<Input, A>, Of<Input, B>, Of<Input, C>>;
 
 impl<Input, A: Outputs<Input>, B, C> Outputs<Input> for Dispatch3<A, B, C> {
     type Output = A::Output;
@@ -91,6 +122,11 @@ impl<
     ghost single = { variant_3_means_one A.meaning B.meaning C.meaning A.PartialState.is_default A.valid B.PartialState.is_default B.valid C.PartialState.is_default C.valid A.lawful B.lawful C.lawful A.determined B.determined C.determined A.single B.single C.single };
 
     #[inline(always)]
+    fn drop_state(state: Dispatch3<A::PartialState, B::PartialState, C::PartialState>) {
+        <Drop3<Input, A, B, C> as DropState<_>>::drop_state(state)
+    }
+
+    #[inline(always)]
     fn parse_mode<M: ParseMode>(
         &mut self,
         mode: M,
@@ -99,21 +135,21 @@ impl<
     ) -> ParseResult<A::Output, Input::Error> {
         match self {
             Dispatch3::A(parser) => {
-                let mut kept = start(take(state).into_a());
+                let mut kept = start(take(state).into_a::<Drop3<Input, A, B, C>>());
                 let answer = parser.parse_mode(mode, input, &mut kept);
-                *state = Dispatch3::A(kept);
+                put_state::<_, Drop3<Input, A, B, C>>(state, Dispatch3::A(kept));
                 passed_on(answer)
             }
             Dispatch3::B(parser) => {
-                let mut kept = start(take(state).into_b());
+                let mut kept = start(take(state).into_b::<Drop3<Input, A, B, C>>());
                 let answer = parser.parse_mode(mode, input, &mut kept);
-                *state = Dispatch3::B(kept);
+                put_state::<_, Drop3<Input, A, B, C>>(state, Dispatch3::B(kept));
                 passed_on(answer)
             }
             Dispatch3::C(parser) => {
-                let mut kept = start(take(state).into_c());
+                let mut kept = start(take(state).into_c::<Drop3<Input, A, B, C>>());
                 let answer = parser.parse_mode(mode, input, &mut kept);
-                *state = Dispatch3::C(kept);
+                put_state::<_, Drop3<Input, A, B, C>>(state, Dispatch3::C(kept));
                 passed_on(answer)
             }
         }

@@ -4,8 +4,9 @@ ghost use Rattle.combine_choice_dispatch.specs.Variants4.{each_4, pick_a, pick_b
 
 use super::{passed_on, start};
 use combine_base::error::{ErrorOffset, ParseResult, Tracked};
-use combine_base::parser::{Outputs, ParseMode, Parser};
+use combine_base::parser::{DropState, Of, Outputs, ParseMode, Parser, put_state};
 use combine_base::stream::Stream;
+use std::marker::PhantomData;
 use std::mem::take;
 
 /// One of four parsers, which means the one that it holds; or the state of one of them. In the crate `dispatch!` makes such an enum.
@@ -27,47 +28,83 @@ impl<A: Default, B: Default, C: Default, D: Default> Default for Dispatch4<A, B,
     }
 }
 
-impl<A: Drop, B: Drop, C: Drop, D: Drop> Dispatch4<A, B, C, D> {
+/// Lets the states of one of four parsers go, by how those of each are.
+pub struct Dispatch4Of<P, Q, R, S> {
+    a: PhantomData<P>,
+    b: PhantomData<Q>,
+    c: PhantomData<R>,
+    d: PhantomData<S>,
+}
+
+impl<A, B, C, D, P: DropState<A>, Q: DropState<B>, R: DropState<C>, S: DropState<D>> DropState<
+    Dispatch4<A, B, C, D>,
+> for Dispatch4Of<P, Q, R, S> {
     #[inline(always)]
-    fn into_a(self) -> Option<A>
+    fn drop_state(state: Dispatch4<A, B, C, D>) {
+        match state {
+            Dispatch4::A(kept) => P::drop_state(kept),
+            Dispatch4::B(kept) => Q::drop_state(kept),
+            Dispatch4::C(kept) => R::drop_state(kept),
+            Dispatch4::D(kept) => S::drop_state(kept),
+        }
+    }
+}
+
+impl<A, B, C, D> Dispatch4<A, B, C, D> {
+    #[inline(always)]
+    fn into_a<S: DropState<Self>>(self) -> Option<A>
         ensures { result ≡ pick_a self }
     {
         match self {
             Dispatch4::A(kept) => Some(kept),
-            Dispatch4::B(_) | Dispatch4::C(_) | Dispatch4::D(_) => None,
+            other => {
+                S::drop_state(other);
+                None
+            }
         }
     }
 
     #[inline(always)]
-    fn into_b(self) -> Option<B>
+    fn into_b<S: DropState<Self>>(self) -> Option<B>
         ensures { result ≡ pick_b self }
     {
         match self {
             Dispatch4::B(kept) => Some(kept),
-            Dispatch4::A(_) | Dispatch4::C(_) | Dispatch4::D(_) => None,
+            other => {
+                S::drop_state(other);
+                None
+            }
         }
     }
 
     #[inline(always)]
-    fn into_c(self) -> Option<C>
+    fn into_c<S: DropState<Self>>(self) -> Option<C>
         ensures { result ≡ pick_c self }
     {
         match self {
             Dispatch4::C(kept) => Some(kept),
-            Dispatch4::A(_) | Dispatch4::B(_) | Dispatch4::D(_) => None,
+            other => {
+                S::drop_state(other);
+                None
+            }
         }
     }
 
     #[inline(always)]
-    fn into_d(self) -> Option<D>
+    fn into_d<S: DropState<Self>>(self) -> Option<D>
         ensures { result ≡ pick_d self }
     {
         match self {
             Dispatch4::D(kept) => Some(kept),
-            Dispatch4::A(_) | Dispatch4::B(_) | Dispatch4::C(_) => None,
+            other => {
+                S::drop_state(other);
+                None
+            }
         }
     }
 }
+
+type Drop4<Input, A, B, C, D> = Dispatch4Of<Of<Input, A>, Of<Input, B>, Of<Input, C>, Of<Input, D>>;
 
 impl<Input, A: Outputs<Input>, B, C, D> Outputs<Input> for Dispatch4<A, B, C, D> {
     type Output = A::Output;
@@ -108,6 +145,13 @@ impl<
     ghost single = { variant_4_means_one A.meaning B.meaning C.meaning D.meaning A.PartialState.is_default A.valid B.PartialState.is_default B.valid C.PartialState.is_default C.valid D.PartialState.is_default D.valid A.lawful B.lawful C.lawful D.lawful A.determined B.determined C.determined D.determined A.single B.single C.single D.single };
 
     #[inline(always)]
+    fn drop_state(
+        state: Dispatch4<A::PartialState, B::PartialState, C::PartialState, D::PartialState>,
+    ) {
+        <Drop4<Input, A, B, C, D> as DropState<_>>::drop_state(state)
+    }
+
+    #[inline(always)]
     fn parse_mode<M: ParseMode>(
         &mut self,
         mode: M,
@@ -116,27 +160,27 @@ impl<
     ) -> ParseResult<A::Output, Input::Error> {
         match self {
             Dispatch4::A(parser) => {
-                let mut kept = start(take(state).into_a());
+                let mut kept = start(take(state).into_a::<Drop4<Input, A, B, C, D>>());
                 let answer = parser.parse_mode(mode, input, &mut kept);
-                *state = Dispatch4::A(kept);
+                put_state::<_, Drop4<Input, A, B, C, D>>(state, Dispatch4::A(kept));
                 passed_on(answer)
             }
             Dispatch4::B(parser) => {
-                let mut kept = start(take(state).into_b());
+                let mut kept = start(take(state).into_b::<Drop4<Input, A, B, C, D>>());
                 let answer = parser.parse_mode(mode, input, &mut kept);
-                *state = Dispatch4::B(kept);
+                put_state::<_, Drop4<Input, A, B, C, D>>(state, Dispatch4::B(kept));
                 passed_on(answer)
             }
             Dispatch4::C(parser) => {
-                let mut kept = start(take(state).into_c());
+                let mut kept = start(take(state).into_c::<Drop4<Input, A, B, C, D>>());
                 let answer = parser.parse_mode(mode, input, &mut kept);
-                *state = Dispatch4::C(kept);
+                put_state::<_, Drop4<Input, A, B, C, D>>(state, Dispatch4::C(kept));
                 passed_on(answer)
             }
             Dispatch4::D(parser) => {
-                let mut kept = start(take(state).into_d());
+                let mut kept = start(take(state).into_d::<Drop4<Input, A, B, C, D>>());
                 let answer = parser.parse_mode(mode, input, &mut kept);
-                *state = Dispatch4::D(kept);
+                put_state::<_, Drop4<Input, A, B, C, D>>(state, Dispatch4::D(kept));
                 passed_on(answer)
             }
         }

@@ -4,8 +4,9 @@ ghost use Rattle.combine_choice_dispatch.specs.Variants5.{each_5, pick_a, pick_b
 
 use super::{passed_on, start};
 use combine_base::error::{ErrorOffset, ParseResult, Tracked};
-use combine_base::parser::{Outputs, ParseMode, Parser};
+use combine_base::parser::{DropState, Of, Outputs, ParseMode, Parser, put_state};
 use combine_base::stream::Stream;
+use std::marker::PhantomData;
 use std::mem::take;
 
 /// One of five parsers, which means the one that it holds; or the state of one of them. In the crate `dispatch!` makes such an enum.
@@ -29,57 +30,113 @@ impl<A: Default, B: Default, C: Default, D: Default, E: Default> Default
     }
 }
 
-impl<A: Drop, B: Drop, C: Drop, D: Drop, E: Drop> Dispatch5<A, B, C, D, E> {
+/// Lets the states of one of five parsers go, by how those of each are.
+pub struct Dispatch5Of<P, Q, R, S, T> {
+    a: PhantomData<P>,
+    b: PhantomData<Q>,
+    c: PhantomData<R>,
+    d: PhantomData<S>,
+    e: PhantomData<T>,
+}
+
+impl<
+    A,
+    B,
+    C,
+    D,
+    E,
+    P: DropState<A>,
+    Q: DropState<B>,
+    R: DropState<C>,
+    S: DropState<D>,
+    T: DropState<E>,
+> DropState<Dispatch5<A, B, C, D, E>> for Dispatch5Of<P, Q, R, S, T> {
     #[inline(always)]
-    fn into_a(self) -> Option<A>
+    fn drop_state(state: Dispatch5<A, B, C, D, E>) {
+        match state {
+            Dispatch5::A(kept) => P::drop_state(kept),
+            Dispatch5::B(kept) => Q::drop_state(kept),
+            Dispatch5::C(kept) => R::drop_state(kept),
+            Dispatch5::D(kept) => S::drop_state(kept),
+            Dispatch5::E(kept) => T::drop_state(kept),
+        }
+    }
+}
+
+impl<A, B, C, D, E> Dispatch5<A, B, C, D, E> {
+    #[inline(always)]
+    fn into_a<S: DropState<Self>>(self) -> Option<A>
         ensures { result ≡ pick_a self }
     {
         match self {
             Dispatch5::A(kept) => Some(kept),
-            Dispatch5::B(_) | Dispatch5::C(_) | Dispatch5::D(_) | Dispatch5::E(_) => None,
+            other => {
+                S::drop_state(other);
+                None
+            }
         }
     }
 
     #[inline(always)]
-    fn into_b(self) -> Option<B>
+    fn into_b<S: DropState<Self>>(self) -> Option<B>
         ensures { result ≡ pick_b self }
     {
         match self {
             Dispatch5::B(kept) => Some(kept),
-            Dispatch5::A(_) | Dispatch5::C(_) | Dispatch5::D(_) | Dispatch5::E(_) => None,
+            other => {
+                S::drop_state(other);
+                None
+            }
         }
     }
 
     #[inline(always)]
-    fn into_c(self) -> Option<C>
+    fn into_c<S: DropState<Self>>(self) -> Option<C>
         ensures { result ≡ pick_c self }
     {
         match self {
             Dispatch5::C(kept) => Some(kept),
-            Dispatch5::A(_) | Dispatch5::B(_) | Dispatch5::D(_) | Dispatch5::E(_) => None,
+            other => {
+                S::drop_state(other);
+                None
+            }
         }
     }
 
     #[inline(always)]
-    fn into_d(self) -> Option<D>
+    fn into_d<S: DropState<Self>>(self) -> Option<D>
         ensures { result ≡ pick_d self }
     {
         match self {
             Dispatch5::D(kept) => Some(kept),
-            Dispatch5::A(_) | Dispatch5::B(_) | Dispatch5::C(_) | Dispatch5::E(_) => None,
+            other => {
+                S::drop_state(other);
+                None
+            }
         }
     }
 
     #[inline(always)]
-    fn into_e(self) -> Option<E>
+    fn into_e<S: DropState<Self>>(self) -> Option<E>
         ensures { result ≡ pick_e self }
     {
         match self {
             Dispatch5::E(kept) => Some(kept),
-            Dispatch5::A(_) | Dispatch5::B(_) | Dispatch5::C(_) | Dispatch5::D(_) => None,
+            other => {
+                S::drop_state(other);
+                None
+            }
         }
     }
 }
+
+type Drop5<Input, A, B, C, D, E> = Dispatch5Of<
+    Of<Input, A>,
+    Of<Input, B>,
+    Of<Input, C>,
+    Of<Input, D>,
+    Of<Input, E>,
+>;
 
 impl<Input, A: Outputs<Input>, B, C, D, E> Outputs<Input> for Dispatch5<A, B, C, D, E> {
     type Output = A::Output;
@@ -122,6 +179,19 @@ impl<
     ghost single = { variant_5_means_one A.meaning B.meaning C.meaning D.meaning E.meaning A.PartialState.is_default A.valid B.PartialState.is_default B.valid C.PartialState.is_default C.valid D.PartialState.is_default D.valid E.PartialState.is_default E.valid A.lawful B.lawful C.lawful D.lawful E.lawful A.determined B.determined C.determined D.determined E.determined A.single B.single C.single D.single E.single };
 
     #[inline(always)]
+    fn drop_state(
+        state: Dispatch5<
+            A::PartialState,
+            B::PartialState,
+            C::PartialState,
+            D::PartialState,
+            E::PartialState,
+        >,
+    ) {
+        <Drop5<Input, A, B, C, D, E> as DropState<_>>::drop_state(state)
+    }
+
+    #[inline(always)]
     fn parse_mode<M: ParseMode>(
         &mut self,
         mode: M,
@@ -130,33 +200,33 @@ impl<
     ) -> ParseResult<A::Output, Input::Error> {
         match self {
             Dispatch5::A(parser) => {
-                let mut kept = start(take(state).into_a());
+                let mut kept = start(take(state).into_a::<Drop5<Input, A, B, C, D, E>>());
                 let answer = parser.parse_mode(mode, input, &mut kept);
-                *state = Dispatch5::A(kept);
+                put_state::<_, Drop5<Input, A, B, C, D, E>>(state, Dispatch5::A(kept));
                 passed_on(answer)
             }
             Dispatch5::B(parser) => {
-                let mut kept = start(take(state).into_b());
+                let mut kept = start(take(state).into_b::<Drop5<Input, A, B, C, D, E>>());
                 let answer = parser.parse_mode(mode, input, &mut kept);
-                *state = Dispatch5::B(kept);
+                put_state::<_, Drop5<Input, A, B, C, D, E>>(state, Dispatch5::B(kept));
                 passed_on(answer)
             }
             Dispatch5::C(parser) => {
-                let mut kept = start(take(state).into_c());
+                let mut kept = start(take(state).into_c::<Drop5<Input, A, B, C, D, E>>());
                 let answer = parser.parse_mode(mode, input, &mut kept);
-                *state = Dispatch5::C(kept);
+                put_state::<_, Drop5<Input, A, B, C, D, E>>(state, Dispatch5::C(kept));
                 passed_on(answer)
             }
             Dispatch5::D(parser) => {
-                let mut kept = start(take(state).into_d());
+                let mut kept = start(take(state).into_d::<Drop5<Input, A, B, C, D, E>>());
                 let answer = parser.parse_mode(mode, input, &mut kept);
-                *state = Dispatch5::D(kept);
+                put_state::<_, Drop5<Input, A, B, C, D, E>>(state, Dispatch5::D(kept));
                 passed_on(answer)
             }
             Dispatch5::E(parser) => {
-                let mut kept = start(take(state).into_e());
+                let mut kept = start(take(state).into_e::<Drop5<Input, A, B, C, D, E>>());
                 let answer = parser.parse_mode(mode, input, &mut kept);
-                *state = Dispatch5::E(kept);
+                put_state::<_, Drop5<Input, A, B, C, D, E>>(state, Dispatch5::E(kept));
                 passed_on(answer)
             }
         }

@@ -4,8 +4,9 @@ ghost use Rattle.combine_choice_dispatch.specs.Variants6.{each_6, pick_a, pick_b
 
 use super::{passed_on, start};
 use combine_base::error::{ErrorOffset, ParseResult, Tracked};
-use combine_base::parser::{Outputs, ParseMode, Parser};
+use combine_base::parser::{DropState, Of, Outputs, ParseMode, Parser, put_state};
 use combine_base::stream::Stream;
+use std::marker::PhantomData;
 use std::mem::take;
 
 /// One of six parsers, which means the one that it holds; or the state of one of them. In the crate `dispatch!` makes such an enum.
@@ -30,91 +31,131 @@ impl<A: Default, B: Default, C: Default, D: Default, E: Default, F: Default> Def
     }
 }
 
-impl<A: Drop, B: Drop, C: Drop, D: Drop, E: Drop, F: Drop> Dispatch6<A, B, C, D, E, F> {
+/// Lets the states of one of six parsers go, by how those of each are.
+pub struct Dispatch6Of<P, Q, R, S, T, U> {
+    a: PhantomData<P>,
+    b: PhantomData<Q>,
+    c: PhantomData<R>,
+    d: PhantomData<S>,
+    e: PhantomData<T>,
+    f: PhantomData<U>,
+}
+
+impl<
+    A,
+    B,
+    C,
+    D,
+    E,
+    F,
+    P: DropState<A>,
+    Q: DropState<B>,
+    R: DropState<C>,
+    S: DropState<D>,
+    T: DropState<E>,
+    U: DropState<F>,
+> DropState<Dispatch6<A, B, C, D, E, F>> for Dispatch6Of<P, Q, R, S, T, U> {
     #[inline(always)]
-    fn into_a(self) -> Option<A>
+    fn drop_state(state: Dispatch6<A, B, C, D, E, F>) {
+        match state {
+            Dispatch6::A(kept) => P::drop_state(kept),
+            Dispatch6::B(kept) => Q::drop_state(kept),
+            Dispatch6::C(kept) => R::drop_state(kept),
+            Dispatch6::D(kept) => S::drop_state(kept),
+            Dispatch6::E(kept) => T::drop_state(kept),
+            Dispatch6::F(kept) => U::drop_state(kept),
+        }
+    }
+}
+
+impl<A, B, C, D, E, F> Dispatch6<A, B, C, D, E, F> {
+    #[inline(always)]
+    fn into_a<S: DropState<Self>>(self) -> Option<A>
         ensures { result ≡ pick_a self }
     {
         match self {
             Dispatch6::A(kept) => Some(kept),
-            Dispatch6::B(_)
-            | Dispatch6::C(_)
-            | Dispatch6::D(_)
-            | Dispatch6::E(_)
-            | Dispatch6::F(_) => None,
+            other => {
+                S::drop_state(other);
+                None
+            }
         }
     }
 
     #[inline(always)]
-    fn into_b(self) -> Option<B>
+    fn into_b<S: DropState<Self>>(self) -> Option<B>
         ensures { result ≡ pick_b self }
     {
         match self {
             Dispatch6::B(kept) => Some(kept),
-            Dispatch6::A(_)
-            | Dispatch6::C(_)
-            | Dispatch6::D(_)
-            | Dispatch6::E(_)
-            | Dispatch6::F(_) => None,
+            other => {
+                S::drop_state(other);
+                None
+            }
         }
     }
 
     #[inline(always)]
-    fn into_c(self) -> Option<C>
+    fn into_c<S: DropState<Self>>(self) -> Option<C>
         ensures { result ≡ pick_c self }
     {
         match self {
             Dispatch6::C(kept) => Some(kept),
-            Dispatch6::A(_)
-            | Dispatch6::B(_)
-            | Dispatch6::D(_)
-            | Dispatch6::E(_)
-            | Dispatch6::F(_) => None,
+            other => {
+                S::drop_state(other);
+                None
+            }
         }
     }
 
     #[inline(always)]
-    fn into_d(self) -> Option<D>
+    fn into_d<S: DropState<Self>>(self) -> Option<D>
         ensures { result ≡ pick_d self }
     {
         match self {
             Dispatch6::D(kept) => Some(kept),
-            Dispatch6::A(_)
-            | Dispatch6::B(_)
-            | Dispatch6::C(_)
-            | Dispatch6::E(_)
-            | Dispatch6::F(_) => None,
+            other => {
+                S::drop_state(other);
+                None
+            }
         }
     }
 
     #[inline(always)]
-    fn into_e(self) -> Option<E>
+    fn into_e<S: DropState<Self>>(self) -> Option<E>
         ensures { result ≡ pick_e self }
     {
         match self {
             Dispatch6::E(kept) => Some(kept),
-            Dispatch6::A(_)
-            | Dispatch6::B(_)
-            | Dispatch6::C(_)
-            | Dispatch6::D(_)
-            | Dispatch6::F(_) => None,
+            other => {
+                S::drop_state(other);
+                None
+            }
         }
     }
 
     #[inline(always)]
-    fn into_f(self) -> Option<F>
+    fn into_f<S: DropState<Self>>(self) -> Option<F>
         ensures { result ≡ pick_f self }
     {
         match self {
             Dispatch6::F(kept) => Some(kept),
-            Dispatch6::A(_)
-            | Dispatch6::B(_)
-            | Dispatch6::C(_)
-            | Dispatch6::D(_)
-            | Dispatch6::E(_) => None,
+            other => {
+                S::drop_state(other);
+                None
+            }
         }
     }
 }
+
+type Drop6<Input, A, B, C, D, E, F> = Dispatch6Of<
+    Of<Input, A>,
+    Of<Input, B>,
+    Of<Input, C>,
+    Of<Input, D>,
+    Of<Input, E>,
+    Of<Input, F>,
+>;
 
 impl<Input, A: Outputs<Input>, B, C, D, E, F> Outputs<Input> for Dispatch6<A, B, C, D, E, F> {
     type Output = A::Output;
@@ -159,6 +200,20 @@ impl<
     ghost single = { variant_6_means_one A.meaning B.meaning C.meaning D.meaning E.meaning F.meaning A.PartialState.is_default A.valid B.PartialState.is_default B.valid C.PartialState.is_default C.valid D.PartialState.is_default D.valid E.PartialState.is_default E.valid F.PartialState.is_default F.valid A.lawful B.lawful C.lawful D.lawful E.lawful F.lawful A.determined B.determined C.determined D.determined E.determined F.determined A.single B.single C.single D.single E.single F.single };
 
     #[inline(always)]
+    fn drop_state(
+        state: Dispatch6<
+            A::PartialState,
+            B::PartialState,
+            C::PartialState,
+            D::PartialState,
+            E::PartialState,
+            F::PartialState,
+        >,
+    ) {
+        <Drop6<Input, A, B, C, D, E, F> as DropState<_>>::drop_state(state)
+    }
+
+    #[inline(always)]
     fn parse_mode<M: ParseMode>(
         &mut self,
         mode: M,
@@ -167,39 +222,39 @@ impl<
     ) -> ParseResult<A::Output, Input::Error> {
         match self {
             Dispatch6::A(parser) => {
-                let mut kept = start(take(state).into_a());
+                let mut kept = start(take(state).into_a::<Drop6<Input, A, B, C, D, E, F>>());
                 let answer = parser.parse_mode(mode, input, &mut kept);
-                *state = Dispatch6::A(kept);
+                put_state::<_, Drop6<Input, A, B, C, D, E, F>>(state, Dispatch6::A(kept));
                 passed_on(answer)
             }
             Dispatch6::B(parser) => {
-                let mut kept = start(take(state).into_b());
+                let mut kept = start(take(state).into_b::<Drop6<Input, A, B, C, D, E, F>>());
                 let answer = parser.parse_mode(mode, input, &mut kept);
-                *state = Dispatch6::B(kept);
+                put_state::<_, Drop6<Input, A, B, C, D, E, F>>(state, Dispatch6::B(kept));
                 passed_on(answer)
             }
             Dispatch6::C(parser) => {
-                let mut kept = start(take(state).into_c());
+                let mut kept = start(take(state).into_c::<Drop6<Input, A, B, C, D, E, F>>());
                 let answer = parser.parse_mode(mode, input, &mut kept);
-                *state = Dispatch6::C(kept);
+                put_state::<_, Drop6<Input, A, B, C, D, E, F>>(state, Dispatch6::C(kept));
                 passed_on(answer)
             }
             Dispatch6::D(parser) => {
-                let mut kept = start(take(state).into_d());
+                let mut kept = start(take(state).into_d::<Drop6<Input, A, B, C, D, E, F>>());
                 let answer = parser.parse_mode(mode, input, &mut kept);
-                *state = Dispatch6::D(kept);
+                put_state::<_, Drop6<Input, A, B, C, D, E, F>>(state, Dispatch6::D(kept));
                 passed_on(answer)
             }
             Dispatch6::E(parser) => {
-                let mut kept = start(take(state).into_e());
+                let mut kept = start(take(state).into_e::<Drop6<Input, A, B, C, D, E, F>>());
                 let answer = parser.parse_mode(mode, input, &mut kept);
-                *state = Dispatch6::E(kept);
+                put_state::<_, Drop6<Input, A, B, C, D, E, F>>(state, Dispatch6::E(kept));
                 passed_on(answer)
             }
             Dispatch6::F(parser) => {
-                let mut kept = start(take(state).into_f());
+                let mut kept = start(take(state).into_f::<Drop6<Input, A, B, C, D, E, F>>());
                 let answer = parser.parse_mode(mode, input, &mut kept);
-                *state = Dispatch6::F(kept);
+                put_state::<_, Drop6<Input, A, B, C, D, E, F>>(state, Dispatch6::F(kept));
                 passed_on(answer)
             }
         }

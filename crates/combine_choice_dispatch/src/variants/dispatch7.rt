@@ -4,8 +4,9 @@ ghost use Rattle.combine_choice_dispatch.specs.Variants7.{each_7, pick_a, pick_b
 
 use super::{passed_on, start};
 use combine_base::error::{ErrorOffset, ParseResult, Tracked};
-use combine_base::parser::{Outputs, ParseMode, Parser};
+use combine_base::parser::{DropState, Of, Outputs, ParseMode, Parser, put_state};
 use combine_base::stream::Stream;
+use std::marker::PhantomData;
 use std::mem::take;
 
 /// One of seven parsers, which means the one that it holds; or the state of one of them. In the crate `dispatch!` makes such an enum.
@@ -31,112 +32,149 @@ impl<A: Default, B: Default, C: Default, D: Default, E: Default, F: Default, G: 
     }
 }
 
-impl<A: Drop, B: Drop, C: Drop, D: Drop, E: Drop, F: Drop, G: Drop> Dispatch7<A, B, C, D, E, F, G> {
+/// Lets the states of one of seven parsers go, by how those of each are.
+pub struct Dispatch7Of<P, Q, R, S, T, U, V> {
+    a: PhantomData<P>,
+    b: PhantomData<Q>,
+    c: PhantomData<R>,
+    d: PhantomData<S>,
+    e: PhantomData<T>,
+    f: PhantomData<U>,
+    g: PhantomData<V>,
+}
+
+impl<
+    A,
+    B,
+    C,
+    D,
+    E,
+    F,
+    G,
+    P: DropState<A>,
+    Q: DropState<B>,
+    R: DropState<C>,
+    S: DropState<D>,
+    T: DropState<E>,
+    U: DropState<F>,
+    V: DropState<G>,
+> DropState<Dispatch7<A, B, C, D, E, F, G>> for Dispatch7Of<P, Q, R, S, T, U, V> {
     #[inline(always)]
-    fn into_a(self) -> Option<A>
+    fn drop_state(state: Dispatch7<A, B, C, D, E, F, G>) {
+        match state {
+            Dispatch7::A(kept) => P::drop_state(kept),
+            Dispatch7::B(kept) => Q::drop_state(kept),
+            Dispatch7::C(kept) => R::drop_state(kept),
+            Dispatch7::D(kept) => S::drop_state(kept),
+            Dispatch7::E(kept) => T::drop_state(kept),
+            Dispatch7::F(kept) => U::drop_state(kept),
+            Dispatch7::G(kept) => V::drop_state(kept),
+        }
+    }
+}
+
+impl<A, B, C, D, E, F, G> Dispatch7<A, B, C, D, E, F, G> {
+    #[inline(always)]
+    fn into_a<S: DropState<Self>>(self) -> Option<A>
         ensures { result ≡ pick_a self }
     {
         match self {
             Dispatch7::A(kept) => Some(kept),
-            Dispatch7::B(_)
-            | Dispatch7::C(_)
-            | Dispatch7::D(_)
-            | Dispatch7::E(_)
-            | Dispatch7::F(_)
-            | Dispatch7::G(_) => None,
+            other => {
+                S::drop_state(other);
+                None
+            }
         }
     }
 
     #[inline(always)]
-    fn into_b(self) -> Option<B>
+    fn into_b<S: DropState<Self>>(self) -> Option<B>
         ensures { result ≡ pick_b self }
     {
         match self {
             Dispatch7::B(kept) => Some(kept),
-            Dispatch7::A(_)
-            | Dispatch7::C(_)
-            | Dispatch7::D(_)
-            | Dispatch7::E(_)
-            | Dispatch7::F(_)
-            | Dispatch7::G(_) => None,
+            other => {
+                S::drop_state(other);
+                None
+            }
         }
     }
 
     #[inline(always)]
-    fn into_c(self) -> Option<C>
+    fn into_c<S: DropState<Self>>(self) -> Option<C>
         ensures { result ≡ pick_c self }
     {
         match self {
             Dispatch7::C(kept) => Some(kept),
-            Dispatch7::A(_)
-            | Dispatch7::B(_)
-            | Dispatch7::D(_)
-            | Dispatch7::E(_)
-            | Dispatch7::F(_)
-            | Dispatch7::G(_) => None,
+            other => {
+                S::drop_state(other);
+                None
+            }
         }
     }
 
     #[inline(always)]
-    fn into_d(self) -> Option<D>
+    fn into_d<S: DropState<Self>>(self) -> Option<D>
         ensures { result ≡ pick_d self }
     {
         match self {
             Dispatch7::D(kept) => Some(kept),
-            Dispatch7::A(_)
-            | Dispatch7::B(_)
-            | Dispatch7::C(_)
-            | Dispatch7::E(_)
-            | Dispatch7::F(_)
-            | Dispatch7::G(_) => None,
+            other => {
+                S::drop_state(other);
+                None
+            }
         }
     }
 
     #[inline(always)]
-    fn into_e(self) -> Option<E>
+    fn into_e<S: DropState<Self>>(self) -> Option<E>
         ensures { result ≡ pick_e self }
     {
         match self {
             Dispatch7::E(kept) => Some(kept),
-            Dispatch7::A(_)
-            | Dispatch7::B(_)
-            | Dispatch7::C(_)
-            | Dispatch7::D(_)
-            | Dispatch7::F(_)
-            | Dispatch7::G(_) => None,
+            other => {
+                S::drop_state(other);
+                None
+            }
         }
     }
 
     #[inline(always)]
-    fn into_f(self) -> Option<F>
+    fn into_f<S: DropState<Self>>(self) -> Option<F>
         ensures { result ≡ pick_f self }
     {
         match self {
             Dispatch7::F(kept) => Some(kept),
-            Dispatch7::A(_)
-            | Dispatch7::B(_)
-            | Dispatch7::C(_)
-            | Dispatch7::D(_)
-            | Dispatch7::E(_)
-            | Dispatch7::G(_) => None,
+            other => {
+                S::drop_state(other);
+                None
+            }
         }
     }
 
     #[inline(always)]
-    fn into_g(self) -> Option<G>
+    fn into_g<S: DropState<Self>>(self) -> Option<G>
         ensures { result ≡ pick_g self }
     {
         match self {
             Dispatch7::G(kept) => Some(kept),
-            Dispatch7::A(_)
-            | Dispatch7::B(_)
-            | Dispatch7::C(_)
-            | Dispatch7::D(_)
-            | Dispatch7::E(_)
-            | Dispatch7::F(_) => None,
+            other => {
+                S::drop_state(other);
+                None
+            }
         }
     }
 }
+
+type Drop7<Input, A, B, C, D, E, F, G> = Dispatch7Of<
+    Of<Input, A>,
+    Of<Input, B>,
+    Of<Input, C>,
+    Of<Input, D>,
+    Of<Input, E>,
+    Of<Input, F>,
+    Of<Input, G>,
+>;
 
 impl<Input, A: Outputs<Input>, B, C, D, E, F, G> Outputs<Input> for Dispatch7<A, B, C, D, E, F, G> {
     type Output = A::Output;
@@ -183,6 +221,21 @@ impl<
     ghost single = { variant_7_means_one A.meaning B.meaning C.meaning D.meaning E.meaning F.meaning G.meaning A.PartialState.is_default A.valid B.PartialState.is_default B.valid C.PartialState.is_default C.valid D.PartialState.is_default D.valid E.PartialState.is_default E.valid F.PartialState.is_default F.valid G.PartialState.is_default G.valid A.lawful B.lawful C.lawful D.lawful E.lawful F.lawful G.lawful A.determined B.determined C.determined D.determined E.determined F.determined G.determined A.single B.single C.single D.single E.single F.single G.single };
 
     #[inline(always)]
+    fn drop_state(
+        state: Dispatch7<
+            A::PartialState,
+            B::PartialState,
+            C::PartialState,
+            D::PartialState,
+            E::PartialState,
+            F::PartialState,
+            G::PartialState,
+        >,
+    ) {
+        <Drop7<Input, A, B, C, D, E, F, G> as DropState<_>>::drop_state(state)
+    }
+
+    #[inline(always)]
     fn parse_mode<M: ParseMode>(
         &mut self,
         mode: M,
@@ -191,45 +244,45 @@ impl<
     ) -> ParseResult<A::Output, Input::Error> {
         match self {
             Dispatch7::A(parser) => {
-                let mut kept = start(take(state).into_a());
+                let mut kept = start(take(state).into_a::<Drop7<Input, A, B, C, D, E, F, G>>());
                 let answer = parser.parse_mode(mode, input, &mut kept);
-                *state = Dispatch7::A(kept);
+                put_state::<_, Drop7<Input, A, B, C, D, E, F, G>>(state, Dispatch7::A(kept));
                 passed_on(answer)
             }
             Dispatch7::B(parser) => {
-                let mut kept = start(take(state).into_b());
+                let mut kept = start(take(state).into_b::<Drop7<Input, A, B, C, D, E, F, G>>());
                 let answer = parser.parse_mode(mode, input, &mut kept);
-                *state = Dispatch7::B(kept);
+                put_state::<_, Drop7<Input, A, B, C, D, E, F, G>>(state, Dispatch7::B(kept));
                 passed_on(answer)
             }
             Dispatch7::C(parser) => {
-                let mut kept = start(take(state).into_c());
+                let mut kept = start(take(state).into_c::<Drop7<Input, A, B, C, D, E, F, G>>());
                 let answer = parser.parse_mode(mode, input, &mut kept);
-                *state = Dispatch7::C(kept);
+                put_state::<_, Drop7<Input, A, B, C, D, E, F, G>>(state, Dispatch7::C(kept));
                 passed_on(answer)
             }
             Dispatch7::D(parser) => {
-                let mut kept = start(take(state).into_d());
+                let mut kept = start(take(state).into_d::<Drop7<Input, A, B, C, D, E, F, G>>());
                 let answer = parser.parse_mode(mode, input, &mut kept);
-                *state = Dispatch7::D(kept);
+                put_state::<_, Drop7<Input, A, B, C, D, E, F, G>>(state, Dispatch7::D(kept));
                 passed_on(answer)
             }
             Dispatch7::E(parser) => {
-                let mut kept = start(take(state).into_e());
+                let mut kept = start(take(state).into_e::<Drop7<Input, A, B, C, D, E, F, G>>());
                 let answer = parser.parse_mode(mode, input, &mut kept);
-                *state = Dispatch7::E(kept);
+                put_state::<_, Drop7<Input, A, B, C, D, E, F, G>>(state, Dispatch7::E(kept));
                 passed_on(answer)
             }
             Dispatch7::F(parser) => {
-                let mut kept = start(take(state).into_f());
+                let mut kept = start(take(state).into_f::<Drop7<Input, A, B, C, D, E, F, G>>());
                 let answer = parser.parse_mode(mode, input, &mut kept);
-                *state = Dispatch7::F(kept);
+                put_state::<_, Drop7<Input, A, B, C, D, E, F, G>>(state, Dispatch7::F(kept));
                 passed_on(answer)
             }
             Dispatch7::G(parser) => {
-                let mut kept = start(take(state).into_g());
+                let mut kept = start(take(state).into_g::<Drop7<Input, A, B, C, D, E, F, G>>());
                 let answer = parser.parse_mode(mode, input, &mut kept);
-                *state = Dispatch7::G(kept);
+                put_state::<_, Drop7<Input, A, B, C, D, E, F, G>>(state, Dispatch7::G(kept));
                 passed_on(answer)
             }
         }

@@ -4,8 +4,9 @@ ghost use Rattle.combine_choice_dispatch.specs.Variants8.{each_8, pick_a, pick_b
 
 use super::{passed_on, start};
 use combine_base::error::{ErrorOffset, ParseResult, Tracked};
-use combine_base::parser::{Outputs, ParseMode, Parser};
+use combine_base::parser::{DropState, Of, Outputs, ParseMode, Parser, put_state};
 use combine_base::stream::Stream;
+use std::marker::PhantomData;
 use std::mem::take;
 
 /// One of eight parsers, which means the one that it holds; or the state of one of them. In the crate `dispatch!` makes such an enum.
@@ -40,7 +41,19 @@ impl<
     }
 }
 
-impl<A: Drop, B: Drop, C: Drop, D: Drop, E: Drop, F: Drop, G: Drop, H: Drop> Dispatch8<
+/// Lets the states of one of eight parsers go, by how those of each are.
+pub struct Dispatch8Of<P, Q, R, S, T, U, V, W> {
+    a: PhantomData<P>,
+    b: PhantomData<Q>,
+    c: PhantomData<R>,
+    d: PhantomData<S>,
+    e: PhantomData<T>,
+    f: PhantomData<U>,
+    g: PhantomData<V>,
+    h: PhantomData<W>,
+}
+
+impl<
     A,
     B,
     C,
@@ -49,135 +62,146 @@ impl<A: Drop, B: Drop, C: Drop, D: Drop, E: Drop, F: Drop, G: Drop, H: Drop> Dis
     F,
     G,
     H,
-> {
+    P: DropState<A>,
+    Q: DropState<B>,
+    R: DropState<C>,
+    S: DropState<D>,
+    T: DropState<E>,
+    U: DropState<F>,
+    V: DropState<G>,
+    W: DropState<H>,
+> DropState<Dispatch8<A, B, C, D, E, F, G, H>> for Dispatch8Of<P, Q, R, S, T, U, V, W> {
     #[inline(always)]
-    fn into_a(self) -> Option<A>
+    fn drop_state(state: Dispatch8<A, B, C, D, E, F, G, H>) {
+        match state {
+            Dispatch8::A(kept) => P::drop_state(kept),
+            Dispatch8::B(kept) => Q::drop_state(kept),
+            Dispatch8::C(kept) => R::drop_state(kept),
+            Dispatch8::D(kept) => S::drop_state(kept),
+            Dispatch8::E(kept) => T::drop_state(kept),
+            Dispatch8::F(kept) => U::drop_state(kept),
+            Dispatch8::G(kept) => V::drop_state(kept),
+            Dispatch8::H(kept) => W::drop_state(kept),
+        }
+    }
+}
+
+impl<A, B, C, D, E, F, G, H> Dispatch8<A, B, C, D, E, F, G, H> {
+    #[inline(always)]
+    fn into_a<S: DropState<Self>>(self) -> Option<A>
         ensures { result ≡ pick_a self }
     {
         match self {
             Dispatch8::A(kept) => Some(kept),
-            Dispatch8::B(_)
-            | Dispatch8::C(_)
-            | Dispatch8::D(_)
-            | Dispatch8::E(_)
-            | Dispatch8::F(_)
-            | Dispatch8::G(_)
-            | Dispatch8::H(_) => None,
+            other => {
+                S::drop_state(other);
+                None
+            }
         }
     }
 
     #[inline(always)]
-    fn into_b(self) -> Option<B>
+    fn into_b<S: DropState<Self>>(self) -> Option<B>
         ensures { result ≡ pick_b self }
     {
         match self {
             Dispatch8::B(kept) => Some(kept),
-            Dispatch8::A(_)
-            | Dispatch8::C(_)
-            | Dispatch8::D(_)
-            | Dispatch8::E(_)
-            | Dispatch8::F(_)
-            | Dispatch8::G(_)
-            | Dispatch8::H(_) => None,
+            other => {
+                S::drop_state(other);
+                None
+            }
         }
     }
 
     #[inline(always)]
-    fn into_c(self) -> Option<C>
+    fn into_c<S: DropState<Self>>(self) -> Option<C>
         ensures { result ≡ pick_c self }
     {
         match self {
             Dispatch8::C(kept) => Some(kept),
-            Dispatch8::A(_)
-            | Dispatch8::B(_)
-            | Dispatch8::D(_)
-            | Dispatch8::E(_)
-            | Dispatch8::F(_)
-            | Dispatch8::G(_)
-            | Dispatch8::H(_) => None,
+            other => {
+                S::drop_state(other);
+                None
+            }
         }
     }
 
     #[inline(always)]
-    fn into_d(self) -> Option<D>
+    fn into_d<S: DropState<Self>>(self) -> Option<D>
         ensures { result ≡ pick_d self }
     {
         match self {
             Dispatch8::D(kept) => Some(kept),
-            Dispatch8::A(_)
-            | Dispatch8::B(_)
-            | Dispatch8::C(_)
-            | Dispatch8::E(_)
-            | Dispatch8::F(_)
-            | Dispatch8::G(_)
-            | Dispatch8::H(_) => None,
+            other => {
+                S::drop_state(other);
+                None
+            }
         }
     }
 
     #[inline(always)]
-    fn into_e(self) -> Option<E>
+    fn into_e<S: DropState<Self>>(self) -> Option<E>
         ensures { result ≡ pick_e self }
     {
         match self {
             Dispatch8::E(kept) => Some(kept),
-            Dispatch8::A(_)
-            | Dispatch8::B(_)
-            | Dispatch8::C(_)
-            | Dispatch8::D(_)
-            | Dispatch8::F(_)
-            | Dispatch8::G(_)
-            | Dispatch8::H(_) => None,
+            other => {
+                S::drop_state(other);
+                None
+            }
         }
     }
 
     #[inline(always)]
-    fn into_f(self) -> Option<F>
+    fn into_f<S: DropState<Self>>(self) -> Option<F>
         ensures { result ≡ pick_f self }
     {
         match self {
             Dispatch8::F(kept) => Some(kept),
-            Dispatch8::A(_)
-            | Dispatch8::B(_)
-            | Dispatch8::C(_)
-            | Dispatch8::D(_)
-            | Dispatch8::E(_)
-            | Dispatch8::G(_)
-            | Dispatch8::H(_) => None,
+            other => {
+                S::drop_state(other);
+                None
+            }
         }
     }
 
     #[inline(always)]
-    fn into_g(self) -> Option<G>
+    fn into_g<S: DropState<Self>>(self) -> Option<G>
         ensures { result ≡ pick_g self }
     {
         match self {
             Dispatch8::G(kept) => Some(kept),
-            Dispatch8::A(_)
-            | Dispatch8::B(_)
-            | Dispatch8::C(_)
-            | Dispatch8::D(_)
-            | Dispatch8::E(_)
-            | Dispatch8::F(_)
-            | Dispatch8::H(_) => None,
+            other => {
+                S::drop_state(other);
+                None
+            }
         }
     }
 
     #[inline(always)]
-    fn into_h(self) -> Option<H>
+    fn into_h<S: DropState<Self>>(self) -> Option<H>
         ensures { result ≡ pick_h self }
     {
         match self {
             Dispatch8::H(kept) => Some(kept),
-            Dispatch8::A(_)
-            | Dispatch8::B(_)
-            | Dispatch8::C(_)
-            | Dispatch8::D(_)
-            | Dispatch8::E(_)
-            | Dispatch8::F(_)
-            | Dispatch8::G(_) => None,
+            other => {
+                S::drop_state(other);
+                None
+            }
         }
     }
 }
+
+type Drop8<Input, A, B, C, D, E, F, G, H> = Dispatch8Of<
+    Of<Input, A>,
+    Of<Input, B>,
+    Of<Input, C>,
+    Of<Input, D>,
+    Of<Input, E>,
+    Of<Input, F>,
+    Of<Input, G>,
+    Of<Input, H>,
+>;
 
 impl<Input, A: Outputs<Input>, B, C, D, E, F, G, H> Outputs<Input>
     for Dispatch8<A, B, C, D, E, F, G, H> {
@@ -227,6 +251,22 @@ impl<
     ghost single = { variant_8_means_one A.meaning B.meaning C.meaning D.meaning E.meaning F.meaning G.meaning H.meaning A.PartialState.is_default A.valid B.PartialState.is_default B.valid C.PartialState.is_default C.valid D.PartialState.is_default D.valid E.PartialState.is_default E.valid F.PartialState.is_default F.valid G.PartialState.is_default G.valid H.PartialState.is_default H.valid A.lawful B.lawful C.lawful D.lawful E.lawful F.lawful G.lawful H.lawful A.determined B.determined C.determined D.determined E.determined F.determined G.determined H.determined A.single B.single C.single D.single E.single F.single G.single H.single };
 
     #[inline(always)]
+    fn drop_state(
+        state: Dispatch8<
+            A::PartialState,
+            B::PartialState,
+            C::PartialState,
+            D::PartialState,
+            E::PartialState,
+            F::PartialState,
+            G::PartialState,
+            H::PartialState,
+        >,
+    ) {
+        <Drop8<Input, A, B, C, D, E, F, G, H> as DropState<_>>::drop_state(state)
+    }
+
+    #[inline(always)]
     fn parse_mode<M: ParseMode>(
         &mut self,
         mode: M,
@@ -235,51 +275,51 @@ impl<
     ) -> ParseResult<A::Output, Input::Error> {
         match self {
             Dispatch8::A(parser) => {
-                let mut kept = start(take(state).into_a());
+                let mut kept = start(take(state).into_a::<Drop8<Input, A, B, C, D, E, F, G, H>>());
                 let answer = parser.parse_mode(mode, input, &mut kept);
-                *state = Dispatch8::A(kept);
+                put_state::<_, Drop8<Input, A, B, C, D, E, F, G, H>>(state, Dispatch8::A(kept));
                 passed_on(answer)
             }
             Dispatch8::B(parser) => {
-                let mut kept = start(take(state).into_b());
+                let mut kept = start(take(state).into_b::<Drop8<Input, A, B, C, D, E, F, G, H>>());
                 let answer = parser.parse_mode(mode, input, &mut kept);
-                *state = Dispatch8::B(kept);
+                put_state::<_, Drop8<Input, A, B, C, D, E, F, G, H>>(state, Dispatch8::B(kept));
                 passed_on(answer)
             }
             Dispatch8::C(parser) => {
-                let mut kept = start(take(state).into_c());
+                let mut kept = start(take(state).into_c::<Drop8<Input, A, B, C, D, E, F, G, H>>());
                 let answer = parser.parse_mode(mode, input, &mut kept);
-                *state = Dispatch8::C(kept);
+                put_state::<_, Drop8<Input, A, B, C, D, E, F, G, H>>(state, Dispatch8::C(kept));
                 passed_on(answer)
             }
             Dispatch8::D(parser) => {
-                let mut kept = start(take(state).into_d());
+                let mut kept = start(take(state).into_d::<Drop8<Input, A, B, C, D, E, F, G, H>>());
                 let answer = parser.parse_mode(mode, input, &mut kept);
-                *state = Dispatch8::D(kept);
+                put_state::<_, Drop8<Input, A, B, C, D, E, F, G, H>>(state, Dispatch8::D(kept));
                 passed_on(answer)
             }
             Dispatch8::E(parser) => {
-                let mut kept = start(take(state).into_e());
+                let mut kept = start(take(state).into_e::<Drop8<Input, A, B, C, D, E, F, G, H>>());
                 let answer = parser.parse_mode(mode, input, &mut kept);
-                *state = Dispatch8::E(kept);
+                put_state::<_, Drop8<Input, A, B, C, D, E, F, G, H>>(state, Dispatch8::E(kept));
                 passed_on(answer)
             }
             Dispatch8::F(parser) => {
-                let mut kept = start(take(state).into_f());
+                let mut kept = start(take(state).into_f::<Drop8<Input, A, B, C, D, E, F, G, H>>());
                 let answer = parser.parse_mode(mode, input, &mut kept);
-                *state = Dispatch8::F(kept);
+                put_state::<_, Drop8<Input, A, B, C, D, E, F, G, H>>(state, Dispatch8::F(kept));
                 passed_on(answer)
             }
             Dispatch8::G(parser) => {
-                let mut kept = start(take(state).into_g());
+                let mut kept = start(take(state).into_g::<Drop8<Input, A, B, C, D, E, F, G, H>>());
                 let answer = parser.parse_mode(mode, input, &mut kept);
-                *state = Dispatch8::G(kept);
+                put_state::<_, Drop8<Input, A, B, C, D, E, F, G, H>>(state, Dispatch8::G(kept));
                 passed_on(answer)
             }
             Dispatch8::H(parser) => {
-                let mut kept = start(take(state).into_h());
+                let mut kept = start(take(state).into_h::<Drop8<Input, A, B, C, D, E, F, G, H>>());
                 let answer = parser.parse_mode(mode, input, &mut kept);
-                *state = Dispatch8::H(kept);
+                put_state::<_, Drop8<Input, A, B, C, D, E, F, G, H>>(state, Dispatch8::H(kept));
                 passed_on(answer)
             }
         }

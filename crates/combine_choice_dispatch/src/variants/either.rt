@@ -4,8 +4,9 @@ ghost use Rattle.combine_choice_dispatch.specs.Variants2.{each_2, pick_left, pic
 
 use super::{passed_on, start};
 use combine_base::error::{ErrorOffset, ParseResult, Tracked};
-use combine_base::parser::{Outputs, ParseMode, Parser};
+use combine_base::parser::{DropState, Of, Outputs, ParseMode, Parser, put_state};
 use combine_base::stream::Stream;
+use std::marker::PhantomData;
 use std::mem::take;
 
 /// One of two parsers, which means the one that it holds; or the state of one of them.
@@ -25,27 +26,51 @@ impl<L: Default, R: Default> Default for Either<L, R> {
     }
 }
 
-impl<L: Drop, R: Drop> Either<L, R> {
+/// Lets the states of one of two parsers go, by how those of each are.
+pub struct EitherOf<D, E> {
+    left: PhantomData<D>,
+    right: PhantomData<E>,
+}
+
+impl<L, R, D: DropState<L>, E: DropState<R>> DropState<Either<L, R>> for EitherOf<D, E> {
     #[inline(always)]
-    fn into_left(self) -> Option<L>
+    fn drop_state(state: Either<L, R>) {
+        match state {
+            Either::Left(kept) => D::drop_state(kept),
+            Either::Right(kept) => E::drop_state(kept),
+        }
+    }
+}
+
+impl<L, R> Either<L, R> {
+    #[inline(always)]
+    fn into_left<D: DropState<Self>>(self) -> Option<L>
         ensures { result ≡ pick_left self }
     {
         match self {
             Either::Left(kept) => Some(kept),
-            Either::Right(_) => None,
+            other => {
+                D::drop_state(other);
+                None
+            }
         }
     }
 
     #[inline(always)]
-    fn into_right(self) -> Option<R>
+    fn into_right<D: DropState<Self>>(self) -> Option<R>
         ensures { result ≡ pick_right self }
     {
         match self {
             Either::Right(kept) => Some(kept),
-            Either::Left(_) => None,
+            other => {
+                D::drop_state(other);
+                None
+            }
         }
     }
 }
+
+type Drop2<Input, L, R> = EitherOf<Of<Input, L>, Of<Input, R>>;
 
 impl<Input, L: Outputs<Input>, R> Outputs<Input> for Either<L, R> {
     type Output = L::Output;
@@ -76,6 +101,11 @@ impl<Input: Stream, L: Parser<Input>, R: Parser<Input, Output = L::Output>> Pars
     ghost single = { variant_2_means_one L.meaning R.meaning L.PartialState.is_default L.valid R.PartialState.is_default R.valid L.lawful R.lawful L.determined R.determined L.single R.single };
 
     #[inline(always)]
+    fn drop_state(state: Either<L::PartialState, R::PartialState>) {
+        <Drop2<Input, L, R> as DropState<_>>::drop_state(state)
+    }
+
+    #[inline(always)]
     fn parse_mode<M: ParseMode>(
         &mut self,
         mode: M,
@@ -84,15 +114,15 @@ impl<Input: Stream, L: Parser<Input>, R: Parser<Input, Output = L::Output>> Pars
     ) -> ParseResult<L::Output, Input::Error> {
         match self {
             Either::Left(parser) => {
-                let mut kept = start(take(state).into_left());
+                let mut kept = start(take(state).into_left::<Drop2<Input, L, R>>());
                 let answer = parser.parse_mode(mode, input, &mut kept);
-                *state = Either::Left(kept);
+                put_state::<_, Drop2<Input, L, R>>(state, Either::Left(kept));
                 passed_on(answer)
             }
             Either::Right(parser) => {
-                let mut kept = start(take(state).into_right());
+                let mut kept = start(take(state).into_right::<Drop2<Input, L, R>>());
                 let answer = parser.parse_mode(mode, input, &mut kept);
-                *state = Either::Right(kept);
+                put_state::<_, Drop2<Input, L, R>>(state, Either::Right(kept));
                 passed_on(answer)
             }
         }
