@@ -39,6 +39,7 @@ impl<'a, Input: Stream, O: Drop> Visitor<Input, O> for RunOnce<'a, Input> {
         let mut parser = parser;
         let mut state = P::PartialState::default();
         let answer = parser.parse_first(self.input, &mut state);
+        P::drop_state(state);
         (answer, self.input)
     }
 }
@@ -141,6 +142,9 @@ where
     ghost meaning = { λ p. apart (C.reading Input.Position Input.step) };
 
     ghost parts = { λ p. 1 };
+
+    #[inline(always)]
+    fn drop_state(_state: ()) {}
 
     #[inline(always)]
     fn parse_mode<M: ParseMode>(

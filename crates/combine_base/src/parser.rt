@@ -14,7 +14,7 @@ mod states;
 pub use answer::{Answer, judge};
 pub use calls::Calls;
 pub use session::{Session, SessionError, parse_pieces};
-pub use states::{DropState, Of, put_state};
+pub use states::{DropState, KeptState, Of, put_state};
 
 /// How a call begins: afresh, or from a kept state.
 pub trait ParseMode: Copy {

@@ -120,10 +120,26 @@ fn run_windows<T: Copy + 'static, P: Parser<fed::Stream<T>> + Drop>(
     let mut parser = parser;
     let mut stream = fed::Stream::new(alloc);
     let mut state = P::PartialState::default();
+    let answered = go_through(alloc, &mut parser, &mut stream, &mut state, pieces);
+    P::drop_state(state);
+    answered
+}
+
+/// Feeds the pieces, until there is an answer.
+fn go_through<T: Copy + 'static, P: Parser<fed::Stream<T>>>(
+    alloc: Global,
+    parser: &mut P,
+    stream: &mut fed::Stream<T>,
+    state: &mut P::PartialState,
+    pieces: &[&[T]],
+) -> Result<Answered<P::Output>, AllocError>
+    requires lawful { P.lawful parser.old }
+    requires valid { P.valid state.old }
+{
     let mut unread = Vec::new(alloc);
     for (at, piece) in pieces.iter().enumerate() {
         let last = at + 1 == pieces.len();
-        match go_on(&mut parser, &mut stream, &mut state, piece, last) {
+        match go_on(parser, stream, state, piece, last) {
             Ok(Answer::More) => unread.push(stream.unread().len())?,
             answer => return Ok(Answered { unread, answer }),
         }

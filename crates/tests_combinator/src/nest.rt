@@ -126,6 +126,8 @@ where
 
     ghost parts = { λ p. 1 };
 
+    fn drop_state(_state: ()) {}
+
     fn parse_mode<M: ParseMode>(
         &mut self,
         mode: M,

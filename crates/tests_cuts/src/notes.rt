@@ -103,6 +103,10 @@ where
 
     ghost single = { λ p h d. P.single p.part h d };
 
+    fn drop_state(state: P::PartialState) {
+        P::drop_state(state);
+    }
+
     fn parse_mode<M: ParseMode>(
         &mut self,
         mode: M,

@@ -180,7 +180,9 @@ pub fn parsed_with_state<Input: Legible, P: Parser<Input>>(
 {
     let mut input = Input::begin(alloc, text);
     let mut state = P::PartialState::default();
-    match parser.parse_with_state(&mut input, &mut state) {
+    let answer = parser.parse_with_state(&mut input, &mut state);
+    P::drop_state(state);
+    match answer {
         Ok(_value) => Ok(String::new(alloc)),
         Err(error) => Input::read(alloc, &error),
     }

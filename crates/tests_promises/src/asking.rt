@@ -25,7 +25,9 @@ fn call_afresh<Input: Stream, P: Parser<Input> + Drop>(
 {
     let mut parser = parser;
     let mut state = P::PartialState::default();
-    parser.parse_first(input, &mut state)
+    let answer = parser.parse_first(input, &mut state);
+    P::drop_state(state);
+    answer
 }
 
 fn choices<Input: Stream<Token = u8>>(input: &mut Input)

@@ -82,5 +82,7 @@ where
 {
     let mut parser = parser;
     let mut state = P::PartialState::default();
-    call(&mut parser, input, &mut state)
+    let answered = call(&mut parser, input, &mut state);
+    P::drop_state(state);
+    answered
 }

@@ -103,9 +103,27 @@ where
     ensures { P.lawful parser.new }
 {
     let mut state = P::PartialState::default();
+    let answered = window_by_window(parser, &mut state, text, ends);
+    P::drop_state(state);
+    answered
+}
+
+/// The answer over windows that end there, one after another with that state.
+fn window_by_window<Input: Written, P: Parser<Input>>(
+    parser: &mut P,
+    state: &mut P::PartialState,
+    text: &'static str,
+    ends: &[usize],
+) -> Option<Answered<P::Output>>
+where
+    Input::Range: Range + Readable + PartialEq,
+    requires lawful { P.lawful parser.old }
+    requires valid { P.valid state.old }
+    ensures { P.lawful parser.new }
+{
     for end in ends {
         let window = Input::begin(text.get(..*end).unwrap_or(text), true);
-        let (called, taken) = call(parser, window, &mut state);
+        let (called, taken) = call(parser, window, state);
         if !matches!(called, Called::More) {
             return Some((called, taken));
         }
@@ -113,7 +131,24 @@ where
             return None;
         }
     }
-    Some(call(parser, Input::begin(text, false), &mut state))
+    Some(call(parser, Input::begin(text, false), state))
+}
+
+/// Whether one call from the start, on the ended input, answers that.
+fn at_once<Input: Written, P: Parser<Input, Output = V>, V: Readable, T: Readable>(
+    parser: &mut P,
+    text: &'static str,
+    wanted: Reading<T>,
+) -> bool
+where
+    Input::Range: Range + Readable + PartialEq,
+    requires { P.lawful parser.old }
+    ensures { P.lawful parser.new }
+{
+    let mut state = P::PartialState::default();
+    let is_right = reads(call(parser, Input::begin(text, false), &mut state), wanted);
+    P::drop_state(state);
+    is_right
 }
 
 /// Whether the answer on an ended input is that, in one call and however the input is cut.
@@ -128,8 +163,7 @@ where
     requires { P.lawful parser.old }
     ensures { P.lawful parser.new }
 {
-    let mut state = P::PartialState::default();
-    if !reads(call(parser, Input::begin(text, false), &mut state), wanted) {
+    if !at_once::<Input, P, V, T>(parser, text, wanted) {
         return Ok(false);
     }
     if !Input::may_go_on() {
@@ -177,13 +211,32 @@ where
     ensures { P.lawful parser.new }
 {
     let mut state = P::PartialState::default();
-    if !open::<Input, P, V, T>(parser, &mut state, one.0, one.1) {
+    let is_right = in_turn_from::<Input, P, V, T>(parser, &mut state, one, two, three);
+    P::drop_state(state);
+    is_right
+}
+
+/// Whether the answers on open inputs are those, one after another with that state.
+fn in_turn_from<Input: Written, P: Parser<Input, Output = V>, V: Readable, T: Readable>(
+    parser: &mut P,
+    state: &mut P::PartialState,
+    one: (T, Reading<T>),
+    two: (T, Reading<T>),
+    three: (T, Reading<T>),
+) -> bool
+where
+    Input::Range: Range + Readable + PartialEq,
+    requires lawful { P.lawful parser.old }
+    requires valid { P.valid state.old }
+    ensures { P.lawful parser.new }
+{
+    if !open::<Input, P, V, T>(parser, state, one.0, one.1) {
         return false;
     }
-    if !open::<Input, P, V, T>(parser, &mut state, two.0, two.1) {
+    if !open::<Input, P, V, T>(parser, state, two.0, two.1) {
         return false;
     }
-    open::<Input, P, V, T>(parser, &mut state, three.0, three.1)
+    open::<Input, P, V, T>(parser, state, three.0, three.1)
 }
 
 /// Checks a row of a parser. Over a stream that can't be open one of open inputs is left out.
@@ -208,6 +261,7 @@ where
             if Input::may_go_on() {
                 let mut state = P::PartialState::default();
                 let is_right = open::<Input, P, V, T>(parser, &mut state, text, wanted);
+                P::drop_state(state);
                 assert!(rt; is_right, "open");
             }
         }

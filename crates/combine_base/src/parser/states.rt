@@ -27,6 +27,36 @@ impl<Input: Stream, P: Parser<Input>> DropState<P::PartialState> for Of<Input, P
     }
 }
 
+/// A kept state of a parser, which is let go where its scope ends.
+///
+/// It stands for the state in a function over a parser that is a type parameter, whose state isn't known to be `Drop`.
+pub struct KeptState<Input: Stream, P: Parser<Input>> {
+    /// The state.
+    pub state: P::PartialState,
+    stream: PhantomData<Input>,
+}
+
+impl<Input: Stream, P: Parser<Input>> KeptState<Input, P> {
+    /// Returns a default state.
+    #[inline]
+    pub fn new() -> Self
+        ensures { P.PartialState.is_default result.state }
+    {
+        KeptState {
+            state: P::PartialState::default(),
+            stream: PhantomData,
+        }
+    }
+}
+
+impl<Input: Stream, P: Parser<Input>> Drop for KeptState<Input, P> {
+    #[inline(always)]
+    fn drop(self) {
+        let KeptState { state, stream: _ } = self;
+        P::drop_state(state);
+    }
+}
+
 /// Puts a state into a place, and lets the one go that stood there.
 #[inline(always)]
 pub fn put_state<S, D: DropState<S>>(place: &mut S, state: S)

@@ -53,7 +53,7 @@ returns-then-needs_more g c =
         answers = at_rest around _ _ (g.met.P.Parser.laws c.args.part.now c.requires.ready.lawful) _ c.requires.starts _ c.in-CommitErr.ensures.answers;
         explained = explained_only c.in-CommitErr.ensures.explained;
         is = refl;
-        leaves = inl (c.needs_more.ensures.0 c.if-needs_more.true, c.from_place.ensures, c.in-CommitErr.ensures.valid);
+        leaves = inl (c.needs_more.ensures.0 c.if-needs_more.true, rw c.put_state.ensures c.from_place-at.ensures, c.in-CommitErr.ensures.valid);
       };
     }
 

@@ -16,7 +16,7 @@ returns-in-PeekOk-clause-called g c =
 pub returns-in-CommitErr-clause-called : goal.returns-in-CommitErr-clause-called
 returns-in-CommitErr-clause-called g c =
     let call = c.parse_mode.ensures in
-    record { lawful = call.lawful; valid = call.valid; same = tuple_1_means_same call.same; passes = call.passes; answers = single_error _ _ _ (g.met.A.Parser.laws _ c.requires.ready.lawful) _ _ c.into_only-kept.ensures _ c.requires.starts _ _ _ _ _ _ c.in-CommitErr.ensures.answers }
+    rw c.put_state.ensures (record { lawful = call.lawful; valid = call.valid; same = tuple_1_means_same call.same; passes = call.passes; answers = single_error _ _ _ (g.met.A.Parser.laws _ c.requires.ready.lawful) _ _ c.into_only-kept.ensures _ c.requires.starts _ _ _ _ _ _ c.in-CommitErr.ensures.answers })
 
 pub returns-in-PeekErr-clause-called : goal.returns-in-PeekErr-clause-called
 returns-in-PeekErr-clause-called g c =

@@ -24,8 +24,8 @@ invariant_of-self g c =
 pub returns : goal.returns
 returns g c =
     let limit = c.self.inside.limit in
-    let begun : Course g.row.P.Denot g.row.T.Denot g.row.P-PartialState.Denot = record { parser = c.args.parser; state = c.default.result; seen = blank; stage = stages.Running; limit = limit } in
-    let at_first = begins g.P.Parser.meaning g.P.Parser.valid begun _ (g.met.P.Parser.laws _ c.requires) c.default.ensures refl g.P.Parser.determined (g.met.P.Parser.single _ c.requires) refl in
+    let begun : Course g.row.P.Denot g.row.T.Denot g.row.P-PartialState.Denot = record { parser = c.args.parser; state = c.put_state.new.place; seen = blank; stage = stages.Running; limit = limit } in
+    let at_first = begins g.P.Parser.meaning g.P.Parser.valid begun _ (g.met.P.Parser.laws _ c.requires) (rw c.put_state.ensures c.default.ensures) refl g.P.Parser.determined (g.met.P.Parser.single _ c.requires) refl in
     let was = fed_view c.self.inside.stream in
     let answer = answered (fed_view c.start-parsed.new.stream) c.start-parsed.result in
     let new = course_of c.start-parsed.new.parser c.start-parsed.new.state c.start-parsed.new.stream (stage_after answer) limit in
