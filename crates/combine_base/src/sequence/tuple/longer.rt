@@ -15,6 +15,15 @@ use crate::sequence::{
 };
 use crate::stream::Stream;
 
+/// Lets the states of parts that were lent, and of one more, go.
+type DropOneMore<Input, Q, E> = After<<Q as Front<Input>>::Dropper, Of<Input, E>>;
+
+/// Lets the states of parts that were lent, and of two more, go.
+type DropTwoMore<Input, Q, E, F> = After<DropOneMore<Input, Q, E>, Of<Input, F>>;
+
+/// Lets the states of parts that were lent, and of three more, go.
+type DropThreeMore<Input, Q, E, F, G> = After<DropTwoMore<Input, Q, E, F>, Of<Input, G>>;
+
 /// Parts that were lent, which are run before another one.
 trait Front<Input: Stream> {
     ghost use Rattle.std.specs.Prelude.{◌≡◌, true};
@@ -184,11 +193,11 @@ fn parse_two_after<
         SequencePlace::Before(at) => {
             let mut kept = N::from_place(SequencePlace::Before(Q::begin()));
             let answer = parse_one_after(before, e, mode, input, at, &mut kept);
-            parse_rest::<_, _, _, _, After<Q::Dropper, Of<Input, E>>, _>(
+            parse_rest::<_, _, _, _, DropOneMore<Input, Q, E>, _>(
                 answer, kept, f, mode, input, state,
             )
         }
-        SequencePlace::Last(at) => resume_last::<_, _, _, _, After<Q::Dropper, Of<Input, E>>, _>(
+        SequencePlace::Last(at) => resume_last::<_, _, _, _, DropOneMore<Input, Q, E>, _>(
             f, mode, input, at, state,
         ),
     }
@@ -233,18 +242,13 @@ fn parse_three_after<
                 Q::begin(),
             ))));
             let answer = parse_two_after(before, e, f, mode, input, at, &mut kept);
-            parse_rest::<_, _, _, _, After<After<Q::Dropper, Of<Input, E>>, Of<Input, F>>, _>(
+            parse_rest::<_, _, _, _, DropTwoMore<Input, Q, E, F>, _>(
                 answer, kept, g, mode, input, state,
             )
         }
-        SequencePlace::Last(at) => resume_last::<
-            _,
-            _,
-            _,
-            _,
-            After<After<Q::Dropper, Of<Input, E>>, Of<Input, F>>,
-            _,
-        >(g, mode, input, at, state),
+        SequencePlace::Last(at) => resume_last::<_, _, _, _, DropTwoMore<Input, Q, E, F>, _>(
+            g, mode, input, at, state,
+        ),
     }
 }
 
@@ -291,23 +295,13 @@ fn parse_four_after<
                 K::from_place(SequencePlace::Before(Q::begin())),
             ))));
             let answer = parse_three_after(before, e, f, g, mode, input, at, &mut kept);
-            parse_rest::<
-                _,
-                _,
-                _,
-                _,
-                After<After<After<Q::Dropper, Of<Input, E>>, Of<Input, F>>, Of<Input, G>>,
-                _,
-            >(answer, kept, h, mode, input, state)
+            parse_rest::<_, _, _, _, DropThreeMore<Input, Q, E, F, G>, _>(
+                answer, kept, h, mode, input, state,
+            )
         }
-        SequencePlace::Last(at) => resume_last::<
-            _,
-            _,
-            _,
-            _,
-            After<After<After<Q::Dropper, Of<Input, E>>, Of<Input, F>>, Of<Input, G>>,
-            _,
-        >(h, mode, input, at, state),
+        SequencePlace::Last(at) => resume_last::<_, _, _, _, DropThreeMore<Input, Q, E, F, G>, _>(
+            h, mode, input, at, state,
+        ),
     }
 }
 
