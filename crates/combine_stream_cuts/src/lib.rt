@@ -114,12 +114,22 @@ pub fn parse_cuts<S: Windowed, P: Parser<MaybePartialStream<Stream<S, S::Placed>
     for cut in cuts {
         let (next, parsed) = parse_window(parser, &mut state, run, whole, *cut, true);
         run = next;
-        match parsed? {
-            Answer::More => asked += 1,
-            answer => return Ok((asked, answer)),
+        match parsed {
+            Ok(answer) => match answer {
+                Answer::More => asked += 1,
+                answer => {
+                    P::drop_state(state);
+                    return Ok((asked, answer));
+                }
+            },
+            Err(kind) => {
+                P::drop_state(state);
+                return Err(kind);
+            }
         }
     }
     let end = whole.end();
     let (_run, parsed) = parse_window(parser, &mut state, run, whole, end, false);
+    P::drop_state(state);
     Ok((asked, parsed?))
 }
