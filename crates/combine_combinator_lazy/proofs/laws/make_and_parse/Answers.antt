@@ -2,12 +2,12 @@ use Rattle.combine_combinator_lazy.specs.Made.{made_at_of_for}
 use Rattle.combine_combinator_lazy.proofs.Making.{refuses_made, starts_made}
 use Rattle.combine_combinator_lazy.proofs.laws.make_and_parse.Goals as goal
 
-pub make_and_run-requires-clause-lawful : goal.make_and_run-requires-clause-lawful
-make_and_run-requires-clause-lawful g c = λ n m. c.requires.2 _ n m
+pub make_and_run-answer-requires-clause-lawful : goal.make_and_run-answer-requires-clause-lawful
+make_and_run-answer-requires-clause-lawful g c = λ n m. c.requires.2 _ n m
 
 pub returns : goal.returns
 returns g c =
-    let run = c.make_and_run.ensures in
+    let run = c.make_and_run-answer.ensures in
     let lawful = c.requires.2 _ _ (made_at_of_for _ _ _ _ _ run.made) in
     record {
       asked = run.asked;

@@ -5,6 +5,7 @@ use Rattle.combine_base.specs.Sequence.Parts.{accepted_as}
 use Rattle.combine_base.specs.declared.error.ParseResult.TheVariants.{CommitErr, CommitOk}
 use Rattle.combine_base.proofs.Explaining.{explained_only}
 use Rattle.combine_base.proofs.Starting.{at_rest}
+use Rattle.combine_sequence.specs.Answered.{step_of}
 use Rattle.combine_sequence.proofs.sequence.answered.parse_answered.Goals as goal
 
 pub returns-in-CommitOk : goal.returns-in-CommitOk
@@ -66,7 +67,7 @@ returns-then-needs_more g c =
         answers = at_rest around _ _ (g.met.N.Parser.laws c.args.from.parser c.requires.ready.lawful) _ c.requires.starts _ c.in-CommitErr.ensures.answers;
         explained = explained_only {m = means} {refuses = refuses} c.in-CommitErr.ensures.explained;
         is = refl;
-        leaves = inl (c.needs_more.ensures.0 c.if-needs_more.true, c.put_state.ensures, c.in-CommitErr.ensures.valid);
+        leaves = inl (c.needs_more.ensures.0 c.if-needs_more.true, ap step_of c.put_state.ensures, c.in-CommitErr.ensures.valid);
       };
       refuses = c.in-CommitErr.ensures.explained;
     }
