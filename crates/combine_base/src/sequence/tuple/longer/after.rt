@@ -1,5 +1,5 @@
 //! Parts that were lent, and one to four more behind them. Tuples of five to eight are made of it.
-ghost use Rattle.std.specs.Prelude.{◌≡◌, ◌+◌, refl, true};
+ghost use Rattle.std.specs.Prelude.{◌≡◌, refl, true};
 ghost use Rattle.combine_base.specs.Sequence.Followed.{Follows};
 ghost use Rattle.combine_base.specs.Sequence.Places.{begins, begins_4, begins_valid_4, first_fresh, valid_4, valid_in};
 ghost use Rattle.combine_base.specs.Sequence.Tuples.{followed, tuple_4, tuple_4_is_meaning};
