@@ -91,7 +91,7 @@ pub fn settle<O, Input: Stream, S, D: DropState<S>, T, E: DropState<T>>(
     answer: ParseResult<O, Input::Error>,
     state: &mut OrState<S, T>,
 ) -> ParseResult<O, Input::Error>
-    requires { Settles Input.Error.seen.kind refused answer }
+    requires settles { Settles Input.Error.seen.kind refused answer }
     ensures { Settled Input.Error.seen Input.Position.cmp (Input.view input.now).is_open refused kept state.old state.new answer result }
 {
     if asks_for_more(input, &answer) {
