@@ -7,11 +7,12 @@ ghost use Rattle.combine_repeat_iterate.specs.Items.{begins_items};
 ghost use Rattle.combine_repeat_iterate.specs.ItemCalls.{CalledItem, Stores};
 
 use combine_base::error::ParseResult;
-use combine_base::parser::{Calls, ParseMode, Parser};
+use combine_base::parser::{Calls, DropState, Of, ParseMode, Parser, put_state};
 use combine_base::repeat::Append;
 use combine_base::sequence::refused_after;
 use combine_base::stream::{Kind, Stream, needs_more};
 use std::alloc::AllocError;
+use std::marker::PhantomData;
 
 /// What is kept of the items: the values of those that are over, whether there are some, whether one of them was committed, and an iterator of those that are left.
 #[derive(Drop)]
@@ -60,6 +61,28 @@ impl<C, I, N, U> Default for IterateState<C, I, N, U> {
     #[inline]
     fn default() -> Self {
         IterateState::Start
+    }
+}
+
+/// Lets the states of `iterate` go, by how those of its items' parsers are.
+pub struct IterateOf<D> {
+    item: PhantomData<D>,
+}
+
+impl<C: Drop, I: Drop, N: Drop, U, D: DropState<U>> DropState<IterateState<C, I, N, U>>
+    for IterateOf<D> {
+    #[inline(always)]
+    fn drop_state(state: IterateState<C, I, N, U>) {
+        match state {
+            IterateState::Start => {}
+            IterateState::Running(
+                RunningItem {
+                    before: _,
+                    parser: _,
+                    state,
+                },
+            ) => D::drop_state(state),
+        }
     }
 }
 
@@ -147,20 +170,29 @@ pub(super) fn parse_item<
     } = from;
     let position = input.position();
     let (value, committed) = match call_item(before.is_begun, &mut parser, mode, input, &mut kept) {
-        ParseResult::CommitOk(value) => (value, true),
-        ParseResult::PeekOk(value) => (value, false),
+        ParseResult::CommitOk(value) => {
+            N::drop_state(kept);
+            (value, true)
+        }
+        ParseResult::PeekOk(value) => {
+            N::drop_state(kept);
+            (value, false)
+        }
         ParseResult::CommitErr(error) => {
             if needs_more(input, &error) {
-                *state = IterateState::Running(RunningItem {
+                let running = IterateState::Running(RunningItem {
                     before,
                     parser,
                     state: kept,
                 });
+                put_state::<_, IterateOf<Of<Input, N>>>(state, running);
                 return Item::Stops(ParseResult::CommitErr(error));
             }
+            N::drop_state(kept);
             return Item::Stops(ParseResult::CommitErr(error));
         }
         ParseResult::PeekErr(refusal) => {
+            N::drop_state(kept);
             return Item::Stops(refused_after(before.committed, refusal));
         }
     };

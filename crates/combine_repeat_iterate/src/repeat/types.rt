@@ -5,9 +5,9 @@ ghost use Rattle.combine_repeat_iterate.specs.Iterated.{AskedFor, Gives, InPlace
 ghost use Rattle.combine_repeat_iterate.specs.Items.{AnswersOne, iterated, iterated_is_meaning, iterated_means_one, starts_valid, valid_item};
 
 use super::items::{Collected, Item, parse_item, resume_item};
-pub use super::items::{IterateState, RunningItem};
+pub use super::items::{IterateOf, IterateState, RunningItem};
 use combine_base::error::{ErrorOffset, ParseResult, Tracked};
-use combine_base::parser::{FirstMode, Outputs, ParseMode, Parser};
+use combine_base::parser::{DropState, FirstMode, Of, Outputs, ParseMode, Parser};
 use combine_base::repeat::Append;
 use combine_base::sequence::{accepted_after, take_state};
 use combine_base::stream::{Kind, Stream};
@@ -58,6 +58,11 @@ where
 
     ghost single = { λ p l d. iterated_means_one Input.step (AskedFor (λ a i n l. F.post (asked_part p) a i n l)) (by_function Input.view Input.marks Input.failures F.Fn N.lawful) N.meaning C.held C.none C.more (Gives J.IntoIter.can_next J.IntoIter.remaining J.IntoIter.next_gives) (Lists J.IntoIter.can_next J.IntoIter.remaining J.IntoIter.next_gives J.is_clone J.into_iter_gives (items_part p)) (C.lean × J.is_infallible (items_part p)) d.0 N.lawful (λ n i. N.single n (i.all i.item n i.answered) (d.1 n i)) d.2 (gives_one J.IntoIter.can_next J.IntoIter.remaining J.IntoIter.next_gives) };
 
+    #[inline(always)]
+    fn drop_state(state: IterateState<C, J::IntoIter, N, N::PartialState>) {
+        <IterateOf<Of<Input, N>> as DropState<_>>::drop_state(state)
+    }
+
     fn parse_mode<M: ParseMode>(
         &mut self,
         mode: M,
@@ -65,7 +70,7 @@ where
         state: &mut Self::PartialState,
     ) -> ParseResult<C, Input::Error> {
         let mut collected: Collected<C, J::IntoIter>;
-        match take_state(mode, state) {
+        match take_state::<_, IterateOf<Of<Input, N>>, _>(mode, state) {
             IterateState::Running(item) => match resume_item(mode, input, item, state) {
                 Item::Goes(next) => collected = next,
                 Item::Stops(answer) => return answer,

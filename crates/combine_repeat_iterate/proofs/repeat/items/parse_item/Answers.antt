@@ -19,7 +19,7 @@ returns-then-needs_more g c =
       answer = CommitErr c.in-CommitErr.error;
       answers = at_rest around _ _ (g.met.N.Parser.laws c.args.from.parser c.requires.ready.lawful) _ c.requires.starts _ c.in-CommitErr.ensures.answers;
       did = refl;
-      keeps = inl (c.needs_more.ensures.0 c.if-needs_more.true, refl, c.in-CommitErr.ensures.valid);
+      keeps = inl (c.needs_more.ensures.0 c.if-needs_more.true, c.put_state.ensures, c.in-CommitErr.ensures.valid);
     }
 
 pub returns-in-CommitErr : goal.returns-in-CommitErr
