@@ -1,8 +1,9 @@
-use Rattle.std.proofs.Common.{inl, inr, refl}
+use Rattle.std.proofs.Common.{ap, inl, inr, refl}
 use Rattle.combine_base.specs.Parser.Answer.{world}
 use Rattle.combine_base.specs.declared.error.ParseResult.TheVariants.{CommitErr}
 use Rattle.combine_base.proofs.Explaining.{explained_only}
 use Rattle.combine_base.proofs.Starting.{at_rest}
+use Rattle.combine_repeat_sep.specs.Pair.{pair_place}
 use Rattle.combine_repeat_sep.proofs.pair.parse_part.Goals as goal
 
 pub returns-in-CommitOk : goal.returns-in-CommitOk
@@ -53,7 +54,7 @@ returns-then-needs_more g c =
         answers = at_rest around _ _ (g.met.P.Parser.laws c.args.part.now c.requires.ready.lawful) _ c.requires.starts _ c.in-CommitErr.ensures.answers;
         explained = explained_only c.in-CommitErr.ensures.explained;
         is = refl;
-        leaves = inl (c.needs_more.ensures.0 c.if-needs_more.true, c.put_state.ensures, c.in-CommitErr.ensures.valid);
+        leaves = inl (c.needs_more.ensures.0 c.if-needs_more.true, ap pair_place c.put_state.ensures, c.in-CommitErr.ensures.valid);
       };
     }
 
