@@ -186,6 +186,9 @@ impl<Input: Stream, O: Order<Input::Token>, N: Number> Parser<Input> for WholeNu
     ghost parts = { λ p. 1 };
 
     #[inline(always)]
+    fn drop_state(_state: ()) {}
+
+    #[inline(always)]
     fn parse_mode<M: ParseMode>(
         &mut self,
         mode: M,
