@@ -96,6 +96,9 @@ where
     ghost parts = { λ p. 1 };
 
     #[inline(always)]
+    fn drop_state(_state: Distance) {}
+
+    #[inline(always)]
     fn parse_mode<M: ParseMode>(
         &mut self,
         mode: M,
@@ -139,6 +142,9 @@ where
     ghost meaning = { λ p. kept Input.size (beginning Input.size Input.spells (F.post p.predicate) true) Nothing };
 
     ghost parts = { λ p. 1 };
+
+    #[inline(always)]
+    fn drop_state(_state: Distance) {}
 
     #[inline(always)]
     fn parse_mode<M: ParseMode>(

@@ -48,6 +48,9 @@ where
     ghost parts = { λ p. 1 };
 
     #[inline(always)]
+    fn drop_state(_state: ()) {}
+
+    #[inline(always)]
     fn parse_mode<M: ParseMode>(
         &mut self,
         mode: M,
@@ -103,6 +106,9 @@ where
     ghost meaning = { λ p. stateless (matching Input.size Input.spells (given Input.Range.count Input.Range.eq p.wanted)) ⊥ (Unit {0}) (Only (Expected (OfRange p.wanted))) };
 
     ghost parts = { λ p. 1 };
+
+    #[inline(always)]
+    fn drop_state(_state: ()) {}
 
     #[inline(always)]
     fn parse_mode<M: ParseMode>(

@@ -7,7 +7,7 @@ ghost use Rattle.combine_range.specs.Recognized.{HasValid, IsFresh, beside, reco
 
 use crate::passing::{hand_out, not_passed, pass_items};
 use combine_base::error::{ErrorOffset, ParseResult, Tracked};
-use combine_base::parser::{Outputs, ParseMode, Parser};
+use combine_base::parser::{Of, Outputs, ParseMode, Parser, put_state};
 use combine_base::stream::{Positioned, ResetStream, Stream, StreamOnce, needs_more};
 use combine_stream::range::{Range, RangeStream};
 
@@ -87,6 +87,12 @@ where
     ghost single = { λ p l d. recognized_means_one Input.size Input.spells Input.step Input.filled P.valid (P.meaning p.0) (P.single p.0 l d) };
 
     #[inline(always)]
+    fn drop_state(state: RecognizeState<P::PartialState>) {
+        let RecognizeState { distance: _, part } = state;
+        P::drop_state(part)
+    }
+
+    #[inline(always)]
     fn parse_mode<M: ParseMode>(
         &mut self,
         mode: M,
@@ -97,7 +103,7 @@ where
         let position = input.position();
         let distance = state.begin(mode.is_first());
         if let Err(kind) = pass_items(input, distance) {
-            state.part = P::PartialState::default();
+            put_state::<_, Of<Input, P>>(&mut state.part, P::PartialState::default());
             return not_passed(input, kind, position);
         }
         match self.0.parse_mode(mode, input, &mut state.part) {
@@ -108,7 +114,7 @@ where
                 if needs_more(input, &error) {
                     let read = input.distance(&start);
                     if let Err(kind) = input.reset(start) {
-                        state.part = P::PartialState::default();
+                        put_state::<_, Of<Input, P>>(&mut state.part, P::PartialState::default());
                         return ParseResult::CommitErr(input.new_error(kind, position));
                     }
                     state.distance = read;
@@ -160,6 +166,12 @@ where
     ghost laws = { λ p l. mapped_is_meaning (IsFresh P.PartialState.is_default) (HasValid P.valid) _ _ (recognized_is_meaning Input.size Input.spells Input.step Input.filled P.PartialState.is_default P.valid (P.meaning p.0.0) (P.laws p.0.0 l)) };
 
     ghost single = { λ p l d. mapped_means_one (HasValid P.valid) _ _ (recognized_means_one Input.size Input.spells Input.step Input.filled P.valid (P.meaning p.0.0) (P.single p.0.0 l d)) };
+
+    #[inline(always)]
+    fn drop_state(state: RecognizeState<P::PartialState>) {
+        let RecognizeState { distance: _, part } = state;
+        P::drop_state(part)
+    }
 
     #[inline(always)]
     fn parse_mode<M: ParseMode>(

@@ -9,7 +9,7 @@ use Rattle.combine_range.proofs.range.recognized.RecognizeWithValueParser.parse_
 
 pub returns-in-Err-clause-answers : goal.returns-in-Err-clause-answers
 returns-in-Err-clause-answers g c =
-    slice_unpassed _ _ _ (g.P.Parser.meaning c.args.self.now.0) _ _ (rw c.is_first.ensures at c.begin-distance.ensures.begun) _ _ _ c.in-Err.ensures.over c.not_passed.ensures (ap (λ (s : RecognizeState _). s.distance) c.begin-distance.ensures.left) c.default.ensures
+    slice_unpassed _ _ _ (g.P.Parser.meaning c.args.self.now.0) _ _ (rw c.is_first.ensures at c.begin-distance.ensures.begun) _ _ _ c.in-Err.ensures.over c.not_passed.ensures (ap (λ (s : RecognizeState _). s.distance) c.begin-distance.ensures.left) (rw c.put_state.ensures c.default.ensures)
 
 pub returns-in-CommitOk-clause-answers : goal.returns-in-CommitOk-clause-answers
 returns-in-CommitOk-clause-answers g c =
@@ -36,7 +36,7 @@ pub returns-in-Err-reset-clause-answers : goal.returns-in-Err-reset-clause-answe
 returns-in-Err-reset-clause-answers g c =
     let z = comes _ _ g.met.Input.RangeStream.filled g.Input.RangeStream.spells (g.P.Parser.meaning c.args.self.now.0) c.is_first.ensures c.begin-distance.ensures.begun c.begin-distance.ensures.left c.in_default.ensures.over c.in_default.ensures.passes in
     let q = c.parse_mode.ensures.passes in
-    slice_unreset _ _ g.met.Input.RangeStream.filled _ (g.P.Parser.meaning c.args.self.now.0) _ _ _ _ refl z _ (c.needs_more.ensures.0 c.if-needs_more.true) c.in-CommitErr.ensures.answers _ _ c.new_error.ensures.kind c.in-Err-reset.ensures.to.is q.reads q.resets refl c.default-in-Err-reset.ensures
+    slice_unreset _ _ g.met.Input.RangeStream.filled _ (g.P.Parser.meaning c.args.self.now.0) _ _ _ _ refl z _ (c.needs_more.ensures.0 c.if-needs_more.true) c.in-CommitErr.ensures.answers _ _ c.new_error.ensures.kind c.in-Err-reset.ensures.to.is q.reads q.resets refl (rw c.put_state-in-Err-reset.ensures c.default-in-Err-reset.ensures)
 
 pub returns-then-needs_more-clause-answers : goal.returns-then-needs_more-clause-answers
 returns-then-needs_more-clause-answers g c =
