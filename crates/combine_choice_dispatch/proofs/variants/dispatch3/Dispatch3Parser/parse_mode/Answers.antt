@@ -11,7 +11,7 @@ pub returns-in-A-clause-answers : goal.returns-in-A-clause-answers
 returns-in-A-clause-answers g c =
     let l = rw c.in-A.is at c.requires.lawful in
     let from = rw (c.into_a.ensures, c.take.ensures.value) at c.start-kept.ensures in
-    rw (c.in-A.is, c.passed_on.ensures) (held_answers g.Input.StreamOnce.step g.Input.Error.ParseError.seen g.Input.StreamOnce.steady _ pick_a (g.met.A.Parser.laws _ l) _ _ _ from _ _ _ _ refl (λ d. d) _ _ _ c.parse_mode-answer.ensures.answers)
+    rw (c.in-A.is, c.put_state.ensures, c.passed_on.ensures) (held_answers g.Input.StreamOnce.step g.Input.Error.ParseError.seen g.Input.StreamOnce.steady _ pick_a (g.met.A.Parser.laws _ l) _ _ _ from _ _ _ _ refl (λ d. d) _ _ _ c.parse_mode-answer.ensures.answers)
 
 pub returns-in-A-clause-refuses : goal.returns-in-A-clause-refuses
 returns-in-A-clause-refuses g c =
@@ -25,7 +25,7 @@ pub returns-in-B-clause-answers : goal.returns-in-B-clause-answers
 returns-in-B-clause-answers g c =
     let l = rw c.in-B.is at c.requires.lawful in
     let from = rw (c.into_b.ensures, c.take-in-B.ensures.value) at c.start-kept-in-B.ensures in
-    rw (c.in-B.is, c.passed_on-in-B.ensures) (held_answers g.Input.StreamOnce.step g.Input.Error.ParseError.seen g.Input.StreamOnce.steady _ pick_b (g.met.B.Parser.laws _ l) _ _ _ from _ _ _ _ refl (λ d. d) _ _ _ c.parse_mode-answer-in-B.ensures.answers)
+    rw (c.in-B.is, c.put_state-in-B.ensures, c.passed_on-in-B.ensures) (held_answers g.Input.StreamOnce.step g.Input.Error.ParseError.seen g.Input.StreamOnce.steady _ pick_b (g.met.B.Parser.laws _ l) _ _ _ from _ _ _ _ refl (λ d. d) _ _ _ c.parse_mode-answer-in-B.ensures.answers)
 
 pub returns-in-B-clause-refuses : goal.returns-in-B-clause-refuses
 returns-in-B-clause-refuses g c =
@@ -39,7 +39,7 @@ pub returns-in-C-clause-answers : goal.returns-in-C-clause-answers
 returns-in-C-clause-answers g c =
     let l = rw c.in-C.is at c.requires.lawful in
     let from = rw (c.into_c.ensures, c.take-in-C.ensures.value) at c.start-kept-in-C.ensures in
-    rw (c.in-C.is, c.passed_on-in-C.ensures) (held_answers g.Input.StreamOnce.step g.Input.Error.ParseError.seen g.Input.StreamOnce.steady _ pick_c (g.met.C.Parser.laws _ l) _ _ _ from _ _ _ _ refl (λ d. d) _ _ _ c.parse_mode-answer-in-C.ensures.answers)
+    rw (c.in-C.is, c.put_state-in-C.ensures, c.passed_on-in-C.ensures) (held_answers g.Input.StreamOnce.step g.Input.Error.ParseError.seen g.Input.StreamOnce.steady _ pick_c (g.met.C.Parser.laws _ l) _ _ _ from _ _ _ _ refl (λ d. d) _ _ _ c.parse_mode-answer-in-C.ensures.answers)
 
 pub returns-in-C-clause-refuses : goal.returns-in-C-clause-refuses
 returns-in-C-clause-refuses g c =

@@ -11,7 +11,7 @@ pub returns-in-A-clause-answers : goal.returns-in-A-clause-answers
 returns-in-A-clause-answers g c =
     let l = rw c.in-A.is at c.requires.lawful in
     let from = rw (c.into_a.ensures, c.take.ensures.value) at c.start-kept.ensures in
-    rw (c.in-A.is, c.passed_on.ensures) (held_answers g.Input.StreamOnce.step g.Input.Error.ParseError.seen g.Input.StreamOnce.steady _ pick_a (g.met.A.Parser.laws _ l) _ _ _ from _ _ _ _ refl (λ d. d) _ _ _ c.parse_mode-answer.ensures.answers)
+    rw (c.in-A.is, c.put_state.ensures, c.passed_on.ensures) (held_answers g.Input.StreamOnce.step g.Input.Error.ParseError.seen g.Input.StreamOnce.steady _ pick_a (g.met.A.Parser.laws _ l) _ _ _ from _ _ _ _ refl (λ d. d) _ _ _ c.parse_mode-answer.ensures.answers)
 
 pub returns-in-A-clause-refuses : goal.returns-in-A-clause-refuses
 returns-in-A-clause-refuses g c =
@@ -25,7 +25,7 @@ pub returns-in-B-clause-answers : goal.returns-in-B-clause-answers
 returns-in-B-clause-answers g c =
     let l = rw c.in-B.is at c.requires.lawful in
     let from = rw (c.into_b.ensures, c.take-in-B.ensures.value) at c.start-kept-in-B.ensures in
-    rw (c.in-B.is, c.passed_on-in-B.ensures) (held_answers g.Input.StreamOnce.step g.Input.Error.ParseError.seen g.Input.StreamOnce.steady _ pick_b (g.met.B.Parser.laws _ l) _ _ _ from _ _ _ _ refl (λ d. d) _ _ _ c.parse_mode-answer-in-B.ensures.answers)
+    rw (c.in-B.is, c.put_state-in-B.ensures, c.passed_on-in-B.ensures) (held_answers g.Input.StreamOnce.step g.Input.Error.ParseError.seen g.Input.StreamOnce.steady _ pick_b (g.met.B.Parser.laws _ l) _ _ _ from _ _ _ _ refl (λ d. d) _ _ _ c.parse_mode-answer-in-B.ensures.answers)
 
 pub returns-in-B-clause-refuses : goal.returns-in-B-clause-refuses
 returns-in-B-clause-refuses g c =
@@ -39,7 +39,7 @@ pub returns-in-C-clause-answers : goal.returns-in-C-clause-answers
 returns-in-C-clause-answers g c =
     let l = rw c.in-C.is at c.requires.lawful in
     let from = rw (c.into_c.ensures, c.take-in-C.ensures.value) at c.start-kept-in-C.ensures in
-    rw (c.in-C.is, c.passed_on-in-C.ensures) (held_answers g.Input.StreamOnce.step g.Input.Error.ParseError.seen g.Input.StreamOnce.steady _ pick_c (g.met.C.Parser.laws _ l) _ _ _ from _ _ _ _ refl (λ d. d) _ _ _ c.parse_mode-answer-in-C.ensures.answers)
+    rw (c.in-C.is, c.put_state-in-C.ensures, c.passed_on-in-C.ensures) (held_answers g.Input.StreamOnce.step g.Input.Error.ParseError.seen g.Input.StreamOnce.steady _ pick_c (g.met.C.Parser.laws _ l) _ _ _ from _ _ _ _ refl (λ d. d) _ _ _ c.parse_mode-answer-in-C.ensures.answers)
 
 pub returns-in-C-clause-refuses : goal.returns-in-C-clause-refuses
 returns-in-C-clause-refuses g c =
@@ -53,7 +53,7 @@ pub returns-in-D-clause-answers : goal.returns-in-D-clause-answers
 returns-in-D-clause-answers g c =
     let l = rw c.in-D.is at c.requires.lawful in
     let from = rw (c.into_d.ensures, c.take-in-D.ensures.value) at c.start-kept-in-D.ensures in
-    rw (c.in-D.is, c.passed_on-in-D.ensures) (held_answers g.Input.StreamOnce.step g.Input.Error.ParseError.seen g.Input.StreamOnce.steady _ pick_d (g.met.D.Parser.laws _ l) _ _ _ from _ _ _ _ refl (λ d. d) _ _ _ c.parse_mode-answer-in-D.ensures.answers)
+    rw (c.in-D.is, c.put_state-in-D.ensures, c.passed_on-in-D.ensures) (held_answers g.Input.StreamOnce.step g.Input.Error.ParseError.seen g.Input.StreamOnce.steady _ pick_d (g.met.D.Parser.laws _ l) _ _ _ from _ _ _ _ refl (λ d. d) _ _ _ c.parse_mode-answer-in-D.ensures.answers)
 
 pub returns-in-D-clause-refuses : goal.returns-in-D-clause-refuses
 returns-in-D-clause-refuses g c =
@@ -67,7 +67,7 @@ pub returns-in-E-clause-answers : goal.returns-in-E-clause-answers
 returns-in-E-clause-answers g c =
     let l = rw c.in-E.is at c.requires.lawful in
     let from = rw (c.into_e.ensures, c.take-in-E.ensures.value) at c.start-kept-in-E.ensures in
-    rw (c.in-E.is, c.passed_on-in-E.ensures) (held_answers g.Input.StreamOnce.step g.Input.Error.ParseError.seen g.Input.StreamOnce.steady _ pick_e (g.met.E.Parser.laws _ l) _ _ _ from _ _ _ _ refl (λ d. d) _ _ _ c.parse_mode-answer-in-E.ensures.answers)
+    rw (c.in-E.is, c.put_state-in-E.ensures, c.passed_on-in-E.ensures) (held_answers g.Input.StreamOnce.step g.Input.Error.ParseError.seen g.Input.StreamOnce.steady _ pick_e (g.met.E.Parser.laws _ l) _ _ _ from _ _ _ _ refl (λ d. d) _ _ _ c.parse_mode-answer-in-E.ensures.answers)
 
 pub returns-in-E-clause-refuses : goal.returns-in-E-clause-refuses
 returns-in-E-clause-refuses g c =
@@ -81,7 +81,7 @@ pub returns-in-F-clause-answers : goal.returns-in-F-clause-answers
 returns-in-F-clause-answers g c =
     let l = rw c.in-F.is at c.requires.lawful in
     let from = rw (c.into_f.ensures, c.take-in-F.ensures.value) at c.start-kept-in-F.ensures in
-    rw (c.in-F.is, c.passed_on-in-F.ensures) (held_answers g.Input.StreamOnce.step g.Input.Error.ParseError.seen g.Input.StreamOnce.steady _ pick_f (g.met.F.Parser.laws _ l) _ _ _ from _ _ _ _ refl (λ d. d) _ _ _ c.parse_mode-answer-in-F.ensures.answers)
+    rw (c.in-F.is, c.put_state-in-F.ensures, c.passed_on-in-F.ensures) (held_answers g.Input.StreamOnce.step g.Input.Error.ParseError.seen g.Input.StreamOnce.steady _ pick_f (g.met.F.Parser.laws _ l) _ _ _ from _ _ _ _ refl (λ d. d) _ _ _ c.parse_mode-answer-in-F.ensures.answers)
 
 pub returns-in-F-clause-refuses : goal.returns-in-F-clause-refuses
 returns-in-F-clause-refuses g c =
