@@ -1,5 +1,5 @@
 -- the answers of `recognize`, by those of its part
-use Rattle.std.proofs.Common.{ℕ, ◌+◌, ◌<◌, ◌≤◌, ◌≡◌, List, ◌++◌, Bool, true, false, take, drop, arith, ap, sym, subst, refl, ◌∙◌, Ok, Err}
+use Rattle.std.proofs.Common.{ℕ, ◌<◌, ◌≤◌, ◌≡◌, List, ◌++◌, Bool, true, false, take, drop, arith, ap, sym, subst, refl, ◌∙◌, Ok, Err}
 use Rattle.combine_base.specs.Stream.View.{View, Follows, extended}
 use Rattle.combine_base.specs.Parser.Outcome.{Outcome, Accepted, Refused, Undecided, after, IsCommitted}
 use Rattle.combine_base.specs.Parser.Meaning.{Meaning, Reading, IsReading}
