@@ -12,11 +12,11 @@ ghost use Rattle.combine_repeat_turns.specs.Sound.{any_sound};
 ghost use Rattle.combine_repeat_turns.specs.Turn.{gives_any};
 
 use combine_base::error::{ParseResult, Tracked};
-use combine_base::parser::{FirstMode, ParseMode, Parser};
+use combine_base::parser::{DropState, FirstMode, Of, ParseMode, Parser, put_state};
 use combine_base::repeat::Append;
 use combine_base::stream::{Stream, needs_more};
-use combine_repeat_sep::pair::{PairState, PairStateOf, parse_pair};
-use combine_repeat_sep::separated::{Lead, SeparatedState, TurnPlace};
+use combine_repeat_sep::pair::{PairOf, PairState, PairStateOf, parse_pair};
+use combine_repeat_sep::separated::{Lead, SeparatedOf, SeparatedState, TurnPlace};
 use combine_repeat_turns::turns::{Gather, Turn};
 use combine_token::choice::types::Optional;
 use std::alloc::{AllocError, Global};
@@ -82,7 +82,7 @@ impl<A: Drop, F: Append<A>> Gather<Option<A>> for EachSome<F> {
 
 /// Runs the first part, from what is kept of it.
 #[inline(always)]
-fn run_first<Input: Stream, P: Parser<Input>, O: Drop, W: Drop, M: ParseMode>(
+fn run_first<Input: Stream, P: Parser<Input>, O: Drop, W, D: DropState<W>, M: ParseMode>(
     parser: &mut P,
     mode: M,
     kept: P::PartialState,
@@ -99,16 +99,27 @@ fn run_first<Input: Stream, P: Parser<Input>, O: Drop, W: Drop, M: ParseMode>(
 {
     let mut kept = kept;
     match parser.parse_mode(mode, input, &mut kept) {
-        ParseResult::CommitOk(value) => ParseResult::CommitOk(Some(value)),
-        ParseResult::PeekOk(value) => ParseResult::PeekOk(Some(value)),
+        ParseResult::CommitOk(value) => {
+            P::drop_state(kept);
+            ParseResult::CommitOk(Some(value))
+        }
+        ParseResult::PeekOk(value) => {
+            P::drop_state(kept);
+            ParseResult::PeekOk(Some(value))
+        }
         ParseResult::CommitErr(error) => {
             if needs_more(input, &error) {
-                *state = SeparatedState::Part(Lead::Nothing, kept);
+                let at = SeparatedState::Part(Lead::Nothing, kept);
+                put_state::<_, SeparatedOf<D, Of<Input, P>>>(state, at);
                 return ParseResult::CommitErr(error);
             }
+            P::drop_state(kept);
             ParseResult::CommitErr(error)
         }
-        ParseResult::PeekErr(refusal) => ParseResult::PeekErr(refusal),
+        ParseResult::PeekErr(refusal) => {
+            P::drop_state(kept);
+            ParseResult::PeekErr(refusal)
+        }
     }
 }
 
@@ -135,21 +146,28 @@ fn run_later<Input: Stream, P: Parser<Input>, S: Parser<Input>, M: ParseMode>(
     let mut left = PairState::default();
     match parse_pair(separator, part, mode, input, kept, &mut left) {
         ParseResult::CommitOk(pair) => {
+            <PairOf<Of<Input, S>, Of<Input, P>> as DropState<_>>::drop_state(left);
             let (_separator, value) = pair;
             ParseResult::CommitOk(value)
         }
         ParseResult::PeekOk(pair) => {
+            <PairOf<Of<Input, S>, Of<Input, P>> as DropState<_>>::drop_state(left);
             let (_separator, value) = pair;
             ParseResult::PeekOk(value)
         }
         ParseResult::CommitErr(error) => {
             if needs_more(input, &error) {
-                *state = SeparatedState::later(left);
+                let at = SeparatedState::later(left);
+                put_state::<_, SeparatedOf<Of<Input, S>, Of<Input, P>>>(state, at);
                 return ParseResult::CommitErr(error);
             }
+            <PairOf<Of<Input, S>, Of<Input, P>> as DropState<_>>::drop_state(left);
             ParseResult::CommitErr(error)
         }
-        ParseResult::PeekErr(refusal) => ParseResult::PeekErr(refusal),
+        ParseResult::PeekErr(refusal) => {
+            <PairOf<Of<Input, S>, Of<Input, P>> as DropState<_>>::drop_state(left);
+            ParseResult::PeekErr(refusal)
+        }
     }
 }
 
@@ -173,6 +191,11 @@ impl<Input: Stream, P: Parser<Input>, S: Parser<Input>> Turn<Input> for Ended<P,
     ghost gives = { λ _. Unit {0} };
 
     #[inline(always)]
+    fn drop_running(state: SeparatedState<S::Output, S::PartialState, P::PartialState>) {
+        <SeparatedOf<Of<Input, S>, Of<Input, P>> as DropState<_>>::drop_state(state)
+    }
+
+    #[inline(always)]
     fn parse_turn<M: ParseMode>(
         &mut self,
         later: bool,
@@ -182,6 +205,7 @@ impl<Input: Stream, P: Parser<Input>, S: Parser<Input>> Turn<Input> for Ended<P,
     ) -> ParseResult<Self::Value, Input::Error> {
         let given = mem::take(state);
         if mode.is_first() {
+            <SeparatedOf<Of<Input, S>, Of<Input, P>> as DropState<_>>::drop_state(given);
             if later {
                 let kept = PairState::default();
                 return run_later(
@@ -194,10 +218,22 @@ impl<Input: Stream, P: Parser<Input>, S: Parser<Input>> Turn<Input> for Ended<P,
                 );
             }
             let kept = P::PartialState::default();
-            return run_first(&mut self.part.0, FirstMode, kept, input, state);
+            return run_first::<_, _, _, _, Of<Input, S>, _>(
+                &mut self.part.0,
+                FirstMode,
+                kept,
+                input,
+                state,
+            );
         }
         match given.into_place() {
-            TurnPlace::First(kept) => run_first(&mut self.part.0, mode, kept, input, state),
+            TurnPlace::First(kept) => run_first::<_, _, _, _, Of<Input, S>, _>(
+                &mut self.part.0,
+                mode,
+                kept,
+                input,
+                state,
+            ),
             TurnPlace::Later(kept) => run_later(
                 &mut self.separator,
                 &mut self.part,

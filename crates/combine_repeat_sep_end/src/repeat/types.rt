@@ -8,12 +8,12 @@ ghost use Rattle.combine_repeat_turns.specs.Counts.{appended};
 
 use crate::ended::{EachSome, Ended};
 use combine_base::error::{ErrorOffset, ParseResult, Tracked};
-use combine_base::parser::{Outputs, ParseMode, Parser};
+use combine_base::parser::{DropState, Of, Outputs, ParseMode, Parser};
 use combine_base::repeat::Append;
 use combine_base::stream::Stream;
-use combine_repeat_sep::separated::SeparatedState;
+use combine_repeat_sep::separated::{SeparatedOf, SeparatedState};
 use combine_repeat_turns::turns::limits::JoinedFrom;
-use combine_repeat_turns::turns::{Turns, TurnsState, take_turns};
+use combine_repeat_turns::turns::{Turns, TurnsOf, TurnsState, take_turns};
 use std::alloc::Global;
 use std::marker::PhantomData;
 
@@ -52,6 +52,13 @@ impl<Input: Stream, P: Parser<Input>, S: Parser<Input>, F: Append<P::Output>> Pa
     ghost laws = { λ p l. sep_end_is_meaning Input.step (Joined 0 None) (appended F.held F.none F.more F.lean) P.PartialState.is_default P.valid S.PartialState.is_default S.valid (P.meaning (ended_by_part p)) (S.meaning (ended_by_separator p)) (P.laws (ended_by_part p) l.1) (S.laws (ended_by_separator p) l.0) };
 
     ghost single = { λ p l d. sep_end_means_one Input.step (Joined 0 None) (appended F.held F.none F.more F.lean) P.valid S.valid (P.meaning (ended_by_part p)) (S.meaning (ended_by_separator p)) (P.single (ended_by_part p) l.1 d.1) (S.single (ended_by_separator p) l.0 d.0) };
+
+    #[inline(always)]
+    fn drop_state(
+        state: TurnsState<F, SeparatedState<S::Output, S::PartialState, P::PartialState>>,
+    ) {
+        <TurnsOf<SeparatedOf<Of<Input, S>, Of<Input, P>>> as DropState<_>>::drop_state(state)
+    }
 
     #[inline(always)]
     fn parse_mode<M: ParseMode>(
@@ -120,6 +127,13 @@ impl<Input: Stream, P: Parser<Input>, S: Parser<Input>, F: Append<P::Output>> Pa
     ghost laws = { λ p l. sep_end_is_meaning Input.step (Joined 1 None) (appended F.held F.none F.more F.lean) P.PartialState.is_default P.valid S.PartialState.is_default S.valid (P.meaning (ended_by1_part p)) (S.meaning (ended_by1_separator p)) (P.laws (ended_by1_part p) l.1) (S.laws (ended_by1_separator p) l.0) };
 
     ghost single = { λ p l d. sep_end_means_one Input.step (Joined 1 None) (appended F.held F.none F.more F.lean) P.valid S.valid (P.meaning (ended_by1_part p)) (S.meaning (ended_by1_separator p)) (P.single (ended_by1_part p) l.1 d.1) (S.single (ended_by1_separator p) l.0 d.0) };
+
+    #[inline(always)]
+    fn drop_state(
+        state: TurnsState<F, SeparatedState<S::Output, S::PartialState, P::PartialState>>,
+    ) {
+        <TurnsOf<SeparatedOf<Of<Input, S>, Of<Input, P>>> as DropState<_>>::drop_state(state)
+    }
 
     #[inline(always)]
     fn parse_mode<M: ParseMode>(
