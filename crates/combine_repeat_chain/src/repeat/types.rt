@@ -11,13 +11,13 @@ ghost use Rattle.combine_repeat_turns.specs.Bounded.{begun_valid, running_turn};
 
 use crate::operands::{EachOperand, Operands};
 use combine_base::error::{ErrorOffset, ParseResult, Tracked};
-use combine_base::parser::{Outputs, ParseMode, Parser};
+use combine_base::parser::{DropState, Of, Outputs, ParseMode, Parser};
 use combine_base::sequence::State2;
 use combine_base::stream::Stream;
 use combine_combinator::combinator::types::{Ignore, NoPartial};
 use combine_repeat::repeat::types::SkipMany;
-use combine_repeat_sep::separated::{Folds, Operator, Separated, SeparatedState};
-use combine_repeat_turns::turns::{TurnsState, take_joined};
+use combine_repeat_sep::separated::{Folds, Operator, Separated, SeparatedOf, SeparatedState};
+use combine_repeat_turns::turns::{TurnsOf, TurnsState, take_joined};
 use combine_token::choice::OrState;
 use combine_token::choice::types::Or;
 use combine_token::token::types::Token;
@@ -73,6 +73,11 @@ where
     ghost laws = { λ p l. mapped_is_meaning _ _ (operands Input.step (P.meaning (right_part p)) (S.meaning (right_operator p))) (gives_right (λ f x y r. S.Output.answers f x y r)) (fewer_is_meaning (λ s d. d.0) (joined_is_meaning Input.step (Joined 1 None) each_operand (λ f. S.Output.callable f) P.PartialState.is_default P.valid S.PartialState.is_default S.valid (P.meaning (right_part p)) (S.meaning (right_operator p)) (P.laws (right_part p) l.2) (S.laws (right_operator p) l.1))) };
 
     ghost single = { λ p l d. mapped_means_one _ (operands Input.step (P.meaning (right_part p)) (S.meaning (right_operator p))) (gives_right (λ f x y r. S.Output.answers f x y r)) (fewer_means_one (λ s d. d.0) (joined_means_one Input.step (Joined 1 None) each_operand (λ f. S.Output.callable f) P.valid S.valid (P.meaning (right_part p)) (S.meaning (right_operator p)) (P.single (right_part p) l.2 d.1) (S.single (right_operator p) l.1 d.0))) };
+
+    #[inline(always)]
+    fn drop_state(state: Self::PartialState) {
+        <TurnsOf<SeparatedOf<Of<Input, S>, Of<Input, P>>> as DropState<_>>::drop_state(state)
+    }
 
     #[inline(always)]
     fn parse_mode<M: ParseMode>(
