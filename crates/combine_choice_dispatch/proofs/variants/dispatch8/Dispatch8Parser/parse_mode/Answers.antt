@@ -120,7 +120,7 @@ pub returns-in-A-clause-lawful : goal.returns-in-A-clause-lawful
 returns-in-A-clause-lawful g c = c.parse_mode-answer.ensures.lawful
 
 pub returns-in-A-clause-valid : goal.returns-in-A-clause-valid
-returns-in-A-clause-valid g c = c.parse_mode-answer.ensures.valid
+returns-in-A-clause-valid g c = rw c.put_state.ensures c.parse_mode-answer.ensures.valid
 
 pub returns-in-A-clause-passes : goal.returns-in-A-clause-passes
 returns-in-A-clause-passes g c = c.parse_mode-answer.ensures.passes
@@ -132,7 +132,7 @@ pub returns-in-B-clause-lawful : goal.returns-in-B-clause-lawful
 returns-in-B-clause-lawful g c = c.parse_mode-answer-in-B.ensures.lawful
 
 pub returns-in-B-clause-valid : goal.returns-in-B-clause-valid
-returns-in-B-clause-valid g c = c.parse_mode-answer-in-B.ensures.valid
+returns-in-B-clause-valid g c = rw c.put_state-in-B.ensures c.parse_mode-answer-in-B.ensures.valid
 
 pub returns-in-B-clause-passes : goal.returns-in-B-clause-passes
 returns-in-B-clause-passes g c = c.parse_mode-answer-in-B.ensures.passes
@@ -141,7 +141,7 @@ pub returns-in-C-clause-lawful : goal.returns-in-C-clause-lawful
 returns-in-C-clause-lawful g c = c.parse_mode-answer-in-C.ensures.lawful
 
 pub returns-in-C-clause-valid : goal.returns-in-C-clause-valid
-returns-in-C-clause-valid g c = c.parse_mode-answer-in-C.ensures.valid
+returns-in-C-clause-valid g c = rw c.put_state-in-C.ensures c.parse_mode-answer-in-C.ensures.valid
 
 pub returns-in-C-clause-passes : goal.returns-in-C-clause-passes
 returns-in-C-clause-passes g c = c.parse_mode-answer-in-C.ensures.passes
@@ -150,7 +150,7 @@ pub returns-in-D-clause-lawful : goal.returns-in-D-clause-lawful
 returns-in-D-clause-lawful g c = c.parse_mode-answer-in-D.ensures.lawful
 
 pub returns-in-D-clause-valid : goal.returns-in-D-clause-valid
-returns-in-D-clause-valid g c = c.parse_mode-answer-in-D.ensures.valid
+returns-in-D-clause-valid g c = rw c.put_state-in-D.ensures c.parse_mode-answer-in-D.ensures.valid
 
 pub returns-in-D-clause-passes : goal.returns-in-D-clause-passes
 returns-in-D-clause-passes g c = c.parse_mode-answer-in-D.ensures.passes
@@ -159,7 +159,7 @@ pub returns-in-E-clause-lawful : goal.returns-in-E-clause-lawful
 returns-in-E-clause-lawful g c = c.parse_mode-answer-in-E.ensures.lawful
 
 pub returns-in-E-clause-valid : goal.returns-in-E-clause-valid
-returns-in-E-clause-valid g c = c.parse_mode-answer-in-E.ensures.valid
+returns-in-E-clause-valid g c = rw c.put_state-in-E.ensures c.parse_mode-answer-in-E.ensures.valid
 
 pub returns-in-E-clause-passes : goal.returns-in-E-clause-passes
 returns-in-E-clause-passes g c = c.parse_mode-answer-in-E.ensures.passes
@@ -168,7 +168,7 @@ pub returns-in-F-clause-lawful : goal.returns-in-F-clause-lawful
 returns-in-F-clause-lawful g c = c.parse_mode-answer-in-F.ensures.lawful
 
 pub returns-in-F-clause-valid : goal.returns-in-F-clause-valid
-returns-in-F-clause-valid g c = c.parse_mode-answer-in-F.ensures.valid
+returns-in-F-clause-valid g c = rw c.put_state-in-F.ensures c.parse_mode-answer-in-F.ensures.valid
 
 pub returns-in-F-clause-passes : goal.returns-in-F-clause-passes
 returns-in-F-clause-passes g c = c.parse_mode-answer-in-F.ensures.passes
@@ -177,7 +177,7 @@ pub returns-in-G-clause-lawful : goal.returns-in-G-clause-lawful
 returns-in-G-clause-lawful g c = c.parse_mode-answer-in-G.ensures.lawful
 
 pub returns-in-G-clause-valid : goal.returns-in-G-clause-valid
-returns-in-G-clause-valid g c = c.parse_mode-answer-in-G.ensures.valid
+returns-in-G-clause-valid g c = rw c.put_state-in-G.ensures c.parse_mode-answer-in-G.ensures.valid
 
 pub returns-in-G-clause-passes : goal.returns-in-G-clause-passes
 returns-in-G-clause-passes g c = c.parse_mode-answer-in-G.ensures.passes
@@ -186,7 +186,7 @@ pub returns-in-H-clause-lawful : goal.returns-in-H-clause-lawful
 returns-in-H-clause-lawful g c = c.parse_mode-answer-in-H.ensures.lawful
 
 pub returns-in-H-clause-valid : goal.returns-in-H-clause-valid
-returns-in-H-clause-valid g c = c.parse_mode-answer-in-H.ensures.valid
+returns-in-H-clause-valid g c = rw c.put_state-in-H.ensures c.parse_mode-answer-in-H.ensures.valid
 
 pub returns-in-H-clause-passes : goal.returns-in-H-clause-passes
 returns-in-H-clause-passes g c = c.parse_mode-answer-in-H.ensures.passes
