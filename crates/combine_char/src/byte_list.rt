@@ -128,6 +128,9 @@ where
     ghost parts = { λ p. 1 };
 
     #[inline(always)]
+    fn drop_state(_state: TokensState) {}
+
+    #[inline(always)]
     fn parse_mode<M: ParseMode>(
         &mut self,
         mode: M,

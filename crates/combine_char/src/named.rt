@@ -47,6 +47,11 @@ impl<Input: Stream, P: Parser<Input>, N: Text> Parser<Input> for Named<P, N> {
     ghost parts = { λ p. P.parts (parser_named p) };
 
     #[inline(always)]
+    fn drop_state(state: P::PartialState) {
+        P::drop_state(state)
+    }
+
+    #[inline(always)]
     fn parse_mode<M: ParseMode>(
         &mut self,
         mode: M,

@@ -44,6 +44,9 @@ impl<Input: Stream, A: Drop, B: Drop, P: Parser<Input, Output = (A, B)>> Parser<
     ghost parts = { λ p. P.parts (pair_of p) };
 
     #[inline(always)]
+    fn drop_state(_state: ()) {}
+
+    #[inline(always)]
     fn parse_mode<M: ParseMode>(
         &mut self,
         mode: M,

@@ -100,6 +100,9 @@ impl<Input: Stream, F: Fits<char, Input::Token>, S: LastingText> Parser<Input>
     ghost parts = { λ p. 1 };
 
     #[inline(always)]
+    fn drop_state(_state: TokensState) {}
+
+    #[inline(always)]
     fn parse_mode<M: ParseMode>(
         &mut self,
         mode: M,

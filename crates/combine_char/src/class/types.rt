@@ -40,6 +40,9 @@ impl<Input: Stream, C: Class<Input::Token>> Parser<Input> for InClass<Input, C> 
     ghost parts = { λ p. 1 };
 
     #[inline(always)]
+    fn drop_state(_state: ()) {}
+
+    #[inline(always)]
     fn parse_mode<M: ParseMode>(
         &mut self,
         mode: M,
