@@ -49,6 +49,11 @@ impl<Input: Stream, P: Parser<Input>> Parser<Input> for Mute<P> {
     ghost single = { λ p l d. mute_means_one P.valid (P.meaning (muted_part p)) (P.single (muted_part p) l d) };
 
     #[inline(always)]
+    fn drop_state(state: P::PartialState) {
+        P::drop_state(state)
+    }
+
+    #[inline(always)]
     fn parse_mode<M: ParseMode>(
         &mut self,
         mode: M,

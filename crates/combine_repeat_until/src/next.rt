@@ -5,11 +5,11 @@ ghost use Rattle.combine_repeat_until.specs.Next.{next, next_is_meaning, next_me
 ghost use Rattle.combine_repeat_until.specs.UntilParsers.{next_end, next_of, next_part};
 
 use combine_base::error::{ErrorOffset, ParseResult, Tracked};
-use combine_base::parser::{Outputs, ParseMode, Parser};
+use combine_base::parser::{DropState, Of, Outputs, ParseMode, Parser};
 use combine_base::stream::Stream;
 use combine_combinator::combinator::types::{Pick, Picked};
-use combine_token::choice::OrState;
 use combine_token::choice::lent::choose_2;
+use combine_token::choice::{OrOf, OrState};
 use std::marker::PhantomData;
 
 /// The value is kept.
@@ -82,6 +82,9 @@ impl<A, P, E> Next<A, P, E> {
     }
 }
 
+/// Lets the state of the one that runs go.
+pub type DropNext<Input, P, E> = OrOf<Of<Input, E>, Of<Input, P>>;
+
 /// The state of the one that runs.
 pub type NextState<Input, P, E> = OrState<
     <E as Parser<Input>>::PartialState,
@@ -111,6 +114,11 @@ impl<Input: Stream, A: Drop, P: Parser<Input, Output = A>, E: Parser<Input>> Par
     ghost laws = { λ p l. next_is_meaning (E.meaning (next_end p)) (P.meaning (next_part p)) (E.laws (next_end p) l.0) (P.laws (next_part p) l.1) };
 
     ghost single = { λ p l d. next_means_one E.PartialState.is_default E.valid P.PartialState.is_default P.valid (E.meaning (next_end p)) (P.meaning (next_part p)) (E.single (next_end p) l.0 d.0) (P.single (next_part p) l.1 d.1) };
+
+    #[inline(always)]
+    fn drop_state(state: NextState<Input, P, E>) {
+        <DropNext<Input, P, E> as DropState<_>>::drop_state(state)
+    }
 
     #[inline(always)]
     fn parse_mode<M: ParseMode>(

@@ -11,12 +11,13 @@ ghost use Rattle.combine_repeat_until.specs.UntilTurn.{ComesTo, HandsOut, Keeps,
 
 use combine_base::distance::{measure, pass_over};
 use combine_base::error::{ParseResult, Tracked};
-use combine_base::parser::{ParseMode, Parser};
+use combine_base::parser::{DropState, Of, ParseMode, Parser, put_state};
 use combine_base::refusal::refusal_saying;
 use combine_base::repeat::Append;
 use combine_base::sequence::accepted_after;
 use combine_base::stream::{Kind, Stream, has_taken, needs_more};
 use std::alloc::AllocError;
+use std::marker::PhantomData;
 use std::mem::replace;
 
 /// The blocks so far: what is collected, whether one was committed, and whether the running one took a token in an earlier piece.
@@ -133,6 +134,20 @@ impl<F, S: Default> Kept<F, S> {
     }
 }
 
+impl<F: Drop, S> Kept<F, S> {
+    /// Lets it go.
+    #[inline(always)]
+    fn let_go<D: DropState<S>>(self) {
+        let Kept {
+            before: _,
+            beyond: _,
+            blocks: _,
+            running,
+        } = self;
+        D::drop_state(running)
+    }
+}
+
 /// The state of a repetition up to a place.
 #[derive(Drop)]
 pub enum UntilState<F, S> {
@@ -151,10 +166,25 @@ impl<F, S> Default for UntilState<F, S> {
     }
 }
 
-impl<F: Drop, S: Default + Drop> UntilState<F, S> {
+/// Lets the states of a repetition up to a place go, by how that of the running part is.
+pub struct UntilOf<D> {
+    part: PhantomData<D>,
+}
+
+impl<F: Drop, S, D: DropState<S>> DropState<UntilState<F, S>> for UntilOf<D> {
+    #[inline(always)]
+    fn drop_state(state: UntilState<F, S>) {
+        match state {
+            UntilState::Begin => {}
+            UntilState::At(kept) => kept.let_go::<D>(),
+        }
+    }
+}
+
+impl<F: Drop, S: Default> UntilState<F, S> {
     /// Hands out what a call begins with: what is kept, unless it begins afresh.
     #[inline(always)]
-    fn hand_out(&mut self, first: bool, into: F) -> Kept<F, S>
+    fn hand_out<D: DropState<S>>(&mut self, first: bool, into: F) -> Kept<F, S>
         ensures out { HandsOut S.is_default into first self.old result }
         ensures left { self.new ≡ UntilState.Begin }
     {
@@ -162,6 +192,7 @@ impl<F: Drop, S: Default + Drop> UntilState<F, S> {
             UntilState::Begin => Kept::nothing(into),
             UntilState::At(kept) => {
                 if first {
+                    kept.let_go::<D>();
                     return Kept::nothing(into);
                 }
                 kept
@@ -292,7 +323,7 @@ fn one_turn<
 }
 
 /// Puts the stream back to the start on need of more, and keeps the distances from there to the place where the running part began, and from it to where the stream was.
-fn keep<F, Input: Stream, S>(
+fn keep<F, Input: Stream, S, D: DropState<S>>(
     blocks: Blocks<F>,
     need: Input::Error,
     start: Input::Checkpoint,
@@ -304,31 +335,37 @@ fn keep<F, Input: Stream, S>(
 ) -> ParseResult<F, Input::Error>
 where
     F: Drop,
-    S: Drop,
     ensures passes { Passes (Input.marks input.old) (Input.marks input.new) (Input.failures input.old) (Input.failures input.new) }
     ensures keeps { Keeps Input.steady Input.step Input.Error.seen.kind (Input.stands input.old start) (Input.stands input.old place) (Input.view input.old) (Input.view input.new) (Input.failures input.old) (Input.failures input.new) blocks running need state.old state.new result }
     ensures left { KeepsRunning running state.old state.new }
 {
     let beyond = match measure(input, place) {
         Ok(distance) => distance,
-        Err(kind) => return ParseResult::CommitErr(input.new_error(kind, position)),
+        Err(kind) => {
+            D::drop_state(running);
+            return ParseResult::CommitErr(input.new_error(kind, position));
+        }
     };
     let before = match measure(input, start) {
         Ok(distance) => distance,
-        Err(kind) => return ParseResult::CommitErr(input.new_error(kind, position)),
+        Err(kind) => {
+            D::drop_state(running);
+            return ParseResult::CommitErr(input.new_error(kind, position));
+        }
     };
-    *state = UntilState::At(Kept {
+    let at = UntilState::At(Kept {
         before,
         beyond,
         blocks,
         running,
     });
+    put_state::<_, UntilOf<D>>(state, at);
     ParseResult::CommitErr(need)
 }
 
 /// What blocks answer that stop so.
 #[inline(always)]
-fn settle<F, Input: Stream, S>(
+fn settle<F, Input: Stream, S, D: DropState<S>>(
     why: Stop<F, Input::Error>,
     start: Input::Checkpoint,
     place: Input::Checkpoint,
@@ -339,18 +376,26 @@ fn settle<F, Input: Stream, S>(
 ) -> ParseResult<F, Input::Error>
 where
     F: Drop,
-    S: Drop,
     ensures passes { Passes (Input.marks input.old) (Input.marks input.new) (Input.failures input.old) (Input.failures input.new) }
     ensures settled { Settled Input.steady Input.step Input.Error.seen.kind (Input.stands input.old start) (Input.stands input.old place) (Input.view input.old) (Input.view input.new) (Input.failures input.old) (Input.failures input.new) running state.old state.new result why }
     ensures left { KeepsRunning running state.old state.new }
 {
     match why {
-        Stop::Ends(blocks) => blocks.end(),
-        Stop::Refused(refusal) => ParseResult::PeekErr(refusal),
-        Stop::Failed(error) => ParseResult::CommitErr(error),
-        Stop::More(blocks, error) => {
-            keep(blocks, error, start, place, position, input, running, state)
+        Stop::Ends(blocks) => {
+            D::drop_state(running);
+            blocks.end()
         }
+        Stop::Refused(refusal) => {
+            D::drop_state(running);
+            ParseResult::PeekErr(refusal)
+        }
+        Stop::Failed(error) => {
+            D::drop_state(running);
+            ParseResult::CommitErr(error)
+        }
+        Stop::More(blocks, error) => keep::<_, _, _, D>(
+            blocks, error, start, place, position, input, running, state,
+        ),
     }
 }
 
@@ -388,16 +433,23 @@ pub fn take_blocks<
         beyond,
         blocks,
         mut running,
-    } = state.hand_out(mode.is_first(), empty);
+    } = state.hand_out::<Of<Input, N>>(mode.is_first(), empty);
     let mut place = match pass_to(input, before, beyond) {
         Ok(place) => place,
-        Err(kind) => return ParseResult::CommitErr(input.new_error(lost(kind), position)),
+        Err(kind) => {
+            N::drop_state(running);
+            return ParseResult::CommitErr(input.new_error(lost(kind), position));
+        }
     };
     let mut blocks = blocks.joined(before > 0);
     'turns: loop {
         match one_turn(parser, place, mode, blocks, input, &mut running) {
             Step::Goes(next) => blocks = next,
-            Step::Stops(why) => return settle(why, start, place, position, input, running, state),
+            Step::Stops(why) => {
+                return settle::<_, _, _, Of<Input, N>>(
+                    why, start, place, position, input, running, state,
+                );
+            }
         }
         place = input.checkpoint();
     }

@@ -6,10 +6,10 @@ ghost use Rattle.combine_repeat_until.specs.UntilLaws.{until_is_meaning, until_m
 ghost use Rattle.combine_repeat_until.specs.UntilParsers.{blocks_end, blocks_part, repeat_until, skipped_end, skipped_part};
 
 pub use crate::mute::Mute;
-use crate::next::{Next, NextState};
-use crate::until::{UntilState, take_blocks};
+use crate::next::{DropNext, Next, NextState};
+use crate::until::{UntilOf, UntilState, take_blocks};
 use combine_base::error::{ErrorOffset, ParseResult, Tracked};
-use combine_base::parser::{Outputs, ParseMode, Parser};
+use combine_base::parser::{DropState, Outputs, ParseMode, Parser};
 use combine_base::repeat::{Append, Sink};
 use combine_base::stream::Stream;
 use combine_combinator::combinator::types::Ignore;
@@ -62,6 +62,11 @@ impl<Input: Stream, A: Drop, P: Parser<Input, Output = A>, E: Parser<Input>, F: 
     ghost laws = { λ p l. until_is_meaning Input.step (some_appended F.held F.none F.more F.lean) _ (or_valid E.valid P.valid) (next (E.meaning (blocks_end p)) (P.meaning (blocks_part p))) (next_is_meaning (E.meaning (blocks_end p)) (P.meaning (blocks_part p)) (E.laws (blocks_end p) l.0) (P.laws (blocks_part p) l.1)) };
 
     ghost single = { λ p l d. until_means_one Input.step (some_appended F.held F.none F.more F.lean) (or_valid E.valid P.valid) (next (E.meaning (blocks_end p)) (P.meaning (blocks_part p))) (next_once E.PartialState.is_default E.valid P.PartialState.is_default P.valid (E.meaning (blocks_end p)) (P.meaning (blocks_part p)) (E.single (blocks_end p) l.0 d.0) (P.single (blocks_part p) l.1 d.1)) };
+
+    #[inline(always)]
+    fn drop_state(state: UntilState<F, NextState<Input, P, E>>) {
+        <UntilOf<DropNext<Input, P, E>> as DropState<_>>::drop_state(state)
+    }
 
     #[inline(always)]
     fn parse_mode<M: ParseMode>(
@@ -117,6 +122,11 @@ impl<Input: Stream, A: Drop, P: Parser<Input, Output = A>, E: Parser<Input>> Par
     ghost laws = { λ p l. until_is_meaning Input.step some_dropped _ (or_valid E.valid P.valid) (next (E.meaning (skipped_end p)) (P.meaning (skipped_part p))) (next_is_meaning (E.meaning (skipped_end p)) (P.meaning (skipped_part p)) (E.laws (skipped_end p) l.0) (P.laws (skipped_part p) l.1)) };
 
     ghost single = { λ p l d. until_means_one Input.step some_dropped (or_valid E.valid P.valid) (next (E.meaning (skipped_end p)) (P.meaning (skipped_part p))) (next_once E.PartialState.is_default E.valid P.PartialState.is_default P.valid (E.meaning (skipped_end p)) (P.meaning (skipped_part p)) (E.single (skipped_end p) l.0 d.0) (P.single (skipped_part p) l.1 d.1)) };
+
+    #[inline(always)]
+    fn drop_state(state: UntilState<Sink, NextState<Input, P, E>>) {
+        <UntilOf<DropNext<Input, P, E>> as DropState<_>>::drop_state(state)
+    }
 
     #[inline(always)]
     fn parse_mode<M: ParseMode>(
