@@ -5,11 +5,12 @@ ghost use Rattle.combine_nested.specs.StepCalls.{CalledStep, Denies, TakesItem, 
 
 use super::{Frame, Next};
 use combine_base::error::{ParseResult, Tracked};
-use combine_base::parser::{Calls, ParseMode, Parser};
+use combine_base::parser::{Calls, DropState, Of, ParseMode, Parser, put_state};
 use combine_base::refusal::{peeked, refusal_saying};
 use combine_base::sequence::{accepted_after, refused_after};
 use combine_base::stream::{Kind, Stream, has_taken, needs_more};
 use std::alloc::AllocError;
+use std::marker::PhantomData;
 
 /// The frames that are open: the innermost, and those round it, the outermost first.
 #[derive(Drop)]
@@ -45,6 +46,29 @@ impl<F, N, U> Default for NestedState<F, N, U> {
     #[inline]
     fn default() -> Self {
         NestedState::Start
+    }
+}
+
+/// Lets the states of `nested` go, by how those of the steps' parsers are.
+pub struct NestedOf<D> {
+    step: PhantomData<D>,
+}
+
+impl<F: Drop, N: Drop, U, D: DropState<U>> DropState<NestedState<F, N, U>> for NestedOf<D> {
+    #[inline(always)]
+    fn drop_state(state: NestedState<F, N, U>) {
+        match state {
+            NestedState::Start => {}
+            NestedState::Running(
+                RunningStep {
+                    frames: _,
+                    committed: _,
+                    begun: _,
+                    parser: _,
+                    state,
+                },
+            ) => D::drop_state(state),
+        }
     }
 }
 
@@ -192,22 +216,33 @@ pub(super) fn run_step<
     let position = input.position();
     let since = input.checkpoint();
     let (item, committed) = match parser.parse_explained(mode, input, &mut kept) {
-        ParseResult::CommitOk(item) => (item, true),
-        ParseResult::PeekOk(item) => (item, false),
+        ParseResult::CommitOk(item) => {
+            N::drop_state(kept);
+            (item, true)
+        }
+        ParseResult::PeekOk(item) => {
+            N::drop_state(kept);
+            (item, false)
+        }
         ParseResult::CommitErr(error) => {
             if needs_more(input, &error) {
-                *state = NestedState::Running(RunningStep {
+                let running = NestedState::Running(RunningStep {
                     frames,
                     committed: earlier,
                     begun: has_taken(begun, since, input),
                     parser,
                     state: kept,
                 });
+                put_state::<_, NestedOf<Of<Input, N>>>(state, running);
                 return Did::Stops(ParseResult::CommitErr(error));
             }
+            N::drop_state(kept);
             return Did::Stops(ParseResult::CommitErr(error));
         }
-        ParseResult::PeekErr(refusal) => return Did::Stops(refused_after(earlier, refusal)),
+        ParseResult::PeekErr(refusal) => {
+            N::drop_state(kept);
+            return Did::Stops(refused_after(earlier, refusal));
+        }
     };
     let took = has_taken(begun, since, input);
     let commits = one_of(earlier, committed);

@@ -10,9 +10,9 @@ ghost use Rattle.combine_nested.specs.NestingOne.{NestsOne, nesting_means_one};
 use super::Frame;
 use super::asked::Ask;
 use super::steps::{Did, Frames, run_step};
-pub use super::steps::{NestedState, RunningStep};
+pub use super::steps::{NestedOf, NestedState, RunningStep};
 use combine_base::error::{ErrorOffset, ParseResult, Tracked};
-use combine_base::parser::{FirstMode, Outputs, ParseMode, Parser};
+use combine_base::parser::{DropState, FirstMode, Of, Outputs, ParseMode, Parser};
 use combine_base::sequence::take_state;
 use combine_base::stream::Stream;
 use combine_combinator_lazy::combinator::types::Makes;
@@ -62,13 +62,18 @@ impl<
 
     ghost single = { λ p l d. nesting_means_one Input.step (depth_part p) d.1 N.lawful (λ n i. N.single n (i.all n i.made) (d.0 n i)) (asked_so (asked_part p) l.1 l.2) };
 
+    #[inline(always)]
+    fn drop_state(state: NestedState<F, N, N::PartialState>) {
+        <NestedOf<Of<Input, N>> as DropState<_>>::drop_state(state)
+    }
+
     fn parse_mode<M: ParseMode>(
         &mut self,
         mode: M,
         input: &mut Input,
         state: &mut Self::PartialState,
     ) -> ParseResult<F::Value, Input::Error> {
-        let mut next = match take_state(mode, state) {
+        let mut next = match take_state::<_, NestedOf<Of<Input, N>>, _>(mode, state) {
             NestedState::Running(step) => run_step(mode, input, self.depth, step, state),
             NestedState::Start => {
                 let top = self.root.make();
