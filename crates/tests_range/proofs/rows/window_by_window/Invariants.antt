@@ -1,4 +1,4 @@
-use Rattle.tests_range.proofs.rows.over_windows.Given as goal
+use Rattle.tests_range.proofs.rows.window_by_window.Given as goal
 
 abbrev pub invariant-loop-end : goal.invariant-loop-end
 invariant-loop-end g l = record {

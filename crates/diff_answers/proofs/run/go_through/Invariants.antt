@@ -1,4 +1,4 @@
-use Rattle.diff_answers.proofs.run.run_windows.Given as goal
+use Rattle.diff_answers.proofs.run.go_through.Given as goal
 
 -- the parser may be called, from the state that is kept
 abbrev pub invariant-loop-at : goal.invariant-loop-at
