@@ -9,8 +9,8 @@ pub mod repeat;
 pub mod sequence;
 
 pub use combine_base::parser::{
-    Answer, Calls, FirstMode, Outputs, ParseMode, Parser, PartialMode, Session, SessionError,
-    judge, parse_pieces,
+    Answer, Calls, FirstMode, KeptState, Outputs, ParseMode, Parser, PartialMode, Session,
+    SessionError, judge, parse_pieces,
 };
 pub use combine_char::char;
 pub use combine_combinator_function::function;

@@ -73,7 +73,7 @@ pub trait Outputs<Input> {
 
 /// A parser over a stream.
 ///
-/// An implementation writes `parse_mode`, `add_error` and `parser_count`; the other calls have bodies over them.
+/// An implementation writes `drop_state`, `parse_mode`, `add_error` and `parser_count`; the other calls have bodies over them.
 /// It gives its meaning, the laws of that meaning, and what its calls need.
 pub trait Parser<Input: Stream>: Outputs<Input> {
     ghost use Rattle.std.specs.Prelude.{◌≡◌, ℕ, true, false, Bool, Option, Some, None};
