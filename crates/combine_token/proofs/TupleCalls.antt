@@ -17,7 +17,7 @@ use Rattle.combine_token.specs.Or.{either_of, or_valid, or_means_same}
 use Rattle.combine_token.specs.declared.choice.OrState.{OrState}
 use Rattle.combine_token.specs.declared.choice.OrState.TheVariants.{Peek, A, B}
 use Rattle.combine_token.specs.Chose.{Chose, Followed, Tried}
-use Rattle.combine_token.specs.Turned.{Answered, Ended, Failed, GoesOn, IsFinal, NoFault, Settled, Settles, begins, turned}
+use Rattle.combine_token.specs.Turned.{Answered, Ended, Failed, GoesOn, IsFinal, NoFault, Settled, begins, turned}
 use Rattle.combine_token.specs.declared.choice.first.Turn.TheVariants.{Ends, Goes}
 use Rattle.combine_base.specs.Parser.Reasons.{Reasoned, kept_from}
 use Rattle.combine_base.specs.declared.error.ParseResult.TheVariants.{CommitOk, PeekOk, CommitErr, PeekErr}
@@ -102,8 +102,8 @@ module _ {P T R V S S' E : Type 0} (step : P → T → P) (errors : Errors T R P
       }
 
 -- what the later part peeks is no fault
-pub may_settle : {P T R V S E C : Type 0} (w : World P T S E) {law : Type 0} {accepts : S → Type 0} {m m' : Meaning P T R V S} {says : Option S → View P T → Bool → E → Type 0} {x y : C → View P T → Type 0} (r : Run P T S) (refused : Option (Tracked E)) → NoFault w.kind refused → (answer : ParseResult V E) → Chose w law accepts m m' says x y r answer → Settles w.kind refused answer
-may_settle {P} {T} {R} {V} {S} {E} w {law} {accepts} {m} r refused n answer c = record { first = n; later = by_answer answer c.answers }
+pub may_settle : {P T R V S E C : Type 0} (w : World P T S E) {law : Type 0} {accepts : S → Type 0} {m m' : Meaning P T R V S} {says : Option S → View P T → Bool → E → Type 0} {x y : C → View P T → Type 0} (r : Run P T S) (answer : ParseResult V E) → Chose w law accepts m m' says x y r answer → PeeksNoFault w.kind answer
+may_settle {P} {T} {R} {V} {S} {E} w {law} {accepts} {m} r answer c = by_answer answer c.answers
   where
     by_answer : (answer : ParseResult V E) → Answers w m r answer → PeeksNoFault w.kind answer
     by_answer (CommitOk v) p = tt

@@ -13,7 +13,7 @@ use Rattle.combine_base.specs.declared.error.Tracked.{Tracked}
 use Rattle.combine_base.specs.declared.error.ParseResult.{ParseResult}
 use Rattle.combine_base.specs.declared.error.ParseResult.TheVariants.{CommitOk, PeekOk, CommitErr, PeekErr}
 use Rattle.combine_base.specs.Parser.Judged.{NeedsMore}
-use Rattle.combine_token.specs.Alternatives.{AfterRefusal, PeeksNoFault}
+use Rattle.combine_token.specs.Alternatives.{AfterRefusal}
 use Rattle.combine_token.specs.declared.choice.OrState.{OrState}
 use Rattle.combine_token.specs.declared.choice.OrState.TheVariants.{Peek, A, B}
 use Rattle.combine_token.specs.declared.choice.first.Turn.{Turn}
@@ -141,11 +141,6 @@ module _ {P T V S S' E : Type 0} (step : P → T → P) (kind : E → Kind) (ste
 abbrev pub NoFault : {E : Type 0} → (E → Kind) → Option (Tracked E) → Type 0
 NoFault kind None = Unit {0}
 NoFault kind (Some t) = IsFault (kind t.error) → ⊥
-
--- an answer may follow a refusal
-pub record Settles {V E : Type 0} (kind : E → Kind) (refused : Option (Tracked E)) (answer : ParseResult V E) : Type 0 where
-  pub first : NoFault kind refused
-  pub later : PeeksNoFault kind answer
 
 module _ {T R P V E : Type 0} (errors : Errors T R P E) (cmp : P → P → Ordering) where
   abbrev pub joined : Option (Tracked E) → ParseResult V E → ParseResult V E → Type 0

@@ -3,7 +3,8 @@ ghost use Rattle.std.specs.Prelude.{◌≡◌, false};
 ghost use Rattle.combine_base.specs.Parser.Answer.{world};
 ghost use Rattle.combine_base.specs.Stream.Calls.{Passes};
 ghost use Rattle.combine_token.specs.Chose.{Chose};
-ghost use Rattle.combine_token.specs.Turned.{GoesOn, RunsOn, Settled, Settles};
+ghost use Rattle.combine_token.specs.Alternatives.{PeeksNoFault};
+ghost use Rattle.combine_token.specs.Turned.{GoesOn, NoFault, RunsOn, Settled};
 
 use super::{OrOf, OrState, after_refusal};
 use combine_base::error::{ParseResult, Tracked};
@@ -91,7 +92,8 @@ pub fn settle<O, Input: Stream, S, D: DropState<S>, T, E: DropState<T>>(
     answer: ParseResult<O, Input::Error>,
     state: &mut OrState<S, T>,
 ) -> ParseResult<O, Input::Error>
-    requires settles { Settles Input.Error.seen.kind refused answer }
+    requires first { NoFault Input.Error.seen.kind refused }
+    requires later { PeeksNoFault Input.Error.seen.kind answer }
     ensures { Settled Input.Error.seen Input.Position.cmp (Input.view input.now).is_open refused kept state.old state.new answer result }
 {
     if asks_for_more(input, &answer) {
