@@ -39,8 +39,8 @@ module _ {P T R A B C S U Z E : Type 0} {w : World P T U E} {errors : Errors T R
       by_case (CommitErr e) g = record { answer = g.answer; state = g.state; view = g.view; failures = g.failures }
       by_case (PeekErr t) g = record { answer = g.answer; state = subst begun (sym g.state) begins; view = g.view; failures = g.failures }
 
-module _ {Last Input Checkpoint T R P E X A B C S U Z : Type 0} (place : Z → SequencePlace S (SequenceState A U)) (f : A → B → C) where
-  module _ {i : stream.Ghosts Input T R P E X} {seen : Errors T R P E} {fresh : S → Type 0} {last_fresh : U → Type 0} {q : parser.Ghosts Last Input U B Checkpoint T R P E X} {last last' : Last} {input left : Input} {from given state : Z} (begun : begins place fresh given) {result : ParseResult C E} where
+module _ {Last Input Checkpoint T R P E A B C S U Z : Type 0} (place : Z → SequencePlace S (SequenceState A U)) (f : A → B → C) where
+  module _ {i : stream.Ghosts Input T R P E} {seen : Errors T R P E} {fresh : S → Type 0} {last_fresh : U → Type 0} {q : parser.Ghosts Last Input U B Checkpoint T R P E} {last last' : Last} {input left : Input} {from given state : Z} (begun : begins place fresh given) {result : ParseResult C E} where
     -- a call that begins in the last part
     pub last_called : {valid : S → Type 0} (m : Meaning P T R A S) → ((s : S) → fresh s → valid s) → {at : SequenceState A U} → place from ≡ places.Last at → CalledLast q i seen last_fresh (λ z. z ≡ given) place f last last' input left at state result → Follows place f i seen fresh valid q m m last last' input left from state result
     last_called m starts {at} e l =

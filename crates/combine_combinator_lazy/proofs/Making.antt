@@ -48,7 +48,7 @@ module _ {I P T N C V F : Type 0} (view : I → View P T) (marks : I → C → V
     made = (m.shown, m.left, m.met);
   }
 
-module _ {N Input V U Checkpoint T R P E X : Type 0} (p : parser.Ghosts N Input U V Checkpoint T R P E X) (i : stream.Ghosts Input T R P E X) (seen : Errors T R P E) (fresh : U → Type 0) (makes : Makes P T N) (makable : N → Type 0) (adds : List (Item T R) → Type 0) where
+module _ {N Input V U Checkpoint T R P E : Type 0} (p : parser.Ghosts N Input U V Checkpoint T R P E) (i : stream.Ghosts Input T R P E) (seen : Errors T R P E) (fresh : U → Type 0) (makes : Makes P T N) (makable : N → Type 0) (adds : List (Item T R) → Type 0) where
   abbrev all : Meaning P T R V (MadeState N U)
   all = made makes makable p.meaning adds
 
@@ -149,7 +149,7 @@ module _ {N Input V U Checkpoint T R P E X : Type 0} (p : parser.Ghosts N Input 
           by_mode false k j = rw (sym (k.kept refl)) record { is = record { parser = l.parser; made = m; at = Some l.state; begins = f; said = j } }
 
 -- the same as an answer of the parser that was made, from its start, where the maker left the stream in place
-module _ {N Input V U Checkpoint T R P E X : Type 0} (p : parser.Ghosts N Input U V Checkpoint T R P E X) (i : stream.Ghosts Input T R P E X) (seen : Errors T R P E) (fresh : U → Type 0) {old asked left : Input} {n : N} {u : U} {state : MadeState N U} {y : ParseResult V E} (g : CalledMade p i seen fresh true asked left (record { parser = n; state = u }) state y) (e : i.view asked ≡ i.view old) where
+module _ {N Input V U Checkpoint T R P E : Type 0} (p : parser.Ghosts N Input U V Checkpoint T R P E) (i : stream.Ghosts Input T R P E) (seen : Errors T R P E) (fresh : U → Type 0) {old asked left : Input} {n : N} {u : U} {state : MadeState N U} {y : ParseResult V E} (g : CalledMade p i seen fresh true asked left (record { parser = n; state = u }) state y) (e : i.view asked ≡ i.view old) where
   abbrev around : World P T U E
   around = world i.step seen i.steady fresh
 

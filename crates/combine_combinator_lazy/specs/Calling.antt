@@ -18,7 +18,7 @@ use Rattle.combine_combinator_lazy.specs.declared.combinator.made.MadeState.{Mad
 use Rattle.combine_combinator_lazy.specs.declared.combinator.made.MadeState.TheVariants.{Unmade, Kept}
 
 -- A parser that was made was run from its state. Its call may change it, not what it means; need of more keeps it as it then is.
-module _ {N Input V U Checkpoint T R P E X : Type 0} (p : parser.Ghosts N Input U V Checkpoint T R P E X) (i : stream.Ghosts Input T R P E X) (seen : Errors T R P E) (fresh : U → Type 0) where
+module _ {N Input V U Checkpoint T R P E : Type 0} (p : parser.Ghosts N Input U V Checkpoint T R P E) (i : stream.Ghosts Input T R P E) (seen : Errors T R P E) (fresh : U → Type 0) where
   pub record CalledMade (first : Bool) (input left : Input) (from : Made N U) (state : MadeState N U) (result : ParseResult V E) : Type 0 where
     pub parser : N
     pub stopped : U

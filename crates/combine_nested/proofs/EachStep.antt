@@ -60,7 +60,7 @@ valid_from {S} {fresh} {valid} {first} {given} {s} h r v = by_mode first r
     by_mode true r = h s (r.afresh refl)
     by_mode false r = subst valid (sym (r.kept refl)) v
 
-module _ {F I V N Input U Checkpoint T R P E X : Type 0} (p : parser.Ghosts N Input U I Checkpoint T R P E X) (i : stream.Ghosts Input T R P E X) (seen : Errors T R P E) (fresh : U → Type 0) (depth : ℕ) (roots : F → Type 0) (answers : F → N → Type 0) (takes : F → I → Next F V → Type 0) (joins : F → V → Next F V → Type 0) (some : N → Type 0) where
+module _ {F I V N Input U Checkpoint T R P E : Type 0} (p : parser.Ghosts N Input U I Checkpoint T R P E) (i : stream.Ghosts Input T R P E) (seen : Errors T R P E) (fresh : U → Type 0) (depth : ℕ) (roots : F → Type 0) (answers : F → N → Type 0) (takes : F → I → Next F V → Type 0) (joins : F → V → Next F V → Type 0) (some : N → Type 0) where
   abbrev all : Meaning P T R V (NestedState F N U)
   all = nesting i.step depth roots answers takes joins some p.meaning
 
@@ -345,7 +345,7 @@ module _ {F I V N Input U Checkpoint T R P E X : Type 0} (p : parser.Ghosts N In
         by_answer (PeekErr t) a d k = absurd (let x : dids.Goes next c ≡ dids.Stops (refused_as l.committed t) = d in cc)
 
 -- a parser that was answered for a frame may be kept
-module _ {F I S N Input U Checkpoint T R P E X : Type 0} (p : parser.Ghosts N Input U I Checkpoint T R P E X) (callable : S → Type 0) (answers : S → F → N → Type 0) (asker : S) where
+module _ {F I S N Input U Checkpoint T R P E : Type 0} (p : parser.Ghosts N Input U I Checkpoint T R P E) (callable : S → Type 0) (answers : S → F → N → Type 0) (asker : S) where
   pub asked_kept : callable asker → ((f : F) (n : N) → answers asker f n → p.lawful n) → {f : F} {n : N} → answers asker f n → KeptOf p.lawful p.meaning (asked_by_some callable answers p.lawful) n
   asked_kept k every {f} {n} m = record {
     is_lawful = every f n m;
@@ -355,7 +355,7 @@ module _ {F I S N Input U Checkpoint T R P E X : Type 0} (p : parser.Ghosts N In
   }
 
 -- the state that is left is valid, and what is left is less
-module _ {F I V N Input U Checkpoint T R P E X : Type 0} (p : parser.Ghosts N Input U I Checkpoint T R P E X) (i : stream.Ghosts Input T R P E X) (seen : Errors T R P E) (fresh : U → Type 0) (depth : ℕ) (takes : F → I → Next F V → Type 0) (joins : F → V → Next F V → Type 0) where
+module _ {F I V N Input U Checkpoint T R P E : Type 0} (p : parser.Ghosts N Input U I Checkpoint T R P E) (i : stream.Ghosts Input T R P E) (seen : Errors T R P E) (fresh : U → Type 0) (depth : ℕ) (takes : F → I → Next F V → Type 0) (joins : F → V → Next F V → Type 0) where
   pub step_leaves : (some : N → Type 0) {first : Bool} {input left : Input} {l : RunningStep F N U} {state : NestedState F N U} {y : Did F V E} → KeptOf p.lawful p.meaning some l.parser → CalledStep p i seen fresh depth takes joins first input left l state y → valid_step (KeptOf p.lawful p.meaning some) p.valid state
   step_leaves some {first} {input} {left} {l} {state} {y} d g = by_need g.keeps
     where
@@ -394,7 +394,7 @@ module _ {F I V N Input U Checkpoint T R P E X : Type 0} (p : parser.Ghosts N In
   steps_fall {y = dids.Goes l c} b g = let k = step_falls b g in omega arith
   steps_fall {y = dids.Stops y} b g = omega arith
 
-module _ {F I V N Input U Checkpoint T R P E X : Type 0} (p : parser.Ghosts N Input U I Checkpoint T R P E X) (i : stream.Ghosts Input T R P E X) (seen : Errors T R P E) (fresh : U → Type 0) (depth : ℕ) (roots : F → Type 0) (answers : F → N → Type 0) (takes : F → I → Next F V → Type 0) (joins : F → V → Next F V → Type 0) (some : N → Type 0) where
+module _ {F I V N Input U Checkpoint T R P E : Type 0} (p : parser.Ghosts N Input U I Checkpoint T R P E) (i : stream.Ghosts Input T R P E) (seen : Errors T R P E) (fresh : U → Type 0) (depth : ℕ) (roots : F → Type 0) (answers : F → N → Type 0) (takes : F → I → Next F V → Type 0) (joins : F → V → Next F V → Type 0) (some : N → Type 0) where
   -- what the steps so far lead to: the next one, or the answer
   abbrev pub leads_to : Bool → NestedState F N U → NestedState F N U → View P T → View P T → Failures → Failures → Did F V E → Type 0
   leads_to first given state old now before later (dids.Goes l c) = begins_steps state × Loops p i seen fresh depth roots answers takes joins some first given old now before later c l

@@ -76,7 +76,7 @@ module _ {F I V : Type 0} (depth : ℕ) (takes : F → I → Next F V → Type 0
     item_did (dids.Goes next c) = takes_to (Opened next.top (around next)) × ((took || nat_lt (length (around next)) (length (around frames))) ≡ true) × (c ≡ committed)
     item_did (dids.Stops answer) = stops_so answer
 
-module _ {F I V N Input U Checkpoint T R P E X : Type 0} (p : parser.Ghosts N Input U I Checkpoint T R P E X) (i : stream.Ghosts Input T R P E X) (seen : Errors T R P E) (fresh : U → Type 0) (depth : ℕ) (takes : F → I → Next F V → Type 0) (joins : F → V → Next F V → Type 0) where
+module _ {F I V N Input U Checkpoint T R P E : Type 0} (p : parser.Ghosts N Input U I Checkpoint T R P E) (i : stream.Ghosts Input T R P E) (seen : Errors T R P E) (fresh : U → Type 0) (depth : ℕ) (takes : F → I → Next F V → Type 0) (joins : F → V → Next F V → Type 0) where
   -- need of more keeps the step's parser as it now is, with the state in which it stopped, and whether it took a token; every other answer leaves a state that begins
   pub record KeepsStep (input left : Input) (from : RunningStep F N U) (parser : N) (stopped : U) (state : NestedState F N U) : Type 0 where
     pub begun : Bool

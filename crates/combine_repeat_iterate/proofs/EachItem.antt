@@ -53,7 +53,7 @@ valid_from {S} {fresh} {valid} {first} {given} {s} h r v = by_mode first r
     by_mode true r = h s (r.afresh refl)
     by_mode false r = subst valid (sym (r.kept refl)) v
 
-module _ {N Input It I B C H U Checkpoint T R P E X : Type 0} (p : parser.Ghosts N Input U B Checkpoint T R P E X) (i : stream.Ghosts Input T R P E X) (seen : Errors T R P E) (fresh : U → Type 0) (answers : I → N → Type 0) (some : N → Type 0) (held : C → H) (none : H) (more : H → B → H) (at : It → List I → Type 0) (lists : List I → Type 0) (lean spared : Type 0) where
+module _ {N Input It I B C H U Checkpoint T R P E : Type 0} (p : parser.Ghosts N Input U B Checkpoint T R P E) (i : stream.Ghosts Input T R P E) (seen : Errors T R P E) (fresh : U → Type 0) (answers : I → N → Type 0) (some : N → Type 0) (held : C → H) (none : H) (more : H → B → H) (at : It → List I → Type 0) (lists : List I → Type 0) (lean spared : Type 0) where
   abbrev all : Meaning P T R C (IterateState C It N U)
   all = iterated i.step answers some p.meaning held none more at lists spared
 
@@ -255,7 +255,7 @@ pub asked_kept : {P T R B N U : Type 0} {lawful some : N → Type 0} (means : N 
 asked_kept means n k s = record { is_lawful = k; parser = n; is_given = s; same = same_none (means n) }
 
 -- the state that is left is valid
-module _ {N Input It I B C H U Checkpoint T R P E X : Type 0} (p : parser.Ghosts N Input U B Checkpoint T R P E X) (i : stream.Ghosts Input T R P E X) (seen : Errors T R P E) (fresh : U → Type 0) (some : N → Type 0) (held : C → H) (more : H → B → H) (lean : Type 0) (at : It → List I → Type 0) where
+module _ {N Input It I B C H U Checkpoint T R P E : Type 0} (p : parser.Ghosts N Input U B Checkpoint T R P E) (i : stream.Ghosts Input T R P E) (seen : Errors T R P E) (fresh : U → Type 0) (some : N → Type 0) (held : C → H) (more : H → B → H) (lean : Type 0) (at : It → List I → Type 0) where
   abbrev kept : N → Type 0
   kept = KeptOf p.lawful p.meaning some
 

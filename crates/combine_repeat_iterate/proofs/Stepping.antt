@@ -26,7 +26,7 @@ is_running (stages.Failed x) e = absurd (false≢true e)
 lesser : {E : Type 0} (s u : Stage E) (n m : ℕ) (f g : Bool) → runs_at s ≡ true → u ≡ s → n + gone_on f < m + gone_on g → values_left u n f < values_left s m g
 lesser s u n m f g e q h = let z = is_running s e in rw (q, z) h
 
-module _ {Self Input Mode Checkpoint Token Range Position Error StreamError Output State : Type 0} (p : parser.Ghosts Self Input State Output Checkpoint Token Range Position Error StreamError) (i : stream.Ghosts Input Token Range Position Error StreamError) (first : Mode → Bool) (seen : Errors Token Range Position Error) (fresh : State → Type 0) (it new : Iter Input Self Mode Checkpoint Token Range Position Error StreamError State Output) where
+module _ {Self Input Mode Checkpoint Token Range Position Error Output State : Type 0} (p : parser.Ghosts Self Input State Output Checkpoint Token Range Position Error) (i : stream.Ghosts Input Token Range Position Error) (first : Mode → Bool) (seen : Errors Token Range Position Error) (fresh : State → Type 0) (it new : Iter Input Self Mode Checkpoint Token Range Position Error State Output) where
   -- the run of a turn
   abbrev turn_called : Turn Output Error → Type 0
   turn_called t = TurnCalled p i seen fresh it.parser new.parser it.input.now new.input.now (first it.mode) it.state.now new.state.now t

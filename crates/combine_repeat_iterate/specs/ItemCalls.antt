@@ -39,7 +39,7 @@ module _ {B C H It : Type 0} (held : C → H) (more : H → B → H) where
     stored value committed (items.Goes next) = Stores before value committed next
     stored value committed (items.Stops answer) = unstored answer
 
-module _ {N Input It B C H U Checkpoint T R P E X : Type 0} (p : parser.Ghosts N Input U B Checkpoint T R P E X) (i : stream.Ghosts Input T R P E X) (seen : Errors T R P E) (fresh : U → Type 0) (held : C → H) (more : H → B → H) (lean : Type 0) where
+module _ {N Input It B C H U Checkpoint T R P E : Type 0} (p : parser.Ghosts N Input U B Checkpoint T R P E) (i : stream.Ghosts Input T R P E) (seen : Errors T R P E) (fresh : U → Type 0) (held : C → H) (more : H → B → H) (lean : Type 0) where
   -- need of more keeps the item's parser as it now is, with the state in which it stopped; every other answer leaves a state that begins
   abbrev pub keeps_item : Bool → RunningItem C It N U → N → U → IterateState C It N U → ParseResult B E → Type 0
   keeps_item is_open from parser stopped state answer = (NeedsMore seen.kind is_open answer × (state ≡ states.Running (record { before = from.before; parser = parser; state = stopped })) × p.valid stopped) ⊎ ((NeedsMore seen.kind is_open answer → ⊥) × begins_items state)

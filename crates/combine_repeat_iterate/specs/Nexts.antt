@@ -90,15 +90,15 @@ values_left stages.Over n first = 0
 values_left (stages.Failed e) n first = 0
 
 -- how an iterator ended, and as what it answers
-module _ {Self Input Mode Checkpoint Token Range Position Error StreamError Output State : Type 0} where
-  abbrev pub stage_of : Iter Input Self Mode Checkpoint Token Range Position Error StreamError State Output → Stage Error
+module _ {Self Input Mode Checkpoint Token Range Position Error Output State : Type 0} where
+  abbrev pub stage_of : Iter Input Self Mode Checkpoint Token Range Position Error State Output → Stage Error
   stage_of it = it.stage
 
-  abbrev pub answer_with : {V : Type 0} → Iter Input Self Mode Checkpoint Token Range Position Error StreamError State Output → V → ParseResult V Error
+  abbrev pub answer_with : {V : Type 0} → Iter Input Self Mode Checkpoint Token Range Position Error State Output → V → ParseResult V Error
   answer_with it v = answer_of it.stage it.given v
 
   -- a new iterator, which has given nothing
-  pub record Begins (it : Iter Input Self Mode Checkpoint Token Range Position Error StreamError State Output) (of : Self) (how : Mode) (on : Input) (from : State) : Type 0 where
+  pub record Begins (it : Iter Input Self Mode Checkpoint Token Range Position Error State Output) (of : Self) (how : Mode) (on : Input) (from : State) : Type 0 where
     pub parser : it.parser ≡ of
     pub mode : it.mode ≡ how
     pub input : it.input.now ≡ on
@@ -106,30 +106,30 @@ module _ {Self Input Mode Checkpoint Token Range Position Error StreamError Outp
     pub given : it.given ≡ false
     pub stage : it.stage ≡ stages.Running
 
-module _ {Self Input Mode Checkpoint Token Range Position Error StreamError Output State : Type 0} (p : parser.Ghosts Self Input State Output Checkpoint Token Range Position Error StreamError) (i : stream.Ghosts Input Token Range Position Error StreamError) (first : Mode → Bool) where
+module _ {Self Input Mode Checkpoint Token Range Position Error Output State : Type 0} (p : parser.Ghosts Self Input State Output Checkpoint Token Range Position Error) (i : stream.Ghosts Input Token Range Position Error) (first : Mode → Bool) where
   -- the parser may be called from the state
-  abbrev pub may_go_on : Iter Input Self Mode Checkpoint Token Range Position Error StreamError State Output → Type 0
+  abbrev pub may_go_on : Iter Input Self Mode Checkpoint Token Range Position Error State Output → Type 0
   may_go_on it = Ready p it.parser it.state.now
 
-  abbrev pub at_most_left : Iter Input Self Mode Checkpoint Token Range Position Error StreamError State Output → Count
+  abbrev pub at_most_left : Iter Input Self Mode Checkpoint Token Range Position Error State Output → Count
   at_most_left it = at_most (values_left it.stage (length (i.view it.input.now).unread) (first it.mode))
 
   -- what is left of one whose turns go on
-  abbrev pub left_of : Iter Input Self Mode Checkpoint Token Range Position Error StreamError State Output → List (Block Output) → Outcome (Unit {0}) → Type 0
+  abbrev pub left_of : Iter Input Self Mode Checkpoint Token Range Position Error State Output → List (Block Output) → Outcome (Unit {0}) → Type 0
   left_of it bs l = remains i.step (p.meaning it.parser) (first it.mode) it.state.now (i.view it.input.now) bs l
 
   -- and where these tokens follow
-  abbrev pub left_with : Iter Input Self Mode Checkpoint Token Range Position Error StreamError State Output → List Token → Bool → List (Block Output) → Outcome (Unit {0}) → Type 0
+  abbrev pub left_with : Iter Input Self Mode Checkpoint Token Range Position Error State Output → List Token → Bool → List (Block Output) → Outcome (Unit {0}) → Type 0
   left_with it x b bs l = remains i.step (p.meaning it.parser) (first it.mode) it.state.now (extended x b (i.view it.input.now)) bs l
 
   module _ (seen : Errors Token Range Position Error) (fresh : State → Type 0) where
     -- a call in which a turn was run
-    pub record Runs (it new : Iter Input Self Mode Checkpoint Token Range Position Error StreamError State Output) (turn : Turn Output Error) : Type 0 where
+    pub record Runs (it new : Iter Input Self Mode Checkpoint Token Range Position Error State Output) (turn : Turn Output Error) : Type 0 where
       pub called : TurnCalled p i seen fresh it.parser new.parser it.input.now new.input.now (first it.mode) it.state.now new.state.now turn
       pub stage : new.stage ≡ stage_after turn
 
     -- the turn is a block: its value is given, and what was left is that block and what is left now
-    pub record GivesBlock (it new : Iter Input Self Mode Checkpoint Token Range Position Error StreamError State Output) (a : Output) : Type 0 where
+    pub record GivesBlock (it new : Iter Input Self Mode Checkpoint Token Range Position Error State Output) (a : Output) : Type 0 where
       pub runs : Runs it new (Gives a)
       pub mode : first new.mode ≡ true
       pub given : new.given ≡ true
@@ -140,7 +140,7 @@ module _ {Self Input Mode Checkpoint Token Range Position Error StreamError Outp
       pub stays : (x : List Token) (b : Bool) → Follows (i.view it.input.now).is_open x b → (bs : List (Block Output)) (l : Outcome (Unit {0})) → left_with new x b bs l → left_with it x b (block ∷ bs) l
 
     -- no block was left, and the turns stop as the stage says
-    pub record EndsTurns (it new : Iter Input Self Mode Checkpoint Token Range Position Error StreamError State Output) : Type 0 where
+    pub record EndsTurns (it new : Iter Input Self Mode Checkpoint Token Range Position Error State Output) : Type 0 where
       pub turn : Turn Output Error
       pub runs : Runs it new turn
       pub ended : runs_at new.stage ≡ false
@@ -149,22 +149,22 @@ module _ {Self Input Mode Checkpoint Token Range Position Error StreamError Outp
       -- where they need more, they go on from the state that was lent
       pub continues : (e : Error) → new.stage ≡ stages.Failed e → seen.kind e ≡ kinds.End → (i.view it.input.now).is_open ≡ true → Continues i.step (p.meaning it.parser) (first it.mode) it.state.now new.state.now (i.view it.input.now) (i.view new.input.now)
 
-    abbrev pub goes_on : Iter Input Self Mode Checkpoint Token Range Position Error StreamError State Output → Option Output → Iter Input Self Mode Checkpoint Token Range Position Error StreamError State Output → Type 0
+    abbrev pub goes_on : Iter Input Self Mode Checkpoint Token Range Position Error State Output → Option Output → Iter Input Self Mode Checkpoint Token Range Position Error State Output → Type 0
     goes_on it (Some a) new = GivesBlock it new a
     goes_on it None new = EndsTurns it new
 
     -- an iterator that ended gives nothing and changes nothing
-    abbrev pub after_end : Iter Input Self Mode Checkpoint Token Range Position Error StreamError State Output → Option Output → Iter Input Self Mode Checkpoint Token Range Position Error StreamError State Output → Type 0
+    abbrev pub after_end : Iter Input Self Mode Checkpoint Token Range Position Error State Output → Option Output → Iter Input Self Mode Checkpoint Token Range Position Error State Output → Type 0
     after_end it (Some a) new = ⊥
     after_end it None new = new ≡ it
 
-    abbrev pub next_at : Stage Error → Iter Input Self Mode Checkpoint Token Range Position Error StreamError State Output → Option Output → Iter Input Self Mode Checkpoint Token Range Position Error StreamError State Output → Type 0
+    abbrev pub next_at : Stage Error → Iter Input Self Mode Checkpoint Token Range Position Error State Output → Option Output → Iter Input Self Mode Checkpoint Token Range Position Error State Output → Type 0
     next_at stages.Running it result new = goes_on it result new
     next_at stages.Over it result new = after_end it result new
     next_at (stages.Failed e) it result new = after_end it result new
 
     -- what a call of `next` promises
-    pub record Nexts (it : Iter Input Self Mode Checkpoint Token Range Position Error StreamError State Output) (result : Option Output) (new : Iter Input Self Mode Checkpoint Token Range Position Error StreamError State Output) : Type 0 where
+    pub record Nexts (it : Iter Input Self Mode Checkpoint Token Range Position Error State Output) (result : Option Output) (new : Iter Input Self Mode Checkpoint Token Range Position Error State Output) : Type 0 where
       pub is : next_at it.stage it result new
       pub ready : may_go_on new
       pub input : new.input.ghost_name ≡ it.input.ghost_name

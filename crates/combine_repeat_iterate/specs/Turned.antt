@@ -46,9 +46,9 @@ module _ {P T R A S E : Type 0} (w : World P T S E) (m : Meaning P T R A S) (r :
   pub record Turned (result : Turn A E) : Type 0 where
     pub is : turned result
 
-module _ {Self Input Output State Checkpoint Token Range Position Error StreamError : Type 0} (p : parser.Ghosts Self Input State Output Checkpoint Token Range Position Error StreamError) where
+module _ {Self Input Output State Checkpoint Token Range Position Error : Type 0} (p : parser.Ghosts Self Input State Output Checkpoint Token Range Position Error) where
   -- what one turn promises, of what was before and after it
-  pub record TurnCalled (i : stream.Ghosts Input Token Range Position Error StreamError) (seen : Errors Token Range Position Error) (fresh : State → Type 0) (old new : Self) (input left : Input) (first : Bool) (from state : State) (result : Turn Output Error) : Type 0 where
+  pub record TurnCalled (i : stream.Ghosts Input Token Range Position Error) (seen : Errors Token Range Position Error) (fresh : State → Type 0) (old new : Self) (input left : Input) (first : Bool) (from state : State) (result : Turn Output Error) : Type 0 where
     pub lawful : p.lawful new
     pub valid : p.valid state
     pub same : MeansSame (p.meaning old) (p.meaning new)

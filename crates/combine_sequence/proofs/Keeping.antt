@@ -34,7 +34,7 @@ valid_from {S} {fresh} {valid} {first} {given} {s} h r v = by_mode first r
     by_mode true r = h s (r.afresh refl)
     by_mode false r = subst valid (sym (r.kept refl)) v
 
-module _ {Q K N Input A B S U Checkpoint T R P E X : Type 0} (q : parser.Ghosts Q Input S A Checkpoint T R P E X) (p : parser.Ghosts N Input U B Checkpoint T R P E X) (callable : K → A → Type 0) (answers : K → A → N → Type 0) where
+module _ {Q K N Input A B S U Checkpoint T R P E : Type 0} (q : parser.Ghosts Q Input S A Checkpoint T R P E) (p : parser.Ghosts N Input U B Checkpoint T R P E) (callable : K → A → Type 0) (answers : K → A → N → Type 0) where
   abbrev pub by_some : N → Type 0
   by_some = AnsweredBySome callable answers p.lawful q.lawful q.valid q.meaning
 
@@ -47,7 +47,7 @@ module _ {Q K N Input A B S U Checkpoint T R P E X : Type 0} (q : parser.Ghosts 
     same = same_none (p.meaning n);
   }
 
-module _ {N Input V A B C S U Checkpoint T R P E X : Type 0} (p : parser.Ghosts N Input U B Checkpoint T R P E X) (i : stream.Ghosts Input T R P E X) (seen : Errors T R P E) (last_fresh : U → Type 0) (fresh valid : S → Type 0) (keep : A → V) (join : V → B → C) (answers : A → N → Type 0) (some : N → Type 0) (m : Meaning P T R A S) where
+module _ {N Input V A B C S U Checkpoint T R P E : Type 0} (p : parser.Ghosts N Input U B Checkpoint T R P E) (i : stream.Ghosts Input T R P E) (seen : Errors T R P E) (last_fresh : U → Type 0) (fresh valid : S → Type 0) (keep : A → V) (join : V → B → C) (answers : A → N → Type 0) (some : N → Type 0) (m : Meaning P T R A S) where
   abbrev both : Meaning P T R C (AnsweredState S V N U)
   both = then i.step keep join answers some m p.meaning
 

@@ -18,7 +18,7 @@ use Rattle.combine_sequence.specs.declared.sequence.answered.state.AnsweredState
 use Rattle.combine_sequence.specs.declared.sequence.answered.state.AnsweredState.TheVariants as steps
 
 -- An answered parser was run from what is kept of it. Its call may change it, not what it means; need of more keeps it as it then is.
-module _ {N Input V B C S U Checkpoint T R P E X : Type 0} (p : parser.Ghosts N Input U B Checkpoint T R P E X) (i : stream.Ghosts Input T R P E X) (seen : Errors T R P E) (last_fresh : U → Type 0) (fresh : S → Type 0) (join : V → B → C) where
+module _ {N Input V B C S U Checkpoint T R P E : Type 0} (p : parser.Ghosts N Input U B Checkpoint T R P E) (i : stream.Ghosts Input T R P E) (seen : Errors T R P E) (last_fresh : U → Type 0) (fresh : S → Type 0) (join : V → B → C) where
   pub record CalledAnswered (first : Bool) (input left : Input) (from : Answering V N U) (state : AnsweredState S V N U) (result : ParseResult C E) : Type 0 where
     pub parser : N
     pub lawful : p.lawful parser

@@ -8,14 +8,14 @@ use Rattle.combine_base.specs.declared.error.ParseResult.{ParseResult}
 use Rattle.combine_base.specs.declared.parser.Parser as parser
 use Rattle.combine_base.specs.declared.stream.StreamOnce as stream
 
-module _ {Self Input Output State Checkpoint Token Range Position Error StreamError : Type 0} (p : parser.Ghosts Self Input State Output Checkpoint Token Range Position Error StreamError) where
+module _ {Self Input Output State Checkpoint Token Range Position Error : Type 0} (p : parser.Ghosts Self Input State Output Checkpoint Token Range Position Error) where
   -- what a call from a state needs
   pub record Ready (self : Self) (state : State) : Type 0 where
     pub lawful : p.lawful self
     pub valid : p.valid state
 
   -- what a call promises, of what was before and after it
-  pub record Called (i : stream.Ghosts Input Token Range Position Error StreamError) (seen : Errors Token Range Position Error) (fresh : State → Type 0) (old new : Self) (input left : Input) (first : Bool) (from state : State) (result : ParseResult Output Error) : Type 0 where
+  pub record Called (i : stream.Ghosts Input Token Range Position Error) (seen : Errors Token Range Position Error) (fresh : State → Type 0) (old new : Self) (input left : Input) (first : Bool) (from state : State) (result : ParseResult Output Error) : Type 0 where
     pub lawful : p.lawful new
     pub valid : p.valid state
     pub same : MeansSame (p.meaning old) (p.meaning new)

@@ -12,9 +12,9 @@ use Rattle.combine_base.specs.declared.sequence.SequencePlace.{SequencePlace}
 use Rattle.combine_base.specs.declared.sequence.SequenceState.{SequenceState}
 use Rattle.combine_base.specs.declared.stream.StreamOnce as stream
 
-module _ {Last Input Checkpoint T R P E X A B C S U Z : Type 0} (place : Z → SequencePlace S (SequenceState A U)) (f : A → B → C) where
+module _ {Last Input Checkpoint T R P E A B C S U Z : Type 0} (place : Z → SequencePlace S (SequenceState A U)) (f : A → B → C) where
   -- what a call of the whole promises, but that its parts stay lawful: m and m' are what the parts before the last mean before and after it
-  pub record Follows (i : stream.Ghosts Input T R P E X) (seen : Errors T R P E) (fresh before_valid : S → Type 0) (q : parser.Ghosts Last Input U B Checkpoint T R P E X) (m m' : Meaning P T R A S) (last last' : Last) (input left : Input) (from state : Z) (result : ParseResult C E) : Type 0 where
+  pub record Follows (i : stream.Ghosts Input T R P E) (seen : Errors T R P E) (fresh before_valid : S → Type 0) (q : parser.Ghosts Last Input U B Checkpoint T R P E) (m m' : Meaning P T R A S) (last last' : Last) (input left : Input) (from state : Z) (result : ParseResult C E) : Type 0 where
     pub valid : valid_in place before_valid q.valid state
     pub same : MeansSame (followed i.step place f m (q.meaning last)) (followed i.step place f m' (q.meaning last'))
     pub passes : Passes (i.marks input) (i.marks left) (i.failures input) (i.failures left)

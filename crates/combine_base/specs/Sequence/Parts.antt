@@ -83,7 +83,7 @@ module _ {P T R A B C S U Z E : Type 0} (w : World P T U E) (errors : Errors T R
     pub is : goes_on answer
 
 -- the parser that is the last part, by its record: what its runs promise, each as one fact
-module _ {Self Input A B C S U Z Checkpoint T R P E X : Type 0} (p : parser.Ghosts Self Input U B Checkpoint T R P E X) (i : stream.Ghosts Input T R P E X) (seen : Errors T R P E) (part_fresh : U → Type 0) (fresh : Z → Type 0) (place : Z → SequencePlace S (SequenceState A U)) (f : A → B → C) (old new : Self) (input left : Input) where
+module _ {Self Input A B C S U Z Checkpoint T R P E : Type 0} (p : parser.Ghosts Self Input U B Checkpoint T R P E) (i : stream.Ghosts Input T R P E) (seen : Errors T R P E) (part_fresh : U → Type 0) (fresh : Z → Type 0) (place : Z → SequencePlace S (SequenceState A U)) (f : A → B → C) (old new : Self) (input left : Input) where
   -- what a run of the last part promises
   pub record CalledLast (from : SequenceState A U) (state : Z) (result : ParseResult C E) : Type 0 where
     pub lawful : p.lawful new
