@@ -2,11 +2,11 @@
 ghost use Rattle.std.specs.Prelude.{◌≡◌, ◌-◌, ◌<◌, not, ◌∷◌, [], true, length, map};
 ghost use Rattle.std.specs.List.{list_any};
 ghost use Rattle.combine_base.specs.Error.Errors.{Only, Says};
-ghost use Rattle.combine_base.specs.Error.Items.{shown};
+ghost use Rattle.combine_base.specs.Error.Items.{in_role, shown};
 ghost use Rattle.combine_error.specs.Easy.{about_same, cleared_from, is_other, item_same, listed, said};
 
 use crate::info::copied;
-use combine_base::error::{Info, ParseError, StreamError};
+use combine_base::error::{DetailedError, Info, ParseError, Role, StreamError};
 use combine_base::stream::Kind;
 use std::cmp::Ordering;
 
@@ -96,6 +96,17 @@ fn is_expected<T, R>(item: &Error<T, R>) -> bool
     ensures { is_other item.now ≡ not result }
 {
     matches!(item, Error::Expected(_))
+}
+
+// The item that says this.
+fn item_of<T, R>(role: Role, info: Info<T, R>) -> Error<T, R>
+    ensures { said result ≡ in_role role (shown info) }
+{
+    match role {
+        Role::Unexpected => Error::Unexpected(info),
+        Role::Expected => Error::Expected(info),
+        Role::Message => Error::Message(info),
+    }
 }
 
 // Whether an equal item is among those.
@@ -199,19 +210,9 @@ impl<T: Copy + PartialEq, R: Copy + PartialEq, P: Ord + Copy> Errors<T, R, P> {
     }
 }
 
-impl<T: Copy + PartialEq, R: Copy + PartialEq, P: Ord + Copy> ParseError<T, R, P>
+impl<T: Copy + PartialEq, R: Copy + PartialEq, P: Ord + Copy> DetailedError<T, R, P>
     for Errors<T, R, P> {
-    ghost use Rattle.combine_error.specs.Easy.{listed_apart};
-
     type StreamError = Error<T, R>;
-
-    ghost seen = { listed T.eq R.eq };
-
-    ghost tells_apart = { listed_apart T.eq R.eq };
-
-    fn kind(&self) -> Kind {
-        self.kind
-    }
 
     fn position(&self) -> Option<P> {
         Some(self.position)
@@ -226,48 +227,25 @@ impl<T: Copy + PartialEq, R: Copy + PartialEq, P: Ord + Copy> ParseError<T, R, P
     {
         self.put(item);
     }
+}
 
-    fn add_unexpected(&mut self, info: &Info<T, R>) {
+impl<T: Copy + PartialEq, R: Copy + PartialEq, P: Ord + Copy> ParseError<T, R, P>
+    for Errors<T, R, P> {
+    ghost use Rattle.combine_error.specs.Easy.{listed_apart};
+
+    ghost seen = { listed T.eq R.eq };
+
+    ghost tells_apart = { listed_apart T.eq R.eq };
+
+    fn kind(&self) -> Kind {
+        self.kind
+    }
+
+    fn add_info(&mut self, role: Role, info: &Info<T, R>) {
         match copied(info) {
-            Ok(info) => self.put(Error::Unexpected(info)),
+            Ok(info) => self.put(item_of(role, info)),
             Err(_refused) => self.kind = Kind::Memory,
         }
-    }
-
-    fn add_expected(&mut self, info: &Info<T, R>) {
-        match copied(info) {
-            Ok(info) => self.put(Error::Expected(info)),
-            Err(_refused) => self.kind = Kind::Memory,
-        }
-    }
-
-    fn add_message(&mut self, info: &Info<T, R>) {
-        match copied(info) {
-            Ok(info) => self.put(Error::Message(info)),
-            Err(_refused) => self.kind = Kind::Memory,
-        }
-    }
-
-    fn clear_expected(&mut self) {
-        self.errors.retain(
-            |item: &Error<T, R>| -> bool
-                ensures { result ≡ is_other item.now }
-            {
-                match item {
-                    Error::Unexpected(_) => true,
-                    Error::Expected(_) => false,
-                    Error::Message(_) => true,
-                }
-            },
-        );
-    }
-
-    fn out_of_memory(&mut self) {
-        self.kind = Kind::Memory;
-    }
-
-    fn count_items(&self) -> usize {
-        self.errors.len()
     }
 
     fn clear_expected_after(&mut self, kept: usize) {
@@ -275,6 +253,14 @@ impl<T: Copy + PartialEq, R: Copy + PartialEq, P: Ord + Copy> ParseError<T, R, P
         'items: while at < self.errors.len() {
             at = drop_if_expected(&mut self.errors, at);
         }
+    }
+
+    fn count_items(&self) -> usize {
+        self.errors.len()
+    }
+
+    fn out_of_memory(&mut self) {
+        self.kind = Kind::Memory;
     }
 
     #[inline(always)]

@@ -4,7 +4,7 @@ ghost use Rattle.combine_error.specs.Easy.{listed};
 ghost use Rattle.combine_error.specs.Spans.{AtSpan};
 
 use crate::easy::Errors;
-use combine_base::error::{ParseError, UnexpectedParse};
+use combine_base::error::{DetailedError, ParseError, UnexpectedParse};
 use combine_base::stream::{self, Failures, Kind, Positioned, ResetStream, StreamOnce};
 use combine_stream::range::{Range, RangeStream, Test};
 
@@ -20,7 +20,7 @@ pub struct Span<P> {
 /// The errors that can stand at a span. In the crate they are those that turn into an error at any other position.
 pub trait SpannedError<T, R, P: Ord + Copy>: ParseError<T, R, P> {
     /// The error at a span.
-    type Spanned: ParseError<T, R, Span<P>>;
+    type Spanned: DetailedError<T, R, Span<P>>;
 
     /// Makes the same error, at that span. The kind and the items stay.
     fn at_span(self, span: Span<P>) -> Self::Spanned

@@ -6,7 +6,7 @@ ghost use Rattle.combine_combinator_function.specs.Changes.{AnsweredItem, Answer
 
 use super::changed::Change;
 use super::text::StrLike;
-use combine_base::error::{ErrorOffset, Info, ParseError, StreamError};
+use combine_base::error::{DetailedError, ErrorOffset, Info, ParseError, StreamError};
 use combine_base::stream::{Kind, Stream, StreamOnce};
 use std::marker::PhantomData;
 use std::str::FromStr;
@@ -56,9 +56,14 @@ impl<
     Input: Stream,
     A,
     B: Drop,
-    E: Into<<Input::Error as ParseError<Input::Token, Input::Range, Input::Position>>::StreamError>,
+    E: Into<
+        <Input::Error as DetailedError<Input::Token, Input::Range, Input::Position>>::StreamError,
+    >,
     F: Fn(A) -> Result<B, E>,
-> Change<Input, A> for Trying<F> {
+> Change<Input, A> for Trying<F>
+where
+    Input::Error: DetailedError<Input::Token, Input::Range, Input::Position>,
+{
     type Output = B;
 
     ghost callable = { λ f a. F.pre f.0 a × ItemKinds Input.Error.StreamError.kind (F.post f.0 a) E.converts };

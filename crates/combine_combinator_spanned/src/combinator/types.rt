@@ -2,7 +2,7 @@
 ghost use Rattle.std.specs.Prelude.{◌≡◌};
 ghost use Rattle.combine_combinator_spanned.specs.Spanned.{Spans, SpansAnswer, SpansReason, spanned_part};
 
-use combine_base::error::{ErrorOffset, ParseError, ParseResult, Tracked};
+use combine_base::error::{DetailedError, ErrorOffset, ParseError, ParseResult, Tracked};
 use combine_base::parser::{Outputs, ParseMode, Parser};
 use combine_base::stream::{Positioned, Stream, StreamOnce};
 use combine_error::span::Span;
@@ -13,7 +13,7 @@ pub struct Spanned<P>(pub(super) P);
 
 // Has an error that stands at one position stand at that span.
 #[inline]
-fn set_span<T, R, Q: Ord + Copy, E: ParseError<T, R, Span<Q>>>(error: &mut E, span: Span<Q>)
+fn set_span<T, R, Q: Ord + Copy, E: DetailedError<T, R, Span<Q>>>(error: &mut E, span: Span<Q>)
     ensures { Spans Q.cmp E.seen span error.old error.new }
 {
     if let Some(place) = error.position() {
@@ -25,7 +25,7 @@ fn set_span<T, R, Q: Ord + Copy, E: ParseError<T, R, Span<Q>>>(error: &mut E, sp
 
 // Has the error of an answer stand at that span, where it stands at one position.
 #[inline]
-fn at_span<O, T, R, Q: Ord + Copy, E: ParseError<T, R, Span<Q>>>(
+fn at_span<O, T, R, Q: Ord + Copy, E: DetailedError<T, R, Span<Q>>>(
     answer: ParseResult<O, E>,
     span: Span<Q>,
 ) -> ParseResult<O, E>
@@ -54,7 +54,7 @@ impl<Input, P: Outputs<Input>> Outputs<Input> for Spanned<P> {
 impl<Q: Ord + Copy, Input: Stream<Position = Span<Q>>, P: Parser<Input>> Parser<Input>
     for Spanned<P>
 where
-    Input::Error: ParseError<Input::Token, Input::Range, Span<Q>>,
+    Input::Error: DetailedError<Input::Token, Input::Range, Span<Q>>,
 {
     type PartialState = P::PartialState;
 
