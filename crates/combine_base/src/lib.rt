@@ -5,6 +5,7 @@
 
 pub mod distance;
 pub mod error;
+pub mod maps;
 pub mod parser;
 pub mod refusal;
 pub mod repeat;

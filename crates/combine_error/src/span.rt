@@ -5,8 +5,9 @@ ghost use Rattle.combine_error.specs.Spans.{AtSpan};
 
 use crate::easy::Errors;
 use combine_base::error::{DetailedError, ParseError, UnexpectedParse};
+use combine_base::maps::Maps;
 use combine_base::stream::{self, Failures, Kind, Positioned, ResetStream, StreamOnce};
-use combine_stream::range::{Range, RangeStream, Test};
+use combine_stream::range::{Range, RangeStream};
 
 /// A part of the input, from a position to another. The order is that of `start`, and then that of `end`.
 #[derive(Clone, Copy, Debug, PartialEq, Eq, PartialOrd, Ord)]
@@ -179,7 +180,7 @@ where
     }
 
     #[inline(always)]
-    fn uncons_while<F: Test<S::Token>>(&mut self, f: &F) -> Result<S::Range, Kind> {
+    fn uncons_while<F: Maps<S::Token, bool>>(&mut self, f: &F) -> Result<S::Range, Kind> {
         self.0.uncons_while(f)
     }
 

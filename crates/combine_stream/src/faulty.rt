@@ -5,8 +5,9 @@ ghost use Rattle.combine_stream.specs.Failing.{CountsCall, due_at, failed, failu
 ghost use Rattle.combine_stream.specs.Ranges.{UnconsRange, UnconsWhile};
 
 use crate::position::types::{Indexed, PlacedText};
-use crate::range::{Range, RangeStream, Test};
+use crate::range::{Range, RangeStream};
 use crate::{MaybePartialStream, position};
+use combine_base::maps::Maps;
 use combine_base::stream::{Failures, Kind, Positioned, ResetStream, Stream, StreamOnce, fed};
 
 /// A stream whose reads and resets never fail. Our own.
@@ -269,8 +270,8 @@ where
     }
 
     #[inline]
-    fn uncons_while<F: Test<S::Token>>(&mut self, f: &F) -> Result<S::Range, Kind>
-        requires { F.callable f.now }
+    fn uncons_while<F: Maps<S::Token, bool>>(&mut self, f: &F) -> Result<S::Range, Kind>
+        requires { (t : S.Token) → F.callable f.now t }
         ensures read { UnconsWhile (Unit {0}) S.step S.size S.spells (S.view (wrapped self.old)) (S.view (wrapped self.new)) (failures_of self.old) (failures_of self.new) (F.answers f.now) result }
         ensures passes { Passes (S.marks (wrapped self.old)) (S.marks (wrapped self.new)) (failures_of self.old) (failures_of self.new) }
         ensures counts { CountsCall (read_due self.old) (read_due self.new) (wrapped self.old) (wrapped self.new) Kind.Read result }

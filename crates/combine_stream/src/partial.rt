@@ -1,7 +1,8 @@
 //! A stream that may go on.
 ghost use Rattle.std.specs.Prelude.{◌≡◌};
 
-use crate::range::{Range, RangeStream, Test};
+use crate::range::{Range, RangeStream};
+use combine_base::maps::Maps;
 use combine_base::stream::{Failures, Kind, Positioned, ResetStream, Stream, StreamOnce};
 
 /// The stream, open if the mark is `true`, and else ended, whatever the stream inside says. No crate's item is changed: it is the crate's.
@@ -108,7 +109,7 @@ where
     }
 
     #[inline(always)]
-    fn uncons_while<F: Test<S::Token>>(&mut self, f: &F) -> Result<S::Range, Kind> {
+    fn uncons_while<F: Maps<S::Token, bool>>(&mut self, f: &F) -> Result<S::Range, Kind> {
         self.0.uncons_while(f)
     }
 

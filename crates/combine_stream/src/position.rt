@@ -2,7 +2,8 @@
 ghost use Rattle.std.specs.Prelude.{◌≡◌, ℕ, ◌≤◌, drop, false, length, take, true};
 ghost use Rattle.combine_base.specs.Stream.View.{View, advanced};
 
-use crate::range::{Range, RangeStream, Test};
+use crate::range::{Range, RangeStream};
+use combine_base::maps::Maps;
 use combine_base::stream::{self, Failures, Kind, Positioned, ResetStream, StreamOnce};
 use std::marker::PhantomData;
 
@@ -244,7 +245,7 @@ where
     }
 
     #[inline(always)]
-    fn uncons_while<F: Test<P::Token>>(&mut self, f: &F) -> Result<P::Range, Kind> {
+    fn uncons_while<F: Maps<P::Token, bool>>(&mut self, f: &F) -> Result<P::Range, Kind> {
         self.placed.uncons_while(f)
     }
 

@@ -1,9 +1,10 @@
 //! Streams that hand out ranges of their tokens.
-ghost use Rattle.std.specs.Prelude.{◌≡◌, ℕ, ◌<◌, List, Bool, length, take};
+ghost use Rattle.std.specs.Prelude.{◌≡◌, ℕ, ◌<◌, List, length, take};
 ghost use Rattle.combine_base.specs.Stream.View.{View, Ahead};
 ghost use Rattle.combine_base.specs.Stream.Calls.{Passes};
 ghost use Rattle.combine_stream.specs.Ranges.{size_of, UnconsRange, UnconsWhile};
 
+use combine_base::maps::Maps;
 use combine_base::stream::{Kind, ResetStream, Stream, StreamOnce};
 
 pub(crate) mod slices;
@@ -30,31 +31,6 @@ pub trait ByteRange: Range {
     ghost counts: { (r : Self) → Self.Range.count r ≡ length (bytes r) };
 }
 
-/// A test of tokens: every function that answers a truth value. Our own: the crate asks `FnMut`.
-pub trait Test<T> {
-    /// The function may be called on every token.
-    ghost callable: { Self → Type 0 };
-
-    /// What it may answer of a token.
-    ghost answers: { Self → T → Bool → Type 0 };
-
-    /// Returns whether the token passes.
-    fn test(&self, token: T) -> bool
-        requires { callable self.now }
-        ensures { answers self.now token result };
-}
-
-impl<T, F: Fn(T) -> bool> Test<T> for F {
-    ghost callable = { λ f. F.IsAlwaysCallable f };
-
-    ghost answers = { λ f. F.post f };
-
-    #[inline(always)]
-    fn test(&self, token: T) -> bool {
-        self(token)
-    }
-}
-
 /// A stream that hands out ranges.
 pub trait RangeStream: Stream
 where
@@ -72,8 +48,8 @@ where
         ensures passes { Passes (Self.marks self.old) (Self.marks self.new) (Self.failures self.old) (Self.failures self.new) };
 
     /// Takes the longest beginning whose tokens pass the test; it may be empty. A failed read is as above.
-    fn uncons_while<F: Test<Self::Token>>(&mut self, f: &F) -> Result<Self::Range, Kind>
-        requires { F.callable f.now }
+    fn uncons_while<F: Maps<Self::Token, bool>>(&mut self, f: &F) -> Result<Self::Range, Kind>
+        requires { (t : Self.Token) → F.callable f.now t }
         ensures read { UnconsWhile Self.steady Self.step size spells (Self.view self.old) (Self.view self.new) (Self.failures self.old) (Self.failures self.new) (F.answers f.now) result }
         ensures passes { Passes (Self.marks self.old) (Self.marks self.new) (Self.failures self.old) (Self.failures self.new) };
 

@@ -12,34 +12,11 @@ pub use super::look::{LookAhead, NoPartial, NotFollowedBy};
 pub use super::values::{Ignore, Nothing, Pick, Picked};
 use combine_base::distance::{measure, pass_over};
 use combine_base::error::{ErrorOffset, ParseError, ParseResult, Tracked};
+use combine_base::maps::Maps;
 use combine_base::parser::{Outputs, ParseMode, Parser};
 use combine_base::sequence::accepted_after;
 use combine_base::stream::{Kind, Positioned, ResetStream, Stream, StreamOnce, needs_more};
 use std::marker::PhantomData;
-
-/// A function that makes a `B` of an `A`. Our own: the prover shows each impl in a declaration of its own, but one with a bound on `Fn`, which it writes out in that of the impl round it. By this trait parsers that are mapped within each other stay apart.
-pub trait Maps<A, B> {
-    /// The values that it may be called on.
-    ghost callable: { Self → A → Type 0 };
-
-    /// What it may answer.
-    ghost answers: { Self → A → B → Type 0 };
-
-    fn map_one(&self, value: A) -> B
-        requires { callable self.now value }
-        ensures { answers self.now value result };
-}
-
-impl<A, B, F: Fn(A) -> B> Maps<A, B> for F {
-    ghost callable = { λ f. F.pre f };
-
-    ghost answers = { λ f. F.post f };
-
-    #[inline(always)]
-    fn map_one(&self, value: A) -> B {
-        self(value)
-    }
-}
 
 /// As its part, the value changed by its function into a `B`; the state is that of the part.
 #[derive(Drop)]

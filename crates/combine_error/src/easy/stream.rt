@@ -3,9 +3,10 @@ ghost use Rattle.std.specs.Prelude.{◌≡◌};
 ghost use Rattle.combine_error.specs.Easy.{inside};
 
 use crate::easy::Errors;
+use combine_base::maps::Maps;
 use combine_base::stream::{self, Failures, Kind, Positioned, ResetStream, StreamOnce};
 use combine_stream::position;
-use combine_stream::range::{Range, RangeStream, Test};
+use combine_stream::range::{Range, RangeStream};
 use std::alloc::Global;
 
 /// The stream, whose parsers are refused with errors that keep items.
@@ -162,7 +163,7 @@ where
     }
 
     #[inline(always)]
-    fn uncons_while<F: Test<S::Token>>(&mut self, f: &F) -> Result<S::Range, Kind> {
+    fn uncons_while<F: Maps<S::Token, bool>>(&mut self, f: &F) -> Result<S::Range, Kind> {
         self.inner.uncons_while(f)
     }
 

@@ -12,9 +12,10 @@ use crate::passing::{
     begin, hand_out, keep_distance, may_go_on, not_passed, pass_items, refused_here,
 };
 use combine_base::error::{ErrorOffset, ParseResult, Tracked};
+use combine_base::maps::Maps;
 use combine_base::parser::{Outputs, ParseMode, Parser};
 use combine_base::stream::{Kind, Positioned, ResetStream, Stream, StreamOnce};
-use combine_stream::range::{Range, RangeStream, Test};
+use combine_stream::range::{Range, RangeStream};
 use std::marker::PhantomData;
 
 /// The parser of [`take_while`](crate::range::take_while); its state is the distance that was read.
@@ -33,7 +34,7 @@ pub struct TakeWhile1<Input, F> {
 
 // One call. An empty beginning is refused where `some` is true.
 #[inline(always)]
-fn take_beginning<Input: RangeStream, F: Test<Input::Token>>(
+fn take_beginning<Input: RangeStream, F: Maps<Input::Token, bool>>(
     test: &F,
     some: bool,
     first: bool,
@@ -42,7 +43,7 @@ fn take_beginning<Input: RangeStream, F: Test<Input::Token>>(
 ) -> ParseResult<Input::Range, Input::Error>
 where
     Input::Range: Range,
-    requires { F.callable test.now }
+    requires { (t : Input.Token) → F.callable test.now t }
     ensures passes { Passes (Input.marks input.old) (Input.marks input.new) (Input.failures input.old) (Input.failures input.new) }
     ensures answers { Answers (world Input.step Input.Error.seen Input.steady ⟦<Distance as Default>⟧.is_default)
         (kept {R = Input.Range} Input.size (beginning Input.size Input.spells (F.answers test.now) some) Nothing)
@@ -79,19 +80,19 @@ impl<Input: StreamOnce, F> Outputs<Input> for TakeWhile<Input, F> {
     type Output = Input::Range;
 }
 
-impl<Input: RangeStream, F: Fn(Input::Token) -> bool> Parser<Input> for TakeWhile<Input, F>
+impl<Input: RangeStream, F: Maps<Input::Token, bool>> Parser<Input> for TakeWhile<Input, F>
 where
     Input::Range: Range,
 {
     type PartialState = Distance;
 
-    ghost lawful = { λ p. F.IsAlwaysCallable p.predicate };
+    ghost lawful = { λ p. (t : Input.Token) → F.callable p.predicate t };
 
-    ghost determined = { λ p. IsPredicate (F.post p.predicate) };
+    ghost determined = { λ p. IsPredicate (F.answers p.predicate) };
 
     ghost valid = { λ s. Unit {0} };
 
-    ghost meaning = { λ p. kept Input.size (beginning Input.size Input.spells (F.post p.predicate) false) Nothing };
+    ghost meaning = { λ p. kept Input.size (beginning Input.size Input.spells (F.answers p.predicate) false) Nothing };
 
     ghost parts = { λ p. 1 };
 
@@ -124,19 +125,19 @@ impl<Input: StreamOnce, F> Outputs<Input> for TakeWhile1<Input, F> {
     type Output = Input::Range;
 }
 
-impl<Input: RangeStream, F: Fn(Input::Token) -> bool> Parser<Input> for TakeWhile1<Input, F>
+impl<Input: RangeStream, F: Maps<Input::Token, bool>> Parser<Input> for TakeWhile1<Input, F>
 where
     Input::Range: Range,
 {
     type PartialState = Distance;
 
-    ghost lawful = { λ p. F.IsAlwaysCallable p.predicate };
+    ghost lawful = { λ p. (t : Input.Token) → F.callable p.predicate t };
 
-    ghost determined = { λ p. IsPredicate (F.post p.predicate) };
+    ghost determined = { λ p. IsPredicate (F.answers p.predicate) };
 
     ghost valid = { λ s. Unit {0} };
 
-    ghost meaning = { λ p. kept Input.size (beginning Input.size Input.spells (F.post p.predicate) true) Nothing };
+    ghost meaning = { λ p. kept Input.size (beginning Input.size Input.spells (F.answers p.predicate) true) Nothing };
 
     ghost parts = { λ p. 1 };
 

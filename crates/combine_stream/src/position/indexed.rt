@@ -2,9 +2,10 @@
 ghost use Rattle.std.specs.Prelude.{◌≡◌, ◌≤◌, false, length};
 
 use crate::position::{DefaultPositioned, Windowed};
+use crate::range::RangeStream;
 use crate::range::slices::count_while;
-use crate::range::{RangeStream, Test};
 use combine_base::error::UnexpectedParse;
+use combine_base::maps::Maps;
 use combine_base::stream::{Failures, Kind, Positioned, ResetStream, Stream, StreamOnce};
 use std::alloc::AllocError;
 
@@ -225,7 +226,7 @@ impl<'a, T: Copy> RangeStream for Indexed<'a, T> {
     }
 
     #[inline(always)]
-    fn uncons_while<F: Test<T>>(&mut self, f: &F) -> Result<&'a [T], Kind> {
+    fn uncons_while<F: Maps<T, bool>>(&mut self, f: &F) -> Result<&'a [T], Kind> {
         let unread = self.unread();
         let n = count_while(unread, f);
         self.at += n;

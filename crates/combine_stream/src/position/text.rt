@@ -10,8 +10,9 @@ ghost use Rattle.combine_stream.specs.TextWindows.{index_of};
 
 use crate::position::{DefaultPositioned, Windowed};
 use crate::range::texts::{bytes_while, cut};
-use crate::range::{Range, RangeStream, Test};
+use crate::range::{Range, RangeStream};
 use combine_base::error::UnexpectedParse;
+use combine_base::maps::Maps;
 use combine_base::stream::{
     Failures, Kind, Positioned, ResetStream, Stream, StreamOnce, split_first,
 };
@@ -266,7 +267,7 @@ impl<'a> RangeStream for PlacedText<'a> {
     }
 
     #[inline(always)]
-    fn uncons_while<F: Test<char>>(&mut self, f: &F) -> Result<&'a str, Kind> {
+    fn uncons_while<F: Maps<char, bool>>(&mut self, f: &F) -> Result<&'a str, Kind> {
         let n = bytes_while(self.rest, f);
         self.uncons_range(n)
     }

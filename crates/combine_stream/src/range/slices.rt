@@ -2,7 +2,8 @@
 ghost use Rattle.std.specs.Prelude.{◌≡◌, length};
 ghost use Rattle.combine_stream.specs.Ranges.{LongestItems};
 
-use crate::range::{ByteRange, Range, RangeStream, Test};
+use crate::range::{ByteRange, Range, RangeStream};
+use combine_base::maps::Maps;
 use combine_base::stream::{Kind, ResetStream, StreamOnce};
 
 impl<'a, T: Copy> Range for &'a [T] {
@@ -51,7 +52,7 @@ impl<'a, T: Copy> RangeStream for &'a [T] {
     }
 
     #[inline(always)]
-    fn uncons_while<F: Test<T>>(&mut self, f: &F) -> Result<&'a [T], Kind> {
+    fn uncons_while<F: Maps<T, bool>>(&mut self, f: &F) -> Result<&'a [T], Kind> {
         let n = count_while(self, f);
         let (range, rest) = self.split_at(n);
         *self = rest;
@@ -74,8 +75,8 @@ const BLOCK: usize = 8;
 
 // How many tokens the longest beginning under a test has.
 #[inline(always)]
-pub(crate) fn count_while<T: Copy, F: Test<T>>(tokens: &[T], f: &F) -> usize
-    requires { F.callable f.now }
+pub(crate) fn count_while<T: Copy, F: Maps<T, bool>>(tokens: &[T], f: &F) -> usize
+    requires { (t : T) → F.callable f.now t }
     ensures { LongestItems (λ t. 1) (F.answers f.now) tokens.now result }
 {
     let mut n = 0;
@@ -97,13 +98,13 @@ pub(crate) fn count_while<T: Copy, F: Test<T>>(tokens: &[T], f: &F) -> usize
 
 // The same, token by token.
 #[inline(always)]
-fn count_each<T: Copy, F: Test<T>>(tokens: &[T], f: &F) -> usize
-    requires { F.callable f.now }
+fn count_each<T: Copy, F: Maps<T, bool>>(tokens: &[T], f: &F) -> usize
+    requires { (t : T) → F.callable f.now t }
     ensures { LongestItems (λ t. 1) (F.answers f.now) tokens.now result }
 {
     let mut n = 0;
     for token in tokens {
-        if !f.test(*token) {
+        if !f.map_one(*token) {
             return n;
         }
         n += 1;

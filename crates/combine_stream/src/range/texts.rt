@@ -7,7 +7,8 @@ ghost use Rattle.combine_stream.specs.Ranges.{LongestItems, size_of};
 ghost use Rattle.combine_base.specs.Stream.Texts.{text_view, less_char};
 ghost use Rattle.combine_stream.specs.TextRanges.{Cut, uncut, text_of};
 
-use crate::range::{ByteRange, Range, RangeStream, Test};
+use crate::range::{ByteRange, Range, RangeStream};
+use combine_base::maps::Maps;
 use combine_base::stream::{Kind, ResetStream, StreamOnce, split_first};
 
 impl<'a> Range for &'a str {
@@ -51,7 +52,7 @@ impl<'a> RangeStream for &'a str {
     }
 
     #[inline(always)]
-    fn uncons_while<F: Test<char>>(&mut self, f: &F) -> Result<&'a str, Kind> {
+    fn uncons_while<F: Maps<char, bool>>(&mut self, f: &F) -> Result<&'a str, Kind> {
         let n = bytes_while(self, f);
         self.uncons_range(n)
     }
@@ -99,8 +100,8 @@ fn all(text: &str) -> &str
 
 // How many bytes the longest beginning under a test has.
 #[inline(always)]
-pub(crate) fn bytes_while<F: Test<char>>(text: &str, f: &F) -> usize
-    requires { F.callable f.now }
+pub(crate) fn bytes_while<F: Maps<char, bool>>(text: &str, f: &F) -> usize
+    requires { (t : ℕ) → F.callable f.now t }
     ensures { LongestItems len_utf8 (F.answers f.now) (chars text.now) result }
 {
     let mut rest = text;
@@ -108,7 +109,7 @@ pub(crate) fn bytes_while<F: Test<char>>(text: &str, f: &F) -> usize
     loop {
         match split_first(rest) {
             Some((first, after)) => {
-                if !f.test(first) {
+                if !f.map_one(first) {
                     return passed;
                 }
                 passed += rest.len() - after.len();

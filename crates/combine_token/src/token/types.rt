@@ -10,6 +10,7 @@ pub use crate::token::among::types::{NoneOf, OneOf};
 pub use crate::token::lists::types::{Tokens, TokensCmp};
 use crate::token::reading::{one_token, token_if, token_map};
 use combine_base::error::{ErrorOffset, Info, ParseError, ParseResult, Tracked};
+use combine_base::maps::Maps;
 use combine_base::parser::{Outputs, ParseMode, Parser};
 use combine_base::stream::{Kind, Stream, StreamOnce};
 use std::marker::PhantomData;
@@ -130,16 +131,16 @@ impl<Input: StreamOnce, F> Outputs<Input> for Satisfy<Input, F> {
     type Output = Input::Token;
 }
 
-impl<Input: Stream, F: Fn(Input::Token) -> bool> Parser<Input> for Satisfy<Input, F> {
+impl<Input: Stream, F: Maps<Input::Token, bool>> Parser<Input> for Satisfy<Input, F> {
     type PartialState = ();
 
-    ghost lawful = { λ p. F.IsAlwaysCallable p.predicate };
+    ghost lawful = { λ p. (t : Input.Token) → F.callable p.predicate t };
 
-    ghost determined = { λ p. IsPredicate (F.post p.predicate) };
+    ghost determined = { λ p. IsPredicate (F.answers p.predicate) };
 
     ghost valid = { λ s. Unit {0} };
 
-    ghost meaning = { λ p. takes_one (satisfied (F.post p.predicate)) (Unit {0}) Nothing };
+    ghost meaning = { λ p. takes_one (satisfied (F.answers p.predicate)) (Unit {0}) Nothing };
 
     ghost refuses = { λ p k. RefusesToken Input.Error.seen };
 
@@ -152,7 +153,14 @@ impl<Input: Stream, F: Fn(Input::Token) -> bool> Parser<Input> for Satisfy<Input
         input: &mut Input,
         state: &mut (),
     ) -> ParseResult<Input::Token, Input::Error> {
-        token_if(&self.predicate, input)
+        let predicate = &self.predicate;
+        token_if(
+            |token: Input::Token| -> bool
+                requires { F.callable predicate.now token }
+                ensures { F.answers predicate.entry.now token result }
+            { predicate.map_one(token) },
+            input,
+        )
     }
 
     #[inline]
@@ -165,26 +173,26 @@ impl<Input: Stream, F: Fn(Input::Token) -> bool> Parser<Input> for Satisfy<Input
 
     ghost default_valid = { λ s d. tt };
 
-    ghost laws = { λ p l. takes_one_is_meaning (satisfied (F.post p.predicate)) _ _ _ _ };
+    ghost laws = { λ p l. takes_one_is_meaning (satisfied (F.answers p.predicate)) _ _ _ _ };
 
-    ghost single = { λ p l d. takes_one_means_one (satisfied (F.post p.predicate)) _ _ _ (satisfied_is_test _ d) };
+    ghost single = { λ p l d. takes_one_means_one (satisfied (F.answers p.predicate)) _ _ _ (satisfied_is_test _ d) };
 }
 
 impl<Input, B: Drop, F> Outputs<Input> for SatisfyMap<Input, F, B> {
     type Output = B;
 }
 
-impl<Input: Stream, B: Drop, F: Fn(Input::Token) -> Option<B>> Parser<Input>
+impl<Input: Stream, B: Drop, F: Maps<Input::Token, Option<B>>> Parser<Input>
     for SatisfyMap<Input, F, B> {
     type PartialState = ();
 
-    ghost lawful = { λ p. F.IsAlwaysCallable p.predicate };
+    ghost lawful = { λ p. (t : Input.Token) → F.callable p.predicate t };
 
-    ghost determined = { λ p. IsTest (F.post p.predicate) };
+    ghost determined = { λ p. IsTest (F.answers p.predicate) };
 
     ghost valid = { λ s. Unit {0} };
 
-    ghost meaning = { λ p. takes_one (of_token (F.post p.predicate)) (Unit {0}) Nothing };
+    ghost meaning = { λ p. takes_one (of_token (F.answers p.predicate)) (Unit {0}) Nothing };
 
     ghost refuses = { λ p k. RefusesToken Input.Error.seen };
 
@@ -197,7 +205,14 @@ impl<Input: Stream, B: Drop, F: Fn(Input::Token) -> Option<B>> Parser<Input>
         input: &mut Input,
         state: &mut (),
     ) -> ParseResult<B, Input::Error> {
-        token_map(&self.predicate, input)
+        let predicate = &self.predicate;
+        token_map(
+            |token: Input::Token| -> Option<B>
+                requires { F.callable predicate.now token }
+                ensures { F.answers predicate.entry.now token result }
+            { predicate.map_one(token) },
+            input,
+        )
     }
 
     #[inline]
@@ -210,9 +225,9 @@ impl<Input: Stream, B: Drop, F: Fn(Input::Token) -> Option<B>> Parser<Input>
 
     ghost default_valid = { λ s d. tt };
 
-    ghost laws = { λ p l. takes_one_is_meaning (of_token (F.post p.predicate)) _ _ _ _ };
+    ghost laws = { λ p l. takes_one_is_meaning (of_token (F.answers p.predicate)) _ _ _ _ };
 
-    ghost single = { λ p l d. takes_one_means_one (of_token (F.post p.predicate)) _ _ _ (of_token_is_test _ d) };
+    ghost single = { λ p l d. takes_one_means_one (of_token (F.answers p.predicate)) _ _ _ (of_token_is_test _ d) };
 }
 
 impl<Input, T: Drop> Outputs<Input> for Token<Input, T> {

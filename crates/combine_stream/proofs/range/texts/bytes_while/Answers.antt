@@ -4,8 +4,8 @@ use Rattle.std.specs.Str.{chars}
 use Rattle.combine_stream.proofs.Passing.{Passed, passed_more, passed_stop, passed_end}
 use Rattle.combine_stream.proofs.range.texts.bytes_while.Goals as goal
 
-pub returns-then-not-test : goal.returns-then-not-test
-returns-then-not-test g c = passed_stop _ _ _ _ _ c.loop-first.invariant.passed _ _ c.in-Some.ensures.characters c.if-not-test.ensures
+pub returns-then-not-map_one : goal.returns-then-not-map_one
+returns-then-not-map_one g c = passed_stop _ _ _ _ _ c.loop-first.invariant.passed _ _ c.in-Some.ensures.characters c.if-not-map_one.ensures
 
 pub loop-first-preserved : goal.loop-first-preserved
 loop-first-preserved g c =
@@ -15,7 +15,7 @@ loop-first-preserved g c =
     record {
       text = i.text;
       size = let z = c.loop-first.invariant.size in omega arith;
-      passed = subst (Passed len_utf8 (g.F.Test.answers c.args.f.now) (chars c.args.text.now) (chars c.in-Some.after.now)) e (passed_more _ _ _ _ _ c.loop-first.invariant.passed _ _ i.characters c.if-not-test.ensures);
+      passed = subst (Passed len_utf8 (g.F.Maps.answers c.args.f.now) (chars c.args.text.now) (chars c.in-Some.after.now)) e (passed_more _ _ _ _ _ c.loop-first.invariant.passed _ _ i.characters c.if-not-map_one.ensures);
     }
 
 pub returns-in-None : goal.returns-in-None
