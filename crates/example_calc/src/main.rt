@@ -8,7 +8,7 @@ ghost use Rattle.combine_base.specs.declared.stream.Kind.TheVariants as kinds;
 ghost use Rattle.example_calc.specs.Exact.{IsExact, IsFault, IsRefused};
 
 use combine::easy::TextStream;
-use combine::error::{ParseError, StreamError};
+use combine::error::{DetailedError, StreamError};
 use combine::expression::{self, Fixity, Item};
 use combine::nested::always;
 use combine::parser::Parser;
@@ -110,7 +110,7 @@ fn value_in<Input: Stream<Token = char>, E: StreamError<char, Input::Range>>(
     line: Input,
 ) -> Result<i64, Input::Error>
 where
-    Input::Error: ParseError<char, Input::Range, Input::Position, StreamError = E>,
+    Input::Error: DetailedError<char, Input::Range, Input::Position, StreamError = E>,
 {
     let blank = satisfy(|character: char| matches!(character, ' ' | '\t'));
     let blanks = many::<Sink, _>(alloc, blank);

@@ -7,7 +7,7 @@ ghost use Rattle.std.specs.Prelude.{◌≡◌, IfErr};
 ghost use Rattle.combine_base.specs.declared.stream.Kind.TheVariants as kinds;
 
 use combine::easy::Errors;
-use combine::error::{ParseError, StreamError};
+use combine::error::{DetailedError, ParseError, StreamError};
 use combine::parser::Parser;
 use combine::parser::char::{char, newline};
 use combine::parser::choice::{optional, or};
@@ -127,7 +127,7 @@ fn with_values<Input: Stream<Token = char>, E: StreamError<char, Input::Range>, 
     driver: D,
 ) -> D::Answer
 where
-    Input::Error: ParseError<char, Input::Range, Input::Position, StreamError = E>,
+    Input::Error: DetailedError<char, Input::Range, Input::Position, StreamError = E>,
 {
     let escape = with(char('\\'), satisfy_map(escaped));
     let plain = satisfy(|character: char| !matches!(character, '"' | '\\' | '\n'));

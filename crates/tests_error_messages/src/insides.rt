@@ -1,7 +1,7 @@
 //! Parsers that say what the parser inside says, and parsers that say nothing of it.
 ghost use Rattle.std.specs.Prelude.{◌≡◌, IfErr};
 
-use combine_base::error::ParseError;
+use combine_base::error::{DetailedError, ParseError};
 use combine_base::repeat::Sink;
 use combine_base::stream::{Stream, StreamOnce};
 use combine_choice_dispatch::variants::{Dispatch3, Either};
@@ -36,7 +36,7 @@ where
 }
 
 /// What an error of a stream of characters says.
-type Item<Input> = <<Input as StreamOnce>::Error as ParseError<
+type Item<Input> = <<Input as StreamOnce>::Error as DetailedError<
     char,
     <Input as StreamOnce>::Range,
     <Input as StreamOnce>::Position,
@@ -47,7 +47,7 @@ pub fn changed_inside<Input: Legible + Stream<Token = char>>(
     rows: &mut Rows<Input>,
 ) -> Result<(), AllocError>
 where
-    Input::Error: ParseError<char, Input::Range, Input::Position>,
+    Input::Error: DetailedError<char, Input::Range, Input::Position>,
 {
     let tried = |_read: char| -> Result<u8, Item<Input>>
         ensures { IfErr result (λ _. ⊥) }

@@ -1,6 +1,6 @@
 //! What each call of an item says, and of two errors the one that is made of both.
 
-use combine_base::error::{Info, ParseError, StreamError};
+use combine_base::error::{DetailedError, Info, ParseError, StreamError};
 use combine_base::stream::Kind;
 use combine_error::easy::{Error, Errors};
 use std::alloc::{AllocError, Global};

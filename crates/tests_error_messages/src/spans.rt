@@ -2,7 +2,7 @@
 ghost use Rattle.std.specs.Prelude.{◌≡◌, IfErr};
 ghost use Rattle.combine_base.specs.declared.stream.Kind.TheVariants as kinds;
 
-use combine_base::error::{Info, ParseError, StreamError};
+use combine_base::error::{DetailedError, Info, StreamError};
 use combine_base::parser::Parser;
 use combine_base::stream::{Kind, Stream, StreamOnce};
 use combine_combinator_function::combinator::and_then;
@@ -17,7 +17,7 @@ use std::alloc::{AllocError, Global};
 use tests_error_calls::calls::Lettered;
 
 /// What an error of a stream says.
-type Item<Input> = <<Input as StreamOnce>::Error as ParseError<
+type Item<Input> = <<Input as StreamOnce>::Error as DetailedError<
     u8,
     <Input as StreamOnce>::Range,
     Span<usize>,
@@ -34,7 +34,7 @@ struct Told {
 /// A stream of bytes whose errors stand at spans of indices.
 trait Spans: Stream<Token = u8, Position = Span<usize>>
 where
-    Self::Error: ParseError<u8, Self::Range, Span<usize>>,
+    Self::Error: DetailedError<u8, Self::Range, Span<usize>>,
 {
     /// The stream at the beginning of the bytes.
     fn begin(alloc: Global, bytes: &'static [u8]) -> Self;
@@ -95,7 +95,7 @@ impl Spans for easy::Stream<span::Stream<position::SliceStream<'static, u8>>> {
 /// The error of a pair that is refused, which stands at the span that it was read from.
 fn bad_pair<Input: Spans>(alloc: Global, bytes: &'static [u8]) -> Option<Told>
 where
-    Input::Error: ParseError<u8, Input::Range, Span<usize>>,
+    Input::Error: DetailedError<u8, Input::Range, Span<usize>>,
 {
     let bad = |_pair: (u8, u8)| -> Result<(), Item<Input>>
         ensures { IfErr result (λ e. Input.Error.StreamError.kind e ≡ kinds.Refused) }
@@ -109,7 +109,7 @@ where
 /// The same where there need be none: a committed refusal stays.
 fn no_bad_pair<Input: Spans>(alloc: Global, bytes: &'static [u8]) -> Option<Told>
 where
-    Input::Error: ParseError<u8, Input::Range, Span<usize>>,
+    Input::Error: DetailedError<u8, Input::Range, Span<usize>>,
 {
     let bad = |_pair: (u8, u8)| -> Result<(), Item<Input>>
         ensures { IfErr result (λ e. Input.Error.StreamError.kind e ≡ kinds.Refused) }
@@ -123,7 +123,7 @@ where
 /// Both. One call names a stream that wraps others, which is dear.
 fn both<Input: Spans>(alloc: Global, bytes: &'static [u8]) -> [Option<Told>; 2]
 where
-    Input::Error: ParseError<u8, Input::Range, Span<usize>>,
+    Input::Error: DetailedError<u8, Input::Range, Span<usize>>,
 {
     [
         bad_pair::<Input>(alloc, bytes),
@@ -137,7 +137,7 @@ fn an_a<Input: Spans>(
     bytes: &'static [u8],
 ) -> Result<Option<(Span<usize>, String)>, AllocError>
 where
-    Input::Error: ParseError<u8, Input::Range, Span<usize>>,
+    Input::Error: DetailedError<u8, Input::Range, Span<usize>>,
 {
     match spanned(token(b'a')).parse(Input::begin(alloc, bytes)) {
         Ok((_read, _left)) => Ok(None),
