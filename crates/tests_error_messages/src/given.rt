@@ -1,7 +1,7 @@
 //! Every row. One call names a stream that wraps another, which is dear.
 
 use crate::{insides, places, ranges, repetitions, sequences};
-use combine_base::error::ParseError;
+use combine_base::error::DetailedError;
 use combine_base::stream::Stream;
 use combine_range_search::bytes::ByteStream;
 use combine_stream::range::ByteRange;
@@ -18,7 +18,7 @@ pub fn wrong<Input: Legible + Stream<Token = char> + ByteStream>(
 ) -> Result<Vec<String>, AllocError>
 where
     Input::Range: ByteRange + PartialEq,
-    Input::Error: ParseError<char, Input::Range, Input::Position>,
+    Input::Error: DetailedError<char, Input::Range, Input::Position>,
 {
     let mut rows: Rows<Input> = Rows::new(alloc);
     sequences::tuples(&mut rows)?;
