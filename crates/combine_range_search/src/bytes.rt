@@ -5,13 +5,11 @@ ghost use Rattle.combine_range_search.specs.InBytes.{Finds, bytes_of, in_bytes, 
 
 use crate::find::{ByteTest, find_byte, find_bytes};
 use crate::search::{Searcher, TakeRange};
-use combine_base::stream::StreamOnce;
 use combine_error::easy;
 use combine_error::span::{self, SpannedError};
-use combine_stream::position::DefaultPositioned;
-use combine_stream::position::types::{Indexed, PlacedText};
+use combine_stream::position::{SliceStream, TextStream};
 use combine_stream::range::{ByteRange, Range, RangeStream};
-use combine_stream::{Faulty, MaybePartialStream, Unfailing, position};
+use combine_stream::{Faulty, MaybePartialStream, Unfailing};
 
 /// A stream whose ranges are bytes, some for each token. Our own: the crate asks for bytes of ranges alone.
 pub trait ByteStream: RangeStream
@@ -39,7 +37,7 @@ impl<'a> ByteStream for &'a [u8] {
     ghost spelled = { λ r ts e. bytes_of_bytes r.now ts e };
 }
 
-impl<'a> ByteStream for Indexed<'a, u8> {
+impl<'a> ByteStream for SliceStream<'a, u8> {
     ghost use Rattle.std.specs.Prelude.{refl};
     ghost use Rattle.combine_range_search.specs.Encoding.{one_byte, bytes_of_bytes};
 
@@ -61,7 +59,7 @@ impl<'a> ByteStream for &'a str {
     ghost spelled = { λ r ts e. bytes_of_chars r.now ts e };
 }
 
-impl<'a> ByteStream for PlacedText<'a> {
+impl<'a> ByteStream for TextStream<'a> {
     ghost use Rattle.std.proofs.Math.Utf8.{encode};
     ghost use Rattle.combine_range_search.specs.Encoding.{sized_encode, bytes_of_chars};
 
@@ -70,18 +68,6 @@ impl<'a> ByteStream for PlacedText<'a> {
     ghost sized = { sized_encode };
 
     ghost spelled = { λ r ts e. bytes_of_chars r.now ts e };
-}
-
-impl<S: DefaultPositioned> ByteStream for position::Stream<S, S::Placed>
-where
-    S::Placed: ByteStream,
-    <S::Placed as StreamOnce>::Range: ByteRange,
-{
-    ghost encoded = { S.Placed.encoded };
-
-    ghost sized = { S.Placed.sized };
-
-    ghost spelled = { S.Placed.spelled };
 }
 
 impl<S: ByteStream> ByteStream for MaybePartialStream<S>

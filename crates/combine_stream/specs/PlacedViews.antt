@@ -8,9 +8,9 @@ use Rattle.std.specs.declared.cmp.Ordering.TheVariants.{Less, Equal}
 use Rattle.combine_base.specs.Stream.View.{View, after_all}
 use Rattle.combine_stream.specs.Lines.{next_place}
 use Rattle.combine_stream.specs.declared.position.text.SourcePosition.{SourcePosition}
-use Rattle.combine_stream.specs.declared.position.text.PlacedText.{PlacedText}
+use Rattle.combine_stream.specs.declared.position.text.TextStream.{TextStream}
 
-abbrev pub placed_view : PlacedText → View SourcePosition ℕ
+abbrev pub placed_view : TextStream → View SourcePosition ℕ
 placed_view s = record { position = s.place; unread = chars s.rest.now; is_open = false }
 
 -- a later line, or a later column of the line

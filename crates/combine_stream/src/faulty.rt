@@ -4,9 +4,9 @@ ghost use Rattle.combine_base.specs.Stream.Calls.{Passes, ResetTo, Uncons};
 ghost use Rattle.combine_stream.specs.Failing.{CountsCall, due_at, failed, failures_of, fails_next, one_call, read_due, reset_due, wrapped};
 ghost use Rattle.combine_stream.specs.Ranges.{UnconsRange, UnconsWhile};
 
-use crate::position::types::{Indexed, PlacedText};
+use crate::MaybePartialStream;
+use crate::position::{SliceStream, TextStream};
 use crate::range::{Range, RangeStream};
-use crate::{MaybePartialStream, position};
 use combine_base::maps::Maps;
 use combine_base::stream::{Failures, Kind, Positioned, ResetStream, Stream, StreamOnce, fed};
 
@@ -34,20 +34,16 @@ impl<T: Copy + 'static> Unfailing for fed::Stream<T> {
     ghost calm = { λ s t. refl };
 }
 
-impl<'a, T: Copy> Unfailing for Indexed<'a, T> {
+impl<'a, T: Copy> Unfailing for SliceStream<'a, T> {
     ghost use Rattle.std.specs.Prelude.{refl};
 
     ghost calm = { λ s t. refl };
 }
 
-impl<'a> Unfailing for PlacedText<'a> {
+impl<'a> Unfailing for TextStream<'a> {
     ghost use Rattle.std.specs.Prelude.{refl};
 
     ghost calm = { λ s t. refl };
-}
-
-impl<S, P: Unfailing> Unfailing for position::Stream<S, P> {
-    ghost calm = { λ s t. P.calm s.placed t.placed };
 }
 
 impl<S: Unfailing> Unfailing for MaybePartialStream<S> {

@@ -2,27 +2,19 @@
 ghost use Rattle.std.specs.Prelude.{◌≡◌, ℕ, ◌≤◌, drop, false, length, take, true};
 ghost use Rattle.combine_base.specs.Stream.View.{View, advanced};
 
-use crate::range::{Range, RangeStream};
-use combine_base::maps::Maps;
-use combine_base::stream::{self, Failures, Kind, Positioned, ResetStream, StreamOnce};
-use std::marker::PhantomData;
+use combine_base::stream::StreamOnce;
 
-mod indexed;
+mod slice;
 mod text;
 
-pub use text::SourcePosition;
-
-/// The inputs with their positions, which a `Stream` holds.
-pub mod types {
-    pub use super::indexed::Indexed;
-    pub use super::text::PlacedText;
-}
+pub use slice::SliceStream;
+pub use text::{SourcePosition, TextStream};
 
 /// The inputs whose position can be counted: slices and texts.
 ///
-/// In the crate it says which type counts; here, what the input is together with its position.
+/// In the crate it says which type counts; here, which stream the input is with its position.
 pub trait DefaultPositioned {
-    /// The input with its position.
+    /// The stream of such an input.
     type Placed: combine_base::stream::Stream;
 
     /// What is seen of the whole input.
@@ -99,163 +91,17 @@ pub trait Windowed: DefaultPositioned + Copy {
     ghost calm: { (s t : Self.Placed) → Self.Placed.failures s ≡ Self.Placed.failures t };
 }
 
-/// An input whose position is counted: `Stream<&[T]>` has an index from 0, `Stream<&str>` a `SourcePosition` from line 1 and column 1. Both are ended.
+/// Makes streams that count their position: `Stream::new(input)`.
 ///
-/// The position stays counted from where the input began, also after a reset. The second parameter follows from the first, and the aliases below name it; in the crate it is what counts.
-#[derive(Drop)]
-pub struct Stream<S, P> {
-    placed: P,
-    input: PhantomData<S>,
-}
+/// A slice has an index from 0, a text a [`SourcePosition`] from line 1 and column 1. Both are ended. The position stays counted from where the input began, also after a reset. In the crate this is the stream itself, with the input and what counts; here that is a [`SliceStream`] or a [`TextStream`].
+pub struct Stream;
 
-/// A text whose position is counted, by lines and columns.
-pub type TextStream<'a> = Stream<&'a str, types::PlacedText<'a>>;
-
-/// A slice whose position is counted, by an index.
-pub type SliceStream<'a, T> = Stream<&'a [T], types::Indexed<'a, T>>;
-
-impl<S: DefaultPositioned> Stream<S, S::Placed> {
+impl Stream {
     /// Makes the stream of the whole input, at the first position.
     #[inline]
-    pub fn new(input: S) -> Self
-        ensures { ⟦<Stream<S, S::Placed> as StreamOnce>⟧.view result ≡ S.whole input }
+    pub fn new<S: DefaultPositioned>(input: S) -> S::Placed
+        ensures { S.Placed.view result ≡ S.whole input }
     {
-        Stream {
-            placed: input.place(),
-            input: PhantomData,
-        }
-    }
-}
-
-impl<S: Windowed> Stream<S, S::Placed> {
-    /// Goes on at the same position, before what stands between two places of the input: a wider window, with nothing counted again. The first place is at most the second, and the stream has to stand behind the tokens before it. Our own.
-    #[inline]
-    pub fn widen(&mut self, whole: S, from: usize, to: usize)
-        requires from { S.places whole from }
-        requires to { S.places whole to }
-        requires order { from ≤ to }
-        requires position { (⟦<Stream<S, S::Placed> as StreamOnce>⟧.view self.old).position ≡ S.DefaultPositioned.behind whole (S.index whole from) }
-        ensures { ⟦<Stream<S, S::Placed> as StreamOnce>⟧.view self.new ≡ record { position = (⟦<Stream<S, S::Placed> as StreamOnce>⟧.view self.old).position; unread = drop (S.index whole from) (take (S.index whole to) (S.DefaultPositioned.whole whole).unread); is_open = false } }
-    {
-        let position = self.placed.position();
-        self.placed = whole.window(from, to, position);
-    }
-
-    /// Returns the place of the first unread token, where the stream is a window that ends at a place. Our own.
-    #[inline]
-    pub fn place_before(&self, whole: S, to: usize) -> usize
-        requires { S.places whole to }
-        ensures { (k : ℕ) → k ≤ S.index whole to → (⟦<Stream<S, S::Placed> as StreamOnce>⟧.view self.now).unread ≡ drop k (take (S.index whole to) (S.DefaultPositioned.whole whole).unread) → S.places whole result × (result ≤ to) × (S.index whole result ≡ k) }
-    {
-        whole.place_before(to, &self.placed)
-    }
-}
-
-impl<S, P: StreamOnce> StreamOnce for Stream<S, P> {
-    type Token = P::Token;
-
-    type Range = P::Range;
-
-    type Position = P::Position;
-
-    type Error = P::Error;
-
-    ghost Mark = { P.Mark };
-
-    ghost view = { λ s. P.view s.placed };
-
-    ghost step = { P.step };
-
-    ghost marks = { λ s. P.marks s.placed };
-
-    ghost failures = { λ s. P.failures s.placed };
-
-    ghost steady = { P.steady };
-
-    ghost moves = { λ s n h k. P.moves s.placed n h k };
-
-    #[inline(always)]
-    fn uncons(&mut self) -> Result<P::Token, Kind> {
-        self.placed.uncons()
-    }
-
-    #[inline(always)]
-    fn is_partial(&self) -> bool {
-        self.placed.is_partial()
-    }
-
-    #[inline(always)]
-    fn new_error(&self, why: Kind, position: P::Position) -> P::Error {
-        self.placed.new_error(why, position)
-    }
-}
-
-impl<S, P: ResetStream> ResetStream for Stream<S, P> {
-    type Checkpoint = P::Checkpoint;
-
-    ghost stands = { λ s c. P.stands s.placed c };
-
-    ghost lasts = { λ s t c v h k. P.lasts s.placed t.placed c v h k };
-
-    #[inline(always)]
-    fn checkpoint(&self) -> P::Checkpoint {
-        self.placed.checkpoint()
-    }
-
-    #[inline(always)]
-    fn reset(&mut self, checkpoint: P::Checkpoint) -> Result<(), Kind> {
-        self.placed.reset(checkpoint)
-    }
-
-    #[inline(always)]
-    fn has_moved(&self, since: P::Checkpoint) -> bool {
-        self.placed.has_moved(since)
-    }
-
-    #[inline(always)]
-    fn failures(&self) -> Failures {
-        self.placed.failures()
-    }
-}
-
-impl<S, P: Positioned> Positioned for Stream<S, P> {
-    #[inline(always)]
-    fn position(&self) -> P::Position {
-        self.placed.position()
-    }
-}
-
-impl<S, P: stream::Stream> stream::Stream for Stream<S, P> {}
-
-impl<S, P: RangeStream> RangeStream for Stream<S, P>
-where
-    P::Range: Range,
-{
-    ghost size = { P.size };
-
-    ghost spells = { P.spells };
-
-    ghost filled = { P.filled };
-
-    ghost measured = { P.measured };
-
-    #[inline(always)]
-    fn uncons_range(&mut self, n: usize) -> Result<P::Range, Kind> {
-        self.placed.uncons_range(n)
-    }
-
-    #[inline(always)]
-    fn uncons_while<F: Maps<P::Token, bool>>(&mut self, f: &F) -> Result<P::Range, Kind> {
-        self.placed.uncons_while(f)
-    }
-
-    #[inline(always)]
-    fn distance(&self, since: &P::Checkpoint) -> usize {
-        self.placed.distance(since)
-    }
-
-    #[inline(always)]
-    fn range(&self) -> P::Range {
-        self.placed.range()
+        input.place()
     }
 }

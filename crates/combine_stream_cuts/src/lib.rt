@@ -7,7 +7,7 @@ ghost use Rattle.combine_stream_cuts.specs.Cuts.{Fit, ParsesWindow, RunsCuts};
 
 use combine_base::error::{ParseError, ParseResult};
 use combine_base::parser::{Answer, Parser, PartialMode, judge};
-use combine_base::stream::{Kind, Positioned, Stream as AnyStream, StreamOnce};
+use combine_base::stream::{Kind, Positioned, StreamOnce};
 use combine_stream::MaybePartialStream;
 use combine_stream::position::{DefaultPositioned, Stream, Windowed};
 
@@ -30,8 +30,8 @@ pub fn cuts_fit<S: Windowed>(whole: S, cuts: &[usize]) -> bool
 
 // Where a run stands: its window, the place of the first unread token, and how many tokens stand before it.
 #[derive(Drop)]
-struct Run<S, P> {
-    stream: MaybePartialStream<Stream<S, P>>,
+struct Run<S> {
+    stream: MaybePartialStream<S>,
     place: usize,
     taken: usize,
 }
@@ -43,19 +43,19 @@ type Parsed<T, S> = Result<
 >;
 
 // One call of a parser on the window from the first unread token to a place. The run is given and handed back by value, so that the stream is a local while the parser reads.
-fn parse_window<S: Windowed, P: Parser<MaybePartialStream<Stream<S, S::Placed>>>>(
+fn parse_window<S: Windowed, P: Parser<MaybePartialStream<S::Placed>>>(
     parser: &mut P,
     state: &mut P::PartialState,
-    run: Run<S, S::Placed>,
+    run: Run<S::Placed>,
     whole: S,
     to: usize,
     is_open: bool,
-) -> (Run<S, S::Placed>, Parsed<P::Output, S>)
+) -> (Run<S::Placed>, Parsed<P::Output, S>)
     requires lawful { P.lawful parser.old }
     requires valid { P.valid state.old }
     requires place { S.places whole run.place }
     requires index { S.index whole run.place ≡ run.taken }
-    requires position { (⟦<MaybePartialStream<Stream<S, S::Placed>> as StreamOnce>⟧.view run.stream).position ≡ S.DefaultPositioned.behind whole run.taken }
+    requires position { (⟦<MaybePartialStream<S::Placed> as StreamOnce>⟧.view run.stream).position ≡ S.DefaultPositioned.behind whole run.taken }
     requires to { S.places whole to }
     requires order { run.place ≤ to }
     ensures lawful { P.lawful parser.new }
@@ -63,7 +63,7 @@ fn parse_window<S: Windowed, P: Parser<MaybePartialStream<Stream<S, S::Placed>>>
     ensures same { MeansSame (P.meaning parser.old) (P.meaning parser.new) }
     ensures place { S.places whole result.0.place }
     ensures index { S.index whole result.0.place ≡ result.0.taken }
-    ensures position { (⟦<MaybePartialStream<Stream<S, S::Placed>> as StreamOnce>⟧.view result.0.stream).position ≡ S.DefaultPositioned.behind whole result.0.taken }
+    ensures position { (⟦<MaybePartialStream<S::Placed> as StreamOnce>⟧.view result.0.stream).position ≡ S.DefaultPositioned.behind whole result.0.taken }
     ensures parses { ParsesWindow S.Placed.Error.seen.frugal S.Placed.steady S.Placed.step S.Placed.Error.seen.kind P.PartialState.is_default (S.DefaultPositioned.whole whole).position (P.meaning parser.old) state.old state.new (S.DefaultPositioned.whole whole).unread run.taken (S.index whole to) is_open result.0.taken result.1 }
 {
     let Run {
@@ -71,10 +71,11 @@ fn parse_window<S: Windowed, P: Parser<MaybePartialStream<Stream<S, S::Placed>>>
         place: from,
         taken: before,
     } = run;
-    stream.0.widen(whole, from, to);
+    let position = stream.position();
+    stream.0 = whole.window(from, to, position);
     stream.1 = is_open;
     let parsed = parser.parse_mode(PartialMode { first: false }, &mut stream, state);
-    let place = stream.0.place_before(whole, to);
+    let place = whole.place_before(to, &stream.0);
     let taken = whole.count_to(place, from, before);
     let answer = judge(&stream, parsed, taken as u64);
     (
@@ -90,7 +91,7 @@ fn parse_window<S: Windowed, P: Parser<MaybePartialStream<Stream<S, S::Placed>>>
 /// Parses a whole input window by window: each goes from the first unread token to the next cut and is open, and the last goes to the end, ended. The cuts have to fit, as `cuts_fit` says. It stops at the first decision; the number says how many windows asked for more. No window begins again: the state and the position go on.
 ///
 /// The answer is that of the whole input, and more is asked for exactly where what stands before the cut is undecided. The one fault is `Memory`.
-pub fn parse_cuts<S: Windowed, P: Parser<MaybePartialStream<Stream<S, S::Placed>>>>(
+pub fn parse_cuts<S: Windowed, P: Parser<MaybePartialStream<S::Placed>>>(
     parser: &mut P,
     whole: S,
     cuts: &[usize],

@@ -7,7 +7,7 @@
 
 use combine::error::UnexpectedParse;
 use combine::parser::Parser;
-use combine::stream::position::{SliceStream, Stream as Placed};
+use combine::stream::position;
 use combine::stream::{Kind, Positioned, RangeStream, Stream};
 use example_http::{Head, Runs, read_head};
 use example_program::Program;
@@ -52,7 +52,7 @@ impl<'s, Input: Stream> Runs<Input> for Next<'s, Input> {
 fn print_heads(rt: &HostRuntime) -> io::Result<ExitCode> {
     let mut input = Vec::new(rt.alloc());
     rt.reader().read_to_end(&mut input)?;
-    let mut stream: SliceStream<'_, u8> = Placed::new(&input);
+    let mut stream = position::Stream::new(input.as_slice());
     // Each head takes a byte at least.
     for _head in &input {
         if stream.range().is_empty() {

@@ -2,7 +2,7 @@
 
 use combine::error::UnexpectedParse;
 use combine::parser::{Answer, Parser, cuts_fit, parse_cuts};
-use combine::stream::position::{Stream as Placed, Windowed};
+use combine::stream::position::Windowed;
 use combine::stream::{MaybePartialStream, Stream, StreamOnce};
 use example_http::{Head, Header, Runs, read_head};
 use std::alloc::Global;
@@ -33,7 +33,7 @@ struct Windows<'c, S> {
     cuts: &'c [usize],
 }
 
-impl<'c, S: Windowed> Runs<MaybePartialStream<Placed<S, S::Placed>>> for Windows<'c, S> {
+impl<'c, S: Windowed> Runs<MaybePartialStream<S::Placed>> for Windows<'c, S> {
     type Answer = Option<
         (
             usize,
@@ -43,7 +43,7 @@ impl<'c, S: Windowed> Runs<MaybePartialStream<Placed<S, S::Placed>>> for Windows
 
     fn run<
         P: Parser<
-            MaybePartialStream<Placed<S, S::Placed>>,
+            MaybePartialStream<S::Placed>,
             Output = Head<<S::Placed as StreamOnce>::Range>,
         >
             + Drop,

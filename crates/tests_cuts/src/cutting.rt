@@ -2,9 +2,9 @@
 
 use crate::windows::{Found, over};
 use combine_base::parser::Parser;
-use combine_base::stream::{Stream as AnyStream, StreamOnce};
+use combine_base::stream::Stream;
 use combine_stream::MaybePartialStream;
-use combine_stream::position::{Stream, Windowed};
+use combine_stream::position::{SliceStream, TextStream};
 use std::alloc::{AllocError, Global};
 
 /// A text that stays as long as the program runs: `&'static str`. It is a type parameter to `check`, since the language refuses a call where a type argument names several lifetimes, as that of a parser with a needle does, and the signature names `'static`.
@@ -19,48 +19,8 @@ impl Lasting for &'static str {
     }
 }
 
-/// An input that a text writes.
-pub trait Written: Windowed {
-    /// The input.
-    fn written(text: &'static str) -> Self;
-
-    /// The characters of a range.
-    fn text_of(range: <Self::Placed as StreamOnce>::Range) -> &'static str;
-
-    /// The range that a text writes.
-    fn range_of(text: &'static str) -> <Self::Placed as StreamOnce>::Range;
-}
-
-impl Written for &'static str {
-    fn written(text: &'static str) -> &'static str {
-        text
-    }
-
-    fn text_of(range: &'static str) -> &'static str {
-        range
-    }
-
-    fn range_of(text: &'static str) -> &'static str {
-        text
-    }
-}
-
-impl Written for &'static [u8] {
-    fn written(text: &'static str) -> &'static [u8] {
-        text.as_bytes()
-    }
-
-    fn text_of(range: &'static [u8]) -> &'static str {
-        str::from_utf8(range).unwrap_or("no text")
-    }
-
-    fn range_of(text: &'static str) -> &'static [u8] {
-        text.as_bytes()
-    }
-}
-
 /// A stream of the windows of an input that a text writes.
-pub trait Cut: AnyStream {
+pub trait Cut: Stream {
     /// The characters of a range.
     fn text_of(range: Self::Range) -> &'static str;
 
@@ -77,13 +37,21 @@ pub trait Cut: AnyStream {
         ensures { P.lawful parser.new };
 }
 
-impl<S: Written> Cut for MaybePartialStream<Stream<S, S::Placed>> {
-    fn text_of(range: <S::Placed as StreamOnce>::Range) -> &'static str {
-        S::text_of(range)
+// What a run over windows found, without how many asked for more.
+fn found_of<T>(run: Option<(usize, Found<T>)>) -> Option<Found<T>> {
+    match run {
+        Some((_asked, found)) => Some(found),
+        None => None,
+    }
+}
+
+impl Cut for MaybePartialStream<TextStream<'static>> {
+    fn text_of(range: &'static str) -> &'static str {
+        range
     }
 
-    fn range_of(text: &'static str) -> <S::Placed as StreamOnce>::Range {
-        S::range_of(text)
+    fn range_of(text: &'static str) -> &'static str {
+        text
     }
 
     fn found<P: Parser<Self>>(
@@ -91,10 +59,25 @@ impl<S: Written> Cut for MaybePartialStream<Stream<S, S::Placed>> {
         text: &'static str,
         cuts: &[usize],
     ) -> Option<Found<P::Output>> {
-        match over(parser, S::written(text), cuts) {
-            Some((_asked, found)) => Some(found),
-            None => None,
-        }
+        found_of(over(parser, text, cuts))
+    }
+}
+
+impl Cut for MaybePartialStream<SliceStream<'static, u8>> {
+    fn text_of(range: &'static [u8]) -> &'static str {
+        str::from_utf8(range).unwrap_or("no text")
+    }
+
+    fn range_of(text: &'static str) -> &'static [u8] {
+        text.as_bytes()
+    }
+
+    fn found<P: Parser<Self>>(
+        parser: &mut P,
+        text: &'static str,
+        cuts: &[usize],
+    ) -> Option<Found<P::Output>> {
+        found_of(over(parser, text.as_bytes(), cuts))
     }
 }
 

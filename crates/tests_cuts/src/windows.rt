@@ -7,7 +7,7 @@ use combine_range::range::take_while1;
 use combine_range_length_prefix::range::length_prefix;
 use combine_repeat::repeat::many;
 use combine_stream::MaybePartialStream;
-use combine_stream::position::{Stream, Windowed};
+use combine_stream::position::Windowed;
 use combine_stream::range::{Range, RangeStream};
 use combine_stream_cuts::{cuts_fit, parse_cuts};
 use combine_token::token::token;
@@ -24,7 +24,7 @@ pub enum Found<V> {
 }
 
 /// How many windows asked for more, and the answer; `None` where the cuts don't fit, and of a fault.
-pub fn over<S: Windowed, P: Parser<MaybePartialStream<Stream<S, S::Placed>>>>(
+pub fn over<S: Windowed, P: Parser<MaybePartialStream<S::Placed>>>(
     parser: &mut P,
     whole: S,
     cuts: &[usize],
@@ -75,7 +75,7 @@ where
     <S::Placed as StreamOnce>::Position: Count,
     requires { F.IsAlwaysCallable is_digit }
 {
-    let mut parser = Noting::new(take_while1::<MaybePartialStream<Stream<S, S::Placed>>, _>(
+    let mut parser = Noting::new(take_while1::<MaybePartialStream<S::Placed>, _>(
         is_digit,
     ));
     let found = over(&mut parser, whole, cuts);
@@ -96,7 +96,7 @@ where
     <S::Placed as StreamOnce>::Token: PartialEq,
     <S::Placed as StreamOnce>::Position: Count,
 {
-    let part = token::<MaybePartialStream<Stream<S, S::Placed>>, _>(wanted);
+    let part = token::<MaybePartialStream<S::Placed>, _>(wanted);
     let mut parser = Noting::new(many::<Vec<<S::Placed as StreamOnce>::Token>, _>(alloc, part));
     let found = over(&mut parser, whole, cuts);
     (found, parser.into_notes())

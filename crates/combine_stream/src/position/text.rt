@@ -78,9 +78,9 @@ impl SourcePosition {
     }
 }
 
-/// What is left of a text, and where it stands.
+/// A text whose position is counted, by lines and columns. It is ended.
 #[derive(Clone, Copy)]
-pub struct PlacedText<'a> {
+pub struct TextStream<'a> {
     rest: &'a str,
     place: SourcePosition,
     ghost lines: { place.line + length rest.now < 2 ^ 64 },
@@ -91,7 +91,7 @@ impl<'a> DefaultPositioned for &'a str {
     ghost use Rattle.combine_stream.specs.Counted.{place_counts};
     ghost use Rattle.combine_stream.specs.Lines.{behind};
 
-    type Placed = PlacedText<'a>;
+    type Placed = TextStream<'a>;
 
     ghost whole = { λ s. record { position = first_place; unread = chars s.now; is_open = false } };
 
@@ -100,9 +100,9 @@ impl<'a> DefaultPositioned for &'a str {
     ghost counts = { λ s n h. place_counts n (chars s.now) };
 
     #[inline]
-    fn place(self) -> PlacedText<'a> {
+    fn place(self) -> TextStream<'a> {
         let _size = self.len();
-        PlacedText {
+        TextStream {
             rest: self,
             place: SourcePosition::default(),
         }
@@ -139,12 +139,12 @@ impl<'a> Windowed for &'a str {
     }
 
     #[inline]
-    fn window(self, from: usize, to: usize, position: SourcePosition) -> PlacedText<'a> {
+    fn window(self, from: usize, to: usize, position: SourcePosition) -> TextStream<'a> {
         part_of(self, from, to, position)
     }
 
     #[inline]
-    fn place_before(self, to: usize, window: &PlacedText<'a>) -> usize {
+    fn place_before(self, to: usize, window: &TextStream<'a>) -> usize {
         place_within(self, to, window.rest)
     }
 
@@ -154,7 +154,7 @@ impl<'a> Windowed for &'a str {
     }
 }
 
-impl<'a> StreamOnce for PlacedText<'a> {
+impl<'a> StreamOnce for TextStream<'a> {
     ghost use Rattle.combine_stream.specs.PlacedViews.{placed_view, placed_moves};
 
     type Token = char;
@@ -201,28 +201,28 @@ impl<'a> StreamOnce for PlacedText<'a> {
     }
 }
 
-impl<'a> ResetStream for PlacedText<'a> {
+impl<'a> ResetStream for TextStream<'a> {
     ghost use Rattle.combine_stream.specs.PlacedViews.{placed_view};
 
-    type Checkpoint = PlacedText<'a>;
+    type Checkpoint = TextStream<'a>;
 
     ghost stands = { λ _ c v. v ≡ placed_view c };
 
     ghost lasts = { λ s t c v h k. k };
 
     #[inline(always)]
-    fn checkpoint(&self) -> PlacedText<'a> {
+    fn checkpoint(&self) -> TextStream<'a> {
         here(self.rest, self.place)
     }
 
     #[inline(always)]
-    fn reset(&mut self, checkpoint: PlacedText<'a>) -> Result<(), Kind> {
+    fn reset(&mut self, checkpoint: TextStream<'a>) -> Result<(), Kind> {
         *self = checkpoint;
         Ok(())
     }
 
     #[inline(always)]
-    fn has_moved(&self, since: PlacedText<'a>) -> bool {
+    fn has_moved(&self, since: TextStream<'a>) -> bool {
         is_apart(since.rest, self.rest)
     }
 
@@ -235,16 +235,16 @@ impl<'a> ResetStream for PlacedText<'a> {
     }
 }
 
-impl<'a> Positioned for PlacedText<'a> {
+impl<'a> Positioned for TextStream<'a> {
     #[inline(always)]
     fn position(&self) -> SourcePosition {
         self.place
     }
 }
 
-impl<'a> Stream for PlacedText<'a> {}
+impl<'a> Stream for TextStream<'a> {}
 
-impl<'a> RangeStream for PlacedText<'a> {
+impl<'a> RangeStream for TextStream<'a> {
     ghost use Rattle.combine_stream.specs.TextRanges.{text_of, char_filled, text_measured};
 
     ghost size = { len_utf8 };
@@ -273,7 +273,7 @@ impl<'a> RangeStream for PlacedText<'a> {
     }
 
     #[inline(always)]
-    fn distance(&self, since: &PlacedText<'a>) -> usize {
+    fn distance(&self, since: &TextStream<'a>) -> usize {
         bytes_between(since.rest, self.rest)
     }
 
@@ -287,14 +287,14 @@ impl<'a> RangeStream for PlacedText<'a> {
 
 // The first character, and what is left behind it.
 #[inline(always)]
-fn step_on<'a>(rest: &'a str, place: SourcePosition) -> Option<(char, PlacedText<'a>)>
+fn step_on<'a>(rest: &'a str, place: SourcePosition) -> Option<(char, TextStream<'a>)>
     requires { Fits place (length rest.now) }
     ensures { MatchOption result (chars rest.now ≡ []) (λ p. StepsOn rest.now place p.0 p.1.rest.now p.1.place) }
 {
     match split_first(rest) {
         Some((first, left)) => Some((
             first,
-            PlacedText {
+            TextStream {
                 rest: left,
                 place: place.after(first),
             },
@@ -305,13 +305,13 @@ fn step_on<'a>(rest: &'a str, place: SourcePosition) -> Option<(char, PlacedText
 
 // The same place, whose characters are fewer than 2^64.
 #[inline(always)]
-fn here<'a>(rest: &'a str, place: SourcePosition) -> PlacedText<'a>
+fn here<'a>(rest: &'a str, place: SourcePosition) -> TextStream<'a>
     requires { Fits place (length rest.now) }
     ensures rest { result.rest.now ≡ rest.now }
     ensures place { result.place ≡ place }
     ensures short { length (chars rest.now) < 2 ^ 64 }
 {
-    PlacedText { rest, place }
+    TextStream { rest, place }
 }
 
 // The place after a text.
@@ -335,12 +335,12 @@ fn place_after(place: SourcePosition, text: &str) -> SourcePosition
 
 // A place in a text.
 #[inline(always)]
-fn put<'a>(rest: &'a str, place: SourcePosition) -> PlacedText<'a>
+fn put<'a>(rest: &'a str, place: SourcePosition) -> TextStream<'a>
     requires { Fits place (length rest.now) }
     ensures rest { result.rest.now ≡ rest.now }
     ensures place { result.place ≡ place }
 {
-    PlacedText { rest, place }
+    TextStream { rest, place }
 }
 
 // The first n bytes, and what is left behind them.
@@ -349,7 +349,7 @@ fn take_range<'a>(
     rest: &'a str,
     place: SourcePosition,
     n: usize,
-) -> Result<(&'a str, PlacedText<'a>), Kind>
+) -> Result<(&'a str, TextStream<'a>), Kind>
     requires { Fits place (length rest.now) }
     ensures { MatchResult result (λ p. (k : ℕ) × Cut rest.now n k p.0.now p.1.rest.now × (p.1.place ≡ after_all next_place place (take k (chars rest.now)))) (λ why. uncut rest.now n why) }
 {
@@ -402,7 +402,7 @@ fn text_end(text: &str) -> usize
 
 // What stands between two places of a text, at the position of the first.
 #[inline]
-fn part_of<'a>(text: &'a str, from: usize, to: usize, place: SourcePosition) -> PlacedText<'a>
+fn part_of<'a>(text: &'a str, from: usize, to: usize, place: SourcePosition) -> TextStream<'a>
     requires from { IsCharBoundary text.now from }
     requires to { IsCharBoundary text.now to }
     requires order { from ≤ to }
@@ -413,7 +413,7 @@ fn part_of<'a>(text: &'a str, from: usize, to: usize, place: SourcePosition) -> 
     let _size = text.len();
     let (front, _after) = text.split_at(to);
     let (_before, rest) = front.split_at(from);
-    PlacedText { rest, place }
+    TextStream { rest, place }
 }
 
 // The place of what is unread of a part that ends at a place.

@@ -9,27 +9,27 @@ use combine_base::maps::Maps;
 use combine_base::stream::{Failures, Kind, Positioned, ResetStream, Stream, StreamOnce};
 use std::alloc::AllocError;
 
-/// The tokens of a slice, and how many of them are taken.
-pub struct Indexed<'a, T> {
+/// A slice whose position is counted, by an index from 0. It is ended.
+pub struct SliceStream<'a, T> {
     tokens: &'a [T],
     at: usize,
     ghost within: { at ≤ length tokens.now },
 }
 
-impl<'a, T> Clone for Indexed<'a, T> {
+impl<'a, T> Clone for SliceStream<'a, T> {
     ghost is_clone = { λ x y. y ≡ x };
 
     ghost is_infallible = { λ _. Unit {0} };
 
     #[inline]
-    fn clone(&self) -> Result<Indexed<'a, T>, AllocError> {
+    fn clone(&self) -> Result<SliceStream<'a, T>, AllocError> {
         Ok(*self)
     }
 }
 
-impl<'a, T> Copy for Indexed<'a, T> {}
+impl<'a, T> Copy for SliceStream<'a, T> {}
 
-impl<'a, T: Copy> Indexed<'a, T> {
+impl<'a, T: Copy> SliceStream<'a, T> {
     ghost use Rattle.combine_stream.specs.Indices.{indexed_view};
 
     // The unread tokens.
@@ -44,7 +44,7 @@ impl<'a, T: Copy> Indexed<'a, T> {
 impl<'a, T: Copy> DefaultPositioned for &'a [T] {
     ghost use Rattle.combine_stream.specs.Counted.{index_counts};
 
-    type Placed = Indexed<'a, T>;
+    type Placed = SliceStream<'a, T>;
 
     ghost whole = { λ s. record { position = 0; unread = s.now; is_open = false } };
 
@@ -53,8 +53,8 @@ impl<'a, T: Copy> DefaultPositioned for &'a [T] {
     ghost counts = { λ s n h. index_counts n s.now h };
 
     #[inline]
-    fn place(self) -> Indexed<'a, T> {
-        Indexed {
+    fn place(self) -> SliceStream<'a, T> {
+        SliceStream {
             tokens: self,
             at: 0,
         }
@@ -91,15 +91,15 @@ impl<'a, T: Copy> Windowed for &'a [T] {
     }
 
     #[inline]
-    fn window(self, from: usize, to: usize, position: usize) -> Indexed<'a, T> {
-        Indexed {
+    fn window(self, from: usize, to: usize, position: usize) -> SliceStream<'a, T> {
+        SliceStream {
             tokens: &self[..to],
             at: from,
         }
     }
 
     #[inline]
-    fn place_before(self, to: usize, window: &Indexed<'a, T>) -> usize {
+    fn place_before(self, to: usize, window: &SliceStream<'a, T>) -> usize {
         to.saturating_sub(window.unread().len())
     }
 
@@ -109,7 +109,7 @@ impl<'a, T: Copy> Windowed for &'a [T] {
     }
 }
 
-impl<'a, T: Copy> StreamOnce for Indexed<'a, T> {
+impl<'a, T: Copy> StreamOnce for SliceStream<'a, T> {
     ghost use Rattle.combine_base.specs.Stream.Fed.{one_more, count_moves};
     ghost use Rattle.combine_stream.specs.Indices.{indexed_view};
 
@@ -157,22 +157,22 @@ impl<'a, T: Copy> StreamOnce for Indexed<'a, T> {
     }
 }
 
-impl<'a, T: Copy> ResetStream for Indexed<'a, T> {
+impl<'a, T: Copy> ResetStream for SliceStream<'a, T> {
     ghost use Rattle.combine_stream.specs.Indices.{indexed_view};
 
-    type Checkpoint = Indexed<'a, T>;
+    type Checkpoint = SliceStream<'a, T>;
 
     ghost stands = { λ _ c v. v ≡ indexed_view c };
 
     ghost lasts = { λ s t c v h k. k };
 
     #[inline(always)]
-    fn checkpoint(&self) -> Indexed<'a, T> {
+    fn checkpoint(&self) -> SliceStream<'a, T> {
         *self
     }
 
     #[inline(always)]
-    fn reset(&mut self, checkpoint: Indexed<'a, T>) -> Result<(), Kind> {
+    fn reset(&mut self, checkpoint: SliceStream<'a, T>) -> Result<(), Kind> {
         // It's the checkpoint, and the compiler sees that it is in bounds.
         self.at = checkpoint.at.min(checkpoint.tokens.len());
         self.tokens = checkpoint.tokens;
@@ -180,7 +180,7 @@ impl<'a, T: Copy> ResetStream for Indexed<'a, T> {
     }
 
     #[inline(always)]
-    fn has_moved(&self, since: Indexed<'a, T>) -> bool {
+    fn has_moved(&self, since: SliceStream<'a, T>) -> bool {
         since.at != self.at
     }
 
@@ -193,16 +193,16 @@ impl<'a, T: Copy> ResetStream for Indexed<'a, T> {
     }
 }
 
-impl<'a, T: Copy> Positioned for Indexed<'a, T> {
+impl<'a, T: Copy> Positioned for SliceStream<'a, T> {
     #[inline(always)]
     fn position(&self) -> usize {
         self.at
     }
 }
 
-impl<'a, T: Copy> Stream for Indexed<'a, T> {}
+impl<'a, T: Copy> Stream for SliceStream<'a, T> {}
 
-impl<'a, T: Copy> RangeStream for Indexed<'a, T> {
+impl<'a, T: Copy> RangeStream for SliceStream<'a, T> {
     ghost use Rattle.std.specs.Prelude.{◌≡◌, ℕ, ◌<◌};
     ghost use Rattle.std.proofs.Common.{arith};
     ghost use Rattle.combine_stream.specs.Measures.{slice_measured};
@@ -234,7 +234,7 @@ impl<'a, T: Copy> RangeStream for Indexed<'a, T> {
     }
 
     #[inline(always)]
-    fn distance(&self, since: &Indexed<'a, T>) -> usize {
+    fn distance(&self, since: &SliceStream<'a, T>) -> usize {
         self.at.saturating_sub(since.at)
     }
 

@@ -1,6 +1,6 @@
 use Rattle.combine_stream.specs.TextRanges.{char_filled}
 use Rattle.combine_stream.proofs.Passing.{while_by_range}
-use Rattle.combine_stream.proofs.position.text.PlacedTextRangeStream.uncons_while.Goals as goal
+use Rattle.combine_stream.proofs.position.text.TextStreamRangeStream.uncons_while.Goals as goal
 
 pub returns-clause-read : goal.returns-clause-read
 returns-clause-read g c = while_by_range _ _ _ char_filled _ _ _ _ _ _ _ _ c.bytes_while-n.ensures c.uncons_range.ensures.read

@@ -1,5 +1,5 @@
 use Rattle.combine_stream.proofs.Indexing.{index_moved}
-use Rattle.combine_stream.proofs.position.indexed.IndexedResetStream.has_moved.Goals as goal
+use Rattle.combine_stream.proofs.position.slice.SliceStreamResetStream.has_moved.Goals as goal
 
 pub returns : goal.returns
 returns g c n v e t = index_moved c.args.since c.args.self.now v n e t

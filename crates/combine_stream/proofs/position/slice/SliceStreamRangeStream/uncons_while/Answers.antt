@@ -4,7 +4,7 @@ use Rattle.combine_stream.proofs.Blocks.{few}
 use Rattle.combine_stream.proofs.Indexing.{index_takes, index_within, longest_same}
 use Rattle.combine_stream.proofs.Passing.{while_by_range}
 use Rattle.combine_stream.proofs.Slicing.{slice_place}
-use Rattle.combine_stream.proofs.position.indexed.IndexedRangeStream.uncons_while.Goals as goal
+use Rattle.combine_stream.proofs.position.slice.SliceStreamRangeStream.uncons_while.Goals as goal
 
 pub overflow_add-self : goal.overflow_add-self
 overflow_add-self g c =
