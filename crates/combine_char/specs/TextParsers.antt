@@ -1,4 +1,6 @@
 -- the parsers of this crate, of their parts
+use Rattle.std.specs.Prelude.{ℕ, List}
+use Rattle.std.proofs.Common.{Bor}
 use Rattle.combine_char.specs.declared.class.types.InClass.{InClass}
 use Rattle.combine_char.specs.declared.byte_list.InBytes.{InBytes}
 use Rattle.combine_char.specs.declared.text.InText.{InText}
@@ -26,23 +28,23 @@ abbrev pub pair_of : {P : Type 0} → WholePair P → P
 pair_of p = p.0
 
 -- the characters of a text, and how they are compared
-abbrev pub in_text_parser : {Input F S : Type 0} → S → F → InText Input F S
+abbrev pub in_text_parser : {Input F : Type 0} → Bor (List ℕ) → F → InText Input F
 in_text_parser text fits = record { text = text; fits = fits; reads = record {} }
 
-abbrev pub fits_of_text : {Input F S : Type 0} → InText Input F S → F
+abbrev pub fits_of_text : {Input F : Type 0} → InText Input F → F
 fits_of_text p = p.fits
 
-abbrev pub text_of : {Input F S : Type 0} → InText Input F S → S
+abbrev pub text_of : {Input F : Type 0} → InText Input F → Bor (List ℕ)
 text_of p = p.text
 
 -- the bytes of a list, and how they are compared
-abbrev pub in_bytes_parser : {Input F S : Type 0} → S → F → InBytes Input F S
+abbrev pub in_bytes_parser : {Input F : Type 0} → Bor (List ℕ) → F → InBytes Input F
 in_bytes_parser bytes fits = record { bytes = bytes; fits = fits; reads = record {} }
 
-abbrev pub fits_of_bytes : {Input F S : Type 0} → InBytes Input F S → F
+abbrev pub fits_of_bytes : {Input F : Type 0} → InBytes Input F → F
 fits_of_bytes p = p.fits
 
-abbrev pub bytes_of : {Input F S : Type 0} → InBytes Input F S → S
+abbrev pub bytes_of : {Input F : Type 0} → InBytes Input F → Bor (List ℕ)
 bytes_of p = p.bytes
 
 -- comparisons: a token equals the item, or a function says that it fits

@@ -132,7 +132,7 @@ pub fn spaces<Input>() -> Spaces<Input>
 ///
 /// A token that doesn't fit, or the end of ended input, refuses: peeked where no token was matched before it, else committed. A committed mismatch says only which token stands there; the list, as a range, is said to be expected where nothing was matched. The end of an open piece asks for more, with nothing left unread: the state keeps how many bytes were matched. An empty list is accepted peeked.
 #[inline]
-pub fn bytes<'s, Input>(s: &'s [u8]) -> Bytes<Input, &'s [u8]>
+pub fn bytes<Input>(s: &'static [u8]) -> Bytes<Input>
     ensures { result ≡ in_bytes_parser s.entry equal }
 {
     in_bytes(s, Equal)
@@ -140,7 +140,7 @@ pub fn bytes<'s, Input>(s: &'s [u8]) -> Bytes<Input, &'s [u8]>
 
 /// Parses as many bytes as the list has, as `bytes` does; a byte of the list and the token at its place are given to `cmp`, which says whether the token fits. The crate takes an `FnMut`.
 #[inline]
-pub fn bytes_cmp<'s, C, Input>(s: &'s [u8], cmp: C) -> BytesCmp<Input, C, &'s [u8]>
+pub fn bytes_cmp<C, Input>(s: &'static [u8], cmp: C) -> BytesCmp<Input, C>
     ensures { result ≡ in_bytes_parser s.entry (by cmp) }
 {
     in_bytes(s, By(cmp))

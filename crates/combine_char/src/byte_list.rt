@@ -50,52 +50,20 @@ impl ShowsBytes for () {
     fn of_bytes(bytes: &'static [u8]) -> Self {}
 }
 
-/// A list of bytes that stays as long as the program runs: `&'static [u8]`.
-///
-/// It is a type of its own to a parser, as a text is by `LastingText`.
-pub trait LastingBytes: Clone + Copy + Drop {
-    ghost use Rattle.std.specs.Prelude.{◌≡◌, ℕ, List};
-
-    /// The bytes.
-    ghost list: { Self → List ℕ };
-
-    /// The bytes.
-    fn bytes(self) -> &'static [u8]
-        ensures { result.now ≡ list self };
-
-    /// A clone is the list itself, and takes no memory.
-    ghost clones: { (s r : Self) → (Self.Clone.is_clone s r → r ≡ s) × (r ≡ s → Self.Clone.is_clone s r) };
-
-    ghost infallible: { (s : Self) → Self.Clone.is_infallible s };
-}
-
-impl LastingBytes for &'static [u8] {
-    ghost list = { λ s. s.now };
-
-    ghost clones = { λ s r. (λ e. e, λ e. e) };
-
-    ghost infallible = { λ s. tt };
-
-    #[inline(always)]
-    fn bytes(self) -> &'static [u8] {
-        self
-    }
-}
-
 /// The parser of the bytes of a list, one after another; its value is the list.
 ///
 /// The error of a committed mismatch says which token stands there, at the position where the call began. On need of more nothing is left unread: the state keeps how many bytes were matched.
 #[derive(Drop)]
-pub struct InBytes<Input, F, S = &'static [u8]> {
-    bytes: S,
+pub struct InBytes<Input, F> {
+    bytes: &'static [u8],
     fits: F,
     reads: PhantomData<Input>,
 }
 
 /// The bytes of a list, each compared with the token at its place.
 #[inline]
-pub fn in_bytes<Input, F, S>(bytes: S, fits: F) -> InBytes<Input, F, S>
-    ensures { result ≡ in_bytes_parser bytes fits }
+pub fn in_bytes<Input, F>(bytes: &'static [u8], fits: F) -> InBytes<Input, F>
+    ensures { result ≡ in_bytes_parser bytes.entry fits }
 {
     InBytes {
         bytes,
@@ -104,12 +72,11 @@ pub fn in_bytes<Input, F, S>(bytes: S, fits: F) -> InBytes<Input, F, S>
     }
 }
 
-impl<Input, F, S: Drop> Outputs<Input> for InBytes<Input, F, S> {
-    type Output = S;
+impl<Input, F> Outputs<Input> for InBytes<Input, F> {
+    type Output = &'static [u8];
 }
 
-impl<Input: Stream, F: Fits<u8, Input::Token>, S: LastingBytes> Parser<Input>
-    for InBytes<Input, F, S>
+impl<Input: Stream, F: Fits<u8, Input::Token>> Parser<Input> for InBytes<Input, F>
 where
     Input::Range: ShowsBytes,
 {
@@ -121,9 +88,9 @@ where
 
     ghost valid = { λ s. Unit {0} };
 
-    ghost meaning = { λ p. token_list (listed (F.compares (fits_of_bytes p)) (S.list (bytes_of p))) (λ v. v ≡ bytes_of p) matched_before (Unit {0}) (SaysRange (Input.Range.shows (S.list (bytes_of p)))) };
+    ghost meaning = { λ p. token_list (listed (F.compares (fits_of_bytes p)) (bytes_of p).now) (λ v. v ≡ bytes_of p) matched_before (Unit {0}) (SaysRange (Input.Range.shows (bytes_of p).now)) };
 
-    ghost refuses = { λ p k. RefusesList Input.Error.seen (listed (F.compares (fits_of_bytes p)) (S.list (bytes_of p))) None (begins_at matched_before k) };
+    ghost refuses = { λ p k. RefusesList Input.Error.seen (listed (F.compares (fits_of_bytes p)) (bytes_of p).now) None (begins_at matched_before k) };
 
     ghost parts = { λ p. 1 };
 
@@ -133,14 +100,14 @@ where
         mode: M,
         input: &mut Input,
         state: &mut TokensState,
-    ) -> ParseResult<S, Input::Error> {
+    ) -> ParseResult<&'static [u8], Input::Error> {
         match_bytes(self.bytes, &self.fits, mode, input, state)
     }
 
     /// Adds the list as a range, as what was expected.
     #[inline]
     fn add_error(&mut self, error: &mut Tracked<Input::Error>) {
-        let range = Input::Range::of_bytes(self.bytes.bytes());
+        let range = Input::Range::of_bytes(self.bytes);
         error.error.add_expected(&Info::Range(range));
     }
 
@@ -158,23 +125,23 @@ where
 
 /// One call of a parser of the bytes of a list.
 #[inline(always)]
-fn match_bytes<F, S: LastingBytes, Input: Stream, M: ParseMode>(
-    bytes: S,
+fn match_bytes<F, Input: Stream, M: ParseMode>(
+    bytes: &'static [u8],
     fits: &F,
     mode: M,
     input: &mut Input,
     state: &mut TokensState,
-) -> ParseResult<S, Input::Error>
+) -> ParseResult<&'static [u8], Input::Error>
 where
     F: Fits<u8, Input::Token>,
     requires { F.ready fits.now }
     ensures passes { Passes (Input.marks input.old) (Input.marks input.new) (Input.failures input.old) (Input.failures input.new) }
     ensures answers { Answers (world Input.step Input.Error.seen Input.steady (λ s. matched_before s ≡ 0))
-        (token_list (listed (F.compares fits.now) (S.list bytes)) (λ v. v ≡ bytes) matched_before (Unit {0}) (Nothing {R = Input.Range}))
+        (token_list (listed (F.compares fits.now) bytes.now) (λ v. v ≡ bytes.entry) matched_before (Unit {0}) (Nothing {R = Input.Range}))
         (record { first = M.first mode; state = state.old; left = state.new; old = Input.view input.old; new = Input.view input.new; before = Input.failures input.old; after = Input.failures input.new })
         result }
     ensures refuses { Reasoned Input.Error.seen.kind (Input.view input.new).is_open
-        (RefusesList Input.Error.seen (listed (F.compares fits.now) (S.list bytes)) None (begins_at matched_before (kept_from (M.first mode) state.old)) (Input.view input.old))
+        (RefusesList Input.Error.seen (listed (F.compares fits.now) bytes.now) None (begins_at matched_before (kept_from (M.first mode) state.old)) (Input.view input.old))
         result }
 {
     let items = listed_items(bytes);
@@ -194,9 +161,9 @@ where
 
 /// An iterator of the bytes of a list, which are fewer than 2^64.
 #[inline(always)]
-fn listed_items<S: LastingBytes>(bytes: S) -> Iter<'static, u8>
-    ensures rest { iter_rest result ≡ S.list bytes }
-    ensures few { length (S.list bytes) < 2 ^ 64 }
+fn listed_items(bytes: &'static [u8]) -> Iter<'static, u8>
+    ensures rest { iter_rest result ≡ bytes.now }
+    ensures few { length bytes.now < 2 ^ 64 }
 {
-    bytes.bytes().iter()
+    bytes.iter()
 }

@@ -132,7 +132,7 @@ pub fn spaces<Input>() -> Spaces<Input>
 ///
 /// A token that doesn't fit, or the end of ended input, refuses: peeked where no token was matched before it, else committed. A committed mismatch says only which token stands there; the text is said to be expected where nothing was matched. The end of an open piece asks for more, with nothing left unread: the state keeps how many characters were matched. An empty text is accepted peeked.
 #[inline]
-pub fn string<'s, Input>(s: &'s str) -> Str<Input, &'s str>
+pub fn string<Input>(s: &'static str) -> Str<Input>
     ensures { result ≡ in_text_parser s.entry equal }
 {
     in_text(s, Equal)
@@ -140,7 +140,7 @@ pub fn string<'s, Input>(s: &'s str) -> Str<Input, &'s str>
 
 /// Parses as many characters as the text has, as `string` does; a character of the text and the token at its place are given to `cmp`, which says whether the token fits. The crate takes an `FnMut`.
 #[inline]
-pub fn string_cmp<'s, C, Input>(s: &'s str, cmp: C) -> StrCmp<Input, C, &'s str>
+pub fn string_cmp<C, Input>(s: &'static str, cmp: C) -> StrCmp<Input, C>
     ensures { result ≡ in_text_parser s.entry (by cmp) }
 {
     in_text(s, By(cmp))

@@ -23,54 +23,20 @@ use combine_token::token::{TokensState, match_list};
 use std::marker::PhantomData;
 use std::str::Chars;
 
-/// A text that stays as long as the program runs: `&'static str`.
-///
-/// It is a type of its own to a parser, and not `&'static str` by name: the borrow checker covers no call whose signature names `'static` where a type argument, as a stream that counts positions, names several lifetimes.
-pub trait LastingText: Clone + Copy + Drop {
-    ghost use Rattle.std.specs.Prelude.{◌≡◌, ℕ, List};
-    ghost use Rattle.std.specs.Str.{IsUtf8};
-
-    /// Its bytes.
-    ghost bytes: { Self → List ℕ };
-
-    /// The text.
-    fn text(self) -> &'static str
-        ensures bytes { result.now ≡ bytes self }
-        ensures valid { IsUtf8 (bytes self) };
-
-    /// A clone is the text itself, and takes no memory.
-    ghost clones: { (s r : Self) → (Self.Clone.is_clone s r → r ≡ s) × (r ≡ s → Self.Clone.is_clone s r) };
-
-    ghost infallible: { (s : Self) → Self.Clone.is_infallible s };
-}
-
-impl LastingText for &'static str {
-    ghost bytes = { λ s. s.now };
-
-    ghost clones = { λ s r. (λ e. e, λ e. e) };
-
-    ghost infallible = { λ s. tt };
-
-    #[inline(always)]
-    fn text(self) -> &'static str {
-        self
-    }
-}
-
 /// The parser of the characters of a text, one after another; its value is the text.
 ///
 /// The error of a committed mismatch says which token stands there, at the position where the call began. On need of more nothing is left unread: the state keeps how many characters were matched.
 #[derive(Drop)]
-pub struct InText<Input, F, S = &'static str> {
-    text: S,
+pub struct InText<Input, F> {
+    text: &'static str,
     fits: F,
     reads: PhantomData<Input>,
 }
 
 /// The characters of a text, each compared with the token at its place.
 #[inline]
-pub fn in_text<Input, F, S>(text: S, fits: F) -> InText<Input, F, S>
-    ensures { result ≡ in_text_parser text fits }
+pub fn in_text<Input, F>(text: &'static str, fits: F) -> InText<Input, F>
+    ensures { result ≡ in_text_parser text.entry fits }
 {
     InText {
         text,
@@ -79,12 +45,11 @@ pub fn in_text<Input, F, S>(text: S, fits: F) -> InText<Input, F, S>
     }
 }
 
-impl<Input, F, S: Drop> Outputs<Input> for InText<Input, F, S> {
-    type Output = S;
+impl<Input, F> Outputs<Input> for InText<Input, F> {
+    type Output = &'static str;
 }
 
-impl<Input: Stream, F: Fits<char, Input::Token>, S: LastingText> Parser<Input>
-    for InText<Input, F, S> {
+impl<Input: Stream, F: Fits<char, Input::Token>> Parser<Input> for InText<Input, F> {
     type PartialState = TokensState;
 
     ghost lawful = { λ p. F.ready (fits_of_text p) };
@@ -93,9 +58,9 @@ impl<Input: Stream, F: Fits<char, Input::Token>, S: LastingText> Parser<Input>
 
     ghost valid = { λ s. Unit {0} };
 
-    ghost meaning = { λ p. token_list (listed (F.compares (fits_of_text p)) (chars (S.bytes (text_of p)))) (λ v. v ≡ text_of p) matched_before (Unit {0}) (Only (Expected (Fixed (S.bytes (text_of p))))) };
+    ghost meaning = { λ p. token_list (listed (F.compares (fits_of_text p)) (chars (text_of p).now)) (λ v. v ≡ text_of p) matched_before (Unit {0}) (Only (Expected (Fixed (text_of p).now))) };
 
-    ghost refuses = { λ p k. RefusesList Input.Error.seen (listed (F.compares (fits_of_text p)) (chars (S.bytes (text_of p)))) None (begins_at matched_before k) };
+    ghost refuses = { λ p k. RefusesList Input.Error.seen (listed (F.compares (fits_of_text p)) (chars (text_of p).now)) None (begins_at matched_before k) };
 
     ghost parts = { λ p. 1 };
 
@@ -105,14 +70,14 @@ impl<Input: Stream, F: Fits<char, Input::Token>, S: LastingText> Parser<Input>
         mode: M,
         input: &mut Input,
         state: &mut TokensState,
-    ) -> ParseResult<S, Input::Error> {
+    ) -> ParseResult<&'static str, Input::Error> {
         match_text(self.text, &self.fits, mode, input, state)
     }
 
     /// Adds the text, as what was expected.
     #[inline]
     fn add_error(&mut self, error: &mut Tracked<Input::Error>) {
-        error.error.add_expected(&Info::Static(self.text.text()));
+        error.error.add_expected(&Info::Static(self.text));
     }
 
     #[inline]
@@ -129,23 +94,23 @@ impl<Input: Stream, F: Fits<char, Input::Token>, S: LastingText> Parser<Input>
 
 /// One call of a parser of the characters of a text.
 #[inline(always)]
-fn match_text<F, S: LastingText, Input: Stream, M: ParseMode>(
-    text: S,
+fn match_text<F, Input: Stream, M: ParseMode>(
+    text: &'static str,
     fits: &F,
     mode: M,
     input: &mut Input,
     state: &mut TokensState,
-) -> ParseResult<S, Input::Error>
+) -> ParseResult<&'static str, Input::Error>
 where
     F: Fits<char, Input::Token>,
     requires { F.ready fits.now }
     ensures passes { Passes (Input.marks input.old) (Input.marks input.new) (Input.failures input.old) (Input.failures input.new) }
     ensures answers { Answers (world Input.step Input.Error.seen Input.steady (λ s. matched_before s ≡ 0))
-        (token_list (listed (F.compares fits.now) (chars (S.bytes text))) (λ v. v ≡ text) matched_before (Unit {0}) (Nothing {R = Input.Range}))
+        (token_list (listed (F.compares fits.now) (chars text.now)) (λ v. v ≡ text.entry) matched_before (Unit {0}) (Nothing {R = Input.Range}))
         (record { first = M.first mode; state = state.old; left = state.new; old = Input.view input.old; new = Input.view input.new; before = Input.failures input.old; after = Input.failures input.new })
         result }
     ensures refuses { Reasoned Input.Error.seen.kind (Input.view input.new).is_open
-        (RefusesList Input.Error.seen (listed (F.compares fits.now) (chars (S.bytes text))) None (begins_at matched_before (kept_from (M.first mode) state.old)) (Input.view input.old))
+        (RefusesList Input.Error.seen (listed (F.compares fits.now) (chars text.now)) None (begins_at matched_before (kept_from (M.first mode) state.old)) (Input.view input.old))
         result }
 {
     let items = characters(text);
@@ -165,12 +130,11 @@ where
 
 /// The characters of a text, which are fewer than 2^64.
 #[inline(always)]
-fn characters<S: LastingText>(text: S) -> Chars<'static>
-    ensures rest { chars_rest result ≡ S.bytes text }
-    ensures valid { IsUtf8 (S.bytes text) }
-    ensures few { length (S.bytes text) < 2 ^ 64 }
+fn characters(text: &'static str) -> Chars<'static>
+    ensures rest { chars_rest result ≡ text.now }
+    ensures valid { IsUtf8 text.now }
+    ensures few { length text.now < 2 ^ 64 }
 {
-    let text = text.text();
     let _bytes = text.len();
     text.chars()
 }

@@ -3,9 +3,22 @@ ghost use Rattle.std.specs.Prelude.{◌≡◌};
 
 use crate::calls::{Legible, parsed, parsed_with_state, streamed};
 use combine_base::parser::Parser;
-use combine_char::text::LastingText;
 use std::alloc::{AllocError, Global};
 use std::marker::PhantomData;
+
+/// A text that stays as long as the program runs: `&'static str`.
+///
+/// It is a type parameter of what takes rows: the language refuses a call where a type argument names several lifetimes, as that of a parser with a list does, and the signature names `'static`.
+pub trait Lasting: Copy + Drop {
+    /// The text.
+    fn text(self) -> &'static str;
+}
+
+impl Lasting for &'static str {
+    fn text(self) -> &'static str {
+        self
+    }
+}
 
 /// How errors write the first column of a text.
 pub const COLUMN_1: &str = "line: 1, column: 1";
@@ -43,9 +56,7 @@ impl<Input: Legible> Rows<Input> {
     }
 
     /// Goes through the rows of a parser by each driver. A row has an input, whether the answer to it is committed, where its error stands, and the lines of what the error says: none where it is accepted.
-    ///
-    /// The type of the texts is a type parameter, and not `&'static str`: the language refuses a call where a type argument names several lifetimes, as that of a parser with an `Info` does, and the function's signature names `'static`.
-    pub fn check<P: Parser<Input> + Drop, T: LastingText>(
+    pub fn check<P: Parser<Input> + Drop, T: Lasting>(
         &mut self,
         parser: P,
         rows: &[(T, bool, T, T)],
@@ -62,7 +73,7 @@ impl<Input: Legible> Rows<Input> {
     }
 
     /// A parser that accepts that token, committed, and of whose refusal of `?`, as of the end of input, an error says that this was expected.
-    pub fn check_named<P: Parser<Input> + Drop, T: LastingText>(
+    pub fn check_named<P: Parser<Input> + Drop, T: Lasting>(
         &mut self,
         parser: P,
         accepted: T,
@@ -76,7 +87,7 @@ impl<Input: Legible> Rows<Input> {
     }
 
     /// A parser that accepts that token, committed, and of whose refusals nothing is said but what stood there.
-    pub fn check_unnamed<P: Parser<Input> + Drop, T: LastingText>(
+    pub fn check_unnamed<P: Parser<Input> + Drop, T: Lasting>(
         &mut self,
         parser: P,
         accepted: T,

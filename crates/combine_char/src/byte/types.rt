@@ -49,7 +49,7 @@ pub type CrLf<Input> = Named<
 pub type Spaces<Input> = Named<SkipMany<Space<Input>>, texts::Spaces>;
 
 /// The parser of [`bytes`](crate::byte::bytes).
-pub type Bytes<Input, S = &'static [u8]> = InBytes<Input, Equal, S>;
+pub type Bytes<Input> = InBytes<Input, Equal>;
 
 /// The parser of [`bytes_cmp`](crate::byte::bytes_cmp).
-pub type BytesCmp<Input, C, S = &'static [u8]> = InBytes<Input, By<C>, S>;
+pub type BytesCmp<Input, C> = InBytes<Input, By<C>>;

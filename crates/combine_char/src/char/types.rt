@@ -49,7 +49,7 @@ pub type CrLf<Input> = Named<
 pub type Spaces<Input> = Named<SkipMany<Space<Input>>, texts::Spaces>;
 
 /// The parser of [`string`](crate::char::string).
-pub type Str<Input, S = &'static str> = InText<Input, Equal, S>;
+pub type Str<Input> = InText<Input, Equal>;
 
 /// The parser of [`string_cmp`](crate::char::string_cmp).
-pub type StrCmp<Input, C, S = &'static str> = InText<Input, By<C>, S>;
+pub type StrCmp<Input, C> = InText<Input, By<C>>;

@@ -4,20 +4,20 @@ use Rattle.combine_char.proofs.text.match_text.Goals as goal
 pub match_list-requires-clause-list : goal.match_list-requires-clause-list
 match_list-requires-clause-list g c =
     let k = c.characters-items.ensures in
-    chars_iterated c.characters-items.result (g.S.LastingText.bytes c.args.text) k.valid k.rest k.few
+    chars_iterated c.characters-items.result c.args.text.now k.valid k.rest k.few
 
 pub returns-clause-answers : goal.returns-clause-answers
 returns-clause-answers g c =
     let k = c.characters-items.ensures in
     let compares = g.F.Fits.compares c.args.fits.now in
     let items = c.characters-items.result in
-    let text = g.S.LastingText.bytes c.args.text in
-    given_answers _ _ _ (chars_within items text k.valid k.rest compares) (within_chars items text k.valid k.rest compares) _ _ (g.met.S.LastingText.clones c.args.text) _ _ (tt, g.met.S.LastingText.infallible c.args.text) _ _ _ _ c.match_list.ensures.answers
+    let text = c.args.text.now in
+    given_answers _ _ _ (chars_within items text k.valid k.rest compares) (within_chars items text k.valid k.rest compares) _ _ (λ r. (λ e. e, λ e. e)) _ _ (tt, tt) _ _ _ _ c.match_list.ensures.answers
 
 pub returns-clause-refuses : goal.returns-clause-refuses
 returns-clause-refuses g c =
     let k = c.characters-items.ensures in
     let compares = g.F.Fits.compares c.args.fits.now in
     let items = c.characters-items.result in
-    let text = g.S.LastingText.bytes c.args.text in
+    let text = c.args.text.now in
     spelled_reasons _ _ _ _ (chars_within items text k.valid k.rest compares) _ _ _ _ c.match_list.ensures.refuses
