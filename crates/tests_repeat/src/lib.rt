@@ -4,10 +4,16 @@
 #[cfg(test)]
 mod chains;
 #[cfg(test)]
+mod items;
+#[cfg(test)]
 mod repetitions;
 #[cfg(test)]
 mod rows;
 #[cfg(test)]
 mod sessions;
+#[cfg(test)]
+mod turns;
+#[cfg(test)]
+mod until;
 #[cfg(test)]
 mod values;
