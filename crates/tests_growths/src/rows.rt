@@ -42,7 +42,7 @@ pub fn accepted(
     }
 }
 
-/// A value that a row writes as a text.
+/// A value that a row writes as a text, or a message that a step does.
 pub trait Written: Drop {
     /// Whether the text writes it.
     fn is(&self, text: &str) -> bool;

@@ -1,6 +1,8 @@
-//! Grammars that nest, as a caller writes them, and what each answers. They are built for the tests alone, so that they are proved once, but for `brackets`, of which a definition tells.
+//! Grammars that nest, and expressions, as a caller writes them, and what each answers. They are built for the tests alone, so that they are proved once, but for `brackets`, of which a definition tells.
 #![tactic(auto)]
 
+#[cfg(test)]
+mod arithmetic;
 pub mod brackets;
 #[cfg(test)]
 mod calculator;
@@ -14,5 +16,7 @@ mod lists;
 mod messages;
 #[cfg(test)]
 mod places;
+#[cfg(test)]
+mod query;
 #[cfg(test)]
 mod rows;

@@ -1,13 +1,23 @@
-//! A plain function for each repetition, and what each answers. They are built for the tests alone, so that they are proved once.
+//! A plain function for each repetition, and what each answers, also where its collection refuses to grow. They are built for the tests alone, so that they are proved once.
 #![tactic(auto)]
 
 #[cfg(test)]
 mod chains;
 #[cfg(test)]
+mod collecting;
+#[cfg(test)]
+mod items;
+#[cfg(test)]
 mod repetitions;
+#[cfg(test)]
+mod room;
 #[cfg(test)]
 mod rows;
 #[cfg(test)]
 mod sessions;
+#[cfg(test)]
+mod turns;
+#[cfg(test)]
+mod until;
 #[cfg(test)]
 mod values;

@@ -107,7 +107,7 @@ fn empty_pieces(rt: HostRuntime) -> Result<(), AllocError> {
 }
 
 /// Feeds a piece; want of memory where it finds no room.
-fn feed(stream: &mut fed::Stream<u8>, piece: &[u8]) -> Result<(), AllocError> {
+pub fn feed(stream: &mut fed::Stream<u8>, piece: &[u8]) -> Result<(), AllocError> {
     if stream.room() < piece.len() as u64 {
         return Err(AllocError);
     }

@@ -1,23 +1,21 @@
 //! Plain callers of repetitions up to a place, over pieces.
+use crate::sessions::feed;
 use combine_base::error::{ParseError, ParseResult, UnexpectedParse};
-use combine_base::parser::{Answer, Parser, Session, SessionError, parse_pieces};
+use combine_base::parser::{Answer, Parser, Session, parse_pieces};
 use combine_base::stream::{Kind, Stream, fed};
 use combine_char::byte::bytes;
 use combine_combinator::combinator::attempt;
 use combine_repeat_until::repeat::{repeat_skip_until, repeat_until, skip_until, take_until};
 use combine_stream::MaybePartialStream;
 use combine_token::token::{satisfy, token, value};
+use example_callers::answers::InPieces;
+use example_callers::cuts::{cut, sets_of_places};
+use example_callers::slices::is_digit;
 use std::alloc::{AllocError, Global};
 use std::process::Abort;
 
-type Answered<T> = Result<Answer<T, UnexpectedParse>, SessionError>;
-
-fn is_digit(byte: u8) -> bool {
-    byte.is_ascii_digit()
-}
-
 /// The bytes before the first digit.
-fn up_to_a_digit(alloc: Global, pieces: &[&[u8]]) -> Answered<Vec<u8>> {
+fn up_to_a_digit(alloc: Global, pieces: &[&[u8]]) -> InPieces<Vec<u8>> {
     parse_pieces(
         alloc,
         take_until::<Vec<u8>, _, _, _>(alloc, satisfy(is_digit)),
@@ -26,7 +24,7 @@ fn up_to_a_digit(alloc: Global, pieces: &[&[u8]]) -> Answered<Vec<u8>> {
 }
 
 /// The bytes before the first that is `wanted`.
-fn up_to(alloc: Global, wanted: u8, pieces: &[&[u8]]) -> Answered<Vec<u8>> {
+fn up_to(alloc: Global, wanted: u8, pieces: &[&[u8]]) -> InPieces<Vec<u8>> {
     parse_pieces(
         alloc,
         take_until::<Vec<u8>, _, _, _>(alloc, token(wanted)),
@@ -35,29 +33,29 @@ fn up_to(alloc: Global, wanted: u8, pieces: &[&[u8]]) -> Answered<Vec<u8>> {
 }
 
 /// The bytes before the first `a`.
-fn up_to_an_a(alloc: Global, pieces: &[&[u8]]) -> Answered<Vec<u8>> {
+fn up_to_an_a(alloc: Global, pieces: &[&[u8]]) -> InPieces<Vec<u8>> {
     up_to(alloc, b'a', pieces)
 }
 
 /// The bytes before the first `;`.
-fn up_to_a_semicolon(alloc: Global, pieces: &[&[u8]]) -> Answered<Vec<u8>> {
+fn up_to_a_semicolon(alloc: Global, pieces: &[&[u8]]) -> InPieces<Vec<u8>> {
     up_to(alloc, b';', pieces)
 }
 
 /// The bytes before the first `T`, which has to be that of `TAG`.
-fn up_to_tag(alloc: Global, pieces: &[&[u8]]) -> Answered<Vec<u8>> {
+fn up_to_tag(alloc: Global, pieces: &[&[u8]]) -> InPieces<Vec<u8>> {
     let tag = bytes(b"TAG");
     parse_pieces(alloc, take_until::<Vec<u8>, _, _, _>(alloc, tag), pieces)
 }
 
 /// The bytes before `TAG`.
-fn up_to_whole_tag(alloc: Global, pieces: &[&[u8]]) -> Answered<Vec<u8>> {
+fn up_to_whole_tag(alloc: Global, pieces: &[&[u8]]) -> InPieces<Vec<u8>> {
     let tag = attempt(bytes(b"TAG"));
     parse_pieces(alloc, take_until::<Vec<u8>, _, _, _>(alloc, tag), pieces)
 }
 
 /// The bytes before a place that takes nothing: none.
-fn up_to_nothing(alloc: Global, pieces: &[&[u8]]) -> Answered<Vec<u8>> {
+fn up_to_nothing(alloc: Global, pieces: &[&[u8]]) -> InPieces<Vec<u8>> {
     parse_pieces(
         alloc,
         take_until::<Vec<u8>, _, _, _>(alloc, value(1u8)),
@@ -66,24 +64,24 @@ fn up_to_nothing(alloc: Global, pieces: &[&[u8]]) -> Answered<Vec<u8>> {
 }
 
 /// Blocks that take nothing, before `;`.
-fn nothings_up_to_semicolon(alloc: Global, pieces: &[&[u8]]) -> Answered<Vec<u8>> {
+fn nothings_up_to_semicolon(alloc: Global, pieces: &[&[u8]]) -> InPieces<Vec<u8>> {
     let nothings = repeat_until::<Vec<u8>, _, _, _>(alloc, value(1u8), token(b';'));
     parse_pieces(alloc, nothings, pieces)
 }
 
 /// The bytes before `;`, dropped.
-fn skip_up_to_semicolon(alloc: Global, pieces: &[&[u8]]) -> Answered<()> {
+fn skip_up_to_semicolon(alloc: Global, pieces: &[&[u8]]) -> InPieces<()> {
     parse_pieces(alloc, skip_until(token(b';')), pieces)
 }
 
 /// Digits before `;`.
-fn digits_up_to_semicolon(alloc: Global, pieces: &[&[u8]]) -> Answered<Vec<u8>> {
+fn digits_up_to_semicolon(alloc: Global, pieces: &[&[u8]]) -> InPieces<Vec<u8>> {
     let digits = repeat_until::<Vec<u8>, _, _, _>(alloc, satisfy(is_digit), token(b';'));
     parse_pieces(alloc, digits, pieces)
 }
 
 /// Digits before `;`, dropped.
-fn skip_digits_up_to_semicolon(alloc: Global, pieces: &[&[u8]]) -> Answered<()> {
+fn skip_digits_up_to_semicolon(alloc: Global, pieces: &[&[u8]]) -> InPieces<()> {
     parse_pieces(
         alloc,
         repeat_skip_until(satisfy(is_digit), token(b';')),
@@ -114,7 +112,7 @@ impl Collected for () {
 type Row = (&'static str, Option<u64>, bool);
 
 /// Whether the answer to an input is that of its row.
-fn agrees<V: Collected>(answer: Answered<V>, row: Row) -> bool {
+fn agrees<V: Collected>(answer: InPieces<V>, row: Row) -> bool {
     let (input, wanted, is_committed) = row;
     match answer {
         Ok(
@@ -137,40 +135,8 @@ fn agrees<V: Collected>(answer: Answered<V>, row: Row) -> bool {
     }
 }
 
-/// How many sets of places there are between the bytes of an input.
-fn sets_of_places(input: &str) -> u32 {
-    let mut sets: u32 = 1;
-    for _byte in input.bytes().skip(1) {
-        sets = sets.saturating_mul(2);
-    }
-    sets
-}
-
-/// The pieces of an input that is cut behind each byte whose bit is set in `places`, the lowest bit first, an empty piece before each.
-fn pieces(alloc: Global, input: &[u8], places: u32) -> Result<Vec<&[u8]>, AllocError> {
-    let mut pieces = Vec::new(alloc);
-    let mut rest = input;
-    let mut places = places;
-    let mut len: usize = 0;
-    for _byte in input {
-        len = len.saturating_add(1);
-        if places % 2 == 1 {
-            if let Some((piece, behind)) = rest.split_at_checked(len) {
-                pieces.push(b"".as_slice())?;
-                pieces.push(piece)?;
-                rest = behind;
-            }
-            len = 0;
-        }
-        places /= 2;
-    }
-    pieces.push(b"".as_slice())?;
-    pieces.push(rest)?;
-    Ok(pieces)
-}
-
 /// The answers are those of the rows, however the inputs are cut.
-fn over_every_cut<V: Collected, F: Fn(Global, &[&[u8]]) -> Answered<V> + Drop>(
+fn over_every_cut<V: Collected, F: Fn(Global, &[&[u8]]) -> InPieces<V> + Drop>(
     rt: &impl Abort,
     alloc: Global,
     parse: F,
@@ -180,9 +146,9 @@ fn over_every_cut<V: Collected, F: Fn(Global, &[&[u8]]) -> Answered<V> + Drop>(
 {
     for row in rows {
         let (input, _wanted, _committed) = *row;
-        for places in 0..sets_of_places(input) {
-            let cut = pieces(alloc, input.as_bytes(), places)?;
-            let answer = parse(alloc, cut.as_slice());
+        for places in 0..sets_of_places(input.as_bytes()) {
+            let pieces = cut(alloc, input.as_bytes(), places)?;
+            let answer = parse(alloc, pieces.as_slice());
             assert!(rt; agrees(answer, *row), "{input} cut at {places:b}");
         }
     }
@@ -255,10 +221,7 @@ fn all_is_put_back(rt: HostRuntime) {
 /// A stream that was fed that piece.
 fn fed_with(alloc: Global, piece: &[u8]) -> Result<fed::Stream<u8>, AllocError> {
     let mut stream = fed::Stream::new(alloc);
-    if stream.room() < piece.len() as u64 {
-        return Err(AllocError);
-    }
-    stream.feed(piece)?;
+    feed(&mut stream, piece)?;
     Ok(stream)
 }
 

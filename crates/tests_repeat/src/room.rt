@@ -5,6 +5,7 @@ use combine_base::error::{Commit, ParseResult, Tracked, UnexpectedParse};
 use combine_base::parser::{Answer, Parser, Session, SessionError};
 use combine_base::repeat::Append;
 use combine_base::stream::{Kind, fed};
+use example_callers::answers::InPieces;
 use std::alloc::{AllocError, Global};
 
 /// Counts values, at most N: it refuses the next growth, and to begin with room for more.
@@ -54,9 +55,6 @@ impl<const N: usize> Counted for Room<N> {
         self.taken
     }
 }
-
-/// What a parser answers to an input that stands in pieces.
-pub type InPieces<T> = Result<Answer<T, UnexpectedParse>, SessionError>;
 
 /// What a session answers to these pieces, and then the end. Behind a fault every call must answer `Failed`; where one doesn't, this is `Closed`.
 pub fn in_session<P: Parser<fed::Stream<u8>> + Drop>(

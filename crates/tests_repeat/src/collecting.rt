@@ -11,6 +11,7 @@ use combine_repeat_turns::repeat::{count, count_min_max};
 use combine_repeat_until::repeat::{repeat_until, take_until};
 use combine_token::choice::{optional, or};
 use combine_token::token::{any, token};
+use example_callers::cuts::{cut, sets_of_places};
 use std::alloc::{AllocError, Global};
 use std::process::Abort;
 
@@ -201,50 +202,18 @@ fn over_every_cut<C: Collects>(
     input: &str,
     ample: Kept,
 ) -> Result<(), AllocError> {
-    for places in 0..sets_of_places(input) {
-        let cut = pieces(alloc, input.as_bytes(), places)?;
+    for places in 0..sets_of_places(input.as_bytes()) {
+        let pieces = cut(alloc, input.as_bytes(), places)?;
         let found = [
-            C::parse::<Room<0>>(alloc, &cut),
-            C::parse::<Room<1>>(alloc, &cut),
-            C::parse::<Room<2>>(alloc, &cut),
-            C::parse::<Room<3>>(alloc, &cut),
+            C::parse::<Room<0>>(alloc, &pieces),
+            C::parse::<Room<1>>(alloc, &pieces),
+            C::parse::<Room<2>>(alloc, &pieces),
+            C::parse::<Room<3>>(alloc, &pieces),
         ];
         let wanted = [Kept::NoMemory, Kept::NoMemory, Kept::NoMemory, ample];
         assert_eq!(rt; found, wanted, "{input} cut at {places:b}");
     }
     Ok(())
-}
-
-/// How many sets of places there are between the bytes of an input.
-fn sets_of_places(input: &str) -> u32 {
-    let mut sets: u32 = 1;
-    for _byte in input.bytes().skip(1) {
-        sets = sets.saturating_mul(2);
-    }
-    sets
-}
-
-/// The pieces of an input that is cut behind each byte whose bit is set in `places`, the lowest bit first, an empty piece before each.
-fn pieces(alloc: Global, input: &[u8], places: u32) -> Result<Vec<&[u8]>, AllocError> {
-    let mut pieces = Vec::new(alloc);
-    let mut rest = input;
-    let mut places = places;
-    let mut len: usize = 0;
-    for _byte in input {
-        len = len.saturating_add(1);
-        if places % 2 == 1 {
-            if let Some((piece, behind)) = rest.split_at_checked(len) {
-                pieces.push(b"".as_slice())?;
-                pieces.push(piece)?;
-                rest = behind;
-            }
-            len = 0;
-        }
-        places /= 2;
-    }
-    pieces.push(b"".as_slice())?;
-    pieces.push(rest)?;
-    Ok(pieces)
 }
 
 /// What is kept of three values.

@@ -1,24 +1,14 @@
 //! Plain callers of `Iter`, over a stream that is fed.
-use crate::items::pieces;
+use crate::sessions::feed;
 use combine_base::error::{Commit, Tracked, UnexpectedParse};
 use combine_base::parser::{FirstMode, PartialMode};
 use combine_base::stream::{Kind, fed};
 use combine_repeat_iterate::repeat::Iter;
 use combine_token::choice::optional;
 use combine_token::token::{satisfy, token, value};
+use example_callers::cuts::cut;
+use example_callers::slices::is_digit;
 use std::alloc::{AllocError, Global};
-
-fn is_digit(byte: u8) -> bool {
-    byte.is_ascii_digit()
-}
-
-/// Feeds a piece; want of memory where it finds no room.
-fn feed(stream: &mut fed::Stream<u8>, piece: &[u8]) -> Result<(), AllocError> {
-    if stream.room() < piece.len() as u64 {
-        return Err(AllocError);
-    }
-    stream.feed(piece)
-}
 
 /// Goes on with the digits of what is unread.
 fn more_digits(
@@ -128,7 +118,7 @@ fn digits_over_every_cut(rt: HostRuntime) -> Result<(), AllocError> {
     for places in 0..4 {
         let mut input = fed::Stream::new(alloc);
         let mut given = Vec::new(alloc);
-        for piece in pieces(alloc, b"12a", places)? {
+        for piece in cut(alloc, b"12a", places)? {
             assert_eq!(rt; input.unread(), b"".as_slice());
             feed(&mut input, piece)?;
             more_digits(&mut input, &mut (), &mut given)?;

@@ -2,6 +2,7 @@
 ghost use Rattle.std.specs.Prelude.{◌≡◌};
 ghost use Rattle.combine_decode.specs.Messages.{IsMade};
 
+use crate::rows::{Memory, Written};
 use combine_base::parser::Parser;
 use combine_base::stream::{Kind, fed};
 use combine_decode::decode::{Batch, BatchEnd, DecodeError, Decoder, decode_pieces, frame};
@@ -10,15 +11,6 @@ use combine_sequence::sequence::skip;
 use combine_token::token::token;
 use std::alloc::Global;
 use std::process::Abort;
-
-/// How much memory there is.
-#[derive(Clone, Copy, PartialEq)]
-enum Memory {
-    /// No growth is refused. Where a test with ample memory fails, `trials/run` sees that one was refused to its companion.
-    Ample,
-    /// A growth may be refused.
-    Scarce,
-}
 
 /// A piece, and what a decoder answers to it where memory is ample.
 #[derive(Clone, Copy)]
@@ -29,19 +21,6 @@ struct Step {
     at_boundary: bool,
     /// Whether something grows behind the beginning of the parse: the parser, or the list of messages.
     grows: bool,
-}
-
-/// A message that a step writes as a text.
-trait Written: Drop {
-    /// Whether the text writes it.
-    fn is(&self, text: &str) -> bool;
-}
-
-/// The bytes of the text.
-impl Written for Vec<u8> {
-    fn is(&self, text: &str) -> bool {
-        self.as_slice() == text.as_bytes()
-    }
 }
 
 /// The one byte of the text.
