@@ -2,7 +2,7 @@
 ghost use Rattle.std.specs.Prelude.{◌≡◌, ◌<◌, ◌^◌, None, length};
 ghost use Rattle.std.specs.Slice.Iter.{iter_rest};
 ghost use Rattle.combine_base.specs.Error.Errors.{Nothing};
-ghost use Rattle.combine_base.specs.Parser.Answer.{Answers, world};
+ghost use Rattle.combine_base.specs.Parser.AnswersCalls.{AnswersCall};
 ghost use Rattle.combine_base.specs.Parser.Reasons.{Reasoned, kept_from};
 ghost use Rattle.combine_base.specs.Stream.Calls.{Passes};
 ghost use Rattle.combine_token.specs.Listed.{listed};
@@ -136,10 +136,7 @@ where
     F: Fits<u8, Input::Token>,
     requires { F.ready fits.now }
     ensures passes { Passes (Input.marks input.old) (Input.marks input.new) (Input.failures input.old) (Input.failures input.new) }
-    ensures answers { Answers (world Input.step Input.Error.seen Input.steady (λ s. matched_before s ≡ 0))
-        (token_list (listed (F.compares fits.now) bytes.now) (λ v. v ≡ bytes.entry) matched_before (Unit {0}) (Nothing {R = Input.Range}))
-        (record { first = M.first mode; state = state.old; left = state.new; old = Input.view input.old; new = Input.view input.new; before = Input.failures input.old; after = Input.failures input.new })
-        result }
+    ensures answers { AnswersCall Input.StreamOnce Input.Error.seen (λ s. matched_before s ≡ 0) (token_list (listed (F.compares fits.now) bytes.now) (λ v. v ≡ bytes.entry) matched_before (Unit {0}) (Nothing {R = Input.Range})) (M.first mode) state.old state.new input.old input.new result }
     ensures refuses { Reasoned Input.Error.seen.kind (Input.view input.new).is_open
         (RefusesList Input.Error.seen (listed (F.compares fits.now) bytes.now) None (begins_at matched_before (kept_from (M.first mode) state.old)) (Input.view input.old))
         result }

@@ -29,7 +29,7 @@ pub trait ChoiceParser<Input: Stream>: ChoiceOutputs<Input> {
     ghost use Rattle.std.specs.Prelude.{◌≡◌, true, false, Bool, Option, Some, None};
     ghost use Rattle.combine_base.specs.Stream.View.{View};
     ghost use Rattle.combine_base.specs.Parser.Meaning.{Meaning, IsMeaning, MeansOne, MeansSame};
-    ghost use Rattle.combine_base.specs.Parser.Answer.{Answers, world};
+    ghost use Rattle.combine_base.specs.Parser.AnswersCalls.{AnswersCall};
     ghost use Rattle.combine_base.specs.Parser.Reasons.{Reasoned, kept_from};
     ghost use Rattle.combine_base.specs.Error.Errors.{Says};
     ghost use Rattle.combine_base.specs.Stream.Calls.{Passes};
@@ -65,10 +65,7 @@ pub trait ChoiceParser<Input: Stream>: ChoiceOutputs<Input> {
         ensures valid { valid state.new }
         ensures same { MeansSame (meaning self.old) (meaning self.new) }
         ensures passes { Passes (Input.marks input.old) (Input.marks input.new) (Input.failures input.old) (Input.failures input.new) }
-        ensures answers { Answers (world Input.step Input.Error.seen Input.steady Self.PartialState.is_default)
-            (meaning self.old)
-            (record { first = M.first mode; state = state.old; left = state.new; old = Input.view input.old; new = Input.view input.new; before = Input.failures input.old; after = Input.failures input.new })
-            result }
+        ensures answers { AnswersCall Input.StreamOnce Input.Error.seen Self.PartialState.is_default (meaning self.old) (M.first mode) state.old state.new input.old input.new result }
         ensures refuses { Reasoned Input.Error.seen.kind (Input.view input.new).is_open (refuses self.old (kept_from (M.first mode) state.old) (Input.view input.old)) result };
 
     /// Adds to an error what each alternative adds, in order.
@@ -90,10 +87,7 @@ pub trait ChoiceParser<Input: Stream>: ChoiceOutputs<Input> {
         ensures valid { valid state.new }
         ensures same { MeansSame (meaning self.old) (meaning self.new) }
         ensures passes { Passes (Input.marks input.old) (Input.marks input.new) (Input.failures input.old) (Input.failures input.new) }
-        ensures answers { Answers (world Input.step Input.Error.seen Input.steady Self.PartialState.is_default)
-            (meaning self.old)
-            (record { first = true; state = state.old; left = state.new; old = Input.view input.old; new = Input.view input.new; before = Input.failures input.old; after = Input.failures input.new })
-            result }
+        ensures answers { AnswersCall Input.StreamOnce Input.Error.seen Self.PartialState.is_default (meaning self.old) true state.old state.new input.old input.new result }
         ensures refuses { Reasoned Input.Error.seen.kind (Input.view input.new).is_open (refuses self.old None (Input.view input.old)) result }
     {
         self.parse_mode_choice(FirstMode, input, state)
@@ -111,10 +105,7 @@ pub trait ChoiceParser<Input: Stream>: ChoiceOutputs<Input> {
         ensures valid { valid state.new }
         ensures same { MeansSame (meaning self.old) (meaning self.new) }
         ensures passes { Passes (Input.marks input.old) (Input.marks input.new) (Input.failures input.old) (Input.failures input.new) }
-        ensures answers { Answers (world Input.step Input.Error.seen Input.steady Self.PartialState.is_default)
-            (meaning self.old)
-            (record { first = false; state = state.old; left = state.new; old = Input.view input.old; new = Input.view input.new; before = Input.failures input.old; after = Input.failures input.new })
-            result }
+        ensures answers { AnswersCall Input.StreamOnce Input.Error.seen Self.PartialState.is_default (meaning self.old) false state.old state.new input.old input.new result }
         ensures refuses { Reasoned Input.Error.seen.kind (Input.view input.new).is_open (refuses self.old (Some state.old) (Input.view input.old)) result }
     {
         self.parse_mode_choice(PartialMode::default(), input, state)

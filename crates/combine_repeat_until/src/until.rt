@@ -1,6 +1,7 @@
 //! Blocks of a parser up to the first place where it says that they end: the loop, and what is kept of it.
 ghost use Rattle.std.specs.Prelude.{◌≡◌, ◌||◌, ◌&&◌, ℕ, nat_lt, not, false, true, MatchResult};
-ghost use Rattle.combine_base.specs.Parser.Answer.{Answers, world};
+ghost use Rattle.combine_base.specs.Parser.Answer.{world};
+ghost use Rattle.combine_base.specs.Parser.AnswersCalls.{AnswersCall};
 ghost use Rattle.combine_base.specs.Parser.Meaning.{MeansSame};
 ghost use Rattle.combine_base.specs.Sequence.Parts.{accepted_as};
 ghost use Rattle.combine_base.specs.Stream.Calls.{Passes};
@@ -376,10 +377,7 @@ pub fn take_blocks<
     ensures valid { until_valid N.valid state.new }
     ensures same { MeansSame (N.meaning parser.old) (N.meaning parser.new) }
     ensures passes { Passes (Input.marks input.old) (Input.marks input.new) (Input.failures input.old) (Input.failures input.new) }
-    ensures answers { Answers (world Input.step Input.Error.seen Input.steady until_fresh)
-        (until Input.step (some_appended F.held F.none F.more F.lean) (N.meaning parser.old))
-        (record { first = M.first mode; state = state.old; left = state.new; old = Input.view input.old; new = Input.view input.new; before = Input.failures input.old; after = Input.failures input.new })
-        result }
+    ensures answers { AnswersCall Input.StreamOnce Input.Error.seen until_fresh (until Input.step (some_appended F.held F.none F.more F.lean) (N.meaning parser.old)) (M.first mode) state.old state.new input.old input.new result }
 {
     let start = input.checkpoint();
     let position = input.position();

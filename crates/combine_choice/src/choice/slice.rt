@@ -3,6 +3,7 @@ ghost use Rattle.std.specs.Prelude.{◌≡◌, ◌<◌, length, drop, true, fals
 ghost use Rattle.std.specs.List.{All};
 ghost use Rattle.combine_base.specs.Error.Errors.{Says};
 ghost use Rattle.combine_base.specs.Parser.Answer.{Answers, world};
+ghost use Rattle.combine_base.specs.Parser.AnswersCalls.{AnswersCall};
 ghost use Rattle.combine_base.specs.Parser.Meaning.{MeansSame};
 ghost use Rattle.combine_base.specs.Parser.Reasons.{Reasoned, kept_from};
 ghost use Rattle.combine_base.specs.Stream.Calls.{Passes};
@@ -191,10 +192,7 @@ fn parse_slice<Input: Stream, P: Parser<Input>, M: ParseMode>(
     ensures valid { slice_valid P.valid state.new }
     ensures same { MeansSame (choice_of P.meaning alternatives.old) (choice_of P.meaning alternatives.new) }
     ensures passes { Passes (Input.marks input.old) (Input.marks input.new) (Input.failures input.old) (Input.failures input.new) }
-    ensures answers { Answers (world Input.step Input.Error.seen Input.steady (λ s. s ≡ SliceState.Peek))
-        (choice_of P.meaning alternatives.old)
-        (record { first = M.first mode; state = state.old; left = state.new; old = Input.view input.old; new = Input.view input.new; before = Input.failures input.old; after = Input.failures input.new })
-        result }
+    ensures answers { AnswersCall Input.StreamOnce Input.Error.seen (λ s. s ≡ SliceState.Peek) (choice_of P.meaning alternatives.old) (M.first mode) state.old state.new input.old input.new result }
     ensures refuses { Reasoned Input.Error.seen.kind (Input.view input.new).is_open (RefusesChoice Input.Error.seen Input.Position.cmp P.refuses alternatives.old (kept_from (M.first mode) state.old) (Input.view input.old)) result }
 {
     let kept = replace(state, SliceState::Peek);

@@ -1,6 +1,6 @@
 //! One item's parser, run, and what is kept while it runs.
 ghost use Rattle.std.specs.Prelude.{◌≡◌, false, true, MatchResult};
-ghost use Rattle.combine_base.specs.Parser.Answer.{Answers, world};
+ghost use Rattle.combine_base.specs.Parser.AnswersCalls.{AnswersCall};
 ghost use Rattle.combine_base.specs.Parser.Meaning.{MeansSame};
 ghost use Rattle.combine_base.specs.Stream.Calls.{Passes};
 ghost use Rattle.combine_repeat_iterate.specs.Items.{begins_items};
@@ -110,10 +110,7 @@ fn call_item<Input: Stream, N: Parser<Input>, M: ParseMode>(
     ensures valid { N.valid state.new }
     ensures same { MeansSame (N.meaning parser.old) (N.meaning parser.new) }
     ensures passes { Passes (Input.marks input.old) (Input.marks input.new) (Input.failures input.old) (Input.failures input.new) }
-    ensures answers { Answers (world Input.step Input.Error.seen Input.steady N.PartialState.is_default)
-        (N.meaning parser.old)
-        (record { first = M.first mode; state = state.old; left = state.new; old = Input.view input.old; new = Input.view input.new; before = Input.failures input.old; after = Input.failures input.new })
-        result }
+    ensures answers { AnswersCall Input.StreamOnce Input.Error.seen N.PartialState.is_default (N.meaning parser.old) (M.first mode) state.old state.new input.old input.new result }
 {
     if is_begun {
         return parser.parse_explained(mode, input, state);

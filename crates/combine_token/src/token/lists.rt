@@ -1,7 +1,7 @@
 //! Lists of tokens, matched one by one.
 ghost use Rattle.std.specs.Prelude.{◌≡◌};
 ghost use Rattle.std.specs.Option.{option_copied};
-ghost use Rattle.combine_base.specs.Parser.Answer.{Answers, world};
+ghost use Rattle.combine_base.specs.Parser.AnswersCalls.{AnswersCall};
 ghost use Rattle.combine_base.specs.Stream.Calls.{Passes};
 ghost use Rattle.combine_token.specs.Iterated.{IsIterated, iterated};
 ghost use Rattle.combine_base.specs.Parser.Reasons.{Reasoned, kept_from};
@@ -83,10 +83,7 @@ where
     requires callable { C.IsAlwaysCallable cmp.now }
     requires list { IsIterated T.is_clone T.into_iter_gives T.IntoIter.next_gives list.now T.IntoIter.can_next T.IntoIter.remaining }
     ensures passes { Passes (Input.marks input.old) (Input.marks input.new) (Input.failures input.old) (Input.failures input.new) }
-    ensures answers { Answers (world Input.step Input.Error.seen Input.steady (λ s. matched_before s ≡ 0))
-        (token_list (iterated T.is_clone T.into_iter_gives T.IntoIter.next_gives list.now (λ x t b. C.post cmp.now x t b)) (V.is_clone value.now) matched_before (T.is_infallible list.now × V.is_infallible value.now) (λ is. is ≡ expecting (option_copied expected.entry)))
-        (record { first = M.first mode; state = state.old; left = state.new; old = Input.view input.old; new = Input.view input.new; before = Input.failures input.old; after = Input.failures input.new })
-        result }
+    ensures answers { AnswersCall Input.StreamOnce Input.Error.seen (λ s. matched_before s ≡ 0) (token_list (iterated T.is_clone T.into_iter_gives T.IntoIter.next_gives list.now (λ x t b. C.post cmp.now x t b)) (V.is_clone value.now) matched_before (T.is_infallible list.now × V.is_infallible value.now) (λ is. is ≡ expecting (option_copied expected.entry))) (M.first mode) state.old state.new input.old input.new result }
     ensures refuses { Reasoned Input.Error.seen.kind (Input.view input.new).is_open
         (RefusesList Input.Error.seen (iterated T.is_clone T.into_iter_gives T.IntoIter.next_gives list.now (λ x t b. C.post cmp.now x t b)) (option_copied expected.entry) (begins_at matched_before (kept_from (M.first mode) state.old)) (Input.view input.old))
         result }
