@@ -92,7 +92,7 @@ returns-then-some-clause-refuses g c =
     let old = g.Input.StreamOnce.view c.args.input.now in
     let same = ap (λ (v : View _ _). v.unread) z.taken.rest ∙ ap (λ n. drop n old.unread) l in
     reasons_empty s _ _ _ old.unread _ c.refused_here.ensures.answers (rw (c.position-position.ensures, same) at c.refused_here.ensures.says)
-      (λ e h. kept_own s _ (refuses_empty s (g.F.Maps.answers c.args.test.now) c.args.some) _ c.args.first c.args.state.now c.begin-distance.ensures.begun old e (rw c.if-some.true (omega arith, reached_none _ _ _ _ _ z.reaches l, h)))
+    (λ e h. kept_own s _ (refuses_empty s (g.F.Maps.answers c.args.test.now) c.args.some) _ c.args.first c.args.state.now c.begin-distance.ensures.begun old e (rw c.if-some.true (omega arith, reached_none _ _ _ _ _ z.reaches l, h)))
 
 pub returns-else-some-clause-refuses : goal.returns-else-some-clause-refuses
 returns-else-some-clause-refuses g c = reasons_peek_ok _ _ _ _

@@ -70,7 +70,7 @@ returns-else-is_partial-clause-refuses g c =
     let m = missing _ _ _ _ _ _ _ _ (g.Input.StreamOnce.view c.seek.new.input) _ _ k _ _ c.in_default.ensures.over s.1 in
     let seen = g.Input.Error.ParseError.seen in
     reasons_ended seen _ _ _ _ c.no_token.ensures.refuses (rw c.position-position.ensures at c.no_token.ensures.says)
-      (λ e h. kept_own seen _ (refuses_missing seen g.Input.RangeStream.size g.Input.RangeStream.spells (given g.Input.Range.Range.count g.Input.Range.PartialEq.eq c.args.self.now.wanted)) _ (g.M.ParseMode.first c.args.mode) c.args.state.now (rw c.is_first.ensures at c.begin-distance.ensures.begun) (g.Input.StreamOnce.view c.args.input.now) e (m, sym (takes_open _ z.to _ _ z.taken) ∙ sym c.is_partial.ensures ∙ c.if-is_partial.false, h))
+    (λ e h. kept_own seen _ (refuses_missing seen g.Input.RangeStream.size g.Input.RangeStream.spells (given g.Input.Range.Range.count g.Input.Range.PartialEq.eq c.args.self.now.wanted)) _ (g.M.ParseMode.first c.args.mode) c.args.state.now (rw c.is_first.ensures at c.begin-distance.ensures.begun) (g.Input.StreamOnce.view c.args.input.now) e (m, sym (takes_open _ z.to _ _ z.taken) ∙ sym c.is_partial.ensures ∙ c.if-is_partial.false, h))
 
 pub returns-in-Err-seek-clause-refuses : goal.returns-in-Err-seek-clause-refuses
 returns-in-Err-seek-clause-refuses g c = reasons_broke _ _ _ _ _ _ _ c.new_error.ensures.kind c.in-Err-seek.ensures.seeks.is.0
