@@ -77,16 +77,16 @@ module _ {P T A E R : Type 0} (step : P → T → P) (size : T → ℕ) (spells 
   prefixed v (Refused c) = r v (Refused c) ⊎ (ReadsNone turned r v c ⊎ Unframed v c)
   prefixed v Undecided = r v Undecided ⊎ Awaits v
 
-module _ {P T A X R E : Type 0} (step : P → T → P) (seen : Errors T R P E) (size : T → ℕ) (spells : R → List T → Type 0) (turned : A → Result ℕ X → Type 0) (r : Reading P T A) (v : View P T) (committed : Bool) (e : E) where
+module _ {P T A X R E : Type 0} (step : P → T → P) (seen : Errors T R P E) (size : T → ℕ) (spells : R → List T → Type 0) (turned : A → Result ℕ X → Type 0) (r : Reading P T A) where
   -- a value that is no length: the error is made where the call began, and says so
-  pub record SaysNone : Type 0 where
+  pub record SaysNone (v : View P T) (committed : Bool) (e : E) : Type 0 where
     pub value : A
     pub count : ℕ
     pub accepted : r v (Accepted value count committed)
     pub said : MadeSaying seen (out_of_range turned value) v.position e
 
   -- too few items, or an end inside a token: the error is that of `take`, made behind the length, and then says which token stands there
-  pub record SaysUnframed : Type 0 where
+  pub record SaysUnframed (v : View P T) (committed : Bool) (e : E) : Type 0 where
     pub length : ℕ
     pub before : ℕ
     pub read : ReadsLength turned r v length before committed
@@ -95,7 +95,11 @@ module _ {P T A X R E : Type 0} (step : P → T → P) (seen : Errors T R P E) (
     pub explained : Says seen (Unit {0}) (AtToken Nothing (advanced step before v).unread) own e
 
   -- the error of a refusal: the part's, or one of these
-  pub data RefusesPrefixed (part : View P T → Bool → E → Type 0) : Type 0 where
-    Part : part v committed e → RefusesPrefixed part
-    NoLength : SaysNone → RefusesPrefixed part
-    TooFew : SaysUnframed → RefusesPrefixed part
+  pub data RefusesPrefixed (part : View P T → Bool → E → Type 0) (v : View P T) (committed : Bool) (e : E) : Type 0 where
+    Part : part v committed e → RefusesPrefixed part v committed e
+    NoLength : SaysNone v committed e → RefusesPrefixed part v committed e
+    TooFew : SaysUnframed v committed e → RefusesPrefixed part v committed e
+
+-- each error of the first is one of the second
+abbrev pub Among : {P T E : Type 0} → (View P T → Bool → E → Type 0) → (View P T → Bool → E → Type 0) → Type 0
+Among {P} {T} {E} first second = (v : View P T) (committed : Bool) (e : E) → first v committed e → second v committed e
