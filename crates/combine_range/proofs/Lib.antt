@@ -2,6 +2,7 @@ mod Exact
 pub mod Kept
 pub mod Measuring
 pub mod Peeked
+pub mod Reasons
 pub mod Recognizing
 pub mod Seeking
 pub mod Since

@@ -6,6 +6,7 @@ pub mod Kept
 pub mod Lengths
 pub mod Peeking
 pub mod RangeParsers
+pub mod Reasons
 pub mod Recognized
 pub mod Tested
 pub mod Until

@@ -1,6 +1,8 @@
 -- peeked refusals of parsers of ranges
 use Rattle.std.specs.Prelude.{◌≡◌, ◌⊎◌, Bool, false}
-use Rattle.combine_base.specs.Refusals.{NoToken}
+use Rattle.combine_base.specs.Error.Errors.{Errors, New, Only}
+use Rattle.combine_base.specs.Error.Items.{end_of_input}
+use Rattle.combine_base.specs.Refusals.{NoToken, Saying}
 use Rattle.combine_base.specs.declared.stream.Kind.{Kind}
 use Rattle.combine_base.specs.declared.stream.Kind.TheVariants as kinds
 use Rattle.combine_base.specs.declared.error.ParseResult.{ParseResult}
@@ -28,3 +30,23 @@ module _ {V E : Type 0} (kind : E → Kind) (frugal : Type 0) (is_open : Bool) w
 
   pub record NoRange (why : Kind) (result : ParseResult V E) : Type 0 where
     pub is : answers_none why result
+
+module _ {V E : Type 0} (says : E → Type 0) where
+  abbrev pub peeks_saying : ParseResult V E → Type 0
+  peeks_saying (CommitOk v) = Unit {0}
+  peeks_saying (PeekOk v) = Unit {0}
+  peeks_saying (CommitErr e) = Unit {0}
+  peeks_saying (PeekErr t) = says t.error
+
+  -- the error of a peeked refusal is such
+  pub record PeeksSaying (result : ParseResult V E) : Type 0 where
+    pub is : peeks_saying result
+
+-- of too few items an error says that the input ended; of an end inside a token it says nothing
+abbrev pub says_why : {T R P E : Type 0} → Errors T R P E → P → Kind → E → Type 0
+says_why s place kinds.Refused e = New s kinds.Refused place e
+says_why s place kinds.End e = Saying s kinds.End place (Only end_of_input) e
+says_why s place kinds.Memory e = ⊥
+says_why s place kinds.Read e = ⊥
+says_why s place kinds.Reset e = ⊥
+says_why s place kinds.Lost e = ⊥

@@ -4,7 +4,9 @@ ghost use Rattle.combine_base.specs.Stream.View.{View, Takes};
 ghost use Rattle.combine_base.specs.Stream.Calls.{Passes};
 ghost use Rattle.combine_stream.specs.Ranges.{UnconsRange};
 ghost use Rattle.combine_range.specs.Kept.{Hands, HandsOut, KeepsDistance, NotPassed};
-ghost use Rattle.combine_range.specs.Peeking.{NoRange, RefusesPeeked};
+ghost use Rattle.combine_base.specs.Error.Errors.{New};
+ghost use Rattle.combine_token.specs.Reasons.{refuses_one};
+ghost use Rattle.combine_range.specs.Peeking.{NoRange, PeeksSaying, RefusesPeeked, says_why};
 
 use crate::distance::Distance;
 use combine_base::error::{ParseResult, Tracked};
@@ -40,14 +42,15 @@ where
     }
 }
 
-/// The answer where the kept distance was not passed over.
+/// The answer where the kept distance was not passed over: a fault, or a peeked refusal where it ends inside a token, with an error that is made there.
 #[cold]
 pub fn not_passed<O, Input: Stream>(
     input: &Input,
     why: Kind,
     position: Input::Position,
 ) -> ParseResult<O, Input::Error>
-    ensures { NotPassed Input.Error.seen.kind why result }
+    ensures answers { NotPassed Input.Error.seen.kind why result }
+    ensures says { PeeksSaying (New Input.Error.seen Kind.Refused position) result }
 {
     match why {
         Kind::Refused => ParseResult::PeekErr(Tracked::from(input.new_error(
@@ -105,7 +108,8 @@ pub fn refused_here<O, Input: RangeStream>(
 where
     Input::Range: Range,
     requires { (Input.view input.now).is_open ≡ true → (Input.view input.now).unread ≡ [] → ⊥ }
-    ensures { RefusesPeeked Input.Error.seen.kind Input.Error.seen.frugal (Input.view input.now).is_open result }
+    ensures answers { RefusesPeeked Input.Error.seen.kind Input.Error.seen.frugal (Input.view input.now).is_open result }
+    ensures says { PeeksSaying (refuses_one Input.Error.seen position (Input.view input.now).unread) result }
 {
     if input.range().len() == 0 {
         return no_token(input, Kind::End, position);
@@ -120,7 +124,8 @@ pub fn no_range<O, Input: Stream>(
     why: Kind,
     position: Input::Position,
 ) -> ParseResult<O, Input::Error>
-    ensures { NoRange Input.Error.seen.kind Input.Error.seen.frugal (Input.view input.now).is_open why result }
+    ensures answers { NoRange Input.Error.seen.kind Input.Error.seen.frugal (Input.view input.now).is_open why result }
+    ensures says { PeeksSaying (says_why Input.Error.seen position why) result }
 {
     match why {
         Kind::Refused => ParseResult::PeekErr(Tracked::from(input.new_error(

@@ -1,2 +1,3 @@
 pub mod OneLengths
 pub mod Prefixed
+pub mod Refusing

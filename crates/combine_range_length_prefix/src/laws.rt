@@ -1,9 +1,9 @@
 //! What `length_prefix` means, stated by functions that do nothing.
-ghost use Rattle.std.specs.Prelude.{◌↔◌};
+ghost use Rattle.std.specs.Prelude.{◌↔◌, None};
 ghost use Rattle.combine_base.specs.Parser.Outcome.{Outcome};
 ghost use Rattle.combine_base.specs.Stream.View.{View};
 ghost use Rattle.combine_range_length_prefix.specs.LengthParsers.{length_prefix_of};
-ghost use Rattle.combine_range_length_prefix.specs.Prefixes.{OneLength, prefixed};
+ghost use Rattle.combine_range_length_prefix.specs.Prefixes.{Among, OneLength, RefusesPrefixed, prefixed};
 
 use crate::range::types::LengthPrefix;
 use combine_base::parser::Parser;
@@ -30,4 +30,14 @@ where
     requires whole { OneLength P.Output.try_into_gives (P.meaning p.now).whole }
     requires rest { (s : P.PartialState) → P.valid s → OneLength P.Output.try_into_gives ((P.meaning p.now).rest s) }
     ensures { ⟦<LengthPrefix<Input, P, Input::Range> as Parser<Input>>⟧.determined (length_prefix_of p.now) }
+{}
+
+/// The error of a refusal is the part's; or that of a value that is no length, made where the call began; or that of too few items, or of an end inside a token, made behind the length and explained there.
+#[inline]
+pub fn length_prefix_refuses<Input: RangeStream, P: Parser<Input>>(p: &P)
+where
+    Input::Range: Range,
+    P::Output: TryInto<usize>,
+    <P::Output as TryInto<usize>>::Error: Drop,
+    ensures { Among (⟦<LengthPrefix<Input, P, Input::Range> as Parser<Input>>⟧.refuses (length_prefix_of p.now) None) (RefusesPrefixed Input.step Input.Error.seen Input.size Input.spells P.Output.try_into_gives (P.meaning p.now).whole (P.refuses p.now None)) }
 {}

@@ -3,10 +3,11 @@ use Rattle.std.proofs.Common.{ℕ, ◌+◌, ◌-◌, ◌<◌, ◌≤◌, ◌≡�
 use Rattle.std.specs.Prelude.{Ok, Err, ◌↔◌, ◌⊎◌, not}
 use Rattle.std.proofs.lemmas.List.{drop-drop}
 use Rattle.combine_base.specs.Stream.View.{View, Takes, Moves, extended}
-use Rattle.combine_base.specs.Error.Items.{Item}
+use Rattle.combine_base.specs.Error.Errors.{Errors, Only}
+use Rattle.combine_base.specs.Error.Items.{Item, end_of_input}
 use Rattle.combine_base.specs.Parser.Outcome.{Refused}
 use Rattle.combine_base.specs.Parser.Answer.{Run, World, Answers, Leaves, answers, ends}
-use Rattle.combine_base.specs.Refusals.{at_end}
+use Rattle.combine_base.specs.Refusals.{Saying, at_end}
 use Rattle.combine_base.proofs.Progress.{takes_more, takes_open, moves_more}
 use Rattle.combine_base.specs.declared.stream.Kind.{Kind}
 use Rattle.combine_base.specs.declared.stream.Kind.TheVariants as kinds
@@ -17,10 +18,13 @@ use Rattle.combine_stream.specs.Ranges.{size_of, Place, Inside, UnconsRange, no_
 use Rattle.combine_stream.specs.RangeFacts.{size_take, size_rises, place_at_zero}
 use Rattle.combine_range.specs.declared.distance.Distance.{Distance}
 use Rattle.combine_range.specs.Kept.{kept, HandsOut, KeepsDistance, items_of}
+use Rattle.combine_range.specs.Lengths as lengths
 use Rattle.combine_range.specs.Peeking.{RefusesPeeked, NoRange, answers_none}
+use Rattle.combine_range.specs.Reasons as reasons
 use Rattle.combine_range.proofs.Kept.{into, accepts, refuses, asks_from, hands_over}
 use Rattle.combine_range.proofs.Peeked.{ended_peeked}
 use Rattle.combine_range.proofs.Walking.{some_before}
+use Rattle.combine_range_search.specs.Reasons.{refuses_search}
 use Rattle.combine_range_search.specs.Searches.{Search, Searched, Skips, FoundAt, Missing, Before, Beyond, Torn, Absent, Short, Inner, Nowhere, Far, Passed, searching, searching_resumes}
 use Rattle.combine_range_search.specs.UpTo.{UpTo, RefusesAbsent, refuses_absent}
 use Rattle.combine_range_search.specs.declared.search.TakeRange.TheVariants.{Found, NotFound}
@@ -134,6 +138,11 @@ module _ {P T R Q E : Type 0} (w : World P T Distance E) (size : T → ℕ) (fil
     beyond : size_of size mid.unread < i → Beyond size s d r.old.unread
     beyond l = record { items = i; found = found; short = let a = all_items in omega arith }
 
+    -- the error where what stands before the place is no range
+    pub found_says : (seen : Errors T R P E) (u : lengths.Unfit size spells i mid) (x : E) → reasons.unfit_says seen size spells r.old.position i mid u x → refuses_search seen size spells s d r.old false x
+    found_says seen (lengths.Short l o) x h = (Short (beyond l) (sym is_open ∙ o) refl, h)
+    found_says seen (lengths.Split l) x h = (Inner (torn l) refl, h)
+
     module _ (v : View P T) (h : Failures) (k : Kind) (u : UnconsRange w.steady w.step size spells mid v g h i (Err k)) where
       pub found_waits : (state : Distance) (result : ParseResult R E) → k ≡ kinds.End → v.is_open ≡ true → (Takes w.step p.is.0 r.old v → KeepsDistance w.steady w.step size r.old r.new h r.after p.is.0 w.kind state r.left result) → w.fresh state → r.before.reads ≤ h.reads → r.before.resets ≤ h.resets → Answers w (kept size (searching size spells s) adds) r result
       found_waits state result j o t f x y = going (subst (no_range w.steady w.step size spells mid v g h i) j u.is)
@@ -205,6 +214,10 @@ module _ {P T R Q E : Type 0} (w : World P T Distance E) (size : T → ℕ) (fil
 
       absent : (c : Bool) → empty ≡ not c → searching size spells s d r.old (Refused c)
       absent c b = Absent missing (sym is_open ∙ o) (none_left r.old.unread refl c b)
+
+      pub missing_says : (seen : Errors T R P E) (c : Bool) (x : E) → empty ≡ not c → Saying seen kinds.End r.old.position (Only end_of_input) x → refuses_search seen size spells s d r.old c x
+      unfolding absent
+      missing_says seen c x b h = (absent c b, h)
 
       left : Leaves w r
       left = record { count = p.is.0; taken = subst (Takes w.step p.is.0 r.old) m p.is.2.taken; state = f }

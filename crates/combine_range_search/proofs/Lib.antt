@@ -1,4 +1,5 @@
 pub mod Bounding
 pub mod Calling
 pub mod Looking
+pub mod Reasons
 pub mod Scanning

@@ -3,6 +3,7 @@ pub mod Asking
 pub mod Encoding
 pub mod InBytes
 pub mod Options
+pub mod Reasons
 pub mod Scans
 pub mod Searchers
 pub mod Searches

@@ -1,6 +1,7 @@
 //! What is answered where a search finds no place.
 ghost use Rattle.std.specs.Prelude.{◌≡◌, ◌↔◌, false, true};
 ghost use Rattle.combine_base.specs.Stream.Calls.{Passes};
+ghost use Rattle.combine_range_search.specs.Reasons.{SaysAbsent};
 ghost use Rattle.combine_range_search.specs.UpTo.{PassesUpTo, RefusesAbsent};
 
 use combine_base::error::ParseResult;
@@ -48,7 +49,8 @@ pub fn not_found<O, Input: Stream>(
     position: Input::Position,
 ) -> ParseResult<O, Input::Error>
     requires { (Input.view input.now).is_open ≡ false }
-    ensures { RefusesAbsent Input.Error.seen.kind Input.Error.seen.frugal empty result }
+    ensures refuses { RefusesAbsent Input.Error.seen.kind Input.Error.seen.frugal empty result }
+    ensures says { SaysAbsent Input.Error.seen position result }
 {
     match no_token(input, Kind::End, position) {
         ParseResult::PeekErr(refusal) => {

@@ -1,7 +1,9 @@
 //! Searches for a place in what is unread, and the parser of what stands before it.
 ghost use Rattle.std.specs.Prelude.{◌≡◌, List};
 ghost use Rattle.combine_base.specs.Error.Errors.{Nothing};
-ghost use Rattle.combine_range.specs.Kept.{kept, kept_is_meaning, kept_means_one};
+ghost use Rattle.combine_token.specs.Reasons.{begins_at};
+ghost use Rattle.combine_range.specs.Kept.{items_of, kept, kept_is_meaning, kept_means_one};
+ghost use Rattle.combine_range_search.specs.Reasons.{refuses_search};
 ghost use Rattle.combine_range_search.specs.Searches.{IsOneSearch, IsSearch, Search, Searched, searching, searching_is_reading, searching_is_single};
 
 use crate::passing::{is_nothing, may_grow, not_found, pass_up_to};
@@ -88,6 +90,8 @@ where
     ghost valid = { λ s. Unit {0} };
 
     ghost meaning = { λ p. kept Input.size (searching Input.size Input.spells (S.search p.searcher)) Nothing };
+
+    ghost refuses = { λ p k. refuses_search Input.Error.seen Input.size Input.spells (S.search p.searcher) (begins_at items_of k) };
 
     ghost parts = { λ p. 1 };
 

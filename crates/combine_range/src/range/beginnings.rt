@@ -2,10 +2,13 @@
 ghost use Rattle.std.specs.Prelude.{◌≡◌, true, false};
 ghost use Rattle.combine_base.specs.Parser.Answer.{Answers, world};
 ghost use Rattle.combine_base.specs.Error.Errors.{Nothing};
+ghost use Rattle.combine_base.specs.Parser.Reasons.{Reasoned, kept_from};
 ghost use Rattle.combine_base.specs.Stream.Calls.{Passes};
+ghost use Rattle.combine_token.specs.Reasons.{peeked_only};
 ghost use Rattle.combine_stream.specs.RangeFacts.{IsPredicate};
 ghost use Rattle.combine_range.specs.Kept.{kept, kept_is_meaning, kept_means_one};
 ghost use Rattle.combine_range.specs.Beginnings.{beginning, beginning_is_reading, beginning_is_single};
+ghost use Rattle.combine_range.specs.Reasons.{refuses_empty, refuses_kept};
 
 use crate::distance::Distance;
 use crate::passing::{
@@ -48,6 +51,9 @@ where
     ensures answers { Answers (world Input.step Input.Error.seen Input.steady ⟦<Distance as Default>⟧.is_default)
         (kept {R = Input.Range} Input.size (beginning Input.size Input.spells (F.answers test.now) some) Nothing)
         (record { first = first; state = state.old; left = state.new; old = Input.view input.old; new = Input.view input.new; before = Input.failures input.old; after = Input.failures input.new })
+        result }
+    ensures refuses { Reasoned Input.Error.seen.kind (Input.view input.new).is_open
+        (peeked_only (refuses_kept Input.Error.seen Input.size (refuses_empty Input.Error.seen (F.answers test.now) some) (kept_from first state.old) (Input.view input.old)))
         result }
 {
     let start = input.checkpoint();
@@ -94,6 +100,8 @@ where
 
     ghost meaning = { λ p. kept Input.size (beginning Input.size Input.spells (F.answers p.predicate) false) Nothing };
 
+    ghost refuses = { λ p k v. peeked_only (refuses_kept Input.Error.seen Input.size (λ d u e. ⊥) k v) };
+
     ghost parts = { λ p. 1 };
 
     #[inline(always)]
@@ -138,6 +146,8 @@ where
     ghost valid = { λ s. Unit {0} };
 
     ghost meaning = { λ p. kept Input.size (beginning Input.size Input.spells (F.answers p.predicate) true) Nothing };
+
+    ghost refuses = { λ p k v. peeked_only (refuses_kept Input.Error.seen Input.size (refuses_empty Input.Error.seen (F.answers p.predicate) true) k v) };
 
     ghost parts = { λ p. 1 };
 

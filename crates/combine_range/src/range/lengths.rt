@@ -2,8 +2,10 @@
 ghost use Rattle.std.specs.Prelude.{◌≡◌};
 ghost use Rattle.combine_base.specs.Error.Errors.{Nothing, Only};
 ghost use Rattle.combine_base.specs.Error.Items.{Expected, OfRange};
+ghost use Rattle.combine_token.specs.Reasons.{peeked_only};
 ghost use Rattle.combine_token.specs.Stateless.{stateless, stateless_is_meaning, stateless_means_one};
 ghost use Rattle.combine_range.specs.Lengths.{matching, matching_is_reading, matching_is_single, taking, taking_is_reading, taking_is_single};
+ghost use Rattle.combine_range.specs.Reasons.{refuses_differing, refuses_unfit};
 ghost use Rattle.combine_range.specs.Wanted.{Fair, given};
 
 use crate::passing::no_range;
@@ -44,6 +46,8 @@ where
     ghost valid = { λ s. Unit {0} };
 
     ghost meaning = { λ p. stateless (taking Input.size Input.spells p.count) ⊥ (Unit {0}) Nothing };
+
+    ghost refuses = { λ p k v. peeked_only (refuses_unfit Input.Error.seen Input.size Input.spells p.count v) };
 
     ghost parts = { λ p. 1 };
 
@@ -101,6 +105,8 @@ where
     ghost valid = { λ s. Unit {0} };
 
     ghost meaning = { λ p. stateless (matching Input.size Input.spells (given Input.Range.count Input.Range.eq p.wanted)) ⊥ (Unit {0}) (Only (Expected (OfRange p.wanted))) };
+
+    ghost refuses = { λ p k v. peeked_only (refuses_differing Input.Error.seen Input.size Input.spells (given Input.Range.count Input.Range.eq p.wanted) v) };
 
     ghost parts = { λ p. 1 };
 

@@ -3,6 +3,7 @@ ghost use Rattle.std.specs.Prelude.{◌≡◌, if◌then◌else◌};
 ghost use Rattle.combine_base.specs.Parser.Mapped.{mapped, mapped_is_meaning, mapped_means_one};
 ghost use Rattle.combine_base.specs.Stream.Calls.{Passes};
 ghost use Rattle.combine_base.specs.Stream.View.{View, Takes};
+ghost use Rattle.combine_range.specs.Reasons.{refuses_part};
 ghost use Rattle.combine_range.specs.Recognized.{HasValid, IsFresh, beside, recognized, recognized_is_meaning, recognized_means_one};
 
 use crate::passing::{hand_out, not_passed, pass_items};
@@ -78,6 +79,8 @@ where
 
     ghost meaning = { λ p. recognized Input.size Input.spells Input.step (P.meaning p.0) };
 
+    ghost refuses = { λ p. refuses_part Input.Error.seen Input.size Input.step (P.refuses p.0) };
+
     ghost parts = { λ p. 1 };
 
     ghost default_valid = { λ s d. P.default_valid _ d.1 };
@@ -152,6 +155,8 @@ where
     ghost valid = { HasValid P.valid };
 
     ghost meaning = { λ p. mapped (recognized Input.size Input.spells Input.step (P.meaning p.0.0)) (λ both range. range ≡ both.0) };
+
+    ghost refuses = { λ p. refuses_part Input.Error.seen Input.size Input.step (P.refuses p.0.0) };
 
     ghost parts = { λ p. 1 };
 

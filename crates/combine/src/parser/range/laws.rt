@@ -5,6 +5,6 @@ pub use combine_range::laws::{
     texts_are_fair, texts_begin, texts_fail,
 };
 pub use combine_range_length_prefix::laws::{
-    length_prefix_has_one_outcome, length_prefix_is_a_length_and_its_items,
+    length_prefix_has_one_outcome, length_prefix_is_a_length_and_its_items, length_prefix_refuses,
 };
 pub use combine_range_search::laws::{stable_has_one_outcome, stable_means_what_it_answers};

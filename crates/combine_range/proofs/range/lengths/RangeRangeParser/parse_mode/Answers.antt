@@ -1,4 +1,8 @@
+use Rattle.std.proofs.Common.{◌∙◌}
 use Rattle.combine_range.proofs.Measuring.{match_commits, match_none, match_refuses, match_stuck}
+use Rattle.combine_base.proofs.Reasoning.{reasons_fault, reasons_ok}
+use Rattle.combine_base.specs.declared.stream.Kind.TheVariants as kinds
+use Rattle.combine_range.proofs.Reasons.{reasons_other, reasons_unmatched}
 use Rattle.combine_range.proofs.range.lengths.RangeRangeParser.parse_mode.Goals as goal
 
 pub returns-then-eq-clause-answers : goal.returns-then-eq-clause-answers
@@ -14,4 +18,18 @@ pub returns-in-Err-reset-clause-answers : goal.returns-in-Err-reset-clause-answe
 returns-in-Err-reset-clause-answers g c = match_stuck _ _ g.met.Input.RangeStream.filled _ _ _ _ _ _ c.len.ensures tt _ _ _ _ _ c.in-Ok.ensures.read c.uncons_range.ensures.passes.resets c.new_error-in-Err-reset.ensures.kind c.in-Err-reset.ensures.to.is
 
 pub returns-in-Err-clause-answers : goal.returns-in-Err-clause-answers
-returns-in-Err-clause-answers g c = match_none _ _ g.met.Input.RangeStream.filled _ _ _ _ _ _ c.len.ensures tt _ _ c.in-Err.ensures.read c.no_range.ensures
+returns-in-Err-clause-answers g c = match_none _ _ g.met.Input.RangeStream.filled _ _ _ _ _ _ c.len.ensures tt _ _ c.in-Err.ensures.read c.no_range.ensures.answers
+
+pub returns-then-eq-clause-refuses : goal.returns-then-eq-clause-refuses
+returns-then-eq-clause-refuses g c = reasons_ok _ _ _ _
+
+pub returns-in-Ok-reset-clause-refuses : goal.returns-in-Ok-reset-clause-refuses
+returns-in-Ok-reset-clause-refuses g c =
+    reasons_other g.Input.Error.ParseError.seen _ _ _ _ _ _ _ c.len.ensures _ _ _ _ _ _ _ c.in-Ok.ensures.read c.eq.ensures c.if-eq.false (rw (c.from.ensures, ← c.position-position.ensures) c.new_error.ensures)
+
+pub returns-in-Err-reset-clause-refuses : goal.returns-in-Err-reset-clause-refuses
+returns-in-Err-reset-clause-refuses g c = reasons_fault _ _ _ _ kinds.Reset (c.new_error-in-Err-reset.ensures.kind ∙ c.in-Err-reset.ensures.to.is.0) tt
+
+pub returns-in-Err-clause-refuses : goal.returns-in-Err-clause-refuses
+returns-in-Err-clause-refuses g c =
+    reasons_unmatched g.Input.Error.ParseError.seen _ _ _ _ _ _ _ c.len.ensures _ _ _ _ _ c.in-Err.ensures.read c.no_range.ensures.answers (rw c.position-position.ensures at c.no_range.ensures.says)

@@ -1,6 +1,7 @@
 use Rattle.std.proofs.Common.{refl}
 use Rattle.combine_base.proofs.Mapped.{mapped_err, mapped_ok, mapped_peek_err, mapped_peek_ok}
 use Rattle.combine_base.specs.Parser.Mapped.{mapped_means_same}
+use Rattle.combine_base.proofs.Reasoning.{reasons_err, reasons_ok, reasons_peek_err, reasons_peek_ok}
 use Rattle.combine_range.proofs.range.recognized.RecognizeParser.parse_mode.Goals as goal
 
 pub returns-in-CommitOk-clause-answers : goal.returns-in-CommitOk-clause-answers
@@ -26,3 +27,15 @@ returns-in-PeekErr-clause-answers g c = mapped_peek_err _ _ _ _ _ c.in-PeekErr.e
 
 pub returns-in-PeekErr-clause-same : goal.returns-in-PeekErr-clause-same
 returns-in-PeekErr-clause-same g c = mapped_means_same _ _ _ c.parse_mode.ensures.same
+
+pub returns-in-CommitOk-clause-refuses : goal.returns-in-CommitOk-clause-refuses
+returns-in-CommitOk-clause-refuses g c = reasons_ok _ _ _ _
+
+pub returns-in-PeekOk-clause-refuses : goal.returns-in-PeekOk-clause-refuses
+returns-in-PeekOk-clause-refuses g c = reasons_peek_ok _ _ _ _
+
+pub returns-in-CommitErr-clause-refuses : goal.returns-in-CommitErr-clause-refuses
+returns-in-CommitErr-clause-refuses g c = reasons_err _ _ _ _ c.in-CommitErr.ensures.refuses
+
+pub returns-in-PeekErr-clause-refuses : goal.returns-in-PeekErr-clause-refuses
+returns-in-PeekErr-clause-refuses g c = reasons_peek_err _ _ _ _ c.in-PeekErr.ensures.refuses

@@ -1,6 +1,12 @@
-use Rattle.std.proofs.Common.{refl, sym, ◌∙◌, ◌+◌, ap}
+use Rattle.std.proofs.Common.{true, false, refl, sym, ◌∙◌, ◌+◌, ap}
 use Rattle.std.proofs.lemmas.Bool.{false≢true}
-use Rattle.combine_base.proofs.Progress.{takes_more}
+use Rattle.combine_base.specs.Stream.View.{View}
+use Rattle.combine_base.proofs.Calls.{same_mark}
+use Rattle.combine_base.proofs.Progress.{takes_more, takes_open}
+use Rattle.combine_base.proofs.Explaining.{reason_peeked}
+use Rattle.combine_base.proofs.Reasoning.{reasons_fault, reasons_hand_on, reasons_need, reasons_peeked}
+use Rattle.combine_base.specs.declared.stream.Kind.TheVariants as kinds
+use Rattle.combine_range.proofs.Reasons.{part_behind, part_inside, reasons_beside, reasons_unpassed}
 use Rattle.combine_range.proofs.Since.{ahead}
 use Rattle.combine_range.proofs.Recognizing.{comes, slice_hands, slice_refuses, slice_settles, slice_unreset, slice_asks, slice_unpassed}
 use Rattle.combine_range.specs.Recognized.{recognized_means_same}
@@ -9,7 +15,7 @@ use Rattle.combine_range.proofs.range.recognized.RecognizeWithValueParser.parse_
 
 pub returns-in-Err-clause-answers : goal.returns-in-Err-clause-answers
 returns-in-Err-clause-answers g c =
-    slice_unpassed _ _ _ (g.P.Parser.meaning c.args.self.now.0) _ _ (rw c.is_first.ensures at c.begin-distance.ensures.begun) _ _ _ c.in-Err.ensures.over c.not_passed.ensures (ap (λ (s : RecognizeState _). s.distance) c.begin-distance.ensures.left) c.default.ensures
+    slice_unpassed _ _ _ (g.P.Parser.meaning c.args.self.now.0) _ _ (rw c.is_first.ensures at c.begin-distance.ensures.begun) _ _ _ c.in-Err.ensures.over c.not_passed.ensures.answers (ap (λ (s : RecognizeState _). s.distance) c.begin-distance.ensures.left) c.default.ensures
 
 pub returns-in-CommitOk-clause-answers : goal.returns-in-CommitOk-clause-answers
 returns-in-CommitOk-clause-answers g c =
@@ -67,3 +73,45 @@ returns-in-PeekErr-clause-same g c = recognized_means_same _ _ _ _ _ c.parse_mod
 
 pub returns-else-needs_more-clause-same : goal.returns-else-needs_more-clause-same
 returns-else-needs_more-clause-same g c = recognized_means_same _ _ _ _ _ c.parse_mode.ensures.same
+
+pub returns-in-CommitOk-clause-refuses : goal.returns-in-CommitOk-clause-refuses
+returns-in-CommitOk-clause-refuses g c =
+    let o = c.in_default.ensures.over.is in
+    let stands = g.met.Input.ResetStream.lasts _ _ _ _ c.parse_mode.ensures.passes.marks (g.met.Input.ResetStream.lasts _ _ _ _ c.pass_items.ensures.passes.marks c.checkpoint-start.ensures.stands) in
+    let p = c.in-CommitOk.ensures.answers.is in
+    rw c.with_value.ensures (reasons_beside _ _ _ _ _ _ _ _ _ _ _ _ _ (c.hand_out.ensures.hands _ (o.0 + p.count) stands (takes_more _ _ _ _ _ _ o.2.taken p.taken)))
+
+pub returns-in-PeekOk-clause-refuses : goal.returns-in-PeekOk-clause-refuses
+returns-in-PeekOk-clause-refuses g c =
+    let o = c.in_default.ensures.over.is in
+    let stands = g.met.Input.ResetStream.lasts _ _ _ _ c.parse_mode.ensures.passes.marks (g.met.Input.ResetStream.lasts _ _ _ _ c.pass_items.ensures.passes.marks c.checkpoint-start.ensures.stands) in
+    let p = c.in-PeekOk.ensures.answers.is in
+    rw c.with_value-in-PeekOk.ensures (reasons_beside _ _ _ _ _ _ _ _ _ _ _ _ _ (c.hand_out-in-PeekOk.ensures.hands _ (o.0 + p.count) stands (takes_more _ _ _ _ _ _ o.2.taken p.taken)))
+
+pub returns-in-Err-clause-refuses : goal.returns-in-Err-clause-refuses
+returns-in-Err-clause-refuses g c =
+    let s = g.Input.Error.ParseError.seen in
+    reasons_unpassed s _ _ _ _ _ _ _ _ _ _ _ (part_inside s _ _ (g.P.Parser.refuses c.args.self.now.0) _ (g.M.ParseMode.first c.args.mode) c.args.state.now (rw c.is_first.ensures at c.begin-distance.ensures.begun) (g.Input.StreamOnce.view c.args.input.now)) _ _ c.in-Err.ensures.over c.not_passed.ensures.answers (rw c.position-position.ensures at c.not_passed.ensures.says)
+
+pub returns-in-PeekErr-clause-refuses : goal.returns-in-PeekErr-clause-refuses
+returns-in-PeekErr-clause-refuses g c =
+    let o = c.in_default.ensures.over.is in
+    let s = g.Input.Error.ParseError.seen in
+    reasons_peeked _ _ _ _ (part_behind s _ _ (g.P.Parser.refuses c.args.self.now.0) _ (g.M.ParseMode.first c.args.mode) c.args.state.now (rw c.is_first.ensures at c.begin-distance.ensures.begun) (g.Input.StreamOnce.view c.args.input.now) g.met.Input.RangeStream.filled _ (ap (λ (s : RecognizeState _). s.part) c.begin-distance.ensures.left) _ o.0 o.1 o.2.taken.rest false _ (reason_peeked _ _ _ _ c.in-PeekErr.ensures.refuses))
+
+pub returns-else-needs_more-clause-refuses : goal.returns-else-needs_more-clause-refuses
+returns-else-needs_more-clause-refuses g c =
+    let o = c.in_default.ensures.over.is in
+    let s = g.Input.Error.ParseError.seen in
+    reasons_hand_on _ _ _ _ _ (λ x p. part_behind s _ _ (g.P.Parser.refuses c.args.self.now.0) _ (g.M.ParseMode.first c.args.mode) c.args.state.now (rw c.is_first.ensures at c.begin-distance.ensures.begun) (g.Input.StreamOnce.view c.args.input.now) g.met.Input.RangeStream.filled _ (ap (λ (s : RecognizeState _). s.part) c.begin-distance.ensures.left) _ o.0 o.1 o.2.taken.rest true x p) c.in-CommitErr.ensures.refuses
+
+pub returns-in-Err-reset-clause-refuses : goal.returns-in-Err-reset-clause-refuses
+returns-in-Err-reset-clause-refuses g c = reasons_fault _ _ _ _ kinds.Reset (c.new_error.ensures.kind ∙ c.in-Err-reset.ensures.to.is.0) tt
+
+pub returns-then-needs_more-clause-refuses : goal.returns-then-needs_more-clause-refuses
+returns-then-needs_more-clause-refuses g c =
+    let o = c.in_default.ensures.over.is in
+    let stands = g.met.Input.ResetStream.lasts _ _ _ _ c.parse_mode.ensures.passes.marks (g.met.Input.ResetStream.lasts _ _ _ _ c.pass_items.ensures.passes.marks c.checkpoint-start.ensures.stands) in
+    let q = c.needs_more.ensures.0 c.if-needs_more.true in
+    let still = sym (takes_open _ o.0 _ _ o.2.taken) ∙ sym (same_mark _ _ _ _ c.in-CommitErr.ensures.answers) ∙ q.1 in
+    reasons_need _ _ _ _ q.0 (ap (λ (v : View _ _). v.is_open) (c.in_default-reset.ensures.to.is.0 _ stands) ∙ still)
