@@ -1,7 +1,9 @@
 //! Tuples as parsers.
 ghost use Rattle.std.specs.Prelude.{◌≡◌, ◌+◌, false, min, true};
 ghost use Rattle.combine_base.specs.Parser.Meaning.{MeansSame};
+ghost use Rattle.combine_base.specs.Parser.Reasons.{Reasoned, kept_from};
 ghost use Rattle.combine_base.specs.Sequence.Places.{begins_valid_1, begins_valid_2, begins_valid_3, begins_valid_4, valid_1, valid_2, valid_3, valid_4};
+ghost use Rattle.combine_base.specs.Sequence.TupleRefusals.{refuses_tuple_1, refuses_tuple_2, refuses_tuple_3, refuses_tuple_4};
 ghost use Rattle.combine_base.specs.Sequence.Tuples.{tuple_1, tuple_1_is_meaning, tuple_1_means_one, tuple_2, tuple_2_is_meaning, tuple_2_means_one, tuple_3, tuple_3_is_meaning, tuple_3_means_one, tuple_4, tuple_4_is_meaning, tuple_4_means_one};
 
 use crate::error::{ErrorOffset, ParseResult, Tracked};
@@ -68,6 +70,7 @@ pub fn parse_1<Input: Stream, A: Parser<Input>, M: ParseMode>(
     requires starts { M.first mode ≡ true → ⟦<State1<Input, A> as Default>⟧.is_default from }
     requires fresh { ⟦<State1<Input, A> as Default>⟧.is_default state.old }
     ensures called { ⟦<(A,) as Calls<Input>>⟧.called (record { 0 = a.old }) (record { 0 = a.new }) input.old input.new false from state.new result }
+    ensures refuses { Reasoned Input.Error.seen.kind (Input.view input.new).is_open (refuses_tuple_1 (A.refuses a.old) (kept_from (M.first mode) from) (Input.view input.old)) result }
     ensures part { MeansSame (A.meaning a.old) (A.meaning a.new) }
 {
     let SequenceState {
@@ -104,6 +107,7 @@ pub fn parse_2<Input: Stream, A: Parser<Input>, B: Parser<Input>, M: ParseMode>(
     requires starts { M.first mode ≡ true → ⟦<State2<Input, A, B> as Default>⟧.is_default from }
     requires fresh { ⟦<State2<Input, A, B> as Default>⟧.is_default state.old }
     ensures called { ⟦<(A, B) as Calls<Input>>⟧.called (a.old, b.old) (a.new, b.new) input.old input.new false from state.new result }
+    ensures refuses { Reasoned Input.Error.seen.kind (Input.view input.new).is_open (refuses_tuple_2 Input.step Input.Error.seen B.PartialState.is_default A.Parser B.Parser a.old b.old (kept_from (M.first mode) from) (Input.view input.old)) result }
     ensures parts { MeansSame (A.meaning a.old) (A.meaning a.new) × MeansSame (B.meaning b.old) (B.meaning b.new) }
 {
     match from.into_place() {
@@ -130,7 +134,8 @@ fn parse_3<Input: Stream, A: Parser<Input>, B: Parser<Input>, C: Parser<Input>, 
     requires ready { ⟦<(A, B, C) as Calls<Input>>⟧.ready (a.old, b.old, c.old) from }
     requires starts { M.first mode ≡ true → ⟦<State3<Input, A, B, C> as Default>⟧.is_default from }
     requires fresh { ⟦<State3<Input, A, B, C> as Default>⟧.is_default state.old }
-    ensures { ⟦<(A, B, C) as Calls<Input>>⟧.called (a.old, b.old, c.old) (a.new, b.new, c.new) input.old input.new false from state.new result }
+    ensures called { ⟦<(A, B, C) as Calls<Input>>⟧.called (a.old, b.old, c.old) (a.new, b.new, c.new) input.old input.new false from state.new result }
+    ensures refuses { Reasoned Input.Error.seen.kind (Input.view input.new).is_open (refuses_tuple_3 Input.step Input.Error.seen B.PartialState.is_default C.PartialState.is_default A.Parser B.Parser C.Parser a.old b.old c.old (kept_from (M.first mode) from) (Input.view input.old)) result }
 {
     match from.into_place() {
         SequencePlace::Before(at) => {
@@ -164,7 +169,8 @@ fn parse_4<
     requires ready { ⟦<(A, B, C, D) as Calls<Input>>⟧.ready (a.old, b.old, c.old, d.old) from }
     requires starts { M.first mode ≡ true → ⟦<State4<Input, A, B, C, D> as Default>⟧.is_default from }
     requires fresh { ⟦<State4<Input, A, B, C, D> as Default>⟧.is_default state.old }
-    ensures { ⟦<(A, B, C, D) as Calls<Input>>⟧.called (a.old, b.old, c.old, d.old) (a.new, b.new, c.new, d.new) input.old input.new false from state.new result }
+    ensures called { ⟦<(A, B, C, D) as Calls<Input>>⟧.called (a.old, b.old, c.old, d.old) (a.new, b.new, c.new, d.new) input.old input.new false from state.new result }
+    ensures refuses { Reasoned Input.Error.seen.kind (Input.view input.new).is_open (refuses_tuple_4 Input.step Input.Error.seen B.PartialState.is_default C.PartialState.is_default D.PartialState.is_default A.Parser B.Parser C.Parser D.Parser a.old b.old c.old d.old (kept_from (M.first mode) from) (Input.view input.old)) result }
 {
     match from.into_place() {
         SequencePlace::Before(at) => {
@@ -190,6 +196,8 @@ impl<Input: Stream, A: Parser<Input>> Parser<Input> for (A,) {
     ghost valid = { valid_1 A.valid };
 
     ghost meaning = { λ p. tuple_1 (A.meaning p.0) };
+
+    ghost refuses = { λ p. refuses_tuple_1 (A.refuses p.0) };
 
     ghost parts = { λ p. A.parts p.0 };
 
@@ -236,6 +244,8 @@ impl<Input: Stream, A: Parser<Input>, B: Parser<Input>> Parser<Input> for (A, B)
 
     ghost meaning = { λ p. tuple_2 Input.step (A.meaning p.0) (B.meaning p.1) };
 
+    ghost refuses = { λ p. refuses_tuple_2 Input.step Input.Error.seen B.PartialState.is_default A.Parser B.Parser p.0 p.1 };
+
     ghost parts = { λ p. min (A.parts p.0 + B.parts p.1) 255 };
 
     #[inline(always)]
@@ -281,6 +291,8 @@ impl<Input: Stream, A: Parser<Input>, B: Parser<Input>, C: Parser<Input>> Parser
     ghost valid = { valid_3 A.valid B.valid C.valid };
 
     ghost meaning = { λ p. tuple_3 Input.step (A.meaning p.0) (B.meaning p.1) (C.meaning p.2) };
+
+    ghost refuses = { λ p. refuses_tuple_3 Input.step Input.Error.seen B.PartialState.is_default C.PartialState.is_default A.Parser B.Parser C.Parser p.0 p.1 p.2 };
 
     ghost parts = { λ p. min (A.parts p.0 + B.parts p.1 + C.parts p.2) 255 };
 
@@ -341,6 +353,8 @@ impl<Input: Stream, A: Parser<Input>, B: Parser<Input>, C: Parser<Input>, D: Par
     ghost valid = { valid_4 A.valid B.valid C.valid D.valid };
 
     ghost meaning = { λ p. tuple_4 Input.step (A.meaning p.0) (B.meaning p.1) (C.meaning p.2) (D.meaning p.3) };
+
+    ghost refuses = { λ p. refuses_tuple_4 Input.step Input.Error.seen B.PartialState.is_default C.PartialState.is_default D.PartialState.is_default A.Parser B.Parser C.Parser D.Parser p.0 p.1 p.2 p.3 };
 
     ghost parts = { λ p. min (A.parts p.0 + B.parts p.1 + C.parts p.2 + D.parts p.3) 255 };
 

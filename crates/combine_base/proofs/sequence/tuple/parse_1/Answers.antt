@@ -1,5 +1,8 @@
 use Rattle.combine_base.specs.Sequence.Places.{begins_valid_1}
 use Rattle.combine_base.specs.Sequence.Tuples.{tuple_1_means_same}
+use Rattle.combine_base.proofs.Explaining.{reason_peeked}
+use Rattle.combine_base.proofs.Reasoning.{reasons_hand_on, reasons_peeked}
+use Rattle.combine_base.proofs.Refusing.{single_own}
 use Rattle.combine_base.proofs.SingleAnswers.{single_commits, single_peeks, single_error, single_refused}
 use Rattle.combine_base.proofs.sequence.tuple.parse_1.Goals as goal
 
@@ -22,3 +25,9 @@ pub returns-in-PeekErr-clause-called : goal.returns-in-PeekErr-clause-called
 returns-in-PeekErr-clause-called g c =
     let call = c.parse_mode.ensures in
     record { lawful = call.lawful; valid = begins_valid_1 g.met.A.Parser.default_valid c.args.state.now c.requires.fresh; same = tuple_1_means_same call.same; passes = call.passes; answers = single_refused _ _ _ (g.met.A.Parser.laws _ c.requires.ready.lawful) _ _ c.into_only-kept.ensures _ c.requires.starts _ _ _ _ _ _ c.requires.fresh _ c.in-PeekErr.ensures.answers }
+
+pub returns-in-CommitErr-clause-refuses : goal.returns-in-CommitErr-clause-refuses
+returns-in-CommitErr-clause-refuses g c = reasons_hand_on _ _ _ _ _ (λ e p. single_own (g.A.Parser.refuses c.args.a.now) _ c.into_only-kept.ensures _ p) c.in-CommitErr.ensures.refuses
+
+pub returns-in-PeekErr-clause-refuses : goal.returns-in-PeekErr-clause-refuses
+returns-in-PeekErr-clause-refuses g c = reasons_peeked _ _ _ _ (single_own (g.A.Parser.refuses c.args.a.now) _ c.into_only-kept.ensures _ (reason_peeked _ _ _ _ c.in-PeekErr.ensures.refuses))

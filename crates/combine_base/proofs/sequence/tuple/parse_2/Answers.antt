@@ -1,7 +1,9 @@
 use Rattle.std.proofs.Common.{sym, ◌∙◌}
 use Rattle.combine_base.specs.Sequence.Places.{begins_valid_1, place_2}
+use Rattle.combine_base.specs.Sequence.TupleRefusals.{refuses_tuple_1}
 use Rattle.combine_base.specs.Sequence.Tuples.{push_1, tuple_1, tuple_1_is_meaning}
 use Rattle.combine_base.proofs.Following.{last_called, sequence_called}
+use Rattle.combine_base.proofs.Refusing.{last_reasons, sequence_reasons}
 use Rattle.combine_base.proofs.sequence.tuple.parse_2.Goals as goal
 
 pub parse_1-answer-requires-clause-ready : goal.parse_1-answer-requires-clause-ready
@@ -27,3 +29,11 @@ pub returns-in-Last-clause-called : goal.returns-in-Last-clause-called
 returns-in-Last-clause-called g c =
     let all = last_called place_2 push_1 c.requires.fresh (tuple_1 (g.A.Parser.meaning c.args.a.now)) (begins_valid_1 g.met.A.Parser.default_valid) (sym c.into_place.ensures ∙ c.in-Last.is) c.resume_last.ensures in
     record { lawful = (c.requires.ready.lawful.0, c.resume_last.ensures.lawful); valid = all.valid; same = all.same; passes = all.passes; answers = all.answers }
+
+pub returns-in-Before-clause-refuses : goal.returns-in-Before-clause-refuses
+returns-in-Before-clause-refuses g c =
+    let first = c.parse_1-answer.ensures in
+    sequence_reasons place_2 push_1 (tuple_1 (g.A.Parser.meaning c.args.a.now)) (refuses_tuple_1 (g.A.Parser.refuses c.args.a.now)) (tuple_1_is_meaning (g.met.A.Parser.laws _ c.requires.ready.lawful.0)) c.requires.starts (sym c.into_place.ensures ∙ c.in-Before.is) first.called.answers first.refuses c.parse_rest.ensures
+
+pub returns-in-Last-clause-refuses : goal.returns-in-Last-clause-refuses
+returns-in-Last-clause-refuses g c = last_reasons place_2 push_1 (tuple_1 (g.A.Parser.meaning c.args.a.now)) (refuses_tuple_1 (g.A.Parser.refuses c.args.a.now)) _ c.requires.starts (sym c.into_place.ensures ∙ c.in-Last.is) c.resume_last.ensures
