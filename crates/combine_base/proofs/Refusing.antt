@@ -1,16 +1,16 @@
 -- the errors of a sequence's refusals, by those of its parts
-use Rattle.std.proofs.Common.{◌≡◌, ◌⊎◌, inl, inr, ℕ, Bool, true, false, refl, sym, subst, Option, Some, None}
+use Rattle.std.proofs.Common.{◌≡◌, ◌⊎◌, inl, inr, ℕ, Bool, true, false, refl, sym, subst, Some}
 use Rattle.combine_base.specs.Error.Errors.{Errors}
 use Rattle.combine_base.specs.Parser.Answer.{World, Answers, Accepts, world}
 use Rattle.combine_base.specs.Parser.Drivers.{Explained, Refusal}
 use Rattle.combine_base.specs.Parser.Meaning.{Meaning, IsMeaning, begun}
 use Rattle.combine_base.specs.Parser.Outcome.{Accepted}
-use Rattle.combine_base.specs.Parser.Reasons.{Begins, Reasoned, RefusedWith, Refusing, from_part, kept_from, refused_with}
+use Rattle.combine_base.specs.Parser.Reasons.{Begins, Reasoned, Refusing, from_part, kept_from, refused_with}
 use Rattle.combine_base.specs.Sequence.Behind.{RefusesBegun, RefusesBehind, RefusesLast, RefusesSequence, refuses_at, refuses_followed}
 use Rattle.combine_base.specs.Sequence.Parts.{CalledLast, CalledRest, Runs, RunsAfresh, RunsFrom, Stops, goes_on, joined_answer, run_from}
 use Rattle.combine_base.specs.Sequence.Places.{begins, in_place, only}
 use Rattle.combine_base.specs.Sequence.TupleRefusals.{only_state, refuses_tuple_1}
-use Rattle.combine_base.specs.Stream.View.{View, Takes, advanced}
+use Rattle.combine_base.specs.Stream.View.{View, advanced}
 use Rattle.combine_base.proofs.Starting.{from_rest}
 use Rattle.combine_base.specs.declared.error.ParseResult.{ParseResult}
 use Rattle.combine_base.specs.declared.error.ParseResult.TheVariants.{CommitOk, PeekOk, CommitErr, PeekErr}

@@ -6,7 +6,7 @@ use Rattle.combine_base.proofs.sequence.part.parse_last.Goals as goal
 
 pub returns-in-CommitOk : goal.returns-in-CommitOk
 returns-in-CommitOk g c =
-    let call = c.parse_explained.ensures in
+    let call = c.in-CommitOk.ensures in
     record {
       lawful = call.lawful;
       same = call.same;
@@ -23,7 +23,7 @@ returns-in-CommitOk g c =
 
 pub returns-in-PeekOk : goal.returns-in-PeekOk
 returns-in-PeekOk g c =
-    let call = c.parse_explained.ensures in
+    let call = c.in-PeekOk.ensures in
     record {
       lawful = call.lawful;
       same = call.same;
@@ -41,7 +41,7 @@ returns-in-PeekOk g c =
 pub returns-then-needs_more : goal.returns-then-needs_more
 returns-then-needs_more g c =
     let around = world g.Input.StreamOnce.step g.Input.Error.ParseError.seen g.Input.StreamOnce.steady g.P.PartialState.Default.is_default in
-    let call = c.parse_explained.ensures in
+    let call = c.in-CommitErr.ensures in
     record {
       lawful = call.lawful;
       same = call.same;
@@ -58,7 +58,7 @@ returns-then-needs_more g c =
 
 pub returns-else-needs_more : goal.returns-else-needs_more
 returns-else-needs_more g c =
-    let call = c.parse_explained.ensures in
+    let call = c.in-CommitErr.ensures in
     record {
       lawful = call.lawful;
       same = call.same;
@@ -75,7 +75,7 @@ returns-else-needs_more g c =
 
 pub returns-in-PeekErr : goal.returns-in-PeekErr
 returns-in-PeekErr g c =
-    let call = c.parse_explained.ensures in
+    let call = c.in-PeekErr.ensures in
     record {
       lawful = call.lawful;
       same = call.same;
