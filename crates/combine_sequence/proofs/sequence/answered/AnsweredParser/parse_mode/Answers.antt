@@ -139,8 +139,7 @@ returns-in-PeekErr-clause-refuses g c = reasons_peeked _ _ _ _ (first_reasons g.
 
 pub returns-clause-refuses : goal.returns-clause-refuses
 returns-clause-refuses g c =
-    let behind = answered_reasons g.N.Parser g.Input.StreamOnce g.Input.Error.ParseError.seen g.N.PartialState.Default.is_default _ g.V.Join.joined (g.K.Asked.answers (asked_part c.args.self.now)) (g.P.Parser.meaning (first_part c.args.self.now)) (g.P.Parser.refuses (first_part c.args.self.now)) c.in-First.ensures.from in
     elim c.match-parse_mode.branch [
-      | in-CommitOk w ↦ behind w.in-CommitOk.ensures.answers.is (rw w.value-is at c.ask-value.ensures.answers) c.default.ensures (rw w.value-is at c.parse_answered.ensures)
-      | in-PeekOk w ↦ behind w.in-PeekOk.ensures.answers.is (rw w.value-is at c.ask-value.ensures.answers) c.default.ensures (rw w.value-is at c.parse_answered.ensures)
+      | in-CommitOk w ↦ answered_reasons g.N.Parser g.Input.StreamOnce g.Input.Error.ParseError.seen g.N.PartialState.Default.is_default _ g.V.Join.joined (g.K.Asked.answers (asked_part c.args.self.now)) (g.P.Parser.meaning (first_part c.args.self.now)) (g.P.Parser.refuses (first_part c.args.self.now)) c.in-First.ensures.from w.in-CommitOk.ensures.answers.is (rw w.value-is at c.ask-value.ensures.answers) c.default.ensures (rw w.value-is at c.parse_answered.ensures)
+      | in-PeekOk w ↦ answered_reasons g.N.Parser g.Input.StreamOnce g.Input.Error.ParseError.seen g.N.PartialState.Default.is_default _ g.V.Join.joined (g.K.Asked.answers (asked_part c.args.self.now)) (g.P.Parser.meaning (first_part c.args.self.now)) (g.P.Parser.refuses (first_part c.args.self.now)) c.in-First.ensures.from w.in-PeekOk.ensures.answers.is (rw w.value-is at c.ask-value.ensures.answers) c.default.ensures (rw w.value-is at c.parse_answered.ensures)
     ]
