@@ -2,7 +2,7 @@ use Rattle.combine_base.specs.Parser.Answer.{world}
 use Rattle.combine_base.specs.Sequence.Places.{begins_4, first_fresh}
 use Rattle.combine_base.specs.Sequence.Tuples.{tuple_4_is_meaning}
 use Rattle.combine_base.proofs.Starting.{at_rest}
-use Rattle.combine_base.proofs.sequence.tuple.longer.Tuple4RefMutRefMutRefMutRefMutFront.run.Goals as goal
+use Rattle.combine_base.proofs.sequence.tuple.longer.front.Tuple4RefMutRefMutRefMutRefMutFront.run.Goals as goal
 
 pub returns-clause-answers : goal.returns-clause-answers
 returns-clause-answers g c =
