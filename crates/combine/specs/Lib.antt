@@ -6,6 +6,7 @@ pub use Rattle.combine_base.specs.Error.Errors
 pub use Rattle.combine_base.specs.Parser.Faults
 pub use Rattle.combine_base.specs.Stream.Fed
 pub use Rattle.combine_base.specs.Error.Items
+pub use Rattle.combine_base.specs.Sequence.Behind
 pub use Rattle.combine_base.specs.Sequence.Followed
 pub use Rattle.combine_base.specs.Sequence.Joined
 pub use Rattle.combine_base.specs.Parser.Judged
@@ -25,6 +26,7 @@ pub use Rattle.combine_base.specs.Sequence.Meanings
 pub use Rattle.combine_base.specs.Parser.Sessions
 pub use Rattle.combine_base.specs.Stream.Slices
 pub use Rattle.combine_base.specs.Stream.Calls
+pub use Rattle.combine_base.specs.Sequence.TupleRefusals
 pub use Rattle.combine_base.specs.Sequence.Tuples
 pub use Rattle.combine_base.specs.Stream.View
 pub use Rattle.combine_base.specs.Stream.Texts

@@ -43,13 +43,6 @@ module _ {P T R V S E : Type 0} (s : Errors T R P E) (m m' : Meaning P T R V S) 
   explained_by w (CommitErr x) b a p = record { is = λ i. absurd (subst (IsRefusal new.is_open) (ap s.kind p.is.0 ∙ p.is.1) i) }
   explained_by w (PeekErr t) b a p = record { is = record { own = e; refused = w; back = b; says = subst (λ x. Says s m.lean (AtToken m.adds old.unread) e x) (sym p.is.0) (as_before a) } }
 
--- an answer that was explained, whatever its error is
-pub explained_only : {P T R V S E : Type 0} {s : Errors T R P E} {m : Meaning P T R V S} {refuses : Bool → E → Type 0} {old new : View P T} {result : ParseResult V E} → Explained s m refuses old new result → Explained s m (λ committed e. Unit {0}) old new result
-explained_only {result = CommitOk v} h = record { is = tt }
-explained_only {result = PeekOk v} h = record { is = tt }
-explained_only {result = CommitErr e} h = record { is = λ i. tt }
-explained_only {result = PeekErr t} h = record { is = record { own = h.is.own; refused = tt; back = h.is.back; says = h.is.says } }
-
 -- the error of a refusal, by which kind of answer it is
 module _ {V E : Type 0} (kind : E → Kind) (is_open : Bool) (refuses : Bool → E → Type 0) where
   pub reason_committed : (e : E) → Reasoned {V = V} kind is_open refuses (CommitErr e) → IsRefusal is_open (kind e) → refuses true e

@@ -10,6 +10,7 @@ pub mod Moved
 pub mod Pieces
 pub mod Progress
 pub mod Reasoning
+pub mod Refusing
 pub mod Same
 pub mod Says
 pub mod SequenceAnswers

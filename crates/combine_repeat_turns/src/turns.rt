@@ -34,7 +34,7 @@ pub trait Turn<Input: Stream> {
     ghost use Rattle.std.specs.Prelude.{◌≡◌, Bool, true};
     ghost use Rattle.combine_base.specs.Parser.Meaning.{Meaning, Reading};
     ghost use Rattle.combine_base.specs.Parser.Answer.{Answers, world};
-ghost use Rattle.combine_base.specs.Parser.AnswersCalls.{AnswersCall};
+    ghost use Rattle.combine_base.specs.Parser.AnswersCalls.{AnswersCall};
     ghost use Rattle.combine_base.specs.Error.Errors.{Says};
     ghost use Rattle.combine_base.specs.Stream.Calls.{Passes};
     ghost use Rattle.combine_repeat_turns.specs.Turn.{TurnsSame, TurnsOnce, TurnsGive, IsTurn, called};

@@ -7,8 +7,7 @@
 
 use combine::error::UnexpectedParse;
 use combine::parser::Parser;
-use combine::stream::position;
-use combine::stream::{Kind, Positioned, RangeStream, Stream};
+use combine::stream::{Kind, Positioned, RangeStream, Stream, position};
 use example_http::{Head, Runs, read_head};
 use example_program::Program;
 use std::io::{self, Read};

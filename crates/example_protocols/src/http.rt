@@ -42,10 +42,7 @@ impl<'c, S: Windowed> Runs<MaybePartialStream<S::Placed>> for Windows<'c, S> {
     >;
 
     fn run<
-        P: Parser<
-            MaybePartialStream<S::Placed>,
-            Output = Head<<S::Placed as StreamOnce>::Range>,
-        >
+        P: Parser<MaybePartialStream<S::Placed>, Output = Head<<S::Placed as StreamOnce>::Range>>
             + Drop,
     >(self, head: P) -> Self::Answer {
         if !cuts_fit(self.whole, self.cuts) {

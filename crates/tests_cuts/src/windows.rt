@@ -75,9 +75,7 @@ where
     <S::Placed as StreamOnce>::Position: Count,
     requires { F.IsAlwaysCallable is_digit }
 {
-    let mut parser = Noting::new(take_while1::<MaybePartialStream<S::Placed>, _>(
-        is_digit,
-    ));
+    let mut parser = Noting::new(take_while1::<MaybePartialStream<S::Placed>, _>(is_digit));
     let found = over(&mut parser, whole, cuts);
     (found, parser.into_notes())
 }

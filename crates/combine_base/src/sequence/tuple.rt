@@ -2,6 +2,7 @@
 ghost use Rattle.std.specs.Prelude.{◌≡◌, ◌+◌, false, min, true};
 ghost use Rattle.combine_base.specs.Parser.Meaning.{MeansSame};
 ghost use Rattle.combine_base.specs.Sequence.Places.{begins_valid_1, begins_valid_2, begins_valid_3, begins_valid_4, valid_1, valid_2, valid_3, valid_4};
+ghost use Rattle.combine_base.specs.Sequence.TupleRefusals.{refuses_tuple_1, refuses_tuple_2, refuses_tuple_3, refuses_tuple_4};
 ghost use Rattle.combine_base.specs.Sequence.Tuples.{tuple_1, tuple_1_is_meaning, tuple_1_means_one, tuple_2, tuple_2_is_meaning, tuple_2_means_one, tuple_3, tuple_3_is_meaning, tuple_3_means_one, tuple_4, tuple_4_is_meaning, tuple_4_means_one};
 
 use crate::error::{ErrorOffset, ParseResult, Tracked};
@@ -67,7 +68,7 @@ pub fn parse_1<Input: Stream, A: Parser<Input>, M: ParseMode>(
     requires ready { ⟦<(A,) as Calls<Input>>⟧.ready (record { 0 = a.old }) from }
     requires starts { M.first mode ≡ true → ⟦<State1<Input, A> as Default>⟧.is_default from }
     requires fresh { ⟦<State1<Input, A> as Default>⟧.is_default state.old }
-    ensures called { ⟦<(A,) as Calls<Input>>⟧.called (record { 0 = a.old }) (record { 0 = a.new }) input.old input.new false from state.new result }
+    ensures called { ⟦<(A,) as Calls<Input>>⟧.called (record { 0 = a.old }) (record { 0 = a.new }) input.old input.new (M.first mode) from state.new result }
     ensures part { MeansSame (A.meaning a.old) (A.meaning a.new) }
 {
     let SequenceState {
@@ -103,7 +104,7 @@ pub fn parse_2<Input: Stream, A: Parser<Input>, B: Parser<Input>, M: ParseMode>(
     requires ready { ⟦<(A, B) as Calls<Input>>⟧.ready (a.old, b.old) from }
     requires starts { M.first mode ≡ true → ⟦<State2<Input, A, B> as Default>⟧.is_default from }
     requires fresh { ⟦<State2<Input, A, B> as Default>⟧.is_default state.old }
-    ensures called { ⟦<(A, B) as Calls<Input>>⟧.called (a.old, b.old) (a.new, b.new) input.old input.new false from state.new result }
+    ensures called { ⟦<(A, B) as Calls<Input>>⟧.called (a.old, b.old) (a.new, b.new) input.old input.new (M.first mode) from state.new result }
     ensures parts { MeansSame (A.meaning a.old) (A.meaning a.new) × MeansSame (B.meaning b.old) (B.meaning b.new) }
 {
     match from.into_place() {
@@ -130,7 +131,7 @@ fn parse_3<Input: Stream, A: Parser<Input>, B: Parser<Input>, C: Parser<Input>, 
     requires ready { ⟦<(A, B, C) as Calls<Input>>⟧.ready (a.old, b.old, c.old) from }
     requires starts { M.first mode ≡ true → ⟦<State3<Input, A, B, C> as Default>⟧.is_default from }
     requires fresh { ⟦<State3<Input, A, B, C> as Default>⟧.is_default state.old }
-    ensures { ⟦<(A, B, C) as Calls<Input>>⟧.called (a.old, b.old, c.old) (a.new, b.new, c.new) input.old input.new false from state.new result }
+    ensures { ⟦<(A, B, C) as Calls<Input>>⟧.called (a.old, b.old, c.old) (a.new, b.new, c.new) input.old input.new (M.first mode) from state.new result }
 {
     match from.into_place() {
         SequencePlace::Before(at) => {
@@ -164,7 +165,7 @@ fn parse_4<
     requires ready { ⟦<(A, B, C, D) as Calls<Input>>⟧.ready (a.old, b.old, c.old, d.old) from }
     requires starts { M.first mode ≡ true → ⟦<State4<Input, A, B, C, D> as Default>⟧.is_default from }
     requires fresh { ⟦<State4<Input, A, B, C, D> as Default>⟧.is_default state.old }
-    ensures { ⟦<(A, B, C, D) as Calls<Input>>⟧.called (a.old, b.old, c.old, d.old) (a.new, b.new, c.new, d.new) input.old input.new false from state.new result }
+    ensures { ⟦<(A, B, C, D) as Calls<Input>>⟧.called (a.old, b.old, c.old, d.old) (a.new, b.new, c.new, d.new) input.old input.new (M.first mode) from state.new result }
 {
     match from.into_place() {
         SequencePlace::Before(at) => {
@@ -190,6 +191,8 @@ impl<Input: Stream, A: Parser<Input>> Parser<Input> for (A,) {
     ghost valid = { valid_1 A.valid };
 
     ghost meaning = { λ p. tuple_1 (A.meaning p.0) };
+
+    ghost refuses = { λ p. refuses_tuple_1 (A.refuses p.0) };
 
     ghost parts = { λ p. A.parts p.0 };
 
@@ -236,6 +239,8 @@ impl<Input: Stream, A: Parser<Input>, B: Parser<Input>> Parser<Input> for (A, B)
 
     ghost meaning = { λ p. tuple_2 Input.step (A.meaning p.0) (B.meaning p.1) };
 
+    ghost refuses = { λ p. refuses_tuple_2 Input.step Input.Error.seen B.PartialState.is_default A.Parser B.Parser p.0 p.1 };
+
     ghost parts = { λ p. min (A.parts p.0 + B.parts p.1) 255 };
 
     #[inline(always)]
@@ -281,6 +286,8 @@ impl<Input: Stream, A: Parser<Input>, B: Parser<Input>, C: Parser<Input>> Parser
     ghost valid = { valid_3 A.valid B.valid C.valid };
 
     ghost meaning = { λ p. tuple_3 Input.step (A.meaning p.0) (B.meaning p.1) (C.meaning p.2) };
+
+    ghost refuses = { λ p. refuses_tuple_3 Input.step Input.Error.seen B.PartialState.is_default C.PartialState.is_default A.Parser B.Parser C.Parser p.0 p.1 p.2 };
 
     ghost parts = { λ p. min (A.parts p.0 + B.parts p.1 + C.parts p.2) 255 };
 
@@ -341,6 +348,8 @@ impl<Input: Stream, A: Parser<Input>, B: Parser<Input>, C: Parser<Input>, D: Par
     ghost valid = { valid_4 A.valid B.valid C.valid D.valid };
 
     ghost meaning = { λ p. tuple_4 Input.step (A.meaning p.0) (B.meaning p.1) (C.meaning p.2) (D.meaning p.3) };
+
+    ghost refuses = { λ p. refuses_tuple_4 Input.step Input.Error.seen B.PartialState.is_default C.PartialState.is_default D.PartialState.is_default A.Parser B.Parser C.Parser D.Parser p.0 p.1 p.2 p.3 };
 
     ghost parts = { λ p. min (A.parts p.0 + B.parts p.1 + C.parts p.2 + D.parts p.3) 255 };
 

@@ -3,7 +3,7 @@ ghost use Rattle.std.specs.Prelude.{◌≡◌, true};
 ghost use Rattle.combine_base.specs.Parser.Given.{GivesOnly, gives_as};
 ghost use Rattle.combine_base.specs.Parser.Kept.{KeptOf};
 ghost use Rattle.combine_sequence.specs.Answered.{AnsweredBySome, AnswersOne, answered_of, asked_part, asks_lawful, first_part, some_lawful, starts_first, starts_valid, then, then_is_meaning, then_means_one, valid_step};
-ghost use Rattle.combine_sequence.specs.Thens.{CalledAnswered, RefusesThen};
+ghost use Rattle.combine_sequence.specs.Thens.{CalledAnswered, refuses_then};
 
 pub(super) mod asked;
 pub(super) mod state;
@@ -72,7 +72,7 @@ impl<
 
     ghost meaning = { λ p. then Input.step K.keeps V.joined (K.answers (asked_part p)) (AnsweredBySome K.callable K.answers N.lawful P.lawful P.valid P.meaning) (P.meaning (first_part p)) N.meaning };
 
-    ghost refuses = { λ p. RefusesThen Input.step Input.Error.seen (K.answers (asked_part p)) N.PartialState.is_default N.meaning N.refuses (P.meaning (first_part p)) (P.refuses (first_part p)) };
+    ghost refuses = { λ p. refuses_then Input.Error.seen (K.answers (asked_part p)) N.PartialState.is_default N.meaning N.refuses Input.step (P.meaning (first_part p)) (P.refuses (first_part p)) };
 
     ghost parts = { λ _. 1 };
 

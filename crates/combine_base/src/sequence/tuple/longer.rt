@@ -1,113 +1,25 @@
 //! Tuples of five to eight as parsers: each is a tuple of references to the parts before its last one, and then that one.
-ghost use Rattle.std.specs.Prelude.{◌≡◌, ◌+◌, min, refl, true};
+ghost use Rattle.std.specs.Prelude.{◌≡◌, ◌+◌, min, true};
+ghost use Rattle.combine_base.specs.Parser.Reasons.{Reasoned, kept_from};
+ghost use Rattle.combine_base.specs.Sequence.Behind.{one_more};
 ghost use Rattle.combine_base.specs.Sequence.Followed.{Follows};
 ghost use Rattle.combine_base.specs.Sequence.Longer.{begins_valid_5, begins_valid_6, begins_valid_7, begins_valid_8, tuple_5, tuple_5_is_meaning, tuple_5_means_one, tuple_6, tuple_6_is_meaning, tuple_6_means_one, tuple_7, tuple_7_is_meaning, tuple_7_means_one, tuple_8, tuple_8_is_meaning, tuple_8_means_one, valid_5, valid_6, valid_7, valid_8};
-ghost use Rattle.combine_base.specs.Sequence.Places.{begins, begins_4, begins_valid_4, first_fresh, valid_4, valid_in};
-ghost use Rattle.combine_base.specs.Sequence.Tuples.{followed, tuple_4, tuple_4_is_meaning};
+ghost use Rattle.combine_base.specs.Sequence.Places.{begins, valid_in};
+ghost use Rattle.combine_base.specs.Sequence.TupleRefusals.{refuses_tuple_5, refuses_tuple_6, refuses_tuple_7, refuses_tuple_8};
+ghost use Rattle.combine_base.specs.Sequence.Tuples.{followed};
+
+mod front;
 
 use crate::error::{ErrorOffset, ParseResult, Tracked};
 use crate::parser::{Outputs, ParseMode, Parser};
 use crate::sequence::part::{Push, parse_rest, resume_last, take_state};
-use crate::sequence::tuple::{State4, add_counts, parse_4};
+use crate::sequence::tuple::add_counts;
 use crate::sequence::{
-    PartialState4, PartialState5, PartialState6, PartialState7, PartialState8, Placed,
-    SequencePlace, SequenceState,
+    PartialState5, PartialState6, PartialState7, PartialState8, Placed, SequencePlace,
+    SequenceState,
 };
 use crate::stream::Stream;
-
-/// Parts that were lent, which are run before another one.
-trait Front<Input: Stream> {
-    ghost use Rattle.std.specs.Prelude.{◌≡◌, true};
-    ghost use Rattle.combine_base.specs.Parser.Meaning.{Meaning, IsMeaning, MeansSame};
-    ghost use Rattle.combine_base.specs.Parser.Answer.{Answers, world};
-    ghost use Rattle.combine_base.specs.Sequence.Parts.{run_from};
-    ghost use Rattle.combine_base.specs.Stream.Calls.{Passes};
-
-    type Output: Drop;
-
-    type State: Drop;
-
-    ghost lawful: { Self → Type 0 };
-
-    ghost valid: { Self.State → Type 0 };
-
-    /// The states that begin the parts.
-    ghost fresh: { Self.State → Type 0 };
-
-    ghost meaning: { Self → Meaning Input.Position Input.Token Input.Range Self.Output Self.State };
-
-    /// The same parts are lent.
-    ghost same: { Self → Self → Type 0 };
-
-    /// A state that begins the parts.
-    fn begin() -> Self::State
-        ensures { fresh result };
-
-    /// Runs the parts, from what is kept of them. Need of more is kept in `state`, and every other answer leaves one that begins the parts, as it was.
-    fn run<M: ParseMode>(
-        &mut self,
-        mode: M,
-        input: &mut Input,
-        from: Self::State,
-        state: &mut Self::State,
-    ) -> ParseResult<Self::Output, Input::Error>
-        requires lawful { lawful self.old }
-        requires valid { valid from }
-        requires starts { M.first mode ≡ true → fresh from }
-        requires fresh { fresh state.old }
-        ensures lent { same self.old self.new }
-        ensures lawful { lawful self.new }
-        ensures valid { valid state.new }
-        ensures same { MeansSame (meaning self.old) (meaning self.new) }
-        ensures passes { Passes (Input.marks input.old) (Input.marks input.new) (Input.failures input.old) (Input.failures input.new) }
-        ensures answers { Answers (world Input.step Input.Error.seen Input.steady fresh) (meaning self.old) (run_from from state.new (Input.view input.old) (Input.view input.new) (Input.failures input.old) (Input.failures input.new)) result };
-
-    ghost fresh_valid: { (s : Self.State) → fresh s → valid s };
-
-    ghost unchanged: { (p : Self) → same p p };
-
-    ghost laws: { (p : Self) → lawful p → IsMeaning fresh valid (meaning p) };
-}
-
-impl<Input: Stream, A: Parser<Input>, B: Parser<Input>, C: Parser<Input>, D: Parser<Input>> Front<
-    Input,
-> for (&mut A, &mut B, &mut C, &mut D) {
-    type Output = (A::Output, B::Output, C::Output, D::Output);
-
-    type State = State4<Input, A, B, C, D>;
-
-    ghost lawful = { λ p. A.lawful p.0.now × B.lawful p.1.now × C.lawful p.2.now × D.lawful p.3.now };
-
-    ghost valid = { valid_4 A.valid B.valid C.valid D.valid };
-
-    ghost fresh = { begins_4 (first_fresh A.PartialState.is_default) };
-
-    ghost meaning = { λ p. tuple_4 Input.step (A.meaning p.0.now) (B.meaning p.1.now) (C.meaning p.2.now) (D.meaning p.3.now) };
-
-    ghost same = { λ p q. (p.0.ghost_name ≡ q.0.ghost_name) × (p.1.ghost_name ≡ q.1.ghost_name) × (p.2.ghost_name ≡ q.2.ghost_name) × (p.3.ghost_name ≡ q.3.ghost_name) };
-
-    ghost unchanged = { λ p. (refl, refl, refl, refl) };
-
-    #[inline(always)]
-    fn begin() -> Self::State {
-        PartialState4::default()
-    }
-
-    #[inline(always)]
-    fn run<M: ParseMode>(
-        &mut self,
-        mode: M,
-        input: &mut Input,
-        from: Self::State,
-        state: &mut Self::State,
-    ) -> ParseResult<Self::Output, Input::Error> {
-        parse_4(self.0, self.1, self.2, self.3, mode, input, from, state)
-    }
-
-    ghost fresh_valid = { begins_valid_4 B.valid C.valid D.valid A.default_valid };
-
-    ghost laws = { λ p l. tuple_4_is_meaning Input.step (A.laws p.0.now l.0) (B.laws p.1.now l.1) (C.laws p.2.now l.2) (D.laws p.3.now l.3) };
-}
+use front::Front;
 
 /// Runs parts that were lent, and one more, from what is kept of them. Need of more is kept in `state`, which begins them, and which every other answer leaves as it was.
 #[inline(always)]
@@ -133,6 +45,7 @@ fn parse_one_after<
     ensures lent { Q.same before.old before.new }
     ensures lawful { Q.lawful before.new × E.lawful e.new }
     ensures follows { Follows S.place T.pushed Input.StreamOnce Input.Error.seen Q.fresh Q.valid E.Parser (Q.meaning before.old) (Q.meaning before.new) e.old e.new input.old input.new from state.new result }
+    ensures refuses { Reasoned Input.Error.seen.kind (Input.view input.new).is_open ((one_more Input.step Input.Error.seen S.place T.pushed E.PartialState.is_default E.Parser e.old (record { meaning = Q.meaning before.old; refuses = Q.refuses before.old })).refuses (kept_from (M.first mode) from) (Input.view input.old)) result }
 {
     match from.into_place() {
         SequencePlace::Before(at) => {
@@ -172,6 +85,7 @@ fn parse_two_after<
     ensures lent { Q.same before.old before.new }
     ensures lawful { Q.lawful before.new × E.lawful e.new × F.lawful f.new }
     ensures follows { Follows S.place V.pushed Input.StreamOnce Input.Error.seen (begins N.place Q.fresh) (valid_in N.place Q.valid E.valid) F.Parser (followed Input.step N.place T.pushed (Q.meaning before.old) (E.meaning e.old)) (followed Input.step N.place T.pushed (Q.meaning before.new) (E.meaning e.new)) f.old f.new input.old input.new from state.new result }
+    ensures refuses { Reasoned Input.Error.seen.kind (Input.view input.new).is_open ((one_more Input.step Input.Error.seen S.place V.pushed F.PartialState.is_default F.Parser f.old (one_more Input.step Input.Error.seen N.place T.pushed E.PartialState.is_default E.Parser e.old (record { meaning = Q.meaning before.old; refuses = Q.refuses before.old }))).refuses (kept_from (M.first mode) from) (Input.view input.old)) result }
 {
     match from.into_place() {
         SequencePlace::Before(at) => {
@@ -215,6 +129,7 @@ fn parse_three_after<
     ensures lent { Q.same before.old before.new }
     ensures lawful { Q.lawful before.new × E.lawful e.new × F.lawful f.new × G.lawful g.new }
     ensures follows { Follows S.place W.pushed Input.StreamOnce Input.Error.seen (begins N.place (begins L.place Q.fresh)) (valid_in N.place (valid_in L.place Q.valid E.valid) F.valid) G.Parser (followed Input.step N.place V.pushed (followed Input.step L.place T.pushed (Q.meaning before.old) (E.meaning e.old)) (F.meaning f.old)) (followed Input.step N.place V.pushed (followed Input.step L.place T.pushed (Q.meaning before.new) (E.meaning e.new)) (F.meaning f.new)) g.old g.new input.old input.new from state.new result }
+    ensures refuses { Reasoned Input.Error.seen.kind (Input.view input.new).is_open ((one_more Input.step Input.Error.seen S.place W.pushed G.PartialState.is_default G.Parser g.old (one_more Input.step Input.Error.seen N.place V.pushed F.PartialState.is_default F.Parser f.old (one_more Input.step Input.Error.seen L.place T.pushed E.PartialState.is_default E.Parser e.old (record { meaning = Q.meaning before.old; refuses = Q.refuses before.old })))).refuses (kept_from (M.first mode) from) (Input.view input.old)) result }
 {
     match from.into_place() {
         SequencePlace::Before(at) => {
@@ -264,6 +179,7 @@ fn parse_four_after<
     ensures lent { Q.same before.old before.new }
     ensures lawful { Q.lawful before.new × E.lawful e.new × F.lawful f.new × G.lawful g.new × H.lawful h.new }
     ensures follows { Follows S.place Y.pushed Input.StreamOnce Input.Error.seen (begins N.place (begins L.place (begins K.place Q.fresh))) (valid_in N.place (valid_in L.place (valid_in K.place Q.valid E.valid) F.valid) G.valid) H.Parser (followed Input.step N.place W.pushed (followed Input.step L.place V.pushed (followed Input.step K.place T.pushed (Q.meaning before.old) (E.meaning e.old)) (F.meaning f.old)) (G.meaning g.old)) (followed Input.step N.place W.pushed (followed Input.step L.place V.pushed (followed Input.step K.place T.pushed (Q.meaning before.new) (E.meaning e.new)) (F.meaning f.new)) (G.meaning g.new)) h.old h.new input.old input.new from state.new result }
+    ensures refuses { Reasoned Input.Error.seen.kind (Input.view input.new).is_open ((one_more Input.step Input.Error.seen S.place Y.pushed H.PartialState.is_default H.Parser h.old (one_more Input.step Input.Error.seen N.place W.pushed G.PartialState.is_default G.Parser g.old (one_more Input.step Input.Error.seen L.place V.pushed F.PartialState.is_default F.Parser f.old (one_more Input.step Input.Error.seen K.place T.pushed E.PartialState.is_default E.Parser e.old (record { meaning = Q.meaning before.old; refuses = Q.refuses before.old }))))).refuses (kept_from (M.first mode) from) (Input.view input.old)) result }
 {
     match from.into_place() {
         SequencePlace::Before(at) => {
@@ -331,6 +247,8 @@ impl<
     ghost valid = { valid_5 A.valid B.valid C.valid D.valid E.valid };
 
     ghost meaning = { λ p. tuple_5 Input.step (A.meaning p.0) (B.meaning p.1) (C.meaning p.2) (D.meaning p.3) (E.meaning p.4) };
+
+    ghost refuses = { λ p. refuses_tuple_5 Input.step Input.Error.seen B.PartialState.is_default C.PartialState.is_default D.PartialState.is_default E.PartialState.is_default A.Parser B.Parser C.Parser D.Parser E.Parser p.0 p.1 p.2 p.3 p.4 };
 
     ghost parts = { λ p. min (A.parts p.0 + B.parts p.1 + C.parts p.2 + D.parts p.3 + E.parts p.4) 255 };
 
@@ -445,6 +363,8 @@ impl<
     ghost valid = { valid_6 A.valid B.valid C.valid D.valid E.valid F.valid };
 
     ghost meaning = { λ p. tuple_6 Input.step (A.meaning p.0) (B.meaning p.1) (C.meaning p.2) (D.meaning p.3) (E.meaning p.4) (F.meaning p.5) };
+
+    ghost refuses = { λ p. refuses_tuple_6 Input.step Input.Error.seen B.PartialState.is_default C.PartialState.is_default D.PartialState.is_default E.PartialState.is_default F.PartialState.is_default A.Parser B.Parser C.Parser D.Parser E.Parser F.Parser p.0 p.1 p.2 p.3 p.4 p.5 };
 
     ghost parts = { λ p. min (A.parts p.0 + B.parts p.1 + C.parts p.2 + D.parts p.3 + E.parts p.4 + F.parts p.5) 255 };
 
@@ -584,6 +504,8 @@ impl<
     ghost valid = { valid_7 A.valid B.valid C.valid D.valid E.valid F.valid G.valid };
 
     ghost meaning = { λ p. tuple_7 Input.step (A.meaning p.0) (B.meaning p.1) (C.meaning p.2) (D.meaning p.3) (E.meaning p.4) (F.meaning p.5) (G.meaning p.6) };
+
+    ghost refuses = { λ p. refuses_tuple_7 Input.step Input.Error.seen B.PartialState.is_default C.PartialState.is_default D.PartialState.is_default E.PartialState.is_default F.PartialState.is_default G.PartialState.is_default A.Parser B.Parser C.Parser D.Parser E.Parser F.Parser G.Parser p.0 p.1 p.2 p.3 p.4 p.5 p.6 };
 
     ghost parts = { λ p. min (A.parts p.0 + B.parts p.1 + C.parts p.2 + D.parts p.3 + E.parts p.4 + F.parts p.5 + G.parts p.6) 255 };
 
@@ -742,6 +664,8 @@ impl<
     ghost valid = { valid_8 A.valid B.valid C.valid D.valid E.valid F.valid G.valid H.valid };
 
     ghost meaning = { λ p. tuple_8 Input.step (A.meaning p.0) (B.meaning p.1) (C.meaning p.2) (D.meaning p.3) (E.meaning p.4) (F.meaning p.5) (G.meaning p.6) (H.meaning p.7) };
+
+    ghost refuses = { λ p. refuses_tuple_8 Input.step Input.Error.seen B.PartialState.is_default C.PartialState.is_default D.PartialState.is_default E.PartialState.is_default F.PartialState.is_default G.PartialState.is_default H.PartialState.is_default A.Parser B.Parser C.Parser D.Parser E.Parser F.Parser G.Parser H.Parser p.0 p.1 p.2 p.3 p.4 p.5 p.6 p.7 };
 
     ghost parts = { λ p. min (A.parts p.0 + B.parts p.1 + C.parts p.2 + D.parts p.3 + E.parts p.4 + F.parts p.5 + G.parts p.6 + H.parts p.7) 255 };
 

@@ -1,7 +1,6 @@
 use Rattle.std.proofs.Common.{inl, inr, refl}
 use Rattle.combine_base.specs.Parser.Answer.{world}
 use Rattle.combine_base.specs.declared.error.ParseResult.TheVariants.{CommitErr}
-use Rattle.combine_base.proofs.Explaining.{explained_only}
 use Rattle.combine_base.proofs.Starting.{at_rest}
 use Rattle.combine_repeat_sep.proofs.pair.parse_part.Goals as goal
 
@@ -16,7 +15,7 @@ returns-in-CommitOk g c =
         stopped = _;
         answer = _;
         answers = at_rest _ _ _ (g.met.P.Parser.laws c.args.part.now c.requires.ready.lawful) _ c.requires.starts _ c.in-CommitOk.ensures.answers;
-        explained = explained_only c.in-CommitOk.ensures.explained;
+        explained = c.in-CommitOk.ensures.explained;
         is = refl;
         leaves = inr (λ q. q, refl);
       };
@@ -33,7 +32,7 @@ returns-in-PeekOk g c =
         stopped = _;
         answer = _;
         answers = at_rest _ _ _ (g.met.P.Parser.laws c.args.part.now c.requires.ready.lawful) _ c.requires.starts _ c.in-PeekOk.ensures.answers;
-        explained = explained_only c.in-PeekOk.ensures.explained;
+        explained = c.in-PeekOk.ensures.explained;
         is = c.accepted_after.ensures;
         leaves = inr (λ q. q, refl);
       };
@@ -51,7 +50,7 @@ returns-then-needs_more g c =
         stopped = _;
         answer = CommitErr c.in-CommitErr.error;
         answers = at_rest around _ _ (g.met.P.Parser.laws c.args.part.now c.requires.ready.lawful) _ c.requires.starts _ c.in-CommitErr.ensures.answers;
-        explained = explained_only c.in-CommitErr.ensures.explained;
+        explained = c.in-CommitErr.ensures.explained;
         is = refl;
         leaves = inl (c.needs_more.ensures.0 c.if-needs_more.true, refl, c.in-CommitErr.ensures.valid);
       };
@@ -68,7 +67,7 @@ returns-else-needs_more g c =
         stopped = _;
         answer = _;
         answers = at_rest _ _ _ (g.met.P.Parser.laws c.args.part.now c.requires.ready.lawful) _ c.requires.starts _ c.in-CommitErr.ensures.answers;
-        explained = explained_only c.in-CommitErr.ensures.explained;
+        explained = c.in-CommitErr.ensures.explained;
         is = refl;
         leaves = inr (λ q. let e = c.needs_more.ensures.1 q in let f = c.if-needs_more.false in cc, refl);
       };
@@ -85,7 +84,7 @@ returns-in-PeekErr g c =
         stopped = _;
         answer = _;
         answers = at_rest _ _ _ (g.met.P.Parser.laws c.args.part.now c.requires.ready.lawful) _ c.requires.starts _ c.in-PeekErr.ensures.answers;
-        explained = explained_only c.in-PeekErr.ensures.explained;
+        explained = c.in-PeekErr.ensures.explained;
         is = c.refused_after.ensures;
         leaves = inr (λ q. q, refl);
       };

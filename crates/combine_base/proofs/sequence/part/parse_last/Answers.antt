@@ -1,13 +1,12 @@
 use Rattle.std.proofs.Common.{inl, inr, ap, refl}
 use Rattle.combine_base.specs.Parser.Answer.{world}
 use Rattle.combine_base.specs.declared.error.ParseResult.TheVariants.{CommitOk, CommitErr}
-use Rattle.combine_base.proofs.Explaining.{explained_only}
 use Rattle.combine_base.proofs.Starting.{at_rest}
 use Rattle.combine_base.proofs.sequence.part.parse_last.Goals as goal
 
 pub returns-in-CommitOk : goal.returns-in-CommitOk
 returns-in-CommitOk g c =
-    let call = c.parse_explained.ensures in
+    let call = c.in-CommitOk.ensures in
     record {
       lawful = call.lawful;
       same = call.same;
@@ -16,7 +15,7 @@ returns-in-CommitOk g c =
         stopped = _;
         answer = _;
         answers = at_rest _ _ _ (g.met.P.Parser.laws c.args.part.now c.requires.ready.lawful) _ c.requires.starts _ c.in-CommitOk.ensures.answers;
-        explained = explained_only c.in-CommitOk.ensures.explained;
+        explained = c.in-CommitOk.ensures.explained;
         is = ap CommitOk c.push.ensures;
         leaves = inr (λ q. q, refl);
       };
@@ -24,7 +23,7 @@ returns-in-CommitOk g c =
 
 pub returns-in-PeekOk : goal.returns-in-PeekOk
 returns-in-PeekOk g c =
-    let call = c.parse_explained.ensures in
+    let call = c.in-PeekOk.ensures in
     record {
       lawful = call.lawful;
       same = call.same;
@@ -33,7 +32,7 @@ returns-in-PeekOk g c =
         stopped = _;
         answer = _;
         answers = at_rest _ _ _ (g.met.P.Parser.laws c.args.part.now c.requires.ready.lawful) _ c.requires.starts _ c.in-PeekOk.ensures.answers;
-        explained = explained_only c.in-PeekOk.ensures.explained;
+        explained = c.in-PeekOk.ensures.explained;
         is = rw (c.accepted_after.ensures, c.push-in-PeekOk.ensures);
         leaves = inr (λ q. q, refl);
       };
@@ -42,7 +41,7 @@ returns-in-PeekOk g c =
 pub returns-then-needs_more : goal.returns-then-needs_more
 returns-then-needs_more g c =
     let around = world g.Input.StreamOnce.step g.Input.Error.ParseError.seen g.Input.StreamOnce.steady g.P.PartialState.Default.is_default in
-    let call = c.parse_explained.ensures in
+    let call = c.in-CommitErr.ensures in
     record {
       lawful = call.lawful;
       same = call.same;
@@ -51,7 +50,7 @@ returns-then-needs_more g c =
         stopped = _;
         answer = CommitErr c.in-CommitErr.error;
         answers = at_rest around _ _ (g.met.P.Parser.laws c.args.part.now c.requires.ready.lawful) _ c.requires.starts _ c.in-CommitErr.ensures.answers;
-        explained = explained_only c.in-CommitErr.ensures.explained;
+        explained = c.in-CommitErr.ensures.explained;
         is = refl;
         leaves = inl (c.needs_more.ensures.0 c.if-needs_more.true, c.from_place.ensures, c.in-CommitErr.ensures.valid);
       };
@@ -59,7 +58,7 @@ returns-then-needs_more g c =
 
 pub returns-else-needs_more : goal.returns-else-needs_more
 returns-else-needs_more g c =
-    let call = c.parse_explained.ensures in
+    let call = c.in-CommitErr.ensures in
     record {
       lawful = call.lawful;
       same = call.same;
@@ -68,7 +67,7 @@ returns-else-needs_more g c =
         stopped = _;
         answer = _;
         answers = at_rest _ _ _ (g.met.P.Parser.laws c.args.part.now c.requires.ready.lawful) _ c.requires.starts _ c.in-CommitErr.ensures.answers;
-        explained = explained_only c.in-CommitErr.ensures.explained;
+        explained = c.in-CommitErr.ensures.explained;
         is = refl;
         leaves = inr (λ q. let e = c.needs_more.ensures.1 q in let f = c.if-needs_more.false in cc, refl);
       };
@@ -76,7 +75,7 @@ returns-else-needs_more g c =
 
 pub returns-in-PeekErr : goal.returns-in-PeekErr
 returns-in-PeekErr g c =
-    let call = c.parse_explained.ensures in
+    let call = c.in-PeekErr.ensures in
     record {
       lawful = call.lawful;
       same = call.same;
@@ -85,7 +84,7 @@ returns-in-PeekErr g c =
         stopped = _;
         answer = _;
         answers = at_rest _ _ _ (g.met.P.Parser.laws c.args.part.now c.requires.ready.lawful) _ c.requires.starts _ c.in-PeekErr.ensures.answers;
-        explained = explained_only c.in-PeekErr.ensures.explained;
+        explained = c.in-PeekErr.ensures.explained;
         is = c.refused_after.ensures;
         leaves = inr (λ q. q, refl);
       };

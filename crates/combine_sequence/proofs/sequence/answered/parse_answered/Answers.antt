@@ -1,17 +1,13 @@
 use Rattle.std.proofs.Common.{inl, inr, refl, ap, ◌∙◌}
 use Rattle.combine_base.specs.Parser.Answer.{world}
-use Rattle.combine_base.specs.Parser.Reasons.{kept_from}
 use Rattle.combine_base.specs.Sequence.Parts.{accepted_as}
 use Rattle.combine_base.specs.declared.error.ParseResult.TheVariants.{CommitErr, CommitOk}
-use Rattle.combine_base.proofs.Explaining.{explained_only}
 use Rattle.combine_base.proofs.Starting.{at_rest}
 use Rattle.combine_sequence.proofs.sequence.answered.parse_answered.Goals as goal
 
 pub returns-in-CommitOk : goal.returns-in-CommitOk
 returns-in-CommitOk g c =
     let call = c.parse_explained.ensures in
-    let means = g.N.Parser.meaning c.args.from.parser in
-    let refuses = g.N.Parser.refuses c.args.from.parser (kept_from (g.M.ParseMode.first c.args.mode) c.args.from.state) (g.Input.StreamOnce.view c.args.input.now) in
     record {
       parser = _;
       lawful = call.lawful;
@@ -21,18 +17,15 @@ returns-in-CommitOk g c =
         stopped = _;
         answer = _;
         answers = at_rest _ _ _ (g.met.N.Parser.laws c.args.from.parser c.requires.ready.lawful) _ c.requires.starts _ c.in-CommitOk.ensures.answers;
-        explained = explained_only {m = means} {refuses = refuses} c.in-CommitOk.ensures.explained;
+        explained = c.in-CommitOk.ensures.explained;
         is = ap CommitOk c.join.ensures;
         leaves = inr (λ q. q, c.requires.fresh);
       };
-      refuses = c.in-CommitOk.ensures.explained;
     }
 
 pub returns-in-PeekOk : goal.returns-in-PeekOk
 returns-in-PeekOk g c =
     let call = c.parse_explained.ensures in
-    let means = g.N.Parser.meaning c.args.from.parser in
-    let refuses = g.N.Parser.refuses c.args.from.parser (kept_from (g.M.ParseMode.first c.args.mode) c.args.from.state) (g.Input.StreamOnce.view c.args.input.now) in
     record {
       parser = _;
       lawful = call.lawful;
@@ -42,18 +35,15 @@ returns-in-PeekOk g c =
         stopped = _;
         answer = _;
         answers = at_rest _ _ _ (g.met.N.Parser.laws c.args.from.parser c.requires.ready.lawful) _ c.requires.starts _ c.in-PeekOk.ensures.answers;
-        explained = explained_only {m = means} {refuses = refuses} c.in-PeekOk.ensures.explained;
+        explained = c.in-PeekOk.ensures.explained;
         is = c.accepted_after.ensures ∙ ap (accepted_as c.args.from.committed) c.join-in-PeekOk.ensures;
         leaves = inr (λ q. q, c.requires.fresh);
       };
-      refuses = c.in-PeekOk.ensures.explained;
     }
 
 pub returns-then-needs_more : goal.returns-then-needs_more
 returns-then-needs_more g c =
     let call = c.parse_explained.ensures in
-    let means = g.N.Parser.meaning c.args.from.parser in
-    let refuses = g.N.Parser.refuses c.args.from.parser (kept_from (g.M.ParseMode.first c.args.mode) c.args.from.state) (g.Input.StreamOnce.view c.args.input.now) in
     let around = world g.Input.StreamOnce.step g.Input.Error.ParseError.seen g.Input.StreamOnce.steady g.N.PartialState.Default.is_default in
     record {
       parser = _;
@@ -64,18 +54,15 @@ returns-then-needs_more g c =
         stopped = _;
         answer = CommitErr c.in-CommitErr.error;
         answers = at_rest around _ _ (g.met.N.Parser.laws c.args.from.parser c.requires.ready.lawful) _ c.requires.starts _ c.in-CommitErr.ensures.answers;
-        explained = explained_only {m = means} {refuses = refuses} c.in-CommitErr.ensures.explained;
+        explained = c.in-CommitErr.ensures.explained;
         is = refl;
         leaves = inl (c.needs_more.ensures.0 c.if-needs_more.true, refl, c.in-CommitErr.ensures.valid);
       };
-      refuses = c.in-CommitErr.ensures.explained;
     }
 
 pub returns-else-needs_more : goal.returns-else-needs_more
 returns-else-needs_more g c =
     let call = c.parse_explained.ensures in
-    let means = g.N.Parser.meaning c.args.from.parser in
-    let refuses = g.N.Parser.refuses c.args.from.parser (kept_from (g.M.ParseMode.first c.args.mode) c.args.from.state) (g.Input.StreamOnce.view c.args.input.now) in
     record {
       parser = _;
       lawful = call.lawful;
@@ -85,18 +72,15 @@ returns-else-needs_more g c =
         stopped = _;
         answer = _;
         answers = at_rest _ _ _ (g.met.N.Parser.laws c.args.from.parser c.requires.ready.lawful) _ c.requires.starts _ c.in-CommitErr.ensures.answers;
-        explained = explained_only {m = means} {refuses = refuses} c.in-CommitErr.ensures.explained;
+        explained = c.in-CommitErr.ensures.explained;
         is = refl;
         leaves = inr (λ q. let e = c.needs_more.ensures.1 q in let f = c.if-needs_more.false in cc, c.requires.fresh);
       };
-      refuses = c.in-CommitErr.ensures.explained;
     }
 
 pub returns-in-PeekErr : goal.returns-in-PeekErr
 returns-in-PeekErr g c =
     let call = c.parse_explained.ensures in
-    let means = g.N.Parser.meaning c.args.from.parser in
-    let refuses = g.N.Parser.refuses c.args.from.parser (kept_from (g.M.ParseMode.first c.args.mode) c.args.from.state) (g.Input.StreamOnce.view c.args.input.now) in
     record {
       parser = _;
       lawful = call.lawful;
@@ -106,9 +90,8 @@ returns-in-PeekErr g c =
         stopped = _;
         answer = _;
         answers = at_rest _ _ _ (g.met.N.Parser.laws c.args.from.parser c.requires.ready.lawful) _ c.requires.starts _ c.in-PeekErr.ensures.answers;
-        explained = explained_only {m = means} {refuses = refuses} c.in-PeekErr.ensures.explained;
+        explained = c.in-PeekErr.ensures.explained;
         is = c.refused_after.ensures;
         leaves = inr (λ q. q, c.requires.fresh);
       };
-      refuses = c.in-PeekErr.ensures.explained;
     }

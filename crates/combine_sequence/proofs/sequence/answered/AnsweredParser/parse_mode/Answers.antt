@@ -1,10 +1,13 @@
 use Rattle.std.proofs.Common.{false, refl, subst, sym, true}
 use Rattle.combine_base.proofs.Giving.{gives_same, good_ok, good_peek_ok}
+use Rattle.combine_base.proofs.Explaining.{reason_peeked}
+use Rattle.combine_base.proofs.Reasoning.{reasons_hand_on, reasons_peeked}
 use Rattle.combine_base.proofs.Starting.{in_mode}
 use Rattle.combine_base.specs.Parser.Given.{gives_as}
 use Rattle.combine_base.specs.Parser.Kept.{KeptOf}
-use Rattle.combine_sequence.specs.Answered.{asked_part, starts_valid, then_is_meaning, then_means_same}
+use Rattle.combine_sequence.specs.Answered.{asked_part, first_part, starts_valid, then_is_meaning, then_means_same}
 use Rattle.combine_sequence.proofs.Keeping.{accepted_kept, by_some, committed_at, leaves_valid, peeked_at, then_resumes, then_stops, then_refuses, then_commits, then_peeks, valid_from}
+use Rattle.combine_sequence.proofs.ThenErrors.{answered_reasons, first_reasons, resumed_reasons}
 use Rattle.combine_sequence.proofs.sequence.answered.AnsweredParser.parse_mode.Goals as goal
 use Rattle.combine_sequence.proofs.sequence.answered.AnsweredParser.parse_mode.Goals.{in-CommitOk, in-PeekOk}
 
@@ -123,4 +126,20 @@ returns-clause-answers g c =
           let answered = rw w.value-is at c.ask-value.ensures.answers in
           let kept = may_keep _ false (peeked _ w.in-PeekOk.ensures.answers) _ answered in
           whole (then_peeks g.N.Parser g.Input.StreamOnce g.Input.Error.ParseError.seen g.N.PartialState.Default.is_default _ g.P.Parser.valid g.K.Asked.keeps g.V.Join.joined answers some _ laws refl from.afresh v answered kept (g.met.N.Parser.laws _ kept.is_lawful) c.default.ensures passes.reads passes.resets w.in-PeekOk.ensures.answers (rw w.value-is at asked))
+    ]
+
+pub returns-in-Second-clause-refuses : goal.returns-in-Second-clause-refuses
+returns-in-Second-clause-refuses g c = resumed_reasons g.N.Parser g.Input.StreamOnce g.Input.Error.ParseError.seen g.N.PartialState.Default.is_default _ g.V.Join.joined (g.K.Asked.answers (asked_part c.args.self.now)) (g.P.Parser.meaning (first_part c.args.self.now)) (g.P.Parser.refuses (first_part c.args.self.now)) c.in-Second.ensures.from c.resume_answered.ensures
+
+pub returns-in-CommitErr-clause-refuses : goal.returns-in-CommitErr-clause-refuses
+returns-in-CommitErr-clause-refuses g c = reasons_hand_on _ _ _ _ _ (λ e h. first_reasons g.N.Parser g.Input.StreamOnce g.Input.Error.ParseError.seen g.N.PartialState.Default.is_default _ g.V.Join.joined (g.K.Asked.answers (asked_part c.args.self.now)) (g.P.Parser.meaning (first_part c.args.self.now)) (g.P.Parser.refuses (first_part c.args.self.now)) c.in-First.ensures.from h) c.in-CommitErr.ensures.refuses
+
+pub returns-in-PeekErr-clause-refuses : goal.returns-in-PeekErr-clause-refuses
+returns-in-PeekErr-clause-refuses g c = reasons_peeked _ _ _ _ (first_reasons g.N.Parser g.Input.StreamOnce g.Input.Error.ParseError.seen g.N.PartialState.Default.is_default _ g.V.Join.joined (g.K.Asked.answers (asked_part c.args.self.now)) (g.P.Parser.meaning (first_part c.args.self.now)) (g.P.Parser.refuses (first_part c.args.self.now)) c.in-First.ensures.from (reason_peeked _ _ _ _ c.in-PeekErr.ensures.refuses))
+
+pub returns-clause-refuses : goal.returns-clause-refuses
+returns-clause-refuses g c =
+    elim c.match-parse_mode.branch [
+      | in-CommitOk w ↦ answered_reasons g.N.Parser g.Input.StreamOnce g.Input.Error.ParseError.seen g.N.PartialState.Default.is_default _ g.V.Join.joined (g.K.Asked.answers (asked_part c.args.self.now)) (g.P.Parser.meaning (first_part c.args.self.now)) (g.P.Parser.refuses (first_part c.args.self.now)) c.in-First.ensures.from w.in-CommitOk.ensures.answers.is (rw w.value-is at c.ask-value.ensures.answers) c.default.ensures (rw w.value-is at c.parse_answered.ensures)
+      | in-PeekOk w ↦ answered_reasons g.N.Parser g.Input.StreamOnce g.Input.Error.ParseError.seen g.N.PartialState.Default.is_default _ g.V.Join.joined (g.K.Asked.answers (asked_part c.args.self.now)) (g.P.Parser.meaning (first_part c.args.self.now)) (g.P.Parser.refuses (first_part c.args.self.now)) c.in-First.ensures.from w.in-PeekOk.ensures.answers.is (rw w.value-is at c.ask-value.ensures.answers) c.default.ensures (rw w.value-is at c.parse_answered.ensures)
     ]
