@@ -3,11 +3,12 @@
 use combine_base::error::{Info, UnexpectedParse};
 use combine_base::parser::Parser;
 use combine_base::stream::{Kind, Left};
-use combine_char::char::{char, digit};
+use combine_char::char::{char, digit, string};
 use combine_combinator_spanned::combinator::spanned;
 use combine_error::easy::{EasyParser, Error, Errors};
 use combine_error::error::{expected, message, silent};
 use combine_error::span;
+use combine_stream::position::{self, SourcePosition, TextStream};
 use combine_token::token::token;
 use std::alloc::{AllocError, Global};
 
@@ -35,6 +36,14 @@ fn explained<'a>(alloc: Global, text: &'a str) -> Told<'a> {
 /// An `a`, of which is not said that it was expected.
 fn hushed<'a>(alloc: Global, text: &'a str) -> Told<'a> {
     silent(token('a')).easy_parse(alloc, text)
+}
+
+/// What is answered of a text whose errors stand at lines and columns.
+type Placed<'a, V> = Result<(V, TextStream<'a>), Errors<char, &'a str, SourcePosition>>;
+
+/// `let` and a digit.
+fn binding<'a>(alloc: Global, text: &'a str) -> Placed<'a, (&'static str, char, char)> {
+    (string("let"), char(' '), digit()).easy_parse(alloc, position::Stream::new(text))
 }
 
 /// An `a` of a slice whose positions are spans.
@@ -69,6 +78,39 @@ fn of_shaped_errors(rt: HostRuntime) -> Result<(), AllocError> {
     assert!(rt; says(alloc, hushed(alloc, "b"), &["Unexpected `b`"])?);
     for told in [named(alloc, "a"), explained(alloc, "a"), hushed(alloc, "a")] {
         assert!(rt; says(alloc, told, &[])?);
+    }
+    Ok(())
+}
+
+#[test]
+fn of_a_text_with_lines(rt: HostRuntime) -> Result<(), AllocError> {
+    let alloc = rt.alloc();
+    let Ok((values, _rest)) = binding(alloc, "let 1") else {
+        panic!(rt; "the binding is accepted");
+    };
+    assert_eq!(rt; values, ("let", ' ', '1'));
+    let rows = [
+        ("x", "line: 1, column: 1\nUnexpected `x`\nExpected let\n"),
+        (
+            "let\n",
+            "line: 1, column: 4\nUnexpected `\n`\nExpected ` `\n",
+        ),
+        (
+            "let x",
+            "line: 1, column: 5\nUnexpected `x`\nExpected digit\n",
+        ),
+        (
+            "let ",
+            "line: 1, column: 5\nUnexpected end of input\nExpected digit\n",
+        ),
+    ];
+    for (text, wanted) in rows {
+        let Err(error) = binding(alloc, text) else {
+            panic!(rt; "there is no binding");
+        };
+        let said = format!(in alloc; "{error}")?;
+        let wanted = format!(in alloc; "Parse error at {wanted}")?;
+        assert_eq!(rt; said.as_str(), wanted.as_str());
     }
     Ok(())
 }
