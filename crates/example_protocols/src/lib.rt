@@ -19,3 +19,5 @@ mod record;
 mod replies;
 #[cfg(test)]
 mod resp;
+#[cfg(test)]
+mod stages;
