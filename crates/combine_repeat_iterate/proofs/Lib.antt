@@ -1,6 +1,7 @@
 mod Cuts
 mod Dividing
 mod EachItem
+mod ItemErrors
 mod Judging
 pub mod OneAsked
 pub mod Ranges

@@ -4,6 +4,7 @@ use Rattle.combine_base.specs.Error.Errors.{Errors}
 use Rattle.combine_base.specs.Parser.Answer.{Answers, world}
 use Rattle.combine_base.specs.Parser.Judged.{NeedsMore}
 use Rattle.combine_base.specs.Parser.Meaning.{MeansSame}
+use Rattle.combine_base.specs.Parser.Reasons.{Reasoned, kept_from}
 use Rattle.combine_base.specs.Sequence.Parts.{refused_as, run_from}
 use Rattle.combine_base.specs.Stream.Calls.{Passes}
 use Rattle.combine_base.specs.declared.stream.Kind.{Kind}
@@ -12,6 +13,7 @@ use Rattle.combine_base.specs.declared.error.ParseResult.{ParseResult}
 use Rattle.combine_base.specs.declared.error.ParseResult.TheVariants.{CommitOk, PeekOk, CommitErr, PeekErr}
 use Rattle.combine_base.specs.declared.parser.Parser as parser
 use Rattle.combine_base.specs.declared.stream.StreamOnce as stream
+use Rattle.combine_repeat_iterate.specs.ItemErrors.{item_refuses}
 use Rattle.combine_repeat_iterate.specs.Items.{begins_items}
 use Rattle.combine_repeat_iterate.specs.declared.repeat.items.Collected.{Collected}
 use Rattle.combine_repeat_iterate.specs.declared.repeat.items.Item.{Item}
@@ -24,6 +26,7 @@ module _ {B C H It : Type 0} (held : C → H) (more : H → B → H) where
   -- one more value is collected, of an item that was committed or not
   pub record Stores (before : Collected C It) (value : B) (commits : Bool) (next : Collected C It) : Type 0 where
     pub values : held next.values ≡ more (held before.values) value
+    pub begun : next.is_begun ≡ true
     pub committed : next.committed ≡ (before.committed || commits)
     pub items : next.items ≡ before.items
 
@@ -51,7 +54,7 @@ module _ {N Input It B C H U Checkpoint T R P E : Type 0} (p : parser.Ghosts N I
   item_did from (CommitErr e) result = result ≡ items.Stops (CommitErr e)
   item_did from (PeekErr t) result = result ≡ items.Stops (refused_as from.before.committed t)
 
-  pub record CalledItem (input left : Input) (from : RunningItem C It N U) (state : IterateState C It N U) (result : Item C It E) : Type 0 where
+  pub record CalledItem (first : Bool) (input left : Input) (from : RunningItem C It N U) (state : IterateState C It N U) (result : Item C It E) : Type 0 where
     pub parser : N
     pub lawful : p.lawful parser
     pub same : MeansSame (p.meaning from.parser) (p.meaning parser)
@@ -59,5 +62,6 @@ module _ {N Input It B C H U Checkpoint T R P E : Type 0} (p : parser.Ghosts N I
     pub stopped : U
     pub answer : ParseResult B E
     pub answers : Answers (world i.step seen i.steady fresh) (p.meaning from.parser) (run_from from.state stopped (i.view input) (i.view left) (i.failures input) (i.failures left)) answer
+    pub refuses : Reasoned seen.kind (i.view left).is_open (item_refuses seen (p.meaning from.parser) (p.refuses from.parser (kept_from first from.state) (i.view input)) (i.view input) from.before.is_begun) answer
     pub did : item_did from answer result
     pub keeps : keeps_item (i.view left).is_open from parser stopped state answer

@@ -15,3 +15,4 @@ pub use Rattle.combine_base.specs.Sequence.Readings
 pub mod Iterated
 pub mod Items
 pub mod ItemCalls
+pub mod ItemErrors

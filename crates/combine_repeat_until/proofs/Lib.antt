@@ -1,3 +1,4 @@
 mod Comparing
 mod OneTurns
 mod UntilCalls
+mod UntilErrors

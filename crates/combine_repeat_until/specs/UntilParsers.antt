@@ -51,6 +51,12 @@ repeat_skip_until_of part end = skips_of part (mute_of end)
 abbrev pub skip_until_of : {I A Y : Type 0} → Y → Picked (Skips A (Any I) Y) Nothing (Unit {0})
 skip_until_of end = skips_of any_parser end
 
+abbrev pub skipped_turn : {A X Y : Type 0} → Skips A X Y → Next A X Y
+skipped_turn p = p.turn
+
+abbrev pub blocks_turn : {F A X Y : Type 0} → BlocksUntil F A X Y → Next A X Y
+blocks_turn p = p.turn
+
 abbrev pub skipped_end : {A X Y : Type 0} → Skips A X Y → Y
 skipped_end p = next_end p.turn
 

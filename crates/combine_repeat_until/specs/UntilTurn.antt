@@ -2,7 +2,10 @@
 use Rattle.std.specs.Prelude.{ℕ, ◌+◌, ◌<◌, ◌≡◌, ◌⊎◌, Bool, true, false, ◌||◌, ◌&&◌, nat_lt, Option, Some, None, Result, Ok, Err}
 use Rattle.combine_base.specs.Stream.View.{View, Takes, Moves}
 use Rattle.combine_base.specs.Distances.{stops}
-use Rattle.combine_base.specs.Parser.Drivers.{Broke}
+use Rattle.combine_base.specs.Error.Errors.{Errors}
+use Rattle.combine_base.specs.Parser.Drivers.{Broke, Refusal}
+use Rattle.combine_base.specs.Parser.Judged.{IsRefusal}
+use Rattle.combine_base.specs.Parser.Reasons.{Refusing, kept_from}
 use Rattle.combine_base.specs.Parser.Meaning.{Meaning, begun}
 use Rattle.combine_base.specs.Parser.Outcome.{Accepted}
 use Rattle.combine_base.specs.Parser.Answer.{Run, World, Answers, Accepts, Leaves}
@@ -15,6 +18,7 @@ use Rattle.combine_base.specs.declared.stream.Kind.{Kind}
 use Rattle.combine_base.specs.declared.stream.Kind.TheVariants as kinds
 use Rattle.combine_repeat_turns.specs.Turns.{Collecting}
 use Rattle.combine_repeat_until.specs.Until.{blocks_so_far}
+use Rattle.combine_repeat_until.specs.UntilErrors.{place_refuses}
 use Rattle.combine_repeat_until.specs.declared.until.Blocks.{Blocks}
 use Rattle.combine_repeat_until.specs.declared.until.Kept.{Kept}
 use Rattle.combine_repeat_until.specs.declared.until.Step.{Step}
@@ -107,6 +111,22 @@ module _ {P T R A V S E : Type 0} (w : World P T S E) (m : Meaning P T R (Option
 
   pub record OneTurn (result : Step V E) : Type 0 where
     pub is : turned result
+
+-- the errors of the turn's refusals
+module _ {P T R A V S E : Type 0} (errors : Errors T R P E) (m : Meaning P T R (Option A) S) (own : Refusing P T S E) (first : Bool) (from : S) (begun_so : Bool) (old new : View P T) where
+  abbrev pub stop_says : Stop V E → Type 0
+  stop_says (stop.Ends n) = Unit {0}
+  stop_says (stop.Refused t) = Refusal errors m (own (kept_from first from) old) old new t.error
+  stop_says (stop.More n e) = Unit {0}
+  stop_says (stop.Failed e) = IsRefusal new.is_open (errors.kind e) → place_refuses errors m own (begun m first from) (kept_from first from) begun_so old true e
+
+  abbrev pub step_says : Step V E → Type 0
+  step_says (steps.Goes n) = Unit {0}
+  step_says (steps.Stops why) = stop_says why
+
+  -- where it refuses, the error is one that its place may have
+  pub record RefusesTurn (result : Step V E) : Type 0 where
+    pub is : step_says result
 
 module _ {P T E V S : Type 0} (steady : Type 0) (step : P → T → P) (kind : E → Kind) (begins stands : View P T → Type 0) (old new : View P T) (earlier later : Failures) where
   module _ (blocks : Blocks V) (running : S) (need : E) (given left : UntilState V S) (result : ParseResult V E) where

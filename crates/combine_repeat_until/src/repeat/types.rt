@@ -1,9 +1,10 @@
 //! The parsers that the functions of this module answer.
 ghost use Rattle.combine_token.specs.Or.{or_valid};
 ghost use Rattle.combine_repeat_until.specs.Next.{next, next_is_meaning, next_once};
+ghost use Rattle.combine_repeat_until.specs.PlaceErrors.{turns_refuse};
 ghost use Rattle.combine_repeat_until.specs.Until.{some_appended, some_dropped, until_valid};
 ghost use Rattle.combine_repeat_until.specs.UntilLaws.{until_is_meaning, until_means_one};
-ghost use Rattle.combine_repeat_until.specs.UntilParsers.{blocks_end, blocks_part, repeat_until, skipped_end, skipped_part};
+ghost use Rattle.combine_repeat_until.specs.UntilParsers.{blocks_end, blocks_part, blocks_turn, repeat_until, skipped_end, skipped_part, skipped_turn};
 
 pub use crate::mute::Mute;
 use crate::next::{Next, NextState};
@@ -54,6 +55,8 @@ impl<Input: Stream, A: Drop, P: Parser<Input, Output = A>, E: Parser<Input>, F: 
     ghost valid = { until_valid (or_valid E.valid P.valid) };
 
     ghost meaning = { λ p. repeat_until Input.step (some_appended F.held F.none F.more F.lean) (P.meaning (blocks_part p)) (E.meaning (blocks_end p)) };
+
+    ghost refuses = { λ p. turns_refuse E.Parser P.Parser Input.Error.seen Input.Position.cmp E.PartialState.is_default P.PartialState.is_default Input.step (blocks_turn p) };
 
     ghost parts = { λ _. 1 };
 
@@ -109,6 +112,8 @@ impl<Input: Stream, A: Drop, P: Parser<Input, Output = A>, E: Parser<Input>> Par
     ghost valid = { until_valid (or_valid E.valid P.valid) };
 
     ghost meaning = { λ p. repeat_until Input.step some_dropped (P.meaning (skipped_part p)) (E.meaning (skipped_end p)) };
+
+    ghost refuses = { λ p. turns_refuse E.Parser P.Parser Input.Error.seen Input.Position.cmp E.PartialState.is_default P.PartialState.is_default Input.step (skipped_turn p) };
 
     ghost parts = { λ _. 1 };
 

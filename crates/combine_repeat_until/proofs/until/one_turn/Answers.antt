@@ -1,4 +1,4 @@
-use Rattle.std.proofs.Common.{refl, sym, ◌∙◌}
+use Rattle.std.proofs.Common.{inr, refl, sym, ◌∙◌}
 use Rattle.combine_repeat_until.specs.UntilTurn.{TakesNothing}
 use Rattle.combine_repeat_until.proofs.OneTurns.{accepts_value, needs_more, unreset_by}
 use Rattle.combine_repeat_until.proofs.until.one_turn.Goals as goal
@@ -51,4 +51,16 @@ returns-in-Ok-add-clause-turned g c =
       | in-PeekOk w ↦
           let p = accepts_value _ _ _ _ _ _ _ w.value-is c.in-Some.is w.in-PeekOk.ensures.answers.is in
           record { is = record { value = c.in-Some.value; committed = c.match-parse_explained.value.1; accepts = p; takes = sym (c.is_block.ensures p.count _ since p.taken) ∙ c.if-not-is_block.false; held = _; more = refl; blocks = b } }
+    ]
+
+pub returns-then-not-is_block-clause-refuses : goal.returns-then-not-is_block-clause-refuses
+returns-then-not-is_block-clause-refuses g c =
+    let since = g.met.Input.ResetStream.lasts _ _ _ _ c.parse_explained.ensures.passes.marks c.checkpoint-since.ensures.stands in
+    elim c.match-parse_explained.branch [
+      | in-CommitOk w ↦
+          let p = accepts_value _ _ _ _ _ _ _ w.value-is c.in-Some.is w.in-CommitOk.ensures.answers.is in
+          record { is = λ i. inr (record { value = c.in-Some.value; count = p.count; commits = c.match-parse_explained.value.1; accepted = p.meant; idle = sym (c.is_block.ensures p.count _ since p.taken) ∙ c.if-not-is_block.true; says = rw c.position-position.ensures at c.refusal_saying-error.ensures.says }) }
+      | in-PeekOk w ↦
+          let p = accepts_value _ _ _ _ _ _ _ w.value-is c.in-Some.is w.in-PeekOk.ensures.answers.is in
+          record { is = λ i. inr (record { value = c.in-Some.value; count = p.count; commits = c.match-parse_explained.value.1; accepted = p.meant; idle = sym (c.is_block.ensures p.count _ since p.taken) ∙ c.if-not-is_block.true; says = rw c.position-position.ensures at c.refusal_saying-error.ensures.says }) }
     ]

@@ -1,7 +1,9 @@
-use Rattle.std.proofs.Common.{refl}
+use Rattle.std.proofs.Common.{ap, refl}
 use Rattle.combine_base.proofs.Same.{passes_more, same_more, same_none}
 use Rattle.combine_repeat_until.proofs.OneTurns.{blocks_shrink}
 use Rattle.combine_repeat_until.proofs.UntilCalls.{begun_reads, handed_valid, reaches_afresh, reaches_first, reaches_on, running_valid, turn_back, until_settled}
+use Rattle.combine_repeat_until.proofs.UntilErrors.{leads_first, leads_on, settled_reasons, short_reasons, stop_alike}
+use Rattle.combine_repeat_until.specs.RefusesAlike.{RefusesAlike}
 use Rattle.combine_repeat_until.proofs.until.take_blocks.Goals as goal
 
 pub turns-init : goal.turns-init
@@ -18,6 +20,7 @@ turns-init g c =
       passes = p;
       cleared = c.hand_out-before.ensures.left;
       there = (_, a.stood, z);
+      errors = leads_first _ _ _ _ _ h _ _ c.hand_out-before.result c.args.empty _ o (ap (λ b. b.begun) c.joined-blocks.ensures) _ _ _ a.first a.then;
     }
 
 pub turns-smaller : goal.turns-smaller
@@ -37,6 +40,7 @@ turns-preserved g c =
       passes = passes_more _ _ _ _ _ _ i.passes q;
       cleared = i.cleared;
       there = (_, c.checkpoint-place.ensures.stands, reaches_afresh _ _ _ g.N.PartialState.Default.is_default g.N.Parser.valid h _ _ _ _ _ _ _ _ _ _ t.is.accepts.state z);
+      errors = leads_on _ _ _ _ _ h _ _ _ _ _ _ _ i.errors t.is.value t.is.accepts.count t.is.committed t.is.accepts.meant t.is.takes _ t.is.accepts.state _ t.is.accepts.taken.rest _ (ap (λ s. s.mark) t.is.blocks);
     }
 
 pub returns-in-Stops-clause-valid : goal.returns-in-Stops-clause-valid
@@ -55,3 +59,18 @@ returns-in-Stops-clause-answers g c =
     let t = turn_back _ _ _ _ i.same _ _ _ _ c.in-Stops.ensures.turned in
     let start = g.met.Input.ResetStream.lasts _ _ _ _ q.marks (g.met.Input.ResetStream.lasts _ _ _ _ i.passes.marks c.checkpoint-start.ensures.stands) in
     until_settled _ _ _ _ _ _ _ i.there.2 _ _ _ _ _ _ t.is c.settle.ensures.settled i.cleared i.there.1 start (g.met.Input.ResetStream.lasts _ _ _ _ q.marks i.there.1) q.reads q.resets
+
+pub returns-in-Stops-clause-refuses : goal.returns-in-Stops-clause-refuses
+returns-in-Stops-clause-refuses g c =
+    let p = g.N.Parser in
+    let seen = g.Input.Error.ParseError.seen in
+    let i = c.turns.invariant in
+    let q = c.in-Stops.ensures.passes in
+    let z = i.there.2 in
+    let t = turn_back _ _ _ _ i.same _ _ _ _ c.in-Stops.ensures.turned in
+    let start = g.met.Input.ResetStream.lasts _ _ _ _ q.marks (g.met.Input.ResetStream.lasts _ _ _ _ i.passes.marks c.checkpoint-start.ensures.stands) in
+    let x = stop_alike seen (p.meaning c.args.parser.now) _ i.same (RefusesAlike p.lawful p.meaning p.refuses c.args.parser.now) _ (λ from v k e w. record { parser = _; is_lawful = i.lawful; same = i.same; refused = w }) _ _ _ _ _ _ c.in-Stops.ensures.refuses in
+    settled_reasons _ _ _ _ _ _ _ _ _ _ _ _ _ _ _ i.errors _ _ _ _ _ _ t.is x c.settle.ensures.settled _ start (g.met.Input.ResetStream.lasts _ _ _ _ q.marks i.there.1) z.before z.beyond z.there z.on
+
+pub returns-in-Err-clause-refuses : goal.returns-in-Err-clause-refuses
+returns-in-Err-clause-refuses g c = short_reasons _ _ _ g.Input.StreamOnce.steady g.Input.StreamOnce.step (g.Input.StreamOnce.view c.args.input.now) (g.Input.StreamOnce.view c.pass_to.new.input) (g.Input.StreamOnce.failures c.args.input.now) (g.Input.StreamOnce.failures c.pass_to.new.input) _ _ _ _ c.lost.ensures c.new_error.ensures.kind c.in-Err.ensures.comes.is.0

@@ -18,6 +18,7 @@ returns-then-needs_more g c =
       stopped = _;
       answer = CommitErr c.in-CommitErr.error;
       answers = at_rest around _ _ (g.met.N.Parser.laws c.args.from.parser c.requires.ready.lawful) _ c.requires.starts _ c.in-CommitErr.ensures.answers;
+      refuses = c.in-CommitErr.ensures.refuses;
       did = refl;
       keeps = inl (c.needs_more.ensures.0 c.if-needs_more.true, refl, c.in-CommitErr.ensures.valid);
     }
@@ -34,6 +35,7 @@ returns-in-CommitErr g c =
       stopped = _;
       answer = CommitErr c.in-CommitErr.error;
       answers = at_rest around _ _ (g.met.N.Parser.laws c.args.from.parser c.requires.ready.lawful) _ c.requires.starts _ c.in-CommitErr.ensures.answers;
+      refuses = c.in-CommitErr.ensures.refuses;
       did = refl;
       keeps = inr (λ q. let e = c.needs_more.ensures.1 q in let f = c.if-needs_more.false in cc, c.requires.fresh);
     }
@@ -50,6 +52,7 @@ returns-in-PeekErr g c =
       stopped = _;
       answer = PeekErr c.in-PeekErr.refusal;
       answers = at_rest around _ _ (g.met.N.Parser.laws c.args.from.parser c.requires.ready.lawful) _ c.requires.starts _ c.in-PeekErr.ensures.answers;
+      refuses = c.in-PeekErr.ensures.refuses;
       did = ap items.Stops c.refused_after.ensures;
       keeps = inr (λ q. q, c.requires.fresh);
     }
@@ -67,6 +70,7 @@ returns-in-Ok g c =
         stopped = _;
         answer = CommitOk _;
         answers = at_rest around _ _ (g.met.N.Parser.laws c.args.from.parser c.requires.ready.lawful) _ c.requires.starts _ w.in-CommitOk.ensures.answers;
+        refuses = w.in-CommitOk.ensures.refuses;
         did = rw w.value-is at c.in-Ok.ensures;
         keeps = inr (λ q. q, c.requires.fresh);
       }
@@ -78,6 +82,7 @@ returns-in-Ok g c =
         stopped = _;
         answer = PeekOk _;
         answers = at_rest around _ _ (g.met.N.Parser.laws c.args.from.parser c.requires.ready.lawful) _ c.requires.starts _ w.in-PeekOk.ensures.answers;
+        refuses = w.in-PeekOk.ensures.refuses;
         did = rw w.value-is at c.in-Ok.ensures;
         keeps = inr (λ q. q, c.requires.fresh);
       }
@@ -96,6 +101,7 @@ returns g c =
         stopped = _;
         answer = CommitOk _;
         answers = at_rest around _ _ (g.met.N.Parser.laws c.args.from.parser c.requires.ready.lawful) _ c.requires.starts _ w.in-CommitOk.ensures.answers;
+        refuses = w.in-CommitOk.ensures.refuses;
         did = (c.new_error.ensures.kind, c.in-Err.ensures);
         keeps = inr (λ q. q, c.requires.fresh);
       }
@@ -107,6 +113,7 @@ returns g c =
         stopped = _;
         answer = PeekOk _;
         answers = at_rest around _ _ (g.met.N.Parser.laws c.args.from.parser c.requires.ready.lawful) _ c.requires.starts _ w.in-PeekOk.ensures.answers;
+        refuses = w.in-PeekOk.ensures.refuses;
         did = (c.new_error.ensures.kind, c.in-Err.ensures);
         keeps = inr (λ q. q, c.requires.fresh);
       }

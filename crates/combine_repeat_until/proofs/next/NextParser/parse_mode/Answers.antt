@@ -14,3 +14,6 @@ returns-clause-passes g c = c.choose_2.ensures.passes
 
 pub returns-clause-answers : goal.returns-clause-answers
 returns-clause-answers g c = c.choose_2.ensures.answers
+
+pub returns-clause-refuses : goal.returns-clause-refuses
+returns-clause-refuses g c = c.choose_2.ensures.refuses

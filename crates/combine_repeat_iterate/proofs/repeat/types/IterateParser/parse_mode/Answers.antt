@@ -1,11 +1,14 @@
 use Rattle.std.proofs.Common.{refl, arith}
+use Rattle.combine_base.proofs.Reasoning.{reasons_accepted, reasons_fault, reasons_into}
+use Rattle.combine_base.specs.declared.stream.Kind.TheVariants as kinds
 use Rattle.combine_base.proofs.Same.{passes_none, passes_more}
 use Rattle.combine_base.proofs.Starting.{in_mode}
 use Rattle.combine_repeat_iterate.specs.Items.{iterated_is_meaning, starts_valid}
 use Rattle.combine_base.specs.Parser.Kept.{KeptOf}
 use Rattle.combine_repeat_iterate.specs.Iterated.{AskedFor, Gives, Lists, asked_part, by_function, gives_callable, gives_none, gives_one, gives_some, items_part}
 use Rattle.combine_repeat_iterate.specs.declared.repeat.items.IterateState.TheVariants as states
-use Rattle.combine_repeat_iterate.proofs.EachItem.{asked_kept, item_goes, item_leaves, item_passes, item_stops, items_end, no_clone, reaches_first, runs_first, runs_next, valid_from}
+use Rattle.combine_repeat_iterate.proofs.EachItem.{asked_kept, item_goes, item_leaves, item_passes, item_reasons, item_stops, items_end, no_clone, reaches_first, runs_first, runs_next, valid_from}
+use Rattle.combine_repeat_iterate.proofs.ItemErrors.{refuses_in_mode}
 use Rattle.combine_repeat_iterate.proofs.repeat.types.IterateParser.parse_mode.Given as given
 use Rattle.combine_repeat_iterate.proofs.repeat.types.IterateParser.parse_mode.Goals as goal
 use Rattle.combine_repeat_iterate.proofs.repeat.types.IterateParser.parse_mode.Goals.{in-Running+in-Goes, in-Start+in-Ok}
@@ -40,9 +43,29 @@ returns-in-Stops-clause-answers g c =
     let laws = iterated_is_meaning g.Input.StreamOnce.step answers some g.N.Parser.meaning g.C.Append.held g.C.Append.none g.C.Append.more at lists spared g.N.Parser.lawful g.met.N.Parser.laws c.requires.lawful.2 in
     let from = c.in-Running.ensures.from in
     let v = valid_from (starts_valid (KeptOf g.N.Parser.lawful g.N.Parser.meaning some) g.N.Parser.valid at) from c.requires.valid in
-    let runs = runs_first g.N.Parser g.Input.StreamOnce seen fresh answers some g.C.Append.held g.C.Append.none g.C.Append.more at lists lean spared _ v.2.0 _ _ v.0 v.2.1 in
-    let call = item_stops g.N.Parser g.Input.StreamOnce seen fresh answers some g.C.Append.held g.C.Append.none g.C.Append.more at lists lean spared (gives_one iterator.can_next iterator.remaining iterator.next_gives) _ _ _ _ _ _ _ (omega arith) (omega arith) runs (λ x. x.0) _ c.in-Stops.ensures in
+    let runs = runs_first g.N.Parser g.Input.StreamOnce seen fresh answers some g.C.Append.held g.C.Append.none g.C.Append.more at lists lean spared _ _ _ from v.2.0 _ _ v.0 v.2.1 in
+    let call = item_stops g.N.Parser g.Input.StreamOnce seen fresh answers some g.C.Append.held g.C.Append.none g.C.Append.more at lists lean spared (gives_one iterator.can_next iterator.remaining iterator.next_gives) _ _ _ _ _ _ _ _ (omega arith) (omega arith) runs (λ x. x.0) _ c.in-Stops.ensures in
     in_mode _ _ _ laws _ _ _ _ from _ _ _ _ _ call
+
+pub returns-in-Stops-clause-refuses : goal.returns-in-Stops-clause-refuses
+returns-in-Stops-clause-refuses g c =
+    let iterator = g.J.IntoIter.Iterator in
+    let answers = AskedFor (λ a i n q. given.F-post g (asked_part c.args.self.now) a i n q) in
+    let some = by_function g.Input.StreamOnce.view g.Input.StreamOnce.marks g.Input.StreamOnce.failures g.F.Fn g.N.Parser.lawful in
+    let at = Gives iterator.can_next iterator.remaining iterator.next_gives in
+    let lists = Lists iterator.can_next iterator.remaining iterator.next_gives g.J.Clone.is_clone g.J.IntoIterator.into_iter_gives (items_part c.args.self.now) in
+    let lean = g.C.Append.lean in
+    let spared = lean × g.J.Clone.is_infallible (items_part c.args.self.now) in
+    let fresh = g.N.PartialState.Default.is_default in
+    let seen = g.Input.Error.ParseError.seen in
+    let from = c.in-Running.ensures.from in
+    let v = valid_from (starts_valid (KeptOf g.N.Parser.lawful g.N.Parser.meaning some) g.N.Parser.valid at) from c.requires.valid in
+    let runs = runs_first g.N.Parser g.Input.StreamOnce seen fresh answers some g.C.Append.held g.C.Append.none g.C.Append.more at lists lean spared _ _ _ from v.2.0 _ _ v.0 v.2.1 in
+    let call = item_reasons g.N.Parser g.Input.StreamOnce seen fresh answers some g.C.Append.held g.C.Append.none g.C.Append.more at lists lean spared (gives_one iterator.can_next iterator.remaining iterator.next_gives) _ _ _ _ _ _ _ _ (omega arith) (omega arith) runs _ c.in-Stops.ensures in
+    reasons_into seen.kind _ _ _ _ (refuses_in_mode g.Input.StreamOnce.step answers g.N.Parser.meaning seen g.N.Parser.refuses at lists _ _ _ from _) call
+
+pub returns-in-Err-clause-refuses : goal.returns-in-Err-clause-refuses
+returns-in-Err-clause-refuses g c = reasons_fault _ _ _ _ kinds.Memory c.new_error-error.ensures.kind tt
 
 pub returns-in-Err-clause-answers : goal.returns-in-Err-clause-answers
 returns-in-Err-clause-answers g c =
@@ -73,13 +96,13 @@ items-init g c =
       | in-Running+in-Goes w ↦
           let from = w.in-Running.ensures.from in
           let v = valid_from (starts_valid (KeptOf g.N.Parser.lawful g.N.Parser.meaning some) g.N.Parser.valid at) from c.requires.valid in
-          let runs = runs_first g.N.Parser g.Input.StreamOnce seen fresh answers some g.C.Append.held g.C.Append.none g.C.Append.more at lists lean spared _ v.2.0 _ _ v.0 v.2.1 in
-          let goes = item_goes g.N.Parser g.Input.StreamOnce seen fresh answers some g.C.Append.held g.C.Append.none g.C.Append.more at lists lean spared (gives_one iterator.can_next iterator.remaining iterator.next_gives) _ _ _ _ _ _ _ (omega arith) (omega arith) runs (g.met.N.Parser.laws _ v.0.is_lawful) v.1 _ w.in-Goes.ensures in
+          let runs = runs_first g.N.Parser g.Input.StreamOnce seen fresh answers some g.C.Append.held g.C.Append.none g.C.Append.more at lists lean spared _ _ _ from v.2.0 _ _ v.0 v.2.1 in
+          let goes = item_goes g.N.Parser g.Input.StreamOnce seen fresh answers some g.C.Append.held g.C.Append.none g.C.Append.more at lists lean spared (gives_one iterator.can_next iterator.remaining iterator.next_gives) _ _ _ _ _ _ _ _ (omega arith) (omega arith) runs (g.met.N.Parser.laws _ v.0.is_lawful) v.1 _ w.in-Goes.ensures in
           rw (w.input-is, w.state-is, w.collected-is) (record { self = refl; cleared = goes.0; passes = w.resume_item.ensures.passes; loops = record { z = _; from = from; reaches = goes.1 } })
       | in-Start+in-Ok w ↦
           let listed = c.requires.lawful.3 in
           let made = w.none_yet-collected.ensures in
-          rw (w.input-is, w.state-is, w.collected-is) (record { self = refl; cleared = c.take_state.ensures.left; passes = passes_none _ _; loops = record { z = states.Start; from = w.in-Start.ensures.from; reaches = rw made (reaches_first g.N.Parser g.Input.StreamOnce seen fresh answers some g.C.Append.held g.C.Append.none g.C.Append.more at lists lean spared _ listed.0 _ _ refl w.empty.ensures listed.1 (listed.1.each _ _ w.in-Ok.ensures.cases w.into_iter.ensures.into_iter_gives)) } })
+          rw (w.input-is, w.state-is, w.collected-is) (record { self = refl; cleared = c.take_state.ensures.left; passes = passes_none _ _; loops = record { z = states.Start; from = w.in-Start.ensures.from; reaches = rw made (reaches_first g.N.Parser g.Input.StreamOnce seen fresh answers some g.C.Append.held g.C.Append.none g.C.Append.more at lists lean spared _ listed.0 _ _ refl refl w.empty.ensures listed.1 (listed.1.each _ _ w.in-Ok.ensures.cases w.into_iter.ensures.into_iter_gives)) } })
     ]
 
 pub next-requires : goal.next-requires
@@ -115,6 +138,9 @@ returns-in_default-clause-answers g c =
     let none = gives_none _ _ _ _ _ _ loops.reaches.given c.in_default.ensures.steps in
     let call = items_end g.N.Parser g.Input.StreamOnce seen fresh answers some g.C.Append.held g.C.Append.none g.C.Append.more at lists lean spared _ c.items.state _ _ _ _ c.items.collected loops.reaches none c.items.invariant.cleared in
     rw c.accepted_after.ensures (in_mode _ _ _ laws _ _ _ _ loops.from _ _ _ _ _ call)
+
+pub returns-in_default-clause-refuses : goal.returns-in_default-clause-refuses
+returns-in_default-clause-refuses g c = reasons_accepted _ _ _ _ _ _ c.accepted_after.ensures
 
 pub returns-in-Stops-parse_item-clause-valid : goal.returns-in-Stops-parse_item-clause-valid
 returns-in-Stops-parse_item-clause-valid g c =
@@ -163,8 +189,32 @@ returns-in-Stops-parse_item-clause-answers g c =
     let kept = asked_kept g.N.Parser.meaning _ lawful (record { asked = asked_part c.args.self.now; is_fit = (c.requires.lawful.0, c.requires.lawful.1); all = c.requires.lawful.2; item = c.in-Some.item; answered = met }) in
     let runs = runs_next g.N.Parser g.Input.StreamOnce seen fresh answers some g.C.Append.held g.C.Append.none g.C.Append.more at lists lean spared _ _ _ _ _ _ _ _ r _ left.0 left.1 _ met kept _ c.default.ensures (g.met.N.Parser.laws _ lawful) _ left.2 stays.0 stays.2 in
     let upto = passes_more _ _ _ _ _ _ inv.passes stays.1 in
-    let call = item_stops g.N.Parser g.Input.StreamOnce seen fresh answers some g.C.Append.held g.C.Append.none g.C.Append.more at lists lean spared (gives_one iterator.can_next iterator.remaining iterator.next_gives) _ _ _ _ _ _ _ upto.reads upto.resets runs (λ x. x.0) _ c.in-Stops-parse_item.ensures in
+    let call = item_stops g.N.Parser g.Input.StreamOnce seen fresh answers some g.C.Append.held g.C.Append.none g.C.Append.more at lists lean spared (gives_one iterator.can_next iterator.remaining iterator.next_gives) _ _ _ _ _ _ _ _ upto.reads upto.resets runs (λ x. x.0) _ c.in-Stops-parse_item.ensures in
     in_mode _ _ _ laws _ _ _ _ inv.loops.from _ _ _ _ _ call
+
+pub returns-in-Stops-parse_item-clause-refuses : goal.returns-in-Stops-parse_item-clause-refuses
+returns-in-Stops-parse_item-clause-refuses g c =
+    let iterator = g.J.IntoIter.Iterator in
+    let answers = AskedFor (λ a i n q. given.F-post g (asked_part c.args.self.now) a i n q) in
+    let some = by_function g.Input.StreamOnce.view g.Input.StreamOnce.marks g.Input.StreamOnce.failures g.F.Fn g.N.Parser.lawful in
+    let at = Gives iterator.can_next iterator.remaining iterator.next_gives in
+    let lists = Lists iterator.can_next iterator.remaining iterator.next_gives g.J.Clone.is_clone g.J.IntoIterator.into_iter_gives (items_part c.args.self.now) in
+    let lean = g.C.Append.lean in
+    let spared = lean × g.J.Clone.is_infallible (items_part c.args.self.now) in
+    let fresh = g.N.PartialState.Default.is_default in
+    let seen = g.Input.Error.ParseError.seen in
+    let inv = c.items.invariant in
+    let r = inv.loops.reaches in
+    let left = gives_some _ _ _ _ _ _ _ r.given c.in-Some.ensures.steps in
+    let asked = rw inv.self at c.asked.ensures in
+    let stays = c.requires.lawful.1.kept _ _ _ _ asked in
+    let met : answers c.in-Some.item c.asked.result = record { shown = _; shows = refl; input = _; left = _; met = asked } in
+    let lawful = c.requires.lawful.2 _ _ met in
+    let kept = asked_kept g.N.Parser.meaning _ lawful (record { asked = asked_part c.args.self.now; is_fit = (c.requires.lawful.0, c.requires.lawful.1); all = c.requires.lawful.2; item = c.in-Some.item; answered = met }) in
+    let runs = runs_next g.N.Parser g.Input.StreamOnce seen fresh answers some g.C.Append.held g.C.Append.none g.C.Append.more at lists lean spared _ _ _ _ _ _ _ _ r _ left.0 left.1 _ met kept _ c.default.ensures (g.met.N.Parser.laws _ lawful) _ left.2 stays.0 stays.2 in
+    let upto = passes_more _ _ _ _ _ _ inv.passes stays.1 in
+    let call = item_reasons g.N.Parser g.Input.StreamOnce seen fresh answers some g.C.Append.held g.C.Append.none g.C.Append.more at lists lean spared (gives_one iterator.can_next iterator.remaining iterator.next_gives) _ _ _ _ _ _ _ _ upto.reads upto.resets runs _ c.in-Stops-parse_item.ensures in
+    reasons_into seen.kind _ _ _ _ (refuses_in_mode g.Input.StreamOnce.step answers g.N.Parser.meaning seen g.N.Parser.refuses at lists _ _ _ inv.loops.from _) call
 
 pub items-smaller : goal.items-smaller
 items-smaller g c =
@@ -202,5 +252,5 @@ items-preserved g c =
     let kept = asked_kept g.N.Parser.meaning _ lawful (record { asked = asked_part c.args.self.now; is_fit = (c.requires.lawful.0, c.requires.lawful.1); all = c.requires.lawful.2; item = c.in-Some.item; answered = met }) in
     let runs = runs_next g.N.Parser g.Input.StreamOnce seen fresh answers some g.C.Append.held g.C.Append.none g.C.Append.more at lists lean spared _ _ _ _ _ _ _ _ r _ left.0 left.1 _ met kept _ c.default.ensures (g.met.N.Parser.laws _ lawful) _ left.2 stays.0 stays.2 in
     let upto = passes_more _ _ _ _ _ _ inv.passes stays.1 in
-    let goes = item_goes g.N.Parser g.Input.StreamOnce seen fresh answers some g.C.Append.held g.C.Append.none g.C.Append.more at lists lean spared (gives_one iterator.can_next iterator.remaining iterator.next_gives) _ _ _ _ _ _ _ upto.reads upto.resets runs (g.met.N.Parser.laws _ lawful) (g.met.N.Parser.default_valid _ c.default.ensures) _ c.in-Goes-parse_item.ensures in
+    let goes = item_goes g.N.Parser g.Input.StreamOnce seen fresh answers some g.C.Append.held g.C.Append.none g.C.Append.more at lists lean spared (gives_one iterator.can_next iterator.remaining iterator.next_gives) _ _ _ _ _ _ _ _ upto.reads upto.resets runs (g.met.N.Parser.laws _ lawful) (g.met.N.Parser.default_valid _ c.default.ensures) _ c.in-Goes-parse_item.ensures in
     record { self = inv.self; cleared = goes.0; passes = passes_more _ _ _ _ _ _ upto c.parse_item.ensures.passes; loops = record { z = _; from = inv.loops.from; reaches = goes.1 } }
