@@ -14,21 +14,21 @@ use Rattle.combine_repeat_sep.specs.declared.pair.PairState.{PairState}
 use Rattle.combine_repeat_sep.specs.declared.separated.SeparatedState.{SeparatedState}
 use Rattle.combine_repeat_sep.specs.declared.separated.TurnPlace.{TurnPlace}
 use Rattle.combine_repeat_sep.specs.declared.separated.TurnPlace.TheVariants.{First, Later}
-use Rattle.combine_repeat_turns.specs.RefusesAlike.{RefusesAlike}
+use Rattle.combine_repeat_turns.specs.RefusesAlike.{refuses_alike}
 use Rattle.combine_repeat_turns.specs.TurnRefusals.{KeepsRefusals}
 
 module _ {Sep Part Input O V W U Checkpoint T R P E : Type 0} (step : P → T → P) (errors : Errors T R P E) (fresh : U → Type 0) (s : parser.Ghosts Sep Input W O Checkpoint T R P E) (p : parser.Ghosts Part Input U V Checkpoint T R P E) {Behind : Type 0} (means : Meaning P T R V U → Meaning P T R Behind U) (so : Refusing P T U E → Refusing P T U E) where
   module _ (separator : Sep) (part : Part) where
     -- its own error is one of a parser that means the same
-    own_part : p.lawful part → (from : Option U) (v : View P T) (committed : Bool) (e : E) → p.refuses part from v committed e → RefusesAlike p part from v committed e
-    own_part l from v committed e x = record { parser = part; lawful = l; same = same_none (p.meaning part); refuses = x }
+    own_part : p.lawful part → (from : Option U) (v : View P T) (committed : Bool) (e : E) → p.refuses part from v committed e → refuses_alike p part from v committed e
+    own_part l from v committed e x = record { parser = part; is_lawful = l; same = same_none (p.meaning part); refused = x }
 
     own_pair : s.lawful separator × p.lawful part → (from : Option (PairState O W U)) (v : View P T) (committed : Bool) (e : E) → refuses_pair step errors fresh (s.meaning separator) (s.refuses separator) (means (p.meaning part)) (so (p.refuses part)) from v committed e → RefusesPairAlike step errors fresh s p means so separator part from v committed e
     own_pair l from v committed e x = record { other_separator = separator; other_part = part; lawful = l; separators_same = same_none (s.meaning separator); parts_same = same_none (p.meaning part); refuses = x }
 
     module _ (later first : Bool) (given : SeparatedState O W U) (v : View P T) where
       abbrev placed : TurnPlace U (PairState O W U) → Bool → E → Type 0
-      placed q = refuses_kept (RefusesAlike p part) (RefusesPairAlike step errors fresh s p means so separator part) q v
+      placed q = refuses_kept (refuses_alike p part) (RefusesPairAlike step errors fresh s p means so separator part) q v
 
       -- a kept state says which runs
       kept : (q : TurnPlace U (PairState O W U)) → first ≡ false → turn_place given ≡ q → (committed : Bool) (e : E) → placed q committed e → refuses_turns step errors fresh s p means so separator part later (kept_from first given) v committed e
@@ -51,8 +51,8 @@ module _ {Sep Part Input O V W U Checkpoint T R P E : Type 0} (step : P → T �
 
   -- the errors of parts that mean the same
   module _ {separator separator' : Sep} {part part' : Part} (h : MeansSame (s.meaning separator) (s.meaning separator')) (k : MeansSame (p.meaning part) (p.meaning part')) where
-    part_back : (from : Option U) (v : View P T) (committed : Bool) (e : E) → RefusesAlike p part' from v committed e → RefusesAlike p part from v committed e
-    part_back from v committed e x = record { parser = x.parser; lawful = x.lawful; same = same_more (p.meaning part) (p.meaning part') (p.meaning x.parser) k x.same; refuses = x.refuses }
+    part_back : (from : Option U) (v : View P T) (committed : Bool) (e : E) → refuses_alike p part' from v committed e → refuses_alike p part from v committed e
+    part_back from v committed e x = record { parser = x.parser; is_lawful = x.is_lawful; same = same_more (p.meaning part) (p.meaning part') (p.meaning x.parser) k x.same; refused = x.refused }
 
     pair_back : (from : Option (PairState O W U)) (v : View P T) (committed : Bool) (e : E) → RefusesPairAlike step errors fresh s p means so separator' part' from v committed e → RefusesPairAlike step errors fresh s p means so separator part from v committed e
     pair_back from v committed e x = record {
@@ -64,11 +64,11 @@ module _ {Sep Part Input O V W U Checkpoint T R P E : Type 0} (step : P → T �
       refuses = x.refuses;
     }
 
-    kept_back : (q : TurnPlace U (PairState O W U)) (v : View P T) (committed : Bool) (e : E) → refuses_kept (RefusesAlike p part') (RefusesPairAlike step errors fresh s p means so separator' part') q v committed e → refuses_kept (RefusesAlike p part) (RefusesPairAlike step errors fresh s p means so separator part) q v committed e
+    kept_back : (q : TurnPlace U (PairState O W U)) (v : View P T) (committed : Bool) (e : E) → refuses_kept (refuses_alike p part') (RefusesPairAlike step errors fresh s p means so separator' part') q v committed e → refuses_kept (refuses_alike p part) (RefusesPairAlike step errors fresh s p means so separator part) q v committed e
     kept_back (First u) v committed e x = part_back (Some u) v committed e x
     kept_back (Later z) v committed e x = pair_back (Some z) v committed e x
 
-    turn_back : (from : Option (SeparatedState O W U)) (later : Bool) (v : View P T) (committed : Bool) (e : E) → refuses_turn (RefusesAlike p part') (RefusesPairAlike step errors fresh s p means so separator' part') from later v committed e → refuses_turn (RefusesAlike p part) (RefusesPairAlike step errors fresh s p means so separator part) from later v committed e
+    turn_back : (from : Option (SeparatedState O W U)) (later : Bool) (v : View P T) (committed : Bool) (e : E) → refuses_turn (refuses_alike p part') (RefusesPairAlike step errors fresh s p means so separator' part') from later v committed e → refuses_turn (refuses_alike p part) (RefusesPairAlike step errors fresh s p means so separator part) from later v committed e
     turn_back None false v committed e x = part_back None v committed e x
     turn_back None true v committed e x = pair_back None v committed e x
     turn_back (Some z) later v committed e x = kept_back (turn_place z) v committed e x

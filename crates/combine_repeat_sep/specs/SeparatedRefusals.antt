@@ -13,7 +13,7 @@ use Rattle.combine_repeat_sep.specs.declared.separated.SeparatedState.{Separated
 use Rattle.combine_repeat_sep.specs.declared.separated.TurnPlace.{TurnPlace}
 use Rattle.combine_repeat_sep.specs.declared.separated.TurnPlace.TheVariants as at
 use Rattle.combine_repeat_turns.specs.Counts.{never}
-use Rattle.combine_repeat_turns.specs.RefusesAlike.{RefusesAlike}
+use Rattle.combine_repeat_turns.specs.RefusesAlike.{refuses_alike}
 use Rattle.combine_repeat_turns.specs.TurnRefusals.{RefusesTurns, at_first}
 use Rattle.combine_repeat_turns.specs.declared.turns.Bounds.{Bounds}
 use Rattle.combine_repeat_turns.specs.declared.turns.TurnsState.{TurnsState}
@@ -49,7 +49,7 @@ module _ {Sep Part Input O V W U Checkpoint T R P E : Type 0} (step : P → T �
 
   -- the first part alone, and later the pair
   abbrev pub refuses_turns : {Behind : Type 0} → (Meaning P T R V U → Meaning P T R Behind U) → (Refusing P T U E → Refusing P T U E) → Sep → Part → Bool → Refusing P T (SeparatedState O W U) E
-  refuses_turns means refuses_so separator part = RefusesSeparated (RefusesAlike p part) (RefusesPairAlike means refuses_so separator part)
+  refuses_turns means refuses_so separator part = RefusesSeparated (refuses_alike p part) (RefusesPairAlike means refuses_so separator part)
 
   abbrev pub refuses_separated : Sep → Part → Bool → Refusing P T (SeparatedState O W U) E
   refuses_separated = refuses_turns (λ m. m) (λ r. r)

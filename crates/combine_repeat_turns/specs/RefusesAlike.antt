@@ -1,13 +1,18 @@
 -- the errors of a parser that runs again and again
 use Rattle.std.specs.Prelude.{Bool, Option}
-use Rattle.combine_base.specs.Parser.Meaning.{MeansSame}
+use Rattle.combine_base.specs.Parser.Meaning.{Meaning, MeansSame}
+use Rattle.combine_base.specs.Parser.Reasons.{Refusing}
 use Rattle.combine_base.specs.Stream.View.{View}
 use Rattle.combine_base.specs.declared.parser.Parser as parser
 
-module _ {Self Input Output State Checkpoint Token Range Position Error : Type 0} (p : parser.Ghosts Self Input State Output Checkpoint Token Range Position Error) where
-  -- the error of a refusal of a parser, or of one that means the same
-  pub record RefusesAlike (self : Self) (from : Option State) (v : View Position Token) (committed : Bool) (e : Error) : Type 0 where
+module _ {Self P T R V S E : Type 0} (lawful : Self → Type 0) (meaning : Self → Meaning P T R V S) (refuses : Self → Refusing P T S E) where
+  -- The error of a parser's refusal, or of one that means the same: a call may change a parser, but not what it means.
+  pub record RefusesAlike (self : Self) (from : Option S) (v : View P T) (committed : Bool) (e : E) : Type 0 where
     pub parser : Self
-    pub lawful : p.lawful parser
-    pub same : MeansSame (p.meaning self) (p.meaning parser)
-    pub refuses : p.refuses parser from v committed e
+    pub is_lawful : lawful parser
+    pub same : MeansSame (meaning self) (meaning parser)
+    pub refused : refuses parser from v committed e
+
+-- the same of a parser as it is declared
+abbrev pub refuses_alike : {Self Input A S Checkpoint T R P E : Type 0} → parser.Ghosts Self Input S A Checkpoint T R P E → Self → Refusing P T S E
+refuses_alike p = RefusesAlike p.lawful p.meaning p.refuses
