@@ -10,6 +10,7 @@ pub use Rattle.combine_repeat.specs.Built
 pub use Rattle.combine_repeat_sep.specs.Elements
 pub use Rattle.combine_repeat_sep.specs.JoinedLaws
 pub use Rattle.combine_repeat_sep.specs.Separated
+pub use Rattle.combine_repeat_sep.specs.SeparatedRefusals
 pub use Rattle.combine_token.specs.Or
 pub use Rattle.combine_token.specs.TokenParsers
 pub use Rattle.combine_repeat_turns.specs.Bounded

@@ -2,3 +2,4 @@ pub mod Placing
 pub mod Leading
 pub mod Separating
 pub mod ElementThenTurns
+pub mod SeparatedRefusals

@@ -3,6 +3,8 @@ pub use Rattle.combine_base.specs.Parser.Given
 pub use Rattle.combine_base.specs.Parser.Meaning
 pub use Rattle.combine_base.specs.Parser.Outcome
 pub use Rattle.combine_base.specs.Refusals
+pub use Rattle.combine_base.specs.Parser.Reasons
+pub use Rattle.combine_base.specs.Sequence.Behind
 pub use Rattle.combine_base.specs.Sequence.Joined
 pub use Rattle.combine_base.specs.Sequence.Parts
 pub use Rattle.combine_base.specs.Sequence.Followed
@@ -14,8 +16,10 @@ pub use Rattle.combine_base.specs.Stream.View
 pub use Rattle.combine_repeat_turns.specs.Bounded
 pub use Rattle.combine_repeat_turns.specs.Counts
 pub use Rattle.combine_repeat_turns.specs.OneThenTurns
+pub use Rattle.combine_repeat_turns.specs.RefusesAlike
 pub use Rattle.combine_repeat_turns.specs.Sound
 pub use Rattle.combine_repeat_turns.specs.Turn
+pub use Rattle.combine_repeat_turns.specs.TurnRefusals
 pub use Rattle.combine_repeat_turns.specs.Turns
 pub mod Placed
 pub mod Pair
@@ -25,3 +29,4 @@ pub mod Elements
 pub mod JoinedLaws
 pub mod SeparatedParsers
 pub mod ElementThenTurns
+pub mod SeparatedRefusals

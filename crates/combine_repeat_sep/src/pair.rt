@@ -6,6 +6,8 @@ ghost use Rattle.combine_base.specs.Parser.Meaning.{MeansSame};
 ghost use Rattle.combine_base.specs.Sequence.Followed.{Follows};
 ghost use Rattle.combine_base.specs.Sequence.Parts.{CalledLast, CalledRest};
 ghost use Rattle.combine_repeat_sep.specs.Pair.{LedBy, pair_begins, pair_place, pair_valid, put_to};
+ghost use Rattle.combine_repeat_sep.specs.SeparatedRefusals.{refuses_pair};
+ghost use Rattle.combine_repeat_turns.specs.TurnRefusals.{RefusesCall};
 
 use combine_base::error::ParseResult;
 use combine_base::parser::{Calls, Outputs, ParseMode, Parser};
@@ -53,6 +55,7 @@ pub fn parse_pair<Input: Stream, S: Parser<Input>, P: Parser<Input>, M: ParseMod
     ensures parts { MeansSame (S.meaning separator.old) (S.meaning separator.new) × MeansSame (P.meaning part.old) (P.meaning part.new) }
     ensures called { Follows pair_place put_to Input.StreamOnce Input.Error.seen S.PartialState.is_default S.valid P.Parser (S.meaning separator.old) (S.meaning separator.new) part.old part.new input.old input.new from state.new result }
     ensures led { LedBy (S.meaning separator.old) from state.new }
+    ensures refuses { RefusesCall Input.StreamOnce Input.Error.seen (refuses_pair Input.step Input.Error.seen P.PartialState.is_default (S.meaning separator.old) (S.refuses separator.old) (P.meaning part.old) (P.refuses part.old)) (M.first mode) from input.old input.new result }
 {
     match from {
         PairState::Separator(kept) => {

@@ -7,6 +7,8 @@ ghost use Rattle.combine_base.specs.Stream.Calls.{Passes};
 ghost use Rattle.combine_repeat_sep.specs.Pair.{LedBy, led_is_meaning, led_means_one, led_valid, pair, pair_begins, pair_is_meaning, pair_means_one, pair_valid};
 ghost use Rattle.combine_repeat_sep.specs.Leads.{separated_gives};
 ghost use Rattle.combine_repeat_sep.specs.Placed.{Ran};
+ghost use Rattle.combine_repeat_sep.specs.SeparatedRefusals.{refuses_pair, refuses_separated};
+ghost use Rattle.combine_repeat_turns.specs.TurnRefusals.{RefusesCall};
 ghost use Rattle.combine_repeat_sep.specs.Separated.{first_element, first_then, later_kept, later_turn, lead_good, part_of, separated_default, separated_fresh, separated_valid, separator_of, then_element, then_is_turn, then_once, turn_place};
 
 use crate::pair::{PairState, PairStateOf, parse_pair};
@@ -157,6 +159,7 @@ fn run_first<Input: Stream, P: Parser<Input>, O: Drop, W: Drop, M: ParseMode>(
     ensures passes { Passes (Input.marks input.old) (Input.marks input.new) (Input.failures input.old) (Input.failures input.new) }
     ensures ran { Ran (world Input.step Input.Error.seen Input.steady P.PartialState.is_default) (P.meaning parser.old) P.valid first_element (λ s. SeparatedState.Part Lead.Nothing s)
         (M.first mode) kept state.old state.new (Input.view input.old) (Input.view input.new) (Input.failures input.old) (Input.failures input.new) result }
+    ensures refuses { RefusesCall Input.StreamOnce Input.Error.seen (P.refuses parser.old) (M.first mode) kept input.old input.new result }
 {
     let mut kept = kept;
     match parser.parse_mode(mode, input, &mut kept) {
@@ -192,6 +195,7 @@ fn run_later<Input: Stream, P: Parser<Input>, S: Parser<Input>, M: ParseMode>(
     ensures passes { Passes (Input.marks input.old) (Input.marks input.new) (Input.failures input.old) (Input.failures input.new) }
     ensures ran { Ran (world Input.step Input.Error.seen Input.steady (pair_begins S.PartialState.is_default)) (pair Input.step (S.meaning separator.old) (P.meaning parser.old)) (λ z. LedBy (S.meaning separator.old) kept z × pair_valid S.valid P.valid z) then_element later_kept
         false kept state.old state.new (Input.view input.old) (Input.view input.new) (Input.failures input.old) (Input.failures input.new) result }
+    ensures refuses { RefusesCall Input.StreamOnce Input.Error.seen (refuses_pair Input.step Input.Error.seen P.PartialState.is_default (S.meaning separator.old) (S.refuses separator.old) (P.meaning parser.old) (P.refuses parser.old)) (M.first mode) kept input.old input.new result }
 {
     let mut left = PairState::default();
     match parse_pair(separator, parser, mode, input, kept, &mut left) {
@@ -233,6 +237,8 @@ impl<Input: Stream, P: Parser<Input>, S: Parser<Input>, L: Leads<S::Output, P::O
     ghost ending = { λ _. false };
 
     ghost gives = { lead_good L.good };
+
+    ghost refuses = { λ p. refuses_separated Input.step Input.Error.seen P.PartialState.is_default S.Parser P.Parser (separator_of p) (part_of p) };
 
     #[inline(always)]
     fn parse_turn<M: ParseMode>(

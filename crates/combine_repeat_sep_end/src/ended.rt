@@ -6,6 +6,8 @@ ghost use Rattle.combine_base.specs.Stream.Calls.{Passes};
 ghost use Rattle.combine_repeat_sep.specs.Pair.{pair, pair_begins, pair_is_meaning, pair_valid};
 ghost use Rattle.combine_repeat_sep.specs.Placed.{Ran};
 ghost use Rattle.combine_repeat_sep.specs.Separated.{first_then, later_kept, later_turn, separated_default, separated_valid, then_is_turn};
+ghost use Rattle.combine_repeat_sep_end.specs.EndedRefusals.{refuses_closed, refuses_ended};
+ghost use Rattle.combine_repeat_turns.specs.TurnRefusals.{RefusesCall};
 ghost use Rattle.combine_repeat_sep_end.specs.Ended.{closer_of, ended_once, ended_part, is_none, last, some_more, some_of, within};
 ghost use Rattle.combine_token.specs.Optional.{optional, optional_is_meaning};
 ghost use Rattle.combine_repeat_turns.specs.Sound.{any_sound};
@@ -96,6 +98,7 @@ fn run_first<Input: Stream, P: Parser<Input>, O: Drop, W: Drop, M: ParseMode>(
     ensures passes { Passes (Input.marks input.old) (Input.marks input.new) (Input.failures input.old) (Input.failures input.new) }
     ensures ran { Ran (world Input.step Input.Error.seen Input.steady P.PartialState.is_default) (P.meaning parser.old) P.valid some_of (λ s. SeparatedState.Part Lead.Nothing s)
         (M.first mode) kept state.old state.new (Input.view input.old) (Input.view input.new) (Input.failures input.old) (Input.failures input.new) result }
+    ensures refuses { RefusesCall Input.StreamOnce Input.Error.seen (P.refuses parser.old) (M.first mode) kept input.old input.new result }
 {
     let mut kept = kept;
     match parser.parse_mode(mode, input, &mut kept) {
@@ -131,6 +134,7 @@ fn run_later<Input: Stream, P: Parser<Input>, S: Parser<Input>, M: ParseMode>(
     ensures passes { Passes (Input.marks input.old) (Input.marks input.new) (Input.failures input.old) (Input.failures input.new) }
     ensures ran { Ran (world Input.step Input.Error.seen Input.steady (pair_begins S.PartialState.is_default)) (pair Input.step (S.meaning separator.old) (optional (P.meaning (within part.old)))) (pair_valid S.valid P.valid) last later_kept
         false kept state.old state.new (Input.view input.old) (Input.view input.new) (Input.failures input.old) (Input.failures input.new) result }
+    ensures refuses { RefusesCall Input.StreamOnce Input.Error.seen (refuses_closed Input.step Input.Error.seen P.PartialState.is_default (S.meaning separator.old) (S.refuses separator.old) (P.meaning (within part.old)) (P.refuses (within part.old))) (M.first mode) kept input.old input.new result }
 {
     let mut left = PairState::default();
     match parse_pair(separator, part, mode, input, kept, &mut left) {
@@ -171,6 +175,8 @@ impl<Input: Stream, P: Parser<Input>, S: Parser<Input>> Turn<Input> for Ended<P,
     ghost ending = { is_none };
 
     ghost gives = { λ _. Unit {0} };
+
+    ghost refuses = { λ p. refuses_ended Input.step Input.Error.seen P.PartialState.is_default S.Parser P.Parser (closer_of p) (ended_part p) };
 
     #[inline(always)]
     fn parse_turn<M: ParseMode>(

@@ -16,7 +16,7 @@ use Rattle.combine_repeat_turns.specs.declared.turns.Stop.{Stop}
 use Rattle.combine_repeat_turns.specs.declared.turns.Stop.TheVariants as stop
 use Rattle.combine_repeat_turns.specs.declared.turns.Turns.{Turns as Kept}
 use Rattle.combine_repeat_turns.specs.declared.turns.TurnsState.{TurnsState}
-use Rattle.combine_repeat_turns.specs.declared.turns.Earlier.TheVariants.{Nothing, Turns}
+use Rattle.combine_repeat_turns.specs.declared.turns.Earlier.TheVariants.{Nothing}
 
 module _ {P T R A S E : Type 0} (w : World P T S E) (valid : S → Type 0) (m : Meaning P T R A S) (again : Reading P T A) (gives able : A → Type 0) (h : TurnsGive valid m again gives) (k : (a : A) → gives a → able a) where
   -- a turn's value can be gathered

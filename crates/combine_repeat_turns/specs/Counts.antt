@@ -1,6 +1,11 @@
 -- counted repetitions of one parser
 use Rattle.std.specs.Prelude.{ℕ, ◌≡◌, Bool, false}
+use Rattle.combine_base.specs.Error.Errors.{Errors}
 use Rattle.combine_base.specs.Parser.Meaning.{Meaning}
+use Rattle.combine_base.specs.Parser.Reasons.{Refusing}
+use Rattle.combine_base.specs.declared.parser.Parser as parser
+use Rattle.combine_repeat_turns.specs.RefusesAlike.{refuses_alike}
+use Rattle.combine_repeat_turns.specs.TurnRefusals.{RefusesTurns, at_first}
 use Rattle.combine_repeat_turns.specs.Turns.{Collecting}
 use Rattle.combine_repeat_turns.specs.Bounded.{gathered, none_yet, turns_from}
 use Rattle.combine_repeat_turns.specs.declared.turns.Bounds.{Bounds}
@@ -40,3 +45,7 @@ module _ {P T R A S : Type 0} (step : P → T → P) where
 
   abbrev pub skip_count : ℕ → Meaning P T R A S → Meaning P T R Unit (TurnsState Unit S)
   skip_count = count step dropped
+
+-- which errors the refusals of turns of a parser have, so many
+abbrev pub refuses_repeated : {Self Input A V S Checkpoint T R P E : Type 0} → (P → T → P) → Errors T R P E → Bounds → parser.Ghosts Self Input S A Checkpoint T R P E → Self → Refusing P T (TurnsState V S) E
+refuses_repeated step errors b p self = RefusesTurns step errors b never at_first false (p.meaning self) (p.meaning self).whole (λ _. refuses_alike p self)

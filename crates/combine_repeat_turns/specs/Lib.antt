@@ -16,6 +16,8 @@ pub mod Bounded
 pub mod OneTurn
 pub mod BoundedLaws
 pub mod FirstTurn
+pub mod TurnRefusals
+pub mod RefusesAlike
 pub mod Plain
 pub mod Counts
 pub mod OneThenTurns

@@ -9,7 +9,7 @@ use Rattle.combine_token.specs.Reasons.{RefusesOr}
 use Rattle.combine_token.specs.declared.choice.OrState.{OrState}
 use Rattle.combine_token.specs.declared.choice.OrState.TheVariants.{Peek}
 use Rattle.combine_repeat_until.specs.Next.{next}
-use Rattle.combine_repeat_until.specs.RefusesAlike.{RefusesAlike}
+use Rattle.combine_repeat_turns.specs.RefusesAlike.{RefusesAlike}
 use Rattle.combine_repeat_until.specs.UntilErrors.{RefusesUntil}
 use Rattle.combine_repeat_until.specs.UntilParsers.{next_end, next_part}
 use Rattle.combine_repeat_until.specs.declared.next.Next.{Next}

@@ -40,6 +40,7 @@ module _ {P T R A S E : Type 0} (step : P → T → P) (errors : Errors T R P E)
   begun_refuses v k e = (at : Option S) × Begins fresh at × ((bs : List (Block (Option A))) × blocks_refuse bs m.whole at false v k e)
 
   module _ {V : Type 0} where
+    -- from a kept state what runs first goes on behind the distance that is kept
     abbrev pub until_refuses : Option (UntilState V S) → View P T → Bool → E → Type 0
     until_refuses None v k e = begun_refuses v k e
     until_refuses (Some Begin) v k e = begun_refuses v k e

@@ -8,7 +8,7 @@ ghost use Rattle.combine_base.specs.Sequence.Parts.{accepted_as};
 ghost use Rattle.combine_base.specs.Stream.Calls.{Passes};
 ghost use Rattle.combine_base.specs.Stream.View.{Takes, View};
 ghost use Rattle.combine_combinator.specs.Attempt.{losing};
-ghost use Rattle.combine_repeat_until.specs.RefusesAlike.{RefusesAlike};
+ghost use Rattle.combine_repeat_turns.specs.RefusesAlike.{refuses_alike};
 ghost use Rattle.combine_repeat_until.specs.Until.{blocks_so_far, some_appended, until, until_fresh, until_valid};
 ghost use Rattle.combine_repeat_until.specs.UntilErrors.{RefusesUntil};
 ghost use Rattle.combine_repeat_until.specs.UntilTurn.{ComesTo, HandsOut, Keeps, KeepsRunning, OneTurn, RefusesTurn, Settled};
@@ -382,7 +382,7 @@ pub fn take_blocks<
     ensures same { MeansSame (N.meaning parser.old) (N.meaning parser.new) }
     ensures passes { Passes (Input.marks input.old) (Input.marks input.new) (Input.failures input.old) (Input.failures input.new) }
     ensures answers { AnswersCall Input.StreamOnce Input.Error.seen until_fresh (until Input.step (some_appended F.held F.none F.more F.lean) (N.meaning parser.old)) (M.first mode) state.old state.new input.old input.new result }
-    ensures refuses { Reasoned Input.Error.seen.kind (Input.view input.new).is_open (RefusesUntil Input.step Input.Error.seen N.PartialState.is_default (N.meaning parser.old) (RefusesAlike N.lawful N.meaning N.refuses parser.old) (kept_from (M.first mode) state.old) (Input.view input.old)) result }
+    ensures refuses { Reasoned Input.Error.seen.kind (Input.view input.new).is_open (RefusesUntil Input.step Input.Error.seen N.PartialState.is_default (N.meaning parser.old) (refuses_alike N.Parser parser.old) (kept_from (M.first mode) state.old) (Input.view input.old)) result }
 {
     let start = input.checkpoint();
     let position = input.position();

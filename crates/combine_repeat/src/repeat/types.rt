@@ -3,7 +3,7 @@ ghost use Rattle.combine_repeat.specs.Built.{repeated_by_many, repeated_by_many1
 ghost use Rattle.combine_repeat.specs.Repetition.{many, many1, skip_many, skip_many1};
 ghost use Rattle.combine_repeat_turns.specs.Bounded.{begun_valid, running_turn};
 ghost use Rattle.combine_repeat_turns.specs.CountLaws.{repeated_is_meaning, repeated_means_one};
-ghost use Rattle.combine_repeat_turns.specs.Counts.{appended, dropped};
+ghost use Rattle.combine_repeat_turns.specs.Counts.{appended, dropped, refuses_repeated};
 
 use combine_base::error::{ErrorOffset, ParseResult, Tracked};
 use combine_base::parser::{Outputs, ParseMode, Parser};
@@ -42,6 +42,8 @@ impl<Input: Stream, P: Parser<Input>, F: Append<P::Output>> Parser<Input> for Ma
     ghost meaning = { λ p. many Input.step (appended F.held F.none F.more F.lean) (P.meaning (repeated_by_many p)) };
 
     ghost parts = { λ p. P.parts (repeated_by_many p) };
+
+    ghost refuses = { λ p. refuses_repeated Input.step Input.Error.seen Any P.Parser (repeated_by_many p) };
 
     ghost default_valid = { begun_valid P.PartialState.is_default P.valid P.default_valid };
 
@@ -110,6 +112,8 @@ impl<Input: Stream, P: Parser<Input>, F: Append<P::Output>> Parser<Input> for Ma
 
     ghost parts = { λ p. P.parts (repeated_by_many1 p) };
 
+    ghost refuses = { λ p. refuses_repeated Input.step Input.Error.seen (Joined 1 None) P.Parser (repeated_by_many1 p) };
+
     ghost default_valid = { begun_valid P.PartialState.is_default P.valid P.default_valid };
 
     ghost laws = { λ p l. repeated_is_meaning Input.step (Joined 1 None) (appended F.held F.none F.more F.lean) P.PartialState.is_default P.valid (P.meaning (repeated_by_many1 p)) (P.laws (repeated_by_many1 p) l) };
@@ -171,6 +175,8 @@ impl<Input: Stream, P: Parser<Input>> Parser<Input> for SkipMany<P> {
 
     ghost parts = { λ _. 1 };
 
+    ghost refuses = { λ p. refuses_repeated Input.step Input.Error.seen Any P.Parser (repeated_by_skip_many p) };
+
     ghost default_valid = { begun_valid P.PartialState.is_default P.valid P.default_valid };
 
     ghost laws = { λ p l. repeated_is_meaning Input.step Any dropped P.PartialState.is_default P.valid (P.meaning (repeated_by_skip_many p)) (P.laws (repeated_by_skip_many p) l) };
@@ -225,6 +231,8 @@ impl<Input: Stream, P: Parser<Input>> Parser<Input> for SkipMany1<P> {
     ghost meaning = { λ p. skip_many1 Input.step (P.meaning (repeated_by_skip_many1 p)) };
 
     ghost parts = { λ _. 1 };
+
+    ghost refuses = { λ p. refuses_repeated Input.step Input.Error.seen (Joined 1 None) P.Parser (repeated_by_skip_many1 p) };
 
     ghost default_valid = { begun_valid P.PartialState.is_default P.valid P.default_valid };
 

@@ -6,6 +6,7 @@ ghost use Rattle.combine_repeat_sep.specs.Pair.{fewer_is_meaning, fewer_means_on
 ghost use Rattle.combine_repeat_chain.specs.ChainParsers.{right_operator, right_part};
 ghost use Rattle.combine_repeat_chain.specs.Chains.{nothing_good, each_operand, gives_right, kept_good, operands, right_fold};
 ghost use Rattle.combine_repeat_sep.specs.JoinedLaws.{joined_is_meaning, joined_means_one};
+ghost use Rattle.combine_repeat_sep.specs.SeparatedRefusals.{refuses_joined};
 ghost use Rattle.combine_repeat_sep.specs.Separated.{separated_default, separated_fresh, separated_valid};
 ghost use Rattle.combine_repeat_turns.specs.Bounded.{begun_valid, running_turn};
 
@@ -67,6 +68,8 @@ where
     ghost meaning = { λ p. right_fold Input.step (λ f x y r. S.Output.answers f x y r) (P.meaning (right_part p)) (S.meaning (right_operator p)) };
 
     ghost parts = { λ _. 1 };
+
+    ghost refuses = { λ p. refuses_joined Input.step Input.Error.seen P.PartialState.is_default S.Parser P.Parser (Joined 1 None) (right_part p) (right_operator p) };
 
     ghost default_valid = { λ s d. (begun_valid (separated_fresh P.PartialState.is_default) (separated_valid P.valid (led_valid (λ f. S.Output.callable f) S.valid P.valid)) (separated_default P.PartialState.is_default P.valid (led_valid (λ f. S.Output.callable f) S.valid P.valid) P.default_valid) s d, nothing_good (λ f. S.Output.callable f) s d.0) };
 

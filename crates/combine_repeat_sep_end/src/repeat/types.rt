@@ -1,6 +1,7 @@
 //! The parsers that the functions of this module answer.
 ghost use Rattle.combine_repeat_sep.specs.Pair.{pair_valid};
 ghost use Rattle.combine_repeat_sep.specs.Separated.{separated_default, separated_fresh, separated_valid};
+ghost use Rattle.combine_repeat_sep_end.specs.EndedRefusals.{refuses_sep_end};
 ghost use Rattle.combine_repeat_sep_end.specs.SepEnd.{sep_end_by, sep_end_by1, sep_end_is_meaning, sep_end_means_one};
 ghost use Rattle.combine_repeat_sep_end.specs.SepEndParsers.{ended_by_part, ended_by_separator, ended_by1_part, ended_by1_separator};
 ghost use Rattle.combine_repeat_turns.specs.Bounded.{begun_valid, running_turn};
@@ -46,6 +47,8 @@ impl<Input: Stream, P: Parser<Input>, S: Parser<Input>, F: Append<P::Output>> Pa
     ghost meaning = { λ p. sep_end_by Input.step (appended F.held F.none F.more F.lean) (P.meaning (ended_by_part p)) (S.meaning (ended_by_separator p)) };
 
     ghost parts = { λ _. 1 };
+
+    ghost refuses = { λ p. refuses_sep_end Input.step Input.Error.seen P.PartialState.is_default S.Parser P.Parser (Joined 0 None) (ended_by_part p) (ended_by_separator p) };
 
     ghost default_valid = { begun_valid (separated_fresh P.PartialState.is_default) (separated_valid P.valid (pair_valid S.valid P.valid)) (separated_default P.PartialState.is_default P.valid (pair_valid S.valid P.valid) P.default_valid) };
 
@@ -114,6 +117,8 @@ impl<Input: Stream, P: Parser<Input>, S: Parser<Input>, F: Append<P::Output>> Pa
     ghost meaning = { λ p. sep_end_by1 Input.step (appended F.held F.none F.more F.lean) (P.meaning (ended_by1_part p)) (S.meaning (ended_by1_separator p)) };
 
     ghost parts = { λ _. 1 };
+
+    ghost refuses = { λ p. refuses_sep_end Input.step Input.Error.seen P.PartialState.is_default S.Parser P.Parser (Joined 1 None) (ended_by1_part p) (ended_by1_separator p) };
 
     ghost default_valid = { begun_valid (separated_fresh P.PartialState.is_default) (separated_valid P.valid (pair_valid S.valid P.valid)) (separated_default P.PartialState.is_default P.valid (pair_valid S.valid P.valid) P.default_valid) };
 

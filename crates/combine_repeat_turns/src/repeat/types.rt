@@ -2,7 +2,7 @@
 ghost use Rattle.std.specs.Prelude.{◌≡◌, MatchResult, None};
 ghost use Rattle.combine_repeat_turns.specs.CountParsers.{least_of_count_min_max, least_of_skip_count_min_max, most_of_count, most_of_count_min_max, most_of_skip_count, most_of_skip_count_min_max, repeated_by_count, repeated_by_count_min_max, repeated_by_skip_count, repeated_by_skip_count_min_max};
 ghost use Rattle.combine_repeat_turns.specs.Bounded.{begun_valid, running_turn};
-ghost use Rattle.combine_repeat_turns.specs.Counts.{appended, count, count_min_max, dropped, skip_count, skip_count_min_max};
+ghost use Rattle.combine_repeat_turns.specs.Counts.{appended, count, count_min_max, dropped, refuses_repeated, skip_count, skip_count_min_max};
 ghost use Rattle.combine_repeat_turns.specs.CountLaws.{repeated_is_meaning, repeated_means_one};
 
 use crate::each::{Dropped, Each, Plain};
@@ -73,6 +73,8 @@ impl<Input: Stream, P: Parser<Input>, F: Append<P::Output>> Parser<Input> for Co
     ghost meaning = { λ p. count_min_max Input.step (appended F.held F.none F.more F.lean) (least_of_count_min_max p) (most_of_count_min_max p) (P.meaning (repeated_by_count_min_max p)) };
 
     ghost parts = { λ _. 1 };
+
+    ghost refuses = { λ p. refuses_repeated Input.step Input.Error.seen (Counted (least_of_count_min_max p) (most_of_count_min_max p)) P.Parser (repeated_by_count_min_max p) };
 
     ghost default_valid = { begun_valid P.PartialState.is_default P.valid P.default_valid };
 
@@ -146,6 +148,8 @@ impl<Input: Stream, P: Parser<Input>> Parser<Input> for SkipCountMinMax<P> {
 
     ghost parts = { λ _. 1 };
 
+    ghost refuses = { λ p. refuses_repeated Input.step Input.Error.seen (Counted (least_of_skip_count_min_max p) (most_of_skip_count_min_max p)) P.Parser (repeated_by_skip_count_min_max p) };
+
     ghost default_valid = { begun_valid P.PartialState.is_default P.valid P.default_valid };
 
     ghost laws = { λ p l. repeated_is_meaning Input.step (Counted (least_of_skip_count_min_max p) (most_of_skip_count_min_max p)) dropped P.PartialState.is_default P.valid (P.meaning (repeated_by_skip_count_min_max p)) (P.laws (repeated_by_skip_count_min_max p) l) };
@@ -216,6 +220,8 @@ impl<Input: Stream, P: Parser<Input>, F: Append<P::Output>> Parser<Input> for Co
 
     ghost parts = { λ _. 1 };
 
+    ghost refuses = { λ p. refuses_repeated Input.step Input.Error.seen (Counted 0 (most_of_count p)) P.Parser (repeated_by_count p) };
+
     ghost default_valid = { begun_valid P.PartialState.is_default P.valid P.default_valid };
 
     ghost laws = { λ p l. repeated_is_meaning Input.step (Counted 0 (most_of_count p)) (appended F.held F.none F.more F.lean) P.PartialState.is_default P.valid (P.meaning (repeated_by_count p)) (P.laws (repeated_by_count p) l) };
@@ -283,6 +289,8 @@ impl<Input: Stream, P: Parser<Input>> Parser<Input> for SkipCount<P> {
     ghost meaning = { λ p. skip_count Input.step (most_of_skip_count p) (P.meaning (repeated_by_skip_count p)) };
 
     ghost parts = { λ _. 1 };
+
+    ghost refuses = { λ p. refuses_repeated Input.step Input.Error.seen (Counted 0 (most_of_skip_count p)) P.Parser (repeated_by_skip_count p) };
 
     ghost default_valid = { begun_valid P.PartialState.is_default P.valid P.default_valid };
 

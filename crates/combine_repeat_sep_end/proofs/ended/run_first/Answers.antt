@@ -1,5 +1,6 @@
 use Rattle.std.proofs.Common.{refl, sym, ◌∙◌, inl, inr}
 use Rattle.std.proofs.lemmas.Bool.{false≢true}
+use Rattle.combine_base.proofs.Reasoning.{reasons_err, reasons_peek_err}
 use Rattle.combine_repeat_sep_end.proofs.ended.run_first.Goals as goal
 
 pub returns-in-CommitOk-clause-ran : goal.returns-in-CommitOk-clause-ran
@@ -16,3 +17,18 @@ returns-in-CommitErr-clause-ran g c = record { stopped = _; answer = _; answers 
 
 pub returns-clause-ran : goal.returns-clause-ran
 returns-clause-ran g c = record { stopped = _; answer = _; answers = c.in-PeekErr.ensures.answers; is = refl; leaves = inr (λ q. q, refl) }
+
+pub returns-in-CommitOk-clause-refuses : goal.returns-in-CommitOk-clause-refuses
+returns-in-CommitOk-clause-refuses g c = λ committed e h. absurd h.is
+
+pub returns-in-PeekOk-clause-refuses : goal.returns-in-PeekOk-clause-refuses
+returns-in-PeekOk-clause-refuses g c = λ committed e h. absurd h.is
+
+pub returns-then-needs_more-clause-refuses : goal.returns-then-needs_more-clause-refuses
+returns-then-needs_more-clause-refuses g c = reasons_err _ _ _ _ c.in-CommitErr.ensures.refuses
+
+pub returns-in-CommitErr-clause-refuses : goal.returns-in-CommitErr-clause-refuses
+returns-in-CommitErr-clause-refuses g c = reasons_err _ _ _ _ c.in-CommitErr.ensures.refuses
+
+pub returns-clause-refuses : goal.returns-clause-refuses
+returns-clause-refuses g c = reasons_peek_err _ _ _ _ c.in-PeekErr.ensures.refuses

@@ -1,6 +1,7 @@
 use Rattle.std.proofs.Common.{refl, sym, ◌∙◌, inl, inr}
 use Rattle.std.proofs.lemmas.Bool.{false≢true}
 use Rattle.combine_repeat_sep_end.specs.Ended.{within_same}
+use Rattle.combine_base.proofs.Reasoning.{reasons_err, reasons_peek_err}
 use Rattle.combine_repeat_sep_end.proofs.ended.run_later.Goals as goal
 
 pub returns-in-CommitOk-clause-ran : goal.returns-in-CommitOk-clause-ran
@@ -32,3 +33,18 @@ returns-in-CommitErr-clause-parts g c = (c.in-CommitErr.ensures.parts.0, within_
 
 pub returns-clause-parts : goal.returns-clause-parts
 returns-clause-parts g c = (c.in-PeekErr.ensures.parts.0, within_same _ _ c.in-PeekErr.ensures.parts.1)
+
+pub returns-in-CommitOk-clause-refuses : goal.returns-in-CommitOk-clause-refuses
+returns-in-CommitOk-clause-refuses g c = λ committed e h. absurd h.is
+
+pub returns-in-PeekOk-clause-refuses : goal.returns-in-PeekOk-clause-refuses
+returns-in-PeekOk-clause-refuses g c = λ committed e h. absurd h.is
+
+pub returns-then-needs_more-clause-refuses : goal.returns-then-needs_more-clause-refuses
+returns-then-needs_more-clause-refuses g c = reasons_err _ _ _ _ c.in-CommitErr.ensures.refuses
+
+pub returns-in-CommitErr-clause-refuses : goal.returns-in-CommitErr-clause-refuses
+returns-in-CommitErr-clause-refuses g c = reasons_err _ _ _ _ c.in-CommitErr.ensures.refuses
+
+pub returns-clause-refuses : goal.returns-clause-refuses
+returns-clause-refuses g c = reasons_peek_err _ _ _ _ c.in-PeekErr.ensures.refuses

@@ -1,6 +1,6 @@
 use Rattle.combine_repeat_turns.specs.declared.turns.Earlier.TheVariants.{Nothing}
 use Rattle.combine_repeat_turns.specs.declared.turns.Bounds.TheVariants.{Joined}
-use Rattle.std.proofs.Common.{◌≡◌, ◌+◌, length, true, None}
+use Rattle.std.proofs.Common.{◌≡◌, ◌+◌, length, true, false, None}
 use Rattle.combine_base.specs.Parser.Answer.{world}
 use Rattle.combine_base.specs.Stream.Calls.{Passes}
 use Rattle.combine_repeat_turns.specs.Turn.{TurnsSame, called}
@@ -8,6 +8,9 @@ use Rattle.combine_repeat_turns.specs.Bounded.{bounded, gathered, fresh_turns, n
 use Rattle.combine_repeat_turns.specs.BoundedLaws.{bounded_is_rule}
 use Rattle.combine_repeat_turns.proofs.TurnCalls.{Reaches}
 use Rattle.combine_repeat_turns.proofs.Repeating.{idle_turns}
+use Rattle.combine_repeat_turns.proofs.Beginning.{first_place}
+use Rattle.combine_repeat_turns.proofs.TurnRefusals.{Leads}
+use Rattle.combine_repeat_turns.specs.TurnRefusals.{KeepsRefusals, later_start}
 use Rattle.combine_repeat_turns.proofs.turns.take_joined.Given as goal
 
 abbrev pub invariant-turns : goal.invariant-turns
@@ -17,6 +20,7 @@ invariant-turns g l = record {
   fresh : g.P.Running.Default.is_default l.state.running;
   same : TurnsSame (g.P.Turn.meaning l.fn.parser) (g.P.Turn.again l.fn.parser) (g.P.Turn.meaning l.parser) (g.P.Turn.again l.parser);
   passes : Passes (g.Input.StreamOnce.marks l.fn.input) (g.Input.StreamOnce.marks l.input) (g.Input.StreamOnce.failures l.fn.input) (g.Input.StreamOnce.failures l.input);
+  keeps : KeepsRefusals (g.P.Turn.refuses l.fn.parser) (g.P.Turn.refuses l.parser);
   cleared : l.state.earlier ≡ Nothing;
   sound : g.G.Gather.sound (g.G.Gather.held l.turns.into);
   reaches : Reaches
@@ -30,6 +34,12 @@ invariant-turns g l = record {
       (g.M.ParseMode.first l.fn.mode) l.fn.state (g.Input.StreamOnce.view l.fn.input) (g.Input.StreamOnce.failures l.fn.input)
       true l.state.running (g.Input.StreamOnce.view l.input) (g.Input.StreamOnce.failures l.input)
       (so_far g.G.Gather.held l.turns);
+  leads : Leads
+      g.Input.StreamOnce.step g.Input.Error.ParseError.seen (Joined 1 None) g.P.Turn.ending (first_place false) false
+      (g.P.Turn.meaning l.fn.parser) (g.P.Turn.again l.fn.parser) (g.P.Turn.refuses l.fn.parser)
+      (g.M.ParseMode.first l.fn.mode) l.fn.state (g.Input.StreamOnce.view l.fn.input)
+      (later_start (g.P.Turn.again l.fn.parser) (g.P.Turn.refuses l.fn.parser))
+      l.turns.place l.turns.committed (g.Input.StreamOnce.view l.input);
 }
 
 abbrev pub decreases-turns : goal.decreases-turns

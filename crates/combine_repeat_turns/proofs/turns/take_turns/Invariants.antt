@@ -7,6 +7,8 @@ use Rattle.combine_repeat_turns.specs.Bounded.{bounded, gathered, fresh_turns, s
 use Rattle.combine_repeat_turns.specs.BoundedLaws.{bounded_is_rule}
 use Rattle.combine_repeat_turns.proofs.TurnCalls.{Reaches}
 use Rattle.combine_repeat_turns.proofs.Repeating.{idle_turns}
+use Rattle.combine_repeat_turns.proofs.TurnRefusals.{Leads}
+use Rattle.combine_repeat_turns.specs.TurnRefusals.{KeepsRefusals, started}
 use Rattle.combine_repeat_turns.proofs.turns.take_turns.Given as goal
 
 abbrev pub invariant-turns : goal.invariant-turns
@@ -16,6 +18,7 @@ invariant-turns g l = record {
   fresh : g.P.Running.Default.is_default l.state.running;
   same : TurnsSame (g.P.Turn.meaning l.fn.parser) (g.P.Turn.again l.fn.parser) (g.P.Turn.meaning l.parser) (g.P.Turn.again l.parser);
   passes : Passes (g.Input.StreamOnce.marks l.fn.input) (g.Input.StreamOnce.marks l.input) (g.Input.StreamOnce.failures l.fn.input) (g.Input.StreamOnce.failures l.input);
+  keeps : KeepsRefusals (g.P.Turn.refuses l.fn.parser) (g.P.Turn.refuses l.parser);
   cleared : l.state.earlier ≡ Nothing;
   reaches : Reaches
       (world g.Input.StreamOnce.step g.Input.Error.ParseError.seen g.Input.StreamOnce.steady g.P.Running.Default.is_default)
@@ -28,6 +31,12 @@ invariant-turns g l = record {
       (g.M.ParseMode.first l.fn.mode) l.fn.state (g.Input.StreamOnce.view l.fn.input) (g.Input.StreamOnce.failures l.fn.input)
       true l.state.running (g.Input.StreamOnce.view l.input) (g.Input.StreamOnce.failures l.input)
       (so_far g.G.Gather.held l.turns);
+  leads : Leads
+      g.Input.StreamOnce.step g.Input.Error.ParseError.seen (g.B.Bounded.bounds l.fn.bounds) g.P.Turn.ending l.fn.start.place l.fn.start.committed
+      (g.P.Turn.meaning l.fn.parser) (g.P.Turn.again l.fn.parser) (g.P.Turn.refuses l.fn.parser)
+      (g.M.ParseMode.first l.fn.mode) l.fn.state (g.Input.StreamOnce.view l.fn.input)
+      (started (g.P.Turn.meaning l.fn.parser) (g.P.Turn.again l.fn.parser) (g.P.Turn.refuses l.fn.parser) l.later true l.state.running)
+      l.turns.place l.turns.committed (g.Input.StreamOnce.view l.input);
 }
 
 abbrev pub decreases-turns : goal.decreases-turns

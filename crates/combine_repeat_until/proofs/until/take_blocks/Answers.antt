@@ -3,7 +3,7 @@ use Rattle.combine_base.proofs.Same.{passes_more, same_more, same_none}
 use Rattle.combine_repeat_until.proofs.OneTurns.{blocks_shrink}
 use Rattle.combine_repeat_until.proofs.UntilCalls.{begun_reads, handed_valid, reaches_afresh, reaches_first, reaches_on, running_valid, turn_back, until_settled}
 use Rattle.combine_repeat_until.proofs.UntilErrors.{leads_first, leads_on, settled_reasons, short_reasons, stop_alike}
-use Rattle.combine_repeat_until.specs.RefusesAlike.{RefusesAlike}
+use Rattle.combine_repeat_turns.specs.RefusesAlike.{refuses_alike}
 use Rattle.combine_repeat_until.proofs.until.take_blocks.Goals as goal
 
 pub turns-init : goal.turns-init
@@ -69,7 +69,7 @@ returns-in-Stops-clause-refuses g c =
     let z = i.there.2 in
     let t = turn_back _ _ _ _ i.same _ _ _ _ c.in-Stops.ensures.turned in
     let start = g.met.Input.ResetStream.lasts _ _ _ _ q.marks (g.met.Input.ResetStream.lasts _ _ _ _ i.passes.marks c.checkpoint-start.ensures.stands) in
-    let x = stop_alike seen (p.meaning c.args.parser.now) _ i.same (RefusesAlike p.lawful p.meaning p.refuses c.args.parser.now) _ (λ from v k e w. record { parser = _; is_lawful = i.lawful; same = i.same; refused = w }) _ _ _ _ _ _ c.in-Stops.ensures.refuses in
+    let x = stop_alike seen (p.meaning c.args.parser.now) _ i.same (refuses_alike p c.args.parser.now) _ (λ from v k e w. record { parser = _; is_lawful = i.lawful; same = i.same; refused = w }) _ _ _ _ _ _ c.in-Stops.ensures.refuses in
     settled_reasons _ _ _ _ _ _ _ _ _ _ _ _ _ _ _ i.errors _ _ _ _ _ _ t.is x c.settle.ensures.settled _ start (g.met.Input.ResetStream.lasts _ _ _ _ q.marks i.there.1) z.before z.beyond z.there z.on
 
 pub returns-in-Err-clause-refuses : goal.returns-in-Err-clause-refuses

@@ -6,6 +6,8 @@ use Rattle.combine_base.proofs.Same.{same_none}
 use Rattle.combine_repeat_sep_end.specs.Ended.{last}
 use Rattle.combine_repeat_sep.specs.Separated.{separated_default, separated_valid, then_same}
 use Rattle.combine_repeat_sep.proofs.Separating.{ran_valid, first_afresh, first_resumed, later_afresh, later_resumed, later_valid}
+use Rattle.combine_repeat_sep.proofs.SeparatedRefusals.{first_afresh_reasons, first_resumed_reasons, keeps_separated, later_afresh_reasons, later_resumed_reasons}
+use Rattle.combine_repeat_sep_end.specs.EndedRefusals.{optional_refuses}
 use Rattle.combine_repeat_sep_end.proofs.ended.EndedTurn.parse_turn.Goals as goal
 
 pub returns-then-later-clause-valid : goal.returns-then-later-clause-valid
@@ -43,3 +45,27 @@ returns-in-Later-clause-same g c = then_same _ _ _ _ _ _ c.run_later-in-Later.en
 
 pub returns-in-Later-clause-answers : goal.returns-in-Later-clause-answers
 returns-in-Later-clause-answers g c = later_resumed _ (pair_begins g.S.PartialState.Default.is_default) (g.P.Parser.meaning (ended_part c.args.self.now)) (pair g.Input.StreamOnce.step (g.S.Parser.meaning (closer_of c.args.self.now)) (optional (g.P.Parser.meaning (ended_part c.args.self.now)))) some_of last _ _ c.take-given.ensures.after _ _ _ _ _ _ _ _ _ _ (sym c.is_first.ensures ∙ c.if-is_first.false) (rw (sym c.take-given.ensures.value) (sym c.into_place.ensures ∙ c.in-Later.is)) c.run_later-in-Later.ensures.ran
+
+pub returns-then-later-clause-refuses : goal.returns-then-later-clause-refuses
+returns-then-later-clause-refuses g c = later_afresh_reasons g.Input.StreamOnce.step g.Input.Error.ParseError.seen g.P.PartialState.Default.is_default g.S.Parser g.P.Parser optional optional_refuses (closer_of c.args.self.now) (ended_part c.args.self.now) _ _ c.requires.lawful _ _ _ _ _ (sym c.is_first.ensures ∙ c.if-is_first.true) c.if-later.true c.run_later.ensures.refuses
+
+pub returns-then-is_first-clause-refuses : goal.returns-then-is_first-clause-refuses
+returns-then-is_first-clause-refuses g c = first_afresh_reasons g.Input.StreamOnce.step g.Input.Error.ParseError.seen g.P.PartialState.Default.is_default g.S.Parser g.P.Parser optional optional_refuses (closer_of c.args.self.now) (ended_part c.args.self.now) _ _ c.requires.lawful.1 _ _ _ _ _ (sym c.is_first.ensures ∙ c.if-is_first.true) c.if-later.false c.run_first.ensures.refuses
+
+pub returns-in-First-clause-refuses : goal.returns-in-First-clause-refuses
+returns-in-First-clause-refuses g c = first_resumed_reasons g.Input.StreamOnce.step g.Input.Error.ParseError.seen g.P.PartialState.Default.is_default g.S.Parser g.P.Parser optional optional_refuses (closer_of c.args.self.now) (ended_part c.args.self.now) _ _ c.requires.lawful.1 _ _ _ _ _ _ (sym c.is_first.ensures ∙ c.if-is_first.false) (rw (sym c.take-given.ensures.value) (sym c.into_place.ensures ∙ c.in-First.is)) c.run_first-in-First.ensures.refuses
+
+pub returns-in-Later-clause-refuses : goal.returns-in-Later-clause-refuses
+returns-in-Later-clause-refuses g c = later_resumed_reasons g.Input.StreamOnce.step g.Input.Error.ParseError.seen g.P.PartialState.Default.is_default g.S.Parser g.P.Parser optional optional_refuses (closer_of c.args.self.now) (ended_part c.args.self.now) _ _ c.requires.lawful _ _ _ _ _ _ (sym c.is_first.ensures ∙ c.if-is_first.false) (rw (sym c.take-given.ensures.value) (sym c.into_place.ensures ∙ c.in-Later.is)) c.run_later-in-Later.ensures.refuses
+
+pub returns-then-later-clause-keeps : goal.returns-then-later-clause-keeps
+returns-then-later-clause-keeps g c = keeps_separated g.Input.StreamOnce.step g.Input.Error.ParseError.seen g.P.PartialState.Default.is_default g.S.Parser g.P.Parser optional optional_refuses c.run_later.ensures.parts.0 c.run_later.ensures.parts.1
+
+pub returns-then-is_first-clause-keeps : goal.returns-then-is_first-clause-keeps
+returns-then-is_first-clause-keeps g c = keeps_separated g.Input.StreamOnce.step g.Input.Error.ParseError.seen g.P.PartialState.Default.is_default g.S.Parser g.P.Parser optional optional_refuses (same_none (g.S.Parser.meaning (closer_of c.args.self.now))) c.run_first.ensures.same
+
+pub returns-in-First-clause-keeps : goal.returns-in-First-clause-keeps
+returns-in-First-clause-keeps g c = keeps_separated g.Input.StreamOnce.step g.Input.Error.ParseError.seen g.P.PartialState.Default.is_default g.S.Parser g.P.Parser optional optional_refuses (same_none (g.S.Parser.meaning (closer_of c.args.self.now))) c.run_first-in-First.ensures.same
+
+pub returns-in-Later-clause-keeps : goal.returns-in-Later-clause-keeps
+returns-in-Later-clause-keeps g c = keeps_separated g.Input.StreamOnce.step g.Input.Error.ParseError.seen g.P.PartialState.Default.is_default g.S.Parser g.P.Parser optional optional_refuses c.run_later-in-Later.ensures.parts.0 c.run_later-in-Later.ensures.parts.1

@@ -1,4 +1,5 @@
 use Rattle.std.proofs.Common.{None}
+use Rattle.combine_base.proofs.Reasoning.{reasons_err, reasons_peek_err}
 use Rattle.combine_base.proofs.Mapped.{mapped_err, mapped_ok, mapped_peek_err, mapped_peek_ok}
 use Rattle.combine_base.specs.Parser.Mapped.{mapped_means_same}
 use Rattle.combine_repeat_turns.specs.BoundedLaws.{turns_means_same}
@@ -47,3 +48,15 @@ fold-requires g c = record { callable = c.in-CommitOk.ensures.sound.value }
 
 pub fold-requires-in-PeekOk : goal.fold-requires-in-PeekOk
 fold-requires-in-PeekOk g c = record { callable = c.in-PeekOk.ensures.sound.value }
+
+pub returns-in-CommitOk-clause-refuses : goal.returns-in-CommitOk-clause-refuses
+returns-in-CommitOk-clause-refuses g c = λ committed e h. absurd h.is
+
+pub returns-in-PeekOk-clause-refuses : goal.returns-in-PeekOk-clause-refuses
+returns-in-PeekOk-clause-refuses g c = λ committed e h. absurd h.is
+
+pub returns-in-CommitErr-clause-refuses : goal.returns-in-CommitErr-clause-refuses
+returns-in-CommitErr-clause-refuses g c = reasons_err _ _ _ _ c.in-CommitErr.ensures.refuses
+
+pub returns-in-PeekErr-clause-refuses : goal.returns-in-PeekErr-clause-refuses
+returns-in-PeekErr-clause-refuses g c = reasons_peek_err _ _ _ _ c.in-PeekErr.ensures.refuses

@@ -13,3 +13,6 @@ returns-clause-answers g c = rw (c.none_yet-start.ensures, c.empty.ensures) at c
 
 pub take_turns-requires-clause-lawful : goal.take_turns-requires-clause-lawful
 take_turns-requires-clause-lawful g c = (any_given, c.requires.lawful.0, c.requires.lawful.1)
+
+pub returns-clause-refuses : goal.returns-clause-refuses
+returns-clause-refuses g c = rw c.none_yet-start.ensures at c.take_turns.ensures.refuses

@@ -9,3 +9,6 @@ returns-clause-same g c = turns_means_same _ (Joined 0 None) is_none _ _ _ _ _ _
 
 pub returns-clause-answers : goal.returns-clause-answers
 returns-clause-answers g c = rw (c.none_yet-start.ensures, c.empty.ensures) at c.take_turns.ensures.answers
+
+pub returns-clause-refuses : goal.returns-clause-refuses
+returns-clause-refuses g c = rw c.none_yet-start.ensures at c.take_turns.ensures.refuses

@@ -8,3 +8,6 @@ returns-clause-same g c = repeated_means_same _ (Counted (least_of_skip_count_mi
 
 pub returns-clause-answers : goal.returns-clause-answers
 returns-clause-answers g c = rw c.none_yet-start.ensures at c.take_turns.ensures.answers
+
+pub returns-clause-refuses : goal.returns-clause-refuses
+returns-clause-refuses g c = rw c.none_yet-start.ensures at c.take_turns.ensures.refuses
