@@ -1,5 +1,5 @@
 -- a call of the parts of a sequence, by one of those before its last one and one of the last
-use Rattle.std.proofs.Common.{◌≡◌, ◌⊎◌, inl, inr, Bool, subst, sym}
+use Rattle.std.proofs.Common.{◌≡◌, ◌⊎◌, inl, inr, Bool, false, subst, sym}
 use Rattle.combine_base.specs.Error.Errors.{Errors}
 use Rattle.combine_base.specs.Parser.Answer.{Answers, World, world}
 use Rattle.combine_base.specs.Parser.Judged.{NeedsMore}

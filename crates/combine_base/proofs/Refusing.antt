@@ -26,11 +26,11 @@ pub reasoned_into : {V E : Type 0} {kind : E → Kind} {is_open : Bool} {a b : B
 reasoned_into h r k e x = h k e (r k e x)
 
 -- an acceptance has no error
-pub reasoned_accepted : {V E : Type 0} {kind : E → Kind} {is_open : Bool} {a : Bool → E → Type 0} {v : V} → Reasoned kind is_open a (CommitOk v)
-reasoned_accepted k e x = absurd x.is
+pub reasoned_accepted : {V E : Type 0} {kind : E → Kind} {is_open : Bool} (a : Bool → E → Type 0) {v : V} → Reasoned kind is_open a (CommitOk v)
+reasoned_accepted a k e x = absurd x.is
 
-pub reasoned_peeked : {V E : Type 0} {kind : E → Kind} {is_open : Bool} {a : Bool → E → Type 0} {v : V} → Reasoned kind is_open a (PeekOk v)
-reasoned_peeked k e x = absurd x.is
+pub reasoned_peeked : {V E : Type 0} {kind : E → Kind} {is_open : Bool} (a : Bool → E → Type 0) {v : V} → Reasoned kind is_open a (PeekOk v)
+reasoned_peeked a k e x = absurd x.is
 
 -- an error, in an answer that has another value
 pub reasoned_error : {V W E : Type 0} {kind : E → Kind} {is_open : Bool} {a : Bool → E → Type 0} {e : E} → Reasoned {V = V} kind is_open a (CommitErr e) → Reasoned {V = W} kind is_open a (CommitErr e)
@@ -52,11 +52,11 @@ module _ {P T R V S E : Type 0} {fresh valid : S → Type 0} {m : Meaning P T R 
   reasons_in_mode true given s d v w k e x = (h.reasons s (d.afresh refl) v w k e).0 x
   reasons_in_mode false given s d v w k e x = subst (λ y. m.refuses_from y v w k e) (d.kept refl) x
 
-  pub reasoned_at_rest : {errors : Errors T R P E} {first : Bool} {s : S} → (first ≡ true → fresh s) → {old new : View P T} {result : ParseResult V E} → ReasonedCall errors m first s old new result → ReasonedCall errors m false s old new result
-  reasoned_at_rest {errors} {first} {s} d {old} {new} r = reasoned_into (reasons_at_rest first s d old new) r
+  pub reasoned_at_rest : (errors : Errors T R P E) {first : Bool} {s : S} → (first ≡ true → fresh s) → {old new : View P T} {result : ParseResult V E} → ReasonedCall errors m first s old new result → ReasonedCall errors m false s old new result
+  reasoned_at_rest errors {first} {s} d {old} {new} r = reasoned_into (reasons_at_rest first s d old new) r
 
-  pub reasoned_in_mode : {errors : Errors T R P E} {first : Bool} {given s : S} → RunsFrom fresh first given s → {old new : View P T} {result : ParseResult V E} → ReasonedCall errors m false s old new result → ReasonedCall errors m first given old new result
-  reasoned_in_mode {errors} {first} {given} {s} d {old} {new} r = reasoned_into (reasons_in_mode first given s d old new) r
+  pub reasoned_in_mode : (errors : Errors T R P E) {first : Bool} {given s : S} → RunsFrom fresh first given s → {old new : View P T} {result : ParseResult V E} → ReasonedCall errors m false s old new result → ReasonedCall errors m first given old new result
+  reasoned_in_mode errors {first} {given} {s} d {old} {new} r = reasoned_into (reasons_in_mode first given s d old new) r
 
   pub explained_at_rest : {errors : Errors T R P E} {first : Bool} {s : S} → (first ≡ true → fresh s) → {old new : View P T} {result : ParseResult V E} → Explained errors m (begun_refuses m first s) old new result → Explained errors m (m.refuses_from s) old new result
   explained_at_rest {errors} {first} {s} d {old} {new} {result} x = by_case result x
@@ -67,21 +67,22 @@ module _ {P T R V S E : Type 0} {fresh valid : S → Type 0} {m : Meaning P T R 
       by_case (CommitErr e) x = record { is = λ i. reasons_at_rest first s d old new true e (x.is i) }
       by_case (PeekErr t) x = record { is = record { own = x.is.own; left = x.is.left; refused = reasons_at_rest first s d old x.is.left false x.is.own x.is.refused; back = x.is.back; says = x.is.says } }
 
--- the last part of a sequence
-module _ {P T R B C S L U Z E : Type 0} {w : World P T U E} {errors : Errors T R P E} {valid : U → Type 0} {fresh : Z → Type 0} {place : Z → SequencePlace S L} {m : Meaning P T R E B U} {c : Bool} {f : B → C} {kept : U → L} {left : Z} {old new : View P T} {f0 f1 : Failures} where
-  by_answer : (s : U) (c : Bool) (x : ParseResult B E) → Explained errors m (m.refuses_from s) old new x → (k : Bool) (e : E) → refused_with errors.kind new.is_open (joined_answer c f x) k e → RefusesLast errors m (m.refuses_from s) c old new k e
-  by_answer s c (CommitOk b) x k e i = absurd i
-  by_answer s true (PeekOk b) x k e i = absurd i
-  by_answer s false (PeekOk b) x k e i = absurd i
-  by_answer s c (CommitErr y) x true e i = record { is = inl (refl, subst (m.refuses_from s old new true) (sym i.0) (x.is i.1)) }
-  by_answer s c (CommitErr y) x false e i = absurd i
-  by_answer s true (PeekErr t) x true e i = record { is = inr (refl, subst (Refusal errors m (m.refuses_from s) old new) (sym i.0) x.is) }
-  by_answer s true (PeekErr t) x false e i = absurd i
-  by_answer s false (PeekErr t) x true e i = absurd i
-  by_answer s false (PeekErr t) x false e i = record { is = inr (refl, subst (Refusal errors m (m.refuses_from s) old new) (sym i) x.is) }
+-- the last part of a sequence, by what it answered
+module _ {P T R B C U E : Type 0} (errors : Errors T R P E) (m : Meaning P T R E B U) (f : B → C) (old new : View P T) (s : U) where
+  by_answer : (c : Bool) (x : ParseResult B E) → Explained errors m (m.refuses_from s) old new x → (k : Bool) (e : E) → refused_with errors.kind new.is_open (joined_answer c f x) k e → RefusesLast errors m (m.refuses_from s) c old new k e
+  by_answer c (CommitOk b) x k e i = absurd i
+  by_answer true (PeekOk b) x k e i = absurd i
+  by_answer false (PeekOk b) x k e i = absurd i
+  by_answer c (CommitErr y) x true e i = record { is = inl (refl, subst (m.refuses_from s old new true) (sym i.0) (x.is i.1)) }
+  by_answer c (CommitErr y) x false e i = absurd i
+  by_answer true (PeekErr t) x true e i = record { is = inr (refl, subst (Refusal errors m (m.refuses_from s) old new) (sym i.0) x.is) }
+  by_answer true (PeekErr t) x false e i = absurd i
+  by_answer false (PeekErr t) x true e i = absurd i
+  by_answer false (PeekErr t) x false e i = record { is = inr (refl, subst (Refusal errors m (m.refuses_from s) old new) (sym i) x.is) }
 
+module _ {P T R B C S L U Z E : Type 0} {w : World P T U E} {errors : Errors T R P E} {valid : U → Type 0} {fresh : Z → Type 0} {place : Z → SequencePlace S L} {m : Meaning P T R E B U} {c : Bool} {f : B → C} {kept : U → L} {left : Z} {old new : View P T} {f0 f1 : Failures} where
   runs_reasons : {s : U} {y : ParseResult C E} → Runs w errors valid fresh place m c f kept left old new f0 f1 y s → Reasoned errors.kind new.is_open (RefusesLast errors m (m.refuses_from s) c old new) y
-  runs_reasons {s} g k e i = by_answer s c g.answer g.explained k e (subst (λ x. refused_with errors.kind new.is_open x k e) g.is i.is)
+  runs_reasons {s} g k e i = by_answer errors m f old new s c g.answer g.explained k e (subst (λ x. refused_with errors.kind new.is_open x k e) g.is i.is)
 
 -- of parts and one more
 module _ {P T R A B C S U Z E : Type 0} (step : P → T → P) (errors : Errors T R P E) (steady : Type 0) (fresh : S → Type 0) (last_fresh last_valid : U → Type 0) (place : Z → SequencePlace S (SequenceState A U)) (f : A → B → C) (m : Meaning P T R E A S) (n : Meaning P T R E B U) where
@@ -123,6 +124,6 @@ module _ {P T R A B C S U Z E : Type 0} (step : P → T → P) (errors : Errors 
         by_case (PeekErr t) p r g = stops (PeekErr t) (begins place fresh left) (reasoned_refusal r) g
 
 -- a tuple of one
-pub reasoned_single : {P T R A V U E : Type 0} {fresh valid : U → Type 0} {m : Meaning P T R E A U} {errors : Errors T R P E} → IsMeaning fresh valid m → (z : PartialState1 (SequenceState (Unit {0}) U)) {l : SequenceState (Unit {0}) U} → l ≡ only z → {first : Bool} → (first ≡ true → begins_1 (first_fresh fresh) z) → {old new : View P T} {result : ParseResult V E} → Reasoned errors.kind new.is_open (begun_refuses m first l.state old new) result → Reasoned errors.kind new.is_open ((tuple_1 m).refuses_from z old new) result
-reasoned_single {P} {T} {R} {A} {V} {U} {E} {fresh} {valid} {m} {errors} h z {l} i {first} d {old} {new} r =
+pub reasoned_single : {P T R A V U E : Type 0} {fresh valid : U → Type 0} {m : Meaning P T R E A U} (errors : Errors T R P E) → IsMeaning fresh valid m → (z : PartialState1 (SequenceState (Unit {0}) U)) {l : SequenceState (Unit {0}) U} → l ≡ only z → {first : Bool} → (first ≡ true → begins_1 (first_fresh fresh) z) → {old new : View P T} {result : ParseResult V E} → Reasoned errors.kind new.is_open (begun_refuses m first l.state old new) result → Reasoned errors.kind new.is_open ((tuple_1 m).refuses_from z old new) result
+reasoned_single {P} {T} {R} {A} {V} {U} {E} {fresh} {valid} {m} errors h z {l} i {first} d {old} {new} r =
     reasoned_into (λ k e x. subst (λ (y : SequenceState (Unit {0}) _). m.refuses_from y.state old new k e) i (reasons_at_rest h first l.state (λ j. subst (λ (y : SequenceState (Unit {0}) _). fresh y.state) (sym i) (d j).2) old new k e x)) r
