@@ -20,7 +20,7 @@ use Rattle.combine_combinator.specs.Attempt.{refusing}
 use Rattle.combine_combinator.specs.Backs.{Back, PutBackFor, Stuck}
 
 -- a committed error that is a refusal
-pub committed_refusal : {P T R A S E : Type 0} (w : World P T S E) (m : Meaning P T R A S) (r : Run P T S) (e : E) → ((w.kind e ≡ kinds.End) × (r.new.is_open ≡ true) → ⊥) → refusing (w.kind e) ≡ true → Answers w m r (CommitErr e) → Refuses w m r true
+pub committed_refusal : {P T R A S E : Type 0} (w : World P T S E) (m : Meaning P T R E A S) (r : Run P T S) (e : E) → ((w.kind e ≡ kinds.End) × (r.new.is_open ≡ true) → ⊥) → refusing (w.kind e) ≡ true → Answers w m r (CommitErr e) → Refuses w m r true
 committed_refusal w m r e q i p = by_kind (w.kind e) refl i p.is
   where
     at_end : (b : Bool) → r.old.is_open ≡ b → w.kind e ≡ kinds.End → ends w m r b → Refuses w m r true
@@ -35,11 +35,11 @@ committed_refusal w m r e q i p = by_kind (w.kind e) refl i p.is
     by_kind kinds.Reset o j y = absurd (cc)
     by_kind kinds.Lost o j y = absurd (cc)
 
-module _ {P T R A B S Z E : Type 0} (w : World P T S E) (fresh : Z → Type 0) (m : Meaning P T R A S) (f : Outcome A → Outcome B) (adds : List (Item T R) → Type 0) (s left : S) (first : Bool) (z z' : Z) (d : fresh z') (old mid new : View P T) (f0 f1 f2 : Failures) where
+module _ {P T R A B S Z E : Type 0} (w : World P T S E) (fresh : Z → Type 0) (m : Meaning P T R E A S) (f : Outcome A → Outcome B) (adds : List (Item T R) → Type 0) (s left : S) (first : Bool) (z z' : Z) (d : fresh z') (old mid new : View P T) (f0 f1 f2 : Failures) where
   abbrev inner : Run P T S
   inner = record { first = true; state = s; left = left; old = old; new = mid; before = f0; after = f1 }
 
-  abbrev whole : Meaning P T R B Z
+  abbrev whole : Meaning P T R E B Z
   whole = by_table f m adds
 
   abbrev outer : Run P T Z
@@ -120,14 +120,14 @@ module _ {P T R A B S Z E : Type 0} (w : World P T S E) (fresh : Z → Type 0) (
       let y = need_of_more w m inner e q.0 (sym (same_mark w m inner e p) ∙ q.1) p in
       table_answers y.count y.taken x marked i (CommitErr e) result b (table_asks e t q p)
 
-module _ {P T R A B S Z E : Type 0} (w : World P T S E) (fresh : Z → Type 0) (m : Meaning P T R A S) (f : Outcome A → Outcome B) (adds : List (Item T R) → Type 0) (s left : S) (first : Bool) (z z' : Z) (d : fresh z') (old mid : View P T) (f0 f1 : Failures) where
+module _ {P T R A B S Z E : Type 0} (w : World P T S E) (fresh : Z → Type 0) (m : Meaning P T R E A S) (f : Outcome A → Outcome B) (adds : List (Item T R) → Type 0) (s left : S) (first : Bool) (z z' : Z) (d : fresh z') (old mid : View P T) (f0 f1 : Failures) where
   abbrev as_is : Run P T Z
   as_is = record { first = first; state = z; left = z'; old = old; new = mid; before = f0; after = f1 }
 
   abbrev called : Run P T S
   called = record { first = true; state = s; left = left; old = old; new = mid; before = f0; after = f1 }
 
-  abbrev table : Meaning P T R B Z
+  abbrev table : Meaning P T R E B Z
   table = by_table f m adds
 
   -- accepted, and left so
@@ -191,6 +191,6 @@ module _ {P T V E : Type 0} {steady : Type 0} {step : P → T → P} {kind : E �
       by_case (inr b) = subst (Reasoned kind new.is_open says) (sym b.is) (reasons_fault kind new.is_open says b.error kinds.Reset b.kind_is tt)
 
 -- need of more is no refusal
-pub asks_reasons : {P T R A B S E : Type 0} {w : World P T S E} {m : Meaning P T R A S} {r : Run P T S} {e : E} {marked : View P T → Type 0} {new : View P T} {before after : Failures} {result : ParseResult B E} (says : Bool → E → Type 0) → (w.kind e ≡ kinds.End) × (r.new.is_open ≡ true) → Answers w m r (CommitErr e) → marked r.old → PutBackFor w.steady w.step w.kind marked r.new new before after (CommitErr e) result → Reasoned w.kind new.is_open says result
+pub asks_reasons : {P T R A B S E : Type 0} {w : World P T S E} {m : Meaning P T R E A S} {r : Run P T S} {e : E} {marked : View P T → Type 0} {new : View P T} {before after : Failures} {result : ParseResult B E} (says : Bool → E → Type 0) → (w.kind e ≡ kinds.End) × (r.new.is_open ≡ true) → Answers w m r (CommitErr e) → marked r.old → PutBackFor w.steady w.step w.kind marked r.new new before after (CommitErr e) result → Reasoned w.kind new.is_open says result
 asks_reasons {w = w} {m = m} {r = r} {e = e} {new = new} says q p i h =
     back_reasons says r.old i h (λ j. reasons_need w.kind new.is_open says e q.0 (ap (λ (v : View _ _). v.is_open) j ∙ sym (same_mark w m r e p) ∙ q.1))

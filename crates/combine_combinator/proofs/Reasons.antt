@@ -35,7 +35,7 @@ never_committed d k (Accepted v n b) e = absurd (cc)
 never_committed d k (Refused b) e = absurd (cc)
 never_committed d k Undecided e = absurd (cc)
 
-module _ {P T R V S E : Type 0} (w : World P T S E) (m : Meaning P T R V S) where
+module _ {P T R V S E : Type 0} (w : World P T S E) (m : Meaning P T R E V S) where
   module _ (u : Run P T (TryState S)) (says : Bool → E → Type 0) where
     never_refused : (b : Bool) (v : View P T) → begun (attempted w.step m) b u.state v (Refused true) → ⊥
     never_refused true v p = never_committed 0 false p.inner p.is
