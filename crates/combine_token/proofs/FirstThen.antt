@@ -29,7 +29,7 @@ first_is_valid valid valid' Peek h = tt
 first_is_valid valid valid' (A s) h = h
 first_is_valid valid valid' (B t) h = tt
 
-module _ {P T R V S S' E : Type 0} (step : P → T → P) (errors : Errors T R P E) (steady : Type 0) {fresh valid : S → Type 0} {fresh' valid' : S' → Type 0} {a : Meaning P T R V S} {b : Meaning P T R V S'} (says : Option S → View P T → Bool → E → Type 0) (h : IsMeaning fresh valid a) (k : IsMeaning fresh' valid' b) (first : Bool) (given : OrState S S') (old : View P T) (before : Failures) where
+module _ {P T R V S S' E : Type 0} (step : P → T → P) (errors : Errors T R P E) (steady : Type 0) {fresh valid : S → Type 0} {fresh' valid' : S' → Type 0} {a : Meaning P T R E V S} {b : Meaning P T R E V S'} (says : Option S → View P T → Bool → E → Type 0) (h : IsMeaning fresh valid a) (k : IsMeaning fresh' valid' b) (first : Bool) (given : OrState S S') (old : View P T) (before : Failures) where
   abbrev w : World P T S E
   w = world step errors steady fresh
 
@@ -39,7 +39,7 @@ module _ {P T R V S S' E : Type 0} (step : P → T → P) (errors : Errors T R P
   abbrev q : Reading P T V
   q = Either b.whole refused
 
-  abbrev m : Meaning P T R V (OrState S S')
+  abbrev m : Meaning P T R E V (OrState S S')
   m = either_of a b
 
   abbrev empty : OrState S S' → Type 0

@@ -35,14 +35,14 @@ begun_valid fresh valid d false (A t) s b h = rw b h
 begun_valid fresh valid d false (B t) s b h = absurd b
 
 -- what could not be put back after a peeked refusal
-pub unreset_here : {P T R V S S' E : Type 0} (w : World P T S E) (fresh : S' → Type 0) (valid : S → Type 0) (a : Meaning P T R V S) (says : Option S → View P T → Bool → E → Type 0) (first : Bool) (given left : OrState S S') (r : Run P T S) (new : View P T) (after : Failures) (t : Tracked E) → Answers w a r (PeekErr t) → (k : Kind) → (k ≡ kinds.Reset) × Moves w.step r.new new × (r.after.resets < after.resets) → r.before.resets ≤ r.after.resets → left ≡ Peek → (e : E) → w.kind e ≡ k → Unreset w fresh valid a says first given left r.old new r.before after e
+pub unreset_here : {P T R V S S' E : Type 0} (w : World P T S E) (fresh : S' → Type 0) (valid : S → Type 0) (a : Meaning P T R E V S) (says : Option S → View P T → Bool → E → Type 0) (first : Bool) (given left : OrState S S') (r : Run P T S) (new : View P T) (after : Failures) (t : Tracked E) → Answers w a r (PeekErr t) → (k : Kind) → (k ≡ kinds.Reset) × Moves w.step r.new new × (r.after.resets < after.resets) → r.before.resets ≤ r.after.resets → left ≡ Peek → (e : E) → w.kind e ≡ k → Unreset w fresh valid a says first given left r.old new r.before after e
 unreset_here w fresh valid a says first given left r new after t p k h x l e q =
     let y = (peeked_refusal w a r (w.kind t.error) p.is).leaves in
     let z = h.1 in
     let b = h.2 in
     record { kind = q ∙ h.0; count = y.count + z.count; taken = takes_more w.step y.count z.count r.old r.new new y.taken z.taken; empty = l; more = omega arith }
 
-module _ {P T R V S S' E : Type 0} (w : World P T S E) (later : S' → Type 0) (valid : S → Type 0) (a : Meaning P T R V S) (says : Option S → View P T → Bool → E → Type 0) (first : Bool) (given : OrState S S') (s stopped : S) (old mid : View P T) (before middle : Failures) (b : begins w.fresh first given s) (h : valid s) (i : valid stopped) where
+module _ {P T R V S S' E : Type 0} (w : World P T S E) (later : S' → Type 0) (valid : S → Type 0) (a : Meaning P T R E V S) (says : Option S → View P T → Bool → E → Type 0) (first : Bool) (given : OrState S S') (s stopped : S) (old mid : View P T) (before middle : Failures) (b : begins w.fresh first given s) (h : valid s) (i : valid stopped) where
   abbrev run : Run P T S
   run = record { first = first; state = s; left = stopped; old = old; new = mid; before = before; after = middle }
 

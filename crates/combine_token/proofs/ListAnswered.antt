@@ -48,7 +48,7 @@ end_refused kind frugal is_open true why t h = record { is = inl (h.is.0 ∙ sym
 end_refused kind frugal is_open false why t h = record { is = (h.is.0, h.is.1, h.is.2, refl) }
 
 module _ {P T R V S E : Type 0} (w : World P T S E) (l : TokenList T) (gives : V → Type 0) (matched : S → ℕ) (lean : Type 0) (adds : List (Item T R) → Type 0) (r : Run P T S) where
-  abbrev m : Meaning P T R V S
+  abbrev m : Meaning P T R E V S
   m = token_list l gives matched lean adds
 
   -- before an item is asked for

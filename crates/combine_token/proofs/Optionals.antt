@@ -13,11 +13,11 @@ use Rattle.combine_token.specs.Optional.{otherwise, optional, is_some, nothing}
 use Rattle.combine_token.proofs.Choosing.{Tries, own_commit_ok, own_peek_ok, own_error, tries_falls}
 
 -- a parser, or else what a reading says: it tries the parser from its own state
-otherwise_tries : {P T R V S E : Type 0} (w : World P T S E) (m : Meaning P T R V S) (q : Reading P T V) (first : Bool) (s : S) (v : View P T) (f : Failures) → Tries w w.fresh m q (otherwise m q) first s v f first s v f
+otherwise_tries : {P T R V S E : Type 0} (w : World P T S E) (m : Meaning P T R E V S) (q : Reading P T V) (first : Bool) (s : S) (v : View P T) (f : Failures) → Tries w w.fresh m q (otherwise m q) first s v f first s v f
 otherwise_tries w m q true s v f = record { same = refl; gives = λ x b o j i. i; failures = λ s. refl; reads = omega arith; resets = omega arith; keeps = λ k. k; puts_back = λ k. k; lean = λ k. k; lost = λ i j. absurd (cc) }
 otherwise_tries w m q false s v f = record { same = refl; gives = λ x b o j i. i; failures = λ s. refl; reads = omega arith; resets = omega arith; keeps = λ k. k; puts_back = λ k. k; lean = λ k. k; lost = λ i j. (refl, j) }
 
-module _ {P T R A S E : Type 0} (w : World P T S E) (m : Meaning P T R A S) (r : Run P T S) where
+module _ {P T R A S E : Type 0} (w : World P T S E) (m : Meaning P T R E A S) (r : Run P T S) where
   tries : Tries w w.fresh (mapped m is_some) nothing (optional m) r.first r.state r.old r.before r.first r.state r.old r.before
   tries = otherwise_tries w (mapped m is_some) nothing r.first r.state r.old r.before
 

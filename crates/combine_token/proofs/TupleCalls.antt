@@ -54,7 +54,7 @@ module _ {P T R S S' E : Type 0} (s : Errors T R P E) (cmp : P → P → Orderin
     later_says true kept i e result r = absurd (cc)
     later_says false kept i e result r = rw e (from_second s cmp fresh fresh' says says' kept v is_open result r)
 
-module _ {P T R V S S' E : Type 0} (step : P → T → P) (errors : Errors T R P E) (steady : Type 0) (cmp : P → P → Ordering) {fresh valid : S → Type 0} {fresh' valid' : S' → Type 0} {a : Meaning P T R V S} {b : Meaning P T R V S'} (says : Option S → View P T → Bool → E → Type 0) (says' : Option S' → View P T → Bool → E → Type 0) (h : IsMeaning fresh valid a) (k : IsMeaning fresh' valid' b) (first : Bool) (given none : OrState S S') (old now : View P T) (before so_far : Failures) where
+module _ {P T R V S S' E : Type 0} (step : P → T → P) (errors : Errors T R P E) (steady : Type 0) (cmp : P → P → Ordering) {fresh valid : S → Type 0} {fresh' valid' : S' → Type 0} {a : Meaning P T R E V S} {b : Meaning P T R E V S'} (says : Option S → View P T → Bool → E → Type 0) (says' : Option S' → View P T → Bool → E → Type 0) (h : IsMeaning fresh valid a) (k : IsMeaning fresh' valid' b) (first : Bool) (given none : OrState S S') (old now : View P T) (before so_far : Failures) where
   never_peeks : (answer : ParseResult V E) → IsFinal (world step errors steady fresh) fresh' valid a says first given none old now before so_far answer → (e : Tracked E) → answer ≡ PeekErr e → ⊥
   never_peeks (CommitOk v) f e i = absurd (cc)
   never_peeks (PeekOk v) f e i = absurd (cc)
@@ -73,7 +73,7 @@ module _ {P T R V S S' E : Type 0} (step : P → T → P) (errors : Errors T R P
       let i = rw z.back at q in
       then_says errors cmp fresh fresh' says says' first given old is_open z.ran.state z.ran.begun kept z.fresh z.view.is_open u z.ran.refuses answer result i s.is
 
-  module _ {C : Type 0} {a' : Meaning P T R V S} {law : Type 0} {x y : C → View P T → Type 0} where
+  module _ {C : Type 0} {a' : Meaning P T R E V S} {law : Type 0} {x y : C → View P T → Type 0} where
     pub ended_chose : {law' : Type 0} → law' → (answer : ParseResult V E) → Tried (world step errors steady fresh) fresh' valid law a a' says x y first given none old now before so_far (Ends answer) → Chose (world step errors steady (λ s. s ≡ Peek)) (law × law') (or_valid valid valid') (either_of a b) (either_of a' b) (RefusesOr errors cmp fresh fresh' says says') x y (record { first = first; state = given; left = none; old = old; new = now; before = before; after = so_far }) answer
     ended_chose l' answer t = record {
       lawful = (t.lawful, l');
@@ -91,7 +91,7 @@ module _ {P T R V S S' E : Type 0} (step : P → T → P) (errors : Errors T R P
       pub is_no_fault : NoFault errors.kind refused
       is_no_fault = first_no_fault step errors steady says h k first given old before none now so_far kept refused t.turned.is
 
-      pub gone_chose : {law' : Type 0} {b' : Meaning P T R V S'} {z : C → View P T → Type 0} (new : View P T) (after : Failures) (left : OrState S S') (result : ParseResult V E) → Followed step errors steady cmp fresh' law' valid' b b' says' y z first kept none left refused now new so_far after result → Chose (world step errors steady (λ s. s ≡ Peek)) (law × law') (or_valid valid valid') (either_of a b) (either_of a' b') (RefusesOr errors cmp fresh fresh' says says') x z (record { first = first; state = given; left = left; old = old; new = new; before = before; after = after }) result
+      pub gone_chose : {law' : Type 0} {b' : Meaning P T R E V S'} {z : C → View P T → Type 0} (new : View P T) (after : Failures) (left : OrState S S') (result : ParseResult V E) → Followed step errors steady cmp fresh' law' valid' b b' says' y z first kept none left refused now new so_far after result → Chose (world step errors steady (λ s. s ≡ Peek)) (law × law') (or_valid valid valid') (either_of a b) (either_of a' b') (RefusesOr errors cmp fresh fresh' says says') x z (record { first = first; state = given; left = left; old = old; new = new; before = before; after = after }) result
       gone_chose {law'} {b'} {z} new after left result f = record {
         lawful = (t.lawful, f.called.lawful);
         valid = gone_valid step errors steady says h k first given old before none now so_far kept f.stopped new.is_open cmp left refused t.turned.is f.answer result f.settled f.called.valid;
@@ -102,7 +102,7 @@ module _ {P T R V S S' E : Type 0} (step : P → T → P) (errors : Errors T R P
       }
 
 -- what the later part peeks is no fault
-pub may_settle : {P T R V S E C : Type 0} (w : World P T S E) {law : Type 0} {accepts : S → Type 0} {m m' : Meaning P T R V S} {says : Option S → View P T → Bool → E → Type 0} {x y : C → View P T → Type 0} (r : Run P T S) (refused : Option (Tracked E)) → NoFault w.kind refused → (answer : ParseResult V E) → Chose w law accepts m m' says x y r answer → Settles w.kind refused answer
+pub may_settle : {P T R V S E C : Type 0} (w : World P T S E) {law : Type 0} {accepts : S → Type 0} {m m' : Meaning P T R E V S} {says : Option S → View P T → Bool → E → Type 0} {x y : C → View P T → Type 0} (r : Run P T S) (refused : Option (Tracked E)) → NoFault w.kind refused → (answer : ParseResult V E) → Chose w law accepts m m' says x y r answer → Settles w.kind refused answer
 may_settle {P} {T} {R} {V} {S} {E} w {law} {accepts} {m} r refused n answer c = record { first = n; later = by_answer answer c.answers }
   where
     by_answer : (answer : ParseResult V E) → Answers w m r answer → PeeksNoFault w.kind answer
@@ -112,7 +112,7 @@ may_settle {P} {T} {R} {V} {S} {E} w {law} {accepts} {m} r refused n answer c = 
     by_answer (PeekErr t) p = no_fault w m r t p
 
 -- what comes of the first, by a call of it and what is done with its answer
-pub tried : {P T R V S S' E C : Type 0} (step : P → T → P) (errors : Errors T R P E) (steady : Type 0) {fresh valid : S → Type 0} (later : S' → Type 0) {a a' : Meaning P T R V S} (says : Option S → View P T → Bool → E → Type 0) {law : Type 0} {x y z : C → View P T → Type 0} (first : Bool) (given left : OrState S S') (s stopped : S) (old mid new : View P T) (before middle after : Failures) (stands : View P T → Type 0) → begins fresh first given s → valid s → (answer : ParseResult V E) → Chose (world step errors steady fresh) law valid a a' says x y (record { first = first; state = s; left = stopped; old = old; new = mid; before = before; after = middle }) answer → stands old → Passes y z middle after → (turn : Turn V S' E) → GoesOn step errors.kind steady later stands stopped left mid new middle after answer turn → Tried (world step errors steady fresh) later valid law a a' says x z first given left old new before after turn
+pub tried : {P T R V S S' E C : Type 0} (step : P → T → P) (errors : Errors T R P E) (steady : Type 0) {fresh valid : S → Type 0} (later : S' → Type 0) {a a' : Meaning P T R E V S} (says : Option S → View P T → Bool → E → Type 0) {law : Type 0} {x y z : C → View P T → Type 0} (first : Bool) (given left : OrState S S') (s stopped : S) (old mid new : View P T) (before middle after : Failures) (stands : View P T → Type 0) → begins fresh first given s → valid s → (answer : ParseResult V E) → Chose (world step errors steady fresh) law valid a a' says x y (record { first = first; state = s; left = stopped; old = old; new = mid; before = before; after = middle }) answer → stands old → Passes y z middle after → (turn : Turn V S' E) → GoesOn step errors.kind steady later stands stopped left mid new middle after answer turn → Tried (world step errors steady fresh) later valid law a a' says x z first given left old new before after turn
 tried step errors steady {fresh} {valid} later {a} {a'} says {law} {x} {y} {z} first given left s stopped old mid new before middle after stands b h answer call back p turn g = record {
   lawful = call.lawful;
   same = call.same;
@@ -121,7 +121,7 @@ tried step errors steady {fresh} {valid} later {a} {a'} says {law} {x} {y} {z} f
 }
 
 -- it was running already when another one was
-pub resumed : {P T R V S S' E C : Type 0} (w : World P T S E) (later : S' → Type 0) (valid : S → Type 0) {law : Type 0} (a : Meaning P T R V S) (says : Option S → View P T → Bool → E → Type 0) (x : C → View P T → Type 0) (given left : OrState S S') (kept : S') (old : View P T) (before : Failures) → law → (first : Bool) → first ≡ false → given ≡ B kept → left ≡ Peek → Tried {V = V} w later valid law a a says x x first given left old old before before (Goes kept None)
+pub resumed : {P T R V S S' E C : Type 0} (w : World P T S E) (later : S' → Type 0) (valid : S → Type 0) {law : Type 0} (a : Meaning P T R E V S) (says : Option S → View P T → Bool → E → Type 0) (x : C → View P T → Type 0) (given left : OrState S S') (kept : S') (old : View P T) (before : Failures) → law → (first : Bool) → first ≡ false → given ≡ B kept → left ≡ Peek → Tried {V = V} w later valid law a a says x x first given left old old before before (Goes kept None)
 resumed w later valid a says x given left kept old before l first e i n = record {
   lawful = l;
   same = same_none a;
