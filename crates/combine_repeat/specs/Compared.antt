@@ -8,7 +8,7 @@ use Rattle.combine_repeat_turns.specs.OneThenTurns.{one_then_turns}
 use Rattle.combine_repeat_turns.specs.Turns.{Collecting}
 use Rattle.combine_repeat.specs.Repetition.{many, many1, skip_many, skip_many1}
 
-module _ {P T R A V S : Type 0} (step : P → T → P) (c : Collecting A V) (m : Meaning P T R A S) where
+module _ {P T R E A V S : Type 0} (step : P → T → P) (c : Collecting A V) (m : Meaning P T R E A S) where
   -- once, and then turns under the rule of `many`
   abbrev pub OnceThenTurns : Type 0
   OnceThenTurns = (v : View P T) (o : Outcome V) → (many1 step c m).whole v o ↔ one_then_turns step c m.whole m.whole v o

@@ -59,7 +59,7 @@ valid_from {S} {fresh} {valid} {first} {given} {s} h r v = by_mode first r
     by_mode false r = subst valid (sym (r.kept refl)) v
 
 module _ {N Input It I B C H U Checkpoint T R P E : Type 0} (p : parser.Ghosts N Input U B Checkpoint T R P E) (i : stream.Ghosts Input T R P E) (seen : Errors T R P E) (fresh : U → Type 0) (answers : I → N → Type 0) (some : N → Type 0) (held : C → H) (none : H) (more : H → B → H) (at : It → List I → Type 0) (lists : List I → Type 0) (lean spared : Type 0) where
-  abbrev all : Meaning P T R C (IterateState C It N U)
+  abbrev all : Meaning P T R E C (IterateState C It N U)
   all = iterated i.step answers some p.meaning held none more at lists spared
 
   abbrev these : H → List I → Reading P T C
@@ -315,7 +315,7 @@ module _ {N Input It I B C H U Checkpoint T R P E : Type 0} (p : parser.Ghosts N
         by_answer (PeekErr t) a d k = absurd (let x : items.Goes next ≡ items.Stops (refused_as l.before.committed t) = d in cc)
 
 -- a parser that was just asked for may be kept
-pub asked_kept : {P T R B N U : Type 0} {lawful some : N → Type 0} (means : N → Meaning P T R B U) (n : N) → lawful n → some n → KeptOf lawful means some n
+pub asked_kept : {P T R E B N U : Type 0} {lawful some : N → Type 0} (means : N → Meaning P T R E B U) (n : N) → lawful n → some n → KeptOf lawful means some n
 asked_kept means n k s = record { is_lawful = k; parser = n; is_given = s; same = same_none (means n) }
 
 -- the state that is left is valid

@@ -11,7 +11,7 @@ use Rattle.combine_repeat_iterate.specs.Items.{begins_items}
 use Rattle.combine_repeat_iterate.specs.declared.repeat.items.IterateState.{IterateState}
 use Rattle.combine_repeat_iterate.specs.declared.repeat.items.IterateState.TheVariants as states
 
-module _ {P T R I N B U E : Type 0} (step : P → T → P) (answers : I → N → Type 0) (means : N → Meaning P T R B U) (errors : Errors T R P E) (refuses : N → Option U → View P T → Bool → E → Type 0) where
+module _ {P T R I N B U E : Type 0} (step : P → T → P) (answers : I → N → Type 0) (means : N → Meaning P T R E B U) (errors : Errors T R P E) (refuses : N → Option U → View P T → Bool → E → Type 0) where
   -- the item's parser was answered for it, and begins
   pub next_refuses : {fresh valid : U → Type 0} (x : I) (xs : List I) (begun c : Bool) (n : N) → answers x n → IsMeaning fresh valid (means n) → (u : U) → fresh u → (v : View P T) (k : Bool) (e : E) → from_item step answers means errors refuses (items_refuse step answers means errors refuses xs true) begun c n None ((means n).rest u) v k e → items_refuse step answers means errors refuses (x ∷ xs) begun c v k e
   next_refuses x xs begun c n a laws u d v k e (inl w) = (n, a, inl w)

@@ -12,7 +12,7 @@ use Rattle.combine_repeat_iterate.specs.declared.repeat.items.RunningItem.{Runni
 use Rattle.combine_repeat_iterate.specs.declared.repeat.items.IterateState.{IterateState}
 use Rattle.combine_repeat_iterate.specs.declared.repeat.items.IterateState.TheVariants as states
 
-module _ {P T R B U E : Type 0} (errors : Errors T R P E) (m : Meaning P T R B U) (own : Bool → E → Type 0) (v : View P T) where
+module _ {P T R B U E : Type 0} (errors : Errors T R P E) (m : Meaning P T R E B U) (own : Bool → E → Type 0) (v : View P T) where
   -- An item's parser is refused peeked. Where no item is over its error is left as it is; else it was put back to where that parser began, and explained.
   abbrev pub item_peeks : Bool → E → Type 0
   item_peeks false e = own false e
@@ -27,7 +27,7 @@ module _ {P T R B U E : Type 0} (errors : Errors T R P E) (m : Meaning P T R B U
   pub record RefusesItem (begun c committed : Bool) (e : E) : Type 0 where
     pub is : ((committed ≡ true) × own true e) ⊎ ((committed ≡ c) × item_peeks begun e)
 
-module _ {P T R I N B U E : Type 0} (step : P → T → P) (answers : I → N → Type 0) (means : N → Meaning P T R B U) (errors : Errors T R P E) (refuses : N → Option U → View P T → Bool → E → Type 0) where
+module _ {P T R I N B U E : Type 0} (step : P → T → P) (answers : I → N → Type 0) (means : N → Meaning P T R E B U) (errors : Errors T R P E) (refuses : N → Option U → View P T → Bool → E → Type 0) where
   -- an item's parser refuses, from there, or it is accepted, and what is behind it refuses
   abbrev pub from_item : (Bool → View P T → Bool → E → Type 0) → Bool → Bool → N → Option U → Reading P T B → View P T → Bool → E → Type 0
   from_item behind begun c n from r v k e = RefusesItem errors (means n) (refuses n from v) v begun c k e ⊎ RefusesBehind step (λ b d. behind (c || d)) r v k e

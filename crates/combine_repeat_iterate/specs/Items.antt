@@ -40,7 +40,7 @@ module _ {C It I N U : Type 0} (kept : N → Type 0) (valid : U → Type 0) (at 
   starts_valid states.Start d = tt
   starts_valid (states.Running l) d = absurd d
 
-module _ {P T R I N It B C H U : Type 0} (step : P → T → P) (answers : I → N → Type 0) (some : N → Type 0) (means : N → Meaning P T R B U) (held : C → H) (none : H) (more : H → B → H) (at : It → List I → Type 0) (lists : List I → Type 0) (spared : Type 0) where
+module _ {P T R E I N It B C H U : Type 0} (step : P → T → P) (answers : I → N → Type 0) (some : N → Type 0) (means : N → Meaning P T R E B U) (held : C → H) (none : H) (more : H → B → H) (at : It → List I → Type 0) (lists : List I → Type 0) (spared : Type 0) where
   -- any parser that is answered for the item
   abbrev pub answered : I → Reading P T B
   answered x v o = (n : N) × answers x n × (means n).whole v o
@@ -67,7 +67,7 @@ module _ {P T R I N It B C H U : Type 0} (step : P → T → P) (answers : I →
   lost_of (states.Running l) v = (means l.parser).lost l.state v
 
   -- the parsers of the items of a list, one after another; some are those that may be answered by any function of the type
-  abbrev pub iterated : Meaning P T R C (IterateState C It N U)
+  abbrev pub iterated : Meaning P T R E C (IterateState C It N U)
   iterated = record {
     whole = λ v o. (xs : List I) × lists xs × each none xs v o;
     rest = rest_of;

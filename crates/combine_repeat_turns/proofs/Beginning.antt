@@ -49,8 +49,8 @@ module _ {A : Type 0} (ending : A → Bool) where
       collected = t.collected;
     }
 
-module _ {P T R A V S E : Type 0} (w : World P T S E) (ending : A → Bool) (c : Collecting A V) (none : c.Held) (m : Meaning P T R A S) (again : Reading P T A) where
-  abbrev whole : Meaning P T R V (TurnsState V S)
+module _ {P T R A V S E : Type 0} (w : World P T S E) (ending : A → Bool) (c : Collecting A V) (none : c.Held) (m : Meaning P T R E A S) (again : Reading P T A) where
+  abbrev whole : Meaning P T R E V (TurnsState V S)
   whole = turns_from w.step (Joined 1 None) ending c (none_yet none) m again
 
   -- a call begins so
@@ -119,7 +119,7 @@ module _ {V S : Type 0} (fresh valid : S → Type 0) where
   valid_begun h true now old given before r f d = h now (f refl).1
   valid_begun h false now old given before r f d = rw (r refl).1 d
 
-module _ {P T R A V S E : Type 0} (w : World P T S E) (ending : A → Bool) (c : Collecting A V) (none : c.Held) (m : Meaning P T R A S) (again : Reading P T A) where
+module _ {P T R A V S E : Type 0} (w : World P T S E) (ending : A → Bool) (c : Collecting A V) (none : c.Held) (m : Meaning P T R E A S) (again : Reading P T A) where
   -- a call resumes a later turn
   pub comes_kept : (first : Bool) (state : TurnsState V S) (t : Kept V) (s : S) (old : View P T) (before : Failures) → first ≡ false → state.earlier ≡ Turns t → state.running ≡ s → Comes w (Joined 1 None) ending c (none_yet none) m again first state old before false first s old before t
   comes_kept true state t s old before f e i = absurd (cc)

@@ -109,7 +109,7 @@ judged_ends n k e i x = rw x refl
 pub resumed_valid : {S : Type 0} (valid : S → Type 0) (r s : S) → r ≡ s → valid s → valid r
 resumed_valid valid r s e d = rw e d
 
-module _ {P T R A V S E : Type 0} (w : World P T S E) (b : Bounds) (ending : A → Bool) (c : Collecting A V) (start : SoFar Place c.Held) (m : Meaning P T R A S) (again : Reading P T A) where
+module _ {P T R A V S E : Type 0} (w : World P T S E) (b : Bounds) (ending : A → Bool) (c : Collecting A V) (start : SoFar Place c.Held) (m : Meaning P T R E A S) (again : Reading P T A) where
   -- a call that began so has come to a place where a turn begins so
   abbrev pub Comes : Bool → TurnsState V S → View P T → Failures → Bool → Bool → S → View P T → Failures → Kept V → Type 0
   Comes first state old before later turn_first turn_state now failures t = Reaches w (fresh_turns w.fresh) (bounded b ending) (bounded_is_rule b ending) c (λ _. again) (called m again later) (turns_from w.step b ending c start m again) first state old before turn_first turn_state now failures (so_far c.held t)
@@ -220,7 +220,7 @@ module _ {P T R A V S E : Type 0} (w : World P T S E) (b : Bounds) (ending : A �
       comes_stopped (stop.More n e) p l = comes_more n e p l
       comes_stopped (stop.Failed e) p l = comes_fails e p l
 
-pub goes_out : {P T R A V S E : Type 0} (w : World P T S E) (b : Bounds) (ending : A → Bool) (c : Collecting A V) (m : Meaning P T R A S) (r : Run P T S) (t n : Kept V) → full_at b t.place ≡ false → GoesOn w b ending c m r t n → length r.new.unread + idle_turns b n.place < length r.old.unread + idle_turns b t.place
+pub goes_out : {P T R A V S E : Type 0} (w : World P T S E) (b : Bounds) (ending : A → Bool) (c : Collecting A V) (m : Meaning P T R E A S) (r : Run P T S) (t n : Kept V) → full_at b t.place ≡ false → GoesOn w b ending c m r t n → length r.new.unread + idle_turns b n.place < length r.old.unread + idle_turns b t.place
 goes_out w b ending c m r t n nf g =
     let e : n.place ≡ next_of b t.place = ap (λ (x : SoFar Place c.Held). x.mark) g.turns in
     let a = g.judged.accepts in

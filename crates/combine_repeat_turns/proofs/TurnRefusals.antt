@@ -42,7 +42,7 @@ module _ {P T R A E : Type 0} (step : P → T → P) (errors : Errors T R P E) (
   placed : (g g' : Place) (k k' : Bool) → g ≡ g' → k ≡ k' → RefusesOnward step errors b ending later s g k v committed e → RefusesOnward step errors b ending later s g' k' v committed e
   placed g g' k k' i j x = subst (λ z. RefusesOnward step errors b ending later s z k' v committed e) i (subst (λ z. RefusesOnward step errors b ending later s g z v committed e) j x)
 
-module _ {P T R A V S E : Type 0} (step : P → T → P) (errors : Errors T R P E) (b : Bounds) (ending : A → Bool) (place : Place) (before : Bool) (m : Meaning P T R A S) (again : Reading P T A) (refuses : Bool → Refusing P T S E) where
+module _ {P T R A V S E : Type 0} (step : P → T → P) (errors : Errors T R P E) (b : Bounds) (ending : A → Bool) (place : Place) (before : Bool) (m : Meaning P T R E A S) (again : Reading P T A) (refuses : Bool → Refusing P T S E) where
   -- what the turns that are left are refused with, from that place on, the call is refused with
   pub record Leads (first : Bool) (state : TurnsState V S) (old : View P T) (s : Start P T A E) (g : Place) (k : Bool) (now : View P T) : Type 0 where
     pub is : (committed : Bool) (e : E) → RefusesOnward step errors b ending (later_start again refuses) s g k now committed e → RefusesTurns step errors b ending place before m again refuses (kept_from first state) old committed e
@@ -95,7 +95,7 @@ module _ {P T R A V S E : Type 0} (step : P → T → P) (errors : Errors T R P 
     stops_leading t nf h (stop.Failed d) x false e i = absurd i.is
 
 -- a turn that is a block
-module _ {P T R A V S E : Type 0} (w : World P T S E) (errors : Errors T R P E) (b : Bounds) (ending : A → Bool) (c : Collecting A V) (place : Place) (before : Bool) (m : Meaning P T R A S) (again : Reading P T A) (refuses : Bool → Refusing P T S E) where
+module _ {P T R A V S E : Type 0} (w : World P T S E) (errors : Errors T R P E) (b : Bounds) (ending : A → Bool) (c : Collecting A V) (place : Place) (before : Bool) (m : Meaning P T R E A S) (again : Reading P T A) (refuses : Bool → Refusing P T S E) where
   -- what it took, and the turns behind it
   behind : (s : Start P T A E) (g : Place) (k : Bool) (a : A) (n : ℕ) (committed : Bool) (t : Kept V) (h : c.Held) (old new : View P T) → so_far c.held t ≡ record { mark = next_of b g; held = h; committed = k || committed } → full_at b g ≡ false → s.reads old (Accepted a n committed) → judged b ending g (Accepted a n committed) ≡ Goes → new ≡ advanced w.step n old → (d : Bool) (e : E) → RefusesOnward w.step errors b ending (later_start again refuses) (later_start again refuses) t.place t.committed new d e → RefusesOnward w.step errors b ending (later_start again refuses) s g k old d e
   behind s g k a n committed t h old new i nf p q j d e x =
@@ -109,13 +109,13 @@ module _ {P T R A V S E : Type 0} (w : World P T S E) (errors : Errors T R P E) 
       record { is = λ d e x. h.is d e (behind (started m again refuses later r.first r.state) t.place t.committed g.turn.0 a.count g.turn.1 n g.held r.old r.new g.turns nf a.meant (judged_goes a.count g.turn.1 (ending g.turn.0) (goes_at b t.place a.count g.turn.1) g.judged.on g.judged.says) a.taken.rest d e x) }
 
 -- turns of which the first is asked for, and makes what is gathered
-module _ {P T R A V S E : Type 0} (w : World P T S E) (errors : Errors T R P E) (ending : A → Bool) (c : Collecting A V) (none : c.Held) (m : Meaning P T R A S) (again : Reading P T A) (refuses : Bool → Refusing P T S E) where
+module _ {P T R A V S E : Type 0} (w : World P T S E) (errors : Errors T R P E) (ending : A → Bool) (c : Collecting A V) (none : c.Held) (m : Meaning P T R E A S) (again : Reading P T A) (refuses : Bool → Refusing P T S E) where
   pub leads_first_on : ((a : A) → ending a ≡ false) → (r : Run P T S) (n : Kept V) (first : Bool) (state : TurnsState V S) (old : View P T) → FirstGoes w c none (called m again false) r n → Leads w.step errors (Joined 1 None) ending (first_place false) false m again refuses first state old (started m again refuses false r.first r.state) (first_place false) false r.old → Leads w.step errors (Joined 1 None) ending (first_place false) false m again refuses first state old (later_start again refuses) n.place n.committed r.new
   leads_first_on never r n first state old g h =
       let a = g.accepts in
       record { is = λ d e x. h.is d e (behind w errors (Joined 1 None) ending c (first_place false) false m again refuses (started m again refuses false r.first r.state) (first_place false) false g.turn.0 a.count g.turn.1 n g.held r.old r.new g.turns refl a.meant (judged_goes a.count g.turn.1 (ending g.turn.0) true (never g.turn.0) refl) a.taken.rest d e x) }
 
-module _ {P T R A V S E : Type 0} (step : P → T → P) (errors : Errors T R P E) (ending : A → Bool) (m : Meaning P T R A S) (again : Reading P T A) (refuses : Bool → Refusing P T S E) (s : Start P T A E) (v : View P T) (is_open : Bool) (first : Bool) (state : TurnsState V S) (old : View P T) (h : Leads step errors (Joined 1 None) ending (first_place false) false m again refuses first state old s (first_place false) false v) where
+module _ {P T R A V S E : Type 0} (step : P → T → P) (errors : Errors T R P E) (ending : A → Bool) (m : Meaning P T R E A S) (again : Reading P T A) (refuses : Bool → Refusing P T S E) (s : Start P T A E) (v : View P T) (is_open : Bool) (first : Bool) (state : TurnsState V S) (old : View P T) (h : Leads step errors (Joined 1 None) ending (first_place false) false m again refuses first state old s (first_place false) false v) where
   pub first_refused_leads : (t : Tracked E) → s.refuses v false t.error → Reasoned {V = V} errors.kind is_open (RefusesTurns step errors (Joined 1 None) ending (first_place false) false m again refuses (kept_from first state) old) (PeekErr t)
   first_refused_leads t x true e i = absurd i.is
   first_refused_leads t x false e i = here step errors (Joined 1 None) ending (first_place false) false m again refuses s v is_open first state old (first_place false) false refl h false false e (Missing refl refl refl (rw i.is x)) refl
@@ -125,7 +125,7 @@ module _ {P T R A V S E : Type 0} (step : P → T → P) (errors : Errors T R P 
   first_failed_leads d x false e i = absurd i.is
 
 -- a call in first mode, whatever is kept, or one that resumes what is kept, if something is
-module _ {P T R A V S E : Type 0} (step : P → T → P) (errors : Errors T R P E) (b : Bounds) (ending : A → Bool) (from : Kept V) (m : Meaning P T R A S) (again : Reading P T A) (refuses : Bool → Refusing P T S E) where
+module _ {P T R A V S E : Type 0} (step : P → T → P) (errors : Errors T R P E) (b : Bounds) (ending : A → Bool) (from : Kept V) (m : Meaning P T R E A S) (again : Reading P T A) (refuses : Bool → Refusing P T S E) where
   place_of : (k : Earlier V) → (kept_or from k).place ≡ place_kept from.place k
   place_of Nothing = refl
   place_of (Turns t) = refl
@@ -143,7 +143,7 @@ module _ {P T R A V S E : Type 0} (step : P → T → P) (errors : Errors T R P 
   leads_afresh false state s t old f i = absurd (cc)
 
 -- a turn of a parser that means the same, and whose errors are among those that it had
-module _ {P T R A S E : Type 0} (step : P → T → P) (errors : Errors T R P E) (b : Bounds) (ending : A → Bool) (m m' : Meaning P T R A S) (again again' : Reading P T A) (refuses refuses' : Bool → Refusing P T S E) (h : TurnsSame m again m' again') (k : KeepsRefusals refuses refuses') (later : Bool) where
+module _ {P T R A S E : Type 0} (step : P → T → P) (errors : Errors T R P E) (b : Bounds) (ending : A → Bool) (m m' : Meaning P T R E A S) (again again' : Reading P T A) (refuses refuses' : Bool → Refusing P T S E) (h : TurnsSame m again m' again') (k : KeepsRefusals refuses refuses') (later : Bool) where
   reads_back : (first : Bool) (s : S) (v : View P T) (o : Outcome A) → begun (called m' again' later) first s v o → begun (called m again later) first s v o
   reads_back true s v o x = ((called_same m again m' again' h later).whole v o).1 x
   reads_back false s v o x = ((called_same m again m' again' h later).rest s v o).1 x

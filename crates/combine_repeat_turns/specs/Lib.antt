@@ -14,10 +14,10 @@ pub mod Turn
 pub mod Sound
 pub mod Bounded
 pub mod OneTurn
+pub mod TurnRefusals
+pub mod TurnsMeaning
 pub mod BoundedLaws
 pub mod FirstTurn
-pub mod TurnRefusals
-pub mod RefusesAlike
 pub mod Plain
 pub mod Counts
 pub mod OneThenTurns

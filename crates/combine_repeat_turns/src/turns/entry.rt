@@ -10,9 +10,9 @@ use combine_base::stream::{Stream, needs_more};
 pub trait Entry {
     ghost use Rattle.std.specs.Prelude.{◌≡◌, Bool, true};
     ghost use Rattle.combine_base.specs.Parser.Answer.{Answers, world};
+    ghost use Rattle.combine_base.specs.Parser.Reasons.{ReasonedCall};
     ghost use Rattle.combine_base.specs.Stream.Calls.{Passes};
     ghost use Rattle.combine_repeat_turns.specs.Turn.{TurnsSame, called};
-    ghost use Rattle.combine_repeat_turns.specs.TurnRefusals.{KeepsRefusals, RefusesCall};
 
     /// The entries that begin afresh.
     ghost first: { Self → Bool };
@@ -38,8 +38,7 @@ pub trait Entry {
             (called (P.meaning parser.old) (P.again parser.old) (later self))
             (record { first = first self; state = state.old; left = state.new; old = Input.view input.old; new = Input.view input.new; before = Input.failures input.old; after = Input.failures input.new })
             result }
-        ensures refuses { RefusesCall Input.StreamOnce Input.Error.seen (P.refuses parser.old (later self)) (first self) state.old input.old input.new result }
-        ensures keeps { KeepsRefusals (P.refuses parser.old) (P.refuses parser.new) };
+        ensures refuses { ReasonedCall Input.Error.seen (called (P.meaning parser.old) (P.again parser.old) (later self)) (first self) state.old (Input.view input.old) (Input.view input.new) result };
 }
 
 /// A turn that begins afresh: a first-mode call, so that the mode is known where it is compiled, with a state of its own, which is stored on need of more alone.
