@@ -35,8 +35,8 @@ module _ {P T R E : Type 0} (step : P → T → P) (s : Errors T R P E) (steady 
   w1 = world step s steady (λ s. s ≡ false)
 
   -- a run that ends with one of a parser, which begins where a run before it stopped
-  module _ {A B S : Type 0} (fresh : S → Type 0) (m : Meaning P T R A S) (lean : m.lean) (read : Reading P T B) (c : Bool) (here : Reading P T B) (old mid new : View P T) (f0 f1 f2 : Failures) (progress : Progress (w fresh) read here old mid f0 f1) (reads : f0.reads ≤ f1.reads) (resets : f0.resets ≤ f1.resets) (refused : (k : Bool) → m.whole mid (Refused k) → here mid (Refused (c || k))) (undecided : m.whole mid Undecided → here mid Undecided) where
-    abbrev whole : Meaning P T R B Bool
+  module _ {A B S : Type 0} (fresh : S → Type 0) (m : Meaning P T R E A S) (lean : m.lean) (read : Reading P T B) (c : Bool) (here : Reading P T B) (old mid new : View P T) (f0 f1 f2 : Failures) (progress : Progress (w fresh) read here old mid f0 f1) (reads : f0.reads ≤ f1.reads) (resets : f0.resets ≤ f1.resets) (refused : (k : Bool) → m.whole mid (Refused k) → here mid (Refused (c || k))) (undecided : m.whole mid Undecided → here mid Undecided) where
+    abbrev whole : Meaning P T R E B Bool
     whole = once {R = R} read
 
     module _ (from to : S) where
@@ -83,7 +83,7 @@ module _ {P T R E : Type 0} (step : P → T → P) (s : Errors T R P E) (steady 
     Runs read input left y = RunsOnce step s steady view marks failures read input left y
 
     -- a parser that is run from its start
-    pub run_once : {A S : Type 0} (fresh : S → Type 0) (m : Meaning P T R A S) (lean : m.lean) (input left : I) (y : ParseResult A E) → Passes (marks input) (marks left) (failures input) (failures left) → Starts (w fresh) m (view input) (view left) (failures input) (failures left) y → Runs m.whole input left y
+    pub run_once : {A S : Type 0} (fresh : S → Type 0) (m : Meaning P T R E A S) (lean : m.lean) (input left : I) (y : ParseResult A E) → Passes (marks input) (marks left) (failures input) (failures left) → Starts (w fresh) m (view input) (view left) (failures input) (failures left) y → Runs m.whole input left y
     run_once {A} fresh m lean input left y p a =
         let none = progress_none (w fresh) m.whole (view input) (failures input) in
         let x = ends_once fresh m lean m.whole false m.whole (view input) (view input) (view left) (failures input) (failures input) (failures left) none (omega arith) (omega arith) (λ k x. x) (λ x. x) (λ v. v) (λ v n k x. x) y a in

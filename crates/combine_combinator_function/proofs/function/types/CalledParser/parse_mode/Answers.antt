@@ -24,7 +24,7 @@ returns-in-PeekErr-clause-answers g c =
 pub returns-in-PeekErr-clause-refuses : goal.returns-in-PeekErr-clause-refuses
 returns-in-PeekErr-clause-refuses g c =
     let met = rw c.in-PeekErr.is at c.in-Ok.ensures.answers in
-    called_says_peeked _ _ g.Input.StreamOnce.view (g.C.Call.answers (call_of c.args.self.now)) c.args.input.now c.call.new.input _ met
+    called_says_peeked _ g.Input.Error.ParseError.seen g.Input.StreamOnce.view (g.C.Call.answers (call_of c.args.self.now)) _ _ _ c.args.input.now c.call.new.input _ met
 
 pub returns-else-needs_more-clause-answers : goal.returns-else-needs_more-clause-answers
 returns-else-needs_more-clause-answers g c =
@@ -34,7 +34,7 @@ returns-else-needs_more-clause-answers g c =
 pub returns-else-needs_more-clause-refuses : goal.returns-else-needs_more-clause-refuses
 returns-else-needs_more-clause-refuses g c =
     let met = rw c.in-CommitErr.is at c.in-Ok.ensures.answers in
-    called_says _ _ g.Input.StreamOnce.view (g.C.Call.answers (call_of c.args.self.now)) c.args.input.now c.call.new.input _ met
+    called_says _ g.Input.Error.ParseError.seen g.Input.StreamOnce.view (g.C.Call.answers (call_of c.args.self.now)) _ _ _ c.args.input.now c.call.new.input _ met
 
 pub returns-in-Ok-reset-clause-answers : goal.returns-in-Ok-reset-clause-answers
 returns-in-Ok-reset-clause-answers g c =
