@@ -61,7 +61,7 @@ valid_from {S} {fresh} {valid} {first} {given} {s} h r v = by_mode first r
     by_mode false r = subst valid (sym (r.kept refl)) v
 
 module _ {F I V N Input U Checkpoint T R P E : Type 0} (p : parser.Ghosts N Input U I Checkpoint T R P E) (i : stream.Ghosts Input T R P E) (seen : Errors T R P E) (fresh : U → Type 0) (depth : ℕ) (roots : F → Type 0) (answers : F → N → Type 0) (takes : F → I → Next F V → Type 0) (joins : F → V → Next F V → Type 0) (some : N → Type 0) where
-  abbrev all : Meaning P T R V (NestedState F N U)
+  abbrev all : Meaning P T R E V (NestedState F N U)
   all = nesting i.step depth roots answers takes joins some p.meaning
 
   abbrev kept : N → Type 0

@@ -13,7 +13,7 @@ use Rattle.combine_nested.specs.declared.nested.steps.Frames.{Frames}
 use Rattle.combine_nested.specs.declared.nested.steps.NestedState.{NestedState}
 use Rattle.combine_nested.specs.declared.nested.steps.NestedState.TheVariants as states
 
-module _ {P T R F I V N U E : Type 0} (step : P → T → P) (depth : ℕ) (roots : F → Type 0) (answers : F → N → Type 0) (takes : F → I → Next F V → Type 0) (joins : F → V → Next F V → Type 0) (means : N → Meaning P T R I U) (errors : Errors T R P E) (last : N → Option U → View P T → Bool → E → Type 0) where
+module _ {P T R F I V N U E : Type 0} (step : P → T → P) (depth : ℕ) (roots : F → Type 0) (answers : F → N → Type 0) (takes : F → I → Next F V → Type 0) (joins : F → V → Next F V → Type 0) (means : N → Meaning P T R E I U) (errors : Errors T R P E) (last : N → Option U → View P T → Bool → E → Type 0) where
   abbrev runs_at : Bool → F → List F → View P T → Bool → E → Type 0
   runs_at = runs_refuse step depth roots answers takes joins means errors last
 

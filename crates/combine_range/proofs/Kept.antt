@@ -21,7 +21,7 @@ use Rattle.combine_range.proofs.Peeked.{refused_peeked}
 use Rattle.combine_range.specs.Kept.{kept, HandsOut, hands_out, KeepsDistance, keeps_distance, NotPassed, not_passed}
 
 module _ {P T R A E : Type 0} (w : World P T Distance E) (size : T → ℕ) (read : ℕ → Reading P T A) (adds : List (Item T R) → Type 0) (r : Run P T Distance) (d : ℕ) (e : d ≡ (if r.first then 0 else r.state.items)) where
-  abbrev pub whole : Meaning P T R A Distance
+  abbrev pub whole : Meaning P T R E A Distance
   whole = kept size read adds
 
   -- what the distance means is what stands for the call's meaning

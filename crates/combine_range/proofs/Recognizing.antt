@@ -22,7 +22,7 @@ use Rattle.combine_range.specs.Kept.{Handed, HandsOut, hands_out, NotPassed, not
 use Rattle.combine_range.specs.Recognized.{IsFresh, beside, On, Split, Recognizes, Loses, Short, Deeper, recognized, sliced}
 use Rattle.combine_range.specs.declared.range.recognized.RecognizeState.{RecognizeState}
 
-module _ {P T R V S E : Type 0} (w : World P T S E) (size : T → ℕ) (filled : (t : T) → 0 < size t) (spells : R → List T → Type 0) (m : Meaning P T R V S) where
+module _ {P T R V S E : Type 0} (w : World P T S E) (size : T → ℕ) (filled : (t : T) → 0 < size t) (spells : R → List T → Type 0) (m : Meaning P T R E V S) where
   -- what is read later, after n tokens more, was read by the part as it began
   read_before : (us : List T) (b n : ℕ) (i : Outcome V) (o : Outcome (R × V)) → sliced size spells w.step us (b + n) i o → sliced size spells w.step us b (after n false i) o
   read_before us b n (Accepted a k c) (Accepted p j e) h = (h.0, h.1, let x = h.2 in omega arith, h.3)
@@ -213,7 +213,7 @@ module _ {P T R V S E : Type 0} (w : World P T S E) (size : T → ℕ) (filled :
         let a = need_of_more w m r x q.0 (sym (same_mark w m r x p) ∙ q.1) p in
         slice_breaks k e i (rw h.0 h.2) b c (moves_more w.step (z.count + a.count) u.old r.new u.new (all_read a.count a.taken) h.1) n l
 
-module _ {P T R V S E : Type 0} (w : World P T S E) (size : T → ℕ) (spells : R → List T → Type 0) (m : Meaning P T R V S) (u : Run P T (RecognizeState S)) (d : ℕ) (e : d ≡ (if u.first then 0 else u.state.distance)) where
+module _ {P T R V S E : Type 0} (w : World P T S E) (size : T → ℕ) (spells : R → List T → Type 0) (m : Meaning P T R E V S) (u : Run P T (RecognizeState S)) (d : ℕ) (e : d ≡ (if u.first then 0 else u.state.distance)) where
   -- the kept distance was not passed over
   pub slice_unpassed : {Q : Type 0} (none : Q → List T → Type 0) (k : Kind) (result : ParseResult (R × V) E) → UnconsRange w.steady w.step size none u.old u.new u.before u.after d (Err k) → NotPassed w.kind k result → u.left.distance ≡ 0 → w.fresh u.left.part → Answers (around w (IsFresh w.fresh)) (recognized size spells w.step m) u result
   slice_unpassed {Q = Q} none k result q n a l = record { is = by_kind k result q.is n.is }
