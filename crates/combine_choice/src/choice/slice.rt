@@ -97,7 +97,9 @@ fn choose<Input: Stream, P: Parser<Input>, M: ParseMode>(
         (choice_of Input.Error.seen Input.Position.cmp P.meaning alternatives.old)
         (record { first = false; state = SliceState.At index kept; left = state.new; old = Input.view input.old; new = Input.view input.new; before = Input.failures input.old; after = Input.failures input.new })
         result }
-    ensures refuses { Reasoned Input.Error.seen.kind (Input.view input.new).is_open (tried_refuses Input.Error.seen Input.Position.cmp P.meaning (λ x. begun_refuses (P.meaning x) (M.first mode) kept) (drop index alternatives.old) (Input.view input.old) (Input.view input.new)) result }
+    ensures refuses { Reasoned Input.Error.seen.kind (Input.view input.new).is_open
+        (tried_refuses Input.Error.seen Input.Position.cmp P.meaning (λ x. begun_refuses (P.meaning x) (M.first mode) kept) (drop index alternatives.old) (Input.view input.old) (Input.view input.new))
+        result }
 {
     let start = input.checkpoint();
     let position = input.position();
@@ -146,7 +148,9 @@ fn resume<Input: Stream, P: Parser<Input>, M: ParseMode>(
         (choice_of Input.Error.seen Input.Position.cmp P.meaning alternatives.old)
         (record { first = false; state = SliceState.At index kept; left = state.new; old = Input.view input.old; new = Input.view input.new; before = Input.failures input.old; after = Input.failures input.new })
         result }
-    ensures refuses { Reasoned Input.Error.seen.kind (Input.view input.new).is_open (tried_refuses Input.Error.seen Input.Position.cmp P.meaning (λ x. begun_refuses (P.meaning x) (M.first mode) kept) (drop index alternatives.old) (Input.view input.old) (Input.view input.new)) result }
+    ensures refuses { Reasoned Input.Error.seen.kind (Input.view input.new).is_open
+        (tried_refuses Input.Error.seen Input.Position.cmp P.meaning (λ x. begun_refuses (P.meaning x) (M.first mode) kept) (drop index alternatives.old) (Input.view input.old) (Input.view input.new))
+        result }
 {
     choose(alternatives, index, mode, input, kept, state)
 }
