@@ -2,4 +2,3 @@ pub mod Placing
 pub mod Leading
 pub mod Separating
 pub mod ElementThenTurns
-pub mod SeparatedRefusals

@@ -1,4 +1,7 @@
+pub use Rattle.combine_base.specs.Error.Errors
 pub use Rattle.combine_base.specs.Parser.Answer
+pub use Rattle.combine_base.specs.Parser.AnswersCalls
+pub use Rattle.combine_base.specs.Parser.Drivers
 pub use Rattle.combine_base.specs.Parser.Given
 pub use Rattle.combine_base.specs.Parser.Meaning
 pub use Rattle.combine_base.specs.Parser.Outcome
@@ -16,10 +19,10 @@ pub use Rattle.combine_base.specs.Stream.View
 pub use Rattle.combine_repeat_turns.specs.Bounded
 pub use Rattle.combine_repeat_turns.specs.Counts
 pub use Rattle.combine_repeat_turns.specs.OneThenTurns
-pub use Rattle.combine_repeat_turns.specs.RefusesAlike
 pub use Rattle.combine_repeat_turns.specs.Sound
 pub use Rattle.combine_repeat_turns.specs.Turn
 pub use Rattle.combine_repeat_turns.specs.TurnRefusals
+pub use Rattle.combine_repeat_turns.specs.TurnsMeaning
 pub use Rattle.combine_repeat_turns.specs.Turns
 pub mod Placed
 pub mod Pair
@@ -29,4 +32,3 @@ pub mod Elements
 pub mod JoinedLaws
 pub mod SeparatedParsers
 pub mod ElementThenTurns
-pub mod SeparatedRefusals

@@ -5,9 +5,7 @@ ghost use Rattle.std.specs.Prelude.{◌≡◌, true};
 ghost use Rattle.combine_base.specs.Parser.Meaning.{MeansSame};
 ghost use Rattle.combine_base.specs.Sequence.Followed.{Follows};
 ghost use Rattle.combine_base.specs.Sequence.Parts.{CalledLast, CalledRest};
-ghost use Rattle.combine_repeat_sep.specs.Pair.{LedBy, pair_begins, pair_place, pair_valid, put_to};
-ghost use Rattle.combine_repeat_sep.specs.SeparatedRefusals.{refuses_pair};
-ghost use Rattle.combine_repeat_turns.specs.TurnRefusals.{RefusesCall};
+ghost use Rattle.combine_repeat_sep.specs.Pair.{LedBy, behind, pair_begins, pair_place, pair_valid, put_to};
 
 use combine_base::error::ParseResult;
 use combine_base::parser::{Calls, Outputs, ParseMode, Parser};
@@ -37,50 +35,125 @@ pub type PairStateOf<Input, S, P> = PairState<
     <P as Parser<Input>>::PartialState,
 >;
 
+/// How a part is run behind a separator: as it is, or as another parser that is made of it.
+///
+/// A call says that the part itself means the same, errors and all, which a parser that hides some of them can't say.
+pub trait Behind<Input: Stream, P: Parser<Input>> {
+    ghost use Rattle.std.specs.Prelude.{◌≡◌};
+    ghost use Rattle.combine_base.specs.Parser.AnswersCalls.{AnswersCall};
+    ghost use Rattle.combine_base.specs.Parser.Drivers.{Explained};
+    ghost use Rattle.combine_base.specs.Parser.Meaning.{Meaning, IsMeaning, MeansSame, begun_refuses};
+    ghost use Rattle.combine_base.specs.Stream.Calls.{Passes};
+
+    /// The value of an acceptance.
+    type Output: Drop;
+
+    /// What it means there.
+    ghost means: { P → Meaning Input.Position Input.Token Input.Range Input.Error Self.Output P.PartialState };
+
+    /// Runs it; a peeked refusal is put back and explained.
+    fn parse_behind<M: ParseMode>(
+        part: &mut P,
+        mode: M,
+        input: &mut Input,
+        state: &mut P::PartialState,
+    ) -> ParseResult<Self::Output, Input::Error>
+        requires lawful { P.lawful part.old }
+        requires valid { P.valid state.old }
+        ensures lawful { P.lawful part.new }
+        ensures valid { P.valid state.new }
+        ensures part { MeansSame (P.meaning part.old) (P.meaning part.new) }
+        ensures same { MeansSame (means part.old) (means part.new) }
+        ensures passes { Passes (Input.marks input.old) (Input.marks input.new) (Input.failures input.old) (Input.failures input.new) }
+        ensures answers { AnswersCall Input.StreamOnce Input.Error.seen P.PartialState.is_default (means part.old) (M.first mode) state.old state.new input.old input.new result }
+        ensures explained { Explained Input.Error.seen (means part.old) (begun_refuses (means part.old) (M.first mode) state.old) (Input.view input.old) (Input.view input.new) result };
+
+    ghost laws: { (p : P) → P.lawful p → IsMeaning P.PartialState.is_default P.valid (means p) };
+}
+
+/// It is run as it is.
+#[derive(Drop)]
+pub struct AsItIs;
+
+impl<Input: Stream, P: Parser<Input>> Behind<Input, P> for AsItIs {
+    type Output = P::Output;
+
+    ghost means = { λ p. P.meaning p };
+
+    #[inline(always)]
+    fn parse_behind<M: ParseMode>(
+        part: &mut P,
+        mode: M,
+        input: &mut Input,
+        state: &mut P::PartialState,
+    ) -> ParseResult<P::Output, Input::Error> {
+        part.parse_explained(mode, input, state)
+    }
+
+    ghost laws = { λ p l. P.laws p l };
+}
+
 /// Runs a separator and a part, from what is kept of them. `state` is a default one, and keeps what goes on where more is needed.
 #[inline(always)]
-pub fn parse_pair<Input: Stream, S: Parser<Input>, P: Parser<Input>, M: ParseMode>(
+pub fn parse_pair<
+    Input: Stream,
+    S: Parser<Input>,
+    P: Parser<Input>,
+    B: Behind<Input, P>,
+    M: ParseMode,
+>(
     separator: &mut S,
     part: &mut P,
     mode: M,
     input: &mut Input,
     from: PairStateOf<Input, S, P>,
     state: &mut PairStateOf<Input, S, P>,
-) -> ParseResult<(S::Output, P::Output), Input::Error>
+) -> ParseResult<(S::Output, B::Output), Input::Error>
     requires lawful { S.lawful separator.old × P.lawful part.old }
     requires valid { pair_valid S.valid P.valid from }
     requires starts { M.first mode ≡ true → pair_begins S.PartialState.is_default from }
     requires fresh { pair_begins S.PartialState.is_default state.old }
     ensures lawful { S.lawful separator.new × P.lawful part.new }
     ensures parts { MeansSame (S.meaning separator.old) (S.meaning separator.new) × MeansSame (P.meaning part.old) (P.meaning part.new) }
-    ensures called { Follows pair_place put_to Input.StreamOnce Input.Error.seen S.PartialState.is_default S.valid P.Parser (S.meaning separator.old) (S.meaning separator.new) part.old part.new input.old input.new from state.new result }
+    ensures called { Follows pair_place put_to Input.StreamOnce Input.Error.seen S.PartialState.is_default S.valid (behind P.Parser B.means) (S.meaning separator.old) (S.meaning separator.new) part.old part.new input.old input.new from state.new result }
     ensures led { LedBy (S.meaning separator.old) from state.new }
-    ensures refuses { RefusesCall Input.StreamOnce Input.Error.seen (refuses_pair Input.step Input.Error.seen P.PartialState.is_default (S.meaning separator.old) (S.refuses separator.old) (P.meaning part.old) (P.refuses part.old)) (M.first mode) from input.old input.new result }
 {
     match from {
         PairState::Separator(kept) => {
             let mut kept = kept;
             let answer = separator.parse_mode(mode, input, &mut kept);
-            parse_rest(answer, kept, part, mode, input, state)
+            parse_rest::<Input, S::Output, S::PartialState, P, B, M>(
+                answer, kept, part, mode, input, state,
+            )
         }
         PairState::Part(value, committed, kept) => {
-            resume_part(value, committed, kept, part, mode, input, state)
+            resume_part::<Input, S::Output, S::PartialState, P, B, M>(
+                value, committed, kept, part, mode, input, state,
+            )
         }
     }
 }
 
 /// Goes on with the part, from its start, where the separator has accepted. `kept` is the state that it left.
 #[inline(always)]
-fn parse_rest<Input: Stream, O: Drop, W: Drop, P: Parser<Input>, M: ParseMode>(
+fn parse_rest<
+    Input: Stream,
+    O: Drop,
+    W: Drop,
+    P: Parser<Input>,
+    B: Behind<Input, P>,
+    M: ParseMode,
+>(
     answer: ParseResult<O, Input::Error>,
     kept: W,
     part: &mut P,
     mode: M,
     input: &mut Input,
     state: &mut PairState<O, W, P::PartialState>,
-) -> ParseResult<(O, P::Output), Input::Error>
+) -> ParseResult<(O, B::Output), Input::Error>
     requires lawful { P.lawful part.old }
-    ensures { CalledRest P.Parser Input.StreamOnce Input.Error.seen P.PartialState.is_default (λ z. z ≡ state.old) pair_place put_to part.old part.new input.old input.new kept state.new result answer }
+    ensures part { MeansSame (P.meaning part.old) (P.meaning part.new) }
+    ensures called { CalledRest (behind P.Parser B.means) Input.StreamOnce Input.Error.seen P.PartialState.is_default (λ z. z ≡ state.old) pair_place put_to part.old part.new input.old input.new kept state.new result answer }
 {
     let (value, committed) = match answer {
         ParseResult::CommitOk(value) => (value, true),
@@ -96,12 +169,19 @@ fn parse_rest<Input: Stream, O: Drop, W: Drop, P: Parser<Input>, M: ParseMode>(
     };
     drop(kept);
     let kept = P::PartialState::default();
-    parse_part(value, committed, kept, part, mode, input, state)
+    parse_part::<Input, O, W, P, B, M>(value, committed, kept, part, mode, input, state)
 }
 
 /// Runs the part, from what is kept of it, where the separator gave a value. A peeked refusal is put back to where the part began, and explained by it. Need of more is kept in `state`, which every other answer leaves as it was.
 #[inline(always)]
-fn parse_part<Input: Stream, O: Drop, W: Drop, P: Parser<Input>, M: ParseMode>(
+fn parse_part<
+    Input: Stream,
+    O: Drop,
+    W: Drop,
+    P: Parser<Input>,
+    B: Behind<Input, P>,
+    M: ParseMode,
+>(
     value: O,
     committed: bool,
     kept: P::PartialState,
@@ -109,13 +189,14 @@ fn parse_part<Input: Stream, O: Drop, W: Drop, P: Parser<Input>, M: ParseMode>(
     mode: M,
     input: &mut Input,
     state: &mut PairState<O, W, P::PartialState>,
-) -> ParseResult<(O, P::Output), Input::Error>
+) -> ParseResult<(O, B::Output), Input::Error>
     requires ready { ⟦<P as Calls<Input>>⟧.ready part.old kept }
     requires starts { M.first mode ≡ true → P.PartialState.is_default kept }
-    ensures { CalledLast P.Parser Input.StreamOnce Input.Error.seen P.PartialState.is_default (λ z. z ≡ state.old) pair_place put_to part.old part.new input.old input.new (M.first mode) (record { value = value; committed = committed; state = kept }) state.new result }
+    ensures part { MeansSame (P.meaning part.old) (P.meaning part.new) }
+    ensures called { CalledLast (behind P.Parser B.means) Input.StreamOnce Input.Error.seen P.PartialState.is_default (λ z. z ≡ state.old) pair_place put_to part.old part.new input.old input.new (record { value = value; committed = committed; state = kept }) state.new result }
 {
     let mut kept = kept;
-    match part.parse_explained(mode, input, &mut kept) {
+    match B::parse_behind(part, mode, input, &mut kept) {
         ParseResult::CommitOk(last) => ParseResult::CommitOk((value, last)),
         ParseResult::PeekOk(last) => accepted_after(committed, (value, last)),
         ParseResult::CommitErr(error) => {
@@ -130,7 +211,14 @@ fn parse_part<Input: Stream, O: Drop, W: Drop, P: Parser<Input>, M: ParseMode>(
 }
 
 /// As `parse_part`, for a call that resumes: apart from the code of calls that begin afresh, which holds each part once.
-fn resume_part<Input: Stream, O: Drop, W: Drop, P: Parser<Input>, M: ParseMode>(
+fn resume_part<
+    Input: Stream,
+    O: Drop,
+    W: Drop,
+    P: Parser<Input>,
+    B: Behind<Input, P>,
+    M: ParseMode,
+>(
     value: O,
     committed: bool,
     kept: P::PartialState,
@@ -138,10 +226,11 @@ fn resume_part<Input: Stream, O: Drop, W: Drop, P: Parser<Input>, M: ParseMode>(
     mode: M,
     input: &mut Input,
     state: &mut PairState<O, W, P::PartialState>,
-) -> ParseResult<(O, P::Output), Input::Error>
+) -> ParseResult<(O, B::Output), Input::Error>
     requires ready { ⟦<P as Calls<Input>>⟧.ready part.old kept }
     requires starts { M.first mode ≡ true → P.PartialState.is_default kept }
-    ensures { CalledLast P.Parser Input.StreamOnce Input.Error.seen P.PartialState.is_default (λ z. z ≡ state.old) pair_place put_to part.old part.new input.old input.new (M.first mode) (record { value = value; committed = committed; state = kept }) state.new result }
+    ensures part { MeansSame (P.meaning part.old) (P.meaning part.new) }
+    ensures called { CalledLast (behind P.Parser B.means) Input.StreamOnce Input.Error.seen P.PartialState.is_default (λ z. z ≡ state.old) pair_place put_to part.old part.new input.old input.new (record { value = value; committed = committed; state = kept }) state.new result }
 {
-    parse_part(value, committed, kept, part, mode, input, state)
+    parse_part::<Input, O, W, P, B, M>(value, committed, kept, part, mode, input, state)
 }

@@ -135,8 +135,8 @@ module _ {P T A : Type 0} where
       by_value (Here q f) = q
       by_value (Passed d q) = absurd (cc)
 
-  module _ {R S : Type 0} where
-    pub within_same : (m m' : Meaning P T R A S) → MeansSame (optional m) (optional m') → MeansSame m m'
+  module _ {R E S : Type 0} where
+    pub within_same : (m m' : Meaning P T R E A S) → MeansSame (optional m) (optional m') → MeansSame m m'
     within_same m m' h = record {
       whole = λ v o. (into m.whole m'.whole (λ v o. (h.whole v o).0) v o, into m'.whole m.whole (λ v o. (h.whole v o).1) v o);
       rest = λ s v o. (into (m.rest s) (m'.rest s) (λ v o. (h.rest s v o).0) v o, into (m'.rest s) (m.rest s) (λ v o. (h.rest s v o).1) v o);
@@ -147,8 +147,8 @@ module _ {P T A : Type 0} where
       adds = h.adds;
     }
 
-module _ {P T R A B U W : Type 0} (step : P → T → P) (valid : U → Type 0) (valid' : W → Type 0) (m : Meaning P T R A U) (s : Meaning P T R B W) (h : MeansOne valid m) (k : MeansOne valid' s) where
-  abbrev last_pair : Meaning P T R (B × Option A) (PairState B W U)
+module _ {P T R E A B U W : Type 0} (step : P → T → P) (valid : U → Type 0) (valid' : W → Type 0) (m : Meaning P T R E A U) (s : Meaning P T R E B W) (h : MeansOne valid m) (k : MeansOne valid' s) where
+  abbrev last_pair : Meaning P T R E (B × Option A) (PairState B W U)
   last_pair = pair step s (optional m)
 
   pair_one : MeansOne (pair_valid valid' valid) last_pair

@@ -21,7 +21,7 @@ abbrev pub optional_refuses : {P T U E : Type 0} → Refusing P T U E → Refusi
 optional_refuses refuses from v = committed_only (refuses from v)
 
 -- a separator, and a part that may be missing
-abbrev pub refuses_closed : {P T R O V W U E : Type 0} → (P → T → P) → Errors T R P E → (U → Type 0) → Meaning P T R O W → Refusing P T W E → Meaning P T R V U → Refusing P T U E → Refusing P T (PairState O W U) E
+abbrev pub refuses_closed : {P T R O V W U E : Type 0} → (P → T → P) → Errors T R P E → (U → Type 0) → Meaning P T R E O W → Refusing P T W E → Meaning P T R E V U → Refusing P T U E → Refusing P T (PairState O W U) E
 refuses_closed step errors fresh separator separator_refuses part part_refuses = refuses_pair step errors fresh separator separator_refuses (optional part) (optional_refuses part_refuses)
 
 module _ {Sep Part Input O V W U Checkpoint T R P E : Type 0} (step : P → T → P) (errors : Errors T R P E) (fresh : U → Type 0) (s : parser.Ghosts Sep Input W O Checkpoint T R P E) (p : parser.Ghosts Part Input U V Checkpoint T R P E) where

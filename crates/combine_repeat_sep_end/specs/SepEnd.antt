@@ -17,23 +17,23 @@ use Rattle.combine_repeat_sep.specs.declared.separated.SeparatedState.{Separated
 abbrev pub somes : {A V : Type 0} → Collecting A V → Collecting (Option A) V
 somes c = record { Held = c.Held; held = c.held; none = c.none; more = some_more c.more; lean = c.lean }
 
-module _ {P T R O A V U W : Type 0} (step : P → T → P) (b : Bounds) (c : Collecting A V) where
+module _ {P T R E O A V U W : Type 0} (step : P → T → P) (b : Bounds) (c : Collecting A V) where
   -- an element, and then turns of a separator and perhaps an element, which end where it is missing
-  abbrev pub sep_end : Meaning P T R A U → Meaning P T R O W → Meaning P T R V (TurnsState V (SeparatedState O W U))
+  abbrev pub sep_end : Meaning P T R E A U → Meaning P T R E O W → Meaning P T R E V (TurnsState V (SeparatedState O W U))
   sep_end m s = turns_from step b is_none (somes c) (none_yet c.none) (first_then some_of last m (pair step s (optional m))) (later_turn last (pair step s (optional m)))
 
-  pub sep_end_is_meaning : (fresh valid : U → Type 0) (fresh' valid' : W → Type 0) (m : Meaning P T R A U) (s : Meaning P T R O W) → IsMeaning fresh valid m → IsMeaning fresh' valid' s → IsMeaning (fresh_turns (separated_fresh fresh)) (λ z. separated_valid valid (pair_valid valid' valid) (running_turn z)) (sep_end m s)
+  pub sep_end_is_meaning : (fresh valid : U → Type 0) (fresh' valid' : W → Type 0) (m : Meaning P T R E A U) (s : Meaning P T R E O W) → IsMeaning fresh valid m → IsMeaning fresh' valid' s → IsMeaning (fresh_turns (separated_fresh fresh)) (λ z. separated_valid valid (pair_valid valid' valid) (running_turn z)) (sep_end m s)
   sep_end_is_meaning fresh valid fresh' valid' m s h k = turns_is_meaning step b is_none (somes c) (none_yet c.none) (separated_fresh fresh) (separated_valid valid (pair_valid valid' valid)) (first_then some_of last m (pair step s (optional m))) (later_turn last (pair step s (optional m))) (then_is_turn some_of last h (pair_is_meaning step k (optional_is_meaning fresh valid m h)))
 
-  pub sep_end_means_one : (valid : U → Type 0) (valid' : W → Type 0) (m : Meaning P T R A U) (s : Meaning P T R O W) → MeansOne valid m → MeansOne valid' s → MeansOne (λ (z : TurnsState V (SeparatedState O W U)). separated_valid valid (pair_valid valid' valid) (running_turn z)) (sep_end m s)
+  pub sep_end_means_one : (valid : U → Type 0) (valid' : W → Type 0) (m : Meaning P T R E A U) (s : Meaning P T R E O W) → MeansOne valid m → MeansOne valid' s → MeansOne (λ (z : TurnsState V (SeparatedState O W U)). separated_valid valid (pair_valid valid' valid) (running_turn z)) (sep_end m s)
   sep_end_means_one valid valid' m s h k = turns_means_one step b is_none (somes c) (none_yet c.none) (separated_valid valid (pair_valid valid' valid)) (first_then some_of last m (pair step s (optional m))) (later_turn last (pair step s (optional m))) (ended_once step valid valid' m s h k)
 
-  pub sep_end_means_same : (m m' : Meaning P T R A U) (s s' : Meaning P T R O W) → MeansSame m m' → MeansSame s s' → MeansSame (sep_end m s) (sep_end m' s')
+  pub sep_end_means_same : (m m' : Meaning P T R E A U) (s s' : Meaning P T R E O W) → MeansSame m m' → MeansSame s s' → MeansSame (sep_end m s) (sep_end m' s')
   sep_end_means_same m m' s s' h k = turns_means_same step b is_none (somes c) (none_yet c.none) (first_then some_of last m (pair step s (optional m))) (first_then some_of last m' (pair step s' (optional m'))) (later_turn last (pair step s (optional m))) (later_turn last (pair step s' (optional m'))) (then_same some_of last m m' (pair step s (optional m)) (pair step s' (optional m')) h (pair_means_same step k (optional_means_same m m' h)))
 
-module _ {P T R O A V U W : Type 0} (step : P → T → P) (c : Collecting A V) where
-  abbrev pub sep_end_by : Meaning P T R A U → Meaning P T R O W → Meaning P T R V (TurnsState V (SeparatedState O W U))
+module _ {P T R E O A V U W : Type 0} (step : P → T → P) (c : Collecting A V) where
+  abbrev pub sep_end_by : Meaning P T R E A U → Meaning P T R E O W → Meaning P T R E V (TurnsState V (SeparatedState O W U))
   sep_end_by = sep_end step (Joined 0 None) c
 
-  abbrev pub sep_end_by1 : Meaning P T R A U → Meaning P T R O W → Meaning P T R V (TurnsState V (SeparatedState O W U))
+  abbrev pub sep_end_by1 : Meaning P T R E A U → Meaning P T R E O W → Meaning P T R E V (TurnsState V (SeparatedState O W U))
   sep_end_by1 = sep_end step (Joined 1 None) c

@@ -1,7 +1,7 @@
 use Rattle.std.proofs.Common.{refl}
 use Rattle.combine_base.specs.Parser.Answer.{world}
 use Rattle.combine_base.proofs.Following.{last_called, sequence_called}
-use Rattle.combine_base.proofs.Refusing.{last_reasons, sequence_reasons}
+use Rattle.combine_base.proofs.Refusing.{reasoned_at_rest}
 use Rattle.combine_base.proofs.Starting.{at_rest}
 use Rattle.combine_repeat_sep.specs.Pair.{pair_place, put_to}
 use Rattle.combine_repeat_sep.proofs.Leading.{led_rest, runs_still}
@@ -16,7 +16,7 @@ returns-in-Separator-clause-called g c =
     let call = c.parse_mode-answer.ensures in
     let laws = g.met.S.Parser.laws _ c.requires.lawful.0 in
     let answers = at_rest around _ _ laws _ (λ h. rw c.in-Separator.is at c.requires.starts h) _ call.answers in
-    sequence_called pair_place put_to c.requires.fresh g.met.S.Parser.default_valid laws (g.met.P.Parser.laws _ c.requires.lawful.1) (rw c.in-Separator.is refl) c.requires.valid call.valid call.same call.passes answers c.parse_rest.ensures
+    sequence_called pair_place put_to c.requires.fresh g.met.S.Parser.default_valid laws (g.met.B.Behind.laws _ c.requires.lawful.1) (rw c.in-Separator.is refl) c.requires.valid call.valid call.same call.passes answers (reasoned_at_rest laws g.Input.Error.ParseError.seen (λ h. rw c.in-Separator.is at c.requires.starts h) call.refuses) c.parse_rest.ensures.called
 
 pub returns-in-Separator-clause-led : goal.returns-in-Separator-clause-led
 returns-in-Separator-clause-led g c =
@@ -24,7 +24,7 @@ returns-in-Separator-clause-led g c =
     let call = c.parse_mode-answer.ensures in
     let laws = g.met.S.Parser.laws _ c.requires.lawful.0 in
     let answers = at_rest around _ _ laws _ (λ h. rw c.in-Separator.is at c.requires.starts h) _ call.answers in
-    rw c.in-Separator.is (led_rest _ _ _ _ _ _ g.S.PartialState.Default.is_default c.requires.fresh _ _ _ _ _ around (g.S.Parser.meaning c.args.separator.now) _ _ _ _ _ _ _ _ answers c.parse_rest.ensures.goes_on)
+    rw c.in-Separator.is (led_rest _ _ _ _ _ _ g.S.PartialState.Default.is_default c.requires.fresh _ _ _ _ _ around (g.S.Parser.meaning c.args.separator.now) _ _ _ _ _ _ _ _ answers c.parse_rest.ensures.called.goes_on)
 
 pub resume_part-requires-clause-ready : goal.resume_part-requires-clause-ready
 resume_part-requires-clause-ready g c = record { lawful = c.requires.lawful.1; valid = rw c.in-Part.is at c.requires.valid }
@@ -34,18 +34,7 @@ pub resume_part-requires-clause-starts : goal.resume_part-requires-clause-starts
 resume_part-requires-clause-starts g c = λ h. absurd (rw c.in-Part.is at c.requires.starts h)
 
 pub returns-in-Part-clause-called : goal.returns-in-Part-clause-called
-returns-in-Part-clause-called g c = last_called pair_place put_to c.requires.fresh (g.S.Parser.meaning c.args.separator.now) g.met.S.Parser.default_valid (rw c.in-Part.is refl) c.resume_part.ensures
+returns-in-Part-clause-called g c = last_called pair_place put_to c.requires.fresh (g.S.Parser.meaning c.args.separator.now) g.met.S.Parser.default_valid (rw c.in-Part.is refl) c.resume_part.ensures.called
 
 pub returns-in-Part-clause-led : goal.returns-in-Part-clause-led
-returns-in-Part-clause-led g c = rw c.in-Part.is (record { is = runs_still _ _ _ _ _ _ g.S.PartialState.Default.is_default c.requires.fresh _ _ _ _ _ _ _ _ c.resume_part.ensures.runs })
-
-pub returns-in-Separator-clause-refuses : goal.returns-in-Separator-clause-refuses
-returns-in-Separator-clause-refuses g c =
-    let around = world g.Input.StreamOnce.step g.Input.Error.ParseError.seen g.Input.StreamOnce.steady g.S.PartialState.Default.is_default in
-    let call = c.parse_mode-answer.ensures in
-    let laws = g.met.S.Parser.laws _ c.requires.lawful.0 in
-    let answers = at_rest around _ _ laws _ (λ h. rw c.in-Separator.is at c.requires.starts h) _ call.answers in
-    sequence_reasons pair_place put_to (g.S.Parser.meaning c.args.separator.now) (g.S.Parser.refuses c.args.separator.now) laws c.requires.starts (rw c.in-Separator.is refl) answers call.refuses c.parse_rest.ensures
-
-pub returns-in-Part-clause-refuses : goal.returns-in-Part-clause-refuses
-returns-in-Part-clause-refuses g c = last_reasons pair_place put_to (g.S.Parser.meaning c.args.separator.now) (g.S.Parser.refuses c.args.separator.now) _ c.requires.starts (rw c.in-Part.is refl) c.resume_part.ensures
+returns-in-Part-clause-led g c = rw c.in-Part.is (record { is = runs_still _ _ _ _ _ _ g.S.PartialState.Default.is_default c.requires.fresh _ _ _ _ _ _ _ _ c.resume_part.ensures.called.runs })
