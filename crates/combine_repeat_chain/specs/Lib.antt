@@ -1,3 +1,4 @@
+pub use Rattle.combine_base.specs.Error.Errors
 pub use Rattle.combine_base.specs.Parser.Answer
 pub use Rattle.combine_base.specs.Parser.Given
 pub use Rattle.combine_base.specs.Parser.Mapped
@@ -10,7 +11,6 @@ pub use Rattle.combine_repeat.specs.Built
 pub use Rattle.combine_repeat_sep.specs.Elements
 pub use Rattle.combine_repeat_sep.specs.JoinedLaws
 pub use Rattle.combine_repeat_sep.specs.Separated
-pub use Rattle.combine_repeat_sep.specs.SeparatedRefusals
 pub use Rattle.combine_token.specs.Or
 pub use Rattle.combine_token.specs.TokenParsers
 pub use Rattle.combine_repeat_turns.specs.Bounded

@@ -1,4 +1,7 @@
+pub use Rattle.combine_base.specs.Error.Errors
 pub use Rattle.combine_base.specs.Parser.Answer
+pub use Rattle.combine_base.specs.Parser.AnswersCalls
+pub use Rattle.combine_base.specs.Parser.Drivers
 pub use Rattle.combine_base.specs.Parser.Meaning
 pub use Rattle.combine_base.specs.Parser.Outcome
 pub use Rattle.combine_base.specs.Refusals
@@ -14,15 +17,15 @@ pub use Rattle.combine_repeat_turns.specs.Counts
 pub use Rattle.combine_repeat_turns.specs.Sound
 pub use Rattle.combine_repeat_turns.specs.Turn
 pub use Rattle.combine_repeat_turns.specs.TurnRefusals
+pub use Rattle.combine_repeat_turns.specs.TurnsMeaning
 pub use Rattle.combine_repeat_turns.specs.Turns
 pub use Rattle.combine_repeat_sep.specs.Elements
 pub use Rattle.combine_repeat_sep.specs.Placed
 pub use Rattle.combine_repeat_sep.specs.Separated
-pub use Rattle.combine_repeat_sep.specs.SeparatedRefusals
+pub use Rattle.combine_repeat_sep.specs.Pair
 pub use Rattle.combine_token.specs.Choice
 pub use Rattle.combine_token.specs.Optional
 pub use Rattle.combine_token.specs.Reasons as TokenReasons
 pub mod Ended
 pub mod SepEnd
 pub mod SepEndParsers
-pub mod EndedRefusals

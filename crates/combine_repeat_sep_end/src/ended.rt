@@ -6,9 +6,7 @@ ghost use Rattle.combine_base.specs.Stream.Calls.{Passes};
 ghost use Rattle.combine_repeat_sep.specs.Pair.{pair, pair_begins, pair_is_meaning, pair_valid};
 ghost use Rattle.combine_repeat_sep.specs.Placed.{Ran};
 ghost use Rattle.combine_repeat_sep.specs.Separated.{first_then, later_kept, later_turn, separated_default, separated_valid, then_is_turn};
-ghost use Rattle.combine_repeat_sep_end.specs.EndedRefusals.{refuses_closed, refuses_ended};
-ghost use Rattle.combine_repeat_turns.specs.TurnRefusals.{RefusesCall};
-ghost use Rattle.combine_repeat_sep_end.specs.Ended.{closer_of, ended_once, ended_part, is_none, last, some_more, some_of, within};
+ghost use Rattle.combine_repeat_sep_end.specs.Ended.{closer_of, ended_once, ended_part, is_none, last, some_more, some_of};
 ghost use Rattle.combine_token.specs.Optional.{optional, optional_is_meaning};
 ghost use Rattle.combine_repeat_turns.specs.Sound.{any_sound};
 ghost use Rattle.combine_repeat_turns.specs.Turn.{gives_any};
@@ -17,10 +15,9 @@ use combine_base::error::{ParseResult, Tracked};
 use combine_base::parser::{FirstMode, ParseMode, Parser};
 use combine_base::repeat::Append;
 use combine_base::stream::{Stream, needs_more};
-use combine_repeat_sep::pair::{PairState, PairStateOf, parse_pair};
+use combine_repeat_sep::pair::{Behind, PairState, PairStateOf, parse_pair};
 use combine_repeat_sep::separated::{Lead, SeparatedState, TurnPlace};
 use combine_repeat_turns::turns::{Gather, Turn};
-use combine_token::choice::types::Optional;
 use std::alloc::{AllocError, Global};
 use std::marker::PhantomData;
 use std::mem;
@@ -28,7 +25,7 @@ use std::mem;
 /// A part, and later a separator and the part, or a separator alone, which ends the turns.
 #[derive(Clone, Copy, Drop)]
 pub struct Ended<P, S> {
-    pub(crate) part: Optional<P>,
+    pub(crate) part: P,
     pub(crate) separator: S,
 }
 
@@ -82,6 +79,38 @@ impl<A: Drop, F: Append<A>> Gather<Option<A>> for EachSome<F> {
     ghost keeps_sound = { any_sound };
 }
 
+/// The part behind a separator may be missing: a peeked refusal of it is put back, and gives no value.
+#[derive(Drop)]
+struct Perhaps;
+
+impl<Input: Stream, P: Parser<Input>> Behind<Input, P> for Perhaps {
+    type Output = Option<P::Output>;
+
+    ghost means = { λ p. optional (P.meaning p) };
+
+    #[inline(always)]
+    fn parse_behind<M: ParseMode>(
+        part: &mut P,
+        mode: M,
+        input: &mut Input,
+        state: &mut P::PartialState,
+    ) -> ParseResult<Option<P::Output>, Input::Error> {
+        let start = input.checkpoint();
+        let position = input.position();
+        match part.parse_mode(mode, input, state) {
+            ParseResult::CommitOk(value) => ParseResult::CommitOk(Some(value)),
+            ParseResult::PeekOk(value) => ParseResult::PeekOk(Some(value)),
+            ParseResult::CommitErr(error) => ParseResult::CommitErr(error),
+            ParseResult::PeekErr(_refused) => match input.reset(start) {
+                Ok(()) => ParseResult::PeekOk(None),
+                Err(kind) => ParseResult::CommitErr(input.new_error(kind, position)),
+            },
+        }
+    }
+
+    ghost laws = { λ p l. optional_is_meaning _ P.valid (P.meaning p) (P.laws p l) };
+}
+
 /// Runs the first part, from what is kept of it.
 #[inline(always)]
 fn run_first<Input: Stream, P: Parser<Input>, O: Drop, W: Drop, M: ParseMode>(
@@ -98,7 +127,6 @@ fn run_first<Input: Stream, P: Parser<Input>, O: Drop, W: Drop, M: ParseMode>(
     ensures passes { Passes (Input.marks input.old) (Input.marks input.new) (Input.failures input.old) (Input.failures input.new) }
     ensures ran { Ran (world Input.step Input.Error.seen Input.steady P.PartialState.is_default) (P.meaning parser.old) P.valid some_of (λ s. SeparatedState.Part Lead.Nothing s)
         (M.first mode) kept state.old state.new (Input.view input.old) (Input.view input.new) (Input.failures input.old) (Input.failures input.new) result }
-    ensures refuses { RefusesCall Input.StreamOnce Input.Error.seen (P.refuses parser.old) (M.first mode) kept input.old input.new result }
 {
     let mut kept = kept;
     match parser.parse_mode(mode, input, &mut kept) {
@@ -119,25 +147,24 @@ fn run_first<Input: Stream, P: Parser<Input>, O: Drop, W: Drop, M: ParseMode>(
 #[inline(always)]
 fn run_later<Input: Stream, P: Parser<Input>, S: Parser<Input>, M: ParseMode>(
     separator: &mut S,
-    part: &mut Optional<P>,
+    part: &mut P,
     mode: M,
-    kept: PairStateOf<Input, S, Optional<P>>,
+    kept: PairStateOf<Input, S, P>,
     input: &mut Input,
     state: &mut SeparatedState<S::Output, S::PartialState, P::PartialState>,
 ) -> ParseResult<Option<P::Output>, Input::Error>
-    requires lawful { S.lawful separator.old × P.lawful (within part.old) }
+    requires lawful { S.lawful separator.old × P.lawful part.old }
     requires valid { pair_valid S.valid P.valid kept }
     requires starts { M.first mode ≡ true → pair_begins S.PartialState.is_default kept }
-    ensures lawful { S.lawful separator.new × P.lawful (within part.new) }
-    ensures parts { MeansSame (S.meaning separator.old) (S.meaning separator.new) × MeansSame (P.meaning (within part.old)) (P.meaning (within part.new)) }
-    ensures same { MeansSame (pair Input.step (S.meaning separator.old) (optional (P.meaning (within part.old)))) (pair Input.step (S.meaning separator.new) (optional (P.meaning (within part.new)))) }
+    ensures lawful { S.lawful separator.new × P.lawful part.new }
+    ensures parts { MeansSame (S.meaning separator.old) (S.meaning separator.new) × MeansSame (P.meaning part.old) (P.meaning part.new) }
+    ensures same { MeansSame (pair Input.step Input.Error.seen (S.meaning separator.old) (optional (P.meaning part.old))) (pair Input.step Input.Error.seen (S.meaning separator.new) (optional (P.meaning part.new))) }
     ensures passes { Passes (Input.marks input.old) (Input.marks input.new) (Input.failures input.old) (Input.failures input.new) }
-    ensures ran { Ran (world Input.step Input.Error.seen Input.steady (pair_begins S.PartialState.is_default)) (pair Input.step (S.meaning separator.old) (optional (P.meaning (within part.old)))) (pair_valid S.valid P.valid) last later_kept
+    ensures ran { Ran (world Input.step Input.Error.seen Input.steady (pair_begins S.PartialState.is_default)) (pair Input.step Input.Error.seen (S.meaning separator.old) (optional (P.meaning part.old))) (pair_valid S.valid P.valid) last later_kept
         false kept state.old state.new (Input.view input.old) (Input.view input.new) (Input.failures input.old) (Input.failures input.new) result }
-    ensures refuses { RefusesCall Input.StreamOnce Input.Error.seen (refuses_closed Input.step Input.Error.seen P.PartialState.is_default (S.meaning separator.old) (S.refuses separator.old) (P.meaning (within part.old)) (P.refuses (within part.old))) (M.first mode) kept input.old input.new result }
 {
     let mut left = PairState::default();
-    match parse_pair(separator, part, mode, input, kept, &mut left) {
+    match parse_pair::<Input, S, P, Perhaps, M>(separator, part, mode, input, kept, &mut left) {
         ParseResult::CommitOk(pair) => {
             let (_separator, value) = pair;
             ParseResult::CommitOk(value)
@@ -168,15 +195,13 @@ impl<Input: Stream, P: Parser<Input>, S: Parser<Input>> Turn<Input> for Ended<P,
 
     ghost valid = { separated_valid P.valid (pair_valid S.valid P.valid) };
 
-    ghost meaning = { λ p. first_then some_of last (P.meaning (ended_part p)) (pair Input.step (S.meaning (closer_of p)) (optional (P.meaning (ended_part p)))) };
+    ghost meaning = { λ p. first_then some_of last (P.meaning (ended_part p)) (pair Input.step Input.Error.seen (S.meaning (closer_of p)) (optional (P.meaning (ended_part p)))) };
 
-    ghost again = { λ p. later_turn last (pair Input.step (S.meaning (closer_of p)) (optional (P.meaning (ended_part p)))) };
+    ghost again = { λ p. later_turn last (pair Input.step Input.Error.seen (S.meaning (closer_of p)) (optional (P.meaning (ended_part p)))) };
 
     ghost ending = { is_none };
 
     ghost gives = { λ _. Unit {0} };
-
-    ghost refuses = { λ p. refuses_ended Input.step Input.Error.seen P.PartialState.is_default S.Parser P.Parser (closer_of p) (ended_part p) };
 
     #[inline(always)]
     fn parse_turn<M: ParseMode>(
@@ -200,10 +225,10 @@ impl<Input: Stream, P: Parser<Input>, S: Parser<Input>> Turn<Input> for Ended<P,
                 );
             }
             let kept = P::PartialState::default();
-            return run_first(&mut self.part.0, FirstMode, kept, input, state);
+            return run_first(&mut self.part, FirstMode, kept, input, state);
         }
         match given.into_place() {
-            TurnPlace::First(kept) => run_first(&mut self.part.0, mode, kept, input, state),
+            TurnPlace::First(kept) => run_first(&mut self.part, mode, kept, input, state),
             TurnPlace::Later(kept) => run_later(
                 &mut self.separator,
                 &mut self.part,
@@ -216,7 +241,7 @@ impl<Input: Stream, P: Parser<Input>, S: Parser<Input>> Turn<Input> for Ended<P,
     }
 
     fn add_error(&mut self, error: &mut Tracked<Input::Error>) {
-        self.part.0.add_error(error);
+        self.part.add_error(error);
     }
 
     #[inline(always)]
@@ -229,9 +254,9 @@ impl<Input: Stream, P: Parser<Input>, S: Parser<Input>> Turn<Input> for Ended<P,
 
     ghost default_valid = { λ s d. separated_default P.PartialState.is_default P.valid (pair_valid S.valid P.valid) P.default_valid s d };
 
-    ghost laws = { λ p l. then_is_turn some_of last (P.laws (ended_part p) l.1) (pair_is_meaning Input.step (S.laws (closer_of p) l.0) (optional_is_meaning _ P.valid (P.meaning (ended_part p)) (P.laws (ended_part p) l.1))) };
+    ghost laws = { λ p l. then_is_turn some_of last (P.laws (ended_part p) l.1) (pair_is_meaning Input.step Input.Error.seen (S.laws (closer_of p) l.0) (optional_is_meaning _ P.valid (P.meaning (ended_part p)) (P.laws (ended_part p) l.1))) };
 
-    ghost once = { λ p l d. ended_once Input.step P.valid S.valid (P.meaning (ended_part p)) (S.meaning (closer_of p)) (P.single (ended_part p) l.1 d.1) (S.single (closer_of p) l.0 d.0) };
+    ghost once = { λ p l d. ended_once Input.step Input.Error.seen P.valid S.valid (P.meaning (ended_part p)) (S.meaning (closer_of p)) (P.single (ended_part p) l.1 d.1) (S.single (closer_of p) l.0 d.0) };
 
     ghost gives_only = { λ p l. gives_any };
 }

@@ -11,7 +11,6 @@ ghost use Rattle.combine_repeat_sep_end.specs.SepEndParsers.{sep_end_by_of, sep_
 pub mod types;
 
 use crate::ended::Ended;
-use combine_token::choice::optional;
 use std::alloc::Global;
 use std::marker::PhantomData;
 use types::{SepEndBy, SepEndBy1};
@@ -24,7 +23,7 @@ pub fn sep_end_by<F, P, S>(alloc: Global, parser: P, separator: S) -> SepEndBy<F
     SepEndBy {
         alloc,
         turn: Ended {
-            part: optional(parser),
+            part: parser,
             separator,
         },
         collects: PhantomData,
@@ -41,7 +40,7 @@ pub fn sep_end_by1<F, P, S>(alloc: Global, parser: P, separator: S) -> SepEndBy1
     SepEndBy1 {
         alloc,
         turn: Ended {
-            part: optional(parser),
+            part: parser,
             separator,
         },
         collects: PhantomData,

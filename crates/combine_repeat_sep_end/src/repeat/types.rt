@@ -1,7 +1,6 @@
 //! The parsers that the functions of this module answer.
 ghost use Rattle.combine_repeat_sep.specs.Pair.{pair_valid};
 ghost use Rattle.combine_repeat_sep.specs.Separated.{separated_default, separated_fresh, separated_valid};
-ghost use Rattle.combine_repeat_sep_end.specs.EndedRefusals.{refuses_sep_end};
 ghost use Rattle.combine_repeat_sep_end.specs.SepEnd.{sep_end_by, sep_end_by1, sep_end_is_meaning, sep_end_means_one};
 ghost use Rattle.combine_repeat_sep_end.specs.SepEndParsers.{ended_by_part, ended_by_separator, ended_by1_part, ended_by1_separator};
 ghost use Rattle.combine_repeat_turns.specs.Bounded.{begun_valid, running_turn};
@@ -44,17 +43,15 @@ impl<Input: Stream, P: Parser<Input>, S: Parser<Input>, F: Append<P::Output>> Pa
 
     ghost valid = { λ s. separated_valid P.valid (pair_valid S.valid P.valid) (running_turn s) };
 
-    ghost meaning = { λ p. sep_end_by Input.step (appended F.held F.none F.more F.lean) (P.meaning (ended_by_part p)) (S.meaning (ended_by_separator p)) };
+    ghost meaning = { λ p. sep_end_by Input.step Input.Error.seen (appended F.held F.none F.more F.lean) (P.meaning (ended_by_part p)) (S.meaning (ended_by_separator p)) };
 
     ghost parts = { λ _. 1 };
 
-    ghost refuses = { λ p. refuses_sep_end Input.step Input.Error.seen P.PartialState.is_default S.Parser P.Parser (Joined 0 None) (ended_by_part p) (ended_by_separator p) };
-
     ghost default_valid = { begun_valid (separated_fresh P.PartialState.is_default) (separated_valid P.valid (pair_valid S.valid P.valid)) (separated_default P.PartialState.is_default P.valid (pair_valid S.valid P.valid) P.default_valid) };
 
-    ghost laws = { λ p l. sep_end_is_meaning Input.step (Joined 0 None) (appended F.held F.none F.more F.lean) P.PartialState.is_default P.valid S.PartialState.is_default S.valid (P.meaning (ended_by_part p)) (S.meaning (ended_by_separator p)) (P.laws (ended_by_part p) l.1) (S.laws (ended_by_separator p) l.0) };
+    ghost laws = { λ p l. sep_end_is_meaning Input.step Input.Error.seen (Joined 0 None) (appended F.held F.none F.more F.lean) P.PartialState.is_default P.valid S.PartialState.is_default S.valid (P.meaning (ended_by_part p)) (S.meaning (ended_by_separator p)) (P.laws (ended_by_part p) l.1) (S.laws (ended_by_separator p) l.0) };
 
-    ghost single = { λ p l d. sep_end_means_one Input.step (Joined 0 None) (appended F.held F.none F.more F.lean) P.valid S.valid (P.meaning (ended_by_part p)) (S.meaning (ended_by_separator p)) (P.single (ended_by_part p) l.1 d.1) (S.single (ended_by_separator p) l.0 d.0) };
+    ghost single = { λ p l d. sep_end_means_one Input.step Input.Error.seen (Joined 0 None) (appended F.held F.none F.more F.lean) P.valid S.valid (P.meaning (ended_by_part p)) (S.meaning (ended_by_separator p)) (P.single (ended_by_part p) l.1 d.1) (S.single (ended_by_separator p) l.0 d.0) };
 
     #[inline(always)]
     fn parse_mode<M: ParseMode>(
@@ -78,7 +75,7 @@ impl<Input: Stream, P: Parser<Input>, S: Parser<Input>, F: Append<P::Output>> Pa
     /// What the parser of the elements adds.
     #[inline]
     fn add_error(&mut self, error: &mut Tracked<Input::Error>) {
-        self.turn.part.0.add_error(error);
+        self.turn.part.add_error(error);
     }
 
     /// It counts as one parser.
@@ -114,17 +111,15 @@ impl<Input: Stream, P: Parser<Input>, S: Parser<Input>, F: Append<P::Output>> Pa
 
     ghost valid = { λ s. separated_valid P.valid (pair_valid S.valid P.valid) (running_turn s) };
 
-    ghost meaning = { λ p. sep_end_by1 Input.step (appended F.held F.none F.more F.lean) (P.meaning (ended_by1_part p)) (S.meaning (ended_by1_separator p)) };
+    ghost meaning = { λ p. sep_end_by1 Input.step Input.Error.seen (appended F.held F.none F.more F.lean) (P.meaning (ended_by1_part p)) (S.meaning (ended_by1_separator p)) };
 
     ghost parts = { λ _. 1 };
 
-    ghost refuses = { λ p. refuses_sep_end Input.step Input.Error.seen P.PartialState.is_default S.Parser P.Parser (Joined 1 None) (ended_by1_part p) (ended_by1_separator p) };
-
     ghost default_valid = { begun_valid (separated_fresh P.PartialState.is_default) (separated_valid P.valid (pair_valid S.valid P.valid)) (separated_default P.PartialState.is_default P.valid (pair_valid S.valid P.valid) P.default_valid) };
 
-    ghost laws = { λ p l. sep_end_is_meaning Input.step (Joined 1 None) (appended F.held F.none F.more F.lean) P.PartialState.is_default P.valid S.PartialState.is_default S.valid (P.meaning (ended_by1_part p)) (S.meaning (ended_by1_separator p)) (P.laws (ended_by1_part p) l.1) (S.laws (ended_by1_separator p) l.0) };
+    ghost laws = { λ p l. sep_end_is_meaning Input.step Input.Error.seen (Joined 1 None) (appended F.held F.none F.more F.lean) P.PartialState.is_default P.valid S.PartialState.is_default S.valid (P.meaning (ended_by1_part p)) (S.meaning (ended_by1_separator p)) (P.laws (ended_by1_part p) l.1) (S.laws (ended_by1_separator p) l.0) };
 
-    ghost single = { λ p l d. sep_end_means_one Input.step (Joined 1 None) (appended F.held F.none F.more F.lean) P.valid S.valid (P.meaning (ended_by1_part p)) (S.meaning (ended_by1_separator p)) (P.single (ended_by1_part p) l.1 d.1) (S.single (ended_by1_separator p) l.0 d.0) };
+    ghost single = { λ p l d. sep_end_means_one Input.step Input.Error.seen (Joined 1 None) (appended F.held F.none F.more F.lean) P.valid S.valid (P.meaning (ended_by1_part p)) (S.meaning (ended_by1_separator p)) (P.single (ended_by1_part p) l.1 d.1) (S.single (ended_by1_separator p) l.0 d.0) };
 
     #[inline(always)]
     fn parse_mode<M: ParseMode>(
@@ -148,7 +143,7 @@ impl<Input: Stream, P: Parser<Input>, S: Parser<Input>, F: Append<P::Output>> Pa
     /// What the parser of the elements adds.
     #[inline]
     fn add_error(&mut self, error: &mut Tracked<Input::Error>) {
-        self.turn.part.0.add_error(error);
+        self.turn.part.add_error(error);
     }
 
     /// It counts as one parser.

@@ -1,0 +1,46 @@
+use Rattle.std.proofs.Common.{refl, ◌∙◌}
+use Rattle.combine_base.specs.declared.stream.Kind.TheVariants as kinds
+use Rattle.combine_base.proofs.Calls.{refusal_unreset}
+use Rattle.combine_token.specs.Optional.{optional_means_same}
+use Rattle.combine_token.proofs.Optionals.{optional_ok, optional_peek_ok, optional_err, optional_none}
+use Rattle.combine_repeat_sep_end.proofs.Perhaps.{explained_fault, explained_none, explained_own, explained_some}
+use Rattle.combine_repeat_sep_end.proofs.ended.PerhapsBehind.parse_behind.Goals as goal
+
+pub returns-in-CommitOk-clause-answers : goal.returns-in-CommitOk-clause-answers
+returns-in-CommitOk-clause-answers g c = optional_ok _ _ _ _ c.in-CommitOk.ensures.answers
+
+pub returns-in-PeekOk-clause-answers : goal.returns-in-PeekOk-clause-answers
+returns-in-PeekOk-clause-answers g c = optional_peek_ok _ _ _ _ c.in-PeekOk.ensures.answers
+
+pub returns-in-CommitErr-clause-answers : goal.returns-in-CommitErr-clause-answers
+returns-in-CommitErr-clause-answers g c = optional_err _ _ _ _ c.in-CommitErr.ensures.answers
+
+pub returns-in-Ok-clause-answers : goal.returns-in-Ok-clause-answers
+returns-in-Ok-clause-answers g c =
+    let n = c.in-Ok.ensures.to.is in
+    let stands = g.met.Input.ResetStream.lasts _ _ _ _ c.parse_mode.ensures.passes.marks c.checkpoint-start.ensures.stands in
+    optional_none _ _ _ _ _ _ (n.0 _ stands) n.1 c.in-PeekErr.ensures.answers
+
+pub returns-clause-answers : goal.returns-clause-answers
+returns-clause-answers g c = refusal_unreset _ _ _ _ _ _ _ c.in-PeekErr.ensures.answers _ c.in-Err.ensures.to.is c.parse_mode.ensures.passes.resets refl refl (λ s. s) _ c.new_error.ensures.kind
+
+pub returns-in-CommitOk-clause-same : goal.returns-in-CommitOk-clause-same
+returns-in-CommitOk-clause-same g c = optional_means_same _ _ c.parse_mode.ensures.same
+
+pub returns-in-PeekOk-clause-same : goal.returns-in-PeekOk-clause-same
+returns-in-PeekOk-clause-same g c = optional_means_same _ _ c.parse_mode.ensures.same
+
+pub returns-in-CommitErr-clause-same : goal.returns-in-CommitErr-clause-same
+returns-in-CommitErr-clause-same g c = optional_means_same _ _ c.parse_mode.ensures.same
+
+pub returns-in-Ok-clause-same : goal.returns-in-Ok-clause-same
+returns-in-Ok-clause-same g c = optional_means_same _ _ c.parse_mode.ensures.same
+
+pub returns-clause-same : goal.returns-clause-same
+returns-clause-same g c = optional_means_same _ _ c.parse_mode.ensures.same
+
+pub returns-in-CommitErr-clause-explained : goal.returns-in-CommitErr-clause-explained
+returns-in-CommitErr-clause-explained g c = explained_own g.Input.Error.ParseError.seen (g.P.Parser.meaning c.args.part.now) c.in-CommitErr.ensures.refuses
+
+pub returns-clause-explained : goal.returns-clause-explained
+returns-clause-explained g c = explained_fault g.Input.Error.ParseError.seen kinds.Reset (c.new_error.ensures.kind ∙ c.in-Err.ensures.to.is.0) tt
