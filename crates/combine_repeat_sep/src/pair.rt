@@ -136,14 +136,7 @@ pub fn parse_pair<
 
 /// Goes on with the part, from its start, where the separator has accepted. `kept` is the state that it left.
 #[inline(always)]
-fn parse_rest<
-    Input: Stream,
-    O: Drop,
-    W: Drop,
-    P: Parser<Input>,
-    B: Behind<Input, P>,
-    M: ParseMode,
->(
+fn parse_rest<Input: Stream, O: Drop, W: Drop, P: Parser<Input>, B: Behind<Input, P>, M: ParseMode>(
     answer: ParseResult<O, Input::Error>,
     kept: W,
     part: &mut P,
@@ -174,14 +167,7 @@ fn parse_rest<
 
 /// Runs the part, from what is kept of it, where the separator gave a value. A peeked refusal is put back to where the part began, and explained by it. Need of more is kept in `state`, which every other answer leaves as it was.
 #[inline(always)]
-fn parse_part<
-    Input: Stream,
-    O: Drop,
-    W: Drop,
-    P: Parser<Input>,
-    B: Behind<Input, P>,
-    M: ParseMode,
->(
+fn parse_part<Input: Stream, O: Drop, W: Drop, P: Parser<Input>, B: Behind<Input, P>, M: ParseMode>(
     value: O,
     committed: bool,
     kept: P::PartialState,
