@@ -38,9 +38,9 @@ module _ {P T R E V S S' : Type 0} where
 module _ {P T R E V S S' : Type 0} (errors : Errors T R P E) (cmp : P → P → Ordering) where
   -- the errors from a kept state; a second that the call comes to begins afresh
   abbrev pub or_refuses_from : Meaning P T R E V S → Meaning P T R E V S' → OrState S S' → Refusing P T E
-  or_refuses_from a b Peek v w k e = RefusesOr errors cmp a.refuses b.refuses v w k e
-  or_refuses_from a b (A s) v w k e = RefusesOr errors cmp (a.refuses_from s) b.refuses v w k e
-  or_refuses_from a b (B t) v w k e = b.refuses_from t v w k e
+  or_refuses_from a b Peek = RefusesOr errors cmp a.refuses b.refuses
+  or_refuses_from a b (A s) = RefusesOr errors cmp (a.refuses_from s) b.refuses
+  or_refuses_from a b (B t) = b.refuses_from t
 
   -- the first that isn't refused peeked; from a kept state the running alternative goes on
   abbrev pub either_of : Meaning P T R E V S → Meaning P T R E V S' → Meaning P T R E V (OrState S S')

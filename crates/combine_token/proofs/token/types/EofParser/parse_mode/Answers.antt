@@ -4,7 +4,7 @@ use Rattle.combine_token.proofs.OneToken.{takes}
 use Rattle.combine_token.proofs.token.types.EofParser.parse_mode.Goals as goal
 
 pub returns-clause-answers : goal.returns-clause-answers
-returns-clause-answers g c = takes _ _ ends_there _ _ _ tt _ c.one_token.ensures.reads (λ i o e. e.1)
+returns-clause-answers g c = takes _ _ _ ends_there _ _ _ tt _ c.one_token.ensures.reads (λ i o e. e.1)
 
 pub returns-clause-same : goal.returns-clause-same
 returns-clause-same g c = same_none _

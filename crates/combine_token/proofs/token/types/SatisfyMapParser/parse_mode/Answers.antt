@@ -3,7 +3,7 @@ use Rattle.combine_token.proofs.OneToken.{takes}
 use Rattle.combine_token.proofs.token.types.SatisfyMapParser.parse_mode.Goals as goal
 
 pub returns-clause-answers : goal.returns-clause-answers
-returns-clause-answers g c = takes _ _ _ _ _ _ tt _ c.token_map.ensures.reads (λ i o e. e)
+returns-clause-answers g c = takes _ _ _ _ _ _ _ tt _ c.token_map.ensures.reads (λ i o e. e)
 
 pub returns-clause-same : goal.returns-clause-same
 returns-clause-same g c = same_none _

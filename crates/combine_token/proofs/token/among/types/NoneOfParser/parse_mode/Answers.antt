@@ -9,7 +9,7 @@ pub returns-clause-same : goal.returns-clause-same
 returns-clause-same g c = same_none _
 
 pub returns-clause-answers : goal.returns-clause-answers
-returns-clause-answers g c = takes_if _ _ (beside g.T.Clone.is_clone g.T.IntoIterator.into_iter_gives g.T.IntoIter.Iterator.next_gives c.args.self.now.tokens g.Input.Token.PartialEq.eq) _ _ _ tt _ c.token_if.ensures.reads (λ t b e. (c.into_iter-items.result, record { clone = c.in-Ok.list; is_clone = c.in-Ok.ensures.cases; made = c.into_iter-items.ensures.into_iter_gives }, e))
+returns-clause-answers g c = takes_if _ _ _ (beside g.T.Clone.is_clone g.T.IntoIterator.into_iter_gives g.T.IntoIter.Iterator.next_gives c.args.self.now.tokens g.Input.Token.PartialEq.eq) _ _ _ tt _ c.token_if.ensures.reads (λ t b e. (c.into_iter-items.result, record { clone = c.in-Ok.list; is_clone = c.in-Ok.ensures.cases; made = c.into_iter-items.ensures.into_iter_gives }, e))
 
 pub returns-clause-refuses : goal.returns-clause-refuses
 returns-clause-refuses g c = c.token_if.ensures.refuses

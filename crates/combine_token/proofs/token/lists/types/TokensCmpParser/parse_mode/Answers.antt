@@ -6,7 +6,7 @@ pub returns-clause-same : goal.returns-clause-same
 returns-clause-same g c = same_none _
 
 pub returns-clause-answers : goal.returns-clause-answers
-returns-clause-answers g c = answers_cloned _ _ _ _ _ _ _ _ c.match_list.ensures.answers
+returns-clause-answers g c = answers_cloned _ _ _ _ _ _ _ _ _ _ c.match_list.ensures.answers
 
 pub returns-clause-refuses : goal.returns-clause-refuses
 returns-clause-refuses g c = c.match_list.ensures.refuses
