@@ -6,7 +6,7 @@ use Rattle.combine_base.specs.Error.Items.{Item}
 use Rattle.combine_base.specs.Error.Errors.{Errors, New}
 use Rattle.combine_base.specs.Parser.Answer.{World}
 use Rattle.combine_base.specs.Parser.Meaning.{begun_refuses}
-use Rattle.combine_base.specs.Parser.Reasons.{Reasoned}
+use Rattle.combine_base.specs.Parser.Reasons.{Reasoned, ReasonedCall}
 use Rattle.combine_base.proofs.Progress.{takes_open}
 use Rattle.combine_base.specs.declared.error.Info.{Info}
 use Rattle.combine_base.specs.declared.stream.Kind.{Kind}
@@ -15,11 +15,11 @@ use Rattle.combine_base.specs.declared.stream.Failures.{Failures}
 use Rattle.combine_base.specs.declared.error.ParseResult.{ParseResult}
 use Rattle.combine_base.specs.declared.error.ParseResult.TheVariants.{CommitOk, PeekOk, CommitErr, PeekErr}
 use Rattle.combine_token.specs.ListAnswers.{Accepted, FindsNone, Mismatch}
-use Rattle.combine_token.specs.Reasons.{RefusesList, SaysEnded, peeked_only, refuses_next}
+use Rattle.combine_token.specs.Reasons.{RefusesList, SaysEnded, begins_at, peeked_only, refuses_next}
 use Rattle.combine_token.specs.TokenLists.{TokenList, stops}
 use Rattle.combine_token.specs.TokenListLaws.{token_list}
 use Rattle.combine_token.proofs.ListAnswered.{stops_at_end, stops_at_token}
-use Rattle.combine_token.proofs.Matches.{Arrived, begins_at}
+use Rattle.combine_token.proofs.Matches.{Arrived}
 use Rattle.combine_base.proofs.Reasoning.{reasons_ok, reasons_peek_ok, reasons_committed, reasons_fault, reasons_into}
 
 -- a clone that finds no memory is no refusal
@@ -29,21 +29,16 @@ accepted_reasons kind is_open says gives infallible committed (PeekOk v) h = rea
 accepted_reasons kind is_open says gives infallible committed (CommitErr e) h = reasons_fault kind is_open says e kinds.Memory h.is.0 tt
 accepted_reasons kind is_open says gives infallible committed (PeekErr t) h = absurd h.is
 
--- a call that begins so refuses so
-refuses_list : {P T R V S E : Type 0} (s : Errors T R P E) (l : TokenList T) (expected : Option (Info T R)) (gives : V → Type 0) (matched : S → ℕ) (lean : Type 0) (adds : List (Item T R) → Type 0) (first : Bool) (state : S) (v w : View P T) (committed : Bool) (e : E) → RefusesList s l expected (begins_at matched first state) v w committed e → begun_refuses (token_list s l expected gives matched lean adds) first state v w committed e
-refuses_list s l expected gives matched lean adds true state v w committed e p = p
-refuses_list s l expected gives matched lean adds false state v w committed e p = p
-
 -- the match has come to place n, where an item stands
 module _ {P T R V S E : Type 0} (w : World P T S E) (s : Errors T R P E) (l : TokenList T) (expected : Option (Info T R)) (gives : V → Type 0) (matched : S → ℕ) (lean : Type 0) (adds : List (Item T R) → Type 0) (first : Bool) (state : S) (n : ℕ) (old now : View P T) (before later : Failures) (q : Arrived w s l expected gives matched lean adds first state n old now before later) (h : l.has n) (new : View P T) where
   abbrev says : Bool → E → Type 0
-  says = begun_refuses (token_list s l expected gives matched lean adds) first state old new
+  says = RefusesList s l expected (begins_at matched first state) old new
 
   same_rest : now.unread ≡ drop q.progress.count old.unread
   same_rest = ap (λ (v : View P T). v.unread) q.progress.taken.rest
 
   refused_there : (committed : Bool) (e : E) → stops l n now.is_open now.unread → committed ≡ nat_lt 0 n → refuses_next s old.position expected now.unread committed e → says committed e
-  refused_there committed e k i r = refuses_list s l expected gives matched lean adds first state old new committed e (record {
+  refused_there committed e k i r = record {
     count = q.progress.count;
     has = subst l.has q.place h;
     matched = q.fit;
@@ -53,7 +48,7 @@ module _ {P T R V S E : Type 0} (w : World P T S E) (s : Errors T R P E) (l : To
         subst (λ j. stops l j old.is_open (drop q.progress.count old.unread)) q.place b;
     commits = i ∙ ap (nat_lt 0) q.place;
     says = subst (λ us. refuses_next s old.position expected us committed e) same_rest r;
-  })
+  }
 
   module _ (t : T) (mid : View P T) (middle : Failures) (f : l.fits n t false) (k : TakesToken w.steady w.step now mid later middle t) where
     stopped : stops l n now.is_open now.unread
@@ -94,3 +89,12 @@ module _ {P T R V S E : Type 0} (w : World P T S E) (s : Errors T R P E) (l : To
     unread_reasons kinds.Memory result x o p r = absurd x
     unread_reasons kinds.Reset result x o p r = absurd x
     unread_reasons kinds.Lost result x o p r = absurd x
+
+-- the error of a parser of a list, in its mode
+module _ {P T R V S E : Type 0} (s : Errors T R P E) (l : TokenList T) (expected : Option (Info T R)) (gives : V → Type 0) (matched : S → ℕ) (lean : Type 0) (adds : List (Item T R) → Type 0) (first : Bool) (state : S) where
+  in_mode : (f : Bool) (v w : View P T) (k : Bool) (e : E) → RefusesList s l expected (begins_at matched f state) v w k e → begun_refuses (token_list s l expected gives matched lean adds) f state v w k e
+  in_mode true v w k e p = p
+  in_mode false v w k e p = p
+
+  pub list_reasons : (old new : View P T) (result : ParseResult V E) → Reasoned s.kind new.is_open (RefusesList s l expected (begins_at matched first state) old new) result → ReasonedCall s (token_list s l expected gives matched lean adds) first state old new result
+  list_reasons old new result r k e x = in_mode first old new k e (r k e x)

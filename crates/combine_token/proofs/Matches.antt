@@ -11,6 +11,7 @@ use Rattle.combine_base.proofs.Starting.{progress_here}
 use Rattle.combine_base.specs.declared.stream.Failures.{Failures}
 use Rattle.combine_base.specs.Error.Errors.{Errors}
 use Rattle.combine_base.specs.declared.error.Info.{Info}
+use Rattle.combine_token.specs.Reasons.{begins_at}
 use Rattle.combine_token.specs.TokenLists.{TokenList, EndsOnce, Matched, all_fit, stops, matching_at, matching}
 use Rattle.combine_token.specs.TokenListLaws.{token_list}
 
@@ -64,11 +65,6 @@ module _ {T : Type 0} (l : TokenList T) where
       let d : length (drop c us) ≡ suc (length vs) = ap length e in
       let j : c + 1 ≡ suc c = omega arith in
       record { enough = omega (arith, length-drop c us); each = rw j (next_fits n c us vs t m.each e a) }
-
--- the item that a call begins at
-abbrev pub begins_at : {S : Type 0} → (S → ℕ) → Bool → S → ℕ
-begins_at matched true s = 0
-begins_at matched false s = matched s
 
 module _ {P T R V S E : Type 0} (w : World P T S E) (errors : Errors T R P E) (l : TokenList T) (expected : Option (Info T R)) (gives : V → Type 0) (matched : S → ℕ) (lean : Type 0) (adds : List (Item T R) → Type 0) (first : Bool) (state : S) where
   -- a call has come to the item at place n, and each token that it took fits its item

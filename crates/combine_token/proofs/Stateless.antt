@@ -3,7 +3,9 @@ use Rattle.std.proofs.Common.{ℕ, ◌≡◌, List, [], Bool, true, false, lengt
 use Rattle.combine_base.specs.Stream.View.{View, advanced}
 use Rattle.combine_base.specs.Error.Items.{Item}
 use Rattle.combine_base.specs.Parser.Outcome.{Outcome, Accepted, Refused, Undecided}
-use Rattle.combine_base.specs.Parser.Meaning.{Reading, Refusing, begun}
+use Rattle.combine_base.specs.Parser.Meaning.{Reading, Refusing, begun, begun_refuses}
+use Rattle.combine_base.specs.Error.Errors.{Errors}
+use Rattle.combine_base.specs.Parser.Reasons.{Reasoned, ReasonedCall}
 use Rattle.combine_base.specs.Parser.Answer.{Resumes, Run, World, Answers, Accepts, Refuses, Asks, ends, fails, peeks, loses}
 use Rattle.combine_base.proofs.Progress.{takes_none, resumes_none}
 use Rattle.combine_base.specs.declared.stream.Kind.{Kind}
@@ -98,3 +100,12 @@ module _ {P T R R' A S E : Type 0} (w : World P T S E) (a b : Reading P T A) (h 
   answers_too (PeekOk v) p = record { is = accepts v false p.is }
   answers_too (CommitErr e) p = record { is = failing (w.kind e) p.is }
   answers_too (PeekErr e) p = record { is = peeking (w.kind e.error) p.is }
+
+-- the errors of a call, whatever its mode
+module _ {P T R A S E : Type 0} (errors : Errors T R P E) (read : Reading P T A) (keeps lean : Type 0) (adds : List (Item T R) → Type 0) (refuses : Refusing P T E) (first : Bool) (s : S) where
+  in_mode : (f : Bool) (v w : View P T) (k : Bool) (e : E) → refuses v w k e → begun_refuses (stateless read keeps lean adds refuses) f s v w k e
+  in_mode true v w k e x = x
+  in_mode false v w k e x = x
+
+  pub stateless_reasons : (old new : View P T) (result : ParseResult A E) → Reasoned errors.kind new.is_open (refuses old new) result → ReasonedCall errors (stateless read keeps lean adds refuses) first s old new result
+  stateless_reasons old new result r k e x = in_mode first old new k e (r k e x)

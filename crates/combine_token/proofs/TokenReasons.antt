@@ -1,9 +1,10 @@
 -- the error of a refusal where one token was read
-use Rattle.std.proofs.Common.{◌≡◌, List, [], ◌∷◌, Bool, refl}
+use Rattle.std.proofs.Common.{Option, ◌≡◌, List, [], ◌∷◌, Bool, refl}
 use Rattle.combine_base.specs.Stream.View.{View}
 use Rattle.combine_base.specs.Stream.Calls.{no_token}
 use Rattle.combine_base.specs.Error.Errors.{Errors, New}
-use Rattle.combine_base.specs.Parser.Reasons.{Reasoned}
+use Rattle.combine_base.specs.Error.Items.{Item}
+use Rattle.combine_base.specs.Parser.Reasons.{Reasoned, ReasonedCall}
 use Rattle.combine_base.specs.Refusals.{NoToken, SaysEnd}
 use Rattle.combine_base.specs.declared.stream.Kind.{Kind}
 use Rattle.combine_base.specs.declared.stream.Kind.TheVariants as kinds
@@ -11,7 +12,9 @@ use Rattle.combine_base.specs.declared.stream.Failures.{Failures}
 use Rattle.combine_base.specs.declared.error.Tracked.{Tracked}
 use Rattle.combine_base.specs.declared.error.ParseResult.{ParseResult}
 use Rattle.combine_base.specs.declared.error.ParseResult.TheVariants.{CommitOk, PeekOk, CommitErr, PeekErr}
+use Rattle.combine_token.specs.OneToken.{one_token, takes_one}
 use Rattle.combine_token.specs.Reasons.{RefusesToken}
+use Rattle.combine_token.proofs.Stateless.{stateless_reasons}
 use Rattle.combine_base.proofs.Reasoning.{reasons_fault, reasons_peeked, reasons_unended}
 
 module _ {P T R B E : Type 0} (s : Errors T R P E) (old new : View P T) where
@@ -34,3 +37,7 @@ module _ {P T R B E : Type 0} (s : Errors T R P E) (old new : View P T) where
   refused_unread steady step before after kinds.Memory x n e i = absurd x
   refused_unread steady step before after kinds.Reset x n e i = absurd x
   refused_unread steady step before after kinds.Lost x n e i = absurd x
+
+-- the error of a parser of one token, whatever its mode
+pub token_reasons : {P T R B S E : Type 0} (errors : Errors T R P E) (f : Option T → Option B → Type 0) (lean : Type 0) (adds : List (Item T R) → Type 0) (first : Bool) (s : S) (old new : View P T) (result : ParseResult B E) → Reasoned errors.kind new.is_open (RefusesToken errors old new) result → ReasonedCall errors (takes_one errors f lean adds) first s old new result
+token_reasons errors f lean adds = stateless_reasons errors (one_token f) (Unit {0}) lean adds (RefusesToken errors)

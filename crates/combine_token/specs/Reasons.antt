@@ -57,6 +57,11 @@ module _ {T R P E : Type 0} (s : Errors T R P E) where
     pub commits : committed ≡ nat_lt 0 (n + count)
     pub says : refuses_next v.position expected (drop count v.unread) committed e
 
+-- the item that a call begins at, in its mode
+abbrev pub begins_at : {S : Type 0} → (S → ℕ) → Bool → S → ℕ
+begins_at matched true s = 0
+begins_at matched false s = matched s
+
 module _ {T R P E : Type 0} (s : Errors T R P E) (cmp : P → P → Ordering) where
   module _ (first second : Refusing P T E) (v w : View P T) where
     -- both were refused peeked, the second from where the first had begun, and their errors are merged in order
