@@ -2,7 +2,7 @@
 use Rattle.std.proofs.Common.{ℕ, ◌+◌, ◌<◌, ◌≤◌, ◌≡◌, arith, Bool, true, false, ◌||◌, ap, refl, sym, ◌∙◌}
 use Rattle.combine_base.specs.Stream.View.{View, Takes, Moves}
 use Rattle.combine_base.specs.Parser.Outcome.{Outcome, Refused}
-use Rattle.combine_base.specs.Parser.Meaning.{Meaning, Reading, MeansSame, begun}
+use Rattle.combine_base.specs.Parser.Meaning.{Meaning, MeansSame, begun}
 use Rattle.combine_base.specs.Parser.Answer.{Run, World, Answers, Accepts, Refuses}
 use Rattle.combine_base.proofs.Calls.{peeked_refusal, need_of_more, same_mark}
 use Rattle.combine_base.proofs.Progress.{takes_none, takes_more}
@@ -14,7 +14,7 @@ use Rattle.combine_base.specs.declared.error.Tracked.{Tracked}
 use Rattle.combine_base.specs.declared.error.ParseResult.{ParseResult}
 use Rattle.combine_base.specs.declared.error.ParseResult.TheVariants.{CommitErr, PeekErr}
 use Rattle.combine_repeat_turns.specs.Turns.{Collecting}
-use Rattle.combine_repeat_turns.specs.Turn.{called, TurnsSame}
+use Rattle.combine_repeat_turns.specs.Turn.{Start, TurnsSame, called}
 use Rattle.combine_repeat_turns.specs.Bounded.{cut_at, goes_at, limit, next_of, so_far}
 use Rattle.combine_repeat_turns.specs.OneTurn.{IsGathered, Judged, OneTurn, IsOver, Ended, PutBack, NeedsMore, HasFailed, InTurn, TakesNothing, Unstored, Untold, Unreset, halted, Ran, then_left}
 use Rattle.combine_repeat_turns.specs.declared.turns.Bounds.{Bounds}
@@ -26,16 +26,16 @@ use Rattle.combine_repeat_turns.specs.declared.turns.Stop.TheVariants as stop
 use Rattle.combine_repeat_turns.specs.declared.turns.Turns.{Turns as Kept}
 
 module _ {P T R E A S : Type 0} where
-  pub turns_same_none : (m : Meaning P T R E A S) (a : Reading P T A) → TurnsSame m a m a
-  turns_same_none m a = record { meaning = same_none m; later = λ v o. (λ p. p, λ p. p) }
+  pub turns_same_none : (m : Meaning P T R E A S) (a : Start P T E A) → TurnsSame m a m a
+  turns_same_none m a = record { meaning = same_none m; later = record { reads = λ v o. (λ p. p, λ p. p); refuses = λ v w k e. (λ p. p, λ p. p) } }
 
-  pub turns_same_more : (m : Meaning P T R E A S) (a : Reading P T A) (m' : Meaning P T R E A S) (a' : Reading P T A) (n : Meaning P T R E A S) (b : Reading P T A) → TurnsSame m a m' a' → TurnsSame m' a' n b → TurnsSame m a n b
-  turns_same_more m a m' a' n b h k = record { meaning = same_more m m' n h.meaning k.meaning; later = λ v o. (λ p. (k.later v o).0 ((h.later v o).0 p), λ p. (h.later v o).1 ((k.later v o).1 p)) }
+  pub turns_same_more : (m : Meaning P T R E A S) (a : Start P T E A) (m' : Meaning P T R E A S) (a' : Start P T E A) (n : Meaning P T R E A S) (b : Start P T E A) → TurnsSame m a m' a' → TurnsSame m' a' n b → TurnsSame m a n b
+  turns_same_more m a m' a' n b h k = record { meaning = same_more m m' n h.meaning k.meaning; later = record { reads = λ v o. (λ p. (k.later.reads v o).0 ((h.later.reads v o).0 p), λ p. (h.later.reads v o).1 ((k.later.reads v o).1 p)); refuses = λ v w i e. (λ p. (k.later.refuses v w i e).0 ((h.later.refuses v w i e).0 p), λ p. (h.later.refuses v w i e).1 ((k.later.refuses v w i e).1 p)) } }
 
 -- turns that mean the same, wherever they begin
-pub called_same : {P T R E A S : Type 0} (m : Meaning P T R E A S) (again : Reading P T A) (m' : Meaning P T R E A S) (again' : Reading P T A) → TurnsSame m again m' again' → (later : Bool) → MeansSame (called m again later) (called m' again' later)
-called_same m again m' again' h true = let x = h.meaning in record { whole = h.later; rest = x.rest; lost = x.lost; keeps = x.keeps; puts_back = x.puts_back; lean = x.lean; adds = x.adds }
-called_same m again m' again' h false = let x = h.meaning in record { whole = x.whole; rest = x.rest; lost = x.lost; keeps = x.keeps; puts_back = x.puts_back; lean = x.lean; adds = x.adds }
+pub called_same : {P T R E A S : Type 0} (m : Meaning P T R E A S) (again : Start P T E A) (m' : Meaning P T R E A S) (again' : Start P T E A) → TurnsSame m again m' again' → (later : Bool) → MeansSame (called m again later) (called m' again' later)
+called_same m again m' again' h true = let x = h.meaning in record { whole = h.later.reads; rest = x.rest; lost = x.lost; keeps = x.keeps; puts_back = x.puts_back; lean = x.lean; adds = x.adds; refuses = h.later.refuses; refuses_from = x.refuses_from }
+called_same m again m' again' h false = let x = h.meaning in record { whole = x.whole; rest = x.rest; lost = x.lost; keeps = x.keeps; puts_back = x.puts_back; lean = x.lean; adds = x.adds; refuses = x.refuses; refuses_from = x.refuses_from }
 
 module _ {P T R A S E : Type 0} (w : World P T S E) (b : Bounds) (ending : A → Bool) (m : Meaning P T R E A S) where
   pub judged_by : (r : Run P T S) (place : Place) (x : A × Bool) (a : A) (k goes i : Bool) → x ≡ (a, k) → Accepts w m r a k → ending x.0 ≡ false → ((n : ℕ) → Takes w.step n r.old r.new → goes ≡ goes_at b place n x.1) → goes ≡ i → Judged w b ending m r place x i

@@ -175,13 +175,14 @@ into_of s s' h = record { reads = λ v o. (h.reads v o).0; refuses = λ v w k e.
 back_of : {P T E A : Type 0} (s s' : Start P T E A) → StartsSame s s' → StartsInto s' s
 back_of s s' h = record { reads = λ v o. (h.reads v o).1; refuses = λ v w k e. (h.refuses v w k e).1 }
 
-module _ {P T R E A V S : Type 0} (step : P → T → P) (errors : Errors T R P E) (b : Bounds) (ending : A → Bool) (c : Collecting A V) (start : SoFar Place c.Held) where
+module _ {P T R E A : Type 0} (step : P → T → P) (errors : Errors T R P E) (b : Bounds) (ending : A → Bool) where
   onward_same : (later later' : Start P T E A) → StartsSame later later' → (s s' : Start P T E A) → StartsSame s s' → (g : Place) (before : Bool) → SameReasons (RefusesOnward step errors b ending later s g before) (RefusesOnward step errors b ending later' s' g before)
   onward_same later later' h s s' k g before v w j e = (
     onward_into step errors b ending later later' (into_of later later' h) s s' (into_of s s' k) g before v w j e,
     onward_into step errors b ending later' later (back_of later later' h) s' s (back_of s s' k) g before v w j e,
   )
 
+module _ {P T R E A V S : Type 0} (step : P → T → P) (errors : Errors T R P E) (b : Bounds) (ending : A → Bool) (c : Collecting A V) (start : SoFar Place c.Held) where
   pub turns_is_meaning : (fresh valid : S → Type 0) (m : Meaning P T R E A S) (again : Start P T E A) → IsTurn fresh valid m again → IsMeaning (fresh_turns fresh) (λ s. valid (running_turn s)) (turns_from step errors b ending c start m again)
   turns_is_meaning fresh valid m again t =
       let h = t.meaning in
@@ -203,7 +204,7 @@ module _ {P T R E A V S : Type 0} (step : P → T → P) (errors : Errors T R P 
       finding s v d = t.meaning.found s.running v d.1
 
       reasoning : (s : TurnsState V S) → fresh_turns fresh s → SameReasons ((turns_from step errors b ending c start m again).refuses_from s) (turns_from step errors b ending c start m again).refuses
-      reasoning s d = rw d.0 (onward_same again again (record { reads = λ v o. (λ q. q, λ q. q); refuses = λ v w k e. (λ q. q, λ q. q) }) (from_state m s.running) (from_start m) (record { reads = λ v o. t.meaning.start s.running v o d.1; refuses = t.meaning.reasons s.running d.1 }) start.mark start.committed)
+      reasoning s d = rw d.0 (onward_same step errors b ending again again (record { reads = λ v o. (λ q. q, λ q. q); refuses = λ v w k e. (λ q. q, λ q. q) }) (from_state m s.running) (from_start m) (record { reads = λ v o. t.meaning.start s.running v o d.1; refuses = t.meaning.reasons s.running d.1 }) start.mark start.committed)
 
   pub turns_means_one : (valid : S → Type 0) (m : Meaning P T R E A S) (again : Start P T E A) → TurnsOnce valid ending m again → MeansOne (λ (s : TurnsState V S). valid (running_turn s)) (turns_from step errors b ending c start m again)
   turns_means_one valid m again h = record {
@@ -220,8 +221,8 @@ module _ {P T R E A V S : Type 0} (step : P → T → P) (errors : Errors T R P 
     puts_back = (λ b. b, λ b. b);
     lean = (λ l. (h.lean.0 l.0, l.1), λ l. (h.lean.1 l.0, l.1));
     adds = h.adds;
-    refuses = onward_same again again' t.later (from_start m) (from_start m') (record { reads = h.whole; refuses = h.refuses }) start.mark start.committed;
-    refuses_from = λ s. onward_same again again' t.later (from_state m (running_turn s)) (from_state m' (running_turn s)) (record { reads = h.rest (running_turn s); refuses = h.refuses_from (running_turn s) }) (so_far_or start c.held s.earlier).mark (so_far_or start c.held s.earlier).committed;
+    refuses = onward_same step errors b ending again again' t.later (from_start m) (from_start m') (record { reads = h.whole; refuses = h.refuses }) start.mark start.committed;
+    refuses_from = λ s. onward_same step errors b ending again again' t.later (from_state m (running_turn s)) (from_state m' (running_turn s)) (record { reads = h.rest (running_turn s); refuses = h.refuses_from (running_turn s) }) (so_far_or start c.held s.earlier).mark (so_far_or start c.held s.earlier).committed;
   }
     where
       h : MeansSame m m'

@@ -3,12 +3,13 @@ use Rattle.std.specs.Prelude.{◌≡◌, List, [], ◌∷◌, Bool, true, false,
 use Rattle.combine_base.specs.Error.Errors.{Errors, Only}
 use Rattle.combine_base.specs.Error.Items.{Count, Fixed, Message}
 use Rattle.combine_base.specs.Parser.Judged.{IsRefusal}
+use Rattle.combine_base.specs.Parser.Meaning.{Meaning, begun_refuses}
 use Rattle.combine_base.specs.Parser.Outcome.{Outcome, Accepted}
 use Rattle.combine_base.specs.Refusals.{Saying}
 use Rattle.combine_base.specs.Stream.View.{View, advanced}
 use Rattle.combine_base.specs.declared.stream.Kind.TheVariants as kinds
 use Rattle.combine_repeat_turns.specs.Bounded.{enough, full_at, goes_at, judged, missing, next_of, owns}
-use Rattle.combine_repeat_turns.specs.Turn.{Start}
+use Rattle.combine_repeat_turns.specs.Turn.{Start, started}
 use Rattle.combine_repeat_turns.specs.Turns.{Block, Goes, outcome}
 use Rattle.combine_repeat_turns.specs.declared.turns.Bounds.{Bounds}
 use Rattle.combine_repeat_turns.specs.declared.turns.First.{First as FirstDone}
@@ -37,7 +38,8 @@ module _ {P T R A E : Type 0} (step : P → T → P) (errors : Errors T R P E) (
     -- it is accepted, and takes nothing
     Idle : (is : committed ≡ true) (value : A) (count : ℕ) (kind : Bool) (accepted : s.reads v (Accepted value count kind)) (on : ending value ≡ false) (nothing : goes_at b g count kind ≡ false) (told : Saying errors kinds.Refused v.position (Only (Message (Fixed (codes "repetition takes nothing")))) e) → RefusesHere s g v w committed e
 
-  here_into : (s s' : Start P T E A) → StartsInto s s' → (g : Place) (v w : View P T) (committed : Bool) (e : E) → RefusesHere s g v w committed e → RefusesHere s' g v w committed e
+  -- the same of a start whose outcomes and errors are all those of another
+  pub here_into : (s s' : Start P T E A) → StartsInto s s' → (g : Place) (v w : View P T) (committed : Bool) (e : E) → RefusesHere s g v w committed e → RefusesHere s' g v w committed e
   here_into s s' i g v w committed e (Own is r) = Own is (i.refuses v w true e r)
   here_into s s' i g v w committed e (Missing is few owned r) = Missing is few owned (i.refuses v w false e r)
   here_into s s' i g v w committed e (Few is few other own r told) = Few is few other own (i.refuses v w false own r) told
@@ -81,9 +83,10 @@ module _ {P T R A E : Type 0} (step : P → T → P) (errors : Errors T R P E) (
       pub record StepRefuses (result : Step V E) : Type 0 where
         pub is : step_refuses result
 
-  -- what a turn stops with that is refused peeked with that error, its start at that position, by the view that the refusal left and that which is left at last
-  pub record JudgesRefusal {V : Type 0} (turns : Kept V) (position : P) (own : E) (left new : View P T) (result : Stop V E) : Type 0 where
-    pub is : (s : Start P T E A) (v : View P T) → v.position ≡ position → s.refuses v left false own → StopRefuses s v new turns result
+-- what a turn stops with that is refused peeked with that error, its start at that position, by the view that the refusal left and that which is left at last
+module _ {P T R A V S E : Type 0} (step : P → T → P) (errors : Errors T R P E) (b : Bounds) (ending : A → Bool) (m : Meaning P T R E A S) where
+  pub record JudgesRefusal (turns : Kept V) (position : P) (own : E) (left new : View P T) (result : Stop V E) : Type 0 where
+    pub is : (first : Bool) (s : S) (v : View P T) → v.position ≡ position → begun_refuses m first s v left false own → StopRefuses step errors b ending (started m first s) v new turns result
 
 -- which errors the first turn may have, where it makes what is gathered
 module _ {P T R A V E : Type 0} (errors : Errors T R P E) (s : Start P T E A) (v w : View P T) where

@@ -448,7 +448,7 @@ fn judge_refusal<G: Gather<P::Value>, Input: Stream, P: Turn<Input>, B: Bounded>
         Answers (world Input.step Input.Error.seen Input.steady P.Running.is_default) (called (P.meaning p) (P.again p) later) r (PeekErr refusal) →
         halted (world Input.step Input.Error.seen Input.steady P.Running.is_default) (B.bounds bounds) P.ending (gathered G.held G.none G.more G.lean) (called (P.meaning p) (P.again p) later)
         (then_left r (Input.view input.new) (Input.failures input.new)) turns result }
-    ensures refuses { JudgesRefusal Input.step Input.Error.seen (B.bounds bounds) P.ending turns position refusal.error (Input.view input.old) (Input.view input.new) result }
+    ensures refuses { (p : P) (later : Bool) → JudgesRefusal Input.step Input.Error.seen (B.bounds bounds) P.ending (called (P.meaning p) (P.again p) later) turns position refusal.error (Input.view input.old) (Input.view input.new) result }
 {
     if is_enough(bounds, turns.place) {
         if let Err(kind) = input.reset(since) {
