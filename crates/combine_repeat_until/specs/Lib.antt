@@ -11,15 +11,14 @@ pub use Rattle.combine_combinator.specs.Picks
 pub use Rattle.combine_token.specs.Or
 pub use Rattle.combine_token.specs.TokenParsers
 pub use Rattle.combine_repeat_turns.specs.CountsCompared
-pub use Rattle.combine_repeat_turns.specs.RefusesAlike
 pub use Rattle.combine_repeat_turns.specs.Turn
 pub use Rattle.combine_repeat_turns.specs.Turns
 pub mod Until
+pub mod UntilMeaning
 pub mod UntilLaws
 pub mod UntilTurn
 pub mod UntilErrors
 pub mod Mute
 pub mod Next
 pub mod UntilParsers
-pub mod PlaceErrors
 pub mod UntilCompared
