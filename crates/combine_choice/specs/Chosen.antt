@@ -218,14 +218,14 @@ module _ {X P T R E V S : Type 0} (errors : Errors T R P E) (cmp : P → P → O
 
   tried_same : (xs ys : List X) → AllSame m xs ys → SameReasons (tried_refuses errors cmp m (λ x. (m x).refuses) xs) (tried_refuses errors cmp m (λ x. (m x).refuses) ys)
   tried_same [] [] h v w k e = (λ p. p, λ p. p)
-  tried_same [] (y ∷ ys) h = absurd h
-  tried_same (x ∷ xs) [] h = absurd h
+  tried_same [] (y ∷ ys) h v w k e = absurd h
+  tried_same (x ∷ xs) [] h v w k e = absurd h
   tried_same (x ∷ xs) (y ∷ ys) h v w k e = firsts_same ((m x).refuses) ((m y).refuses) h.0.refuses xs ys h.1 v w k e
 
   on_same : (all all' : List X) → AllSame m all all' → (xs ys : List X) → AllSame m xs ys → (s : S) → SameReasons (on_refuses errors cmp m all xs s) (on_refuses errors cmp m all' ys s)
   on_same all all' i [] [] h s v w k e = tried_same all all' i v w k e
-  on_same all all' i [] (y ∷ ys) h s = absurd h
-  on_same all all' i (x ∷ xs) [] h s = absurd h
+  on_same all all' i [] (y ∷ ys) h s v w k e = absurd h
+  on_same all all' i (x ∷ xs) [] h s v w k e = absurd h
   on_same all all' i (x ∷ xs) (y ∷ ys) h s v w k e = firsts_same ((m x).refuses_from s) ((m y).refuses_from s) (h.0.refuses_from s) xs ys h.1 v w k e
 
   reasons_same : (xs ys : List X) → AllSame m xs ys → (s : SliceState S) → SameReasons (chosen_refuses errors cmp m xs s) (chosen_refuses errors cmp m ys s)

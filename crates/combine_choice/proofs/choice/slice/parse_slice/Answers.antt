@@ -1,4 +1,4 @@
-use Rattle.std.proofs.Common.{◌≡◌, ◌<◌, length, arith, rules, refl}
+use Rattle.std.proofs.Common.{◌≡◌, ◌<◌, [], length, arith, rules, refl}
 use Rattle.combine_base.specs.Parser.Answer.{world}
 use Rattle.combine_base.specs.Parser.Meaning.{IsMeaning}
 use Rattle.combine_token.proofs.Choosing.{tries_answers}
@@ -7,7 +7,7 @@ use Rattle.combine_choice.proofs.Listed.{drop_within}
 use Rattle.combine_choice.proofs.SliceCalls.{afresh, begins_first, begins_kept}
 use Rattle.combine_choice.specs.declared.choice.slice.SliceState.TheVariants.{Peek}
 use Rattle.combine_base.proofs.Reasoning.{reasons_into}
-use Rattle.combine_choice.proofs.MergedErrors.{start_afresh, start_kept}
+use Rattle.combine_choice.proofs.MergedErrors.{empty_reasons, start_afresh, start_kept}
 use Rattle.combine_choice.proofs.choice.slice.parse_slice.Goals as goal
 
 pub returns-in-At-clause-same : goal.returns-in-At-clause-same
@@ -43,3 +43,8 @@ pub returns-in-Peek-clause-refuses : goal.returns-in-Peek-clause-refuses
 returns-in-Peek-clause-refuses g c =
     let on = rw (c.in-Peek.is, c.replace-kept.ensures.value) at c.running.ensures.is in
     reasons_into _ _ _ _ _ (start_afresh _ _ g.P.Parser.meaning _ _ _ _ _ on) c.choose.ensures.refuses
+
+pub returns-then-is_empty-clause-refuses : goal.returns-then-is_empty-clause-refuses
+returns-then-is_empty-clause-refuses g c =
+    let none : c.args.alternatives.now ≡ [] = search (rules, arith) in
+    empty_reasons g.Input.Error.ParseError.seen g.Input.Position.Ord.cmp g.P.Parser.meaning _ _ (g.M.ParseMode.first c.args.mode) c.args.state.now none _ c.no_alternative.ensures
