@@ -5,7 +5,6 @@ use Rattle.combine_base.specs.Stream.View.{View, advanced}
 use Rattle.combine_base.specs.Error.Errors.{Errors, IsFault, New, Only}
 use Rattle.combine_base.specs.Error.Items.{Item, end_of_input}
 use Rattle.combine_base.specs.Parser.Drivers.{Broke}
-use Rattle.combine_base.specs.Parser.Mapped.{mapped}
 use Rattle.combine_base.specs.Parser.Meaning.{Meaning, Reading, Refusing, begun_refuses}
 use Rattle.combine_base.specs.Parser.Reasons.{Reasoned}
 use Rattle.combine_base.specs.Refusals.{NoToken, Saying, SaysEnd}
@@ -17,6 +16,7 @@ use Rattle.combine_base.specs.declared.error.Tracked.{Tracked}
 use Rattle.combine_base.specs.declared.error.ParseResult.{ParseResult}
 use Rattle.combine_base.specs.declared.error.ParseResult.TheVariants.{CommitOk, PeekOk, CommitErr, PeekErr}
 use Rattle.combine_token.specs.Reasons.{refuses_one}
+use Rattle.combine_token.specs.Stateless.{stateless}
 use Rattle.combine_stream.specs.Ranges.{size_of, Place, Inside, Longest, Stays, UnconsRange, no_range}
 use Rattle.combine_stream.specs.RangeFacts.{place_at_zero}
 use Rattle.combine_range.specs.Beginnings.{Reaches}
@@ -149,13 +149,19 @@ module _ {T R P Q E : Type 0} (s : Errors T R P E) (steady : Type 0) (step : P �
       reasons_none s differing old.position steady step size spells old new before after w.items (λ q u e h. record { peeked = refl; back = q; differs = No u; says = h }) why result (subst (λ m. UnconsRange steady step size spells old new before after m (Err why)) i u)
 
 -- the errors of a call that begins behind so many items
-module _ {P T R A E : Type 0} (size : T → ℕ) (read : ℕ → Reading P T A) (adds : List (Item T R) → Type 0) (says : ℕ → Refusing P T E) (d : ℕ) (first : Bool) (state : Distance) (i : d ≡ (if first then 0 else state.items)) where
-  pub kept_begun : (old new : View P T) (k : Bool) (e : E) → says d old new k e → begun_refuses (kept size read adds says) first state old new k e
-  kept_begun old new k e p = by_first first i
+module _ {P T R V E : Type 0} (size : T → ℕ) (read : ℕ → Reading P T R) (adds : List (Item T R) → Type 0) (says : ℕ → Refusing P T E) (d : ℕ) (first : Bool) (state : Distance) (i : d ≡ (if first then 0 else state.items)) (old new : View P T) where
+  pub kept_reasons : {kind : E → Kind} {is_open : Bool} {result : ParseResult V E} → Reasoned kind is_open (says d old new) result → Reasoned kind is_open (begun_refuses (kept size read adds says) first state old new) result
+  kept_reasons {kind} {is_open} {result} h = by_first first i
     where
-      by_first : (b : Bool) → d ≡ (if b then 0 else state.items) → begun_refuses (kept size read adds says) b state old new k e
-      by_first true i = subst (λ n. says n old new k e) i p
-      by_first false i = subst (λ n. says n old new k e) i p
+      by_first : (b : Bool) → d ≡ (if b then 0 else state.items) → Reasoned kind is_open (begun_refuses (kept size read adds says) b state old new) result
+      by_first true i = subst (λ n. Reasoned kind is_open (says n old new) result) i h
+      by_first false i = subst (λ n. Reasoned kind is_open (says n old new) result) i h
+
+-- the errors of a parser that keeps no state
+module _ {P T R V S E : Type 0} (read : Reading P T R) (keeps lean : Type 0) (adds : List (Item T R) → Type 0) (says : Refusing P T E) (state : S) (old new : View P T) where
+  pub stateless_reasons : (first : Bool) {kind : E → Kind} {is_open : Bool} {result : ParseResult V E} → Reasoned kind is_open (says old new) result → Reasoned kind is_open (begun_refuses (stateless read keeps lean adds says) first state old new) result
+  stateless_reasons true h = h
+  stateless_reasons false h = h
 
 module _ {T R P E : Type 0} (s : Errors T R P E) (size : T → ℕ) (own : ℕ → Refusing P T E) (d : ℕ) (old new : View P T) where
   -- an error of its own
@@ -208,8 +214,3 @@ module _ {P T V R S E : Type 0} (s : Errors T R P E) (size : T → ℕ) (spells 
           place = subst (λ n. Place size old.unread n count) i place;
           refuses = subst (λ v. m.refuses_from state.part v new k e) there (subst (λ h. m.refuses_from h now new k e) same p);
         }) }
-
--- of a call of a part whose value is changed
-pub begun_mapped : {P T R E A B S : Type 0} (m : Meaning P T R E A S) (f : A → B → Type 0) (first : Bool) (s : S) (v w : View P T) (k : Bool) (e : E) → begun_refuses m first s v w k e → begun_refuses (mapped m f) first s v w k e
-begun_mapped m f true s v w k e p = p
-begun_mapped m f false s v w k e p = p
