@@ -18,25 +18,25 @@ use Rattle.combine_nested.specs.declared.nested.steps.NestedState.TheVariants as
 abbrev pub Tells : {T R P E : Type 0} → Errors T R P E → P → List ℕ → E → Type 0
 Tells errors place text e = Saying errors kinds.Refused place (Only (Message (Fixed text))) e
 
-module _ {P T R F I V N U E : Type 0} (step : P → T → P) (errors : Errors T R P E) (depth : ℕ) (roots : F → Type 0) (answers : F → N → Type 0) (takes : F → I → Next F V → Type 0) (joins : F → V → Next F V → Type 0) (means : N → Meaning P T R E I U) where
-  -- A message at a place, where nothing more is taken.
-  pub record RefusesTelling (place : P) (text : List ℕ) (c : Bool) (v w : View P T) (k : Bool) (e : E) : Type 0 where
-    pub commits : k ≡ c
-    pub stays : w ≡ v
-    pub tells : Tells errors place text e
+-- a refusal with a message at a place, committed or not, where nothing more is taken
+pub record RefusesTelling {T R P E : Type 0} (errors : Errors T R P E) (place : P) (text : List ℕ) (c : Bool) (v w : View P T) (k : Bool) (e : E) : Type 0 where
+  pub commits : k ≡ c
+  pub stays : w ≡ v
+  pub tells : Tells errors place text e
 
+module _ {P T R F I V N U E : Type 0} (step : P → T → P) (errors : Errors T R P E) (depth : ℕ) (roots : F → Type 0) (answers : F → N → Type 0) (takes : F → I → Next F V → Type 0) (joins : F → V → Next F V → Type 0) (means : N → Meaning P T R E I U) where
   module _ (again : Bool → F → List F → Refusing P T E) where
     -- the next step refuses; or no token was taken, with as many frames as there were
     abbrev pub goes_refuses : P → Bool → Bool → F → List F → Refusing P T E
     goes_refuses place true c f fs v w k e = again c f fs v w k e
-    goes_refuses place false c f fs v w k e = RefusesTelling place (codes "repetition takes nothing") true v w k e
+    goes_refuses place false c f fs v w k e = RefusesTelling errors place (codes "repetition takes nothing") true v w k e
 
     -- what became of the frames refuses, after a step that began at a place, on so many frames round the innermost
     abbrev pub ended_refuses : P → ℕ → Bool → Bool → Ends F V → Refusing P T E
     ended_refuses place h took c (Opened f fs) v w k e = goes_refuses place (took || nat_lt (length fs) h) c f fs v w k e
     ended_refuses place h took c (Closed a) v w k e = ⊥
-    ended_refuses place h took c (Denied text) v w k e = RefusesTelling place text c v w k e
-    ended_refuses place h took c TooDeep v w k e = RefusesTelling place (codes "nesting too deep") true v w k e
+    ended_refuses place h took c (Denied text) v w k e = RefusesTelling errors place text c v w k e
+    ended_refuses place h took c TooDeep v w k e = RefusesTelling errors place (codes "nesting too deep") true v w k e
 
     -- The step's parser is accepted, and what comes of its item refuses. It took a token before, or not; c says whether a step before was committed.
     pub record RefusesItem (r : Reading P T I) (begun c : Bool) (f : F) (fs : List F) (v w : View P T) (k : Bool) (e : E) : Type 0 where

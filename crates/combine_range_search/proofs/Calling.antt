@@ -142,8 +142,8 @@ module _ {P T R Q E : Type 0} (w : World P T Distance E) (size : T → ℕ) (fil
     -- the error where what stands before the place is no range
     pub found_says : (seen : Errors T R P E) (v : View P T) → v ≡ mid → (u : lengths.Unfit size spells i mid) (x : E) → reasons.length_says seen size spells r.old.position i mid u x → RefusesSearch seen w.step size spells s d r.old v false x
     unfolding found beyond torn
-    found_says seen v q (lengths.Short l o) x h = record { unfit = Short (beyond l) (sym is_open ∙ o) refl; leaves = q ∙ p.is.2.taken.rest; says = h }
-    found_says seen v q (lengths.Split l) x h = record { unfit = Inner (torn l) refl; leaves = q ∙ p.is.2.taken.rest; says = h }
+    found_says seen v y (lengths.Short l o) x h = record { unfit = Short (beyond l) (sym is_open ∙ o) refl; leaves = y ∙ p.is.2.taken.rest; says = h }
+    found_says seen v y (lengths.Split l) x h = record { unfit = Inner (torn l) refl; leaves = y ∙ p.is.2.taken.rest; says = h }
 
     module _ (v : View P T) (h : Failures) (k : Kind) (u : UnconsRange w.steady w.step size spells mid v g h i (Err k)) where
       pub found_waits : (state : Distance) (result : ParseResult R E) → k ≡ kinds.End → v.is_open ≡ true → (Takes w.step p.is.0 r.old v → KeepsDistance w.steady w.step size r.old r.new h r.after p.is.0 w.kind state r.left result) → w.fresh state → r.before.reads ≤ h.reads → r.before.resets ≤ h.resets → Answers w (kept size (searching size spells s) adds says) r result
