@@ -33,6 +33,7 @@ module _ {P T R A B S S' E : Type 0} (w : World P T S E) (m : Meaning P T R E A 
       by_left (inl q) = rw q.1 (h p.stopped q.2)
       by_left (inr q) = rw q.1 d
 
+module _ {P T R A B S S' E : Type 0} (w : World P T S E) (m : Meaning P T R E A S) (valid : S → Type 0) (f : A → B) (keep : S → S') where
   -- its errors are those of the call
   pub ran_reasons : {first : Bool} {state : S} {start left : S'} {old new : View P T} {before after : Failures} {result : ParseResult B E} → Ran w m valid f keep first state start left old new before after result → Reasoned w.kind new.is_open (begun_refuses m first state old new) result
   ran_reasons {first} {state} {old = old} {new = new} p = rw p.is (by_case p.answer p.refuses)

@@ -3,7 +3,7 @@ use Rattle.combine_base.specs.declared.stream.Kind.TheVariants as kinds
 use Rattle.combine_base.proofs.Calls.{refusal_unreset}
 use Rattle.combine_token.specs.Optional.{optional_means_same}
 use Rattle.combine_token.proofs.Optionals.{optional_ok, optional_peek_ok, optional_err, optional_none}
-use Rattle.combine_repeat_sep_end.proofs.Perhaps.{explained_fault, explained_none, explained_own, explained_some}
+use Rattle.combine_repeat_sep_end.proofs.Perhaps.{explained_fault, explained_own}
 use Rattle.combine_repeat_sep_end.proofs.ended.PerhapsBehind.parse_behind.Goals as goal
 
 pub returns-in-CommitOk-clause-answers : goal.returns-in-CommitOk-clause-answers
@@ -39,8 +39,17 @@ returns-in-Ok-clause-same g c = optional_means_same _ _ c.parse_mode.ensures.sam
 pub returns-clause-same : goal.returns-clause-same
 returns-clause-same g c = optional_means_same _ _ c.parse_mode.ensures.same
 
+pub returns-in-CommitOk-clause-explained : goal.returns-in-CommitOk-clause-explained
+returns-in-CommitOk-clause-explained g c = record { is = tt }
+
+pub returns-in-PeekOk-clause-explained : goal.returns-in-PeekOk-clause-explained
+returns-in-PeekOk-clause-explained g c = record { is = tt }
+
+pub returns-in-Ok-clause-explained : goal.returns-in-Ok-clause-explained
+returns-in-Ok-clause-explained g c = record { is = tt }
+
 pub returns-in-CommitErr-clause-explained : goal.returns-in-CommitErr-clause-explained
 returns-in-CommitErr-clause-explained g c = explained_own g.Input.Error.ParseError.seen (g.P.Parser.meaning c.args.part.now) c.in-CommitErr.ensures.refuses
 
 pub returns-clause-explained : goal.returns-clause-explained
-returns-clause-explained g c = explained_fault g.Input.Error.ParseError.seen kinds.Reset (c.new_error.ensures.kind ∙ c.in-Err.ensures.to.is.0) tt
+returns-clause-explained g c = explained_fault g.Input.Error.ParseError.seen kinds.Reset (c.new_error.ensures.kind ∙ c.in-Err.ensures.to.is.0) (λ r. r)
