@@ -1,4 +1,4 @@
-use Rattle.std.proofs.Common.{ap, drop, sym, refl, ◌∙◌, arith}
+use Rattle.std.proofs.Common.{◌≡◌, ap, drop, sym, refl, ◌∙◌, arith}
 use Rattle.std.proofs.lemmas.Bool.{false≢true}
 use Rattle.combine_base.specs.Error.Errors.{Nothing}
 use Rattle.combine_base.specs.Stream.View.{View, advanced}
