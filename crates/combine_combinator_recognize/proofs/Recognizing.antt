@@ -31,7 +31,7 @@ part_valid {F} {S} {fresh} {valid} {first} {given} {s} h r v = by_mode first r
     by_mode false r = subst (HasValid valid) (sym (r.kept refl)) v
 
 -- the errors of refusals are those of the part
-module _ {P T R A S E F Held : Type 0} (errors : Errors T R P E) (held : F → Held) (none : Held) (more : Held → T → Held) (lean : Type 0) {fresh valid : S → Type 0} {m : Meaning P T R E A S} (h : IsMeaning fresh valid m) {first : Bool} {given s : RecognizeState F S} (from : RunsFrom (IsFresh fresh) first given s) {old new : View P T} where
+module _ {P T R A S E F Held : Type 0} (errors : Errors T R P E) (held : F → Held) (none : Held) (more : Held → T → Held) (lean : Type 0) {fresh valid : S → Type 0} {m : Meaning P T R E A S} (h : IsMeaning fresh valid m) {first : Bool} {given s : RecognizeState F S} (from : RunsFrom (IsFresh fresh) first given s) (old new : View P T) where
   pub error_reasons : {e : E} → ReasonedCall errors m first s.part old new (CommitErr e) → ReasonedCall errors (recognized held none more lean m) first given old new (CommitErr e)
   error_reasons r = reasoned_in_mode (recognized_is_meaning held none more lean h) errors from (reasoned_error (reasoned_at_rest h errors (λ i. (from.afresh i).1) r))
 
