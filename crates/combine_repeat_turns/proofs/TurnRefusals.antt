@@ -4,7 +4,7 @@ use Rattle.combine_base.specs.Error.Errors.{Errors}
 use Rattle.combine_base.specs.Parser.Answer.{Run, World}
 use Rattle.combine_base.specs.Parser.Judged.{IsRefusal}
 use Rattle.combine_base.specs.Parser.Meaning.{Meaning, MeansSame, begun_refuses}
-use Rattle.combine_base.specs.Parser.Outcome.{Outcome, Accepted}
+use Rattle.combine_base.specs.Parser.Outcome.{Accepted}
 use Rattle.combine_base.specs.Parser.OutcomeFacts.{or_true, or_false}
 use Rattle.combine_base.specs.Parser.Reasons.{ReasonedCall, refused_with}
 use Rattle.combine_base.specs.Sequence.Parts.{accepted_as, refused_as}

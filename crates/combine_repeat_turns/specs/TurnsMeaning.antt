@@ -1,4 +1,5 @@
 -- what bounded turns mean
+use Rattle.std.specs.Prelude.{Bool}
 use Rattle.combine_base.specs.Error.Errors.{Errors}
 use Rattle.combine_base.specs.Parser.Meaning.{Meaning}
 use Rattle.combine_repeat_turns.specs.Bounded.{bounded, running_turn, so_far_or}
@@ -8,7 +9,6 @@ use Rattle.combine_repeat_turns.specs.Turns.{Collecting, SoFar, Turned}
 use Rattle.combine_repeat_turns.specs.declared.turns.Bounds.{Bounds}
 use Rattle.combine_repeat_turns.specs.declared.turns.Place.{Place}
 use Rattle.combine_repeat_turns.specs.declared.turns.TurnsState.{TurnsState}
-use Rattle.std.specs.Prelude.{Bool}
 
 module _ {P T R E A V S : Type 0} (step : P → T → P) (errors : Errors T R P E) (b : Bounds) (ending : A → Bool) (c : Collecting A V) where
   -- turns that begin so

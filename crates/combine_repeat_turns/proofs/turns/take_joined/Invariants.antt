@@ -1,6 +1,6 @@
 use Rattle.combine_repeat_turns.specs.declared.turns.Earlier.TheVariants.{Nothing}
 use Rattle.combine_repeat_turns.specs.declared.turns.Bounds.TheVariants.{Joined}
-use Rattle.std.proofs.Common.{◌≡◌, ◌+◌, length, true, false, None}
+use Rattle.std.proofs.Common.{◌≡◌, ◌+◌, length, true, None}
 use Rattle.combine_base.specs.Parser.Answer.{world}
 use Rattle.combine_base.specs.Stream.Calls.{Passes}
 use Rattle.combine_repeat_turns.specs.Turn.{TurnsSame, called}
