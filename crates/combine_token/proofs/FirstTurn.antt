@@ -1,6 +1,5 @@
 -- the first alternative ends the choice, or the later ones do
 use Rattle.std.proofs.Common.{◌+◌, ◌<◌, ◌≤◌, ◌≡◌, ◌⊎◌, inr, Bool, true, false, arith, refl, ◌∙◌}
-use Rattle.std.specs.Prelude.{Option}
 use Rattle.combine_base.specs.Stream.View.{View, Moves}
 use Rattle.combine_base.specs.Parser.Meaning.{Meaning, begun_refuses}
 use Rattle.combine_base.specs.Parser.Answer.{Run, World, Answers}

@@ -1,5 +1,5 @@
 -- a choice of the first and of later ones, of what came of the first
-use Rattle.std.proofs.Common.{◌≡◌, Bool, true, false, refl, subst}
+use Rattle.std.proofs.Common.{◌≡◌, Bool, false, refl, subst}
 use Rattle.std.specs.Prelude.{Option, Some, None}
 use Rattle.std.specs.declared.cmp.Ordering.{Ordering}
 use Rattle.combine_base.specs.Stream.View.{View}
@@ -11,11 +11,11 @@ use Rattle.combine_base.proofs.Same.{passes_more, passes_none, same_none}
 use Rattle.combine_base.specs.declared.stream.Failures.{Failures}
 use Rattle.combine_base.specs.declared.error.Tracked.{Tracked}
 use Rattle.combine_base.specs.declared.error.ParseResult.{ParseResult}
-use Rattle.combine_token.specs.Alternatives.{AfterRefusal, PeeksNoFault}
+use Rattle.combine_token.specs.Alternatives.{PeeksNoFault}
 use Rattle.combine_token.proofs.Merging.{no_fault}
 use Rattle.combine_token.specs.Or.{either_of, or_valid, or_means_same}
 use Rattle.combine_token.specs.declared.choice.OrState.{OrState}
-use Rattle.combine_token.specs.declared.choice.OrState.TheVariants.{Peek, A, B}
+use Rattle.combine_token.specs.declared.choice.OrState.TheVariants.{Peek, B}
 use Rattle.combine_token.specs.Chose.{Chose, Followed, Tried}
 use Rattle.combine_token.specs.Turned.{Answered, Ended, Failed, GoesOn, IsFinal, NoFault, Ran, Settled, Settles, begins, turned}
 use Rattle.combine_token.specs.declared.choice.first.Turn.TheVariants.{Ends, Goes}
