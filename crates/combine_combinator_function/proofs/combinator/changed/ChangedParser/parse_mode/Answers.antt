@@ -1,6 +1,7 @@
+use Rattle.combine_base.specs.Parser.Given.{GivesOnly}
 use Rattle.combine_base.proofs.Giving.{good_ok, good_peek_ok}
 use Rattle.combine_combinator_function.specs.Changes.{changed_means_same, spares}
-use Rattle.combine_combinator_function.specs.Parsers.{change_part}
+use Rattle.combine_combinator_function.specs.Parsers.{change_part, changed_part}
 use Rattle.combine_combinator_function.proofs.Changing.{changed_err, changed_peek_err, commit_denial, commit_value, gives_same, part_error, part_refusal, peek_denial, peek_value, value_error, value_refusal}
 use Rattle.combine_combinator_function.proofs.combinator.changed.ChangedParser.parse_mode.Goals as goal
 
@@ -110,20 +111,24 @@ returns-in-Err-change-clause-answers g c =
 pub returns-in-CommitErr-clause-refuses : goal.returns-in-CommitErr-clause-refuses
 returns-in-CommitErr-clause-refuses g c =
     let k = change_part c.args.self.now in
-    part_error g.Input.Error.ParseError.seen g.Input.StreamOnce.step (g.C.Change.gives k) (g.C.Change.denies k) (g.C.Change.says k) _ _ _ _ _ _ _ c.in-CommitErr.ensures.refuses
+    let m = g.P.Parser.meaning (changed_part c.args.self.now) in
+    part_error g.Input.Error.ParseError.seen g.Input.StreamOnce.step (g.C.Change.gives k) (g.C.Change.denies k) (g.C.Change.says k) (GivesOnly g.P.Parser.valid m (spares (g.C.Change.starves k))) m _ _ _ _ _ c.in-CommitErr.ensures.refuses
 
 pub returns-in-PeekErr-clause-refuses : goal.returns-in-PeekErr-clause-refuses
 returns-in-PeekErr-clause-refuses g c =
     let k = change_part c.args.self.now in
-    part_refusal g.Input.Error.ParseError.seen g.Input.StreamOnce.step (g.C.Change.gives k) (g.C.Change.denies k) (g.C.Change.says k) _ _ _ _ _ _ _ c.in-PeekErr.ensures.refuses
+    let m = g.P.Parser.meaning (changed_part c.args.self.now) in
+    part_refusal g.Input.Error.ParseError.seen g.Input.StreamOnce.step (g.C.Change.gives k) (g.C.Change.denies k) (g.C.Change.says k) (GivesOnly g.P.Parser.valid m (spares (g.C.Change.starves k))) m _ _ _ _ _ c.in-PeekErr.ensures.refuses
 
 pub returns-in-Err-clause-refuses : goal.returns-in-Err-clause-refuses
 returns-in-Err-clause-refuses g c =
     let k = change_part c.args.self.now in
-    value_error g.Input.Error.ParseError.seen g.Input.StreamOnce.step (g.C.Change.gives k) (g.C.Change.denies k) (g.C.Change.says k) _ _ _ _ _ _ _ _ _ _ _ _ c.change.ensures.view _ _ _ _ _ (rw c.position-began.ensures at c.in-Err.ensures.changes) c.in-CommitOk.ensures.answers
+    let m = g.P.Parser.meaning (changed_part c.args.self.now) in
+    value_error g.Input.Error.ParseError.seen g.Input.StreamOnce.step (g.C.Change.gives k) (g.C.Change.denies k) (g.C.Change.says k) (GivesOnly g.P.Parser.valid m (spares (g.C.Change.starves k))) m _ _ _ _ _ _ _ _ _ _ c.change.ensures.view _ _ _ _ _ (rw c.position-began.ensures at c.in-Err.ensures.changes) c.in-CommitOk.ensures.answers
 
 pub returns-in-Err-change-clause-refuses : goal.returns-in-Err-change-clause-refuses
 returns-in-Err-change-clause-refuses g c =
     let k = change_part c.args.self.now in
+    let m = g.P.Parser.meaning (changed_part c.args.self.now) in
     let refused = rw c.from.ensures at c.peeked.ensures in
-    value_refusal g.Input.Error.ParseError.seen g.Input.StreamOnce.step (g.C.Change.gives k) (g.C.Change.denies k) (g.C.Change.says k) _ _ _ _ _ _ _ _ _ _ _ _ c.change-in-PeekOk.ensures.view _ _ _ _ _ (rw c.position-began.ensures at c.in-Err-change.ensures.changes) c.in-PeekOk.ensures.answers _ refused
+    value_refusal g.Input.Error.ParseError.seen g.Input.StreamOnce.step (g.C.Change.gives k) (g.C.Change.denies k) (g.C.Change.says k) (GivesOnly g.P.Parser.valid m (spares (g.C.Change.starves k))) m _ _ _ _ _ _ _ _ _ _ c.change-in-PeekOk.ensures.view _ _ _ _ _ (rw c.position-began.ensures at c.in-Err-change.ensures.changes) c.in-PeekOk.ensures.answers _ refused
