@@ -84,13 +84,13 @@ module _ {N Input It I B C H U Checkpoint T R P E : Type 0} (p : parser.Ghosts N
 
   -- what is left refuses so: where the items' turns come, and where an item's parser runs
   abbrev refused_at : Collected C It → List I → Refusing P T E
-  refused_at l xs v w k e = items_refuse i.step answers p.meaning seen xs l.is_begun l.committed v w k e
+  refused_at l xs = items_refuse i.step answers p.meaning seen xs l.is_begun l.committed
 
   abbrev refused_in : RunningItem C It N U → List I → Refusing P T E
-  refused_in l xs v w k e = running_refuses i.step answers p.meaning seen xs l v w k e
+  refused_in l xs = running_refuses i.step answers p.meaning seen xs l
 
   abbrev refused_from : IterateState C It N U → Refusing P T E
-  refused_from z v w k e = RefusesIterated i.step answers p.meaning seen at lists z v w k e
+  refused_from z = RefusesIterated i.step answers p.meaning seen at lists z
 
   -- the call has come so far that the next item's turn comes
   pub record Reaches (z : IterateState C It N U) (old now : View P T) (before later : Failures) (l : Collected C It) : Type 0 where

@@ -78,7 +78,7 @@ module _ {P T R E I N It B C H U : Type 0} (step : P → T → P) (errors : Erro
     puts_back = ⊥;
     lean = ((n : N) → some n → (means n).lean) × spared;
     adds = λ is. is ≡ [];
-    refuses = RefusesIterated step answers means errors at lists states.Start;
+    refuses = RefusesIterated {C = C} step answers means errors at lists states.Start;
     refuses_from = RefusesIterated step answers means errors at lists;
   }
 
