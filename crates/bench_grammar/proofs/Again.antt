@@ -31,14 +31,14 @@ module _ {T R P E : Type 0} (s : Errors T R P E) (lean : Type 0) (adds : List (I
       by_case (inr x) = inr (record { kind = x.kind; position = x.position; memory = λ f l. l })
 
 -- a parser that is run from its start
-module _ {P T R E A S : Type 0} (step : P → T → P) (s : Errors T R P E) (steady : Type 0) (fresh : S → Type 0) (m : Meaning P T R A S) (old new : View P T) (before after : Failures) where
+module _ {P T R E A S : Type 0} (step : P → T → P) (s : Errors T R P E) (steady : Type 0) (fresh : S → Type 0) (m : Meaning P T R E A S) (old new : View P T) (before after : Failures) where
   abbrev w : World P T S E
   w = world step s steady fresh
 
   abbrev w1 : World P T Bool E
   w1 = once_world step s steady
 
-  abbrev whole : Meaning P T R A Bool
+  abbrev whole : Meaning P T R E A Bool
   whole = once {R = R} m.whole
 
   module _ (from to : S) where
@@ -84,7 +84,7 @@ module _ {I P T R E C S V : Type 0} (step : P → T → P) (s : Errors T R P E) 
   abbrev here1 : World P T Bool E
   here1 = once_world step s steady
 
-  abbrev m : Meaning P T R V S
+  abbrev m : Meaning P T R E V S
   m = apart read
 
   abbrev ran : Bool → Bool → Run P T Bool

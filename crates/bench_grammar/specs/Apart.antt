@@ -22,7 +22,7 @@ abbrev pub unless_stopped : {P T V : Type 0} → Reading P T V → Bool → Read
 unless_stopped read true v o = ⊥
 unless_stopped read false v o = read v o
 
-abbrev pub once : {P T R V : Type 0} → Reading P T V → Meaning P T R V Bool
+abbrev pub once : {P T R E V : Type 0} → Reading P T V → Meaning P T R E V Bool
 once read = record { whole = read; rest = unless_stopped read; lost = λ s v. ⊥; keeps = ⊥; puts_back = ⊥; lean = ⊥; adds = Nothing }
 
 module _ {P T R E : Type 0} (step : P → T → P) (errors : Errors T R P E) (steady : Type 0) where
@@ -47,8 +47,8 @@ module _ {P T R E : Type 0} (errors : Errors T R P E) where
     pub same_reference : back.ghost_name ≡ error.ghost_name
 
 -- each call begins again, for which it may take memory
-module _ {P T R V S : Type 0} (read : Reading P T V) where
-  abbrev pub apart : Meaning P T R V S
+module _ {P T R E V S : Type 0} (read : Reading P T V) where
+  abbrev pub apart : Meaning P T R E V S
   apart = stateless read ⊥ ⊥ Anything
 
   pub apart_is_meaning : (fresh valid : S → Type 0) → IsReading read → IsMeaning fresh valid apart

@@ -51,7 +51,7 @@ abbrev pub either : {P T V : Type 0} → Reading P T V → Reading P T V → Rea
 either r q = Either r (Either q refused)
 
 -- A part of which only this is known: what it means from the start. What an operator means from the start depends on no more of its parts.
-abbrev pub known : {P T V : Type 0} → Reading P T V → Meaning P T (Unit {0}) V (Unit {0})
+abbrev pub known : {P T E V : Type 0} → Reading P T V → Meaning P T (Unit {0}) E V (Unit {0})
 known r = record { whole = r; rest = λ s. r; lost = λ s v. ⊥; keeps = Unit {0}; puts_back = Unit {0}; lean = Unit {0}; adds = Nothing }
 
 -- this, or no value

@@ -57,7 +57,7 @@ module _ {P : Type 0} where
     nest k = sequel step second opened (λ b. inside b k)
 
   -- a parser of this byte
-  abbrev of_byte : ℕ → Meaning P ℕ (Unit {0}) ℕ (Unit {0})
+  abbrev of_byte : ℕ → Meaning P ℕ (Unit {0}) E ℕ (Unit {0})
   of_byte b = takes_one (satisfied (of_function (λ t. nat_eq t b))) (Unit {0}) Nothing
 
   -- two bytes, one after the other
@@ -186,9 +186,9 @@ module _ {P : Type 0} where
         let x = last_value opened (λ b. inside step b k) v n i c p in
         inside_few x.0 k _ n x.2 x.4 x.6
 
-    module _ {R S : Type 0} (k : ℕ) where
+    module _ {R E S : Type 0} (k : ℕ) where
       -- each call begins again
-      abbrev pub nesting : Meaning P ℕ R ℕ S
+      abbrev pub nesting : Meaning P ℕ R E ℕ S
       nesting = stateless (nest step k) ⊥ (Unit {0}) Nothing
 
       pub nesting_is_meaning : (fresh valid : S → Type 0) → IsMeaning fresh valid nesting
