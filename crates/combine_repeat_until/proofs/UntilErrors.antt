@@ -1,5 +1,5 @@
 -- the errors of blocks up to a place: each turn goes on to those of the next, and a way out has one of them
-use Rattle.std.proofs.Common.{ℕ, ◌+◌, ◌≤◌, ◌≡◌, ◌⊎◌, inl, inr, List, [], ◌∷◌, Bool, true, false, ◌||◌, ◌&&◌, Option, Some, None, length, ap, arith, sym, subst, refl, ◌∙◌, nat_lt}
+use Rattle.std.proofs.Common.{ℕ, ◌+◌, ◌≤◌, ◌≡◌, ◌⊎◌, inl, inr, List, [], ◌∷◌, Bool, true, false, ◌||◌, ◌&&◌, Option, Some, length, ap, arith, sym, subst, refl, ◌∙◌, nat_lt}
 use Rattle.combine_base.specs.Error.Errors.{Errors}
 use Rattle.combine_base.specs.Distances.{stops}
 use Rattle.combine_base.specs.Parser.Answer.{World, Run, Asks, world}

@@ -1,4 +1,3 @@
-use Rattle.combine_range.specs.Lengths.{taking}
 use Rattle.combine_range.specs.RangeParsers.{take_of}
 use Rattle.combine_range_length_prefix.proofs.Refusing.{same_refusals}
 use Rattle.combine_range_length_prefix.proofs.laws.length_prefix_refuses.Goals as goal
