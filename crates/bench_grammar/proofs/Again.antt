@@ -19,7 +19,7 @@ use Rattle.combine_base.specs.declared.stream.Failures.{Failures}
 use Rattle.combine_base.specs.declared.stream.Kind.{Kind}
 use Rattle.combine_base.specs.declared.stream.Kind.TheVariants as kinds
 use Rattle.combine_token.proofs.Stateless.{asks, into_begun}
-use Rattle.bench_grammar.specs.Apart.{Anything, RunsOnce, apart, once, once_world}
+use Rattle.bench_grammar.specs.Apart.{Anything, RunsOnce, any_error, apart, once, once_world}
 
 -- whatever items were added
 module _ {T R P E : Type 0} (s : Errors T R P E) (lean : Type 0) (adds : List (Item T R) → Type 0) (old new : E) where
@@ -31,15 +31,15 @@ module _ {T R P E : Type 0} (s : Errors T R P E) (lean : Type 0) (adds : List (I
       by_case (inr x) = inr (record { kind = x.kind; position = x.position; memory = λ f l. l })
 
 -- a parser that is run from its start
-module _ {P T R E A S : Type 0} (step : P → T → P) (s : Errors T R P E) (steady : Type 0) (fresh : S → Type 0) (m : Meaning P T R A S) (old new : View P T) (before after : Failures) where
+module _ {P T R E A S : Type 0} (step : P → T → P) (s : Errors T R P E) (steady : Type 0) (fresh : S → Type 0) (m : Meaning P T R E A S) (old new : View P T) (before after : Failures) where
   abbrev w : World P T S E
   w = world step s steady fresh
 
   abbrev w1 : World P T Bool E
   w1 = once_world step s steady
 
-  abbrev whole : Meaning P T R A Bool
-  whole = once {R = R} m.whole
+  abbrev whole : Meaning P T R E A Bool
+  whole = once {R = R} {E = E} m.whole
 
   module _ (from to : S) where
     abbrev part : Run P T S
@@ -84,18 +84,18 @@ module _ {I P T R E C S V : Type 0} (step : P → T → P) (s : Errors T R P E) 
   abbrev here1 : World P T Bool E
   here1 = once_world step s steady
 
-  abbrev m : Meaning P T R V S
+  abbrev m : Meaning P T R E V S
   m = apart read
 
   abbrev ran : Bool → Bool → Run P T Bool
-  ran from to = afresh here1 (once {R = R} read) from to (view input) (view mid) (failures input) (failures mid)
+  ran from to = afresh here1 (once {R = R} {E = E} read) from to (view input) (view mid) (failures input) (failures mid)
 
   abbrev run : View P T → Failures → Run P T S
   run new later = record { first = first; state = state; left = left; old = view input; new = new; before = failures input; after = later }
 
-  as_run : (from to : Bool) → Inside here1 fresh (once {R = R} read) m (ran from to) first state left (view input) (failures input) false read
+  as_run : (from to : Bool) → Inside here1 fresh (once {R = R} {E = E} read) m (ran from to) first state left (view input) (failures input) false read
   as_run from to = record {
-    progress = progress_here here1 _ read (view input) (failures input) (λ v o p. into_begun read ⊥ ⊥ (Anything {R = R}) first state v o p);
+    progress = progress_here here1 _ read (view input) (failures input) (λ v o p. into_begun read ⊥ ⊥ (Anything {R = R}) (any_error {E = E}) first state v o p);
     reads = omega arith;
     resets = omega arith;
     refuses = λ k x. x;
@@ -116,14 +116,14 @@ module _ {I P T R E C S V : Type 0} (step : P → T → P) (s : Errors T R P E) 
   module _ (marked : View P T → Type 0) (i : marked (view input)) (new : View P T) (later : Failures) where
     module _ (e : E) (q : (s.kind e ≡ kinds.End) × ((view mid).is_open ≡ true)) (x : Runs (CommitErr e)) where
       is_open : (view input).is_open ≡ true
-      is_open = sym (same_mark here1 (once {R = R} read) (ran x.answers.state x.answers.left) e x.answers.answers) ∙ q.1
+      is_open = sym (same_mark here1 (once {R = R} {E = E} read) (ran x.answers.state x.answers.left) e x.answers.answers) ∙ q.1
 
-      asked : Asks here1 (once {R = R} read) (ran x.answers.state x.answers.left)
-      asked = need_of_more here1 (once {R = R} read) (ran x.answers.state x.answers.left) e q.0 is_open x.answers.answers
+      asked : Asks here1 (once {R = R} {E = E} read) (ran x.answers.state x.answers.left)
+      asked = need_of_more here1 (once {R = R} {E = E} read) (ran x.answers.state x.answers.left) e q.0 is_open x.answers.answers
 
       put_back : ResetTo steady step marked (view mid) new (failures mid) later (Ok tt) → Answers here m (run new later) (CommitErr e)
       put_back b =
-          let a = asks here read ⊥ ⊥ (Anything {R = R}) (run new later) is_open asked.meant (λ z. absurd z) (b.is.0 (view input) i) (λ z. b.is.1 z ∙ asked.failures z) in
+          let a = asks here read ⊥ ⊥ (Anything {R = R}) (any_error {E = E}) (run new later) is_open asked.meant (λ z. absurd z) (b.is.0 (view input) i) (λ z. b.is.1 z ∙ asked.failures z) in
           record { is = rw q.0 (subst (ends here m (run new later)) (sym is_open) a) }
 
       stuck : (k : Kind) → ResetTo steady step marked (view mid) new (failures mid) later (Err k) → (f : E) → s.kind f ≡ k → Answers here m (run new later) (CommitErr f)

@@ -5,7 +5,7 @@ use Rattle.combine_base.specs.Error.Errors.{Errors, Nothing, Says}
 use Rattle.combine_base.specs.Error.Items.{Item}
 use Rattle.combine_base.specs.Parser.Answer.{World, world}
 use Rattle.combine_base.specs.Parser.Drivers.{Starts}
-use Rattle.combine_base.specs.Parser.Meaning.{IsMeaning, IsReading, IsSingle, Meaning, MeansOne, Reading}
+use Rattle.combine_base.specs.Parser.Meaning.{IsMeaning, IsReading, IsSingle, Meaning, MeansOne, Reading, Refusing}
 use Rattle.combine_base.specs.Stream.Calls.{Passes}
 use Rattle.combine_base.specs.Stream.View.{View}
 use Rattle.combine_base.specs.declared.error.ParseResult.{ParseResult}
@@ -17,13 +17,17 @@ use Rattle.combine_token.specs.Stateless.{stateless, stateless_is_meaning, state
 abbrev pub Anything : {T R : Type 0} → List (Item T R) → Type 0
 Anything is = Unit {0}
 
+-- whatever error
+abbrev pub any_error : {P T E : Type 0} → Refusing P T E
+any_error v w k e = Unit {0}
+
 -- what is left, unless more was asked for
 abbrev pub unless_stopped : {P T V : Type 0} → Reading P T V → Bool → Reading P T V
 unless_stopped read true v o = ⊥
 unless_stopped read false v o = read v o
 
-abbrev pub once : {P T R V : Type 0} → Reading P T V → Meaning P T R V Bool
-once read = record { whole = read; rest = unless_stopped read; lost = λ s v. ⊥; keeps = ⊥; puts_back = ⊥; lean = ⊥; adds = Nothing }
+abbrev pub once : {P T R E V : Type 0} → Reading P T V → Meaning P T R E V Bool
+once read = record { whole = read; rest = unless_stopped read; lost = λ s v. ⊥; keeps = ⊥; puts_back = ⊥; lean = ⊥; adds = Nothing; refuses = any_error; refuses_from = λ s. any_error }
 
 module _ {P T R E : Type 0} (step : P → T → P) (errors : Errors T R P E) (steady : Type 0) where
   abbrev pub once_world : World P T Bool E
@@ -47,12 +51,12 @@ module _ {P T R E : Type 0} (errors : Errors T R P E) where
     pub same_reference : back.ghost_name ≡ error.ghost_name
 
 -- each call begins again, for which it may take memory
-module _ {P T R V S : Type 0} (read : Reading P T V) where
-  abbrev pub apart : Meaning P T R V S
-  apart = stateless read ⊥ ⊥ Anything
+module _ {P T R E V S : Type 0} (read : Reading P T V) where
+  abbrev pub apart : Meaning P T R E V S
+  apart = stateless read ⊥ ⊥ Anything any_error
 
   pub apart_is_meaning : (fresh valid : S → Type 0) → IsReading read → IsMeaning fresh valid apart
-  apart_is_meaning fresh valid h = stateless_is_meaning fresh valid read ⊥ ⊥ Anything h
+  apart_is_meaning fresh valid h = stateless_is_meaning fresh valid read ⊥ ⊥ Anything any_error h
 
   pub apart_means_one : (valid : S → Type 0) → IsSingle read → MeansOne valid apart
-  apart_means_one valid h = stateless_means_one valid read ⊥ ⊥ Anything h
+  apart_means_one valid h = stateless_means_one valid read ⊥ ⊥ Anything any_error h

@@ -13,16 +13,16 @@ use Rattle.bench_measures.specs.declared.run.Failure.{Failure}
 use Rattle.combine_base.specs.Stream.View.{View}
 
 -- more was asked for after each of some pieces, which with the rest are all bytes
-pub record Fed {P R A S : Type 0} (meaning : P → Meaning ℕ ℕ R A S) (m : Meaning ℕ ℕ R A S) (bytes rest : List ℕ) (c : Course P ℕ S) : Type 0 where
+pub record Fed {P R E A S : Type 0} (meaning : P → Meaning ℕ ℕ R E A S) (m : Meaning ℕ ℕ R E A S) (bytes rest : List ℕ) (c : Course P ℕ S) : Type 0 where
   pub fed : List (List ℕ)
   pub far : SoFar meaning m fed c
   pub all : concatenated fed ++ rest ≡ bytes
 
-module _ {P R A S : Type 0} (meaning : P → Meaning ℕ ℕ R A S) (valid : S → Type 0) (p : P) (bytes : List ℕ) where
+module _ {P R E A S : Type 0} (meaning : P → Meaning ℕ ℕ R E A S) (valid : S → Type 0) (p : P) (bytes : List ℕ) where
   pub none_fed : (determined : P → Type 0) (c : Course P ℕ S) → Begins meaning valid determined None p c → Fed meaning (meaning p) bytes bytes c
   none_fed determined c h = record { fed = []; far = at_first meaning valid determined p c h; all = refl }
 
-  abbrev m : Meaning ℕ ℕ R A S
+  abbrev m : Meaning ℕ ℕ R E A S
   m = meaning p
 
   decision : (x : List ℕ) (a : Answer A UnexpectedParse) → decides m.whole x a → Gives m.whole (record { position = 0; unread = x; is_open = false }) (given a)

@@ -2,6 +2,7 @@
 use Rattle.std.specs.Prelude.{ℕ, ◌+◌, ◌≡◌, ◌⊎◌, ◌||◌, List, [], ◌∷◌, ◌++◌, length, Some, None, false}
 use Rattle.std.specs.Char.{is_ascii_digit, is_ascii_lowercase}
 use Rattle.std.specs.Global.{Vec}
+use Rattle.combine_base.specs.Error.NoItems.{no_items}
 use Rattle.combine_base.specs.Parser.Mapped.{mapped_reading}
 use Rattle.combine_base.specs.Parser.Meaning.{Reading}
 use Rattle.combine_base.specs.Sequence.Longer.{tuple_8}
@@ -54,7 +55,7 @@ module _ (P : Type 0) (step : P → ℕ → P) where
 
   -- a small letter and a digit, four times
   abbrev pub eight : Reading P ℕ (ℕ × ℕ × ℕ × ℕ × ℕ × ℕ × ℕ × ℕ)
-  eight = (tuple_8 step (known letter) (known digit) (known letter) (known digit) (known letter) (known digit) (known letter) (known digit)).whole
+  eight = (tuple_8 step no_items (known letter) (known digit) (known letter) (known digit) (known letter) (known digit) (known letter) (known digit)).whole
 
   abbrev pub tuple_of_8 : Reading P ℕ (Unit {0})
   tuple_of_8 = skipping step eight

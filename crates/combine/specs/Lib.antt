@@ -26,7 +26,6 @@ pub use Rattle.combine_base.specs.Sequence.Meanings
 pub use Rattle.combine_base.specs.Parser.Sessions
 pub use Rattle.combine_base.specs.Stream.Slices
 pub use Rattle.combine_base.specs.Stream.Calls
-pub use Rattle.combine_base.specs.Sequence.TupleRefusals
 pub use Rattle.combine_base.specs.Sequence.Tuples
 pub use Rattle.combine_base.specs.Stream.View
 pub use Rattle.combine_base.specs.Stream.Texts
@@ -91,7 +90,9 @@ pub use Rattle.combine_repeat_turns.specs.OneTurn
 pub use Rattle.combine_repeat_turns.specs.Plain
 pub use Rattle.combine_repeat_turns.specs.Turn
 pub use Rattle.combine_repeat_turns.specs.TurnLaws
+pub use Rattle.combine_repeat_turns.specs.TurnRefusals
 pub use Rattle.combine_repeat_turns.specs.Turns
+pub use Rattle.combine_repeat_turns.specs.TurnsMeaning
 pub use Rattle.combine_token.specs.Chose
 pub use Rattle.combine_choice.specs.ListChoice
 pub use Rattle.combine_choice.specs.Nested
@@ -126,10 +127,13 @@ pub use Rattle.combine_error.specs.Shaped
 pub use Rattle.combine_error.specs.Spans
 pub use Rattle.combine_repeat_until.specs.Next
 pub use Rattle.combine_repeat_until.specs.Until
+pub use Rattle.combine_repeat_until.specs.UntilErrors
 pub use Rattle.combine_repeat_until.specs.UntilLaws
+pub use Rattle.combine_repeat_until.specs.UntilMeaning
 pub use Rattle.combine_repeat_until.specs.UntilParsers
 pub use Rattle.combine_repeat_until.specs.UntilTurn
 pub use Rattle.combine_stream_cuts.specs.Cuts
+pub use Rattle.combine_repeat_iterate.specs.ItemErrors
 pub use Rattle.combine_repeat_iterate.specs.Nexts
 pub use Rattle.combine_combinator_lazy.specs.Calling
 pub use Rattle.combine_combinator_lazy.specs.Made
@@ -141,6 +145,7 @@ pub use Rattle.combine_decode.specs.MessageLaws
 pub use Rattle.combine_decode.specs.Messages
 pub use Rattle.combine_nested.specs.Asks
 pub use Rattle.combine_nested.specs.Nesting
+pub use Rattle.combine_nested.specs.NestingErrors
 pub use Rattle.combine_nested.specs.NestingLaws
 pub use Rattle.combine_nested.specs.NestingOne
 pub use Rattle.combine_expression.specs.AcceptedSteps

@@ -1,10 +1,11 @@
 -- a peeked refusal that was put back and explained, or could not be
-use Rattle.std.proofs.Common.{◌≡◌, ◌<◌, ◌≤◌, ◌+◌, ◌⊎◌, inl, inr, List, [], ◌∷◌, Bool, true, false, ap, sym, subst, arith, refl, ◌∙◌, Err}
+use Rattle.std.proofs.Common.{◌≡◌, ◌<◌, ◌≤◌, ◌+◌, ◌⊎◌, inl, inr, List, Bool, true, false, ap, sym, subst, arith, refl, ◌∙◌, Err}
 use Rattle.combine_base.specs.Stream.View.{View, Takes, Moves}
 use Rattle.combine_base.specs.Error.Items.{Item}
 use Rattle.combine_base.specs.Error.Errors.{Errors, Says, Added, Unstored}
-use Rattle.combine_base.specs.Parser.Meaning.{Meaning, MeansSame}
+use Rattle.combine_base.specs.Parser.Meaning.{Meaning, MeansSame, Refusing}
 use Rattle.combine_base.specs.Parser.Drivers.{AtToken, Explained, Broke, LooksAt}
+use Rattle.combine_base.specs.Sequence.Behind.{at_token_into, says_into}
 use Rattle.combine_base.specs.Stream.Calls.{TakesToken}
 use Rattle.combine_base.specs.Parser.Answer.{Run, World, Answers, Refuses, Leaves, fails, peeks, world}
 use Rattle.combine_base.specs.Refusals.{Peeked}
@@ -20,28 +21,16 @@ use Rattle.combine_base.specs.declared.error.Tracked.{Tracked}
 use Rattle.combine_base.specs.declared.error.ParseResult.{ParseResult}
 use Rattle.combine_base.specs.declared.error.ParseResult.TheVariants.{CommitOk, PeekOk, CommitErr, PeekErr}
 
-pub says_into : {T R P E : Type 0} (s : Errors T R P E) (lean lean' : Type 0) (adds adds' : List (Item T R) → Type 0) (e e' : E) → (lean' → lean) → ((is : List (Item T R)) → adds is → adds' is) → Says s lean adds e e' → Says s lean' adds' e e'
-says_into s lean lean' adds adds' e e' f g a = record { is = by_case a.is }
-  where
-    by_case : ((is : List (Item _ _)) × adds is × Added s is e e') ⊎ Unstored s lean e e' → ((is : List (Item _ _)) × adds' is × Added s is e e') ⊎ Unstored s lean' e e'
-    by_case (inl k) = inl (k.0, g k.0 k.1, k.2)
-    by_case (inr u) = inr (record { kind = u.kind; position = u.position; memory = λ i l. u.memory i (f l) })
-
-at_token_into : {T R : Type 0} (adds adds' : List (Item T R) → Type 0) → ((is : List (Item T R)) → adds is → adds' is) → (us : List T) (is : List (Item T R)) → AtToken adds us is → AtToken adds' us is
-at_token_into adds adds' g [] is a = g is a
-at_token_into adds adds' g (t ∷ ts) [] a = a
-at_token_into adds adds' g (t ∷ ts) (i ∷ is) a = (a.0, g is a.1)
-
-module _ {P T R V S E : Type 0} (s : Errors T R P E) (m m' : Meaning P T R V S) (h : MeansSame m m') (refuses : Bool → E → Type 0) (old new : View P T) (e own : E) where
+module _ {P T R V S E : Type 0} (s : Errors T R P E) (m m' : Meaning P T R E V S) (h : MeansSame m m') (refuses : Refusing P T E) (old left new : View P T) (e own : E) where
   -- the parser means the same after its call
   as_before : Says s m'.lean (AtToken m'.adds old.unread) e own → Says s m.lean (AtToken m.adds old.unread) e own
   as_before = says_into s m'.lean m.lean (AtToken m'.adds old.unread) (AtToken m.adds old.unread) e own h.lean.0 (λ is. at_token_into m'.adds m.adds (λ js. (h.adds js).1) old.unread is)
 
-  pub explained_by : refuses false e → (result : ParseResult V E) → new ≡ old → Says s m'.lean (AtToken m'.adds old.unread) e own → Peeked s.kind own result → Explained s m refuses old new result
+  pub explained_by : refuses old left false e → (result : ParseResult V E) → new ≡ old → Says s m'.lean (AtToken m'.adds old.unread) e own → Peeked s.kind own result → Explained s m refuses old new result
   explained_by w (CommitOk v) b a p = absurd p.is
   explained_by w (PeekOk v) b a p = absurd p.is
   explained_by w (CommitErr x) b a p = record { is = λ i. absurd (subst (IsRefusal new.is_open) (ap s.kind p.is.0 ∙ p.is.1) i) }
-  explained_by w (PeekErr t) b a p = record { is = record { own = e; refused = w; back = b; says = subst (λ x. Says s m.lean (AtToken m.adds old.unread) e x) (sym p.is.0) (as_before a) } }
+  explained_by w (PeekErr t) b a p = record { is = record { own = e; left = left; refused = w; back = b; says = subst (λ x. Says s m.lean (AtToken m.adds old.unread) e x) (sym p.is.0) (as_before a) } }
 
 -- the error of a refusal, by which kind of answer it is
 module _ {V E : Type 0} (kind : E → Kind) (is_open : Bool) (refuses : Bool → E → Type 0) where
@@ -59,7 +48,7 @@ look_unreset {P} {T} steady step marked old there read new f0 f1 f2 f3 t k back 
     record { is = (rw unreset.0 (omega arith), λ v h. inr (moves_more step 1 v read new (one v h) unreset.1)) }
 
 -- the stream could not be put back, or its first token could not be read
-module _ {P T R V S E : Type 0} (w : World P T S E) (m : Meaning P T R V S) (r : Run P T S) (new : View P T) (after : Failures) where
+module _ {P T R V S E : Type 0} (w : World P T S E) (m : Meaning P T R E V S) (r : Run P T S) (new : View P T) (after : Failures) where
   abbrev then : Run P T S
   then = record { first = r.first; state = r.state; left = r.left; old = r.old; new = new; before = r.before; after = after }
 
@@ -82,7 +71,7 @@ module _ {P T R V S E : Type 0} (w : World P T S E) (m : Meaning P T R V S) (r :
       by_kind kinds.Lost h = absurd h
 
 -- the stream was put back, and the error was made to say what was expected
-module _ {P T R V S E : Type 0} (step : P → T → P) (s : Errors T R P E) (steady : Type 0) (fresh : S → Type 0) (m : Meaning P T R V S) (r : Run P T S) (new : View P T) (after : Failures) (back : new ≡ r.old) (unbroken : steady → after ≡ r.after) where
+module _ {P T R V S E : Type 0} (step : P → T → P) (s : Errors T R P E) (steady : Type 0) (fresh : S → Type 0) (m : Meaning P T R E V S) (r : Run P T S) (new : View P T) (after : Failures) (back : new ≡ r.old) (unbroken : steady → after ≡ r.after) where
   abbrev explained_world : World P T S E
   explained_world = world step s steady fresh
 

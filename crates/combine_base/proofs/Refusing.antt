@@ -1,146 +1,173 @@
--- the errors of a sequence's refusals, by those of its parts
-use Rattle.std.proofs.Common.{◌≡◌, ◌⊎◌, inl, inr, ℕ, Bool, true, false, refl, sym, subst, Some}
+-- the errors of refusals: from one start or another, and of the parts of a sequence
+use Rattle.std.proofs.Common.{◌≡◌, inl, inr, Bool, true, false, refl, sym, subst}
 use Rattle.combine_base.specs.Error.Errors.{Errors}
-use Rattle.combine_base.specs.Parser.Answer.{World, Answers, Accepts, world}
+use Rattle.combine_base.specs.Parser.Answer.{World, Run, Answers, Accepts, Refuses, ends, fails, world}
+use Rattle.combine_base.specs.Parser.Judged.{IsRefusal}
 use Rattle.combine_base.specs.Parser.Drivers.{Explained, Refusal}
-use Rattle.combine_base.specs.Parser.Meaning.{Meaning, IsMeaning, begun}
-use Rattle.combine_base.specs.Parser.Outcome.{Accepted}
-use Rattle.combine_base.specs.Parser.Reasons.{Begins, Reasoned, Refusing, from_part, kept_from, refused_with}
-use Rattle.combine_base.specs.Sequence.Behind.{RefusesBegun, RefusesBehind, RefusesLast, RefusesSequence, refuses_at, refuses_followed}
-use Rattle.combine_base.specs.Sequence.Parts.{CalledLast, CalledRest, Runs, RunsAfresh, RunsFrom, Stops, goes_on, joined_answer, run_from}
-use Rattle.combine_base.specs.Sequence.Places.{begins, in_place, only}
-use Rattle.combine_base.specs.Sequence.TupleRefusals.{only_state, refuses_tuple_1}
-use Rattle.combine_base.specs.Stream.View.{View, advanced}
-use Rattle.combine_base.proofs.Starting.{from_rest}
+use Rattle.combine_base.specs.Parser.Meaning.{Meaning, IsMeaning, MeantRefusal, Reading, Refusing, begun, begun_refuses, refusals, refusals_begin, refusals_from}
+use Rattle.combine_base.specs.Parser.Reasons.{Reasoned, ReasonedCall, RefusedWith, refused_with}
+use Rattle.combine_base.specs.Sequence.Behind.{RefusesLast, last_into}
+use Rattle.combine_base.specs.Sequence.Meanings.{independent, refuses_at}
+use Rattle.combine_base.specs.Sequence.Parts.{GoesOn, Runs, RunsAfresh, RunsFrom, Stops, goes_on, joined_answer, run_from}
+use Rattle.combine_base.specs.Sequence.Places.{begins, begins_1, first_fresh, only}
+use Rattle.combine_base.specs.Sequence.Tuples.{followed, tuple_1}
+use Rattle.combine_base.specs.Parser.Outcome.{Refused}
+use Rattle.combine_base.specs.Stream.View.{View}
+use Rattle.combine_base.proofs.Calls.{peeked_refusal, same_mark}
 use Rattle.combine_base.specs.declared.error.ParseResult.{ParseResult}
 use Rattle.combine_base.specs.declared.error.ParseResult.TheVariants.{CommitOk, PeekOk, CommitErr, PeekErr}
 use Rattle.combine_base.specs.declared.error.Tracked.{Tracked}
-use Rattle.combine_base.specs.declared.parser.Parser as parser
 use Rattle.combine_base.specs.declared.sequence.PartialState1.{PartialState1}
 use Rattle.combine_base.specs.declared.sequence.SequencePlace.{SequencePlace}
 use Rattle.combine_base.specs.declared.sequence.SequencePlace.TheVariants.{Before, Last}
 use Rattle.combine_base.specs.declared.sequence.SequenceState.{SequenceState}
 use Rattle.combine_base.specs.declared.stream.Failures.{Failures}
 use Rattle.combine_base.specs.declared.stream.Kind.{Kind}
-use Rattle.combine_base.specs.declared.stream.StreamOnce as stream
+use Rattle.combine_base.specs.declared.stream.Kind.TheVariants as kinds
 
--- a part of a state is kept where the state is
-pub part_kept : {S U : Type 0} (f : S → U) (first : Bool) (s : S) → from_part f (kept_from first s) ≡ kept_from first (f s)
-part_kept f true s = refl
-part_kept f false s = refl
+-- of a call that is known to refuse so, it is known to refuse otherwise
+pub reasoned_into : {V E : Type 0} {kind : E → Kind} {is_open : Bool} {a b : Bool → E → Type 0} {result : ParseResult V E} → ((k : Bool) (e : E) → a k e → b k e) → Reasoned kind is_open a result → Reasoned kind is_open b result
+reasoned_into h r k e x = h k e (r k e x)
 
--- a call runs from where it was begun
-pub kept_given : {S : Type 0} {fresh : S → Type 0} {first : Bool} {given s : S} → RunsFrom fresh first given s → kept_from first s ≡ kept_from first given
-kept_given {first = true} r = refl
-kept_given {first = false} {given = given} r = subst (λ x. Some x ≡ Some given) (sym (r.kept refl)) refl
+-- an acceptance has no error
+pub reasoned_accepted : {V E : Type 0} {kind : E → Kind} {is_open : Bool} (a : Bool → E → Type 0) {v : V} → Reasoned kind is_open a (CommitOk v)
+reasoned_accepted a k e x = absurd x.is
 
--- from a default state a call begins
-pub kept_begins : {S : Type 0} (fresh : S → Type 0) (first : Bool) (s : S) → fresh s → Begins fresh (kept_from first s)
-kept_begins fresh true s d = tt
-kept_begins fresh false s d = d
+pub reasoned_peeked : {V E : Type 0} {kind : E → Kind} {is_open : Bool} (a : Bool → E → Type 0) {v : V} → Reasoned kind is_open a (PeekOk v)
+reasoned_peeked a k e x = absurd x.is
 
--- what the last part answered, joined to what was before it
-module _ {P T R B C U E : Type 0} (errors : Errors T R P E) (m : Meaning P T R B U) (own : Bool → E → Type 0) (f : B → C) (old new : View P T) where
-  by_answer : (c : Bool) (x : ParseResult B E) → Explained errors m own old new x → (k : Bool) (e : E) → refused_with errors.kind new.is_open (joined_answer c f x) k e → RefusesLast errors m own c old k e
+-- an error, in an answer that has another value
+pub reasoned_error : {V W E : Type 0} {kind : E → Kind} {is_open : Bool} {a : Bool → E → Type 0} {e : E} → Reasoned {V = V} kind is_open a (CommitErr e) → Reasoned {V = W} kind is_open a (CommitErr e)
+reasoned_error r true x i = r true x (record { is = i.is })
+reasoned_error r false x i = absurd i.is
+
+pub reasoned_refusal : {V W E : Type 0} {kind : E → Kind} {is_open : Bool} {a : Bool → E → Type 0} {t : Tracked E} → Reasoned {V = V} kind is_open a (PeekErr t) → Reasoned {V = W} kind is_open a (PeekErr t)
+reasoned_refusal r true x i = absurd i.is
+reasoned_refusal r false x i = r false x (record { is = i.is })
+
+module _ {P T R V S E : Type 0} {fresh valid : S → Type 0} {m : Meaning P T R E V S} (h : IsMeaning fresh valid m) where
+  -- from a state, whatever the mode
+  reasons_at_rest : (first : Bool) (s : S) → (first ≡ true → fresh s) → (v w : View P T) (k : Bool) (e : E) → begun_refuses m first s v w k e → m.refuses_from s v w k e
+  reasons_at_rest true s d v w k e x = (h.reasons s (d refl) v w k e).1 x
+  reasons_at_rest false s d v w k e x = x
+
+  -- and in its mode, from the state that the call was given
+  reasons_in_mode : (first : Bool) (given s : S) → RunsFrom fresh first given s → (v w : View P T) (k : Bool) (e : E) → m.refuses_from s v w k e → begun_refuses m first given v w k e
+  reasons_in_mode true given s d v w k e x = (h.reasons s (d.afresh refl) v w k e).0 x
+  reasons_in_mode false given s d v w k e x = subst (λ y. m.refuses_from y v w k e) (d.kept refl) x
+
+  pub reasoned_at_rest : (errors : Errors T R P E) {first : Bool} {s : S} → (first ≡ true → fresh s) → {old new : View P T} {result : ParseResult V E} → ReasonedCall errors m first s old new result → ReasonedCall errors m false s old new result
+  reasoned_at_rest errors {first} {s} d {old} {new} r = reasoned_into (reasons_at_rest first s d old new) r
+
+  pub reasoned_in_mode : (errors : Errors T R P E) {first : Bool} {given s : S} → RunsFrom fresh first given s → {old new : View P T} {result : ParseResult V E} → ReasonedCall errors m false s old new result → ReasonedCall errors m first given old new result
+  reasoned_in_mode errors {first} {given} {s} d {old} {new} r = reasoned_into (reasons_in_mode first given s d old new) r
+
+  pub explained_at_rest : {errors : Errors T R P E} {first : Bool} {s : S} → (first ≡ true → fresh s) → {old new : View P T} {result : ParseResult V E} → Explained errors m (begun_refuses m first s) old new result → Explained errors m (m.refuses_from s) old new result
+  explained_at_rest {errors} {first} {s} d {old} {new} {result} x = by_case result x
+    where
+      by_case : (y : ParseResult V E) → Explained errors m (begun_refuses m first s) old new y → Explained errors m (m.refuses_from s) old new y
+      by_case (CommitOk v) x = record { is = tt }
+      by_case (PeekOk v) x = record { is = tt }
+      by_case (CommitErr e) x = record { is = λ i. reasons_at_rest first s d old new true e (x.is i) }
+      by_case (PeekErr t) x = record { is = record { own = x.is.own; left = x.is.left; refused = reasons_at_rest first s d old x.is.left false x.is.own x.is.refused; back = x.is.back; says = x.is.says } }
+
+-- an answer that is a refusal is the one that is meant
+module _ {P T R V S E : Type 0} {w : World P T S E} {m : Meaning P T R E V S} {r : Run P T S} where
+  committed_meant : (e : E) → Answers w m r (CommitErr e) → IsRefusal r.new.is_open (w.kind e) → Refuses w m r true
+  committed_meant e p i = by_kind (w.kind e) p.is i
+    where
+      at_end : (b : Bool) → b ≡ r.old.is_open → ends w m r b → IsRefusal r.old.is_open kinds.End → Refuses w m r true
+      at_end true j q i = absurd (subst (λ x. IsRefusal x kinds.End) (sym j) i)
+      at_end false j q i = q
+
+      by_kind : (k : Kind) → fails w m r k → IsRefusal r.new.is_open k → Refuses w m r true
+      by_kind kinds.Refused q i = q
+      by_kind kinds.End q i = at_end r.old.is_open refl q (subst (λ x. IsRefusal x kinds.End) (same_mark w m r e p) i)
+      by_kind kinds.Memory q i = absurd i
+      by_kind kinds.Read q i = absurd i
+      by_kind kinds.Reset q i = absurd i
+      by_kind kinds.Lost q i = absurd i
+
+  pub refusal_is_meant : (y : ParseResult V E) → Answers w m r y → (k : Bool) (e : E) → refused_with w.kind r.new.is_open y k e → begun m r.first r.state r.old (Refused k)
+  refusal_is_meant (CommitOk v) p k e i = absurd i
+  refusal_is_meant (PeekOk v) p k e i = absurd i
+  refusal_is_meant (CommitErr x) p true e i = (committed_meant x p i.1).meant
+  refusal_is_meant (CommitErr x) p false e i = absurd i
+  refusal_is_meant (PeekErr t) p true e i = absurd i
+  refusal_is_meant (PeekErr t) p false e i = (peeked_refusal w m r (w.kind t.error) p.is).meant
+
+-- a call refuses with what its parser refuses with where it refuses
+pub reasoned_meant : {P T R V S E : Type 0} {w : World P T S E} {m : Meaning P T R E V S} {r : Run P T S} {y : ParseResult V E} → Answers w m r y → Reasoned w.kind r.new.is_open (begun_refuses m r.first r.state r.old r.new) y → Reasoned w.kind r.new.is_open (MeantRefusal (begun m r.first r.state) (begun_refuses m r.first r.state) r.old r.new) y
+reasoned_meant {y = y} p r k e i = record { meant = refusal_is_meant y p k e i.is; error = r k e i }
+
+-- so is one that was put back and explained
+pub refusal_meant : {P T R V S E : Type 0} {errors : Errors T R P E} {m : Meaning P T R E V S} {r : Reading P T V} {own : Refusing P T E} {old new : View P T} {e : E} → r old (Refused false) → Refusal errors m own old new e → Refusal errors m (MeantRefusal r own) old new e
+refusal_meant p x = record { own = x.own; left = x.left; refused = record { meant = p; error = x.refused }; back = x.back; says = x.says }
+
+pub explained_meant : {P T R V S E : Type 0} {step : P → T → P} {errors : Errors T R P E} {steady : Type 0} {fresh : S → Type 0} {m : Meaning P T R E V S} {s left : S} {old new : View P T} {f0 f1 : Failures} {y : ParseResult V E} → Answers (world step errors steady fresh) m (run_from s left old new f0 f1) y → Explained errors m (m.refuses_from s) old new y → Explained errors m (refusals_from m s) old new y
+explained_meant {y = CommitOk v} p x = record { is = tt }
+explained_meant {y = PeekOk v} p x = record { is = tt }
+explained_meant {y = CommitErr e} p x = record { is = λ i. record { meant = refusal_is_meant (CommitErr e) p true e (refl, i); error = x.is i } }
+explained_meant {y = PeekErr t} p x = record { is = refusal_meant (refusal_is_meant (PeekErr t) p false t.error refl) x.is }
+
+-- the last part of a sequence, by what it answered
+module _ {P T R B C U E : Type 0} (errors : Errors T R P E) (m : Meaning P T R E B U) (own : Refusing P T E) (f : B → C) (old new : View P T) where
+  by_answer : (c : Bool) (x : ParseResult B E) → Explained errors m own old new x → (k : Bool) (e : E) → refused_with errors.kind new.is_open (joined_answer c f x) k e → RefusesLast errors m own c old new k e
   by_answer c (CommitOk b) x k e i = absurd i
   by_answer true (PeekOk b) x k e i = absurd i
   by_answer false (PeekOk b) x k e i = absurd i
-  by_answer c (CommitErr y) x true e i = record { is = inl (refl, subst (own true) (sym i.0) (x.is i.1)) }
+  by_answer c (CommitErr y) x true e i = record { is = inl (refl, subst (own old new true) (sym i.0) (x.is i.1)) }
   by_answer c (CommitErr y) x false e i = absurd i
-  by_answer true (PeekErr t) x true e i = record { is = inr (refl, subst (Refusal errors m own old old) (sym i.0) (record { own = x.is.own; refused = x.is.refused; back = refl; says = x.is.says })) }
+  by_answer true (PeekErr t) x true e i = record { is = inr (refl, subst (Refusal errors m own old new) (sym i.0) x.is) }
   by_answer true (PeekErr t) x false e i = absurd i
   by_answer false (PeekErr t) x true e i = absurd i
-  by_answer false (PeekErr t) x false e i = record { is = inr (refl, subst (Refusal errors m own old old) (sym i) (record { own = x.is.own; refused = x.is.refused; back = refl; says = x.is.says })) }
+  by_answer false (PeekErr t) x false e i = record { is = inr (refl, subst (Refusal errors m own old new) (sym i) x.is) }
 
--- a run of the last part
-pub runs_reasons : {P T R B C S L U Z E : Type 0} {w : World P T U E} {errors : Errors T R P E} {valid : U → Type 0} {fresh : Z → Type 0} {place : Z → SequencePlace S L} {m : Meaning P T R B U} {own : Refusing P T U E} {c : Bool} {f : B → C} {kept : U → L} {left : Z} {old new : View P T} {f0 f1 : Failures} {first : Bool} {s : U} {y : ParseResult C E} → Runs w errors valid fresh place m own c f kept left old new f0 f1 y first s → Reasoned errors.kind new.is_open (RefusesLast errors m (own (kept_from first s) old) c old) y
-runs_reasons {errors = errors} {m = m} {own = own} {c = c} {f = f} {old = old} {new = new} {first = first} {s = s} g k e i =
-    by_answer errors m (own (kept_from first s) old) f old new c g.answer g.explained k e (subst (λ x. refused_with errors.kind new.is_open x k e) g.is i.is)
+module _ {P T R B C S L U Z E : Type 0} {step : P → T → P} {errors : Errors T R P E} {steady : Type 0} {last_fresh valid : U → Type 0} {fresh : Z → Type 0} {place : Z → SequencePlace S L} {m : Meaning P T R E B U} {c : Bool} {f : B → C} {kept : U → L} {left : Z} {old new : View P T} {f0 f1 : Failures} where
+  -- what a last part that has run refuses with
+  pub runs_reasons : {s : U} {y : ParseResult C E} → Runs (world step errors steady last_fresh) errors valid fresh place m c f kept left old new f0 f1 y s → Reasoned errors.kind new.is_open (RefusesLast errors m (refusals_from m s) c old new) y
+  runs_reasons {s} g k e i = by_answer errors m (refusals_from m s) f old new c g.answer (explained_meant g.answers g.explained) k e (subst (λ x. refused_with errors.kind new.is_open x k e) g.is i.is)
 
--- where a sequence stands, and what its parts refuse with
-module _ {P T R A S L Z E : Type 0} (step : P → T → P) (place : Z → SequencePlace S L) (m : Meaning P T R A S) (before : Refusing P T S E) (starts : A → Bool → View P T → Bool → E → Type 0) (kept : L → View P T → Bool → E → Type 0) where
-  abbrev refused : Refusing P T Z E
-  refused = RefusesSequence step place m before starts kept
-
-  in_before : (first : Bool) {z : Z} {s : S} → place z ≡ Before s → (v : View P T) (k : Bool) (e : E) → before (kept_from first s) v k e ⊎ RefusesBehind step starts (begun m first s) v k e → refused (kept_from first z) v k e
-  in_before true i v k e h = record { is = h }
-  in_before false i v k e h = record { is = subst (λ p. refuses_at step place m before starts kept (Some p) v k e) (sym i) h }
-
-  -- the parts before the last refused
-  pub before_refused : (first : Bool) {z : Z} {s : S} → place z ≡ Before s → {v : View P T} {k : Bool} {e : E} → before (kept_from first s) v k e → refused (kept_from first z) v k e
-  before_refused first i {v} {k} {e} h = in_before first i v k e (inl h)
-
-  -- they were accepted, and the last refused on what they left
-  pub behind_refused : (first : Bool) {z : Z} {s : S} → place z ≡ Before s → {v w : View P T} {a : A} (n : ℕ) {c : Bool} → begun m first s v (Accepted a n c) → w ≡ advanced step n v → {k : Bool} {e : E} → starts a c w k e → refused (kept_from first z) v k e
-  behind_refused first i {v} {w} {a} n {c} p j {k} {e} h =
-      in_before first i v k e (inr (record { value = a; count = n; before = c; accepted = p; refuses = subst (λ u. starts a c u k e) j h }))
-
-  -- the last refused, which the call resumed
-  pub last_refused : (first : Bool) {z : Z} {l : L} → place z ≡ Last l → (first ≡ true → ⊥) → {v : View P T} {k : Bool} {e : E} → (first ≡ false → kept l v k e) → refused (kept_from first z) v k e
-  last_refused true i d h = absurd (d refl)
-  last_refused false i d {v} {k} {e} h = record { is = subst (λ p. refuses_at step place m before starts kept (Some p) v k e) (sym i) (h refl) }
-
--- an error that is handed on as it is
-module _ (A C : Type 0) {E : Type 0} (kind : E → Kind) (is_open : Bool) where
-  committed_so : (x : E) (k : Bool) (e : E) → refused_with {V = C} kind is_open (CommitErr x) k e → refused_with {V = A} kind is_open (CommitErr x) k e
-  committed_so x true e h = h
-  committed_so x false e h = h
-
-  peeked_so : (x : Tracked E) (k : Bool) (e : E) → refused_with {V = C} kind is_open (PeekErr x) k e → refused_with {V = A} kind is_open (PeekErr x) k e
-  peeked_so x true e h = h
-  peeked_so x false e h = h
-
--- parts and one more, which doesn't depend on their value: a call that begins in the parts before the last
-module _ {P T R A B C S U Z E : Type 0} (step : P → T → P) (errors : Errors T R P E) (steady : Type 0) (fresh : S → Type 0) (last_fresh last_valid : U → Type 0) (so : Z → Type 0) (place : Z → SequencePlace S (SequenceState A U)) (f : A → B → C) (m : Meaning P T R A S) (n : Meaning P T R B U) (before : Refusing P T S E) (own : Refusing P T U E) (valid : S → Type 0) (laws : IsMeaning fresh valid m) (first : Bool) (s kept : S) (from left : Z) (b : first ≡ true → begins place fresh from) (e : place from ≡ Before s) (old mid new : View P T) (f0 f1 f2 : Failures) (y : ParseResult C E) where
-  abbrev before_world : World P T S E
-  before_world = world step errors steady fresh
-
+-- of parts and one more
+module _ {P T R A B C S U Z E : Type 0} (step : P → T → P) (errors : Errors T R P E) (steady : Type 0) (fresh : S → Type 0) (last_fresh last_valid : U → Type 0) (place : Z → SequencePlace S (SequenceState A U)) (f : A → B → C) (m : Meaning P T R E A S) (n : Meaning P T R E B U) where
   abbrev part_world : World P T U E
   part_world = world step errors steady last_fresh
 
-  abbrev begun_last : A → Bool → View P T → Bool → E → Type 0
-  begun_last a = RefusesBegun errors n last_fresh own
+  abbrev at_place : SequencePlace S (SequenceState A U) → View P T → View P T → Bool → E → Type 0
+  at_place p = refuses_at step place m (independent errors f n) p
 
-  abbrev kept_last : SequenceState A U → View P T → Bool → E → Type 0
-  kept_last l v = RefusesLast errors n (own (Some l.state) v) l.committed v
+  abbrev reasoned : Z → View P T → View P T → ParseResult C E → Type 0
+  reasoned z = ReasonedCall errors (followed step errors place f m n) false z
 
-  abbrev reasoned : Type 0
-  reasoned = Reasoned errors.kind new.is_open (refuses_followed step errors place last_fresh m before n own (kept_from first from) old) y
-
-  abbrev before_reasoned : ParseResult A E → Type 0
-  before_reasoned x = Reasoned errors.kind mid.is_open (before (kept_from first s) old) x
-
-  runs_behind : (a : A) (c : Bool) → Accepts before_world m (run_from s kept old mid f0 f1) a c → RunsAfresh part_world errors last_valid so place n own c (f a) (λ s. record { value = a; committed = c; state = s }) left mid new f1 f2 y → reasoned
-  runs_behind a c p g k x h =
-      let starts : RunsFrom fresh first s s = record { afresh = λ j. subst (in_place fresh (λ l. ⊥)) e (b j); kept = λ j. refl } in
-      behind_refused step place m before begun_last kept_last first e p.count (from_rest before_world valid m laws first s s starts old (Accepted a p.count c) p.meant) p.taken.rest (record { at = kept_from g.first g.state; begins = kept_begins last_fresh g.first g.state g.afresh; refuses = runs_reasons g.runs k x h })
-
-  -- the last part was not run
-  ends_there : (x : ParseResult A E) (z : ParseResult C E) (d : Type 0) → ((k : Bool) (t : E) → refused_with errors.kind mid.is_open z k t → refused_with errors.kind mid.is_open x k t) → before_reasoned x → Stops part_world errors last_valid so place f n own kept left mid new f1 f2 y z d → reasoned
-  ends_there x z d same r g k t h =
-      let there = subst (λ v. refused_with errors.kind v.is_open y k t) g.view h.is in
-      before_refused step place m before begun_last kept_last first e (r k t (record { is = same k t (subst (λ q. refused_with errors.kind mid.is_open q k t) g.answer there) }))
-
-  sequence_reasoned : (x : ParseResult A E) → Answers before_world m (run_from s kept old mid f0 f1) x → before_reasoned x → goes_on part_world errors last_valid so place f n own kept left mid new f1 f2 y x → reasoned
-  sequence_reasoned (CommitOk a) p r g = runs_behind a true p.is g
-  sequence_reasoned (PeekOk a) p r g = runs_behind a false p.is g
-  sequence_reasoned (CommitErr x) p r g = ends_there (CommitErr x) (CommitErr x) (place left ≡ Before kept) (committed_so A C errors.kind mid.is_open x) r g
-  sequence_reasoned (PeekErr t) p r g = ends_there (PeekErr t) (PeekErr t) (so left) (peeked_so A C errors.kind mid.is_open t) r g
-
-module _ {Self Input Checkpoint T R P E A B C S U Z : Type 0} (place : Z → SequencePlace S (SequenceState A U)) (f : A → B → C) (m : Meaning P T R A S) (before : Refusing P T S E) {i : stream.Ghosts Input T R P E} {seen : Errors T R P E} {last_fresh : U → Type 0} {so : Z → Type 0} {q : parser.Ghosts Self Input U B Checkpoint T R P E} {last last' : Self} {first : Bool} {input left : Input} {from state : Z} {result : ParseResult C E} where
   -- a call that begins in the last part
-  pub last_reasons : (fresh : S → Type 0) {at : SequenceState A U} → (first ≡ true → begins place fresh from) → place from ≡ Last at → CalledLast q i seen last_fresh so place f last last' input left first at state result → Reasoned seen.kind (i.view left).is_open (refuses_followed i.step seen place last_fresh m before (q.meaning last) (q.refuses last) (kept_from first from) (i.view input)) result
-  last_reasons fresh {at} b e l k x h =
-      let own = runs_reasons l.runs k x h in
-      let resumed : first ≡ true → ⊥ = λ j. subst (in_place fresh (λ l. ⊥)) e (b j) in
-      last_refused i.step place m before (λ a. RefusesBegun seen (q.meaning last) last_fresh (q.refuses last)) (λ l v. RefusesLast seen (q.meaning last) (q.refuses last (Some l.state) v) l.committed v) first e resumed (λ j. subst (λ b. RefusesLast seen (q.meaning last) (q.refuses last (kept_from b at.state) (i.view input)) at.committed (i.view input) k x) j own)
+  pub last_reasons : (z left : Z) (l : SequenceState A U) (old new : View P T) (f0 f1 : Failures) (y : ParseResult C E) → place z ≡ Last l → Runs part_world errors last_valid (begins place fresh) place n l.committed (f l.value) (λ s. record { value = l.value; committed = l.committed; state = s }) left old new f0 f1 y l.state → reasoned z old new y
+  last_reasons z left l old new f0 f1 y e g k x i = subst (λ p. at_place p old new k x) (sym e) (runs_reasons g k x i)
 
-  -- and one that begins in the parts before it, which answer so
-  pub sequence_reasons : {fresh valid : S → Type 0} {mid : Input} {s kept : S} {answer : ParseResult A E} → IsMeaning fresh valid m → (first ≡ true → begins place fresh from) → place from ≡ Before s → Answers (world i.step seen i.steady fresh) m (run_from s kept (i.view input) (i.view mid) (i.failures input) (i.failures mid)) answer → Reasoned seen.kind (i.view mid).is_open (before (kept_from first s) (i.view input)) answer → CalledRest q i seen last_fresh so place f last last' mid left kept state result answer → Reasoned seen.kind (i.view left).is_open (refuses_followed i.step seen place last_fresh m before (q.meaning last) (q.refuses last) (kept_from first from) (i.view input)) result
-  sequence_reasons {fresh} {valid} {mid} {s} {kept} {answer} laws b e p r l =
-      sequence_reasoned i.step seen i.steady fresh last_fresh q.valid so place f m (q.meaning last) before (q.refuses last) valid laws first s kept from state b e (i.view input) (i.view mid) (i.view left) (i.failures input) (i.failures mid) (i.failures left) result answer p r l.goes_on.is
+  -- and one that begins in the parts before it
+  module _ (k : IsMeaning last_fresh last_valid n) (s stopped : S) (z left : Z) (e : place z ≡ Before s) (old mid new : View P T) (f0 f1 f2 : Failures) (y : ParseResult C E) where
+    abbrev before : World P T S E
+    before = world step errors steady fresh
 
--- a tuple of one: the errors are those of its part
-pub single_own : {P T U E : Type 0} (own : Refusing P T U E) (z : PartialState1 (SequenceState (Unit {0}) U)) {l : SequenceState (Unit {0}) U} → l ≡ only z → (first : Bool) {v : View P T} {k : Bool} {e : E} → own (kept_from first l.state) v k e → refuses_tuple_1 own (kept_from first z) v k e
-single_own {U = U} own z i first {v} {k} {e} h =
-    subst (λ x. own x v k e) (sym (part_kept only_state first z)) (subst (λ (x : SequenceState (Unit {0}) U). own (kept_from first x.state) v k e) i h)
+    goes : (a : A) (c : Bool) → Accepts before m (run_from s stopped old mid f0 f1) a c → RunsAfresh part_world errors last_valid (begins place fresh) place n c (f a) (λ s. record { value = a; committed = c; state = s }) left mid new f1 f2 y → reasoned z old new y
+    goes a c p g b x i =
+        let r = last_into errors n n (refusals_from n g.state) (refusals n) (λ x. x) (λ is x. x) (λ v w j t. (refusals_begin k g.state g.afresh v w j t).0) c mid new b x (runs_reasons g.runs b x i) in
+        subst (λ q. at_place q old new b x) (sym e) (inr (record { value = a; count = p.count; before = c; accepted = p.meant; refuses = subst (λ v. RefusesLast errors n (refusals n) c v new b x) p.taken.rest r }))
+
+    stops : (a : ParseResult C E) (d : Type 0) → Reasoned errors.kind mid.is_open (refusals_from m s old mid) a → Stops part_world errors last_valid (begins place fresh) place f n stopped left mid new f1 f2 y a d → reasoned z old new y
+    stops a d r g b x i =
+        let j = subst (λ y. RefusedWith errors.kind mid.is_open y b x) g.answer (subst (λ u. RefusedWith errors.kind u.is_open y b x) g.view i) in
+        subst (λ q. at_place q old new b x) (sym e) (inl (subst (λ u. refusals_from m s old u b x) (sym g.view) (r b x j)))
+
+    pub sequence_reasons : (x : ParseResult A E) → Answers before m (run_from s stopped old mid f0 f1) x → ReasonedCall errors m false s old mid x → GoesOn part_world errors last_valid (begins place fresh) place f n stopped left mid new f1 f2 y x → reasoned z old new y
+    sequence_reasons x p r g = by_case x p r g.is
+      where
+        by_case : (x : ParseResult A E) → Answers before m (run_from s stopped old mid f0 f1) x → ReasonedCall errors m false s old mid x → goes_on part_world errors last_valid (begins place fresh) place f n stopped left mid new f1 f2 y x → reasoned z old new y
+        by_case (CommitOk a) p r g = goes a true p.is g
+        by_case (PeekOk a) p r g = goes a false p.is g
+        by_case (CommitErr v) p r g = stops (CommitErr v) (place left ≡ Before stopped) (reasoned_error (reasoned_meant p r)) g
+        by_case (PeekErr t) p r g = stops (PeekErr t) (begins place fresh left) (reasoned_refusal (reasoned_meant p r)) g
+
+-- a tuple of one
+pub reasoned_single : {P T R A V U E : Type 0} {fresh valid : U → Type 0} {m : Meaning P T R E A U} (errors : Errors T R P E) → IsMeaning fresh valid m → (z : PartialState1 (SequenceState (Unit {0}) U)) {l : SequenceState (Unit {0}) U} → l ≡ only z → {first : Bool} → (first ≡ true → begins_1 (first_fresh fresh) z) → {old new : View P T} {result : ParseResult V E} → Reasoned errors.kind new.is_open (begun_refuses m first l.state old new) result → Reasoned errors.kind new.is_open ((tuple_1 m).refuses_from z old new) result
+reasoned_single {P} {T} {R} {A} {V} {U} {E} {fresh} {valid} {m} errors h z {l} i {first} d {old} {new} r =
+    reasoned_into (λ k e x. subst (λ (y : SequenceState (Unit {0}) _). m.refuses_from y.state old new k e) i (reasons_at_rest h first l.state (λ j. subst (λ (y : SequenceState (Unit {0}) _). fresh y.state) (sym i) (d j).2) old new k e x)) r

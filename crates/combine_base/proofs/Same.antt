@@ -21,11 +21,11 @@ passes_more a b d f g h p q = record {
   resets = let x = p.resets in let y = q.resets in omega arith;
 }
 
-module _ {P T R A S : Type 0} where
-  pub same_none : (m : Meaning P T R A S) → MeansSame m m
-  same_none m = record { whole = λ v o. (λ p. p, λ p. p); rest = λ s v o. (λ p. p, λ p. p); lost = λ s v. (λ p. p, λ p. p); keeps = (λ p. p, λ p. p); puts_back = (λ p. p, λ p. p); lean = (λ p. p, λ p. p); adds = λ is. (λ p. p, λ p. p) }
+module _ {P T R E A S : Type 0} where
+  pub same_none : (m : Meaning P T R E A S) → MeansSame m m
+  same_none m = record { whole = λ v o. (λ p. p, λ p. p); rest = λ s v o. (λ p. p, λ p. p); lost = λ s v. (λ p. p, λ p. p); keeps = (λ p. p, λ p. p); puts_back = (λ p. p, λ p. p); lean = (λ p. p, λ p. p); adds = λ is. (λ p. p, λ p. p); refuses = λ v w i e. (λ p. p, λ p. p); refuses_from = λ s v w i e. (λ p. p, λ p. p) }
 
-  pub same_more : (a b c : Meaning P T R A S) → MeansSame a b → MeansSame b c → MeansSame a c
+  pub same_more : (a b c : Meaning P T R E A S) → MeansSame a b → MeansSame b c → MeansSame a c
   same_more a b c h k = record {
     whole = λ v o. (λ p. (k.whole v o).0 ((h.whole v o).0 p), λ p. (h.whole v o).1 ((k.whole v o).1 p));
     rest = λ s v o. (λ p. (k.rest s v o).0 ((h.rest s v o).0 p), λ p. (h.rest s v o).1 ((k.rest s v o).1 p));
@@ -34,13 +34,15 @@ module _ {P T R A S : Type 0} where
     puts_back = (λ p. k.puts_back.0 (h.puts_back.0 p), λ p. h.puts_back.1 (k.puts_back.1 p));
     lean = (λ p. k.lean.0 (h.lean.0 p), λ p. h.lean.1 (k.lean.1 p));
     adds = λ is. (λ p. (k.adds is).0 ((h.adds is).0 p), λ p. (h.adds is).1 ((k.adds is).1 p));
+    refuses = λ v w i e. (λ p. (k.refuses v w i e).0 ((h.refuses v w i e).0 p), λ p. (h.refuses v w i e).1 ((k.refuses v w i e).1 p));
+    refuses_from = λ s v w i e. (λ p. (k.refuses_from s v w i e).0 ((h.refuses_from s v w i e).0 p), λ p. (h.refuses_from s v w i e).1 ((k.refuses_from s v w i e).1 p));
   }
 
-  begun_back : (m m' : Meaning P T R A S) → Alike m m' → (first : Bool) (s : S) (v : View P T) (o : Outcome A) → begun m' first s v o → begun m first s v o
+  begun_back : (m m' : Meaning P T R E A S) → Alike m m' → (first : Bool) (s : S) (v : View P T) (o : Outcome A) → begun m' first s v o → begun m first s v o
   begun_back m m' h true s v o p = (h.whole v o).1 p
   begun_back m m' h false s v o p = (h.rest s v o).1 p
 
-module _ {P T R A S E : Type 0} (w : World P T S E) (m m' : Meaning P T R A S) (h : Alike m m') (r : Run P T S) where
+module _ {P T R A S E : Type 0} (w : World P T S E) (m m' : Meaning P T R E A S) (h : Alike m m') (r : Run P T S) where
   accepts : (a : A) (k : Bool) → Accepts w m' r a k → Accepts w m r a k
   accepts a k p = record { count = p.count; meant = begun_back m m' h r.first r.state r.old (Accepted a p.count k) p.meant; taken = p.taken; state = p.state; failures = p.failures }
 
@@ -93,6 +95,6 @@ module _ {P T R A S E : Type 0} (w : World P T S E) (m m' : Meaning P T R A S) (
   answers_alike (CommitErr e) p = record { is = failing (w.kind e) p.is }
   answers_alike (PeekErr e) p = record { is = peeking (w.kind e.error) p.is }
 
-module _ {P T R A S E : Type 0} (w : World P T S E) (m m' : Meaning P T R A S) (h : MeansSame m m') (r : Run P T S) where
+module _ {P T R A S E : Type 0} (w : World P T S E) (m m' : Meaning P T R E A S) (h : MeansSame m m') (r : Run P T S) where
   pub answers_same : (result : ParseResult A E) → Answers w m' r result → Answers w m r result
   answers_same = answers_alike w m m' (record { whole = h.whole; rest = h.rest; lost = h.lost; keeps = h.keeps; puts_back = h.puts_back; lean = h.lean }) r

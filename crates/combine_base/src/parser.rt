@@ -76,11 +76,11 @@ pub trait Outputs<Input> {
 pub trait Parser<Input: Stream>: Outputs<Input> {
     ghost use Rattle.std.specs.Prelude.{◌≡◌, ℕ, true, false, Bool, Option, Some, None};
     ghost use Rattle.combine_base.specs.Stream.View.{View};
-    ghost use Rattle.combine_base.specs.Parser.Meaning.{Meaning, IsMeaning, IsSingle, MeansOne, MeansSame, begun};
+    ghost use Rattle.combine_base.specs.Parser.Meaning.{Meaning, IsMeaning, IsSingle, MeansOne, MeansSame, begun_refuses};
     ghost use Rattle.combine_base.specs.Parser.Answer.{Answers, world};
     ghost use Rattle.combine_base.specs.Error.Errors.{Says};
     ghost use Rattle.combine_base.specs.Parser.Drivers.{Explains, Explained, Starts, Results, StartResults};
-    ghost use Rattle.combine_base.specs.Parser.Reasons.{Reasoned, kept_from};
+    ghost use Rattle.combine_base.specs.Parser.Reasons.{Reasoned, ReasonedCall};
     ghost use Rattle.combine_base.specs.Stream.Calls.{Passes};
     ghost use Rattle.combine_base.specs.declared.stream.Failures.{Failures};
 
@@ -96,14 +96,11 @@ pub trait Parser<Input: Stream>: Outputs<Input> {
     /// The states that a call may be given: a parser that a state holds is lawful.
     ghost valid: { Self.PartialState → Type 0 };
 
-    /// Which outcomes the parser has on a view, from the start and from a state.
-    ghost meaning: { Self → Meaning Input.Position Input.Token Input.Range Self.Output Self.PartialState };
+    /// Which outcomes the parser has on a view, from the start and from a state, and which errors its refusals have.
+    ghost meaning: { Self → Meaning Input.Position Input.Token Input.Range Input.Error Self.Output Self.PartialState };
 
     /// How many parsers are run one after another, at most 255.
     ghost parts: { Self → ℕ };
-
-    /// What error a refusal may have, committed or not, of a call that begins afresh (`None`) or from that state, on a view. A parser that doesn't define it promises nothing of it.
-    ghost refuses: { Self → Option Self.PartialState → View Input.Position Input.Token → Bool → Input.Error → Type 0 } = { λ _ _ _ _ _. Unit {0} };
 
     /// Parses, afresh or from the kept state.
     ///
@@ -124,7 +121,7 @@ pub trait Parser<Input: Stream>: Outputs<Input> {
             (meaning self.old)
             (record { first = M.first mode; state = state.old; left = state.new; old = Input.view input.old; new = Input.view input.new; before = Input.failures input.old; after = Input.failures input.new })
             result }
-        ensures refuses { Reasoned Input.Error.seen.kind (Input.view input.new).is_open (refuses self.old (kept_from (M.first mode) state.old) (Input.view input.old)) result };
+        ensures refuses { ReasonedCall Input.Error.seen (meaning self.old) (M.first mode) state.old (Input.view input.old) (Input.view input.new) result };
 
     /// Says what was expected where the parser began, to an error of its own or of a parser round it. An item that finds no memory makes it an error of kind `Memory`.
     fn add_error(&mut self, error: &mut Tracked<Input::Error>)
@@ -178,7 +175,7 @@ pub trait Parser<Input: Stream>: Outputs<Input> {
             (meaning self.old)
             (record { first = M.first mode; state = state.old; left = state.new; old = Input.view input.old; new = Input.view input.new; before = Input.failures input.old; after = Input.failures input.new })
             result }
-        ensures explained { Explained Input.Error.seen (meaning self.old) (refuses self.old (kept_from (M.first mode) state.old) (Input.view input.old)) (Input.view input.old) (Input.view input.new) result }
+        ensures explained { Explained Input.Error.seen (meaning self.old) (begun_refuses (meaning self.old) (M.first mode) state.old) (Input.view input.old) (Input.view input.new) result }
     {
         let start = input.checkpoint();
         let position = input.position();
@@ -210,7 +207,7 @@ pub trait Parser<Input: Stream>: Outputs<Input> {
             (meaning self.old)
             (record { first = true; state = state.old; left = state.new; old = Input.view input.old; new = Input.view input.new; before = Input.failures input.old; after = Input.failures input.new })
             result }
-        ensures refuses { Reasoned Input.Error.seen.kind (Input.view input.new).is_open (refuses self.old None (Input.view input.old)) result }
+        ensures refuses { ReasonedCall Input.Error.seen (meaning self.old) true state.old (Input.view input.old) (Input.view input.new) result }
     {
         self.parse_mode(FirstMode, input, state)
     }
@@ -231,7 +228,7 @@ pub trait Parser<Input: Stream>: Outputs<Input> {
             (meaning self.old)
             (record { first = false; state = state.old; left = state.new; old = Input.view input.old; new = Input.view input.new; before = Input.failures input.old; after = Input.failures input.new })
             result }
-        ensures refuses { Reasoned Input.Error.seen.kind (Input.view input.new).is_open (refuses self.old (Some state.old) (Input.view input.old)) result }
+        ensures refuses { ReasonedCall Input.Error.seen (meaning self.old) false state.old (Input.view input.old) (Input.view input.new) result }
     {
         self.parse_mode(PartialMode::default(), input, state)
     }
@@ -244,7 +241,7 @@ pub trait Parser<Input: Stream>: Outputs<Input> {
         ensures passes { Passes (Input.marks input.old) (Input.marks input.new) (Input.failures input.old) (Input.failures input.new) }
         ensures answers { Starts (world Input.step Input.Error.seen Input.steady Self.PartialState.is_default)
             (meaning self.old) (Input.view input.old) (Input.view input.new) (Input.failures input.old) (Input.failures input.new) result }
-        ensures refuses { Reasoned Input.Error.seen.kind (Input.view input.new).is_open (refuses self.old None (Input.view input.old)) result }
+        ensures refuses { Reasoned Input.Error.seen.kind (Input.view input.new).is_open ((meaning self.old).refuses (Input.view input.old) (Input.view input.new)) result }
     {
         let mut state = Self::PartialState::default();
         self.parse_mode(FirstMode, input, &mut state)
@@ -258,7 +255,7 @@ pub trait Parser<Input: Stream>: Outputs<Input> {
         ensures passes { Passes (Input.marks input.old) (Input.marks input.new) (Input.failures input.old) (Input.failures input.new) }
         ensures answers { Starts (world Input.step Input.Error.seen Input.steady Self.PartialState.is_default)
             (meaning self.old) (Input.view input.old) (Input.view input.new) (Input.failures input.old) (Input.failures input.new) result }
-        ensures explained { Explained Input.Error.seen (meaning self.old) (refuses self.old None (Input.view input.old)) (Input.view input.old) (Input.view input.new) result }
+        ensures explained { Explained Input.Error.seen (meaning self.old) (meaning self.old).refuses (Input.view input.old) (Input.view input.new) result }
     {
         let mut state = Self::PartialState::default();
         self.parse_explained(FirstMode, input, &mut state)
@@ -277,7 +274,7 @@ pub trait Parser<Input: Stream>: Outputs<Input> {
         ensures same { MeansSame (meaning self.old) (meaning self.new) }
         ensures passes { Passes (Input.marks input.old) (Input.marks input.new) (Input.failures input.old) (Input.failures input.new) }
         ensures results { Results (world Input.step Input.Error.seen Input.steady Self.PartialState.is_default)
-            (meaning self.old) Input.Error.seen (refuses self.old (Some state.old) (Input.view input.old))
+            (meaning self.old) Input.Error.seen ((meaning self.old).refuses_from state.old)
             (record { first = false; state = state.old; left = state.new; old = Input.view input.old; new = Input.view input.new; before = Input.failures input.old; after = Input.failures input.new })
             result }
     {
@@ -294,8 +291,8 @@ pub trait Parser<Input: Stream>: Outputs<Input> {
         ensures same { MeansSame (meaning self.old) (meaning self.new) }
         ensures single { determined self.old → IsSingle (meaning self.old).whole }
         ensures results { MatchResult result
-            (λ p. StartResults (world Input.step Input.Error.seen Input.steady Self.PartialState.is_default) (meaning self.old) Input.Error.seen (refuses self.old None (Input.view input)) (Input.view input) (Input.view p.1) (Input.failures input) (Input.failures p.1) (Ok p.0))
-            (λ e. (left : Input) × StartResults (world Input.step Input.Error.seen Input.steady Self.PartialState.is_default) (meaning self.old) Input.Error.seen (refuses self.old None (Input.view input)) (Input.view input) (Input.view left) (Input.failures input) (Input.failures left) (Err e)) }
+            (λ p. StartResults (world Input.step Input.Error.seen Input.steady Self.PartialState.is_default) (meaning self.old) Input.Error.seen (Input.view input) (Input.view p.1) (Input.failures input) (Input.failures p.1) (Ok p.0))
+            (λ e. (left : Input) × StartResults (world Input.step Input.Error.seen Input.steady Self.PartialState.is_default) (meaning self.old) Input.Error.seen (Input.view input) (Input.view left) (Input.failures input) (Input.failures left) (Err e)) }
     {
         let mut input = input;
         let mut state = Self::PartialState::default();

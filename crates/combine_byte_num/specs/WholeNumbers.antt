@@ -57,25 +57,26 @@ module _ {P T N : Type 0} (width : ℕ) (value : List T → N) where
     within = λ v a n k p. let i = p.0 in let j = p.2 in omega arith;
   }
 
-  module _ {R S : Type 0} where
-    -- it keeps no state, and on need of more it has taken nothing
-    abbrev pub takes_number : Meaning P T R N S
-    takes_number = stateless whole_number ⊥ (Unit {0}) Nothing
-
-    pub takes_number_is_meaning : (fresh valid : S → Type 0) → IsMeaning fresh valid takes_number
-    takes_number_is_meaning fresh valid = stateless_is_meaning fresh valid whole_number ⊥ (Unit {0}) Nothing whole_number_is_reading
-
-    pub takes_number_means_one : (valid : S → Type 0) → MeansOne valid takes_number
-    takes_number_means_one valid = stateless_means_one valid whole_number ⊥ (Unit {0}) Nothing (record { one = one })
-
 module _ {T R P E : Type 0} (s : Errors T R P E) where
   abbrev pub refuses_short : P → Bool → E → Type 0
   refuses_short place true e = ⊥
   refuses_short place false e = Saying s kinds.End place (Only end_of_input) e
 
-  -- the error of too few bytes: peeked, made where they began, and it says that the input ended
-  pub record RefusesShort (v : View P T) (committed : Bool) (e : E) : Type 0 where
+  -- the error of too few bytes: peeked, made where they began, and it says that the input ended; the stream is left as it was before the first of them
+  pub record RefusesShort (v w : View P T) (committed : Bool) (e : E) : Type 0 where
     pub is : refuses_short v.position committed e
+    pub back : w ≡ v
+
+module _ {P T R E N S : Type 0} (errors : Errors T R P E) (width : ℕ) (value : List T → N) where
+  -- it keeps no state, and on need of more it has taken nothing
+  abbrev pub takes_number : Meaning P T R E N S
+  takes_number = stateless (whole_number width value) ⊥ (Unit {0}) Nothing (RefusesShort errors)
+
+  pub takes_number_is_meaning : (fresh valid : S → Type 0) → IsMeaning fresh valid takes_number
+  takes_number_is_meaning fresh valid = stateless_is_meaning fresh valid (whole_number width value) ⊥ (Unit {0}) Nothing (RefusesShort errors) (whole_number_is_reading width value)
+
+  pub takes_number_means_one : (valid : S → Type 0) → MeansOne valid takes_number
+  takes_number_means_one valid = stateless_means_one valid (whole_number width value) ⊥ (Unit {0}) Nothing (RefusesShort errors) (record { one = one width value })
 
 module _ {T R P V E : Type 0} (steady : Type 0) (step : P → T → P) (s : Errors T R P E) (marked : View P T → Type 0) (place : P) (old new : View P T) (before after : Failures) where
   -- the stream was put back, and the end is answered

@@ -3,7 +3,7 @@ ghost use Rattle.std.specs.Prelude.{◌≡◌, ◌<◌, ◌^◌};
 ghost use Rattle.combine_base.specs.Error.Errors.{Nothing};
 ghost use Rattle.combine_base.specs.Stream.Calls.{Passes};
 ghost use Rattle.combine_byte_num.specs.Numbers.{signed};
-ghost use Rattle.combine_byte_num.specs.WholeNumbers.{RefusesShort, TooFew, number_parser, takes_number, takes_number_is_meaning, takes_number_means_one, worth};
+ghost use Rattle.combine_byte_num.specs.WholeNumbers.{TooFew, number_parser, takes_number, takes_number_is_meaning, takes_number_means_one, worth};
 
 use crate::order::Order;
 use combine_base::error::{ErrorOffset, ParseResult, Tracked};
@@ -179,9 +179,7 @@ impl<Input: Stream, O: Order<Input::Token>, N: Number> Parser<Input> for WholeNu
 
     ghost valid = { λ s. Unit {0} };
 
-    ghost meaning = { λ p. takes_number N.width (worth N.of_sum O.number) };
-
-    ghost refuses = { λ p k. RefusesShort Input.Error.seen };
+    ghost meaning = { λ p. takes_number Input.Error.seen N.width (worth N.of_sum O.number) };
 
     ghost parts = { λ p. 1 };
 
@@ -220,7 +218,7 @@ impl<Input: Stream, O: Order<Input::Token>, N: Number> Parser<Input> for WholeNu
 
     ghost default_valid = { λ s d. tt };
 
-    ghost laws = { λ p l. takes_number_is_meaning N.width (worth N.of_sum O.number) _ _ };
+    ghost laws = { λ p l. takes_number_is_meaning Input.Error.seen N.width (worth N.of_sum O.number) _ _ };
 
-    ghost single = { λ p l d. takes_number_means_one N.width (worth N.of_sum O.number) _ };
+    ghost single = { λ p l d. takes_number_means_one Input.Error.seen N.width (worth N.of_sum O.number) _ };
 }

@@ -16,18 +16,18 @@ use Rattle.combine_base.specs.declared.error.ParseResult.TheVariants.{CommitOk, 
 use Rattle.combine_token.proofs.Stateless.{asks, into_begun}
 use Rattle.combine_char.specs.Again.{BeginsAgain, begun_again}
 
-module _ {P T R V S Z E : Type 0} (w : World P T S E) (fresh : Z → Type 0) (m : Meaning P T R V S) (s left : S) (first : Bool) (z z' : Z) (d : fresh z') (old mid : View P T) (f0 f1 : Failures) where
+module _ {P T R V S Z E : Type 0} (w : World P T S E) (fresh : Z → Type 0) (m : Meaning P T R E V S) (s left : S) (first : Bool) (z z' : Z) (d : fresh z') (old mid : View P T) (f0 f1 : Failures) where
   abbrev inner : Run P T S
   inner = record { first = true; state = s; left = left; old = old; new = mid; before = f0; after = f1 }
 
-  abbrev again : Meaning P T R V Z
+  abbrev again : Meaning P T R E V Z
   again = begun_again m
 
   abbrev outer : View P T → Failures → Run P T Z
   outer new f2 = record { first = first; state = z; left = z'; old = old; new = new; before = f0; after = f2 }
 
   meant : (o : Outcome V) → m.whole old o → begun again first z old o
-  meant o p = into_begun m.whole ⊥ m.lean m.adds first z old o p
+  meant o p = into_begun m.whole ⊥ m.lean m.adds m.refuses first z old o p
 
   left_too : Leaves w inner → Leaves (around w fresh) (outer mid f1)
   left_too p = record { count = p.count; taken = p.taken; state = d }
@@ -68,7 +68,7 @@ module _ {P T R V S Z E : Type 0} (w : World P T S E) (fresh : Z → Type 0) (m 
 
   module _ (e : E) (q : (w.kind e ≡ kinds.End) × (mid.is_open ≡ true)) (p : Answers w m inner (CommitErr e)) (marked : View P T → Type 0) (i : marked old) (new : View P T) (f2 : Failures) where
     put_back_too : ResetTo w.steady w.step marked mid new f1 f2 (Ok tt) → Answers (around w fresh) again (outer new f2) (CommitErr e)
-    put_back_too b = needs w fresh m again inner (outer new f2) e q p refl (λ y. asks (around w fresh) m.whole ⊥ m.lean m.adds (outer new f2) y.is_open y.meant (λ x. absurd x) (b.is.0 old i) (λ x. b.is.1 x ∙ y.failures x))
+    put_back_too b = needs w fresh m again inner (outer new f2) e q p refl (λ y. asks (around w fresh) m.whole ⊥ m.lean m.adds m.refuses (outer new f2) y.is_open y.meant (λ x. absurd x) (b.is.0 old i) (λ x. b.is.1 x ∙ y.failures x))
 
     not_put_back : (k : Kind) → ResetTo w.steady w.step marked mid new f1 f2 (Err k) → f0.resets ≤ f1.resets → (x : E) → w.kind x ≡ k → Answers (around w fresh) again (outer new f2) (CommitErr x)
     not_put_back k b g x j =
@@ -78,7 +78,7 @@ module _ {P T R V S Z E : Type 0} (w : World P T S E) (fresh : Z → Type 0) (m 
         unreset (around w fresh) again (outer new f2) x (j ∙ b.is.0) (record { count = y.count + n.count; taken = takes_more w.step y.count n.count old mid new y.taken n.taken; state = d }) (omega arith)
 
 -- the same by the clause of such a call, in first mode or not
-module _ {P T R V S Z E : Type 0} (w : World P T S E) (fresh : Z → Type 0) (m : Meaning P T R V S) (old mid : View P T) (f0 f1 : Failures) where
+module _ {P T R V S Z E : Type 0} (w : World P T S E) (fresh : Z → Type 0) (m : Meaning P T R E V S) (old mid : View P T) (f0 f1 : Failures) where
   pub begins_accepted : (v : V) → Starts w m old mid f0 f1 (CommitOk v) → BeginsAgain (around w fresh) m old mid f0 f1 (CommitOk v)
   begins_accepted v p = record { answers = λ first z z' d. accepted_too w fresh m p.state p.left first z z' d old mid f0 f1 v p.answers }
 

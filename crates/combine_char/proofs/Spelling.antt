@@ -18,7 +18,8 @@ use Rattle.combine_base.proofs.Same.{answers_alike}
 use Rattle.combine_token.specs.Iterated.{IsIterated, iterated}
 use Rattle.combine_token.specs.Listed.{Within, listed}
 use Rattle.combine_token.specs.Reasons.{RefusesList}
-use Rattle.combine_token.specs.TokenLists.{TokenList, token_list}
+use Rattle.combine_token.specs.TokenLists.{TokenList}
+use Rattle.combine_token.specs.TokenListLaws.{token_list}
 use Rattle.combine_token.proofs.Giving.{listed_within, token_list_alike}
 use Rattle.combine_token.proofs.Listing.{iterated_within, refuses_within}
 use Rattle.combine_token.proofs.StdLists.{chars_gives, chars_is_iterated, chars_lists, slice_gives, slice_is_iterated, slice_lists}
@@ -66,14 +67,15 @@ module _ {A : Type 0} (items : Iter A) (xs : List A) (e : iter_rest items ≡ xs
     within_slice = listed_within clones_slice makes_slice iter_steps items (λ x. x.now) xs (slice_gives clones_slice makes_slice items xs items items refl refl e) (λ x. compares x.now) compares (λ x t b p. p)
 
 -- what is answered by one list, with some values, is answered by another of which the same is known, with the same values
-module _ {P T R V S E : Type 0} (w : World P T S E) (l l' : TokenList T) (h : Within l l') (k : Within l' l) (gives gives' : V → Type 0) (alike : (v : V) → (gives v → gives' v) × (gives' v → gives v)) (matched : S → ℕ) (lean : Type 0) (infallible : lean) (adds adds' : List (Item T R) → Type 0) (r : Run P T S) where
-  pub given_answers : (result : ParseResult V E) → Answers w (token_list l gives matched lean adds) r result → Answers w (token_list l' gives' matched (Unit {0}) adds') r result
-  given_answers = answers_alike w (token_list l' gives' matched (Unit {0}) adds') (token_list l gives matched lean adds) (token_list_alike l' l k h gives' gives (λ v. ((alike v).1, (alike v).0)) matched (Unit {0}) lean (λ p. infallible, λ p. tt) adds' adds) r
+module _ {P T R V S E : Type 0} (w : World P T S E) (errors : Errors T R P E) (expected : Option (Info T R)) (l l' : TokenList T) (h : Within l l') (k : Within l' l) (gives gives' : V → Type 0) (alike : (v : V) → (gives v → gives' v) × (gives' v → gives v)) (matched : S → ℕ) (lean : Type 0) (infallible : lean) (adds adds' : List (Item T R) → Type 0) (r : Run P T S) where
+  pub given_answers : (result : ParseResult V E) → Answers w (token_list errors l expected gives matched lean adds) r result → Answers w (token_list errors l' expected gives' matched (Unit {0}) adds') r result
+  given_answers = answers_alike w (token_list errors l' expected gives' matched (Unit {0}) adds') (token_list errors l expected gives matched lean adds) (token_list_alike l' l k h gives' gives (λ v. ((alike v).1, (alike v).0)) errors expected expected matched (Unit {0}) lean (λ p. infallible, λ p. tt) adds' adds) r
 
-module _ {P T R V S E : Type 0} (w : World P T S E) (l l' : TokenList T) (h : Within l l') (k : Within l' l) (gives : V → Type 0) (matched : S → ℕ) (lean : Type 0) (infallible : lean) (adds adds' : List (Item T R) → Type 0) (r : Run P T S) where
-  pub spelled_answers : (result : ParseResult V E) → Answers w (token_list l gives matched lean adds) r result → Answers w (token_list l' gives matched (Unit {0}) adds') r result
-  spelled_answers = given_answers w l l' h k gives gives (λ v. (λ p. p, λ p. p)) matched lean infallible adds adds' r
+module _ {P T R V S E : Type 0} (w : World P T S E) (errors : Errors T R P E) (expected : Option (Info T R)) (l l' : TokenList T) (h : Within l l') (k : Within l' l) (gives : V → Type 0) (matched : S → ℕ) (lean : Type 0) (infallible : lean) (adds adds' : List (Item T R) → Type 0) (r : Run P T S) where
+  pub spelled_answers : (result : ParseResult V E) → Answers w (token_list errors l expected gives matched lean adds) r result → Answers w (token_list errors l' expected gives matched (Unit {0}) adds') r result
+  spelled_answers = given_answers w errors expected l l' h k gives gives (λ v. (λ p. p, λ p. p)) matched lean infallible adds adds' r
 
-module _ {P T R V E : Type 0} (s : Errors T R P E) (is_open : Bool) (l l' : TokenList T) (h : Within l l') (expected : Option (Info T R)) (n : ℕ) (v : View P T) where
-  pub spelled_reasons : (result : ParseResult V E) → Reasoned s.kind is_open (RefusesList s l expected n v) result → Reasoned s.kind is_open (RefusesList s l' expected n v) result
-  spelled_reasons result = reasons_into s.kind is_open (RefusesList s l expected n v) (RefusesList s l' expected n v) result (λ k e. refuses_within l l' h s expected n v k e)
+-- and its error is the same
+module _ {P T R V E : Type 0} (s : Errors T R P E) (is_open : Bool) (l l' : TokenList T) (h : Within l l') (expected : Option (Info T R)) (n : ℕ) (v w : View P T) where
+  pub spelled_reasons : (result : ParseResult V E) → Reasoned s.kind is_open (RefusesList s l expected n v w) result → Reasoned s.kind is_open (RefusesList s l' expected n v w) result
+  spelled_reasons result = reasons_into s.kind is_open (RefusesList s l expected n v w) (RefusesList s l' expected n v w) result (λ k e. refuses_within l l' h s expected n v w k e)

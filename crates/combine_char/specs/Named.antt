@@ -4,9 +4,9 @@ use Rattle.combine_base.specs.Error.Errors.{Only}
 use Rattle.combine_base.specs.Error.Items.{Expected, Fixed}
 use Rattle.combine_base.specs.Parser.Meaning.{Meaning, IsMeaning, MeansOne, MeansSame, Alike}
 
-module _ {P T R V S : Type 0} (text : List ℕ) where
+module _ {P T R E V S : Type 0} (text : List ℕ) where
   -- the same, but it adds that text alone, as what was expected
-  abbrev pub named : Meaning P T R V S → Meaning P T R V S
+  abbrev pub named : Meaning P T R E V S → Meaning P T R E V S
   named m = record {
     whole = m.whole;
     rest = m.rest;
@@ -15,15 +15,17 @@ module _ {P T R V S : Type 0} (text : List ℕ) where
     puts_back = m.puts_back;
     lean = m.lean;
     adds = Only (Expected (Fixed text));
+    refuses = m.refuses;
+    refuses_from = m.refuses_from;
   }
 
-  pub named_is_meaning : (fresh valid : S → Type 0) (m : Meaning P T R V S) → IsMeaning fresh valid m → IsMeaning fresh valid (named m)
-  named_is_meaning fresh valid m h = record { whole = h.whole; rest = h.rest; start = h.start; found = h.found }
+  pub named_is_meaning : (fresh valid : S → Type 0) (m : Meaning P T R E V S) → IsMeaning fresh valid m → IsMeaning fresh valid (named m)
+  named_is_meaning fresh valid m h = record { whole = h.whole; rest = h.rest; start = h.start; found = h.found; reasons = h.reasons }
 
-  pub named_means_one : (valid : S → Type 0) (m : Meaning P T R V S) → MeansOne valid m → MeansOne valid (named m)
+  pub named_means_one : (valid : S → Type 0) (m : Meaning P T R E V S) → MeansOne valid m → MeansOne valid (named m)
   named_means_one valid m h = record { whole = h.whole; rest = h.rest }
 
-  pub named_means_same : (m m' : Meaning P T R V S) → MeansSame m m' → MeansSame (named m) (named m')
+  pub named_means_same : (m m' : Meaning P T R E V S) → MeansSame m m' → MeansSame (named m) (named m')
   named_means_same m m' h = record {
     whole = h.whole;
     rest = h.rest;
@@ -32,9 +34,11 @@ module _ {P T R V S : Type 0} (text : List ℕ) where
     puts_back = h.puts_back;
     lean = h.lean;
     adds = λ is. (λ p. p, λ p. p);
+    refuses = h.refuses;
+    refuses_from = h.refuses_from;
   }
 
-  pub named_alike : (m : Meaning P T R V S) → Alike (named m) m
+  pub named_alike : (m : Meaning P T R E V S) → Alike (named m) m
   named_alike m = record {
     whole = λ v o. (λ p. p, λ p. p);
     rest = λ s v o. (λ p. p, λ p. p);

@@ -3,12 +3,11 @@ ghost use Rattle.std.specs.Prelude.{◌≡◌, ◌<◌, ◌^◌, None, length};
 ghost use Rattle.std.specs.Slice.Iter.{iter_rest};
 ghost use Rattle.combine_base.specs.Error.Errors.{Nothing};
 ghost use Rattle.combine_base.specs.Parser.AnswersCalls.{AnswersCall};
-ghost use Rattle.combine_base.specs.Parser.Reasons.{Reasoned, kept_from};
+ghost use Rattle.combine_base.specs.Parser.Reasons.{Reasoned};
 ghost use Rattle.combine_base.specs.Stream.Calls.{Passes};
 ghost use Rattle.combine_token.specs.Listed.{listed};
 ghost use Rattle.combine_token.specs.Reasons.{RefusesList, begins_at};
-ghost use Rattle.combine_token.specs.TokenLists.{token_list};
-ghost use Rattle.combine_token.specs.TokenListLaws.{token_list_is_meaning, token_list_means_one};
+ghost use Rattle.combine_token.specs.TokenListLaws.{token_list, token_list_is_meaning, token_list_means_one};
 ghost use Rattle.combine_token.specs.TokenParsers.{matched_before};
 ghost use Rattle.combine_char.specs.TextParsers.{bytes_of, fits_of_bytes, in_bytes_parser};
 ghost use Rattle.combine_char.specs.Spelled.{SaysRange, listed_compares_once, listed_ends_once};
@@ -88,9 +87,7 @@ where
 
     ghost valid = { λ s. Unit {0} };
 
-    ghost meaning = { λ p. token_list (listed (F.compares (fits_of_bytes p)) (bytes_of p).now) (λ v. v ≡ bytes_of p) matched_before (Unit {0}) (SaysRange (Input.Range.shows (bytes_of p).now)) };
-
-    ghost refuses = { λ p k. RefusesList Input.Error.seen (listed (F.compares (fits_of_bytes p)) (bytes_of p).now) None (begins_at matched_before k) };
+    ghost meaning = { λ p. token_list Input.Error.seen (listed (F.compares (fits_of_bytes p)) (bytes_of p).now) None (λ v. v ≡ bytes_of p) matched_before (Unit {0}) (SaysRange (Input.Range.shows (bytes_of p).now)) };
 
     ghost parts = { λ p. 1 };
 
@@ -118,9 +115,9 @@ where
 
     ghost default_valid = { λ s d. tt };
 
-    ghost laws = { λ p l. token_list_is_meaning _ _ _ _ _ _ _ (λ s d. d) };
+    ghost laws = { λ p l. token_list_is_meaning Input.Error.seen _ _ _ _ _ _ _ _ (λ s d. d) };
 
-    ghost single = { λ p l d. token_list_means_one (λ _. Unit {0}) _ _ _ _ _ _ (listed_ends_once _ _) (listed_compares_once _ _ (F.once (fits_of_bytes p) d)) };
+    ghost single = { λ p l d. token_list_means_one Input.Error.seen _ _ _ _ _ _ (λ _. Unit {0}) (λ _. Unit {0}) (listed_ends_once _ _) (listed_compares_once _ _ (F.once (fits_of_bytes p) d)) };
 }
 
 /// One call of a parser of the bytes of a list.
@@ -136,9 +133,9 @@ where
     F: Fits<u8, Input::Token>,
     requires { F.ready fits.now }
     ensures passes { Passes (Input.marks input.old) (Input.marks input.new) (Input.failures input.old) (Input.failures input.new) }
-    ensures answers { AnswersCall Input.StreamOnce Input.Error.seen (λ s. matched_before s ≡ 0) (token_list (listed (F.compares fits.now) bytes.now) (λ v. v ≡ bytes.entry) matched_before (Unit {0}) (Nothing {R = Input.Range})) (M.first mode) state.old state.new input.old input.new result }
+    ensures answers { AnswersCall Input.StreamOnce Input.Error.seen (λ s. matched_before s ≡ 0) (token_list Input.Error.seen (listed (F.compares fits.now) bytes.now) None (λ v. v ≡ bytes.entry) matched_before (Unit {0}) (Nothing {R = Input.Range})) (M.first mode) state.old state.new input.old input.new result }
     ensures refuses { Reasoned Input.Error.seen.kind (Input.view input.new).is_open
-        (RefusesList Input.Error.seen (listed (F.compares fits.now) bytes.now) None (begins_at matched_before (kept_from (M.first mode) state.old)) (Input.view input.old))
+        (RefusesList Input.Error.seen (listed (F.compares fits.now) bytes.now) None (begins_at matched_before (M.first mode) state.old) (Input.view input.old) (Input.view input.new))
         result }
 {
     let items = listed_items(bytes);

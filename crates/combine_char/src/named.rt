@@ -42,8 +42,6 @@ impl<Input: Stream, P: Parser<Input>, N: Text> Parser<Input> for Named<P, N> {
 
     ghost meaning = { λ p. named N.bytes (P.meaning (parser_named p)) };
 
-    ghost refuses = { λ p. P.refuses (parser_named p) };
-
     ghost parts = { λ p. P.parts (parser_named p) };
 
     #[inline(always)]

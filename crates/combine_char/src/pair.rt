@@ -1,5 +1,5 @@
 //! A pair that is taken as a whole, or not at all where more is needed. Our own.
-ghost use Rattle.std.specs.Prelude.{◌≡◌, None};
+ghost use Rattle.std.specs.Prelude.{◌≡◌};
 ghost use Rattle.combine_base.specs.Parser.Answer.{world};
 ghost use Rattle.combine_base.specs.Parser.Meaning.{MeansSame};
 ghost use Rattle.combine_base.specs.Parser.Reasons.{Reasoned};
@@ -38,8 +38,6 @@ impl<Input: Stream, A: Drop, B: Drop, P: Parser<Input, Output = (A, B)>> Parser<
     ghost valid = { λ s. Unit {0} };
 
     ghost meaning = { λ p. whole_pair (P.meaning (pair_of p)) };
-
-    ghost refuses = { λ p k. P.refuses (pair_of p) None };
 
     ghost parts = { λ p. P.parts (pair_of p) };
 
@@ -86,7 +84,7 @@ fn begin_again<Input: Stream, P: Parser<Input>>(
     ensures same { MeansSame (P.meaning part.old) (P.meaning part.new) }
     ensures passes { Passes (Input.marks input.old) (Input.marks input.new) (Input.failures input.old) (Input.failures input.new) }
     ensures answers { BeginsAgain (world Input.step Input.Error.seen Input.steady ⟦<() as Default>⟧.is_default) (P.meaning part.old) (Input.view input.old) (Input.view input.new) (Input.failures input.old) (Input.failures input.new) result }
-    ensures refuses { Reasoned Input.Error.seen.kind (Input.view input.new).is_open (P.refuses part.old None (Input.view input.old)) result }
+    ensures refuses { Reasoned Input.Error.seen.kind (Input.view input.new).is_open ((P.meaning part.old).refuses (Input.view input.old) (Input.view input.new)) result }
 {
     let start = input.checkpoint();
     let position = input.position();

@@ -5,12 +5,11 @@ ghost use Rattle.std.specs.Str.Iter.{chars_rest};
 ghost use Rattle.combine_base.specs.Error.Errors.{Nothing, Only};
 ghost use Rattle.combine_base.specs.Error.Items.{Expected, Fixed};
 ghost use Rattle.combine_base.specs.Parser.AnswersCalls.{AnswersCall};
-ghost use Rattle.combine_base.specs.Parser.Reasons.{Reasoned, kept_from};
+ghost use Rattle.combine_base.specs.Parser.Reasons.{Reasoned};
 ghost use Rattle.combine_base.specs.Stream.Calls.{Passes};
 ghost use Rattle.combine_token.specs.Listed.{listed};
 ghost use Rattle.combine_token.specs.Reasons.{RefusesList, begins_at};
-ghost use Rattle.combine_token.specs.TokenLists.{token_list};
-ghost use Rattle.combine_token.specs.TokenListLaws.{token_list_is_meaning, token_list_means_one};
+ghost use Rattle.combine_token.specs.TokenListLaws.{token_list, token_list_is_meaning, token_list_means_one};
 ghost use Rattle.combine_token.specs.TokenParsers.{matched_before};
 ghost use Rattle.combine_char.specs.TextParsers.{fits_of_text, in_text_parser, text_of};
 ghost use Rattle.combine_char.specs.Spelled.{listed_compares_once, listed_ends_once};
@@ -58,9 +57,7 @@ impl<Input: Stream, F: Fits<char, Input::Token>> Parser<Input> for InText<Input,
 
     ghost valid = { λ s. Unit {0} };
 
-    ghost meaning = { λ p. token_list (listed (F.compares (fits_of_text p)) (chars (text_of p).now)) (λ v. v ≡ text_of p) matched_before (Unit {0}) (Only (Expected (Fixed (text_of p).now))) };
-
-    ghost refuses = { λ p k. RefusesList Input.Error.seen (listed (F.compares (fits_of_text p)) (chars (text_of p).now)) None (begins_at matched_before k) };
+    ghost meaning = { λ p. token_list Input.Error.seen (listed (F.compares (fits_of_text p)) (chars (text_of p).now)) None (λ v. v ≡ text_of p) matched_before (Unit {0}) (Only (Expected (Fixed (text_of p).now))) };
 
     ghost parts = { λ p. 1 };
 
@@ -87,9 +84,9 @@ impl<Input: Stream, F: Fits<char, Input::Token>> Parser<Input> for InText<Input,
 
     ghost default_valid = { λ s d. tt };
 
-    ghost laws = { λ p l. token_list_is_meaning _ _ _ _ _ _ _ (λ s d. d) };
+    ghost laws = { λ p l. token_list_is_meaning Input.Error.seen _ _ _ _ _ _ _ _ (λ s d. d) };
 
-    ghost single = { λ p l d. token_list_means_one (λ _. Unit {0}) _ _ _ _ _ _ (listed_ends_once _ _) (listed_compares_once _ _ (F.once (fits_of_text p) d)) };
+    ghost single = { λ p l d. token_list_means_one Input.Error.seen _ _ _ _ _ _ (λ _. Unit {0}) (λ _. Unit {0}) (listed_ends_once _ _) (listed_compares_once _ _ (F.once (fits_of_text p) d)) };
 }
 
 /// One call of a parser of the characters of a text.
@@ -105,9 +102,9 @@ where
     F: Fits<char, Input::Token>,
     requires { F.ready fits.now }
     ensures passes { Passes (Input.marks input.old) (Input.marks input.new) (Input.failures input.old) (Input.failures input.new) }
-    ensures answers { AnswersCall Input.StreamOnce Input.Error.seen (λ s. matched_before s ≡ 0) (token_list (listed (F.compares fits.now) (chars text.now)) (λ v. v ≡ text.entry) matched_before (Unit {0}) (Nothing {R = Input.Range})) (M.first mode) state.old state.new input.old input.new result }
+    ensures answers { AnswersCall Input.StreamOnce Input.Error.seen (λ s. matched_before s ≡ 0) (token_list Input.Error.seen (listed (F.compares fits.now) (chars text.now)) None (λ v. v ≡ text.entry) matched_before (Unit {0}) (Nothing {R = Input.Range})) (M.first mode) state.old state.new input.old input.new result }
     ensures refuses { Reasoned Input.Error.seen.kind (Input.view input.new).is_open
-        (RefusesList Input.Error.seen (listed (F.compares fits.now) (chars text.now)) None (begins_at matched_before (kept_from (M.first mode) state.old)) (Input.view input.old))
+        (RefusesList Input.Error.seen (listed (F.compares fits.now) (chars text.now)) None (begins_at matched_before (M.first mode) state.old) (Input.view input.old) (Input.view input.new))
         result }
 {
     let items = characters(text);

@@ -17,7 +17,7 @@ drop_past [] (suc i) l = refl
 drop_past (x ∷ xs) zero l = absurd (omega arith)
 drop_past (x ∷ xs) (suc i) l = drop_past xs i (omega arith)
 
-module _ {X P T R V S : Type 0} (m : X → Meaning P T R V S) where
+module _ {X P T R E V S : Type 0} (m : X → Meaning P T R E V S) where
   pub same_self : (xs : List X) → AllSame m xs xs
   same_self [] = tt
   same_self (x ∷ xs) = (same_none (m x), same_self xs)

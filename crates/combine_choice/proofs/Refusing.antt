@@ -4,12 +4,14 @@ use Rattle.std.specs.declared.cmp.Ordering.{Ordering}
 use Rattle.combine_base.specs.Stream.View.{View, Takes, Moves, extended, Follows}
 use Rattle.combine_base.specs.Stream.Advance.{extended_none, follows_none, stands}
 use Rattle.combine_base.specs.Parser.Outcome.{Outcome, Refused}
-use Rattle.combine_base.specs.Parser.Meaning.{Meaning, IsReading, IsMeaning, begun}
+use Rattle.combine_base.specs.Parser.Meaning.{Meaning, MeantRefusal, IsReading, IsMeaning, begun, begun_refuses}
 use Rattle.combine_base.specs.Parser.Answer.{Run, World, Answers, Refuses, Leaves, peeks, world}
 use Rattle.combine_base.specs.Error.Errors.{Errors, IsFault, joined_kind}
 use Rattle.combine_base.specs.Stream.Calls.{Passes}
 use Rattle.combine_base.proofs.Calls.{peeked_refusal, unreset}
 use Rattle.combine_base.proofs.Progress.{takes_more}
+use Rattle.combine_base.proofs.Refusing.{reasoned_meant}
+use Rattle.combine_base.specs.Parser.Reasons.{Reasoned}
 use Rattle.combine_base.proofs.Starting.{need_or_not}
 use Rattle.combine_base.specs.declared.stream.Kind.{Kind}
 use Rattle.combine_base.specs.declared.stream.Kind.TheVariants as kinds
@@ -51,10 +53,10 @@ peeked_joined b kinds.Read k p q = absurd p
 peeked_joined b kinds.Reset k p q = absurd p
 peeked_joined b kinds.Lost k p q = absurd p
 
-module _ {X P T R V S E : Type 0} (w : World P T S E) (m : X → Meaning P T R V S) (xs : List X) (began : Bool) (given : SliceState S) (old : View P T) (before : Failures) where
+module _ {X P T R V S E : Type 0} (w : World P T S E) (errors : Errors T R P E) (cmp : P → P → Ordering) (m : X → Meaning P T R E V S) (xs : List X) (began : Bool) (given : SliceState S) (old : View P T) (before : Failures) where
   -- the alternatives before ys were refused peeked
   pub record Refusing (ys : List X) (now : View P T) (so_far : Failures) (why : Kind) : Type 0 where
-    pub gives : (x : List T) (b : Bool) (o : Outcome V) → Follows old.is_open x b → first_of m ys (extended x b old) o → begun (choice_of m xs) began given (extended x b old) o
+    pub gives : (x : List T) (b : Bool) (o : Outcome V) → Follows old.is_open x b → first_of m ys (extended x b old) o → begun (choice_of errors cmp m xs) began given (extended x b old) o
     pub count : ℕ
     pub taken : Takes w.step count old now
     pub failures : w.steady → so_far ≡ before
@@ -67,9 +69,9 @@ module _ {X P T R V S E : Type 0} (w : World P T S E) (m : X → Meaning P T R V
 
   -- the first of those that are left is tried
   abbrev pub TriesOne : X → List X → Bool → S → View P T → Failures → Type 0
-  TriesOne x ys first s now so_far = Tries w (λ (s : SliceState S). s ≡ Peek) (m x) (first_of m ys) (choice_of m xs) first s now so_far began given old before
+  TriesOne x ys first s now so_far = Tries w (λ (s : SliceState S). s ≡ Peek) (m x) (first_of m ys) (choice_of errors cmp m xs) first s now so_far began given old before
 
-  peeks_kind : (a : Meaning P T R V S) (r : Run P T S) (k : Kind) → r.old ≡ old → peeks w a r k → IsPeeked old.is_open k
+  peeks_kind : (a : Meaning P T R E V S) (r : Run P T S) (k : Kind) → r.old ≡ old → peeks w a r k → IsPeeked old.is_open k
   peeks_kind a r kinds.Refused e p = tt
   peeks_kind a r kinds.End e p = ap (λ (v : View P T). v.is_open) (sym e) ∙ p.0
   peeks_kind a r kinds.Memory e p = p
@@ -131,22 +133,26 @@ module _ {X P T R V S E : Type 0} (w : World P T S E) (m : X → Meaning P T R V
   }
 
 -- the alternative at an index begins
-pub begins_at : {X P T R V S E : Type 0} (w : World P T S E) (valid : S → Type 0) (m : X → Meaning P T R V S) (xs : List X) (i : ℕ) (x : X) (ys : List X) → drop i xs ≡ x ∷ ys → IsMeaning w.fresh valid (m x) → (first : Bool) (s : S) → (first ≡ true → w.fresh s) → (v : View P T) (f : Failures) → TriesOne w m xs false (At i s) v f x ys first s v f
-begins_at {X} {P} {T} {R} {V} {S} w valid m xs i x ys here h first s d v f =
-    tries_start w (λ s. s ≡ Peek) (m x) (first_of m ys) (choice_of m xs) valid h first s (At i s) d
+pub begins_at : {X P T R E V S : Type 0} (w : World P T S E) (errors : Errors T R P E) (cmp : P → P → Ordering) (valid : S → Type 0) (m : X → Meaning P T R E V S) (xs : List X) (i : ℕ) (x : X) (ys : List X) → drop i xs ≡ x ∷ ys → IsMeaning w.fresh valid (m x) → (first : Bool) (s : S) → (first ≡ true → w.fresh s) → (v : View P T) (f : Failures) → TriesOne w errors cmp m xs false (At i s) v f x ys first s v f
+begins_at {X} {P} {T} {R} {E} {V} {S} w errors cmp valid m xs i x ys here h first s d v f =
+    tries_start w (λ s. s ≡ Peek) (m x) (first_of m ys) (choice_of errors cmp m xs) valid h first s (At i s) d
     (λ v o j. subst (λ zs. goes_on m (first_of m xs) zs s v o) (sym here) j)
     (λ v j. subst (λ zs. running_lost m zs s v) (sym here) j)
     (λ k. (at_here (λ a. a.keeps) k).0) (λ k. (at_here (λ a. a.puts_back) k).0) (λ k. (at_here (λ a. a.lean) k).0) v f
   where
-    at_here : (g : Meaning P T R V S → Type 0) → every m g xs → every m g (x ∷ ys)
+    at_here : (g : Meaning P T R E V S → Type 0) → every m g xs → every m g (x ∷ ys)
     at_here g k = subst (λ zs. every m g zs) here (every_drop m g i xs k)
 
 -- what a turn peeks is no fault
-pub turn_no_fault : {P T R V S S' E : Type 0} (w : World P T S E) (m : Meaning P T R V S) (peek : S') (at : S → S') (first : Bool) (given : S) (kept : S') (old new : View P T) (before after : Failures) (answer : ParseResult V E) → Turn w m peek at first given kept old new before after answer → PeeksNoFault w.kind answer
+pub turn_no_fault : {P T R E V S S' : Type 0} (w : World P T S E) (m : Meaning P T R E V S) (peek : S') (at : S → S') (first : Bool) (given : S) (kept : S') (old new : View P T) (before after : Failures) (answer : ParseResult V E) → Turn w m peek at first given kept old new before after answer → PeeksNoFault w.kind answer
 turn_no_fault w m peek at first given kept old new before after (CommitOk v) t = tt
 turn_no_fault w m peek at first given kept old new before after (PeekOk v) t = tt
 turn_no_fault w m peek at first given kept old new before after (CommitErr e) t = tt
 turn_no_fault w m peek at first given kept old new before after (PeekErr e) t = no_fault w m (record { first = first; state = given; left = t.left; old = old; new = new; before = before; after = after }) e t.answers
+
+-- a turn refuses with what its alternative refuses with where it refuses
+pub turn_meant : {P T R E V S S' : Type 0} (w : World P T S E) (m : Meaning P T R E V S) (peek : S') (at : S → S') (first : Bool) (given : S) (kept : S') (old new : View P T) (before after : Failures) (answer : ParseResult V E) → Turn w m peek at first given kept old new before after answer → Reasoned w.kind new.is_open (begun_refuses m first given old new) answer → Reasoned w.kind new.is_open (MeantRefusal (begun m first given) (begun_refuses m first given) old new) answer
+turn_meant w m peek at first given kept old new before after answer t r = reasoned_meant t.answers r
 
 -- an answer that isn't a peeked refusal
 abbrev pub IsSettled : {V E : Type 0} → ParseResult V E → Type 0
@@ -155,7 +161,7 @@ IsSettled (PeekOk v) = Unit {0}
 IsSettled (CommitErr e) = Unit {0}
 IsSettled (PeekErr t) = ⊥
 
-module _ {X P T R V S E : Type 0} (step : P → T → P) (errors : Errors T R P E) (steady : Type 0) (fresh : S → Type 0) (m : X → Meaning P T R V S) (xs : List X) (began : Bool) (given : SliceState S) (old : View P T) (before : Failures) where
+module _ {X P T R V S E : Type 0} (step : P → T → P) (errors : Errors T R P E) (cmp : P → P → Ordering) (steady : Type 0) (fresh : S → Type 0) (m : X → Meaning P T R E V S) (xs : List X) (began : Bool) (given : SliceState S) (old : View P T) (before : Failures) where
   abbrev inner : World P T S E
   inner = world step errors steady fresh
 
@@ -170,77 +176,77 @@ module _ {X P T R V S E : Type 0} (step : P → T → P) (errors : Errors T R P 
     TakesTurn = Turn inner (m x) Peek (λ s. At at s) first s kept now new f after
 
     abbrev Now : Type 0
-    Now = TriesOne inner m xs began given old before x ys first s now f
+    Now = TriesOne inner errors cmp m xs began given old before x ys first s now f
 
     abbrev run_of : S → Run P T S
     run_of left = record { first = first; state = s; left = left; old = now; new = new; before = f; after = after }
 
     -- a turn's answer is the choice's, if it isn't a peeked refusal
-    pub turn_settles : Now → (result : ParseResult V E) → IsSettled result → TakesTurn result → Answers outer (choice_of m xs) whole_run result
-    turn_settles z (CommitOk v) i t = tries_commit_ok inner (λ s. s ≡ Peek) (m x) (first_of m ys) (choice_of m xs) (run_of t.left) whole_run z refl refl v (t.ends (λ a. a)) t.answers
-    turn_settles z (PeekOk v) i t = tries_peek_ok inner (λ s. s ≡ Peek) (m x) (first_of m ys) (choice_of m xs) (run_of t.left) whole_run z refl refl v (t.ends (λ a. a)) t.answers
+    pub turn_settles : Now → (result : ParseResult V E) → IsSettled result → TakesTurn result → Answers outer (choice_of errors cmp m xs) whole_run result
+    turn_settles z (CommitOk v) i t = tries_commit_ok inner (λ s. s ≡ Peek) (m x) (first_of m ys) (choice_of errors cmp m xs) (run_of t.left) whole_run z refl refl v (t.ends (λ a. a)) t.answers
+    turn_settles z (PeekOk v) i t = tries_peek_ok inner (λ s. s ≡ Peek) (m x) (first_of m ys) (choice_of errors cmp m xs) (run_of t.left) whole_run z refl refl v (t.ends (λ a. a)) t.answers
     turn_settles z (CommitErr e) i t =
         elim (need_or_not (errors.kind e) new.is_open) [
-          | inl y ↦ tries_asks inner (λ s. s ≡ Peek) (m x) (first_of m ys) (choice_of m xs) (run_of t.left) whole_run z refl refl e y t.answers (resting t.left (t.asks y)) (losing t.left (t.asks y))
-          | inr y ↦ tries_fails inner (λ s. s ≡ Peek) (m x) (first_of m ys) (choice_of m xs) (run_of t.left) whole_run z refl refl e y t.answers (λ k. t.ends y)
+          | inl y ↦ tries_asks inner (λ s. s ≡ Peek) (m x) (first_of m ys) (choice_of errors cmp m xs) (run_of t.left) whole_run z refl refl e y t.answers (resting t.left (t.asks y)) (losing t.left (t.asks y))
+          | inr y ↦ tries_fails inner (λ s. s ≡ Peek) (m x) (first_of m ys) (choice_of errors cmp m xs) (run_of t.left) whole_run z refl refl e y t.answers (λ k. t.ends y)
         ]
       where
-        resting : (left : S) → kept ≡ At at left → (v : View P T) (o : Outcome V) → (choice_of m xs).rest kept v o → Either ((m x).rest left) (first_of m ys) v o
+        resting : (left : S) → kept ≡ At at left → (v : View P T) (o : Outcome V) → (choice_of errors cmp m xs).rest kept v o → Either ((m x).rest left) (first_of m ys) v o
         resting left k v o j =
-            let a : goes_on m (first_of m xs) (drop at xs) left v o = subst (λ q. (choice_of m xs).rest q v o) k j in
+            let a : goes_on m (first_of m xs) (drop at xs) left v o = subst (λ q. (choice_of errors cmp m xs).rest q v o) k j in
             subst (λ zs. goes_on m (first_of m xs) zs left v o) here a
 
-        losing : (left : S) → kept ≡ At at left → (v : View P T) → (choice_of m xs).lost kept v → (m x).lost left v
+        losing : (left : S) → kept ≡ At at left → (v : View P T) → (choice_of errors cmp m xs).lost kept v → (m x).lost left v
         losing left k v j =
-            let a : running_lost m (drop at xs) left v = subst (λ q. (choice_of m xs).lost q v) k j in
+            let a : running_lost m (drop at xs) left v = subst (λ q. (choice_of errors cmp m xs).lost q v) k j in
             subst (λ zs. running_lost m zs left v) here a
     turn_settles z (PeekErr t) i k = absurd i
 
     -- want of memory for the merged error
-    unstored : Now → (t : Tracked E) (e : E) → TakesTurn (PeekErr t) → (errors.kind e ≡ kinds.Memory) × (errors.frugal → ⊥) → Answers outer (choice_of m xs) whole_run (CommitErr e)
+    unstored : Now → (t : Tracked E) (e : E) → TakesTurn (PeekErr t) → (errors.kind e ≡ kinds.Memory) × (errors.frugal → ⊥) → Answers outer (choice_of errors cmp m xs) whole_run (CommitErr e)
     unstored z t e k h =
         let c = peeked_refusal inner (m x) (run_of k.left) (errors.kind t.error) k.answers.is in
         let l : Leaves outer whole_run = record { count = c.leaves.count; taken = subst (λ v. Takes step c.leaves.count v new) z.same c.leaves.taken; state = k.ends (λ a. a) } in
         record { is = rw h.0 (λ f l. h.1 f, l) }
 
     -- so is what comes after peeked refusals
-    pub later_settles : Now → (cmp : P → P → Ordering) (so_far : E) (answer result : ParseResult V E) → IsSettled result → TakesTurn answer → AfterRefusal errors cmp so_far answer result → Answers outer (choice_of m xs) whole_run result
-    later_settles z cmp so_far (CommitOk v) result i t h = rw h.is (turn_settles z (CommitOk v) tt t)
-    later_settles z cmp so_far (PeekOk v) result i t h = rw h.is (turn_settles z (PeekOk v) tt t)
-    later_settles z cmp so_far (CommitErr e) result i t h = rw h.is (turn_settles z (CommitErr e) tt t)
-    later_settles z cmp so_far (PeekErr t) result i k h = by_result result i h.is
+    pub later_settles : Now → (so_far : E) (answer result : ParseResult V E) → IsSettled result → TakesTurn answer → AfterRefusal errors cmp so_far answer result → Answers outer (choice_of errors cmp m xs) whole_run result
+    later_settles z so_far (CommitOk v) result i t h = rw h.is (turn_settles z (CommitOk v) tt t)
+    later_settles z so_far (PeekOk v) result i t h = rw h.is (turn_settles z (PeekOk v) tt t)
+    later_settles z so_far (CommitErr e) result i t h = rw h.is (turn_settles z (CommitErr e) tt t)
+    later_settles z so_far (PeekErr t) result i k h = by_result result i h.is
       where
-        by_result : (result : ParseResult V E) → IsSettled result → refuses_both errors cmp so_far t.error result → Answers outer (choice_of m xs) whole_run result
+        by_result : (result : ParseResult V E) → IsSettled result → refuses_both errors cmp so_far t.error result → Answers outer (choice_of errors cmp m xs) whole_run result
         by_result (CommitOk v) i h = absurd h
         by_result (PeekOk v) i h = absurd h
         by_result (CommitErr e) i h = unstored z t e k h
         by_result (PeekErr u) i h = absurd i
 
     -- all those so far were refused peeked
-    pub later_refuses : {C : Type 0} {a d : C → View P T → Type 0} → Now → IsReading (begun (m x) first s) → (cmp : P → P → Ordering) (so_far : E) (answer : ParseResult V E) (e : Tracked E) → TakesTurn answer → AfterRefusal errors cmp so_far answer (PeekErr e) → IsPeeked old.is_open (errors.kind so_far) → Passes a d f after → (every m (λ a. a.keeps) xs → every m (λ a. a.keeps) ys) → (every m (λ a. a.puts_back) xs → every m (λ a. a.puts_back) ys) → (every m (λ a. a.lean) xs → every m (λ a. a.lean) ys) → Refusing inner m xs began given old before ys new after (errors.kind e.error) × (kept ≡ Peek)
-    later_refuses z y cmp so_far (CommitOk v) e t h p a ke pu le = absurd (let i = h.is in cc)
-    later_refuses z y cmp so_far (PeekOk v) e t h p a ke pu le = absurd (let i = h.is in cc)
-    later_refuses z y cmp so_far (CommitErr k) e t h p a ke pu le = absurd (let i = h.is in cc)
-    later_refuses z y cmp so_far (PeekErr k) e t h p a ke pu le =
+    pub later_refuses : {C : Type 0} {a d : C → View P T → Type 0} → Now → IsReading (begun (m x) first s) → (so_far : E) (answer : ParseResult V E) (e : Tracked E) → TakesTurn answer → AfterRefusal errors cmp so_far answer (PeekErr e) → IsPeeked old.is_open (errors.kind so_far) → Passes a d f after → (every m (λ a. a.keeps) xs → every m (λ a. a.keeps) ys) → (every m (λ a. a.puts_back) xs → every m (λ a. a.puts_back) ys) → (every m (λ a. a.lean) xs → every m (λ a. a.lean) ys) → Refusing inner errors cmp m xs began given old before ys new after (errors.kind e.error) × (kept ≡ Peek)
+    later_refuses z y so_far (CommitOk v) e t h p a ke pu le = absurd (let i = h.is in cc)
+    later_refuses z y so_far (PeekOk v) e t h p a ke pu le = absurd (let i = h.is in cc)
+    later_refuses z y so_far (CommitErr k) e t h p a ke pu le = absurd (let i = h.is in cc)
+    later_refuses z y so_far (PeekErr k) e t h p a ke pu le =
         let q = h.is in
-        (refusing_joined inner m xs began given old before ys new after (errors.kind so_far) (errors.kind k.error) (errors.kind e.error) p (refusing_next inner m xs began given old before x ys (run_of t.left) z y k t.answers a ke pu le) q.kind, t.ends (λ i. i))
+        (refusing_joined inner errors cmp m xs began given old before ys new after (errors.kind so_far) (errors.kind k.error) (errors.kind e.error) p (refusing_next inner errors cmp m xs began given old before x ys (run_of t.left) z y k t.answers a ke pu le) q.kind, t.ends (λ i. i))
 
   module _ (new : View P T) (after : Failures) (left : SliceState S) where
     abbrev ended_run : Run P T (SliceState S)
     ended_run = record { first = began; state = given; left = left; old = old; new = new; before = before; after = after }
 
     -- every alternative was refused peeked
-    pub refusing_end : (t : Tracked E) (ys : List X) → ys ≡ [] → Refusing inner m xs began given old before ys new after (errors.kind t.error) → left ≡ Peek → Answers outer (choice_of m xs) ended_run (PeekErr t)
+    pub refusing_end : (t : Tracked E) (ys : List X) → ys ≡ [] → Refusing inner errors cmp m xs began given old before ys new after (errors.kind t.error) → left ≡ Peek → Answers outer (choice_of errors cmp m xs) ended_run (PeekErr t)
     refusing_end t ys none h l = record { is = by_kind (errors.kind t.error) h.peeked }
       where
-        refusal : Refuses outer (choice_of m xs) ended_run false
+        refusal : Refuses outer (choice_of errors cmp m xs) ended_run false
         refusal = record {
-          meant = subst (λ v. begun (choice_of m xs) began given v (Refused false)) (extended_none old) (h.gives [] old.is_open (Refused false) (follows_none T old.is_open) (subst (λ zs. first_of m zs (extended [] old.is_open old) (Refused false)) (sym none) refl));
+          meant = subst (λ v. begun (choice_of errors cmp m xs) began given v (Refused false)) (extended_none old) (h.gives [] old.is_open (Refused false) (follows_none T old.is_open) (subst (λ zs. first_of m zs (extended [] old.is_open old) (Refused false)) (sym none) refl));
           leaves = record { count = h.count; taken = h.taken; state = l };
           failures = h.failures;
         }
 
-        by_kind : (k : Kind) → IsPeeked old.is_open k → peeks outer (choice_of m xs) ended_run k
+        by_kind : (k : Kind) → IsPeeked old.is_open k → peeks outer (choice_of errors cmp m xs) ended_run k
         by_kind kinds.Refused p = refusal
         by_kind kinds.End p = (p, refusal)
         by_kind kinds.Memory p = absurd p
@@ -249,9 +255,9 @@ module _ {X P T R V S E : Type 0} (step : P → T → P) (errors : Errors T R P 
         by_kind kinds.Lost p = absurd p
 
     -- the stream could not be put back for the next
-    pub refusing_unreset : (ys : List X) (now : View P T) (so_far : Failures) (why : Kind) → Refusing inner m xs began given old before ys now so_far why → (k : Kind) → (k ≡ kinds.Reset) × Moves step now new × (so_far.resets < after.resets) → left ≡ Peek → (e : E) → errors.kind e ≡ k → Answers outer (choice_of m xs) ended_run (CommitErr e)
+    pub refusing_unreset : (ys : List X) (now : View P T) (so_far : Failures) (why : Kind) → Refusing inner errors cmp m xs began given old before ys now so_far why → (k : Kind) → (k ≡ kinds.Reset) × Moves step now new × (so_far.resets < after.resets) → left ≡ Peek → (e : E) → errors.kind e ≡ k → Answers outer (choice_of errors cmp m xs) ended_run (CommitErr e)
     refusing_unreset ys now so_far why h k i l e q =
         let z = i.1 in
         let a = i.2 in
         let b = h.resets in
-        unreset outer (choice_of m xs) ended_run e (q ∙ i.0) (record { count = h.count + z.count; taken = takes_more step h.count z.count old now new h.taken z.taken; state = l }) (omega arith)
+        unreset outer (choice_of errors cmp m xs) ended_run e (q ∙ i.0) (record { count = h.count + z.count; taken = takes_more step h.count z.count old now new h.taken z.taken; state = l }) (omega arith)

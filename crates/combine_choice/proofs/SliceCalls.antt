@@ -1,5 +1,6 @@
 -- a call of the choice over a slice: where it begins, and that over no alternatives
 use Rattle.std.proofs.Common.{ℕ, zero, suc, ◌<◌, ◌≡◌, inl, List, [], ◌∷◌, Bool, true, false, length, drop, arith, refl, sym, subst}
+use Rattle.std.specs.declared.cmp.Ordering.{Ordering}
 use Rattle.combine_base.specs.Stream.View.{View}
 use Rattle.combine_base.specs.Parser.Outcome.{Outcome, Refused}
 use Rattle.combine_base.specs.Error.Errors.{Errors, Says}
@@ -18,9 +19,9 @@ use Rattle.combine_choice.proofs.Listed.{drop_past}
 use Rattle.combine_choice.specs.declared.choice.slice.SliceState.{SliceState}
 use Rattle.combine_choice.specs.declared.choice.slice.SliceState.TheVariants.{Peek, At}
 
-module _ {X P T R V S E : Type 0} (w : World P T (SliceState S) E) (m : X → Meaning P T R V S) (xs : List X) where
+module _ {X P T R V S E : Type 0} (w : World P T (SliceState S) E) (errors : Errors T R P E) (cmp : P → P → Ordering) (m : X → Meaning P T R E V S) (xs : List X) where
   abbrev pub Begins : SliceState S → Bool → SliceState S → View P T → Failures → Type 0
-  Begins s first given v f = Tries w w.fresh (choice_of m xs) refused (choice_of m xs) false s v f first given v f
+  Begins s first given v f = Tries w w.fresh (choice_of errors cmp m xs) refused (choice_of errors cmp m xs) false s v f first given v f
 
   -- from the state that is kept
   pub begins_kept : (s given : SliceState S) (first : Bool) → first ≡ false → given ≡ s → (v : View P T) (f : Failures) → Begins s first given v f
@@ -37,7 +38,7 @@ module _ {X P T R V S E : Type 0} (w : World P T (SliceState S) E) (m : X → Me
   }
 
   -- from the first alternative
-  pub begins_first : (fresh valid : S → Type 0) → every m (IsMeaning fresh valid) xs → 0 < length xs → (s : S) → fresh s → (first : Bool) (given : SliceState S) → ((v : View P T) (o : Outcome V) → first_of m xs v o → begun (choice_of m xs) first given v o) → (v : View P T) (f : Failures) → Begins (At 0 s) first given v f
+  pub begins_first : (fresh valid : S → Type 0) → every m (IsMeaning fresh valid) xs → 0 < length xs → (s : S) → fresh s → (first : Bool) (given : SliceState S) → ((v : View P T) (o : Outcome V) → first_of m xs v o → begun (choice_of errors cmp m xs) first given v o) → (v : View P T) (f : Failures) → Begins (At 0 s) first given v f
   begins_first fresh valid h l s d first given g v f = record {
     same = refl;
     gives = λ x b o j i. g _ o (whole xs h l _ o (last_is (chosen_rest m xs (At 0 s)) _ o i));
@@ -58,40 +59,40 @@ module _ {X P T R V S E : Type 0} (w : World P T (SliceState S) E) (m : X → Me
       found [] h k = k
       found (y ∷ ys) h k = h.0.found s v d k
 
-  first_mode : (first : Bool) (given : SliceState S) → first ≡ true → (v : View P T) (o : Outcome V) → first_of m xs v o → begun (choice_of m xs) first given v o
+  first_mode : (first : Bool) (given : SliceState S) → first ≡ true → (v : View P T) (o : Outcome V) → first_of m xs v o → begun (choice_of errors cmp m xs) first given v o
   first_mode first given e v o i = rw e i
 
-  at_peek : (first : Bool) (given : SliceState S) → first ≡ false → given ≡ Peek → (v : View P T) (o : Outcome V) → first_of m xs v o → begun (choice_of m xs) first given v o
+  at_peek : (first : Bool) (given : SliceState S) → first ≡ false → given ≡ Peek → (v : View P T) (o : Outcome V) → first_of m xs v o → begun (choice_of errors cmp m xs) first given v o
   at_peek first given e q v o i = rw (e, q) i
 
-  past_last : (first : Bool) (given : SliceState S) (j : ℕ) (s : S) → first ≡ false → given ≡ At j s → drop j xs ≡ [] → (v : View P T) (o : Outcome V) → first_of m xs v o → begun (choice_of m xs) first given v o
+  past_last : (first : Bool) (given : SliceState S) (j : ℕ) (s : S) → first ≡ false → given ≡ At j s → drop j xs ≡ [] → (v : View P T) (o : Outcome V) → first_of m xs v o → begun (choice_of errors cmp m xs) first given v o
   past_last first given j s e q n v o i = rw (e, q) (subst (λ zs. goes_on m (first_of m xs) zs s v o) (sym n) i)
 
   -- in each way to begin afresh
-  pub afresh : (first : Bool) (given : SliceState S) → Afresh first given (length xs) → (v : View P T) (o : Outcome V) → first_of m xs v o → begun (choice_of m xs) first given v o
+  pub afresh : (first : Bool) (given : SliceState S) → Afresh first given (length xs) → (v : View P T) (o : Outcome V) → first_of m xs v o → begun (choice_of errors cmp m xs) first given v o
   afresh first given (InFirst e) = first_mode first given e
   afresh first given (AtPeek e q) = at_peek first given e q
   afresh first given (PastLast e j s q l) = past_last first given j s e q (drop_past xs j l)
 
 -- there is no alternative
-module _ {X P T R V S E : Type 0} (step : P → T → P) (errors : Errors T R P E) (steady : Type 0) (m : X → Meaning P T R V S) (first : Bool) (given left : SliceState S) (v : View P T) (f : Failures) where
+module _ {X P T R V S E : Type 0} (step : P → T → P) (errors : Errors T R P E) (cmp : P → P → Ordering) (steady : Type 0) (m : X → Meaning P T R E V S) (first : Bool) (given left : SliceState S) (v : View P T) (f : Failures) where
   abbrev empty_run : Run P T (SliceState S)
   empty_run = record { first = first; state = given; left = left; old = v; new = v; before = f; after = f }
 
-  refuses_whole : (xs : List X) → xs ≡ [] → (b : Bool) (s : SliceState S) → begun (choice_of m xs) b s v (Refused false)
+  refuses_whole : (xs : List X) → xs ≡ [] → (b : Bool) (s : SliceState S) → begun (choice_of errors cmp m xs) b s v (Refused false)
   refuses_whole xs e true s = rw e refl
   refuses_whole xs e false Peek = rw e refl
   refuses_whole xs e false (At zero s) = rw e refl
   refuses_whole xs e false (At (suc i) s) = rw e refl
 
-  pub empty_answers : (xs : List X) → xs ≡ [] → left ≡ Peek → (result : ParseResult V E) → NoAlternative errors v.position result → Answers (world step errors steady (λ s. s ≡ Peek)) (choice_of m xs) empty_run result
+  pub empty_answers : (xs : List X) → xs ≡ [] → left ≡ Peek → (result : ParseResult V E) → NoAlternative errors v.position result → Answers (world step errors steady (λ s. s ≡ Peek)) (choice_of errors cmp m xs) empty_run result
   empty_answers xs e l (CommitOk a) h = absurd h.is
   empty_answers xs e l (PeekOk a) h = absurd h.is
   empty_answers xs e l (CommitErr k) h = record { is = let i = h.is in rw i.0 (λ f l. i.1 f, record { count = 0; taken = takes_none step v; state = l }) }
   empty_answers xs e l (PeekErr t) h = record { is = let i = h.is.0 in rw i (record { meant = refuses_whole xs e first given; leaves = record { count = 0; taken = takes_none step v; state = l }; failures = λ s. refl }) }
 
 -- what the alternatives add to an error, from one place on
-module _ {X P T R V S E : Type 0} (errors : Errors T R P E) (m : X → Meaning P T R V S) where
+module _ {X P T R V S E : Type 0} (errors : Errors T R P E) (m : X → Meaning P T R E V S) where
   -- what those from here on add makes up what all do
   pub record Adding (xs ys : List X) (old now : E) : Type 0 where
     pub rest : (e : E) → Says errors (every m (λ a. a.lean) ys) (adds_all m ys) now e → Says errors (every m (λ a. a.lean) xs) (adds_all m xs) old e

@@ -2,7 +2,9 @@
 use Rattle.std.specs.Prelude.{◌≡◌, List, [], ◌∷◌, ◌++◌, ◌↔◌, false, refl}
 use Rattle.std.proofs.Common.{ap, subst, sym, ◌∙◌}
 use Rattle.std.proofs.lemmas.List.{append-nil}
+use Rattle.std.specs.declared.cmp.Ordering.{Ordering}
 use Rattle.combine_base.specs.Stream.View.{View}
+use Rattle.combine_base.specs.Error.Errors.{Errors}
 use Rattle.combine_base.specs.Error.Items.{Item}
 use Rattle.combine_base.specs.Parser.Outcome.{Outcome, Accepted, Refused, Undecided}
 use Rattle.combine_base.specs.Parser.Meaning.{Meaning, Reading}
@@ -44,7 +46,7 @@ module _ {I : Type 0} where
     λ p. record { first = []; second = is; adds_first = refl; adds_second = p; all = refl },
   )
 
-module _ {X P T R V S : Type 0} (m : X → Meaning P T R V S) where
+module _ {X P T R E V S : Type 0} (m : X → Meaning P T R E V S) where
   first_append : (xs ys : List X) → Agree (Either (first_of m xs) (first_of m ys)) (first_of m (xs ++ ys))
   first_append [] ys = none_first (first_of m ys)
   first_append (x ∷ xs) ys =
@@ -53,7 +55,7 @@ module _ {X P T R V S : Type 0} (m : X → Meaning P T R V S) where
       let c = first_of m ys in
       agree_more (Either (Either a b) c) (Either a (Either b c)) (Either a (first_of m (xs ++ ys))) (either_assoc a b c) (either_both a a (Either b c) (first_of m (xs ++ ys)) (agree_self a) (first_append xs ys))
 
-  every_append : (f : Meaning P T R V S → Type 0) (xs ys : List X) → (every m f xs × every m f ys) ↔ every m f (xs ++ ys)
+  every_append : (f : Meaning P T R E V S → Type 0) (xs ys : List X) → (every m f xs × every m f ys) ↔ every m f (xs ++ ys)
   every_append f [] ys = (λ p. p.1, λ p. (tt, p))
   every_append f (x ∷ xs) ys =
       let i = every_append f xs ys in
@@ -64,8 +66,9 @@ module _ {X P T R V S : Type 0} (m : X → Meaning P T R V S) where
   adds_append (x ∷ xs) ys is =
       both_ways (together_assoc ((m x).adds) (adds_all m xs) (adds_all m ys) is) (together_both ((m x).adds) ((m x).adds) (Together (adds_all m xs) (adds_all m ys)) (adds_all m (xs ++ ys)) (λ js. (λ p. p, λ p. p)) (adds_append xs ys) is)
 
+module _ {X P T R E V S : Type 0} (errors : Errors T R P E) (cmp : P → P → Ordering) (m : X → Meaning P T R E V S) where
   -- one alternative is a choice of one
-  pub one_starts : (x : X) → StartsSame (m x) (choice_of m (x ∷ []))
+  pub one_starts : (x : X) → StartsSame (m x) (choice_of errors cmp m (x ∷ []))
   one_starts x = record {
     whole = λ v o. let i = either_last ((m x).whole) v o in (i.1, i.0);
     keeps = (λ p. (p, tt), λ p. p.0);
@@ -75,15 +78,15 @@ module _ {X P T R V S : Type 0} (m : X → Meaning P T R V S) where
   }
 
   -- two choices are the choice of all their alternatives
-  pub both_start : {S1 S2 : Type 0} {a : Meaning P T R V S1} {b : Meaning P T R V S2} (xs ys : List X) → StartsSame a (choice_of m xs) → StartsSame b (choice_of m ys) → StartsSame (either_of a b) (choice_of m (xs ++ ys))
+  pub both_start : {S1 S2 : Type 0} {a : Meaning P T R E V S1} {b : Meaning P T R E V S2} (xs ys : List X) → StartsSame a (choice_of errors cmp m xs) → StartsSame b (choice_of errors cmp m ys) → StartsSame (either_of errors cmp a b) (choice_of errors cmp m (xs ++ ys))
   both_start {S1} {S2} {a} {b} xs ys h k =
       let p = first_of m xs in
       let q = first_of m ys in
       let last = Either b.whole refused in
       record {
-        whole = agree_more (Either a.whole last) (Either p q) (first_of m (xs ++ ys)) (either_both a.whole p last q h.whole (agree_more last b.whole q (either_last b.whole) k.whole)) (first_append xs ys);
-        keeps = both_ways (λ i. (h.keeps.0 i.0, k.keeps.0 i.1), λ i. (h.keeps.1 i.0, k.keeps.1 i.1)) (every_append (λ a. a.keeps) xs ys);
-        puts_back = both_ways (λ i. (h.puts_back.0 i.0, k.puts_back.0 i.1), λ i. (h.puts_back.1 i.0, k.puts_back.1 i.1)) (every_append (λ a. a.puts_back) xs ys);
-        lean = both_ways (λ i. (h.lean.0 i.0, k.lean.0 i.1), λ i. (h.lean.1 i.0, k.lean.1 i.1)) (every_append (λ a. a.lean) xs ys);
-        adds = λ is. both_ways (together_both a.adds (adds_all m xs) b.adds (adds_all m ys) h.adds k.adds is) (adds_append xs ys is);
+        whole = agree_more (Either a.whole last) (Either p q) (first_of m (xs ++ ys)) (either_both a.whole p last q h.whole (agree_more last b.whole q (either_last b.whole) k.whole)) (first_append m xs ys);
+        keeps = both_ways (λ i. (h.keeps.0 i.0, k.keeps.0 i.1), λ i. (h.keeps.1 i.0, k.keeps.1 i.1)) (every_append m (λ a. a.keeps) xs ys);
+        puts_back = both_ways (λ i. (h.puts_back.0 i.0, k.puts_back.0 i.1), λ i. (h.puts_back.1 i.0, k.puts_back.1 i.1)) (every_append m (λ a. a.puts_back) xs ys);
+        lean = both_ways (λ i. (h.lean.0 i.0, k.lean.0 i.1), λ i. (h.lean.1 i.0, k.lean.1 i.1)) (every_append m (λ a. a.lean) xs ys);
+        adds = λ is. both_ways (together_both a.adds (adds_all m xs) b.adds (adds_all m ys) h.adds k.adds is) (adds_append m xs ys is);
       }

@@ -14,7 +14,7 @@ use Rattle.combine_choice.specs.declared.choice.slice.SliceState.{SliceState}
 use Rattle.combine_choice.specs.declared.choice.slice.SliceState.TheVariants.{Peek, At}
 use Rattle.combine_base.specs.Parser.Judged.{NeedsMore}
 
-module _ {P T R V S S' E : Type 0} (w : World P T S E) (m : Meaning P T R V S) (peek : S') (at : S → S') where
+module _ {P T R V S S' E : Type 0} (w : World P T S E) (m : Meaning P T R E V S) (peek : S') (at : S → S') where
   -- the alternative's answer; on need of more its state is kept in the choice's, and else none is
   pub record Turn (first : Bool) (given : S) (kept : S') (old new : View P T) (before after : Failures) (result : ParseResult V E) : Type 0 where
     pub left : S

@@ -26,11 +26,10 @@ pub trait ChoiceOutputs<Input> {
 ///
 /// A committed refusal of an alternative ends the choice, and so does a fault. On need of more the running alternative is kept; where it is then refused peeked, the later ones are still tried, which the crate's choice doesn't do.
 pub trait ChoiceParser<Input: Stream>: ChoiceOutputs<Input> {
-    ghost use Rattle.std.specs.Prelude.{◌≡◌, true, false, Bool, Option, Some, None};
-    ghost use Rattle.combine_base.specs.Stream.View.{View};
+    ghost use Rattle.std.specs.Prelude.{true, false};
     ghost use Rattle.combine_base.specs.Parser.Meaning.{Meaning, IsMeaning, MeansOne, MeansSame};
     ghost use Rattle.combine_base.specs.Parser.AnswersCalls.{AnswersCall};
-    ghost use Rattle.combine_base.specs.Parser.Reasons.{Reasoned, kept_from};
+    ghost use Rattle.combine_base.specs.Parser.Reasons.{ReasonedCall};
     ghost use Rattle.combine_base.specs.Error.Errors.{Says};
     ghost use Rattle.combine_base.specs.Stream.Calls.{Passes};
 
@@ -46,11 +45,8 @@ pub trait ChoiceParser<Input: Stream>: ChoiceOutputs<Input> {
     /// The states that a call may be given.
     ghost valid: { Self.PartialState → Type 0 };
 
-    /// Which outcomes the choice has on a view, from the start and from a state.
-    ghost meaning: { Self → Meaning Input.Position Input.Token Input.Range Self.Output Self.PartialState };
-
-    /// What error a refusal may have, committed or not, of a call that begins afresh (`None`) or from that state, on a view.
-    ghost refuses: { Self → Option Self.PartialState → View Input.Position Input.Token → Bool → Input.Error → Type 0 };
+    /// Which outcomes the choice has on a view, from the start and from a state, and which errors its refusals have.
+    ghost meaning: { Self → Meaning Input.Position Input.Token Input.Range Input.Error Self.Output Self.PartialState };
 
     /// Chooses, afresh or from the kept state. It answers as `parse_mode` of a parser does.
     fn parse_mode_choice<M: ParseMode>(
@@ -66,7 +62,7 @@ pub trait ChoiceParser<Input: Stream>: ChoiceOutputs<Input> {
         ensures same { MeansSame (meaning self.old) (meaning self.new) }
         ensures passes { Passes (Input.marks input.old) (Input.marks input.new) (Input.failures input.old) (Input.failures input.new) }
         ensures answers { AnswersCall Input.StreamOnce Input.Error.seen Self.PartialState.is_default (meaning self.old) (M.first mode) state.old state.new input.old input.new result }
-        ensures refuses { Reasoned Input.Error.seen.kind (Input.view input.new).is_open (refuses self.old (kept_from (M.first mode) state.old) (Input.view input.old)) result };
+        ensures refuses { ReasonedCall Input.Error.seen (meaning self.old) (M.first mode) state.old (Input.view input.old) (Input.view input.new) result };
 
     /// Adds to an error what each alternative adds, in order.
     fn add_error_choice(&mut self, error: &mut Tracked<Input::Error>)
@@ -88,7 +84,7 @@ pub trait ChoiceParser<Input: Stream>: ChoiceOutputs<Input> {
         ensures same { MeansSame (meaning self.old) (meaning self.new) }
         ensures passes { Passes (Input.marks input.old) (Input.marks input.new) (Input.failures input.old) (Input.failures input.new) }
         ensures answers { AnswersCall Input.StreamOnce Input.Error.seen Self.PartialState.is_default (meaning self.old) true state.old state.new input.old input.new result }
-        ensures refuses { Reasoned Input.Error.seen.kind (Input.view input.new).is_open (refuses self.old None (Input.view input.old)) result }
+        ensures refuses { ReasonedCall Input.Error.seen (meaning self.old) true state.old (Input.view input.old) (Input.view input.new) result }
     {
         self.parse_mode_choice(FirstMode, input, state)
     }
@@ -106,7 +102,7 @@ pub trait ChoiceParser<Input: Stream>: ChoiceOutputs<Input> {
         ensures same { MeansSame (meaning self.old) (meaning self.new) }
         ensures passes { Passes (Input.marks input.old) (Input.marks input.new) (Input.failures input.old) (Input.failures input.new) }
         ensures answers { AnswersCall Input.StreamOnce Input.Error.seen Self.PartialState.is_default (meaning self.old) false state.old state.new input.old input.new result }
-        ensures refuses { Reasoned Input.Error.seen.kind (Input.view input.new).is_open (refuses self.old (Some state.old) (Input.view input.old)) result }
+        ensures refuses { ReasonedCall Input.Error.seen (meaning self.old) false state.old (Input.view input.old) (Input.view input.new) result }
     {
         self.parse_mode_choice(PartialMode::default(), input, state)
     }
@@ -133,8 +129,6 @@ impl<'a, Input: Stream, P: ChoiceParser<Input>> ChoiceParser<Input> for &'a mut 
     ghost valid = { P.valid };
 
     ghost meaning = { λ p. P.meaning p.now };
-
-    ghost refuses = { λ p. P.refuses p.now };
 
     ghost default_valid = { P.default_valid };
 

@@ -4,25 +4,24 @@ use Rattle.std.specs.Prelude.{Option, Some, None}
 use Rattle.combine_base.specs.Stream.View.{View}
 use Rattle.combine_base.specs.Parser.Outcome.{Outcome}
 use Rattle.combine_base.specs.Error.Errors.{Errors}
-use Rattle.combine_base.specs.Parser.Meaning.{Meaning, IsMeaning, begun}
+use Rattle.combine_base.specs.Parser.Meaning.{Meaning, IsMeaning, begun, begun_refuses}
 use Rattle.combine_base.specs.Parser.Answer.{Run, World, Answers, world}
-use Rattle.combine_base.specs.declared.stream.Kind.{Kind}
 use Rattle.combine_base.specs.declared.stream.Failures.{Failures}
 use Rattle.combine_base.specs.declared.error.ParseResult.{ParseResult}
 use Rattle.combine_base.specs.declared.error.ParseResult.TheVariants.{CommitOk, PeekOk, CommitErr, PeekErr}
 use Rattle.combine_base.proofs.Starting.{need_or_not}
-use Rattle.combine_base.proofs.Reasoning.{reasons_into}
-use Rattle.combine_base.specs.Parser.Reasons.{Reasoned, kept_from}
+use Rattle.combine_base.proofs.Refusing.{reasoned_into}
+use Rattle.combine_base.specs.Parser.Reasons.{ReasonedCall}
 use Rattle.combine_token.specs.Choice.{refused, last_is, firm_or}
 use Rattle.combine_token.proofs.Choosing.{Tries, tries_asks, tries_fails, tries_commit_ok, tries_peek_ok, tries_peeks}
-use Rattle.combine_choice_dispatch.specs.Held.{Holds, Started, started, held, held_from, held_refuses, held_rest, held_lost}
+use Rattle.combine_choice_dispatch.specs.Held.{Holds, Started, started, held, held_refuses, held_rest, held_lost}
 
 -- the state that it begins from is one that it may be given
 pub started_valid : {S : Type 0} (fresh valid : S → Type 0) → ((s : S) → fresh s → valid s) → (o : Option S) (s : S) → Holds valid o → started fresh o s → valid s
 started_valid fresh valid d None s h b = d s b
 started_valid fresh valid d (Some t) s h b = rw b h
 
-module _ {P T R V S S' E : Type 0} (step : P → T → P) (errors : Errors T R P E) (steady : Type 0) {fresh valid : S → Type 0} (fresh' : S' → Type 0) (pick : S' → Option S) {m : Meaning P T R V S} (h : IsMeaning fresh valid m) (first : Bool) (given : S') (s : S) (from : Started fresh (pick given) s) (old : View P T) (before : Failures) where
+module _ {P T R V S S' E : Type 0} (step : P → T → P) (errors : Errors T R P E) (steady : Type 0) {fresh valid : S → Type 0} (fresh' : S' → Type 0) (pick : S' → Option S) {m : Meaning P T R E V S} (h : IsMeaning fresh valid m) (first : Bool) (given : S') (s : S) (from : Started fresh (pick given) s) (old : View P T) (before : Failures) where
   abbrev w : World P T S E
   w = world step errors steady fresh
 
@@ -69,14 +68,14 @@ module _ {P T R V S S' E : Type 0} (step : P → T → P) (errors : Errors T R P
     held_answers (PeekErr e) p = tries_peeks w fresh' m refused (held pick m) inside outside held_tries refl refl e (λ v. refl) p (λ y. leaves y.state)
 
 -- the error of its refusal is the one inside
-module _ {P T S S' E : Type 0} (pick : S' → Option S) (fresh : S → Type 0) (refuses : Option S → View P T → Bool → E → Type 0) where
-  inside_says : (s : S) (v : View P T) (o : Option S) → started fresh o s → (c : Bool) (e : E) → refuses (Some s) v c e → held_from pick fresh refuses o v c e
-  inside_says s v None d c e p = (s, d, p)
-  inside_says s v (Some t) d c e p = subst (λ q. refuses (Some q) v c e) d p
+module _ {P T R V S S' E : Type 0} {fresh valid : S → Type 0} (pick : S' → Option S) {m : Meaning P T R E V S} (h : IsMeaning fresh valid m) where
+  inside_says : (s : S) (o : Option S) → started fresh o s → (v w : View P T) (c : Bool) (e : E) → m.refuses_from s v w c e → held_refuses pick m o v w c e
+  inside_says s None d v w c e p = (h.reasons s d v w c e).0 p
+  inside_says s (Some t) d v w c e p = subst (λ q. m.refuses_from q v w c e) d p
 
-  said_inside : (first : Bool) (given : S') (s : S) → Started fresh (pick given) s → (v : View P T) (c : Bool) (e : E) → refuses (kept_from first s) v c e → held_refuses pick fresh refuses (kept_from first given) v c e
-  said_inside true given s from v c e p = p
-  said_inside false given s from v c e p = inside_says s v (pick given) from.is c e p
+  said_inside : (first : Bool) (given : S') (s : S) → Started fresh (pick given) s → (v w : View P T) (c : Bool) (e : E) → begun_refuses m first s v w c e → begun_refuses (held pick m) first given v w c e
+  said_inside true given s from v w c e p = p
+  said_inside false given s from v w c e p = inside_says s (pick given) from.is v w c e p
 
-  pub held_reasons : (first : Bool) (given : S') (s : S) → Started fresh (pick given) s → (v : View P T) → {V : Type 0} (kind : E → Kind) (is_open : Bool) (result : ParseResult V E) → Reasoned kind is_open (refuses (kept_from first s) v) result → Reasoned kind is_open (held_refuses pick fresh refuses (kept_from first given) v) result
-  held_reasons first given s from v kind is_open result h = reasons_into kind is_open (refuses (kept_from first s) v) (held_refuses pick fresh refuses (kept_from first given) v) result (said_inside first given s from v) h
+  pub held_reasons : (errors : Errors T R P E) (first : Bool) (given : S') (s : S) → Started fresh (pick given) s → (old new : View P T) (result : ParseResult V E) → ReasonedCall errors m first s old new result → ReasonedCall errors (held pick m) first given old new result
+  held_reasons errors first given s from old new result r = reasoned_into (said_inside first given s from old new) r

@@ -1,8 +1,7 @@
 -- a parser that is one of two: it means the one that it holds
-use Rattle.std.specs.Prelude.{Bool, Option, Some, None}
-use Rattle.combine_base.specs.Stream.View.{View}
+use Rattle.std.specs.Prelude.{Option, Some, None}
 use Rattle.combine_base.specs.Parser.Meaning.{Meaning, IsMeaning, MeansOne}
-use Rattle.combine_choice_dispatch.specs.Held.{Holds, held, held_is_meaning, held_means_one, held_refuses}
+use Rattle.combine_choice_dispatch.specs.Held.{Holds, held, held_is_meaning, held_means_one}
 use Rattle.combine_choice_dispatch.specs.declared.variants.either.Either.{Either}
 use Rattle.combine_choice_dispatch.specs.declared.variants.either.Either.TheVariants.{Left, Right}
 
@@ -29,8 +28,8 @@ module _ {S0 S1 : Type 0} where
     each_2_right (Left s) h = tt
     each_2_right (Right s) h = h
 
-module _ {P T R V X0 X1 S0 S1 : Type 0} (m0 : X0 → Meaning P T R V S0) (m1 : X1 → Meaning P T R V S1) where
-  abbrev pub variant_2 : Either X0 X1 → Meaning P T R V (Either S0 S1)
+module _ {P T R Error V X0 X1 S0 S1 : Type 0} (m0 : X0 → Meaning P T R Error V S0) (m1 : X1 → Meaning P T R Error V S1) where
+  abbrev pub variant_2 : Either X0 X1 → Meaning P T R Error V (Either S0 S1)
   variant_2 (Left x) = held pick_left (m0 x)
   variant_2 (Right x) = held pick_right (m1 x)
 
@@ -42,12 +41,6 @@ module _ {P T R V X0 X1 S0 S1 : Type 0} (m0 : X0 → Meaning P T R V S0) (m1 : X
     pub variant_2_means_one : (d0 : X0 → Type 0) (d1 : X1 → Type 0) → ((x : X0) → l0 x → d0 x → MeansOne g0 (m0 x)) → ((x : X1) → l1 x → d1 x → MeansOne g1 (m1 x)) → (p : Either X0 X1) → each_2 l0 l1 p → each_2 d0 d1 p → MeansOne (each_2 g0 g1) (variant_2 p)
     variant_2_means_one d0 d1 h0 h1 (Left x) l d = held_means_one pick_left f0 g0 (each_2 f0 f1) (each_2 g0 g1) (each_2_left f0 f1) (each_2_left g0 g1) (m0 x) (h0 x l d)
     variant_2_means_one d0 d1 h0 h1 (Right x) l d = held_means_one pick_right f1 g1 (each_2 f0 f1) (each_2 g0 g1) (each_2_right f0 f1) (each_2_right g0 g1) (m1 x) (h1 x l d)
-
-module _ {P T Error X0 X1 S0 S1 : Type 0} (f0 : S0 → Type 0) (f1 : S1 → Type 0) (r0 : X0 → Option S0 → View P T → Bool → Error → Type 0) (r1 : X1 → Option S1 → View P T → Bool → Error → Type 0) where
-  -- the error of a refusal is one of the parser that it holds
-  abbrev pub variant_2_refuses : Either X0 X1 → Option (Either S0 S1) → View P T → Bool → Error → Type 0
-  variant_2_refuses (Left x) k = held_refuses pick_left f0 (r0 x) k
-  variant_2_refuses (Right x) k = held_refuses pick_right f1 (r1 x) k
 
 -- what each value of a variant has each has
 pub each_2_into : {S0 S1 : Type 0} (f0 g0 : S0 → Type 0) (f1 g1 : S1 → Type 0) → ((s : S0) → f0 s → g0 s) → ((s : S1) → f1 s → g1 s) → (s : Either S0 S1) → each_2 f0 f1 s → each_2 g0 g1 s

@@ -1,8 +1,7 @@
 -- a parser that is one of three: it means the one that it holds
-use Rattle.std.specs.Prelude.{Bool, Option, Some, None}
-use Rattle.combine_base.specs.Stream.View.{View}
+use Rattle.std.specs.Prelude.{Option, Some, None}
 use Rattle.combine_base.specs.Parser.Meaning.{Meaning, IsMeaning, MeansOne}
-use Rattle.combine_choice_dispatch.specs.Held.{Holds, held, held_is_meaning, held_means_one, held_refuses}
+use Rattle.combine_choice_dispatch.specs.Held.{Holds, held, held_is_meaning, held_means_one}
 use Rattle.combine_choice_dispatch.specs.declared.variants.dispatch3.Dispatch3.{Dispatch3}
 use Rattle.combine_choice_dispatch.specs.declared.variants.dispatch3.Dispatch3.TheVariants.{A, B, C}
 
@@ -44,8 +43,8 @@ module _ {S0 S1 S2 : Type 0} where
     each_3_c (B s) h = tt
     each_3_c (C s) h = h
 
-module _ {P T R V X0 X1 X2 S0 S1 S2 : Type 0} (m0 : X0 → Meaning P T R V S0) (m1 : X1 → Meaning P T R V S1) (m2 : X2 → Meaning P T R V S2) where
-  abbrev pub variant_3 : Dispatch3 X0 X1 X2 → Meaning P T R V (Dispatch3 S0 S1 S2)
+module _ {P T R Error V X0 X1 X2 S0 S1 S2 : Type 0} (m0 : X0 → Meaning P T R Error V S0) (m1 : X1 → Meaning P T R Error V S1) (m2 : X2 → Meaning P T R Error V S2) where
+  abbrev pub variant_3 : Dispatch3 X0 X1 X2 → Meaning P T R Error V (Dispatch3 S0 S1 S2)
   variant_3 (A x) = held pick_a (m0 x)
   variant_3 (B x) = held pick_b (m1 x)
   variant_3 (C x) = held pick_c (m2 x)
@@ -60,13 +59,6 @@ module _ {P T R V X0 X1 X2 S0 S1 S2 : Type 0} (m0 : X0 → Meaning P T R V S0) (
     variant_3_means_one d0 d1 d2 h0 h1 h2 (A x) l d = held_means_one pick_a f0 g0 (each_3 f0 f1 f2) (each_3 g0 g1 g2) (each_3_a f0 f1 f2) (each_3_a g0 g1 g2) (m0 x) (h0 x l d)
     variant_3_means_one d0 d1 d2 h0 h1 h2 (B x) l d = held_means_one pick_b f1 g1 (each_3 f0 f1 f2) (each_3 g0 g1 g2) (each_3_b f0 f1 f2) (each_3_b g0 g1 g2) (m1 x) (h1 x l d)
     variant_3_means_one d0 d1 d2 h0 h1 h2 (C x) l d = held_means_one pick_c f2 g2 (each_3 f0 f1 f2) (each_3 g0 g1 g2) (each_3_c f0 f1 f2) (each_3_c g0 g1 g2) (m2 x) (h2 x l d)
-
-module _ {P T Error X0 X1 X2 S0 S1 S2 : Type 0} (f0 : S0 → Type 0) (f1 : S1 → Type 0) (f2 : S2 → Type 0) (r0 : X0 → Option S0 → View P T → Bool → Error → Type 0) (r1 : X1 → Option S1 → View P T → Bool → Error → Type 0) (r2 : X2 → Option S2 → View P T → Bool → Error → Type 0) where
-  -- the error of a refusal is one of the parser that it holds
-  abbrev pub variant_3_refuses : Dispatch3 X0 X1 X2 → Option (Dispatch3 S0 S1 S2) → View P T → Bool → Error → Type 0
-  variant_3_refuses (A x) k = held_refuses pick_a f0 (r0 x) k
-  variant_3_refuses (B x) k = held_refuses pick_b f1 (r1 x) k
-  variant_3_refuses (C x) k = held_refuses pick_c f2 (r2 x) k
 
 -- what each value of a variant has each has
 pub each_3_into : {S0 S1 S2 : Type 0} (f0 g0 : S0 → Type 0) (f1 g1 : S1 → Type 0) (f2 g2 : S2 → Type 0) → ((s : S0) → f0 s → g0 s) → ((s : S1) → f1 s → g1 s) → ((s : S2) → f2 s → g2 s) → (s : Dispatch3 S0 S1 S2) → each_3 f0 f1 f2 s → each_3 g0 g1 g2 s

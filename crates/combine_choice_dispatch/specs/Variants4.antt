@@ -1,8 +1,7 @@
 -- a parser that is one of four: it means the one that it holds
-use Rattle.std.specs.Prelude.{Bool, Option, Some, None}
-use Rattle.combine_base.specs.Stream.View.{View}
+use Rattle.std.specs.Prelude.{Option, Some, None}
 use Rattle.combine_base.specs.Parser.Meaning.{Meaning, IsMeaning, MeansOne}
-use Rattle.combine_choice_dispatch.specs.Held.{Holds, held, held_is_meaning, held_means_one, held_refuses}
+use Rattle.combine_choice_dispatch.specs.Held.{Holds, held, held_is_meaning, held_means_one}
 use Rattle.combine_choice_dispatch.specs.declared.variants.dispatch4.Dispatch4.{Dispatch4}
 use Rattle.combine_choice_dispatch.specs.declared.variants.dispatch4.Dispatch4.TheVariants.{A, B, C, D}
 
@@ -63,8 +62,8 @@ module _ {S0 S1 S2 S3 : Type 0} where
     each_4_d (C s) h = tt
     each_4_d (D s) h = h
 
-module _ {P T R V X0 X1 X2 X3 S0 S1 S2 S3 : Type 0} (m0 : X0 → Meaning P T R V S0) (m1 : X1 → Meaning P T R V S1) (m2 : X2 → Meaning P T R V S2) (m3 : X3 → Meaning P T R V S3) where
-  abbrev pub variant_4 : Dispatch4 X0 X1 X2 X3 → Meaning P T R V (Dispatch4 S0 S1 S2 S3)
+module _ {P T R Error V X0 X1 X2 X3 S0 S1 S2 S3 : Type 0} (m0 : X0 → Meaning P T R Error V S0) (m1 : X1 → Meaning P T R Error V S1) (m2 : X2 → Meaning P T R Error V S2) (m3 : X3 → Meaning P T R Error V S3) where
+  abbrev pub variant_4 : Dispatch4 X0 X1 X2 X3 → Meaning P T R Error V (Dispatch4 S0 S1 S2 S3)
   variant_4 (A x) = held pick_a (m0 x)
   variant_4 (B x) = held pick_b (m1 x)
   variant_4 (C x) = held pick_c (m2 x)
@@ -82,14 +81,6 @@ module _ {P T R V X0 X1 X2 X3 S0 S1 S2 S3 : Type 0} (m0 : X0 → Meaning P T R V
     variant_4_means_one d0 d1 d2 d3 h0 h1 h2 h3 (B x) l d = held_means_one pick_b f1 g1 (each_4 f0 f1 f2 f3) (each_4 g0 g1 g2 g3) (each_4_b f0 f1 f2 f3) (each_4_b g0 g1 g2 g3) (m1 x) (h1 x l d)
     variant_4_means_one d0 d1 d2 d3 h0 h1 h2 h3 (C x) l d = held_means_one pick_c f2 g2 (each_4 f0 f1 f2 f3) (each_4 g0 g1 g2 g3) (each_4_c f0 f1 f2 f3) (each_4_c g0 g1 g2 g3) (m2 x) (h2 x l d)
     variant_4_means_one d0 d1 d2 d3 h0 h1 h2 h3 (D x) l d = held_means_one pick_d f3 g3 (each_4 f0 f1 f2 f3) (each_4 g0 g1 g2 g3) (each_4_d f0 f1 f2 f3) (each_4_d g0 g1 g2 g3) (m3 x) (h3 x l d)
-
-module _ {P T Error X0 X1 X2 X3 S0 S1 S2 S3 : Type 0} (f0 : S0 → Type 0) (f1 : S1 → Type 0) (f2 : S2 → Type 0) (f3 : S3 → Type 0) (r0 : X0 → Option S0 → View P T → Bool → Error → Type 0) (r1 : X1 → Option S1 → View P T → Bool → Error → Type 0) (r2 : X2 → Option S2 → View P T → Bool → Error → Type 0) (r3 : X3 → Option S3 → View P T → Bool → Error → Type 0) where
-  -- the error of a refusal is one of the parser that it holds
-  abbrev pub variant_4_refuses : Dispatch4 X0 X1 X2 X3 → Option (Dispatch4 S0 S1 S2 S3) → View P T → Bool → Error → Type 0
-  variant_4_refuses (A x) k = held_refuses pick_a f0 (r0 x) k
-  variant_4_refuses (B x) k = held_refuses pick_b f1 (r1 x) k
-  variant_4_refuses (C x) k = held_refuses pick_c f2 (r2 x) k
-  variant_4_refuses (D x) k = held_refuses pick_d f3 (r3 x) k
 
 -- what each value of a variant has each has
 pub each_4_into : {S0 S1 S2 S3 : Type 0} (f0 g0 : S0 → Type 0) (f1 g1 : S1 → Type 0) (f2 g2 : S2 → Type 0) (f3 g3 : S3 → Type 0) → ((s : S0) → f0 s → g0 s) → ((s : S1) → f1 s → g1 s) → ((s : S2) → f2 s → g2 s) → ((s : S3) → f3 s → g3 s) → (s : Dispatch4 S0 S1 S2 S3) → each_4 f0 f1 f2 f3 s → each_4 g0 g1 g2 g3 s

@@ -1,8 +1,7 @@
 -- a parser that is one of five: it means the one that it holds
-use Rattle.std.specs.Prelude.{Bool, Option, Some, None}
-use Rattle.combine_base.specs.Stream.View.{View}
+use Rattle.std.specs.Prelude.{Option, Some, None}
 use Rattle.combine_base.specs.Parser.Meaning.{Meaning, IsMeaning, MeansOne}
-use Rattle.combine_choice_dispatch.specs.Held.{Holds, held, held_is_meaning, held_means_one, held_refuses}
+use Rattle.combine_choice_dispatch.specs.Held.{Holds, held, held_is_meaning, held_means_one}
 use Rattle.combine_choice_dispatch.specs.declared.variants.dispatch5.Dispatch5.{Dispatch5}
 use Rattle.combine_choice_dispatch.specs.declared.variants.dispatch5.Dispatch5.TheVariants.{A, B, C, D, E}
 
@@ -86,8 +85,8 @@ module _ {S0 S1 S2 S3 S4 : Type 0} where
     each_5_e (D s) h = tt
     each_5_e (E s) h = h
 
-module _ {P T R V X0 X1 X2 X3 X4 S0 S1 S2 S3 S4 : Type 0} (m0 : X0 → Meaning P T R V S0) (m1 : X1 → Meaning P T R V S1) (m2 : X2 → Meaning P T R V S2) (m3 : X3 → Meaning P T R V S3) (m4 : X4 → Meaning P T R V S4) where
-  abbrev pub variant_5 : Dispatch5 X0 X1 X2 X3 X4 → Meaning P T R V (Dispatch5 S0 S1 S2 S3 S4)
+module _ {P T R Error V X0 X1 X2 X3 X4 S0 S1 S2 S3 S4 : Type 0} (m0 : X0 → Meaning P T R Error V S0) (m1 : X1 → Meaning P T R Error V S1) (m2 : X2 → Meaning P T R Error V S2) (m3 : X3 → Meaning P T R Error V S3) (m4 : X4 → Meaning P T R Error V S4) where
+  abbrev pub variant_5 : Dispatch5 X0 X1 X2 X3 X4 → Meaning P T R Error V (Dispatch5 S0 S1 S2 S3 S4)
   variant_5 (A x) = held pick_a (m0 x)
   variant_5 (B x) = held pick_b (m1 x)
   variant_5 (C x) = held pick_c (m2 x)
@@ -108,15 +107,6 @@ module _ {P T R V X0 X1 X2 X3 X4 S0 S1 S2 S3 S4 : Type 0} (m0 : X0 → Meaning P
     variant_5_means_one d0 d1 d2 d3 d4 h0 h1 h2 h3 h4 (C x) l d = held_means_one pick_c f2 g2 (each_5 f0 f1 f2 f3 f4) (each_5 g0 g1 g2 g3 g4) (each_5_c f0 f1 f2 f3 f4) (each_5_c g0 g1 g2 g3 g4) (m2 x) (h2 x l d)
     variant_5_means_one d0 d1 d2 d3 d4 h0 h1 h2 h3 h4 (D x) l d = held_means_one pick_d f3 g3 (each_5 f0 f1 f2 f3 f4) (each_5 g0 g1 g2 g3 g4) (each_5_d f0 f1 f2 f3 f4) (each_5_d g0 g1 g2 g3 g4) (m3 x) (h3 x l d)
     variant_5_means_one d0 d1 d2 d3 d4 h0 h1 h2 h3 h4 (E x) l d = held_means_one pick_e f4 g4 (each_5 f0 f1 f2 f3 f4) (each_5 g0 g1 g2 g3 g4) (each_5_e f0 f1 f2 f3 f4) (each_5_e g0 g1 g2 g3 g4) (m4 x) (h4 x l d)
-
-module _ {P T Error X0 X1 X2 X3 X4 S0 S1 S2 S3 S4 : Type 0} (f0 : S0 → Type 0) (f1 : S1 → Type 0) (f2 : S2 → Type 0) (f3 : S3 → Type 0) (f4 : S4 → Type 0) (r0 : X0 → Option S0 → View P T → Bool → Error → Type 0) (r1 : X1 → Option S1 → View P T → Bool → Error → Type 0) (r2 : X2 → Option S2 → View P T → Bool → Error → Type 0) (r3 : X3 → Option S3 → View P T → Bool → Error → Type 0) (r4 : X4 → Option S4 → View P T → Bool → Error → Type 0) where
-  -- the error of a refusal is one of the parser that it holds
-  abbrev pub variant_5_refuses : Dispatch5 X0 X1 X2 X3 X4 → Option (Dispatch5 S0 S1 S2 S3 S4) → View P T → Bool → Error → Type 0
-  variant_5_refuses (A x) k = held_refuses pick_a f0 (r0 x) k
-  variant_5_refuses (B x) k = held_refuses pick_b f1 (r1 x) k
-  variant_5_refuses (C x) k = held_refuses pick_c f2 (r2 x) k
-  variant_5_refuses (D x) k = held_refuses pick_d f3 (r3 x) k
-  variant_5_refuses (E x) k = held_refuses pick_e f4 (r4 x) k
 
 -- what each value of a variant has each has
 pub each_5_into : {S0 S1 S2 S3 S4 : Type 0} (f0 g0 : S0 → Type 0) (f1 g1 : S1 → Type 0) (f2 g2 : S2 → Type 0) (f3 g3 : S3 → Type 0) (f4 g4 : S4 → Type 0) → ((s : S0) → f0 s → g0 s) → ((s : S1) → f1 s → g1 s) → ((s : S2) → f2 s → g2 s) → ((s : S3) → f3 s → g3 s) → ((s : S4) → f4 s → g4 s) → (s : Dispatch5 S0 S1 S2 S3 S4) → each_5 f0 f1 f2 f3 f4 s → each_5 g0 g1 g2 g3 g4 s

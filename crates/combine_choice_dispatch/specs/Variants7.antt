@@ -1,8 +1,7 @@
 -- a parser that is one of seven: it means the one that it holds
-use Rattle.std.specs.Prelude.{Bool, Option, Some, None}
-use Rattle.combine_base.specs.Stream.View.{View}
+use Rattle.std.specs.Prelude.{Option, Some, None}
 use Rattle.combine_base.specs.Parser.Meaning.{Meaning, IsMeaning, MeansOne}
-use Rattle.combine_choice_dispatch.specs.Held.{Holds, held, held_is_meaning, held_means_one, held_refuses}
+use Rattle.combine_choice_dispatch.specs.Held.{Holds, held, held_is_meaning, held_means_one}
 use Rattle.combine_choice_dispatch.specs.declared.variants.dispatch7.Dispatch7.{Dispatch7}
 use Rattle.combine_choice_dispatch.specs.declared.variants.dispatch7.Dispatch7.TheVariants.{A, B, C, D, E, F, G}
 
@@ -144,8 +143,8 @@ module _ {S0 S1 S2 S3 S4 S5 S6 : Type 0} where
     each_7_g (F s) h = tt
     each_7_g (G s) h = h
 
-module _ {P T R V X0 X1 X2 X3 X4 X5 X6 S0 S1 S2 S3 S4 S5 S6 : Type 0} (m0 : X0 → Meaning P T R V S0) (m1 : X1 → Meaning P T R V S1) (m2 : X2 → Meaning P T R V S2) (m3 : X3 → Meaning P T R V S3) (m4 : X4 → Meaning P T R V S4) (m5 : X5 → Meaning P T R V S5) (m6 : X6 → Meaning P T R V S6) where
-  abbrev pub variant_7 : Dispatch7 X0 X1 X2 X3 X4 X5 X6 → Meaning P T R V (Dispatch7 S0 S1 S2 S3 S4 S5 S6)
+module _ {P T R Error V X0 X1 X2 X3 X4 X5 X6 S0 S1 S2 S3 S4 S5 S6 : Type 0} (m0 : X0 → Meaning P T R Error V S0) (m1 : X1 → Meaning P T R Error V S1) (m2 : X2 → Meaning P T R Error V S2) (m3 : X3 → Meaning P T R Error V S3) (m4 : X4 → Meaning P T R Error V S4) (m5 : X5 → Meaning P T R Error V S5) (m6 : X6 → Meaning P T R Error V S6) where
+  abbrev pub variant_7 : Dispatch7 X0 X1 X2 X3 X4 X5 X6 → Meaning P T R Error V (Dispatch7 S0 S1 S2 S3 S4 S5 S6)
   variant_7 (A x) = held pick_a (m0 x)
   variant_7 (B x) = held pick_b (m1 x)
   variant_7 (C x) = held pick_c (m2 x)
@@ -172,17 +171,6 @@ module _ {P T R V X0 X1 X2 X3 X4 X5 X6 S0 S1 S2 S3 S4 S5 S6 : Type 0} (m0 : X0 �
     variant_7_means_one d0 d1 d2 d3 d4 d5 d6 h0 h1 h2 h3 h4 h5 h6 (E x) l d = held_means_one pick_e f4 g4 (each_7 f0 f1 f2 f3 f4 f5 f6) (each_7 g0 g1 g2 g3 g4 g5 g6) (each_7_e f0 f1 f2 f3 f4 f5 f6) (each_7_e g0 g1 g2 g3 g4 g5 g6) (m4 x) (h4 x l d)
     variant_7_means_one d0 d1 d2 d3 d4 d5 d6 h0 h1 h2 h3 h4 h5 h6 (F x) l d = held_means_one pick_f f5 g5 (each_7 f0 f1 f2 f3 f4 f5 f6) (each_7 g0 g1 g2 g3 g4 g5 g6) (each_7_f f0 f1 f2 f3 f4 f5 f6) (each_7_f g0 g1 g2 g3 g4 g5 g6) (m5 x) (h5 x l d)
     variant_7_means_one d0 d1 d2 d3 d4 d5 d6 h0 h1 h2 h3 h4 h5 h6 (G x) l d = held_means_one pick_g f6 g6 (each_7 f0 f1 f2 f3 f4 f5 f6) (each_7 g0 g1 g2 g3 g4 g5 g6) (each_7_g f0 f1 f2 f3 f4 f5 f6) (each_7_g g0 g1 g2 g3 g4 g5 g6) (m6 x) (h6 x l d)
-
-module _ {P T Error X0 X1 X2 X3 X4 X5 X6 S0 S1 S2 S3 S4 S5 S6 : Type 0} (f0 : S0 → Type 0) (f1 : S1 → Type 0) (f2 : S2 → Type 0) (f3 : S3 → Type 0) (f4 : S4 → Type 0) (f5 : S5 → Type 0) (f6 : S6 → Type 0) (r0 : X0 → Option S0 → View P T → Bool → Error → Type 0) (r1 : X1 → Option S1 → View P T → Bool → Error → Type 0) (r2 : X2 → Option S2 → View P T → Bool → Error → Type 0) (r3 : X3 → Option S3 → View P T → Bool → Error → Type 0) (r4 : X4 → Option S4 → View P T → Bool → Error → Type 0) (r5 : X5 → Option S5 → View P T → Bool → Error → Type 0) (r6 : X6 → Option S6 → View P T → Bool → Error → Type 0) where
-  -- the error of a refusal is one of the parser that it holds
-  abbrev pub variant_7_refuses : Dispatch7 X0 X1 X2 X3 X4 X5 X6 → Option (Dispatch7 S0 S1 S2 S3 S4 S5 S6) → View P T → Bool → Error → Type 0
-  variant_7_refuses (A x) k = held_refuses pick_a f0 (r0 x) k
-  variant_7_refuses (B x) k = held_refuses pick_b f1 (r1 x) k
-  variant_7_refuses (C x) k = held_refuses pick_c f2 (r2 x) k
-  variant_7_refuses (D x) k = held_refuses pick_d f3 (r3 x) k
-  variant_7_refuses (E x) k = held_refuses pick_e f4 (r4 x) k
-  variant_7_refuses (F x) k = held_refuses pick_f f5 (r5 x) k
-  variant_7_refuses (G x) k = held_refuses pick_g f6 (r6 x) k
 
 -- what each value of a variant has each has
 pub each_7_into : {S0 S1 S2 S3 S4 S5 S6 : Type 0} (f0 g0 : S0 → Type 0) (f1 g1 : S1 → Type 0) (f2 g2 : S2 → Type 0) (f3 g3 : S3 → Type 0) (f4 g4 : S4 → Type 0) (f5 g5 : S5 → Type 0) (f6 g6 : S6 → Type 0) → ((s : S0) → f0 s → g0 s) → ((s : S1) → f1 s → g1 s) → ((s : S2) → f2 s → g2 s) → ((s : S3) → f3 s → g3 s) → ((s : S4) → f4 s → g4 s) → ((s : S5) → f5 s → g5 s) → ((s : S6) → f6 s → g6 s) → (s : Dispatch7 S0 S1 S2 S3 S4 S5 S6) → each_7 f0 f1 f2 f3 f4 f5 f6 s → each_7 g0 g1 g2 g3 g4 g5 g6 s

@@ -47,7 +47,7 @@ read_before d n (Accepted v j k) h = by_test (nat_lt 0 n) refl
 read_before d n (Refused k) h = refl
 read_before d n Undecided h = refl
 
-module _ {P T R V S E : Type 0} (w : World P T S E) (m : Meaning P T R V S) where
+module _ {P T R V S E : Type 0} (w : World P T S E) (m : Meaning P T R E V S) where
   -- a call that began so has come to the part's call so, d tokens later
   pub record Comes (d : ℕ) (first : Bool) (state : TryState S) (old : View P T) (before : Failures) (held : ℕ) (part : S) (now : View P T) (so_far : Failures) : Type 0 where
     pub distance : d ≡ (if first then 0 else state.distance)

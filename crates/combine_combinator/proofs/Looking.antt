@@ -3,7 +3,7 @@ use Rattle.std.proofs.Common.{ℕ, ◌+◌, ◌≤◌, ◌≡◌, ◌⊎◌, inl
 use Rattle.combine_base.specs.Stream.View.{View, Takes}
 use Rattle.combine_base.specs.Error.Items.{Item}
 use Rattle.combine_base.specs.Parser.Outcome.{Outcome, Accepted, Refused, Undecided}
-use Rattle.combine_base.specs.Parser.Meaning.{Meaning, begun}
+use Rattle.combine_base.specs.Parser.Meaning.{Meaning, Refusing, begun, begun_refuses}
 use Rattle.combine_base.specs.Parser.Answer.{Resumes, Run, World, Answers, Accepts, Refuses, Leaves, fails, ends, peeks}
 use Rattle.combine_base.proofs.Calls.{around, settles, needs, need_of_more, same_mark}
 use Rattle.combine_base.proofs.Progress.{takes_none, takes_more, resumes_none}
@@ -20,7 +20,7 @@ use Rattle.combine_combinator.specs.Attempt.{refusing}
 use Rattle.combine_combinator.specs.Backs.{Back, PutBackFor, Stuck}
 
 -- a committed error that is a refusal
-pub committed_refusal : {P T R A S E : Type 0} (w : World P T S E) (m : Meaning P T R A S) (r : Run P T S) (e : E) → ((w.kind e ≡ kinds.End) × (r.new.is_open ≡ true) → ⊥) → refusing (w.kind e) ≡ true → Answers w m r (CommitErr e) → Refuses w m r true
+pub committed_refusal : {P T R A S E : Type 0} (w : World P T S E) (m : Meaning P T R E A S) (r : Run P T S) (e : E) → ((w.kind e ≡ kinds.End) × (r.new.is_open ≡ true) → ⊥) → refusing (w.kind e) ≡ true → Answers w m r (CommitErr e) → Refuses w m r true
 committed_refusal w m r e q i p = by_kind (w.kind e) refl i p.is
   where
     at_end : (b : Bool) → r.old.is_open ≡ b → w.kind e ≡ kinds.End → ends w m r b → Refuses w m r true
@@ -35,12 +35,12 @@ committed_refusal w m r e q i p = by_kind (w.kind e) refl i p.is
     by_kind kinds.Reset o j y = absurd (cc)
     by_kind kinds.Lost o j y = absurd (cc)
 
-module _ {P T R A B S Z E : Type 0} (w : World P T S E) (fresh : Z → Type 0) (m : Meaning P T R A S) (f : Outcome A → Outcome B) (adds : List (Item T R) → Type 0) (s left : S) (first : Bool) (z z' : Z) (d : fresh z') (old mid new : View P T) (f0 f1 f2 : Failures) where
+module _ {P T R A B S Z E : Type 0} (w : World P T S E) (fresh : Z → Type 0) (m : Meaning P T R E A S) (f : Outcome A → Outcome B) (adds : List (Item T R) → Type 0) (refuses : Refusing P T E) (s left : S) (first : Bool) (z z' : Z) (d : fresh z') (old mid new : View P T) (f0 f1 f2 : Failures) where
   abbrev inner : Run P T S
   inner = record { first = true; state = s; left = left; old = old; new = mid; before = f0; after = f1 }
 
-  abbrev whole : Meaning P T R B Z
-  whole = by_table f m adds
+  abbrev whole : Meaning P T R E B Z
+  whole = by_table f m adds refuses
 
   abbrev outer : Run P T Z
   outer = record { first = first; state = z; left = z'; old = old; new = new; before = f0; after = f2 }
@@ -120,21 +120,21 @@ module _ {P T R A B S Z E : Type 0} (w : World P T S E) (fresh : Z → Type 0) (
       let y = need_of_more w m inner e q.0 (sym (same_mark w m inner e p) ∙ q.1) p in
       table_answers y.count y.taken x marked i (CommitErr e) result b (table_asks e t q p)
 
-module _ {P T R A B S Z E : Type 0} (w : World P T S E) (fresh : Z → Type 0) (m : Meaning P T R A S) (f : Outcome A → Outcome B) (adds : List (Item T R) → Type 0) (s left : S) (first : Bool) (z z' : Z) (d : fresh z') (old mid : View P T) (f0 f1 : Failures) where
+module _ {P T R A B S Z E : Type 0} (w : World P T S E) (fresh : Z → Type 0) (m : Meaning P T R E A S) (f : Outcome A → Outcome B) (adds : List (Item T R) → Type 0) (refuses : Refusing P T E) (s left : S) (first : Bool) (z z' : Z) (d : fresh z') (old mid : View P T) (f0 f1 : Failures) where
   abbrev as_is : Run P T Z
   as_is = record { first = first; state = z; left = z'; old = old; new = mid; before = f0; after = f1 }
 
   abbrev called : Run P T S
   called = record { first = true; state = s; left = left; old = old; new = mid; before = f0; after = f1 }
 
-  abbrev table : Meaning P T R B Z
-  table = by_table f m adds
+  abbrev table : Meaning P T R E B Z
+  table = by_table f m adds refuses
 
   -- accepted, and left so
   pub table_takes : (a : A) (k : Bool) (b : B) → ((n : ℕ) → f (Accepted a n k) ≡ Accepted b n k) → Accepts w m called a k → Accepts (around w fresh) table as_is b k
   table_takes a k b t y = record {
     count = y.count;
-    meant = subst (begun table first z old) (t y.count) (read w fresh m f adds s left first z z' d old mid mid f0 f1 f1 first (Accepted a y.count k) y.meant);
+    meant = subst (begun table first z old) (t y.count) (read w fresh m f adds refuses s left first z z' d old mid mid f0 f1 f1 first (Accepted a y.count k) y.meant);
     taken = y.taken;
     state = d;
     failures = y.failures;
@@ -144,7 +144,7 @@ module _ {P T R A B S Z E : Type 0} (w : World P T S E) (fresh : Z → Type 0) (
   left_by y = record { count = y.count; taken = y.taken; state = d }
 
   refused_too : (k : Bool) → f (Refused k) ≡ Refused k → Refuses w m called k → Refuses (around w fresh) table as_is k
-  refused_too k t y = record { meant = subst (begun table first z old) t (read w fresh m f adds s left first z z' d old mid mid f0 f1 f1 first (Refused k) y.meant); leaves = left_by y.leaves; failures = y.failures }
+  refused_too k t y = record { meant = subst (begun table first z old) t (read w fresh m f adds refuses s left first z z' d old mid mid f0 f1 f1 first (Refused k) y.meant); leaves = left_by y.leaves; failures = y.failures }
 
   -- what isn't need of more stays, where refusals do
   pub table_fails : (e : E) → f (Refused true) ≡ Refused true → ((w.kind e ≡ kinds.End) × (mid.is_open ≡ true) → ⊥) → Answers w m called (CommitErr e) → Answers (around w fresh) table as_is (CommitErr e)
@@ -181,6 +181,11 @@ module _ {P T R A B S Z E : Type 0} (w : World P T S E) (fresh : Z → Type 0) (
       by_kind kinds.Reset j y = (y.0, left_by y.1)
       by_kind kinds.Lost j y = absurd y
 
+-- the errors of refusals are the same from the start and from a state
+pub table_reasons : {P T R A B S Z V E : Type 0} (m : Meaning P T R E A S) (f : Outcome A → Outcome B) (adds : List (Item T R) → Type 0) (refuses : Refusing P T E) (first : Bool) (z : Z) (old new : View P T) {kind : E → Kind} {is_open : Bool} {result : ParseResult V E} → Reasoned kind is_open (refuses old new) result → Reasoned kind is_open (begun_refuses (by_table f m adds refuses) first z old new) result
+table_reasons m f adds refuses true z old new h = h
+table_reasons m f adds refuses false z old new h = h
+
 -- the error of what was answered with the stream put back, or could not be
 module _ {P T V E : Type 0} {steady : Type 0} {step : P → T → P} {kind : E → Kind} {marked : View P T → Type 0} {old new : View P T} {before after : Failures} {answer result : ParseResult V E} (says : Bool → E → Type 0) where
   pub back_reasons : (v : View P T) → marked v → PutBackFor steady step kind marked old new before after answer result → (new ≡ v → Reasoned kind new.is_open says answer) → Reasoned kind new.is_open says result
@@ -191,6 +196,6 @@ module _ {P T V E : Type 0} {steady : Type 0} {step : P → T → P} {kind : E �
       by_case (inr b) = subst (Reasoned kind new.is_open says) (sym b.is) (reasons_fault kind new.is_open says b.error kinds.Reset b.kind_is tt)
 
 -- need of more is no refusal
-pub asks_reasons : {P T R A B S E : Type 0} {w : World P T S E} {m : Meaning P T R A S} {r : Run P T S} {e : E} {marked : View P T → Type 0} {new : View P T} {before after : Failures} {result : ParseResult B E} (says : Bool → E → Type 0) → (w.kind e ≡ kinds.End) × (r.new.is_open ≡ true) → Answers w m r (CommitErr e) → marked r.old → PutBackFor w.steady w.step w.kind marked r.new new before after (CommitErr e) result → Reasoned w.kind new.is_open says result
+pub asks_reasons : {P T R A B S E : Type 0} {w : World P T S E} {m : Meaning P T R E A S} {r : Run P T S} {e : E} {marked : View P T → Type 0} {new : View P T} {before after : Failures} {result : ParseResult B E} (says : Bool → E → Type 0) → (w.kind e ≡ kinds.End) × (r.new.is_open ≡ true) → Answers w m r (CommitErr e) → marked r.old → PutBackFor w.steady w.step w.kind marked r.new new before after (CommitErr e) result → Reasoned w.kind new.is_open says result
 asks_reasons {w = w} {m = m} {r = r} {e = e} {new = new} says q p i h =
     back_reasons says r.old i h (λ j. reasons_need w.kind new.is_open says e q.0 (ap (λ (v : View _ _). v.is_open) j ∙ sym (same_mark w m r e p) ∙ q.1))

@@ -1,11 +1,11 @@
 -- a parser whose refusals are all peeked; its state is the distance read, in tokens, and the part's state
-use Rattle.std.specs.Prelude.{ℕ, ◌+◌, ◌<◌, ◌≤◌, ◌≡◌, Bool, true, false, ◌||◌, nat_lt, Option, Some, None, List, length, refl, ◌↔◌}
+use Rattle.std.specs.Prelude.{ℕ, ◌+◌, ◌<◌, ◌≤◌, ◌≡◌, Bool, true, false, ◌||◌, nat_lt, List, length, refl, ◌↔◌}
 use Rattle.std.proofs.Common.{arith, ap, sym, subst, ◌∙◌, length-append, length-drop, ltb-false}
 use Rattle.combine_base.specs.Stream.View.{View, advanced, extended}
 use Rattle.combine_base.specs.Stream.Advance.{advanced_extended}
 use Rattle.combine_base.specs.Parser.Outcome.{Outcome, Accepted, Refused, Undecided, after, shape, IsDecided}
 use Rattle.combine_base.specs.Parser.OutcomeFacts.{both_false}
-use Rattle.combine_base.specs.Parser.Meaning.{Meaning, Reading, IsReading, IsSingle, IsMeaning, MeansOne, MeansSame}
+use Rattle.combine_base.specs.Parser.Meaning.{Meaning, Reading, Refusing, IsReading, IsSingle, IsMeaning, MeansOne, MeansSame, SameReasons, refusals, refusals_begin, refusals_from, refusals_from_same, refusals_same}
 use Rattle.combine_base.specs.declared.stream.Kind.{Kind}
 use Rattle.combine_base.specs.declared.stream.Kind.TheVariants as kinds
 use Rattle.combine_combinator.specs.declared.combinator.TryState.{TryState}
@@ -42,16 +42,20 @@ IsFresh fresh s = (s.distance ≡ 0) × fresh s.part
 abbrev pub HasValid : {S : Type 0} → (S → Type 0) → TryState S → Type 0
 HasValid valid s = valid s.part
 
-module _ {P T S E : Type 0} (step : P → T → P) (part : Option S → View P T → Bool → E → Type 0) where
-  -- the errors of the part where it is called: afresh at the view, or from its kept state after the distance that was read
-  abbrev pub part_refuses : Option (TryState S) → View P T → Bool → E → Type 0
-  part_refuses None v = part None v
-  part_refuses (Some s) v = part (Some s.part) (advanced step s.distance v)
+module _ {P T E : Type 0} (step : P → T → P) where
+  -- every refusal is peeked, and the view is put back; the part refused so d tokens later, committed or peeked
+  pub record RefusesPeeked (d : ℕ) (part : Refusing P T E) (v w : View P T) (committed : Bool) (e : E) : Type 0 where
+    pub peeked : committed ≡ false
+    pub back : w ≡ v
+    pub left : View P T
+    pub own : Bool
+    pub refused : part (advanced step d v) left own e
 
-  -- every refusal is peeked, and its error is one that the part may have refused with there, committed or peeked
-  abbrev pub attempt_refuses : Option (TryState S) → View P T → Bool → E → Type 0
-  attempt_refuses from v true e = ⊥
-  attempt_refuses from v false e = (committed : Bool) × part_refuses from v committed e
+  peeked_into : (d : ℕ) (part part' : Refusing P T E) → ((v w : View P T) (k : Bool) (e : E) → part v w k e → part' v w k e) → (v w : View P T) (k : Bool) (e : E) → RefusesPeeked d part v w k e → RefusesPeeked d part' v w k e
+  peeked_into d part part' f v w k e p = record { peeked = p.peeked; back = p.back; left = p.left; own = p.own; refused = f (advanced step d v) p.left p.own e p.refused }
+
+  peeked_same : (d : ℕ) (part part' : Refusing P T E) → SameReasons part part' → SameReasons (RefusesPeeked d part) (RefusesPeeked d part')
+  peeked_same d part part' h v w k e = (peeked_into d part part' (λ v w k e. (h v w k e).0) v w k e, peeked_into d part' part (λ v w k e. (h v w k e).1) v w k e)
 
 module _ {P T : Type 0} (step : P → T → P) where
   -- the kept distance is longer than the input, or the part's own is
@@ -75,7 +79,7 @@ module _ {P T V : Type 0} (step : P → T → P) where
     pub meant : r (advanced step d v) inner
     pub is : o ≡ refused_peeked (after d (nat_lt 0 d) inner)
 
-  abbrev pub attempted : {R S : Type 0} → Meaning P T R V S → Meaning P T R V (TryState S)
+  abbrev pub attempted : {R E S : Type 0} → Meaning P T R E V S → Meaning P T R E V (TryState S)
   attempted m = record {
     whole = Attempts 0 m.whole;
     rest = λ s. Attempts s.distance (m.rest s.part);
@@ -84,6 +88,8 @@ module _ {P T V : Type 0} (step : P → T → P) where
     puts_back = Unit {0};
     lean = m.lean;
     adds = m.adds;
+    refuses = RefusesPeeked step 0 (refusals m);
+    refuses_from = λ s. RefusesPeeked step s.distance (refusals_from m s.part);
   }
 
   decided_within : (d : ℕ) (k : Bool) (i o : Outcome V) → o ≡ refused_peeked (after d k i) → IsDecided o → IsDecided i
@@ -153,19 +159,20 @@ module _ {P T V : Type 0} (step : P → T → P) where
   attempts_both : (d : ℕ) (r r' : Reading P T V) → ((v : View P T) (o : Outcome V) → r v o ↔ r' v o) → (v : View P T) (o : Outcome V) → Attempts d r v o ↔ Attempts d r' v o
   attempts_both d r r' i v o = (attempts_into d r r' (λ v o. (i v o).0) v o, attempts_into d r' r (λ v o. (i v o).1) v o)
 
-  module _ {R S : Type 0} where
-    pub attempted_is_meaning : (fresh valid : S → Type 0) (m : Meaning P T R V S) → IsMeaning fresh valid m → IsMeaning (IsFresh fresh) (HasValid valid) (attempted m)
+  module _ {R E S : Type 0} where
+    pub attempted_is_meaning : (fresh valid : S → Type 0) (m : Meaning P T R E V S) → IsMeaning fresh valid m → IsMeaning (IsFresh fresh) (HasValid valid) (attempted m)
     attempted_is_meaning fresh valid m h = record {
       whole = attempts_is_reading 0 m.whole h.whole;
       rest = λ s k. attempts_is_reading s.distance (m.rest s.part) (h.rest s.part k);
       start = λ s v o d. rw d.0 (attempts_both 0 (m.rest s.part) m.whole (λ v o. h.start s.part v o d.1) v o);
       found = λ s v d. never_lost step s.distance (m.lost s.part) (λ v. h.found s.part v d.1) v d.0;
+      reasons = λ s d. rw d.0 (peeked_same step 0 (refusals_from m s.part) (refusals m) (refusals_begin h s.part d.1));
     }
 
-    pub attempted_means_one : (valid : S → Type 0) (m : Meaning P T R V S) → MeansOne valid m → MeansOne (HasValid valid) (attempted m)
+    pub attempted_means_one : (valid : S → Type 0) (m : Meaning P T R E V S) → MeansOne valid m → MeansOne (HasValid valid) (attempted m)
     attempted_means_one valid m h = record { whole = attempts_is_single 0 m.whole h.whole; rest = λ s k. attempts_is_single s.distance (m.rest s.part) (h.rest s.part k) }
 
-    pub attempted_means_same : (m m' : Meaning P T R V S) → MeansSame m m' → MeansSame (attempted m) (attempted m')
+    pub attempted_means_same : (m m' : Meaning P T R E V S) → MeansSame m m' → MeansSame (attempted m) (attempted m')
     attempted_means_same m m' h = record {
       whole = attempts_both 0 m.whole m'.whole h.whole;
       rest = λ s. attempts_both s.distance (m.rest s.part) (m'.rest s.part) (h.rest s.part);
@@ -174,4 +181,6 @@ module _ {P T V : Type 0} (step : P → T → P) where
       puts_back = (λ k. k, λ k. k);
       lean = h.lean;
       adds = h.adds;
+      refuses = peeked_same step 0 (refusals m) (refusals m') (refusals_same h);
+      refuses_from = λ s. peeked_same step s.distance (refusals_from m s.part) (refusals_from m' s.part) (refusals_from_same h s.part);
     }

@@ -1,5 +1,5 @@
 -- putting a stream back before an answer, and the error of `not_followed_by`
-use Rattle.std.specs.Prelude.{◌≡◌, ◌<◌, ◌⊎◌, Bool, true, false}
+use Rattle.std.specs.Prelude.{◌≡◌, ◌<◌, ◌⊎◌, Bool, false}
 use Rattle.combine_base.specs.Error.Errors.{Errors, New}
 use Rattle.combine_base.specs.Stream.View.{View, Moves}
 use Rattle.combine_base.specs.declared.stream.Kind.{Kind}
@@ -27,10 +27,8 @@ module _ {P T V E : Type 0} (steady : Type 0) (step : P → T → P) (kind : E �
   pub record PutBackFor (answer result : ParseResult V E) : Type 0 where
     pub is : Back answer result ⊎ Stuck result
 
--- the error of `not_followed_by`: peeked, made where it began, and it says nothing
-abbrev pub refuses_followed : {T R P E : Type 0} → Errors T R P E → P → Bool → E → Type 0
-refuses_followed s place true e = ⊥
-refuses_followed s place false e = New s kinds.Refused place e
-
-pub record RefusesFollowed {T R P E : Type 0} (s : Errors T R P E) (v : View P T) (committed : Bool) (e : E) : Type 0 where
-  pub is : refuses_followed s v.position committed e
+-- the error of `not_followed_by`: peeked, with the view put back, made where it began, and it says nothing
+pub record RefusesFollowed {T R P E : Type 0} (s : Errors T R P E) (v w : View P T) (committed : Bool) (e : E) : Type 0 where
+  pub peeked : committed ≡ false
+  pub back : w ≡ v
+  pub new : New s kinds.Refused v.position e

@@ -5,7 +5,7 @@ use Rattle.combine_base.specs.Parser.Outcome.{Outcome, Accepted, Refused}
 use Rattle.combine_base.specs.Parser.Meaning.{Meaning}
 
 -- two meanings have the same outcomes on every view, from the start; their states may differ
-abbrev pub SameFromTheStart : {P T R V S S' : Type 0} → Meaning P T R V S → Meaning P T R V S' → Type 0
+abbrev pub SameFromTheStart : {P T R E V S S' : Type 0} → Meaning P T R E V S → Meaning P T R E V S' → Type 0
 SameFromTheStart {P} {T} {R} {V} m m' = (v : View P T) (o : Outcome V) → m.whole v o ↔ m'.whole v o
 
 -- one function and then another, each known by its relation
@@ -17,5 +17,5 @@ abbrev pub IsComposition : {A B C : Type 0} → (A → B → Type 0) → (B → 
 IsComposition {A} {B} {C} f g h = (a : A) (c : C) → h a c ↔ composed f g a c
 
 -- the first is accepted, with nothing taken, exactly where the second is refused
-abbrev pub AcceptedWhereRefused : {P T R V S S' : Type 0} → Meaning P T R (Unit {0}) S → Meaning P T R V S' → Type 0
+abbrev pub AcceptedWhereRefused : {P T R E V S S' : Type 0} → Meaning P T R E (Unit {0}) S → Meaning P T R E V S' → Type 0
 AcceptedWhereRefused {P} {T} m n = (v : View P T) → m.whole v (Accepted tt 0 false) ↔ ((committed : Bool) × n.whole v (Refused committed))

@@ -4,7 +4,7 @@ use Rattle.std.proofs.Common.{arith, ap, sym, subst, ◌∙◌, inl, inr}
 use Rattle.combine_base.specs.Stream.View.{View}
 use Rattle.combine_base.specs.Error.Items.{Item}
 use Rattle.combine_base.specs.Parser.Outcome.{Outcome, Accepted, Refused, Undecided, shape, IsDecided}
-use Rattle.combine_base.specs.Parser.Meaning.{Meaning, Reading, IsReading, IsSingle, IsMeaning, MeansOne, MeansSame}
+use Rattle.combine_base.specs.Parser.Meaning.{Meaning, Reading, Refusing, IsReading, IsSingle, IsMeaning, MeansOne, MeansSame, SameReasons}
 
 -- accepted peeked, nothing taken; what is refused is refused alike
 abbrev pub looks : {Value : Type 0} → Outcome Value → Outcome Value
@@ -97,8 +97,8 @@ module _ {P T A B : Type 0} (f : Outcome A → Outcome B) where
     pub is : o ≡ f inner
 
   -- each call begins again
-  abbrev pub by_table : {R S Z : Type 0} → Meaning P T R A S → (List (Item T R) → Type 0) → Meaning P T R B Z
-  by_table m adds = record { whole = ByTable m.whole; rest = λ z. ByTable m.whole; lost = λ z v. ⊥; keeps = ⊥; puts_back = Unit {0}; lean = m.lean; adds = adds }
+  abbrev pub by_table : {R E S Z : Type 0} → Meaning P T R E A S → (List (Item T R) → Type 0) → Refusing P T E → Meaning P T R E B Z
+  by_table m adds refuses = record { whole = ByTable m.whole; rest = λ z. ByTable m.whole; lost = λ z v. ⊥; keeps = ⊥; puts_back = Unit {0}; lean = m.lean; adds = adds; refuses = refuses; refuses_from = λ z. refuses }
 
   module _ (t : IsTable f) where
     table_peeked : (r : Reading P T A) → IsReading r → (v : View P T) (b : B) (n : ℕ) (w : ByTable r v (Accepted b n false)) → (n ≡ 0) ⊎ ((a : A) × (w.inner ≡ Accepted a n false)) → n ≡ 0
@@ -120,22 +120,23 @@ module _ {P T A B : Type 0} (f : Outcome A → Outcome B) where
     table_is_single : (r : Reading P T A) → IsSingle r → IsSingle (ByTable r)
     table_is_single r h = record { one = λ v o o' w w'. ap shape w.is ∙ t.shapes w.inner w'.inner (h.one v w.inner w'.inner w.meant w'.meant) ∙ sym (ap shape w'.is) }
 
-    pub table_is_meaning : {R S Z : Type 0} {fresh valid : S → Type 0} (fresh_too valid_too : Z → Type 0) {m : Meaning P T R A S} (adds : List (Item T R) → Type 0) → IsMeaning fresh valid m → IsMeaning fresh_too valid_too (by_table m adds)
-    table_is_meaning fresh_too valid_too {m} adds h = record {
+    pub table_is_meaning : {R E S Z : Type 0} {fresh valid : S → Type 0} (fresh_too valid_too : Z → Type 0) {m : Meaning P T R E A S} (adds : List (Item T R) → Type 0) (refuses : Refusing P T E) → IsMeaning fresh valid m → IsMeaning fresh_too valid_too (by_table m adds refuses)
+    table_is_meaning fresh_too valid_too {m} adds refuses h = record {
       whole = table_is_reading m.whole h.whole;
       rest = λ z d. table_is_reading m.whole h.whole;
       start = λ z v o d. (λ x. x, λ x. x);
       found = λ z v d x. x;
+      reasons = λ z d v w k e. (λ x. x, λ x. x);
     }
 
-    pub table_means_one : {R S Z : Type 0} {valid : S → Type 0} (valid_too : Z → Type 0) {m : Meaning P T R A S} (adds : List (Item T R) → Type 0) → MeansOne valid m → MeansOne valid_too (by_table m adds)
-    table_means_one valid_too {m} adds h = record { whole = table_is_single m.whole h.whole; rest = λ z d. table_is_single m.whole h.whole }
+    pub table_means_one : {R E S Z : Type 0} {valid : S → Type 0} (valid_too : Z → Type 0) {m : Meaning P T R E A S} (adds : List (Item T R) → Type 0) (refuses : Refusing P T E) → MeansOne valid m → MeansOne valid_too (by_table m adds refuses)
+    table_means_one valid_too {m} adds refuses h = record { whole = table_is_single m.whole h.whole; rest = λ z d. table_is_single m.whole h.whole }
 
   both_ways : (r r' : Reading P T A) → ((v : View P T) (o : Outcome A) → r v o ↔ r' v o) → (v : View P T) (o : Outcome B) → ByTable r v o ↔ ByTable r' v o
   both_ways r r' h v o = (λ w. record { inner = w.inner; meant = (h v w.inner).0 w.meant; is = w.is }, λ w. record { inner = w.inner; meant = (h v w.inner).1 w.meant; is = w.is })
 
-  pub table_means_same : {R S Z : Type 0} {m m' : Meaning P T R A S} (adds adds' : List (Item T R) → Type 0) → MeansSame m m' → ((is : List (Item T R)) → adds is ↔ adds' is) → MeansSame (by_table {Z = Z} m adds) (by_table m' adds')
-  table_means_same {m} {m'} adds adds' h a = record {
+  pub table_means_same : {R E S Z : Type 0} {m m' : Meaning P T R E A S} (adds adds' : List (Item T R) → Type 0) (refuses refuses' : Refusing P T E) → MeansSame m m' → ((is : List (Item T R)) → adds is ↔ adds' is) → SameReasons refuses refuses' → MeansSame (by_table {Z = Z} m adds refuses) (by_table m' adds' refuses')
+  table_means_same {m} {m'} adds adds' refuses refuses' h a r = record {
     whole = both_ways m.whole m'.whole h.whole;
     rest = λ z. both_ways m.whole m'.whole h.whole;
     lost = λ z v. (λ x. x, λ x. x);
@@ -143,4 +144,6 @@ module _ {P T A B : Type 0} (f : Outcome A → Outcome B) where
     puts_back = (λ x. x, λ x. x);
     lean = h.lean;
     adds = a;
+    refuses = r;
+    refuses_from = λ z. r;
   }

@@ -4,7 +4,7 @@ use Rattle.std.proofs.lemmas.Bool.{false≢true}
 use Rattle.combine_base.specs.Error.Errors.{Errors, Nothing}
 use Rattle.combine_base.specs.Parser.Answer.{Answers, Asks, Run, World, ends, world}
 use Rattle.combine_base.specs.Parser.Drivers.{afresh}
-use Rattle.combine_base.specs.Parser.Meaning.{Meaning, Reading}
+use Rattle.combine_base.specs.Parser.Meaning.{Meaning, Reading, Refusing}
 use Rattle.combine_base.specs.Stream.Calls.{ResetTo}
 use Rattle.combine_base.specs.Stream.View.{View}
 use Rattle.combine_base.proofs.Calls.{need_of_more, same_mark, unreset}
@@ -21,25 +21,25 @@ use Rattle.combine_token.specs.Stateless.{stateless}
 use Rattle.combine_token.proofs.Stateless.{asks, into_begun}
 use Rattle.combine_combinator_function.specs.Once.{RunsOnce, once, once_world}
 
-module _ {I P T R E C S V : Type 0} (step : P → T → P) (s : Errors T R P E) (steady : Type 0) (view : I → View P T) (marks : I → C → View P T → Type 0) (failures : I → Failures) (fresh : S → Type 0) (read : Reading P T V) (first : Bool) (state left : S) (d : fresh left) (input mid : I) where
+module _ {I P T R E C S V : Type 0} (step : P → T → P) (s : Errors T R P E) (steady : Type 0) (view : I → View P T) (marks : I → C → View P T → Type 0) (failures : I → Failures) (fresh : S → Type 0) (read : Reading P T V) (refuses : Refusing P T E) (first : Bool) (state left : S) (d : fresh left) (input mid : I) where
   abbrev w : World P T S E
   w = world step s steady fresh
 
   abbrev w1 : World P T Bool E
   w1 = once_world step s steady view marks failures
 
-  abbrev m : Meaning P T R V S
-  m = stateless read ⊥ (Unit {0}) Nothing
+  abbrev m : Meaning P T R E V S
+  m = stateless read ⊥ (Unit {0}) Nothing refuses
 
   abbrev part : Bool → Bool → Run P T Bool
-  part from to = afresh w1 (once {R = R} read) from to (view input) (view mid) (failures input) (failures mid)
+  part from to = afresh w1 (once {R = R} {E = E} read) from to (view input) (view mid) (failures input) (failures mid)
 
   abbrev run : View P T → Failures → Run P T S
   run new later = record { first = first; state = state; left = left; old = view input; new = new; before = failures input; after = later }
 
-  inside : (from to : Bool) → Inside w1 fresh (once {R = R} read) m (part from to) first state left (view input) (failures input) false read
+  inside : (from to : Bool) → Inside w1 fresh (once {R = R} {E = E} read) m (part from to) first state left (view input) (failures input) false read
   inside from to = record {
-    progress = progress_here w1 _ read (view input) (failures input) (λ v o p. into_begun read ⊥ (Unit {0}) (Nothing {R = R}) first state v o p);
+    progress = progress_here w1 _ read (view input) (failures input) (λ v o p. into_begun read ⊥ (Unit {0}) (Nothing {R = R}) refuses first state v o p);
     reads = omega arith;
     resets = omega arith;
     refuses = λ k x. x;
@@ -66,16 +66,16 @@ module _ {I P T R E C S V : Type 0} (step : P → T → P) (s : Errors T R P E) 
 
     module _ (q : (s.kind e ≡ kinds.End) × ((view mid).is_open ≡ true)) where
       is_open : (view input).is_open ≡ true
-      is_open = sym (same_mark w1 (once {R = R} read) (part x.answers.state x.answers.left) e x.answers.answers) ∙ q.1
+      is_open = sym (same_mark w1 (once {R = R} {E = E} read) (part x.answers.state x.answers.left) e x.answers.answers) ∙ q.1
 
-      asked : Asks w1 (once {R = R} read) (part x.answers.state x.answers.left)
-      asked = need_of_more w1 (once {R = R} read) (part x.answers.state x.answers.left) e q.0 is_open x.answers.answers
+      asked : Asks w1 (once {R = R} {E = E} read) (part x.answers.state x.answers.left)
+      asked = need_of_more w1 (once {R = R} {E = E} read) (part x.answers.state x.answers.left) e q.0 is_open x.answers.answers
 
       module _ (marked : View P T → Type 0) (i : marked (view input)) (new : View P T) (later : Failures) where
         -- need of more, put back
         pub again_back : ResetTo steady step marked (view mid) new (failures mid) later (Ok tt) → Answers w m (run new later) (CommitErr e)
         again_back b =
-            let a = asks w read ⊥ (Unit {0}) (Nothing {R = R}) (run new later) is_open asked.meant (λ z. absurd z) (b.is.0 (view input) i) (λ z. b.is.1 z ∙ asked.failures z) in
+            let a = asks w read ⊥ (Unit {0}) (Nothing {R = R}) refuses (run new later) is_open asked.meant (λ z. absurd z) (b.is.0 (view input) i) (λ z. b.is.1 z ∙ asked.failures z) in
             record { is = rw q.0 (subst (ends w m (run new later)) (sym is_open) a) }
 
         -- it could not be put back

@@ -4,9 +4,9 @@ use Rattle.combine_base.specs.Stream.View.{View}
 use Rattle.combine_base.specs.Stream.Calls.{ResetTo}
 use Rattle.combine_base.specs.Error.Errors.{Errors, Nothing}
 use Rattle.combine_base.specs.Parser.Outcome.{Outcome, Accepted, Refused, Undecided}
-use Rattle.combine_base.specs.Parser.Meaning.{Meaning, begun}
+use Rattle.combine_base.specs.Parser.Meaning.{Meaning, begun, begun_refuses}
 use Rattle.combine_base.specs.Parser.Answer.{Run, World, Answers, Leaves, ends, fails, peeks, world}
-use Rattle.combine_base.specs.Parser.Reasons.{Reasoned}
+use Rattle.combine_base.specs.Parser.Reasons.{ReasonedCall}
 use Rattle.combine_base.proofs.Calls.{unreset}
 use Rattle.combine_base.proofs.Progress.{takes_more, takes_none, takes_open}
 use Rattle.combine_base.proofs.Reasoning.{reasons_committed, reasons_peeked}
@@ -29,7 +29,7 @@ module _ {I P T R C V S E : Type 0} (step : P → T → P) (s : Errors T R P E) 
   abbrev lean : Type 0
   lean = given × NeedsNoMemory step s.kind view answers
 
-  abbrev m : Meaning P T R V S
+  abbrev m : Meaning P T R E V S
   m = as_function step s.kind view answers lean
 
   abbrev run : View P T → Failures → Run P T S
@@ -45,7 +45,7 @@ module _ {I P T R C V S E : Type 0} (step : P → T → P) (s : Errors T R P E) 
 
     module _ (answer : ParseResult V E) (met : answers input answer left) where
       meant : (o : Outcome V) → answer_outcome step s.kind (view input) (view left) answer o → begun m first state (view input) o
-      meant o p = into_begun read ⊥ lean (Nothing {R = R}) first state (view input) o (record { input = input; left = left; answer = answer; met = met; stands = p; place = inl refl })
+      meant o p = into_begun read ⊥ lean (Nothing {R = R}) (RefusesCalled view answers) first state (view input) o (record { input = input; left = left; answer = answer; met = met; stands = p; place = inl refl })
 
     leaves : Settled step s.kind view answers marks failures steady input left → Leaves w end
     leaves k = record { count = k.moves.count; taken = k.moves.taken; state = d }
@@ -106,7 +106,7 @@ module _ {I P T R C V S E : Type 0} (step : P → T → P) (s : Errors T R P E) 
         pub called_back : ResetTo steady step marked (view left) new (failures left) later (Ok tt) → Answers w m (run new later) (CommitErr e)
         called_back b =
             let undecided : read (view input) Undecided = record { input = input; left = left; answer = CommitErr e; met = met; stands = rw (is_open, q.0) refl; place = inl refl } in
-            let a = asks w read ⊥ lean (Nothing {R = R}) (run new later) is_open undecided (λ x. absurd x) (b.is.0 (view input) i) (λ x. b.is.1 x ∙ settled.counts x) in
+            let a = asks w read ⊥ lean (Nothing {R = R}) (RefusesCalled view answers) (run new later) is_open undecided (λ x. absurd x) (b.is.0 (view input) i) (λ x. b.is.1 x ∙ settled.counts x) in
             record { is = rw q.0 (subst (ends w m (run new later)) (sym is_open) a) }
 
         pub back_open : ResetTo steady step marked (view left) new (failures left) later (Ok tt) → new.is_open ≡ true
@@ -120,9 +120,16 @@ module _ {I P T R C V S E : Type 0} (step : P → T → P) (s : Errors T R P E) 
             unreset w m (run new later) f (j ∙ b.is.0) (record { count = settled.moves.count + n.count; taken = takes_more step settled.moves.count n.count (view input) (view left) new settled.moves.taken n.taken; state = d }) (omega arith)
 
 -- the error of a refusal is the function's
-module _ {I P T V E : Type 0} (kind : E → Kind) (is_open : Bool) (view : I → View P T) (answers : I → ParseResult V E → I → Type 0) (input left : I) where
-  pub called_says : (e : E) → answers input (CommitErr e) left → Reasoned {V = V} kind is_open (RefusesCalled view answers (view input)) (CommitErr e)
-  called_says e met = reasons_committed kind is_open (RefusesCalled view answers (view input)) e (λ r. record { input = input; left = left; answer = CommitErr e; met = met; place = refl; refused = (refl, refl) })
+module _ {I P T R V S E : Type 0} (step : P → T → P) (s : Errors T R P E) (view : I → View P T) (answers : I → ParseResult V E → I → Type 0) (lean : Type 0) (first : Bool) (z : S) (input left : I) where
+  abbrev called : Meaning P T R E V S
+  called = as_function step s.kind view answers lean
 
-  pub called_says_peeked : (t : Tracked E) → answers input (PeekErr t) left → Reasoned {V = V} kind is_open (RefusesCalled view answers (view input)) (PeekErr t)
-  called_says_peeked t met = reasons_peeked kind is_open (RefusesCalled view answers (view input)) t (record { input = input; left = left; answer = PeekErr t; met = met; place = refl; refused = (refl, refl) })
+  in_mode : (first : Bool) (k : Bool) (e : E) → RefusesCalled view answers (view input) (view left) k e → begun_refuses called first z (view input) (view left) k e
+  in_mode true k e x = x
+  in_mode false k e x = x
+
+  pub called_says : (e : E) → answers input (CommitErr e) left → ReasonedCall s called first z (view input) (view left) (CommitErr e)
+  called_says e met = reasons_committed s.kind (view left).is_open (begun_refuses called first z (view input) (view left)) e (λ r. in_mode first true e (record { input = input; left = left; answer = CommitErr e; met = met; place = refl; leaves = refl; refused = (refl, refl) }))
+
+  pub called_says_peeked : (t : Tracked E) → answers input (PeekErr t) left → ReasonedCall s called first z (view input) (view left) (PeekErr t)
+  called_says_peeked t met = reasons_peeked s.kind (view left).is_open (begun_refuses called first z (view input) (view left)) t (in_mode first false t.error (record { input = input; left = left; answer = PeekErr t; met = met; place = refl; leaves = refl; refused = (refl, refl) }))

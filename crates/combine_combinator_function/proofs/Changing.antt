@@ -7,34 +7,36 @@ use Rattle.combine_base.specs.Error.Errors.{Added, Errors, New, Says, Unstored}
 use Rattle.combine_base.specs.Error.Items.{Item}
 use Rattle.combine_base.specs.Parser.Outcome.{Outcome, Accepted, Refused, Undecided, after, IsCommitted}
 use Rattle.combine_base.specs.Parser.Given.{GivesOnly}
-use Rattle.combine_base.specs.Parser.Meaning.{Meaning, MeansSame, Reading, begun}
+use Rattle.combine_base.specs.Parser.Judged.{IsRefusal}
+use Rattle.combine_base.specs.Parser.Meaning.{Meaning, MeansSame, Reading, begun, begun_refuses, MeantRefusal}
 use Rattle.combine_base.specs.Parser.Answer.{Resumes, Run, World, Answers, Accepts, Refuses, Asks, Leaves, fails, peeks, ends, loses, world}
-use Rattle.combine_base.specs.Parser.Reasons.{kept_from}
+use Rattle.combine_base.specs.Parser.Reasons.{ReasonedCall}
 use Rattle.combine_base.specs.Refusals.{Peeked}
 use Rattle.combine_base.proofs.Giving.{good_ok, good_peek_ok}
+use Rattle.combine_base.proofs.Refusing.{reasoned_error, reasoned_into, reasoned_refusal, reasoned_meant}
 use Rattle.combine_base.specs.declared.stream.Kind.{Kind}
 use Rattle.combine_base.specs.declared.stream.Kind.TheVariants as kinds
 use Rattle.combine_base.specs.declared.stream.Failures.{Failures}
 use Rattle.combine_base.specs.declared.error.Tracked.{Tracked}
 use Rattle.combine_base.specs.declared.error.ParseResult.{ParseResult}
 use Rattle.combine_base.specs.declared.error.ParseResult.TheVariants.{CommitOk, PeekOk, CommitErr, PeekErr}
-use Rattle.combine_combinator_function.specs.Changes.{Changes, MadeSaying, changed, changed_reading, read_from, spares}
+use Rattle.combine_combinator_function.specs.Changes.{Changes, MadeSaying, RefusesValue, changed, changed_reading, spares}
 
 -- what means the same gives the same values
-module _ {P T R A S : Type 0} (valid : S → Type 0) (good : A → Type 0) where
-  into_same : (m m' : Meaning P T R A S) → MeansSame m m' → GivesOnly valid m good → GivesOnly valid m' good
+module _ {P T R E A S : Type 0} (valid : S → Type 0) (good : A → Type 0) where
+  into_same : (m m' : Meaning P T R E A S) → MeansSame m m' → GivesOnly valid m good → GivesOnly valid m' good
   into_same m m' e h = record {
     whole = record { one = λ v a n c p. h.whole.one v a n c ((e.whole v (Accepted a n c)).1 p) };
     rest = λ s k. record { one = λ v a n c p. (h.rest s k).one v a n c ((e.rest s v (Accepted a n c)).1 p) };
   }
 
-  from_same : (m m' : Meaning P T R A S) → MeansSame m m' → GivesOnly valid m' good → GivesOnly valid m good
+  from_same : (m m' : Meaning P T R E A S) → MeansSame m m' → GivesOnly valid m' good → GivesOnly valid m good
   from_same m m' e h = record {
     whole = record { one = λ v a n c p. h.whole.one v a n c ((e.whole v (Accepted a n c)).0 p) };
     rest = λ s k. record { one = λ v a n c p. (h.rest s k).one v a n c ((e.rest s v (Accepted a n c)).0 p) };
   }
 
-  pub gives_same : (m m' : Meaning P T R A S) → MeansSame m m' → GivesOnly valid m good ↔ GivesOnly valid m' good
+  pub gives_same : (m m' : Meaning P T R E A S) → MeansSame m m' → GivesOnly valid m good ↔ GivesOnly valid m' good
   gives_same m m' e = (into_same m m' e, from_same m m' e)
 
 -- what is resumed is changed alike
@@ -59,9 +61,9 @@ module _ {P T A B : Type 0} (step : P → T → P) (gives : P → A → B → Ty
   changed_resumes : Resumes (changed_reading step gives denies r) (changed_reading step gives denies c) n old new
   changed_resumes = record { gives = carried; committed = still_committed }
 
-module _ {P T R A B S E : Type 0} (w : World P T S E) (valid : S → Type 0) (gives : P → A → B → Type 0) (denies starves : A → Type 0) (m : Meaning P T R A S) (r : Run P T S) where
-  abbrev whole : Meaning P T R B S
-  whole = changed w.step gives denies (GivesOnly valid m (spares starves)) m
+module _ {P T R A B S E : Type 0} (w : World P T S E) (valid : S → Type 0) (gives : P → A → B → Type 0) (denies starves : A → Type 0) (tells : P → A → E → Type 0) (m : Meaning P T R E A S) (r : Run P T S) where
+  abbrev whole : Meaning P T R E B S
+  whole = changed w.step gives denies tells (GivesOnly valid m (spares starves)) m
 
   meant_refused : (first : Bool) (s : S) (k : Bool) → begun m first s r.old (Refused k) → begun whole first s r.old (Refused k)
   meant_refused true s k p = inl p
@@ -139,41 +141,36 @@ module _ {P T R A B S E : Type 0} (w : World P T S E) (valid : S → Type 0) (gi
     starved : (w.frugal → GivesOnly valid m (spares starves) → ⊥) → fails w whole behind kinds.Memory
     starved h = (λ x l. h x l.1, leaves)
 
-module _ {P T R A B S E : Type 0} (s : Errors T R P E) (step : P → T → P) (steady : Type 0) (fresh valid : S → Type 0) (gives : P → A → B → Type 0) (denies starves : A → Type 0) (m : Meaning P T R A S) (r : Run P T S) (new : View P T) (later : Failures) (e : new ≡ r.new) (f : later ≡ r.after) (a : A) (says : E → Type 0) where
+module _ {P T R A B S E : Type 0} (s : Errors T R P E) (step : P → T → P) (steady : Type 0) (fresh valid : S → Type 0) (gives : P → A → B → Type 0) (denies starves : A → Type 0) (tells : P → A → E → Type 0) (m : Meaning P T R E A S) (r : Run P T S) (new : View P T) (later : Failures) (e : new ≡ r.new) (f : later ≡ r.after) (a : A) (says : E → Type 0) where
   abbrev w : World P T S E
   w = world step s steady fresh
 
-  pub commit_value : (b : B) → Answers w m r (CommitOk a) → Changes s (gives r.new.position a) (denies a) (starves a) says (Ok b) → Answers w (whole w valid gives denies starves m r) (record { first = r.first; state = r.state; left = r.left; old = r.old; new = new; before = r.before; after = later }) (CommitOk b)
-  commit_value b h c = record { is = gives_value w valid gives denies starves m r new later e f a true h.is b c.is }
+  pub commit_value : (b : B) → Answers w m r (CommitOk a) → Changes s (gives r.new.position a) (denies a) (starves a) says (Ok b) → Answers w (whole w valid gives denies starves tells m r) (record { first = r.first; state = r.state; left = r.left; old = r.old; new = new; before = r.before; after = later }) (CommitOk b)
+  commit_value b h c = record { is = gives_value w valid gives denies starves tells m r new later e f a true h.is b c.is }
 
-  pub peek_value : (b : B) → Answers w m r (PeekOk a) → Changes s (gives r.new.position a) (denies a) (starves a) says (Ok b) → Answers w (whole w valid gives denies starves m r) (record { first = r.first; state = r.state; left = r.left; old = r.old; new = new; before = r.before; after = later }) (PeekOk b)
-  peek_value b h c = record { is = gives_value w valid gives denies starves m r new later e f a false h.is b c.is }
+  pub peek_value : (b : B) → Answers w m r (PeekOk a) → Changes s (gives r.new.position a) (denies a) (starves a) says (Ok b) → Answers w (whole w valid gives denies starves tells m r) (record { first = r.first; state = r.state; left = r.left; old = r.old; new = new; before = r.before; after = later }) (PeekOk b)
+  peek_value b h c = record { is = gives_value w valid gives denies starves tells m r new later e f a false h.is b c.is }
 
-  pub commit_denial : valid r.state → (x : E) → Answers w m r (CommitOk a) → Changes s (gives r.new.position a) (denies a) (starves a) says (Err x) → Answers w (whole w valid gives denies starves m r) (record { first = r.first; state = r.state; left = r.left; old = r.old; new = new; before = r.before; after = later }) (CommitErr x)
+  pub commit_denial : valid r.state → (x : E) → Answers w m r (CommitOk a) → Changes s (gives r.new.position a) (denies a) (starves a) says (Err x) → Answers w (whole w valid gives denies starves tells m r) (record { first = r.first; state = r.state; left = r.left; old = r.old; new = new; before = r.before; after = later }) (CommitErr x)
   commit_denial i x h c = by_case c.is
     where
-      by_case : ((s.kind x ≡ kinds.Refused) × denies a × says x) ⊎ ((s.kind x ≡ kinds.Memory) × (s.frugal → starves a)) → Answers w (whole w valid gives denies starves m r) (record { first = r.first; state = r.state; left = r.left; old = r.old; new = new; before = r.before; after = later }) (CommitErr x)
-      by_case (inl p) = record { is = rw p.0 (denied w valid gives denies starves m r new later e f a true h.is p.1) }
-      by_case (inr p) = record { is = rw p.0 (starved w valid gives denies starves m r new later e f a true h.is (λ y l. good_ok valid m (spares starves) w r a l i h (p.1 y))) }
+      by_case : ((s.kind x ≡ kinds.Refused) × denies a × says x) ⊎ ((s.kind x ≡ kinds.Memory) × (s.frugal → starves a)) → Answers w (whole w valid gives denies starves tells m r) (record { first = r.first; state = r.state; left = r.left; old = r.old; new = new; before = r.before; after = later }) (CommitErr x)
+      by_case (inl p) = record { is = rw p.0 (denied w valid gives denies starves tells m r new later e f a true h.is p.1) }
+      by_case (inr p) = record { is = rw p.0 (starved w valid gives denies starves tells m r new later e f a true h.is (λ y l. good_ok valid m (spares starves) w r a l i h (p.1 y))) }
 
-  pub peek_denial : valid r.state → (x : E) (result : ParseResult B E) → Answers w m r (PeekOk a) → Changes s (gives r.new.position a) (denies a) (starves a) says (Err x) → Peeked s.kind x result → Answers w (whole w valid gives denies starves m r) (record { first = r.first; state = r.state; left = r.left; old = r.old; new = new; before = r.before; after = later }) result
+  pub peek_denial : valid r.state → (x : E) (result : ParseResult B E) → Answers w m r (PeekOk a) → Changes s (gives r.new.position a) (denies a) (starves a) says (Err x) → Peeked s.kind x result → Answers w (whole w valid gives denies starves tells m r) (record { first = r.first; state = r.state; left = r.left; old = r.old; new = new; before = r.before; after = later }) result
   peek_denial i x (CommitOk b) h c q = absurd q.is
   peek_denial i x (PeekOk b) h c q = absurd q.is
   peek_denial i x (CommitErr y) h c q = by_case c.is
     where
-      by_case : ((s.kind x ≡ kinds.Refused) × denies a × says x) ⊎ ((s.kind x ≡ kinds.Memory) × (s.frugal → starves a)) → Answers w (whole w valid gives denies starves m r) (record { first = r.first; state = r.state; left = r.left; old = r.old; new = new; before = r.before; after = later }) (CommitErr y)
+      by_case : ((s.kind x ≡ kinds.Refused) × denies a × says x) ⊎ ((s.kind x ≡ kinds.Memory) × (s.frugal → starves a)) → Answers w (whole w valid gives denies starves tells m r) (record { first = r.first; state = r.state; left = r.left; old = r.old; new = new; before = r.before; after = later }) (CommitErr y)
       by_case (inl p) = let k = p.0 in let j = q.is.1 in absurd (cc)
-      by_case (inr p) = record { is = rw (q.is.0, p.0) (starved w valid gives denies starves m r new later e f a false h.is (λ y l. good_peek_ok valid m (spares starves) w r a l i h (p.1 y))) }
+      by_case (inr p) = record { is = rw (q.is.0, p.0) (starved w valid gives denies starves tells m r new later e f a false h.is (λ y l. good_peek_ok valid m (spares starves) w r a l i h (p.1 y))) }
   peek_denial i x (PeekErr t) h c q = by_case c.is
     where
-      by_case : ((s.kind x ≡ kinds.Refused) × denies a × says x) ⊎ ((s.kind x ≡ kinds.Memory) × (s.frugal → starves a)) → Answers w (whole w valid gives denies starves m r) (record { first = r.first; state = r.state; left = r.left; old = r.old; new = new; before = r.before; after = later }) (PeekErr t)
-      by_case (inl p) = record { is = rw (q.is.0, p.0) (denied w valid gives denies starves m r new later e f a false h.is p.1) }
+      by_case : ((s.kind x ≡ kinds.Refused) × denies a × says x) ⊎ ((s.kind x ≡ kinds.Memory) × (s.frugal → starves a)) → Answers w (whole w valid gives denies starves tells m r) (record { first = r.first; state = r.state; left = r.left; old = r.old; new = new; before = r.before; after = later }) (PeekErr t)
+      by_case (inl p) = record { is = rw (q.is.0, p.0) (denied w valid gives denies starves tells m r new later e f a false h.is p.1) }
       by_case (inr p) = absurd (q.is.1 p.0)
-
--- the reading of a call, by what it was given
-pub from_kept : {P T R A S : Type 0} (m : Meaning P T R A S) (first : Bool) (s : S) (v : View P T) (o : Outcome A) → begun m first s v o → read_from m (kept_from first s) v o
-from_kept m true s v o p = p
-from_kept m false s v o p = p
 
 -- a value is refused with an error that was made to say something, or the item found no memory
 pub says_made : {T R P E B : Type 0} (s : Errors T R P E) (gives : B → Type 0) (denies starves : Type 0) (place : P) (own e : E) (said says : List (Item T R) → Type 0) → ((is : List (Item T R)) → said is → says is) → New s kinds.Refused place own → Says s (Unit {0}) said own e → denies → Changes s gives denies starves (MadeSaying s says place) (Err e)
@@ -182,3 +179,50 @@ says_made {T} {R} {P} {E} {B} s gives denies starves place own e said says h n k
     by_case : ((is : List (Item T R)) × said is × Added s is own e) ⊎ Unstored s (Unit {0}) own e → Changes s gives denies starves (MadeSaying s says place) (Err e)
     by_case (inl p) = record { is = inl (p.2.kind ∙ n.kind, d, record { own = own; new = n; said = record { is = inl (p.0, h p.0 p.1, p.2) } }) }
     by_case (inr p) = record { is = inr (p.kind, λ f. absurd (p.memory f tt)) }
+
+no_memory : (b : Bool) (k : Kind) → IsRefusal b k → k ≡ kinds.Memory → ⊥
+no_memory b k i e = subst (IsRefusal b) e i
+
+-- the errors of the parser's refusals
+module _ {P T R A B S E : Type 0} (s : Errors T R P E) (step : P → T → P) (gives : P → A → B → Type 0) (denies : A → Type 0) (tells : P → A → E → Type 0) (spared : Type 0) (m : Meaning P T R E A S) (first : Bool) (z : S) (old : View P T) where
+  abbrev all : Meaning P T R E B S
+  all = changed step gives denies tells spared m
+
+  part_reasons : (first : Bool) (w : View P T) (k : Bool) (e : E) → MeantRefusal (begun m first z) (begun_refuses m first z) old w k e → begun_refuses all first z old w k e
+  part_reasons true w k e x = record { is = inl x }
+  part_reasons false w k e x = record { is = inl x }
+
+  value_reasons : (first : Bool) (w : View P T) (k : Bool) (e : E) → RefusesValue step tells (begun m first z) old w k e → begun_refuses all first z old w k e
+  value_reasons true w k e x = record { is = inr x }
+  value_reasons false w k e x = record { is = inr x }
+
+  -- the part refused
+  pub part_error : (new : View P T) (e : E) {steady : Type 0} {fresh : S → Type 0} {left : S} {before after : Failures} → Answers (world step s steady fresh) m (record { first = first; state = z; left = left; old = old; new = new; before = before; after = after }) (CommitErr e) → ReasonedCall {V = A} s m first z old new (CommitErr e) → ReasonedCall s all first z old new (CommitErr e)
+  part_error new e p x = reasoned_into (part_reasons first new) (reasoned_error (reasoned_meant p x))
+
+  pub part_refusal : (new : View P T) (t : Tracked E) {steady : Type 0} {fresh : S → Type 0} {left : S} {before after : Failures} → Answers (world step s steady fresh) m (record { first = first; state = z; left = left; old = old; new = new; before = before; after = after }) (PeekErr t) → ReasonedCall {V = A} s m first z old new (PeekErr t) → ReasonedCall s all first z old new (PeekErr t)
+  part_refusal new t p x = reasoned_into (part_reasons first new) (reasoned_refusal (reasoned_meant p x))
+
+  -- it was accepted, and its value refused, with the tokens taken
+  module _ (steady : Type 0) (fresh : S → Type 0) (left : S) (there new : View P T) (before after : Failures) (e : new ≡ there) (a : A) (here : B → Type 0) (refused starved : Type 0) (x : E) (c : Changes s here refused starved (tells old.position a) (Err x)) where
+    abbrev run : Run P T S
+    run = record { first = first; state = z; left = left; old = old; new = there; before = before; after = after }
+
+    value_refused : (k : Bool) → Accepts (world step s steady fresh) m run a k → (s.kind x ≡ kinds.Memory → ⊥) → begun_refuses all first z old new k x
+    value_refused k p n = by_case c.is
+      where
+        by_case : ((s.kind x ≡ kinds.Refused) × refused × tells old.position a x) ⊎ ((s.kind x ≡ kinds.Memory) × (s.frugal → starved)) → begun_refuses all first z old new k x
+        by_case (inl i) = value_reasons first new k x (record { value = a; count = p.count; accepted = p.meant; taken = subst (Takes step p.count old) (sym e) p.taken; said = i.2 })
+        by_case (inr i) = absurd (n i.0)
+
+    pub value_error : Answers (world step s steady fresh) m run (CommitOk a) → ReasonedCall s all first z old new (CommitErr x)
+    value_error p true y i = subst (begun_refuses all first z old new true) (sym i.is.0) (value_refused true p.is (no_memory new.is_open (s.kind x) i.is.1))
+    value_error p false y i = absurd i.is
+
+    pub value_refusal : Answers (world step s steady fresh) m run (PeekOk a) → (result : ParseResult B E) → Peeked s.kind x result → ReasonedCall s all first z old new result
+    value_refusal p (CommitOk b) q y v i = absurd q.is
+    value_refusal p (PeekOk b) q y v i = absurd q.is
+    value_refusal p (CommitErr d) q true v i = absurd (subst (IsRefusal new.is_open) (ap s.kind q.is.0 ∙ q.is.1) i.is.1)
+    value_refusal p (CommitErr d) q false v i = absurd i.is
+    value_refusal p (PeekErr t) q true v i = absurd i.is
+    value_refusal p (PeekErr t) q false v i = subst (begun_refuses all first z old new false) (sym (i.is ∙ q.is.0)) (value_refused false p.is q.is.1)

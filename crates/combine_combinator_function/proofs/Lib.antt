@@ -3,3 +3,4 @@ pub mod Calling
 pub mod Changing
 pub mod Once
 pub mod Promised
+pub mod Refused

@@ -35,8 +35,8 @@ module _ {P T R E : Type 0} (step : P → T → P) (s : Errors T R P E) (steady 
   w1 = world step s steady (λ s. s ≡ false)
 
   -- a run that ends with one of a parser, which begins where a run before it stopped
-  module _ {A B S : Type 0} (fresh : S → Type 0) (m : Meaning P T R A S) (lean : m.lean) (read : Reading P T B) (c : Bool) (here : Reading P T B) (old mid new : View P T) (f0 f1 f2 : Failures) (progress : Progress (w fresh) read here old mid f0 f1) (reads : f0.reads ≤ f1.reads) (resets : f0.resets ≤ f1.resets) (refused : (k : Bool) → m.whole mid (Refused k) → here mid (Refused (c || k))) (undecided : m.whole mid Undecided → here mid Undecided) where
-    abbrev whole : Meaning P T R B Bool
+  module _ {A B S : Type 0} (fresh : S → Type 0) (m : Meaning P T R E A S) (lean : m.lean) (read : Reading P T B) (c : Bool) (here : Reading P T B) (old mid new : View P T) (f0 f1 f2 : Failures) (progress : Progress (w fresh) read here old mid f0 f1) (reads : f0.reads ≤ f1.reads) (resets : f0.resets ≤ f1.resets) (refused : (k : Bool) → m.whole mid (Refused k) → here mid (Refused (c || k))) (undecided : m.whole mid Undecided → here mid Undecided) where
+    abbrev whole : Meaning P T R E B Bool
     whole = once {R = R} read
 
     module _ (from to : S) where
@@ -83,11 +83,11 @@ module _ {P T R E : Type 0} (step : P → T → P) (s : Errors T R P E) (steady 
     Runs read input left y = RunsOnce step s steady view marks failures read input left y
 
     -- a parser that is run from its start
-    pub run_once : {A S : Type 0} (fresh : S → Type 0) (m : Meaning P T R A S) (lean : m.lean) (input left : I) (y : ParseResult A E) → Passes (marks input) (marks left) (failures input) (failures left) → Starts (w fresh) m (view input) (view left) (failures input) (failures left) y → Runs m.whole input left y
+    pub run_once : {A S : Type 0} (fresh : S → Type 0) (m : Meaning P T R E A S) (lean : m.lean) (input left : I) (y : ParseResult A E) → Passes (marks input) (marks left) (failures input) (failures left) → Starts (w fresh) m (view input) (view left) (failures input) (failures left) y → Runs m.whole input left y
     run_once {A} fresh m lean input left y p a =
         let none = progress_none (w fresh) m.whole (view input) (failures input) in
         let x = ends_once fresh m lean m.whole false m.whole (view input) (view input) (view left) (failures input) (failures input) (failures left) none (omega arith) (omega arith) (λ k x. x) (λ x. x) (λ v. v) (λ v n k x. x) y a in
-        record { passes = p; answers = subst (λ z. Starts w1 (once {R = R} m.whole) (view input) (view left) (failures input) (failures left) z) (as_it_is y) x }
+        record { passes = p; answers = subst (λ z. Starts w1 (once {R = R} {E = E} m.whole) (view input) (view left) (failures input) (failures left) z) (as_it_is y) x }
 
     -- nothing is taken
     pub gives_once : {V : Type 0} (read : Reading P T V) (input : I) (v : V) → read (view input) (Accepted v 0 false) → Runs read input input (PeekOk v)
@@ -104,9 +104,9 @@ module _ {P T R E : Type 0} (step : P → T → P) (s : Errors T R P E) (steady 
     }
       where
         run : Run P T Bool
-        run = afresh w1 (once {R = R} read) false false (view input) (view input) (failures input) (failures input)
+        run = afresh w1 (once {R = R} {E = E} read) false false (view input) (view input) (failures input) (failures input)
 
-        by_kind : (s.kind e ≡ kinds.Refused) ⊎ ((s.kind e ≡ kinds.Memory) × (s.frugal → ⊥)) → fails w1 (once {R = R} read) run (s.kind e)
+        by_kind : (s.kind e ≡ kinds.Refused) ⊎ ((s.kind e ≡ kinds.Memory) × (s.frugal → ⊥)) → fails w1 (once {R = R} {E = E} read) run (s.kind e)
         by_kind (inl i) = rw i (record { meant = x; leaves = record { count = 0; taken = takes_none step (view input); state = refl }; failures = λ s. refl })
         by_kind (inr i) = rw i.0 (λ f l. i.1 f, record { count = 0; taken = takes_none step (view input); state = refl })
 
@@ -118,22 +118,22 @@ module _ {P T R E : Type 0} (step : P → T → P) (s : Errors T R P E) (steady 
       pub stops_once : (e : E) → Runs r input mid (CommitErr e) → Runs both input mid (CommitErr e)
       stops_once e x =
           let none = progress_none w1 both (view input) (failures input) in
-          record { passes = x.passes; answers = fails_once (λ b. b ≡ false) (once {R = R} r) tt both false both (view input) (view input) (view mid) (failures input) (failures input) (failures mid) none (omega arith) (omega arith) (λ k y. (Refused k, y, refl)) (λ y. (Undecided, y, refl)) e x.answers }
+          record { passes = x.passes; answers = fails_once (λ b. b ≡ false) (once {R = R} {E = E} r) tt both false both (view input) (view input) (view mid) (failures input) (failures input) (failures mid) none (omega arith) (omega arith) (λ k y. (Refused k, y, refl)) (λ y. (Undecided, y, refl)) e x.answers }
 
       pub stops_peeked : (t : Tracked E) → Runs r input mid (PeekErr t) → Runs both input mid (PeekErr t)
       stops_peeked t x =
           let none = progress_none w1 both (view input) (failures input) in
-          record { passes = x.passes; answers = refuses_once (λ b. b ≡ false) (once {R = R} r) tt both false both (view input) (view input) (view mid) (failures input) (failures input) (failures mid) none (omega arith) (omega arith) (λ k y. (Refused k, y, refl)) (λ y. (Undecided, y, refl)) t x.answers }
+          record { passes = x.passes; answers = refuses_once (λ b. b ≡ false) (once {R = R} {E = E} r) tt both false both (view input) (view input) (view mid) (failures input) (failures input) (failures mid) none (omega arith) (omega arith) (λ k y. (Refused k, y, refl)) (λ y. (Undecided, y, refl)) t x.answers }
 
       module _ (h : IsReading r) (left : I) (y : ParseResult V E) (a : A) where
-        then_once : (c : Bool) (from to : Bool) → Passes (marks input) (marks mid) (failures input) (failures mid) → Accepts w1 (once {R = R} r) (afresh w1 (once {R = R} r) from to (view input) (view mid) (failures input) (failures mid)) a c → Runs (q a) mid left y → Runs both input left (joined_answer c (f a) y)
+        then_once : (c : Bool) (from to : Bool) → Passes (marks input) (marks mid) (failures input) (failures mid) → Accepts w1 (once {R = R} {E = E} r) (afresh w1 (once {R = R} {E = E} r) from to (view input) (view mid) (failures input) (failures mid)) a c → Runs (q a) mid left y → Runs both input left (joined_answer c (f a) y)
         then_once c from to p x z =
             let progress : Progress w1 both (following c (f a) (q a)) (view input) (view mid) (failures input) (failures mid) = record { count = x.count; taken = x.taken; resumes = accepted_resumes step f q x.count (view input) (view mid) x.taken r h a c x.meant; failures = x.failures } in
             let reads = p.reads in
             let resets = p.resets in
             record {
               passes = passes_more (marks input) (marks mid) (marks left) (failures input) (failures mid) (failures left) p z.passes;
-              answers = ends_once (λ b. b ≡ false) (once {R = R} (q a)) tt both c (following c (f a) (q a)) (view input) (view mid) (view left) (failures input) (failures mid) (failures left) progress reads resets (λ k o. (Refused k, o, refl)) (λ o. (Undecided, o, refl)) (f a) (λ b n k o. (Accepted b n k, o, ap (λ j. Accepted (f a b) j (c || k)) (sym (zero-add n)))) y z.answers;
+              answers = ends_once (λ b. b ≡ false) (once {R = R} {E = E} (q a)) tt both c (following c (f a) (q a)) (view input) (view mid) (view left) (failures input) (failures mid) (failures left) progress reads resets (λ k o. (Refused k, o, refl)) (λ o. (Undecided, o, refl)) (f a) (λ b n k o. (Accepted b n k, o, ap (λ j. Accepted (f a b) j (c || k)) (sym (zero-add n)))) y z.answers;
             }
 
         pub commits_once : Runs r input mid (CommitOk a) → Runs (q a) mid left y → Runs both input left (joined_answer true (f a) y)
@@ -144,7 +144,7 @@ module _ {P T R E : Type 0} (step : P → T → P) (s : Errors T R P E) (steady 
 
     -- what such a run of a function keeps
     keeps_once : {V : Type 0} (read : Reading P T V) → IsReading read → (given : I → ParseResult V E → I → Type 0) (input left : I) (y : ParseResult V E) → Runs read input left y → KeepsLaws step s.kind view given marks failures steady input left y
-    keeps_once read h given input left y x = run_keeps_laws s step view given marks failures steady (λ b. b ≡ false) (λ b. Unit {0}) (once {R = R} read) (once_is_meaning read h) input left y x.passes x.answers
+    keeps_once read h given input left y x = run_keeps_laws s step view given marks failures steady (λ b. b ≡ false) (λ b. Unit {0}) (once {R = R} {E = E} read) (once_is_meaning read h) input left y x.passes x.answers
 
     module _ {V X : Type 0} (into : X → ParseResult V E) where
       pub plain_is_function : (read : Reading P T V) → IsReading read → (post : MutBor I → X → MutBor I → Type 0) → ((shown after : MutBor I) (own : X) → post shown own after → Runs read shown.now after.now (into own)) → IsFunction step s.kind view (AnswersAt post into) marks failures steady

@@ -14,7 +14,7 @@ use Rattle.combine_base.specs.declared.stream.Kind.{Kind}
 use Rattle.combine_base.specs.declared.stream.Kind.TheVariants as kinds
 use Rattle.combine_combinator_function.specs.Functions.{AnswersAt, AnswersWith, FunctionReading, GoesOn, NeedsNoMemory, answer_outcome, error_outcome}
 
-module _ {I P T R V E S : Type 0} (step : P → T → P) (errors : Errors T R P E) (steady : Type 0) (view : I → View P T) (failures : I → Failures) (fresh : S → Type 0) (m : Meaning P T R V S) where
+module _ {I P T R V E S : Type 0} (step : P → T → P) (errors : Errors T R P E) (steady : Type 0) (view : I → View P T) (failures : I → Failures) (fresh : S → Type 0) (m : Meaning P T R E V S) where
   abbrev here : World P T S E
   here = world step errors steady fresh
 

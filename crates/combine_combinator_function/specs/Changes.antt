@@ -1,16 +1,16 @@
 -- values changed by a function, or refused by it, which is known by its relation; kind and count are kept
 use denote.Ref.{MutBor}
 use Rattle.std.specs.Str.{IsUtf8}
-use Rattle.std.specs.Prelude.{ℕ, codes, ◌≡◌, ◌⊎◌, ◌↔◌, refl, List, Bool, true, Result, Ok, Err, Option, Some, None}
+use Rattle.std.specs.Prelude.{ℕ, codes, ◌≡◌, ◌⊎◌, ◌↔◌, refl, List, Bool, true, Result, Ok, Err}
 use Rattle.std.proofs.Common.{ap, sym, subst, inl, inr}
-use Rattle.combine_base.specs.Stream.View.{View, advanced, extended}
+use Rattle.combine_base.specs.Stream.View.{View, Takes, advanced, extended}
 use Rattle.combine_base.specs.Stream.Advance.{advanced_extended}
 use Rattle.combine_base.specs.Error.Errors.{Errors, New, Only, Says}
 use Rattle.combine_base.specs.Error.Items.{Item, Expected, Fixed, Message}
 use Rattle.combine_base.specs.Stream.Calls.{Passes}
 use Rattle.combine_base.specs.declared.stream.Failures.{Failures}
 use Rattle.combine_base.specs.Parser.Outcome.{Outcome, Accepted, Refused, Undecided, IsDecided, shape}
-use Rattle.combine_base.specs.Parser.Meaning.{Meaning, Reading, IsReading, IsSingle, IsMeaning, MeansOne, MeansSame}
+use Rattle.combine_base.specs.Parser.Meaning.{Meaning, Reading, Refusing, SameReasons, IsReading, IsSingle, IsMeaning, MeansOne, MeansSame, refusals, refusals_begin, refusals_from, refusals_from_same, refusals_same}
 use Rattle.combine_base.specs.declared.stream.Kind.{Kind}
 use Rattle.combine_base.specs.declared.stream.Kind.TheVariants as kinds
 
@@ -26,6 +26,33 @@ module _ {T R P E B : Type 0} (s : Errors T R P E) (gives : B → Type 0) (denie
 -- the value doesn't find that memory is short
 abbrev pub spares : {A : Type 0} → (A → Type 0) → A → Type 0
 spares starves a = starves a → ⊥
+
+module _ {P T A E : Type 0} (step : P → T → P) (says : P → A → E → Type 0) where
+  -- a value was accepted, and then refused with that error; its tokens stay taken
+  pub record RefusesValue (r : Reading P T A) (v w : View P T) (committed : Bool) (e : E) : Type 0 where
+    pub value : A
+    pub count : ℕ
+    pub accepted : r v (Accepted value count committed)
+    pub taken : Takes step count v w
+    pub said : says v.position value e
+
+  -- the error of a refusal is the part's, or that of the value
+  pub record RefusesChanged (r : Reading P T A) (part : Refusing P T E) (v w : View P T) (committed : Bool) (e : E) : Type 0 where
+    pub is : part v w committed e ⊎ RefusesValue r v w committed e
+
+  refused_into : (r t : Reading P T A) (part part' : Refusing P T E) → ((v : View P T) (o : Outcome A) → r v o → t v o) → ((v w : View P T) (k : Bool) (e : E) → part v w k e → part' v w k e) → (v w : View P T) (k : Bool) (e : E) → RefusesChanged r part v w k e → RefusesChanged t part' v w k e
+  refused_into r t part part' f g v w k e x = record { is = by_case x.is }
+    where
+      by_case : part v w k e ⊎ RefusesValue r v w k e → part' v w k e ⊎ RefusesValue t v w k e
+      by_case (inl y) = inl (g v w k e y)
+      by_case (inr y) = inr (record { value = y.value; count = y.count; accepted = f v _ y.accepted; taken = y.taken; said = y.said })
+
+  -- parts with the same outcomes and the same errors
+  refused_same : (r t : Reading P T A) (part part' : Refusing P T E) → ((v : View P T) (o : Outcome A) → r v o ↔ t v o) → SameReasons part part' → SameReasons (RefusesChanged r part) (RefusesChanged t part')
+  refused_same r t part part' f g v w k e = (
+    refused_into r t part part' (λ v o. (f v o).0) (λ v w k e. (g v w k e).0) v w k e,
+    refused_into t r part' part (λ v o. (f v o).1) (λ v w k e. (g v w k e).1) v w k e,
+  )
 
 -- a value that is accepted there is refused
 pub record Denied {P T A : Type 0} (denies : A → Type 0) (r : Reading P T A) (v : View P T) (committed : Bool) : Type 0 where
@@ -45,8 +72,18 @@ module _ {P T A B : Type 0} (step : P → T → P) (gives : P → A → B → Ty
   changed_reading r v (Refused k) = r v (Refused k) ⊎ Denied denies r v k
   changed_reading r v Undecided = r v Undecided
 
-  abbrev pub changed : {R S : Type 0} → Type 0 → Meaning P T R A S → Meaning P T R B S
-  changed spared m = record { whole = changed_reading m.whole; rest = λ s. changed_reading (m.rest s); lost = m.lost; keeps = m.keeps; puts_back = m.puts_back; lean = m.lean × spared; adds = m.adds }
+  abbrev pub changed : {R E S : Type 0} → (P → A → E → Type 0) → Type 0 → Meaning P T R E A S → Meaning P T R E B S
+  changed says spared m = record {
+    whole = changed_reading m.whole;
+    rest = λ s. changed_reading (m.rest s);
+    lost = m.lost;
+    keeps = m.keeps;
+    puts_back = m.puts_back;
+    lean = m.lean × spared;
+    adds = m.adds;
+    refuses = RefusesChanged step says m.whole (refusals m);
+    refuses_from = λ s. RefusesChanged step says (m.rest s) (refusals_from m s);
+  }
 
   changed_stays : (r : Reading P T A) → IsReading r → (v : View P T) (x : List T) (m : Bool) (o : Outcome B) → v.is_open ≡ true → IsDecided o → changed_reading r v o → changed_reading r (extended x m v) o
   changed_stays r h v x m (Accepted b n k) e d p =
@@ -91,23 +128,24 @@ module _ {P T A B : Type 0} (step : P → T → P) (gives : P → A → B → Ty
   both_ways : (r t : Reading P T A) → ((v : View P T) (o : Outcome A) → r v o ↔ t v o) → (v : View P T) (o : Outcome B) → changed_reading r v o ↔ changed_reading t v o
   both_ways r t h v o = (into r t (λ v o. (h v o).0) v o, into t r (λ v o. (h v o).1) v o)
 
-  module _ {R S : Type 0} (spared : Type 0) where
-    pub changed_is_meaning : {fresh valid : S → Type 0} {m : Meaning P T R A S} → IsMeaning fresh valid m → IsMeaning fresh valid (changed spared m)
+  module _ {R E S : Type 0} (says : P → A → E → Type 0) (spared : Type 0) where
+    pub changed_is_meaning : {fresh valid : S → Type 0} {m : Meaning P T R E A S} → IsMeaning fresh valid m → IsMeaning fresh valid (changed says spared m)
     changed_is_meaning {fresh} {valid} {m} h = record {
       whole = changed_is_reading m.whole h.whole;
       rest = λ s k. changed_is_reading (m.rest s) (h.rest s k);
       start = λ s v o d. both_ways (m.rest s) m.whole (λ v o. h.start s v o d) v o;
       found = h.found;
+      reasons = λ s d. refused_same step says (m.rest s) m.whole (refusals_from m s) (refusals m) (λ v o. h.start s v o d) (refusals_begin h s d);
     }
 
-    pub changed_means_one : {valid : S → Type 0} {m : Meaning P T R A S} → MeansOne valid m → DecidesOne step m.whole gives denies → ((s : S) → valid s → DecidesOne step (m.rest s) gives denies) → MeansOne valid (changed spared m)
+    pub changed_means_one : {valid : S → Type 0} {m : Meaning P T R E A S} → MeansOne valid m → DecidesOne step m.whole gives denies → ((s : S) → valid s → DecidesOne step (m.rest s) gives denies) → MeansOne valid (changed says spared m)
     changed_means_one {valid} {m} h d e = record {
       whole = record { one = changed_one m.whole h.whole d };
       rest = λ s k. record { one = changed_one (m.rest s) (h.rest s k) (e s k) };
     }
 
-  pub changed_means_same : {R S : Type 0} {spared spared' : Type 0} {m m' : Meaning P T R A S} → spared ↔ spared' → MeansSame m m' → MeansSame (changed spared m) (changed spared' m')
-  changed_means_same {R} {S} {spared} {spared'} {m} {m'} i h = record {
+  pub changed_means_same : {R E S : Type 0} (says : P → A → E → Type 0) {spared spared' : Type 0} {m m' : Meaning P T R E A S} → spared ↔ spared' → MeansSame m m' → MeansSame (changed says spared m) (changed says spared' m')
+  changed_means_same says {spared} {spared'} {m} {m'} i h = record {
     whole = both_ways m.whole m'.whole h.whole;
     rest = λ s. both_ways (m.rest s) (m'.rest s) (h.rest s);
     lost = h.lost;
@@ -115,24 +153,9 @@ module _ {P T A B : Type 0} (step : P → T → P) (gives : P → A → B → Ty
     puts_back = h.puts_back;
     lean = (λ x. (h.lean.0 x.0, i.0 x.1), λ x. (h.lean.1 x.0, i.1 x.1));
     adds = h.adds;
+    refuses = refused_same step says m.whole m'.whole (refusals m) (refusals m') h.whole (refusals_same h);
+    refuses_from = λ s. refused_same step says (m.rest s) (m'.rest s) (refusals_from m s) (refusals_from m' s) (h.rest s) (refusals_from_same h s);
   }
-
--- the reading that a call begins with, by what it was given
-abbrev pub read_from : {P T R A S : Type 0} → Meaning P T R A S → Option S → Reading P T A
-read_from m None = m.whole
-read_from m (Some s) = m.rest s
-
-module _ {P T R A S E : Type 0} (m : Meaning P T R A S) (part : Option S → View P T → Bool → E → Type 0) (says : P → A → E → Type 0) where
-  -- a value was accepted, and then refused with that error
-  pub record RefusesValue (from : Option S) (v : View P T) (committed : Bool) (e : E) : Type 0 where
-    pub value : A
-    pub count : ℕ
-    pub accepted : read_from m from v (Accepted value count committed)
-    pub said : says v.position value e
-
-  -- the error of a refusal is the part's, or that of the value
-  pub record RefusesChanged (from : Option S) (v : View P T) (committed : Bool) (e : E) : Type 0 where
-    pub is : part from v committed e ⊎ RefusesValue from v committed e
 
 -- a function's errors for a value are refusals or want of memory
 module _ {B E : Type 0} (kind : E → Kind) (post : Result B E → Type 0) where

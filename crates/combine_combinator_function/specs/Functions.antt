@@ -193,18 +193,7 @@ module _ {I P T V E : Type 0} (step : P → T → P) (kind : E → Kind) (view :
   abbrev pub NeedsNoMemory : Type 0
   NeedsNoMemory = (input left : I) (e : E) → answers input (CommitErr e) left → kind e ≡ kinds.Memory → ⊥
 
-module _ {I P T R V S E : Type 0} (step : P → T → P) (kind : E → Kind) (view : I → View P T) (answers : I → ParseResult V E → I → Type 0) (lean : Type 0) where
-  -- each call begins again
-  abbrev pub as_function : Meaning P T R V S
-  as_function = stateless (FunctionReading step kind view answers) ⊥ lean Nothing
-
-  pub as_function_is_meaning : (fresh valid : S → Type 0) → IsMeaning fresh valid as_function
-  as_function_is_meaning fresh valid = stateless_is_meaning fresh valid (FunctionReading step kind view answers) ⊥ lean Nothing (function_is_reading step kind view answers)
-
-  pub as_function_means_one : (valid : S → Type 0) → IsSingle (FunctionReading step kind view answers) → MeansOne valid as_function
-  as_function_means_one valid h = stateless_means_one valid (FunctionReading step kind view answers) ⊥ lean Nothing h
-
--- the error of a refusal is one that the function answered there
+-- the error of a refusal is one that the function answered there, and so it left the stream
 module _ {I P T V E : Type 0} (view : I → View P T) (answers : I → ParseResult V E → I → Type 0) where
   abbrev pub refused_by : ParseResult V E → Bool → E → Type 0
   refused_by (CommitOk a) committed e = ⊥
@@ -212,10 +201,22 @@ module _ {I P T V E : Type 0} (view : I → View P T) (answers : I → ParseResu
   refused_by (CommitErr x) committed e = (committed ≡ true) × (e ≡ x)
   refused_by (PeekErr t) committed e = (committed ≡ false) × (e ≡ t.error)
 
-  pub record RefusesCalled (v : View P T) (committed : Bool) (e : E) : Type 0 where
+  pub record RefusesCalled (v w : View P T) (committed : Bool) (e : E) : Type 0 where
     pub input : I
     pub left : I
     pub answer : ParseResult V E
     pub met : answers input answer left
     pub place : view input ≡ v
+    pub leaves : view left ≡ w
     pub refused : refused_by answer committed e
+
+module _ {I P T R V S E : Type 0} (step : P → T → P) (kind : E → Kind) (view : I → View P T) (answers : I → ParseResult V E → I → Type 0) (lean : Type 0) where
+  -- each call begins again
+  abbrev pub as_function : Meaning P T R E V S
+  as_function = stateless (FunctionReading step kind view answers) ⊥ lean Nothing (RefusesCalled view answers)
+
+  pub as_function_is_meaning : (fresh valid : S → Type 0) → IsMeaning fresh valid as_function
+  as_function_is_meaning fresh valid = stateless_is_meaning fresh valid (FunctionReading step kind view answers) ⊥ lean Nothing (RefusesCalled view answers) (function_is_reading step kind view answers)
+
+  pub as_function_means_one : (valid : S → Type 0) → IsSingle (FunctionReading step kind view answers) → MeansOne valid as_function
+  as_function_means_one valid h = stateless_means_one valid (FunctionReading step kind view answers) ⊥ lean Nothing (RefusesCalled view answers) h

@@ -41,21 +41,23 @@ module _ {P T V : Type 0} where
     within = λ v a n k p. absurd p;
   }
 
-module _ {P T R V S : Type 0} (adds : List (Item T R) → Type 0) where
-  -- it takes no memory, and never asks for more
-  abbrev pub refuses_all : Meaning P T R V S
-  refuses_all = stateless refused_there (Unit {0}) (Unit {0}) adds
-
-  pub refuses_all_is_meaning : (fresh valid : S → Type 0) → IsMeaning fresh valid refuses_all
-  refuses_all_is_meaning fresh valid = stateless_is_meaning fresh valid refused_there (Unit {0}) (Unit {0}) adds refused_is_reading
-
-  pub refuses_all_means_one : (valid : S → Type 0) → MeansOne valid refuses_all
-  refuses_all_means_one valid = stateless_means_one valid refused_there (Unit {0}) (Unit {0}) adds (record { one = one })
-
 -- its error is made where it is called, and says nothing by itself
 abbrev pub refuses_at : {T R P E : Type 0} → Errors T R P E → P → Bool → E → Type 0
 refuses_at s place true e = ⊥
 refuses_at s place false e = New s kinds.Refused place e
 
-pub record RefusesThere {T R P E : Type 0} (s : Errors T R P E) (v : View P T) (committed : Bool) (e : E) : Type 0 where
+-- and nothing is taken
+pub record RefusesThere {T R P E : Type 0} (s : Errors T R P E) (v w : View P T) (committed : Bool) (e : E) : Type 0 where
+  pub stays : w ≡ v
   pub is : refuses_at s v.position committed e
+
+module _ {P T R E V S : Type 0} (s : Errors T R P E) (adds : List (Item T R) → Type 0) where
+  -- it takes no memory, and never asks for more
+  abbrev pub refuses_all : Meaning P T R E V S
+  refuses_all = stateless refused_there (Unit {0}) (Unit {0}) adds (RefusesThere s)
+
+  pub refuses_all_is_meaning : (fresh valid : S → Type 0) → IsMeaning fresh valid refuses_all
+  refuses_all_is_meaning fresh valid = stateless_is_meaning fresh valid refused_there (Unit {0}) (Unit {0}) adds (RefusesThere s) refused_is_reading
+
+  pub refuses_all_means_one : (valid : S → Type 0) → MeansOne valid refuses_all
+  refuses_all_means_one valid = stateless_means_one valid refused_there (Unit {0}) (Unit {0}) adds (RefusesThere s) (record { one = one })

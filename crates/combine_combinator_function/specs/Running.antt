@@ -13,7 +13,7 @@ use Rattle.combine_base.specs.declared.stream.Kind.{Kind}
 use Rattle.combine_base.specs.declared.stream.Kind.TheVariants as kinds
 use Rattle.combine_combinator_function.specs.Functions.{KeepsLaws, Settled, keeps_error, keeps_laws, keeps_peek}
 
-module _ {I P T R V E S C : Type 0} (errors : Errors T R P E) (step : P → T → P) (view : I → View P T) (given : I → ParseResult V E → I → Type 0) (marks : I → C → View P T → Type 0) (failures : I → Failures) (steady : Type 0) (fresh valid : S → Type 0) (m : Meaning P T R V S) (h : IsMeaning fresh valid m) (input left : I) where
+module _ {I P T R V E S C : Type 0} (errors : Errors T R P E) (step : P → T → P) (view : I → View P T) (given : I → ParseResult V E → I → Type 0) (marks : I → C → View P T → Type 0) (failures : I → Failures) (steady : Type 0) (fresh valid : S → Type 0) (m : Meaning P T R E V S) (h : IsMeaning fresh valid m) (input left : I) where
   abbrev here : World P T S E
   here = world step errors steady fresh
 

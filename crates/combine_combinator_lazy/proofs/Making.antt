@@ -1,5 +1,5 @@
 -- the answers of `lazy` and `factory`, by those of the parser that was made
-use Rattle.std.proofs.Common.{◌≡◌, ◌⊎◌, inl, inr, Bool, true, false, List, refl, sym, subst, arith, Some, None}
+use Rattle.std.proofs.Common.{◌≡◌, ◌⊎◌, inl, inr, Bool, true, false, List, refl, sym, subst, arith}
 use denote.Ref.{MutBor}
 use Rattle.std.specs.Fn.{Shared, always_fn}
 use Rattle.combine_base.specs.Error.Errors.{Errors}
@@ -9,11 +9,12 @@ use Rattle.combine_base.specs.Parser.Drivers.{Starts}
 use Rattle.combine_base.specs.Parser.Judged.{NeedsMore}
 use Rattle.combine_base.specs.Parser.Kept.{KeptOf}
 use Rattle.combine_base.specs.Parser.Meaning.{Meaning, Reading, IsMeaning}
-use Rattle.combine_base.specs.Parser.Reasons.{Reasoned, kept_from}
+use Rattle.combine_base.specs.Parser.Reasons.{Reasoned, ReasonedCall}
 use Rattle.combine_base.specs.Sequence.Parts.{RunsFrom, run_from}
 use Rattle.combine_base.specs.Stream.View.{View, extended}
 use Rattle.combine_base.proofs.Inside.{Inside, Keeps, inside_asks, inside_commits, inside_fails, inside_peeks, inside_refuses}
 use Rattle.combine_base.proofs.Progress.{Progress, after_none, takes_none}
+use Rattle.combine_base.proofs.Refusing.{reasoned_into}
 use Rattle.combine_base.proofs.Same.{same_more, same_none}
 use Rattle.combine_base.proofs.Starting.{in_mode, progress_here}
 use Rattle.combine_base.specs.declared.error.ParseResult.{ParseResult}
@@ -22,7 +23,7 @@ use Rattle.combine_base.specs.declared.parser.Parser as parser
 use Rattle.combine_base.specs.declared.stream.StreamOnce as stream
 use Rattle.combine_base.specs.declared.stream.Failures.{Failures}
 use Rattle.combine_combinator_lazy.specs.Calling.{CalledMade}
-use Rattle.combine_combinator_lazy.specs.Made.{InPlace, Lasts, MadeAt, Makes, RefusesMade, by_factory, is_unmade, made, made_rest, made_there, valid_made}
+use Rattle.combine_combinator_lazy.specs.Made.{InPlace, Lasts, MadeAt, Makes, by_factory, is_unmade, made, made_rest, made_there, valid_made}
 use Rattle.combine_combinator_lazy.specs.declared.combinator.made.Made.{Made}
 use Rattle.combine_combinator_lazy.specs.declared.combinator.made.MadeState.{MadeState}
 use Rattle.combine_combinator_lazy.specs.declared.combinator.made.MadeState.TheVariants.{Unmade, Kept}
@@ -49,7 +50,7 @@ module _ {I P T N C V F : Type 0} (view : I → View P T) (marks : I → C → V
   }
 
 module _ {N Input V U Checkpoint T R P E : Type 0} (p : parser.Ghosts N Input U V Checkpoint T R P E) (i : stream.Ghosts Input T R P E) (seen : Errors T R P E) (fresh : U → Type 0) (makes : Makes P T N) (makable : N → Type 0) (adds : List (Item T R) → Type 0) where
-  abbrev all : Meaning P T R V (MadeState N U)
+  abbrev all : Meaning P T R E V (MadeState N U)
   all = made makes makable p.meaning adds
 
   abbrev kept : N → Type 0
@@ -66,15 +67,15 @@ module _ {N Input V U Checkpoint T R P E : Type 0} (p : parser.Ghosts N Input U 
   all_world = world i.step seen i.steady is_unmade
 
   -- the state that is left is valid
-  pub leaves_valid : {first : Bool} {input left : Input} {l : Made N U} {state : MadeState N U} {y : ParseResult V E} → kept l.parser → CalledMade p i seen fresh first input left l state y → valid_made kept p.valid state
-  leaves_valid {first} {input} {left} {l} {state} {y} d g = by_need g.leaves
+  pub leaves_valid : {input left : Input} {l : Made N U} {state : MadeState N U} {y : ParseResult V E} → kept l.parser → CalledMade p i seen fresh input left l state y → valid_made kept p.valid state
+  leaves_valid {input} {left} {l} {state} {y} d g = by_need g.leaves
     where
       by_need : (NeedsMore seen.kind (i.view left).is_open y × (state ≡ Kept (record { parser = g.parser; state = g.stopped })) × p.valid g.stopped) ⊎ ((NeedsMore seen.kind (i.view left).is_open y → ⊥) × (state ≡ Unmade)) → valid_made kept p.valid state
       by_need (inl j) = rw j.1 (record { is_lawful = g.lawful; parser = d.parser; is_given = d.is_given; same = same_more _ _ _ d.same g.same }, j.2)
       by_need (inr j) = rw j.1 tt
 
   -- Where the parser that was made stands for what the call begins from, the call answers what that parser does.
-  module _ {first : Bool} {input left : Input} {l : Made N U} {state : MadeState N U} {y : ParseResult V E} (d : kept l.parser) (g : CalledMade p i seen fresh first input left l state y) where
+  module _ {input left : Input} {l : Made N U} {state : MadeState N U} {y : ParseResult V E} (d : kept l.parser) (g : CalledMade p i seen fresh input left l state y) where
     abbrev here : Reading P T V
     here = (p.meaning l.parser).rest l.state
 
@@ -117,7 +118,7 @@ module _ {N Input V U Checkpoint T R P E : Type 0} (p : parser.Ghosts N Input U 
       answered : Answers all_world all (run_from z state (i.view input) (i.view left) (i.failures input) (i.failures left)) y
       answered = by_answer y g.answers g.leaves
 
-  module _ {first : Bool} {input left : Input} {l : Made N U} {state : MadeState N U} {y : ParseResult V E} (d : kept l.parser) (g : CalledMade p i seen fresh first input left l state y) where
+  module _ {input left : Input} {l : Made N U} {state : MadeState N U} {y : ParseResult V E} (d : kept l.parser) (g : CalledMade p i seen fresh input left l state y) where
     -- a call that goes on with the parser that is kept
     pub resumes_made : Answers all_world all (run_from (Kept l) state (i.view input) (i.view left) (i.failures input) (i.failures left)) y
     resumes_made = answered d g (Kept l) (progress_here own_world ((p.meaning l.parser).rest l.state) ((p.meaning l.parser).rest l.state) (i.view input) (i.failures input) (λ v o x. x)) refl (λ x. x)
@@ -137,19 +138,14 @@ module _ {N Input V U Checkpoint T R P E : Type 0} (p : parser.Ghosts N Input U 
     begins_in_place old before e f lasts h k m = subst (λ v. Answers all_world all (run_from Unmade state v (i.view left) before (i.failures left)) y) e (subst (λ b. Answers all_world all (run_from Unmade state (i.view input) (i.view left) b (i.failures left)) y) f (begins_made lasts h k (subst (λ v. makes v l.parser) (sym e) m)))
 
     -- and the error of its refusal
-    pub reasons_kept : (first ≡ false) → Reasoned seen.kind (i.view left).is_open (RefusesMade makes fresh p.refuses (kept_from first (Kept l)) (i.view input)) y
-    reasons_kept e committed x r = rw e record { is = (rw e at g.refuses) committed x r }
+    pub reasons_made : IsMeaning fresh p.valid (p.meaning l.parser) → fresh l.state → makes (i.view input) l.parser → ReasonedCall seen all false Unmade (i.view input) (i.view left) y
+    reasons_made h f m = reasoned_into (λ k e x. record { parser = l.parser; made = m; said = (h.reasons l.state f (i.view input) (i.view left) k e).0 x }) g.refuses
 
-    module _ (given : MadeState N U) (from : RunsFrom is_unmade first given Unmade) (f : fresh l.state) (m : makes (i.view input) l.parser) where
-      pub reasons_made : Reasoned seen.kind (i.view left).is_open (RefusesMade makes fresh p.refuses (kept_from first given) (i.view input)) y
-      reasons_made committed x r = by_mode first from (g.refuses committed x r)
-        where
-          by_mode : (b : Bool) → RunsFrom is_unmade b given Unmade → p.refuses l.parser (kept_from b l.state) (i.view input) committed x → RefusesMade makes fresh p.refuses (kept_from b given) (i.view input) committed x
-          by_mode true k j = record { is = record { parser = l.parser; made = m; at = None; begins = tt; said = j } }
-          by_mode false k j = rw (sym (k.kept refl)) record { is = record { parser = l.parser; made = m; at = Some l.state; begins = f; said = j } }
+    pub reasons_in_place : (old : View P T) → i.view input ≡ old → IsMeaning fresh p.valid (p.meaning l.parser) → fresh l.state → makes old l.parser → ReasonedCall seen all false Unmade old (i.view left) y
+    reasons_in_place old e h f m = subst (λ v. ReasonedCall seen all false Unmade v (i.view left) y) e (reasons_made h f (subst (λ v. makes v l.parser) (sym e) m))
 
 -- the same as an answer of the parser that was made, from its start, where the maker left the stream in place
-module _ {N Input V U Checkpoint T R P E : Type 0} (p : parser.Ghosts N Input U V Checkpoint T R P E) (i : stream.Ghosts Input T R P E) (seen : Errors T R P E) (fresh : U → Type 0) {old asked left : Input} {n : N} {u : U} {state : MadeState N U} {y : ParseResult V E} (g : CalledMade p i seen fresh true asked left (record { parser = n; state = u }) state y) (e : i.view asked ≡ i.view old) where
+module _ {N Input V U Checkpoint T R P E : Type 0} (p : parser.Ghosts N Input U V Checkpoint T R P E) (i : stream.Ghosts Input T R P E) (seen : Errors T R P E) (fresh : U → Type 0) {old asked left : Input} {n : N} {u : U} {state : MadeState N U} {y : ParseResult V E} (g : CalledMade p i seen fresh asked left (record { parser = n; state = u }) state y) (e : i.view asked ≡ i.view old) where
   abbrev around : World P T U E
   around = world i.step seen i.steady fresh
 
@@ -163,5 +159,5 @@ module _ {N Input V U Checkpoint T R P E : Type 0} (p : parser.Ghosts N Input U 
     answers = in_mode around p.valid (p.meaning n) h true u u g.stopped (record { afresh = λ k. d; kept = λ k. refl }) (i.view old) (i.view left) (i.failures old) (i.failures left) y (subst (λ v. from_view v (i.failures old)) e (subst (from_view (i.view asked)) f g.answers));
   }
 
-  pub refuses_made : Reasoned seen.kind (i.view left).is_open (p.refuses n None (i.view old)) y
-  refuses_made = subst (λ v. Reasoned seen.kind (i.view left).is_open (p.refuses n None v) y) e g.refuses
+  pub refuses_made : fresh u → IsMeaning fresh p.valid (p.meaning n) → Reasoned seen.kind (i.view left).is_open ((p.meaning n).refuses (i.view old) (i.view left)) y
+  refuses_made d h = subst (λ v. Reasoned seen.kind (i.view left).is_open ((p.meaning n).refuses v (i.view left)) y) e (reasoned_into (λ k x. (h.reasons u d (i.view asked) (i.view left) k x).0) g.refuses)

@@ -1,5 +1,5 @@
 -- parsers that a maker answers where a call begins; the state is the one that runs, and its state
-use Rattle.std.specs.Prelude.{◌≡◌, List, [], ◌++◌, Bool, true, false, Option, Some, None, refl, ◌↔◌}
+use Rattle.std.specs.Prelude.{◌≡◌, List, [], ◌++◌, Bool, true, false, refl, ◌↔◌}
 use Rattle.std.proofs.Common.{ap, sym, subst, ◌∙◌, append_assoc}
 use denote.Ref.{MutBor}
 use Rattle.std.specs.Fn.{Shared, always_fn}
@@ -9,7 +9,7 @@ use Rattle.combine_base.specs.Stream.Calls.{Passes}
 use Rattle.combine_base.specs.Error.Items.{Item}
 use Rattle.combine_base.specs.Parser.Outcome.{Outcome, shape}
 use Rattle.combine_base.specs.Parser.Kept.{KeptOf, means_one_as}
-use Rattle.combine_base.specs.Parser.Meaning.{Meaning, Reading, IsReading, IsSingle, IsMeaning, MeansOne}
+use Rattle.combine_base.specs.Parser.Meaning.{Meaning, Reading, Refusing, IsReading, IsSingle, IsMeaning, MeansOne, SameReasons}
 use Rattle.combine_base.specs.declared.stream.Failures.{Failures}
 use Rattle.combine_combinator_lazy.specs.declared.combinator.made.MadeState.{MadeState}
 use Rattle.combine_combinator_lazy.specs.declared.combinator.made.MadeState.TheVariants.{Unmade, Kept}
@@ -124,10 +124,22 @@ pub record MakesOne {P T V N : Type 0} (makes : Makes P T N) (means : N → Read
   pub one : (v : View P T) (n n' : N) → makes v n → makes v n' → (o o' : Outcome V) → means n v o → means n' v o' → shape o ≡ shape o'
 
 -- the items of a parser that may be answered
-abbrev pub Adds : {P T R V N U : Type 0} → (N → Type 0) → (N → Meaning P T R V U) → List (Item T R) → Type 0
+abbrev pub Adds : {P T R E V N U : Type 0} → (N → Type 0) → (N → Meaning P T R E V U) → List (Item T R) → Type 0
 Adds {N = N} answers means is = (n : N) × answers n × (means n).adds is
 
-module _ {P T R V N U : Type 0} (makes : Makes P T N) (makable : N → Type 0) (means : N → Meaning P T R V U) (adds : List (Item T R) → Type 0) where
+module _ {P T R E V N U : Type 0} (makes : Makes P T N) (means : N → Meaning P T R E V U) where
+  -- a parser that may be made there refuses so, from its start
+  pub record RefusesAfresh (v w : View P T) (committed : Bool) (e : E) : Type 0 where
+    pub parser : N
+    pub made : makes v parser
+    pub said : (means parser).refuses v w committed e
+
+  -- and a kept one from its state
+  abbrev pub made_refuses : MadeState N U → Refusing P T E
+  made_refuses Unmade v w committed e = RefusesAfresh v w committed e
+  made_refuses (Kept k) v w committed e = (means k.parser).refuses_from k.state v w committed e
+
+module _ {P T R E V N U : Type 0} (makes : Makes P T N) (makable : N → Type 0) (means : N → Meaning P T R E V U) (adds : List (Item T R) → Type 0) where
   -- any parser that may be made there
   abbrev pub made_whole : Reading P T V
   made_whole v o = (n : N) × makes v n × (means n).whole v o
@@ -141,7 +153,7 @@ module _ {P T R V N U : Type 0} (makes : Makes P T N) (makable : N → Type 0) (
   made_lost (Kept k) v = (means k.parser).lost k.state v
 
   -- a kept parser means what one that is makable does
-  abbrev pub made : Meaning P T R V (MadeState N U)
+  abbrev pub made : Meaning P T R E V (MadeState N U)
   made = record {
     whole = made_whole;
     rest = made_rest;
@@ -150,6 +162,8 @@ module _ {P T R V N U : Type 0} (makes : Makes P T N) (makable : N → Type 0) (
     puts_back = (n : N) → makable n → (means n).puts_back;
     lean = (n : N) → makable n → (means n).lean;
     adds = adds;
+    refuses = RefusesAfresh makes means;
+    refuses_from = made_refuses makes means;
   }
 
   module _ (lawful : N → Type 0) where
@@ -177,8 +191,12 @@ module _ {P T R V N U : Type 0} (makes : Makes P T N) (makable : N → Type 0) (
       finds Unmade v d l = l
       finds (Kept k) v d l = absurd (cc)
 
+      reasons : (s : MadeState N U) → is_unmade s → SameReasons (made_refuses makes means s) (RefusesAfresh makes means)
+      reasons Unmade d v w k e = (λ p. p, λ p. p)
+      reasons (Kept l) d v w k e = absurd (cc)
+
       pub made_is_meaning : IsMeaning is_unmade (valid_made kept valid) made
-      made_is_meaning = record { whole = whole_is_reading; rest = rest_is_reading; start = starts; found = finds }
+      made_is_meaning = record { whole = whole_is_reading; rest = rest_is_reading; start = starts; found = finds; reasons = reasons }
 
     module _ {valid : U → Type 0} (singles : (n : N) → makable n → MeansOne valid (means n)) (one : MakesOne makes (λ n. (means n).whole)) where
       whole_is_single : IsSingle made_whole
@@ -190,26 +208,3 @@ module _ {P T R V N U : Type 0} (makes : Makes P T N) (makable : N → Type 0) (
 
       pub made_means_one : MeansOne (valid_made kept valid) made
       made_means_one = record { whole = whole_is_single; rest = rest_is_single }
-
--- a call begins afresh, or from some default state
-abbrev pub Begins : {U : Type 0} → (U → Type 0) → Option U → Type 0
-Begins fresh None = Unit {0}
-Begins fresh (Some u) = fresh u
-
-module _ {P T N U E : Type 0} (makes : Makes P T N) (fresh : U → Type 0) (refuses : N → Option U → View P T → Bool → E → Type 0) where
-  -- a parser that may be made there refused, from its beginning
-  pub record RefusesAfresh (v : View P T) (committed : Bool) (e : E) : Type 0 where
-    pub parser : N
-    pub made : makes v parser
-    pub at : Option U
-    pub begins : Begins fresh at
-    pub said : refuses parser at v committed e
-
-  abbrev pub made_refuses : Option (MadeState N U) → View P T → Bool → E → Type 0
-  made_refuses None v committed e = RefusesAfresh v committed e
-  made_refuses (Some Unmade) v committed e = RefusesAfresh v committed e
-  made_refuses (Some (Kept k)) v committed e = refuses k.parser (Some k.state) v committed e
-
-  -- the error of a refusal is that of the parser that runs
-  pub record RefusesMade (from : Option (MadeState N U)) (v : View P T) (committed : Bool) (e : E) : Type 0 where
-    pub is : made_refuses from v committed e

@@ -1,33 +1,28 @@
 -- the answers of `recognize`, by those of its part
-use Rattle.std.proofs.Common.{ℕ, ◌+◌, ◌<◌, ◌≤◌, ◌≡◌, List, ◌++◌, Bool, true, false, take, drop, arith, ap, sym, subst, refl, ◌∙◌, Ok, Err}
+use Rattle.std.proofs.Common.{ℕ, ◌<◌, ◌≤◌, ◌≡◌, List, ◌++◌, Bool, true, false, take, drop, arith, ap, sym, subst, refl, ◌∙◌, Ok, Err}
 use Rattle.combine_base.specs.Stream.View.{View, Follows, extended}
 use Rattle.combine_base.specs.Parser.Outcome.{Outcome, Accepted, Refused, Undecided, after, IsCommitted}
-use Rattle.combine_base.specs.Parser.Meaning.{Meaning, Reading, IsReading}
+use Rattle.combine_base.specs.Parser.Meaning.{Meaning, Reading, IsMeaning, IsReading}
 use Rattle.combine_base.specs.Parser.Answer.{Run, World, Answers, Asks, fails, Leaves}
-use Rattle.combine_base.specs.Parser.Reasons.{kept_from}
+use Rattle.combine_base.specs.Parser.Reasons.{Reasoned, ReasonedCall}
 use Rattle.combine_base.specs.Sequence.Parts.{RunsFrom, run_from}
-use Rattle.combine_base.proofs.Calls.{around, needs}
+use Rattle.combine_base.specs.Error.Errors.{Errors}
+use Rattle.combine_base.proofs.Calls.{around, need_of_more, needs, same_mark}
 use Rattle.combine_base.proofs.Inside.{Inside, inside_fails, inside_refuses}
-use Rattle.combine_base.proofs.Progress.{progress_none}
+use Rattle.combine_base.proofs.Progress.{progress_none, takes_open}
+use Rattle.combine_base.proofs.Reasoning.{reasons_fault, reasons_need}
+use Rattle.combine_base.proofs.Refusing.{reasoned_at_rest, reasoned_error, reasoned_in_mode, reasoned_refusal}
 use Rattle.combine_base.specs.declared.error.ParseResult.TheVariants.{CommitOk, PeekOk, CommitErr, PeekErr}
 use Rattle.combine_base.specs.declared.error.Tracked.{Tracked}
 use Rattle.combine_base.specs.declared.stream.Failures.{Failures}
 use Rattle.combine_base.specs.declared.stream.Kind.{Kind}
 use Rattle.combine_base.specs.declared.stream.Kind.TheVariants as kinds
-use Rattle.combine_combinator_recognize.specs.Gathered.{Collects, HasValid, IsFresh, all_more, begins_with, collected_by, hinders, recognized, recognizes}
+use Rattle.combine_combinator_recognize.specs.Gathered.{Collects, HasValid, IsFresh, all_more, collected_by, hinders, recognized, recognized_is_meaning, recognizes}
 use Rattle.combine_combinator_recognize.specs.declared.combinator.types.Collected.TheVariants.{Tokens}
 use Rattle.combine_combinator_recognize.specs.declared.combinator.types.RecognizeState.{RecognizeState}
 use Rattle.combine_combinator_recognize.proofs.Gathering.{collected_on}
 
--- the part begins with its state in what the call runs from
-pub part_begins : {F S : Type 0} {fresh : RecognizeState F S → Type 0} {first : Bool} {given s : RecognizeState F S} → RunsFrom fresh first given s → begins_with (kept_from first given) ≡ kept_from first s.part
-part_begins {F} {S} {fresh} {first} {given} {s} r = by_mode first r
-  where
-    by_mode : (first : Bool) → RunsFrom fresh first given s → begins_with (kept_from first given) ≡ kept_from first s.part
-    by_mode true r = refl
-    by_mode false r = rw (r.kept refl) refl
-
--- and it is valid
+-- the part's state is valid
 pub part_valid : {F S : Type 0} {fresh valid : S → Type 0} {first : Bool} {given s : RecognizeState F S} → ((s : S) → fresh s → valid s) → RunsFrom (IsFresh fresh) first given s → HasValid valid given → HasValid valid s
 part_valid {F} {S} {fresh} {valid} {first} {given} {s} h r v = by_mode first r
   where
@@ -35,8 +30,16 @@ part_valid {F} {S} {fresh} {valid} {first} {given} {s} h r v = by_mode first r
     by_mode true r = h s.part (r.afresh refl).1
     by_mode false r = subst (HasValid valid) (sym (r.kept refl)) v
 
-module _ {P T R A S E F Held : Type 0} (w : World P T S E) (held : F → Held) (none : Held) (more : Held → T → Held) (lean : Type 0) (m : Meaning P T R A S) (s left : RecognizeState F S) (stopped : S) (old mid : View P T) (before between : Failures) where
-  abbrev all : Meaning P T R F (RecognizeState F S)
+-- the errors of refusals are those of the part
+module _ {P T R A S E F Held : Type 0} (errors : Errors T R P E) (held : F → Held) (none : Held) (more : Held → T → Held) (lean : Type 0) {fresh valid : S → Type 0} {m : Meaning P T R E A S} (h : IsMeaning fresh valid m) {first : Bool} {given s : RecognizeState F S} (from : RunsFrom (IsFresh fresh) first given s) (old new : View P T) where
+  pub error_reasons : {e : E} → ReasonedCall errors m first s.part old new (CommitErr e) → ReasonedCall errors (recognized held none more lean m) first given old new (CommitErr e)
+  error_reasons r = reasoned_in_mode (recognized_is_meaning held none more lean h) errors from (reasoned_error (reasoned_at_rest h errors (λ i. (from.afresh i).1) r))
+
+  pub refusal_reasons : {t : Tracked E} → ReasonedCall errors m first s.part old new (PeekErr t) → ReasonedCall errors (recognized held none more lean m) first given old new (PeekErr t)
+  refusal_reasons r = reasoned_in_mode (recognized_is_meaning held none more lean h) errors from (reasoned_refusal (reasoned_at_rest h errors (λ i. (from.afresh i).1) r))
+
+module _ {P T R A S E F Held : Type 0} (w : World P T S E) (held : F → Held) (none : Held) (more : Held → T → Held) (lean : Type 0) (m : Meaning P T R E A S) (s left : RecognizeState F S) (stopped : S) (old mid : View P T) (before between : Failures) where
+  abbrev all : Meaning P T R E F (RecognizeState F S)
   all = recognized held none more lean m
 
   abbrev all_world : World P T (RecognizeState F S) E
@@ -163,3 +166,21 @@ module _ {P T R A S E F Held : Type 0} (w : World P T S E) (held : F → Held) (
   -- an error that is need of more, with what is collected then
   pub recognize_asks : (into : F) → held into ≡ earlier → (new : View P T) (later : Failures) (f : F) → left ≡ record { collected = Tokens f; part = stopped } → (e : E) → (w.kind e ≡ kinds.End) × (mid.is_open ≡ true) → Answers w m call (CommitErr e) → ((x : Asks w m call) → Collects w.steady w.step held more lean into old new between later x.count (Ok f)) → Answers all_world all (call_around new later) (CommitErr e)
   recognize_asks into empty new later f keeps e i p c = needs w (IsFresh w.fresh) m all call (call_around new later) e i p refl (λ x. recognize_waits into empty new later f keeps x (c x))
+
+  -- which is no refusal
+  pub asked_reasons : (into : F) (new : View P T) (later : Failures) (f : F) (says : Bool → E → Type 0) (e : E) → (w.kind e ≡ kinds.End) × (mid.is_open ≡ true) → Answers w m call (CommitErr e) → ((x : Asks w m call) → Collects w.steady w.step held more lean into old new between later x.count (Ok f)) → Reasoned {V = F} w.kind new.is_open says (CommitErr e)
+  asked_reasons into new later f says e i p c =
+      let x = need_of_more w m call e i.0 (sym (same_mark w m call e p) ∙ i.1) p in
+      reasons_need w.kind new.is_open says e i.0 (takes_open w.step x.count old new (c x).is.1 ∙ sym (same_mark w m call e p) ∙ i.1)
+
+-- nor is a failure to collect
+pub hindered_reasons : {P T F Held V E : Type 0} (steady : Type 0) (step : P → T → P) (held : F → Held) (more : Held → T → Held) (lean : Type 0) (into : F) (start new : View P T) (before after : Failures) (n : ℕ) (k : Kind) → Collects steady step held more lean into start new before after n (Err k) → (kind : E → Kind) (is_open : Bool) (says : Bool → E → Type 0) (e : E) → kind e ≡ k → Reasoned {V = V} kind is_open says (CommitErr e)
+hindered_reasons {P} {T} {F} {Held} {V} {E} steady step held more lean into start new before after n k c kind is_open says e i = by_kind k i c.is.0
+  where
+    by_kind : (k : Kind) → kind e ≡ k → hinders steady step held more lean into start new before after k → Reasoned {V = V} kind is_open says (CommitErr e)
+    by_kind kinds.Read i h = reasons_fault kind is_open says e kinds.Read i tt
+    by_kind kinds.Reset i h = reasons_fault kind is_open says e kinds.Reset i tt
+    by_kind kinds.Memory i h = reasons_fault kind is_open says e kinds.Memory i tt
+    by_kind kinds.Refused i h = absurd h
+    by_kind kinds.End i h = absurd h
+    by_kind kinds.Lost i h = absurd h

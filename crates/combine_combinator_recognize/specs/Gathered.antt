@@ -1,5 +1,5 @@
 -- the tokens that a parser takes, collected; the state is the tokens taken before a cut, and the part's state
-use Rattle.std.specs.Prelude.{ℕ, ◌<◌, ◌≡◌, List, [], ◌∷◌, Bool, true, take, Option, Some, None, Result, Ok, Err, refl, ◌↔◌}
+use Rattle.std.specs.Prelude.{ℕ, ◌<◌, ◌≡◌, List, [], ◌∷◌, Bool, true, take, Result, Ok, Err, refl, ◌↔◌}
 use Rattle.std.proofs.Common.{ap, sym, ◌∙◌}
 use Rattle.std.proofs.lemmas.List.{take-append-le}
 use Rattle.std.specs.declared.alloc.Global.{Global}
@@ -27,11 +27,6 @@ IsFresh fresh s = (s.collected ≡ Nothing) × fresh s.part
 -- the part's state is valid
 abbrev pub HasValid : {F S : Type 0} → (S → Type 0) → RecognizeState F S → Type 0
 HasValid valid s = valid s.part
-
--- what the part begins with
-abbrev pub begins_with : {F S : Type 0} → Option (RecognizeState F S) → Option S
-begins_with None = None
-begins_with (Some s) = Some s.part
 
 -- what is held after these tokens, one after another
 abbrev pub all_more : {T Held : Type 0} → (Held → T → Held) → Held → List T → Held
@@ -68,7 +63,7 @@ module _ {P T A F Held : Type 0} (held : F → Held) (none : Held) (more : Held 
   recognizes h r v (Refused k) = r v (Refused k)
   recognizes h r v Undecided = r v Undecided
 
-  abbrev pub recognized : {R S : Type 0} → Type 0 → Meaning P T R A S → Meaning P T R F (RecognizeState F S)
+  abbrev pub recognized : {R E S : Type 0} → Type 0 → Meaning P T R E A S → Meaning P T R E F (RecognizeState F S)
   recognized lean m = record {
     whole = recognizes none m.whole;
     rest = λ s. recognizes (collected_by held none s.collected) (m.rest s.part);
@@ -77,6 +72,8 @@ module _ {P T A F Held : Type 0} (held : F → Held) (none : Held) (more : Held 
     puts_back = m.puts_back;
     lean = m.lean × lean;
     adds = m.adds;
+    refuses = m.refuses;
+    refuses_from = λ s. m.refuses_from s.part;
   }
 
   stays : (h : Held) (r : Reading P T A) → IsReading r → (v : View P T) (x : List T) (b : Bool) (o : Outcome F) → v.is_open ≡ true → IsDecided o → recognizes h r v o → recognizes h r (extended x b v) o
@@ -109,22 +106,23 @@ module _ {P T A F Held : Type 0} (held : F → Held) (none : Held) (more : Held 
   both_ways : (h : Held) (r t : Reading P T A) → ((v : View P T) (o : Outcome A) → r v o ↔ t v o) → (v : View P T) (o : Outcome F) → recognizes h r v o ↔ recognizes h t v o
   both_ways h r t i v o = (recognizes_into h r t (λ v o. (i v o).0) v o, recognizes_into h t r (λ v o. (i v o).1) v o)
 
-  module _ {R S : Type 0} (lean : Type 0) where
-    pub recognized_is_meaning : {fresh valid : S → Type 0} {m : Meaning P T R A S} → IsMeaning fresh valid m → IsMeaning (IsFresh fresh) (HasValid valid) (recognized lean m)
+  module _ {R E S : Type 0} (lean : Type 0) where
+    pub recognized_is_meaning : {fresh valid : S → Type 0} {m : Meaning P T R E A S} → IsMeaning fresh valid m → IsMeaning (IsFresh fresh) (HasValid valid) (recognized lean m)
     recognized_is_meaning {fresh} {valid} {m} h = record {
       whole = recognizes_is_reading none m.whole h.whole;
       rest = λ s k. recognizes_is_reading (collected_by held none s.collected) (m.rest s.part) (h.rest s.part k);
       start = λ s v o d. rw d.0 (both_ways none (m.rest s.part) m.whole (λ v o. h.start s.part v o d.1) v o);
       found = λ s v d. h.found s.part v d.1;
+      reasons = λ s d. h.reasons s.part d.1;
     }
 
-    pub recognized_means_one : {valid : S → Type 0} {m : Meaning P T R A S} → MeansOne valid m → MeansOne (HasValid valid) (recognized lean m)
+    pub recognized_means_one : {valid : S → Type 0} {m : Meaning P T R E A S} → MeansOne valid m → MeansOne (HasValid valid) (recognized lean m)
     recognized_means_one {valid} {m} h = record {
       whole = recognizes_is_single none m.whole h.whole;
       rest = λ s k. recognizes_is_single (collected_by held none s.collected) (m.rest s.part) (h.rest s.part k);
     }
 
-    pub recognized_means_same : {m m' : Meaning P T R A S} → MeansSame m m' → MeansSame (recognized lean m) (recognized lean m')
+    pub recognized_means_same : {m m' : Meaning P T R E A S} → MeansSame m m' → MeansSame (recognized lean m) (recognized lean m')
     recognized_means_same {m} {m'} h = record {
       whole = both_ways none m.whole m'.whole h.whole;
       rest = λ s. both_ways (collected_by held none s.collected) (m.rest s.part) (m'.rest s.part) (h.rest s.part);
@@ -133,4 +131,6 @@ module _ {P T A F Held : Type 0} (held : F → Held) (none : Held) (more : Held 
       puts_back = h.puts_back;
       lean = (λ x. (h.lean.0 x.0, x.1), λ x. (h.lean.1 x.0, x.1));
       adds = h.adds;
+      refuses = h.refuses;
+      refuses_from = λ s. h.refuses_from s.part;
     }

@@ -3,6 +3,7 @@ use Rattle.std.specs.Prelude.{ℕ, ◌≡◌, ◌⊎◌, Bool, Option, Some, Non
 use Rattle.std.specs.declared.cmp.Ordering.{Ordering}
 use Rattle.std.specs.declared.cmp.Ordering.TheVariants.{Equal}
 use Rattle.combine_base.specs.Error.Errors.{Errors, Placed}
+use Rattle.combine_base.specs.Parser.Meaning.{Meaning, Refusing, SameReasons, IsMeaning, MeansOne, MeansSame}
 use Rattle.combine_base.specs.Stream.View.{View, Takes}
 use Rattle.combine_base.specs.declared.error.ParseResult.{ParseResult}
 use Rattle.combine_base.specs.declared.error.ParseResult.TheVariants.{CommitOk, PeekOk, CommitErr, PeekErr}
@@ -40,11 +41,41 @@ module _ {T R Q E : Type 0} (cmp : Q → Q → Ordering) (s : Errors T R (Span Q
   pub record SpansAnswer {V : Type 0} (span : Span Q) (x y : ParseResult V E) : Type 0 where
     pub is : spans_answer span x y
 
-  -- the error of the part's refusal, at the span from where the call began to where the refusal left the stream, some tokens later
-  pub record SpansReason (step : Span Q → T → Span Q) (v : View (Span Q) T) (part : Bool → E → Type 0) (committed : Bool) (e : E) : Type 0 where
-    pub own : E
-    pub refused : part committed own
-    pub count : ℕ
-    pub left : View (Span Q) T
-    pub taken : Takes step count v left
-    pub spans : Spans (record { start = v.position.start; end = left.position.end }) own e
+  module _ (step : Span Q → T → Span Q) where
+    -- the error of the part's refusal, at the span from where the call began to where the stream stood when the part refused, some tokens later
+    pub record SpansReason (part : Refusing (Span Q) T E) (v w : View (Span Q) T) (committed : Bool) (e : E) : Type 0 where
+      pub own : E
+      pub refused : part v w committed own
+      pub count : ℕ
+      pub taken : Takes step count v w
+      pub spans : Spans (record { start = v.position.start; end = w.position.end }) own e
+
+    spans_into : (part part' : Refusing (Span Q) T E) → ((v w : View (Span Q) T) (k : Bool) (e : E) → part v w k e → part' v w k e) → (v w : View (Span Q) T) (k : Bool) (e : E) → SpansReason part v w k e → SpansReason part' v w k e
+    spans_into part part' h v w k e x = record { own = x.own; refused = h v w k x.own x.refused; count = x.count; taken = x.taken; spans = x.spans }
+
+    spans_same : (part part' : Refusing (Span Q) T E) → SameReasons part part' → SameReasons (SpansReason part) (SpansReason part')
+    spans_same part part' h v w k e = (spans_into part part' (λ v w k e. (h v w k e).0) v w k e, spans_into part' part (λ v w k e. (h v w k e).1) v w k e)
+
+    module _ {A S : Type 0} where
+      -- what the part means, with the errors of its refusals at spans
+      abbrev pub spanned : Meaning (Span Q) T R E A S → Meaning (Span Q) T R E A S
+      spanned m = record { whole = m.whole; rest = m.rest; lost = m.lost; keeps = m.keeps; puts_back = m.puts_back; lean = m.lean; adds = m.adds; refuses = SpansReason m.refuses; refuses_from = λ s. SpansReason (m.refuses_from s) }
+
+      pub spanned_is_meaning : {fresh valid : S → Type 0} {m : Meaning (Span Q) T R E A S} → IsMeaning fresh valid m → IsMeaning fresh valid (spanned m)
+      spanned_is_meaning {fresh} {valid} {m} h = record { whole = h.whole; rest = h.rest; start = h.start; found = h.found; reasons = λ s d. spans_same (m.refuses_from s) m.refuses (h.reasons s d) }
+
+      pub spanned_means_one : {valid : S → Type 0} {m : Meaning (Span Q) T R E A S} → MeansOne valid m → MeansOne valid (spanned m)
+      spanned_means_one h = record { whole = h.whole; rest = h.rest }
+
+      pub spanned_means_same : {m m' : Meaning (Span Q) T R E A S} → MeansSame m m' → MeansSame (spanned m) (spanned m')
+      spanned_means_same {m} {m'} h = record {
+        whole = h.whole;
+        rest = h.rest;
+        lost = h.lost;
+        keeps = h.keeps;
+        puts_back = h.puts_back;
+        lean = h.lean;
+        adds = h.adds;
+        refuses = spans_same m.refuses m'.refuses h.refuses;
+        refuses_from = λ s. spans_same (m.refuses_from s) (m'.refuses_from s) (h.refuses_from s);
+      }

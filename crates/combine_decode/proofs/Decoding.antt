@@ -15,7 +15,7 @@ use Rattle.combine_decode.specs.declared.decode.Batch.{Batch}
 use Rattle.combine_decode.specs.declared.decode.BatchEnd.TheVariants as ends
 use Rattle.combine_decode.specs.Messages.{After, Divides, Gives, Told, made, on_open, stops, told}
 
-module _ {P T R V S : Type 0} (meaning : P → Meaning ℕ T R V S) where
+module _ {P T R E V S : Type 0} (meaning : P → Meaning ℕ T R E V S) where
   -- a session of a parser that was made stands at the beginning of a message
   pub begins : (valid : S → Type 0) (determined : P → Type 0) (makes : P → Type 0) (most : Option ℕ) (p : P) (c : Course P T S) → makes p → Begins meaning valid determined most p c → After (made meaning makes) meaning [] c
   begins valid determined makes most p c m h = record {
@@ -119,7 +119,7 @@ smaller u a v t k e i n h = subst (λ z. n < remaining u z) (sym e) (subst (λ b
 pub by_length : (b : Bool) (n : ℕ) → b ≡ nat_eq n 0 → ((b ≡ true) ↔ (n ≡ 0))
 by_length b n e = (λ i. eqb-true n 0 (sym e ∙ i), λ i. e ∙ eq-eqb n 0 i)
 
-module _ {P T R V S : Type 0} (message : Reading ℕ T V) (meaning : P → Meaning ℕ T R V S) where
+module _ {P T R E V S : Type 0} (message : Reading ℕ T V) (meaning : P → Meaning ℕ T R E V S) where
   -- the messages so far of these tokens, and what the session was told of those behind them
   pub record SoFar (l : List T) (vs : List V) (c : Course P T S) (a : Answer V UnexpectedParse) (at : Bool) : Type 0 where
     pub behind : List T

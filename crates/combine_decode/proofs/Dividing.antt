@@ -122,7 +122,7 @@ module _ {T V : Type 0} (message : Reading ℕ T V) where
           end = same_end (concatenated ps) b.messages.items c.messages.items b.end c.end h.is.0 i.is.0 h.is.1 j;
         }
 
-module _ {P T R V S : Type 0} (meaning : P → Meaning ℕ T R V S) (makes : P → Type 0) where
+module _ {P T R E V S : Type 0} (meaning : P → Meaning ℕ T R E V S) (makes : P → Type 0) where
   -- what any parser that may be made means is a reading
   pub made_is_reading : (lawful : P → Type 0) (fresh valid : S → Type 0) → IsMade makes lawful → ((p : P) → lawful p → IsMeaning fresh valid (meaning p)) → IsReading (made meaning makes)
   made_is_reading lawful fresh valid m laws = record {

@@ -28,7 +28,7 @@ both_true : (a b : Bool) → (a && b) ≡ true → (a ≡ true) × (b ≡ true)
 both_true true b e = (refl, e)
 both_true false b e = absurd (cc)
 
-module _ {F P T R V S : Type 0} (makes : F → P → Type 0) (meaning : P → Meaning ℕ T R V S) (valid : S → Type 0) (old new : Decoding F P T S) (piece : List T) (running : old.phase ≡ phases.Running) (kept : new.maker ≡ old.maker) where
+module _ {F P T R E V S : Type 0} (makes : F → P → Type 0) (meaning : P → Meaning ℕ T R E V S) (valid : S → Type 0) (old new : Decoding F P T S) (piece : List T) (running : old.phase ≡ phases.Running) (kept : new.maker ≡ old.maker) where
   module _ (l : List T) (s : Stands makes meaning l old) where
     all_fed : old.course.seen.position + length old.course.seen.unread ≡ length l
     all_fed = let w = s.after.within in let e = ap length s.after.unread in omega (arith, length-drop old.course.seen.position l)

@@ -19,7 +19,7 @@ pub behind_within : {T V : Type 0} (message : Reading ℕ T V) (l : List T) (vs 
 behind_within message l [] behind d = let e = ap length d in omega arith
 behind_within message l (v ∷ vs) behind d = let h = behind_within message (drop d.0 l) vs behind d.4 in omega (arith, length-drop d.0 l)
 
-module _ {F P T R V S : Type 0} (makes : F → P → Type 0) (meaning : P → Meaning ℕ T R V S) (from : F) where
+module _ {F P T R E V S : Type 0} (makes : F → P → Type 0) (meaning : P → Meaning ℕ T R E V S) (from : F) where
   -- a decoder of this maker that was fed these tokens, and gave these messages
   pub record SoFar (fed : List T) (vs : List V) (d : Decoding F P T S) : Type 0 where
     pub behind : List T

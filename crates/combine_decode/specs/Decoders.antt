@@ -31,7 +31,7 @@ checked phases.Running = Ok tt
 checked phases.Closed = Err errors.Closed
 checked phases.Failed = Err errors.Failed
 
-module _ {F P T R V S : Type 0} (makes : F → P → Type 0) (meaning : P → Meaning ℕ T R V S) where
+module _ {F P T R E V S : Type 0} (makes : F → P → Type 0) (meaning : P → Meaning ℕ T R E V S) where
   -- a decoder that may go on, with these tokens behind the messages that it gave
   pub record Stands (l : List T) (d : Decoding F P T S) : Type 0 where
     pub phase : d.phase ≡ phases.Running

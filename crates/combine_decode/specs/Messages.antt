@@ -17,11 +17,11 @@ pub record IsMade {P : Type 0} (makes : P → Type 0) (lawful : P → Type 0) : 
   pub every : (p : P) → makes p → lawful p
 
 -- any parser that may be made
-abbrev pub made : {P T R V S : Type 0} → (P → Meaning ℕ T R V S) → (P → Type 0) → Reading ℕ T V
+abbrev pub made : {P T R E V S : Type 0} → (P → Meaning ℕ T R E V S) → (P → Type 0) → Reading ℕ T V
 made {P} meaning makes v o = (p : P) × makes p × (meaning p).whole v o
 
 -- the parsers that may be made have the same outcomes from the start
-pub record SharesMeaning {P T R V S : Type 0} (meaning : P → Meaning ℕ T R V S) (makes : P → Type 0) : Type 0 where
+pub record SharesMeaning {P T R E V S : Type 0} (meaning : P → Meaning ℕ T R E V S) (makes : P → Type 0) : Type 0 where
   pub every : (p q : P) → makes p → makes q → (v : View ℕ T) (o : Outcome V) → (meaning p).whole v o → (meaning q).whole v o
 
 -- why no message follows, by the outcomes there
@@ -47,7 +47,7 @@ module _ {T V : Type 0} (message : Reading ℕ T V) where
     pub stop : stops (on_open behind) e
     pub number : n ≡ length behind
 
-  module _ {P R S : Type 0} (meaning : P → Meaning ℕ T R V S) where
+  module _ {P R E S : Type 0} (meaning : P → Meaning ℕ T R E V S) where
     -- a session that is fed a message, of which it has these tokens so far
     pub record After (l : List T) (c : Course P T S) : Type 0 where
       pub left : (x : List T) (o : Outcome V) → left meaning c x true o → on_open (l ++ x) o

@@ -23,7 +23,7 @@ module _ {T V : Type 0} (message : Reading ℕ T V) (pieces : List (List T)) whe
   pub record DecodesPieces (result : Result (Batch V) DecodeError) : Type 0 where
     pub is : decodes_pieces result
 
-module _ {F P T R V S : Type 0} (makes : F → P → Type 0) (meaning : P → Meaning ℕ T R V S) (old new : Decoding F P T S) (piece : List T) (before after : List V) where
+module _ {F P T R E V S : Type 0} (makes : F → P → Type 0) (meaning : P → Meaning ℕ T R E V S) (old new : Decoding F P T S) (piece : List T) (before after : List V) where
   -- a piece is fed, and its messages stand behind those before; or there was no room for them, or no messages
   abbrev pub feeds_more : Result BatchEnd DecodeError → Type 0
   feeds_more (Ok e) = (b : Batch V) × Decodes makes meaning old new piece (Ok b) × (b.end ≡ e) × (after ≡ before ++ b.messages.items)

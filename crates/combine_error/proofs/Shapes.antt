@@ -2,7 +2,7 @@
 use Rattle.std.proofs.Common.{◌≡◌, ◌⊎◌, inl, inr, List, Bool, true, false, sym, subst}
 use Rattle.combine_base.specs.Error.Items.{Item}
 use Rattle.combine_base.specs.Error.Errors.{Errors, Only, Says, Added, Unstored, Cleared}
-use Rattle.combine_base.specs.Parser.Meaning.{Meaning}
+use Rattle.combine_base.specs.Parser.Meaning.{Meaning, Refusing, begun_refuses}
 use Rattle.combine_base.specs.Parser.Answer.{Run, World, Answers, fails, peeks, world}
 use Rattle.combine_base.specs.Parser.Judged.{IsRefusal}
 use Rattle.combine_base.specs.Parser.Reasons.{Reasoned}
@@ -10,6 +10,7 @@ use Rattle.combine_base.proofs.Calls.{left_settled}
 use Rattle.combine_base.proofs.Explaining.{reason_committed, reason_peeked}
 use Rattle.combine_base.proofs.Reasoning.{reasons_committed, reasons_ok, reasons_peek_ok, reasons_peeked}
 use Rattle.combine_base.proofs.Same.{answers_alike}
+use Rattle.combine_base.specs.Stream.View.{View}
 use Rattle.combine_base.specs.declared.stream.Kind.{Kind}
 use Rattle.combine_base.specs.declared.stream.Kind.TheVariants as kinds
 use Rattle.combine_base.specs.declared.error.ParseResult.{ParseResult}
@@ -25,18 +26,18 @@ no_need b kinds.Read i q = i
 no_need b kinds.Reset i q = i
 no_need b kinds.Lost i q = i
 
-module _ {P T R A S E : Type 0} (s : Errors T R P E) (step : P → T → P) (steady : Type 0) (fresh : S → Type 0) (m : Meaning P T R A S) (adds : List (Item T R) → Type 0) (r : Run P T S) where
+module _ {P T R A S E : Type 0} (s : Errors T R P E) (step : P → T → P) (steady : Type 0) (fresh : S → Type 0) (m : Meaning P T R E A S) (adds : List (Item T R) → Type 0) (f : Refusing P T E → Refusing P T E) (r : Run P T S) where
   abbrev here : World P T S E
   here = world step s steady fresh
 
-  abbrev other : Meaning P T R A S
-  other = saying m adds
+  abbrev other : Meaning P T R E A S
+  other = saying m adds f
 
   same_kind : (e e' : E) → s.kind e' ≡ s.kind e → Answers here other r (CommitErr e) → Answers here other r (CommitErr e')
   same_kind e e' i p = record { is = subst (fails here other r) (sym i) p.is }
 
   pub told : (says : List (Item T R) → Type 0) (x y : ParseResult A E) → Tells s r.new.is_open says x y → Answers here m r x → Answers here other r y
-  told says x y t p = by_case x y t.is (answers_alike here other m (saying_alike m adds) r x p)
+  told says x y t p = by_case x y t.is (answers_alike here other m (saying_alike m adds f) r x p)
     where
       by_says : (e e' : E) → IsRefusal r.new.is_open (s.kind e) → ((is : List (Item T R)) × says is × Added s is e e') ⊎ Unstored s (Unit {0}) e e' → Answers here other r (CommitErr e) → Answers here other r (CommitErr e')
       by_says e e' i (inl w) p = same_kind e e' w.2.kind p
@@ -56,7 +57,7 @@ module _ {P T R A S E : Type 0} (s : Errors T R P E) (step : P → T → P) (ste
       by_case (PeekErr t) y i p = rw i p
 
   pub hushed : (x y : ParseResult A E) → Hushes s r.new.is_open x y → Answers here m r x → Answers here other r y
-  hushed x y t p = by_case x y t.is (answers_alike here other m (saying_alike m adds) r x p)
+  hushed x y t p = by_case x y t.is (answers_alike here other m (saying_alike m adds f) r x p)
     where
       by_commit : (e e' : E) → (IsRefusal r.new.is_open (s.kind e) × Cleared s e e') ⊎ ((IsRefusal r.new.is_open (s.kind e) → ⊥) × (e' ≡ e)) → Answers here other r (CommitErr e) → Answers here other r (CommitErr e')
       by_commit e e' (inl i) p = same_kind e e' i.1.kind p
@@ -74,44 +75,56 @@ module _ {P T R A S E : Type 0} (s : Errors T R P E) (step : P → T → P) (ste
       by_case (CommitOk v) y i p = rw i p
       by_case (PeekOk v) y i p = rw i p
 
-module _ {T R P V E : Type 0} (s : Errors T R P E) (is_open : Bool) (part : Bool → E → Type 0) where
-  -- the errors of refusals that are made to say more
-  pub told_reasons : (i : Item T R) (x y : ParseResult V E) → Tells s is_open (Only i) x y → Reasoned s.kind is_open part x → Reasoned s.kind is_open (told_more s part i) y
-  told_reasons i x y t p = by_case x y t.is p
-    where
-      by_says : (e e' : E) → part true e → ((is : List (Item T R)) × Only i is × Added s is e e') ⊎ Unstored s (Unit {0}) e e' → IsRefusal is_open (s.kind e') → ToldMore s (part true) i e'
-      by_says e e' q (inl w) h = record { own = e; refused = q; added = subst (λ is. Added s is e e') w.1 w.2 }
-      by_says e e' q (inr u) h = absurd (subst (IsRefusal is_open) u.kind h)
+-- what is made of the errors of a call, begun afresh or from a state
+pub saying_reasons : {P T R A S E V : Type 0} (m : Meaning P T R E A S) (adds : List (Item T R) → Type 0) (f : Refusing P T E → Refusing P T E) (first : Bool) (z : S) (old new : View P T) {kind : E → Kind} {is_open : Bool} {result : ParseResult V E} → Reasoned kind is_open (f (begun_refuses m first z) old new) result → Reasoned kind is_open (begun_refuses (saying m adds f) first z old new) result
+saying_reasons m adds f true z old new h = h
+saying_reasons m adds f false z old new h = h
 
-      by_commit : (e e' : E) → (IsRefusal is_open (s.kind e) × Says s (Unit {0}) (Only i) e e') ⊎ ((IsRefusal is_open (s.kind e) → ⊥) × (e' ≡ e)) → Reasoned {V = V} s.kind is_open part (CommitErr e) → IsRefusal is_open (s.kind e') → ToldMore s (part true) i e'
-      by_commit e e' (inl j) p h = by_says e e' (reason_committed s.kind is_open part e p j.0) j.1.is h
-      by_commit e e' (inr j) p h = absurd (j.0 (subst (λ x. IsRefusal is_open (s.kind x)) j.1 h))
+module _ {T R P E : Type 0} (s : Errors T R P E) (is_open : Bool) (refuses : Refusing P T E) (old new : View P T) where
+  abbrev part : Bool → E → Type 0
+  part = refuses old new
 
-      by_case : (x y : ParseResult V E) → tells s is_open (Only i) x y → Reasoned s.kind is_open part x → Reasoned s.kind is_open (told_more s part i) y
-      by_case (CommitErr e) (CommitErr e') j p = reasons_committed s.kind is_open (told_more s part i) e' (by_commit e e' j p)
-      by_case (CommitErr e) (CommitOk v) j p = absurd j
-      by_case (CommitErr e) (PeekOk v) j p = absurd j
-      by_case (CommitErr e) (PeekErr t) j p = absurd j
-      by_case (CommitOk v) y j p = rw j (reasons_ok s.kind is_open (told_more s part i) v)
-      by_case (PeekOk v) y j p = rw j (reasons_peek_ok s.kind is_open (told_more s part i) v)
-      by_case (PeekErr t) y j p = rw j (reasons_peeked s.kind is_open (told_more s part i) t (reason_peeked s.kind is_open part t p))
+  abbrev hushed_part : Bool → E → Type 0
+  hushed_part = ToldLess s refuses old new
 
-  -- and of those that no longer say what was expected
-  pub hushed_reasons : (x y : ParseResult V E) → Hushes s is_open x y → Reasoned s.kind is_open part x → Reasoned s.kind is_open (ToldLess s part) y
-  hushed_reasons x y t p = by_case x y t.is p
-    where
-      by_commit : (e e' : E) → (IsRefusal is_open (s.kind e) × Cleared s e e') ⊎ ((IsRefusal is_open (s.kind e) → ⊥) × (e' ≡ e)) → Reasoned {V = V} s.kind is_open part (CommitErr e) → IsRefusal is_open (s.kind e') → ToldLess s part true e'
-      by_commit e e' (inl j) p h = record { own = e; refused = reason_committed s.kind is_open part e p j.0; cleared = j.1 }
-      by_commit e e' (inr j) p h = absurd (j.0 (subst (λ x. IsRefusal is_open (s.kind x)) j.1 h))
+  module _ {V : Type 0} where
+    -- the errors of refusals that are made to say more
+    pub told_reasons : (i : Item T R) (x y : ParseResult V E) → Tells s is_open (Only i) x y → Reasoned s.kind is_open part x → Reasoned s.kind is_open (told_more s i refuses old new) y
+    told_reasons i x y t p = by_case x y t.is p
+      where
+        by_says : (e e' : E) → part true e → ((is : List (Item T R)) × Only i is × Added s is e e') ⊎ Unstored s (Unit {0}) e e' → IsRefusal is_open (s.kind e') → ToldMore s i refuses old new e'
+        by_says e e' q (inl w) h = record { own = e; refused = q; added = subst (λ is. Added s is e e') w.1 w.2 }
+        by_says e e' q (inr u) h = absurd (subst (IsRefusal is_open) u.kind h)
 
-      by_case : (x y : ParseResult V E) → hushes s is_open x y → Reasoned s.kind is_open part x → Reasoned s.kind is_open (ToldLess s part) y
-      by_case (CommitErr e) (CommitErr e') j p = reasons_committed s.kind is_open (ToldLess s part) e' (by_commit e e' j p)
-      by_case (CommitErr e) (CommitOk v) j p = absurd j
-      by_case (CommitErr e) (PeekOk v) j p = absurd j
-      by_case (CommitErr e) (PeekErr t) j p = absurd j
-      by_case (PeekErr t) (PeekErr t') j p = reasons_peeked s.kind is_open (ToldLess s part) t' (record { own = t.error; refused = reason_peeked s.kind is_open part t p; cleared = j })
-      by_case (PeekErr t) (CommitOk v) j p = absurd j
-      by_case (PeekErr t) (PeekOk v) j p = absurd j
-      by_case (PeekErr t) (CommitErr e) j p = absurd j
-      by_case (CommitOk v) y j p = rw j (reasons_ok s.kind is_open (ToldLess s part) v)
-      by_case (PeekOk v) y j p = rw j (reasons_peek_ok s.kind is_open (ToldLess s part) v)
+        by_commit : (e e' : E) → (IsRefusal is_open (s.kind e) × Says s (Unit {0}) (Only i) e e') ⊎ ((IsRefusal is_open (s.kind e) → ⊥) × (e' ≡ e)) → Reasoned {V = V} s.kind is_open part (CommitErr e) → IsRefusal is_open (s.kind e') → ToldMore s i refuses old new e'
+        by_commit e e' (inl j) p h = by_says e e' (reason_committed s.kind is_open part e p j.0) j.1.is h
+        by_commit e e' (inr j) p h = absurd (j.0 (subst (λ x. IsRefusal is_open (s.kind x)) j.1 h))
+
+        by_case : (x y : ParseResult V E) → tells s is_open (Only i) x y → Reasoned s.kind is_open part x → Reasoned s.kind is_open (told_more s i refuses old new) y
+        by_case (CommitErr e) (CommitErr e') j p = reasons_committed s.kind is_open (told_more s i refuses old new) e' (by_commit e e' j p)
+        by_case (CommitErr e) (CommitOk v) j p = absurd j
+        by_case (CommitErr e) (PeekOk v) j p = absurd j
+        by_case (CommitErr e) (PeekErr t) j p = absurd j
+        by_case (CommitOk v) y j p = rw j (reasons_ok s.kind is_open (told_more s i refuses old new) v)
+        by_case (PeekOk v) y j p = rw j (reasons_peek_ok s.kind is_open (told_more s i refuses old new) v)
+        by_case (PeekErr t) y j p = rw j (reasons_peeked s.kind is_open (told_more s i refuses old new) t (reason_peeked s.kind is_open part t p))
+
+    -- and of those that no longer say what was expected
+    pub hushed_reasons : (x y : ParseResult V E) → Hushes s is_open x y → Reasoned s.kind is_open part x → Reasoned s.kind is_open hushed_part y
+    hushed_reasons x y t p = by_case x y t.is p
+      where
+        by_commit : (e e' : E) → (IsRefusal is_open (s.kind e) × Cleared s e e') ⊎ ((IsRefusal is_open (s.kind e) → ⊥) × (e' ≡ e)) → Reasoned {V = V} s.kind is_open part (CommitErr e) → IsRefusal is_open (s.kind e') → hushed_part true e'
+        by_commit e e' (inl j) p h = record { own = e; refused = reason_committed s.kind is_open part e p j.0; cleared = j.1 }
+        by_commit e e' (inr j) p h = absurd (j.0 (subst (λ x. IsRefusal is_open (s.kind x)) j.1 h))
+
+        by_case : (x y : ParseResult V E) → hushes s is_open x y → Reasoned s.kind is_open part x → Reasoned s.kind is_open hushed_part y
+        by_case (CommitErr e) (CommitErr e') j p = reasons_committed s.kind is_open hushed_part e' (by_commit e e' j p)
+        by_case (CommitErr e) (CommitOk v) j p = absurd j
+        by_case (CommitErr e) (PeekOk v) j p = absurd j
+        by_case (CommitErr e) (PeekErr t) j p = absurd j
+        by_case (PeekErr t) (PeekErr t') j p = reasons_peeked s.kind is_open hushed_part t' (record { own = t.error; refused = reason_peeked s.kind is_open part t p; cleared = j })
+        by_case (PeekErr t) (CommitOk v) j p = absurd j
+        by_case (PeekErr t) (PeekOk v) j p = absurd j
+        by_case (PeekErr t) (CommitErr e) j p = absurd j
+        by_case (CommitOk v) y j p = rw j (reasons_ok s.kind is_open hushed_part v)
+        by_case (PeekOk v) y j p = rw j (reasons_peek_ok s.kind is_open hushed_part v)

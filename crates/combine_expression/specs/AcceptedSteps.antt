@@ -9,7 +9,7 @@ use Rattle.combine_base.specs.Sequence.Readings.{continues}
 use Rattle.combine_nested.specs.declared.nested.Next.{Next}
 use Rattle.combine_nested.specs.Nesting.{Ends, Opened, Closed, Denied, TooDeep, answered, ended, goes_on, last_value, mark, marked, settles, stepping, steps, then}
 
-module _ {P T R F I V N U : Type 0} (step : P → T → P) (depth : ℕ) (roots : F → Type 0) (answers : F → N → Type 0) (takes : F → I → Next F V → Type 0) (joins : F → V → Next F V → Type 0) (some : N → Type 0) (means : N → Meaning P T R I U) where
+module _ {P T R E F I V N U : Type 0} (step : P → T → P) (depth : ℕ) (roots : F → Type 0) (answers : F → N → Type 0) (takes : F → I → Next F V → Type 0) (joins : F → V → Next F V → Type 0) (some : N → Type 0) (means : N → Meaning P T R E I U) where
   abbrev pub reads_item : F → Reading P T I
   reads_item = answered step depth roots answers takes joins some means
 

@@ -180,7 +180,7 @@ module _ {O V : Type 0} {N : ℕ} (levels : List Fixity) (changes : O → V → 
   last_so p ps before i (nexts.Close v) w t e r = ends_at p ps before i v w t e r
   last_so p ps before i (nexts.Refuse m) w t e r = absurd (cc)
 
-  module _ {P T R M U : Type 0} (step : P → T → P) (roots : Part O V N → Type 0) (answers : Part O V N → M → Type 0) (some : M → Type 0) (means : M → Meaning P T R (Item O V) U) where
+  module _ {P T R E M U : Type 0} (step : P → T → P) (roots : Part O V N → Type 0) (answers : Part O V N → M → Type 0) (some : M → Type 0) (means : M → Meaning P T R E (Item O V) U) where
     abbrev run_of : Part O V N → List (Part O V N) → View P T → List (Item O V) → V → Type 0
     run_of = AcceptedSteps step depth roots answers takes_item joins_value some means
 

@@ -26,21 +26,21 @@ use Rattle.combine_facts.specs.Reads.{Reads}
 pub begins : {P T A : Type 0} {r : Reading P T A} {says : List T → A → Type 0} → Reads r says → (v : View P T) (a : A) (n : ℕ) (k : Bool) → r v (Accepted a n k) → (xs : List T) × (behind : List T) × says xs a × (v.unread ≡ xs ++ behind) × (length xs ≡ n)
 begins h v a n k w = let i = h.one v a n k w in (take n v.unread, drop n v.unread, i.1, sym (take-append-drop n v.unread), length-take-le n v.unread i.0)
 
-module _ {P T R A S E : Type 0} {w : World P T S E} {m : Meaning P T R A S} where
+module _ {P T R A S E : Type 0} {w : World P T S E} {m : Meaning P T R E A S} where
   accepted : {state left : S} {old new : View P T} {before after : Failures} (answer : ParseResult A E) (a : A) → as_result answer ≡ Ok a → Answers w m (afresh w m state left old new before after) answer → (k : Bool) × AcceptsNow w m (afresh w m state left old new before after) a k
   accepted {state} {left} {old} {new} {before} {after} (CommitOk b) a e h = (true, subst (λ b. AcceptsNow w m (afresh w m state left old new before after) b true) (cc) h.is)
   accepted {state} {left} {old} {new} {before} {after} (PeekOk b) a e h = (false, subst (λ b. AcceptsNow w m (afresh w m state left old new before after) b false) (cc) h.is)
   accepted (CommitErr f) a e h = absurd (cc)
   accepted (PeekErr t) a e h = absurd (cc)
 
-  start_reads : {s : Errors T R P E} {refuses : Bool → E → Type 0} {old new : View P T} {before after : Failures} {a : A} {says : List T → A → Type 0} → Reads m.whole says → StartResults w m s refuses old new before after (Ok a) → (xs : List T) × says xs a × (old.unread ≡ xs ++ new.unread)
+  start_reads : {s : Errors T R P E} {old new : View P T} {before after : Failures} {a : A} {says : List T → A → Type 0} → Reads m.whole says → StartResults w m s old new before after (Ok a) → (xs : List T) × says xs a × (old.unread ≡ xs ++ new.unread)
   start_reads {old} {new} {a} h z =
       let x = accepted z.results.answer a z.results.is z.results.answers in
       let i = h.one old a x.1.count x.0 x.1.meant in
       (take x.1.count old.unread, i.1, sym (ap (λ v. take x.1.count old.unread ++ v.unread) x.1.taken.rest ∙ take-append-drop x.1.count old.unread))
 
   -- `parse`: exactly those are taken, and whatever follows from that holds of its answer
-  pub parse_reads : {s : Errors T R P E} {refuses : Bool → E → Type 0} {I : Type 0} {old : View P T} {new : A × I → View P T} {before : Failures} {after : A × I → Failures} {says : List T → A → Type 0} {holds : A × I → Type 0} (result : Result (A × I) E) → Reads m.whole says → ((p : A × I) → result ≡ Ok p → StartResults w m s refuses old (new p) before (after p) (Ok p.0)) → ((p : A × I) (xs : List T) → says xs p.0 → old.unread ≡ xs ++ (new p).unread → holds p) → IfOk result holds
+  pub parse_reads : {s : Errors T R P E} {I : Type 0} {old : View P T} {new : A × I → View P T} {before : Failures} {after : A × I → Failures} {says : List T → A → Type 0} {holds : A × I → Type 0} (result : Result (A × I) E) → Reads m.whole says → ((p : A × I) → result ≡ Ok p → StartResults w m s old (new p) before (after p) (Ok p.0)) → ((p : A × I) (xs : List T) → says xs p.0 → old.unread ≡ xs ++ (new p).unread → holds p) → IfOk result holds
   parse_reads (Ok p) h z f = let x = start_reads h (z p refl) in f p x.0 x.1 x.2
   parse_reads (Err e) h z f = tt
 
@@ -55,7 +55,7 @@ pieces_read {T} {A} {r} {says} {lean} {pieces} {result} {holds} h z f = by_case 
     by_case (Err e) w = tt
 
 -- a session: what it was fed, from its beginning to the piece that decides
-module _ {Q T R A S : Type 0} {meaning : Q → Meaning ℕ T R A S} {valid : S → Type 0} where
+module _ {Q T R E A S : Type 0} {meaning : Q → Meaning ℕ T R E A S} {valid : S → Type 0} where
   pub begun_fed : {determined : Q → Type 0} {most : Option ℕ} {p : Q} {c : Course Q T S} → Begins meaning valid determined most p c → Fed (meaning p).whole (left meaning c) []
   begun_fed h = record { within = λ x m o. (h.left x m o).0 }
 

@@ -1,20 +1,21 @@
 -- a call of a nested grammar, by the runs of its steps' parsers
-use Rattle.std.proofs.Common.{ℕ, suc, ◌+◌, ◌*◌, ◌-◌, ◌<◌, ◌≡◌, ◌≤◌, inl, inr, ◌⊎◌, List, [], length, Option, Some, None, Bool, true, false, ◌||◌, nat_lt, ltb-true, ltb-false, refl, sym, ◌∙◌, ap, subst, arith, length-drop}
+use Rattle.std.proofs.Common.{ℕ, suc, ◌+◌, ◌*◌, ◌-◌, ◌<◌, ◌≡◌, ◌≤◌, inl, inr, ◌⊎◌, List, [], length, Bool, true, false, ◌||◌, nat_lt, ltb-true, ltb-false, refl, sym, ◌∙◌, ap, subst, arith, length-drop}
 use Rattle.combine_base.specs.Error.Errors.{Errors}
 use Rattle.combine_base.specs.Parser.Answer.{World, Run, Answers, Accepts, Refuses, Resumes, Leaves, fails, peeks, world}
 use Rattle.combine_base.specs.Parser.Drivers.{Explained}
 use Rattle.combine_base.specs.Parser.Kept.{KeptOf}
-use Rattle.combine_base.specs.Parser.Meaning.{Meaning, Reading, IsMeaning, MeansSame}
+use Rattle.combine_base.specs.Parser.Meaning.{Meaning, Reading, Refusing, IsMeaning, MeansSame, refusals_from}
 use Rattle.combine_base.specs.Parser.Outcome.{Outcome, Accepted, Refused, Undecided, after}
 use Rattle.combine_base.specs.Parser.OutcomeFacts.{or_assoc, or_false, or_true}
-use Rattle.combine_base.specs.Parser.Reasons.{Reasoned, kept_from}
+use Rattle.combine_base.specs.Parser.Reasons.{Reasoned, ReasonedCall}
 use Rattle.combine_base.specs.Sequence.Joined.{joined}
 use Rattle.combine_base.specs.Sequence.Parts.{RunsFrom, refused_as, run_from}
 use Rattle.combine_base.specs.Sequence.Readings.{following}
 use Rattle.combine_base.specs.Stream.View.{View, Takes, advanced}
 use Rattle.combine_base.proofs.Inside.{Inside, Keeps, inside_asks, inside_fails, inside_refuses}
 use Rattle.combine_base.proofs.Progress.{Progress, progress_more, progress_outcome, takes_more}
-use Rattle.combine_base.proofs.Reasoning.{reasons_after, reasons_committed, reasons_fault, reasons_into, reasons_ok, reasons_peek_ok, reasons_peeked}
+use Rattle.combine_base.proofs.Reasoning.{reasons_after, reasons_committed, reasons_fault, reasons_ok, reasons_peek_ok, reasons_peeked}
+use Rattle.combine_base.proofs.Refusing.{explained_meant, reasoned_in_mode, reasoned_into}
 use Rattle.combine_base.proofs.SequenceResumes.{following_resumes, sequel_resumes, accepted_resumes}
 use Rattle.combine_base.proofs.Starting.{in_mode, progress_here, progress_left}
 use Rattle.combine_base.proofs.Same.{same_more, same_none}
@@ -26,11 +27,11 @@ use Rattle.combine_base.specs.declared.stream.Failures.{Failures}
 use Rattle.combine_base.specs.declared.stream.Kind.TheVariants as kinds
 use Rattle.combine_base.specs.declared.stream.StreamOnce as stream
 use Rattle.combine_nested.specs.Asks.{asked_by_some, asked_so}
-use Rattle.combine_nested.specs.Nesting.{Ends, Opened, Closed, Denied, TooDeep, around, begins_steps, valid_step, starts_valid, marked, last_value, unchanged, nesting, runs, stepping, then, goes_on}
-use Rattle.combine_nested.specs.NestingErrors.{RefusesNested, ended_refuses, goes_refuses, nested_refuses, running_refuses, runs_refuse}
-use Rattle.combine_nested.specs.NestingLaws.{marked_is_reading}
+use Rattle.combine_nested.specs.Nesting.{Ends, Opened, Closed, Denied, TooDeep, around, begins_steps, valid_step, starts_valid, marked, last_value, unchanged, runs, stepping, then, goes_on}
+use Rattle.combine_nested.specs.NestingErrors.{ended_refuses, goes_refuses, nested_refuses, running_refuses, runs_refuse}
+use Rattle.combine_nested.specs.NestingLaws.{marked_is_reading, nesting}
 use Rattle.combine_nested.proofs.Settling.{one_higher}
-use Rattle.combine_nested.proofs.StepErrors.{next_refuses, refuses_in_mode}
+use Rattle.combine_nested.proofs.StepErrors.{next_refuses}
 use Rattle.combine_nested.proofs.Stepping.{marked_resumes, one_more}
 use Rattle.combine_nested.specs.StepCalls.{CalledStep, DidItem, FrameRefuses, KeepsStep, TakesItem, StepRefuses, IsTooDeep, TakesNothing, item_did, step_did, stops_so, keeps_step}
 use Rattle.combine_nested.specs.declared.nested.Next.{Next}
@@ -61,8 +62,8 @@ valid_from {S} {fresh} {valid} {first} {given} {s} h r v = by_mode first r
     by_mode false r = subst valid (sym (r.kept refl)) v
 
 module _ {F I V N Input U Checkpoint T R P E : Type 0} (p : parser.Ghosts N Input U I Checkpoint T R P E) (i : stream.Ghosts Input T R P E) (seen : Errors T R P E) (fresh : U → Type 0) (depth : ℕ) (roots : F → Type 0) (answers : F → N → Type 0) (takes : F → I → Next F V → Type 0) (joins : F → V → Next F V → Type 0) (some : N → Type 0) where
-  abbrev all : Meaning P T R V (NestedState F N U)
-  all = nesting i.step depth roots answers takes joins some p.meaning
+  abbrev all : Meaning P T R E V (NestedState F N U)
+  all = nesting i.step seen depth roots answers takes joins some p.meaning
 
   abbrev kept : N → Type 0
   kept = KeptOf p.lawful p.meaning some
@@ -87,26 +88,26 @@ module _ {F I V N Input U Checkpoint T R P E : Type 0} (p : parser.Ghosts N Inpu
   left_at c l = following c unchanged (runs_at l.top (around l))
 
   -- what is left refuses so: where the next step comes, and where a step's parser runs
-  abbrev refused_at : Bool → Frames F → View P T → Bool → E → Type 0
-  refused_at c l = runs_refuse i.step depth roots answers takes joins p.meaning seen p.refuses c l.top (around l)
+  abbrev refused_at : Bool → Frames F → Refusing P T E
+  refused_at c l = runs_refuse i.step seen depth roots answers takes joins p.meaning c l.top (around l)
 
-  abbrev refused_in : Option U → RunningStep F N U → View P T → Bool → E → Type 0
-  refused_in at l = running_refuses i.step depth roots answers takes joins p.meaning seen p.refuses at l
+  abbrev refused_in : RunningStep F N U → Refusing P T E
+  refused_in l = running_refuses i.step seen depth roots answers takes joins p.meaning l
 
-  abbrev refused_from : NestedState F N U → View P T → Bool → E → Type 0
-  refused_from z = nested_refuses i.step depth roots answers takes joins p.meaning seen p.refuses (Some z)
+  abbrev refused_from : NestedState F N U → Refusing P T E
+  refused_from z = nested_refuses i.step seen depth roots answers takes joins p.meaning z
 
   -- the call has come so far that the next step comes
   pub record Reaches (z : NestedState F N U) (old now : View P T) (before later : Failures) (c : Bool) (l : Frames F) : Type 0 where
     pub progress : Progress part_world (all.rest z) (left_at c l) old now before later
-    pub refuses : (k : Bool) (e : E) → refused_at c l now k e → refused_from z old k e
+    pub refuses : (w : View P T) (k : Bool) (e : E) → refused_at c l now w k e → refused_from z old w k e
 
-  -- a step's parser runs, afresh or from its state
-  pub record Runs (z : NestedState F N U) (old now : View P T) (before later : Failures) (at : Option U) (l : RunningStep F N U) : Type 0 where
+  -- a step's parser runs
+  pub record Runs (z : NestedState F N U) (old now : View P T) (before later : Failures) (l : RunningStep F N U) : Type 0 where
     pub kept : kept l.parser
     pub progress : Progress part_world (all.rest z) (all.rest (states.Running l)) old now before later
     pub lost : (p.meaning l.parser).lost l.state now → all.lost z old
-    pub refuses : (k : Bool) (e : E) → refused_in at l now k e → refused_from z old k e
+    pub refuses : (w : View P T) (k : Bool) (e : E) → refused_in l now w k e → refused_from z old w k e
 
   -- and it began so, from a state that it was given
   pub record Loops (first : Bool) (given : NestedState F N U) (old now : View P T) (before later : Failures) (c : Bool) (l : Frames F) : Type 0 where
@@ -120,24 +121,20 @@ module _ {F I V N Input U Checkpoint T R P E : Type 0} (p : parser.Ghosts N Inpu
       let to : (u : View P T) (o : Outcome V) → left_at false l u o → all.rest states.Start u o = λ u o w. (l.top, k, subst (λ fs. runs_at l.top fs u o) e (subst (runs_at l.top (around l) u) (sym (w.2 ∙ joined_none w.0)) w.1)) in
       record {
         progress = progress_here part_world (all.rest states.Start) (left_at false l) v f to;
-        refuses = λ j x w. (l.top, k, subst (λ fs. runs_refuse i.step depth roots answers takes joins p.meaning seen p.refuses false l.top fs v j x) e w);
+        refuses = λ u j x w. (l.top, k, subst (λ fs. runs_refuse i.step seen depth roots answers takes joins p.meaning false l.top fs v u j x) e w);
       }
 
   -- from a kept state
-  pub runs_first : (first : Bool) (given : NestedState F N U) (l : RunningStep F N U) → RunsFrom begins_steps first given (states.Running l) → (v : View P T) (f : Failures) → kept l.parser → Runs (states.Running l) v v f f (kept_from first l.state) l
-  runs_first first given l from v f k = record {
+  pub runs_first : (l : RunningStep F N U) (v : View P T) (f : Failures) → kept l.parser → Runs (states.Running l) v v f f l
+  runs_first l v f k = record {
     kept = k;
     progress = progress_here part_world (all.rest (states.Running l)) (all.rest (states.Running l)) v f (λ u o w. w);
     lost = λ x. x;
-    refuses = by_mode first from;
+    refuses = λ u j x w. w;
   }
-    where
-      by_mode : (first : Bool) → RunsFrom begins_steps first given (states.Running l) → (j : Bool) (x : E) → refused_in (kept_from first l.state) l v j x → refused_from (states.Running l) v j x
-      by_mode true from j x w = absurd (from.afresh refl)
-      by_mode false from j x w = w
 
   -- the next step's parser runs
-  pub runs_next : {valid : U → Type 0} (z : NestedState F N U) (old now : View P T) (before later : Failures) (c : Bool) (l : Frames F) → Reaches z old now before later c l → (n : N) → answers l.top n → kept n → (u : U) → fresh u → IsMeaning fresh valid (p.meaning n) → Runs z old now before later None (record { frames = l; committed = c; begun = false; parser = n; state = u })
+  pub runs_next : {valid : U → Type 0} (z : NestedState F N U) (old now : View P T) (before later : Failures) (c : Bool) (l : Frames F) → Reaches z old now before later c l → (n : N) → answers l.top n → kept n → (u : U) → fresh u → IsMeaning fresh valid (p.meaning n) → Runs z old now before later (record { frames = l; committed = c; begun = false; parser = n; state = u })
   runs_next z old now before later c l r n j k u d laws =
       let q : RunningStep F N U = record { frames = l; committed = c; begun = false; parser = n; state = u } in
       let to : (v : View P T) (o : Outcome V) → all.rest (states.Running q) v o → left_at c l v o = λ v o w. (w.0, one_more i.step depth roots answers takes joins some p.meaning l.top (around l) v w.0 (w.1.0, (w.1.1.0, (n, j, (laws.start u v w.1.1.0 d).0 w.1.1.1), w.1.1.2), w.1.2), w.2) in
@@ -145,11 +142,11 @@ module _ {F I V N Input U Checkpoint T R P E : Type 0} (p : parser.Ghosts N Inpu
         kept = k;
         progress = progress_left part_world (all.rest z) (left_at c l) (all.rest (states.Running q)) old now before later to r.progress;
         lost = λ y. absurd (laws.found u now d y);
-        refuses = λ b x w. r.refuses b x (next_refuses i.step depth roots answers takes joins p.meaning seen p.refuses l c n j laws u d now b x w);
+        refuses = λ y b x w. r.refuses y b x (next_refuses i.step seen depth roots answers takes joins p.meaning l c n j laws u d now y b x w);
       }
 
   -- A step's parser was run.
-  module _ (z state : NestedState F N U) (old : View P T) (before : Failures) (first : Bool) (input left : Input) (l : RunningStep F N U) (reads : before.reads ≤ (i.failures input).reads) (resets : before.resets ≤ (i.failures input).resets) (r : Runs z old (i.view input) before (i.failures input) (kept_from first l.state) l) where
+  module _ (z state : NestedState F N U) (old : View P T) (before : Failures) (input left : Input) (l : RunningStep F N U) (reads : before.reads ≤ (i.failures input).reads) (resets : before.resets ≤ (i.failures input).resets) (r : Runs z old (i.view input) before (i.failures input) l) where
     abbrev here : Reading P T V
     here = all.rest (states.Running l)
 
@@ -244,29 +241,29 @@ module _ {F I V N Input U Checkpoint T R P E : Type 0} (p : parser.Ghosts N Inpu
         abbrev behind_view : View P T
         behind_view = advanced i.step h.count (i.view input)
 
-        abbrev goes_said : Bool → F → List F → Bool → E → Type 0
-        goes_said y f fs = goes_refuses i.step depth roots answers takes joins p.meaning seen p.refuses (runs_refuse i.step depth roots answers takes joins p.meaning seen p.refuses) (i.view input).position y (l.committed || k) f fs behind_view
+        abbrev goes_said : Bool → F → List F → View P T → Bool → E → Type 0
+        goes_said y f fs = goes_refuses i.step seen depth roots answers takes joins p.meaning (runs_refuse i.step seen depth roots answers takes joins p.meaning) (i.view input).position y (l.committed || k) f fs behind_view
 
-        refuses_behind : {x : Ends F V} (j : Bool) (e : E) → TakesItem depth takes joins l.frames.top (around l.frames) a x → ended_refuses i.step depth roots answers takes joins p.meaning seen p.refuses (runs_refuse i.step depth roots answers takes joins p.meaning seen p.refuses) (i.view input).position (length (around l.frames)) (l.begun || nat_lt 0 h.count) (l.committed || k) x behind_view j e → refused_from z old j e
-        refuses_behind {x} j e t w = r.refuses j e (inr (record { item = a; count = h.count; commits = k; accepted = h.meant; next = t.next; taken = t.taken; ends = x; settles = t.settles; refuses = w }))
+        refuses_behind : {x : Ends F V} (u : View P T) (j : Bool) (e : E) → TakesItem depth takes joins l.frames.top (around l.frames) a x → ended_refuses i.step seen depth roots answers takes joins p.meaning (runs_refuse i.step seen depth roots answers takes joins p.meaning) (i.view input).position (length (around l.frames)) (l.begun || nat_lt 0 h.count) (l.committed || k) x behind_view u j e → refused_from z old u j e
+        refuses_behind {x} u j e t w = r.refuses u j e (inr (record { item = a; count = h.count; commits = k; accepted = h.meant; next = t.next; taken = t.taken; ends = x; settles = t.settles; refuses = w }))
 
-        stays_says : (e : E) → StepRefuses depth takes joins seen (i.view input).position l.frames (l.committed || k) took a e → refused_from z old true e
-        stays_says e (IsTooDeep t m) = refuses_behind true e t (refl, m)
+        stays_says : (e : E) → StepRefuses depth takes joins seen (i.view input).position l.frames (l.committed || k) took a e → refused_from z old (i.view left) true e
+        stays_says e (IsTooDeep t m) = refuses_behind (i.view left) true e t (record { commits = refl; stays = h.taken.rest; tells = m })
         stays_says e (TakesNothing f fs t s m) =
             let b : ((l.begun || nat_lt 0 h.count) || nat_lt (length fs) (length (around l.frames))) ≡ false = ap (λ y. y || nat_lt (length fs) (length (around l.frames))) (sym is_here) ∙ s in
-            let held : goes_said false f fs true e = (refl, m) in
-            refuses_behind true e t (subst (λ y. goes_said y f fs true e) (sym b) held)
+            let held : goes_said false f fs (i.view left) true e = record { commits = refl; stays = h.taken.rest; tells = m } in
+            refuses_behind (i.view left) true e t (subst (λ y. goes_said y f fs (i.view left) true e) (sym b) held)
 
-        denied_says : (c : Bool) (e : E) → FrameRefuses depth takes joins seen (i.view input).position l.frames (l.committed || k) took a e → (l.committed || k) ≡ c → refused_from z old c e
-        denied_says c e t q = refuses_behind c e t.taken (sym q, t.tells)
+        denied_says : (c : Bool) (e : E) → FrameRefuses depth takes joins seen (i.view input).position l.frames (l.committed || k) took a e → (l.committed || k) ≡ c → refused_from z old (i.view left) c e
+        denied_says c e t q = refuses_behind (i.view left) c e t.taken (record { commits = sym q; stays = h.taken.rest; tells = t.tells })
 
-        stopped_says : (y : ParseResult V E) → stops_so depth takes joins seen (i.view input).position l.frames (l.committed || k) took a y → Reasoned seen.kind (i.view left).is_open (refused_from z old) y
-        stopped_says (CommitOk v) s = reasons_ok seen.kind (i.view left).is_open (refused_from z old) v
-        stopped_says (PeekOk v) s = reasons_peek_ok seen.kind (i.view left).is_open (refused_from z old) v
-        stopped_says (CommitErr e) (inl m) = reasons_fault seen.kind (i.view left).is_open (refused_from z old) e kinds.Memory m tt
-        stopped_says (CommitErr e) (inr (m, inl t)) = reasons_committed seen.kind (i.view left).is_open (refused_from z old) e (λ n. stays_says e t)
-        stopped_says (CommitErr e) (inr (m, inr t)) = reasons_committed seen.kind (i.view left).is_open (refused_from z old) e (λ n. denied_says true e t.0 t.1)
-        stopped_says (PeekErr t) s = reasons_peeked seen.kind (i.view left).is_open (refused_from z old) t (denied_says false t.error s.1 s.2)
+        stopped_says : (y : ParseResult V E) → stops_so depth takes joins seen (i.view input).position l.frames (l.committed || k) took a y → Reasoned seen.kind (i.view left).is_open (refused_from z old (i.view left)) y
+        stopped_says (CommitOk v) s = reasons_ok seen.kind (i.view left).is_open (refused_from z old (i.view left)) v
+        stopped_says (PeekOk v) s = reasons_peek_ok seen.kind (i.view left).is_open (refused_from z old (i.view left)) v
+        stopped_says (CommitErr e) (inl m) = reasons_fault seen.kind (i.view left).is_open (refused_from z old (i.view left)) e kinds.Memory m tt
+        stopped_says (CommitErr e) (inr (m, inl t)) = reasons_committed seen.kind (i.view left).is_open (refused_from z old (i.view left)) e (λ n. stays_says e t)
+        stopped_says (CommitErr e) (inr (m, inr t)) = reasons_committed seen.kind (i.view left).is_open (refused_from z old (i.view left)) e (λ n. denied_says true e t.0 t.1)
+        stopped_says (PeekErr t) s = reasons_peeked seen.kind (i.view left).is_open (refused_from z old (i.view left)) t (denied_says false t.error s.1 s.2)
 
         stays_so : (e : E) → StepRefuses depth takes joins seen (i.view input).position l.frames (l.committed || k) took a e → then_at l.frames.top (around l.frames) (a, l.begun || nat_lt 0 h.count) (advanced i.step h.count (i.view input)) (Refused true)
         stays_so e (IsTooDeep t m) = (t.next, t.taken, (TooDeep, t.settles, refl))
@@ -299,11 +296,11 @@ module _ {F I V N Input U Checkpoint T R P E : Type 0} (p : parser.Ghosts N Inpu
             let to : (u : View P T) (o : Outcome V) → left_at c next u o → following l.committed unchanged behind u o = λ u o w. (joined 0 k (last_value b) w.0, (w.0, item u w.0 w.1, refl), w.2 ∙ ap (λ d. joined 0 d unchanged w.0) s.2 ∙ joined_twice l.committed k b w.0) in
             record {
               progress = progress_left part_world (all.rest z) (following l.committed unchanged behind) (left_at c next) old (i.view left) before (i.failures left) to (progress_more part_world (all.rest z) here (following l.committed unchanged behind) old (i.view input) (i.view left) before (i.failures input) (i.failures left) r.progress there);
-              refuses = λ j x w. refuses_behind j x s.0 (subst (λ y. goes_said y next.top (around next) j x) (sym goes) (subst (λ d. runs_refuse i.step depth roots answers takes joins p.meaning seen p.refuses d next.top (around next) behind_view j x) s.2 (subst (λ u. runs_refuse i.step depth roots answers takes joins p.meaning seen p.refuses c next.top (around next) u j x) h.taken.rest w)));
+              refuses = λ u j x w. refuses_behind u j x s.0 (subst (λ y. goes_said y next.top (around next) u j x) (sym goes) (subst (λ d. runs_refuse i.step seen depth roots answers takes joins p.meaning d next.top (around next) behind_view u j x) s.2 (subst (λ v. runs_refuse i.step seen depth roots answers takes joins p.meaning c next.top (around next) v u j x) h.taken.rest w)));
             }
 
     -- its answer is that of the call
-    pub step_stops : (y : ParseResult V E) → CalledStep p i seen fresh depth takes joins first input left l state (dids.Stops y) → Answers whole_world all whole_run y
+    pub step_stops : (y : ParseResult V E) → CalledStep p i seen fresh depth takes joins input left l state (dids.Stops y) → Answers whole_world all whole_run y
     step_stops y g = by_answer g.answer g.answers g.did g.keeps
       where
         stops_as : {x : ParseResult V E} → ◌≡◌ {A = Did F V E} (dids.Stops y) (dids.Stops x) → x ≡ y
@@ -320,20 +317,20 @@ module _ {F I V N Input U Checkpoint T R P E : Type 0} (p : parser.Ghosts N Inpu
         by_answer (PeekErr t) a d (inr k) = subst (λ x. Answers whole_world all whole_run x) (stops_as d) (inside_refuses _ _ _ _ _ _ _ _ _ _ _ _ (inside g.stopped) (λ x. k.1) t a)
 
     -- and the error of a refusal is one that the call may have
-    pub step_reasons : (y : ParseResult V E) → CalledStep p i seen fresh depth takes joins first input left l state (dids.Stops y) → Reasoned seen.kind (i.view left).is_open (refused_from z old) y
-    step_reasons y g = by_answer g.answer g.answers g.explained g.did
+    pub step_reasons : (y : ParseResult V E) → CalledStep p i seen fresh depth takes joins input left l state (dids.Stops y) → Reasoned seen.kind (i.view left).is_open (refused_from z old (i.view left)) y
+    step_reasons y g = by_answer g.answer g.answers (explained_meant g.answers g.explained) g.did
       where
         stops_as : {x : ParseResult V E} → ◌≡◌ {A = Did F V E} (dids.Stops y) (dids.Stops x) → x ≡ y
         stops_as e = cc
 
-        by_answer : (x : ParseResult I E) → Answers part_world (p.meaning l.parser) (run g.stopped) x → Explained seen (p.meaning l.parser) (p.refuses l.parser (kept_from first l.state) (i.view input)) (i.view input) (i.view left) x → step_did p i seen fresh depth takes joins input left l x (dids.Stops y) → Reasoned seen.kind (i.view left).is_open (refused_from z old) y
+        by_answer : (x : ParseResult I E) → Answers part_world (p.meaning l.parser) (run g.stopped) x → Explained seen (p.meaning l.parser) (refusals_from (p.meaning l.parser) l.state) (i.view input) (i.view left) x → step_did p i seen fresh depth takes joins input left l x (dids.Stops y) → Reasoned seen.kind (i.view left).is_open (refused_from z old (i.view left)) y
         by_answer (CommitOk b) a x d = stopped_says g.stopped b true a.is d.took d.is y d.did
         by_answer (PeekOk b) a x d = stopped_says g.stopped b false a.is d.took d.is y d.did
-        by_answer (CommitErr e) a x d = subst (λ y. Reasoned seen.kind (i.view left).is_open (refused_from z old) y) (stops_as d) (reasons_committed seen.kind (i.view left).is_open (refused_from z old) e (λ n. r.refuses true e (inl (inl (refl, x.is n)))))
-        by_answer (PeekErr t) a x d = subst (λ y. Reasoned seen.kind (i.view left).is_open (refused_from z old) y) (stops_as d) (reasons_after seen.kind (i.view left).is_open (refused_from z old) l.committed t (r.refuses l.committed t.error (inl (inr (refl, record { own = x.is.own; refused = x.is.refused; back = refl; says = x.is.says })))))
+        by_answer (CommitErr e) a x d = subst (λ y. Reasoned seen.kind (i.view left).is_open (refused_from z old (i.view left)) y) (stops_as d) (reasons_committed seen.kind (i.view left).is_open (refused_from z old (i.view left)) e (λ n. r.refuses (i.view left) true e (inl (record { is = inl (refl, x.is n) }))))
+        by_answer (PeekErr t) a x d = subst (λ y. Reasoned seen.kind (i.view left).is_open (refused_from z old (i.view left)) y) (stops_as d) (reasons_after seen.kind (i.view left).is_open (refused_from z old (i.view left)) l.committed t (r.refuses (i.view left) l.committed t.error (inl (record { is = inr (refl, x.is) }))))
 
     -- it was accepted, and the next step comes
-    pub step_goes : {valid : U → Type 0} → IsMeaning fresh valid (p.meaning l.parser) → valid l.state → (next : Frames F) (c : Bool) → CalledStep p i seen fresh depth takes joins first input left l state (dids.Goes next c) → begins_steps state × Reaches z old (i.view left) before (i.failures left) c next
+    pub step_goes : {valid : U → Type 0} → IsMeaning fresh valid (p.meaning l.parser) → valid l.state → (next : Frames F) (c : Bool) → CalledStep p i seen fresh depth takes joins input left l state (dids.Goes next c) → begins_steps state × Reaches z old (i.view left) before (i.failures left) c next
     step_goes {valid} laws v next c g = by_answer g.answer g.answers g.did g.keeps
       where
         by_answer : (x : ParseResult I E) → Answers part_world (p.meaning l.parser) (run g.stopped) x → step_did p i seen fresh depth takes joins input left l x (dids.Goes next c) → keeps_step p i seen fresh depth takes joins input left l g.parser g.stopped state x → begins_steps state × Reaches z old (i.view left) before (i.failures left) c next
@@ -356,8 +353,8 @@ module _ {F I S N Input U Checkpoint T R P E : Type 0} (p : parser.Ghosts N Inpu
 
 -- the state that is left is valid, and what is left is less
 module _ {F I V N Input U Checkpoint T R P E : Type 0} (p : parser.Ghosts N Input U I Checkpoint T R P E) (i : stream.Ghosts Input T R P E) (seen : Errors T R P E) (fresh : U → Type 0) (depth : ℕ) (takes : F → I → Next F V → Type 0) (joins : F → V → Next F V → Type 0) where
-  pub step_leaves : (some : N → Type 0) {first : Bool} {input left : Input} {l : RunningStep F N U} {state : NestedState F N U} {y : Did F V E} → KeptOf p.lawful p.meaning some l.parser → CalledStep p i seen fresh depth takes joins first input left l state y → valid_step (KeptOf p.lawful p.meaning some) p.valid state
-  step_leaves some {first} {input} {left} {l} {state} {y} d g = by_need g.keeps
+  pub step_leaves : (some : N → Type 0) {input left : Input} {l : RunningStep F N U} {state : NestedState F N U} {y : Did F V E} → KeptOf p.lawful p.meaning some l.parser → CalledStep p i seen fresh depth takes joins input left l state y → valid_step (KeptOf p.lawful p.meaning some) p.valid state
+  step_leaves some {input} {left} {l} {state} {y} d g = by_need g.keeps
     where
       by_need : keeps_step p i seen fresh depth takes joins input left l g.parser g.stopped state g.answer → valid_step (KeptOf p.lawful p.meaning some) p.valid state
       by_need (inl k) = rw k.1.is (record { is_lawful = g.lawful; parser = d.parser; is_given = d.is_given; same = same_more _ _ _ d.same g.same }, k.1.valid)
@@ -367,8 +364,8 @@ module _ {F I V N Input U Checkpoint T R P E : Type 0} (p : parser.Ghosts N Inpu
   fewer_at true n u h hs e w k m = let j = ltb-true 0 n e in omega arith
   fewer_at false n u h hs e w k m = let j = ltb-true hs h w in let q = ltb-false 0 n e in omega arith
 
-  pub step_falls : {first : Bool} {input left : Input} {l : RunningStep F N U} {state : NestedState F N U} {next : Frames F} {c : Bool} → l.begun ≡ false → CalledStep p i seen fresh depth takes joins first input left l state (dids.Goes next c) → 2 * length (i.view left).unread + length (around next) < 2 * length (i.view input).unread + length (around l.frames)
-  step_falls {first} {input} {left} {l} {state} {next} {c} b g = by_answer g.answer g.answers g.did
+  pub step_falls : {input left : Input} {l : RunningStep F N U} {state : NestedState F N U} {next : Frames F} {c : Bool} → l.begun ≡ false → CalledStep p i seen fresh depth takes joins input left l state (dids.Goes next c) → 2 * length (i.view left).unread + length (around next) < 2 * length (i.view input).unread + length (around l.frames)
+  step_falls {input} {left} {l} {state} {next} {c} b g = by_answer g.answer g.answers g.did
     where
       falls : (a : I) (k : Bool) → Accepts (world i.step seen i.steady fresh) (p.meaning l.parser) (run_from l.state g.stopped (i.view input) (i.view left) (i.failures input) (i.failures left)) a k → DidItem p i seen fresh depth takes joins input left l a k (dids.Goes next c) → 2 * length (i.view left).unread + length (around next) < 2 * length (i.view input).unread + length (around l.frames)
       falls a k h d =
@@ -390,7 +387,7 @@ module _ {F I V N Input U Checkpoint T R P E : Type 0} (p : parser.Ghosts N Inpu
   left_over v (dids.Goes l c) = suc (2 * length v.unread + length (around l))
   left_over v (dids.Stops y) = 0
 
-  pub steps_fall : {first : Bool} {input left : Input} {l : RunningStep F N U} {state : NestedState F N U} {y : Did F V E} → l.begun ≡ false → CalledStep p i seen fresh depth takes joins first input left l state y → left_over (i.view left) y < suc (2 * length (i.view input).unread + length (around l.frames))
+  pub steps_fall : {input left : Input} {l : RunningStep F N U} {state : NestedState F N U} {y : Did F V E} → l.begun ≡ false → CalledStep p i seen fresh depth takes joins input left l state y → left_over (i.view left) y < suc (2 * length (i.view input).unread + length (around l.frames))
   steps_fall {y = dids.Goes l c} b g = let k = step_falls b g in omega arith
   steps_fall {y = dids.Stops y} b g = omega arith
 
@@ -398,12 +395,12 @@ module _ {F I V N Input U Checkpoint T R P E : Type 0} (p : parser.Ghosts N Inpu
   -- what the steps so far lead to: the next one, or the answer
   abbrev pub leads_to : Bool → NestedState F N U → NestedState F N U → View P T → View P T → Failures → Failures → Did F V E → Type 0
   leads_to first given state old now before later (dids.Goes l c) = begins_steps state × Loops p i seen fresh depth roots answers takes joins some first given old now before later c l
-  leads_to first given state old now before later (dids.Stops y) = valid_step (KeptOf p.lawful p.meaning some) p.valid state × Answers (whole_world p i seen fresh depth roots answers takes joins some) (all p i seen fresh depth roots answers takes joins some) (record { first = first; state = given; left = state; old = old; new = now; before = before; after = later }) y × Reasoned seen.kind now.is_open (RefusesNested i.step depth roots answers takes joins p.meaning seen p.refuses (kept_from first given) old) y
+  leads_to first given state old now before later (dids.Stops y) = valid_step (KeptOf p.lawful p.meaning some) p.valid state × Answers (whole_world p i seen fresh depth roots answers takes joins some) (all p i seen fresh depth roots answers takes joins some) (record { first = first; state = given; left = state; old = old; new = now; before = before; after = later }) y × ReasonedCall seen (all p i seen fresh depth roots answers takes joins some) first given old now y
 
-  pub step_leads : {first mode : Bool} {given z state : NestedState F N U} {old : View P T} {before : Failures} {input left : Input} {l : RunningStep F N U} {y : Did F V E} → before.reads ≤ (i.failures input).reads → before.resets ≤ (i.failures input).resets → IsMeaning begins_steps (valid_step (KeptOf p.lawful p.meaning some) p.valid) (all p i seen fresh depth roots answers takes joins some) → IsMeaning fresh p.valid (p.meaning l.parser) → p.valid l.state → RunsFrom begins_steps first given z → Runs p i seen fresh depth roots answers takes joins some z old (i.view input) before (i.failures input) (kept_from mode l.state) l → CalledStep p i seen fresh depth takes joins mode input left l state y → leads_to first given state old (i.view left) before (i.failures left) y
+  pub step_leads : {first : Bool} {given z state : NestedState F N U} {old : View P T} {before : Failures} {input left : Input} {l : RunningStep F N U} {y : Did F V E} → before.reads ≤ (i.failures input).reads → before.resets ≤ (i.failures input).resets → IsMeaning begins_steps (valid_step (KeptOf p.lawful p.meaning some) p.valid) (all p i seen fresh depth roots answers takes joins some) → IsMeaning fresh p.valid (p.meaning l.parser) → p.valid l.state → RunsFrom begins_steps first given z → Runs p i seen fresh depth roots answers takes joins some z old (i.view input) before (i.failures input) l → CalledStep p i seen fresh depth takes joins input left l state y → leads_to first given state old (i.view left) before (i.failures left) y
   step_leads {y = dids.Goes next c} m n laws part v from r g =
-      let goes = step_goes p i seen fresh depth roots answers takes joins some _ _ _ _ _ _ _ _ m n r part v next c g in
+      let goes = step_goes p i seen fresh depth roots answers takes joins some _ _ _ _ _ _ _ m n r part v next c g in
       (goes.0, record { z = _; from = from; reaches = goes.1 })
-  step_leads {first} {mode} {given} {z} {state} {old} {before} {input} {left} {l} {y = dids.Stops y} m n laws part v from r g =
-      let said = step_reasons p i seen fresh depth roots answers takes joins some _ _ _ _ _ _ _ _ m n r y g in
-      (step_leaves p i seen fresh depth takes joins some r.kept g, in_mode _ _ _ laws _ _ _ _ from _ _ _ _ _ (step_stops p i seen fresh depth roots answers takes joins some _ _ _ _ _ _ _ _ m n r y g), reasons_into seen.kind (i.view left).is_open (nested_refuses i.step depth roots answers takes joins p.meaning seen p.refuses (Some z) old) (RefusesNested i.step depth roots answers takes joins p.meaning seen p.refuses (kept_from first given) old) y (refuses_in_mode i.step depth roots answers takes joins p.meaning seen p.refuses first given z from old) said)
+  step_leads {first} {given} {z} {state} {old} {before} {input} {left} {l} {y = dids.Stops y} m n laws part v from r g =
+      let said : Reasoned seen.kind (i.view left).is_open (nested_refuses i.step seen depth roots answers takes joins p.meaning z old (i.view left)) y = step_reasons p i seen fresh depth roots answers takes joins some _ _ _ _ _ _ _ m n r y g in
+      (step_leaves p i seen fresh depth takes joins some r.kept g, in_mode _ _ _ laws _ _ _ _ from _ _ _ _ _ (step_stops p i seen fresh depth roots answers takes joins some _ _ _ _ _ _ _ m n r y g), reasoned_in_mode laws seen from (reasoned_into (λ k e x. record { is = x }) said))

@@ -37,7 +37,7 @@ marked_resumes g b r t k old new e h = record {
   committed = λ x m o f l w. subst IsCommitted (sym w.2) (mark_commits b w.0 (h.committed x m w.0 f l w.1));
 }
 
-module _ {P T R F I V N U : Type 0} (step : P → T → P) (depth : ℕ) (roots : F → Type 0) (answers : F → N → Type 0) (takes : F → I → Next F V → Type 0) (joins : F → V → Next F V → Type 0) (some : N → Type 0) (means : N → Meaning P T R I U) where
+module _ {P T R E F I V N U : Type 0} (step : P → T → P) (depth : ℕ) (roots : F → Type 0) (answers : F → N → Type 0) (takes : F → I → Next F V → Type 0) (joins : F → V → Next F V → Type 0) (some : N → Type 0) (means : N → Meaning P T R E I U) where
   abbrev runs_at : F → List F → Reading P T V
   runs_at f fs = runs step depth roots answers takes joins some means f fs
 

@@ -82,7 +82,7 @@ last_value b c = c
 abbrev pub unchanged : {C : Type 0} → C → C
 unchanged c = c
 
-module _ {P T R F I V N U : Type 0} (step : P → T → P) (depth : ℕ) (roots : F → Type 0) (answers : F → N → Type 0) (takes : F → I → Next F V → Type 0) (joins : F → V → Next F V → Type 0) (some : N → Type 0) (means : N → Meaning P T R I U) where
+module _ {P T R E F I V N U : Type 0} (step : P → T → P) (depth : ℕ) (roots : F → Type 0) (answers : F → N → Type 0) (takes : F → I → Next F V → Type 0) (joins : F → V → Next F V → Type 0) (some : N → Type 0) (means : N → Meaning P T R E I U) where
   -- any parser that is answered for the frame
   abbrev pub answered : F → Reading P T I
   answered f v o = (n : N) × answers f n × (means n).whole v o
@@ -131,15 +131,3 @@ module _ {P T R F I V N U : Type 0} (step : P → T → P) (depth : ℕ) (roots 
   abbrev pub nested_lost : NestedState F N U → View P T → Type 0
   nested_lost states.Start v = ⊥
   nested_lost (states.Running l) v = (means l.parser).lost l.state v
-
-  -- steps from the outermost frame on; a kept parser means what one of those does that may be answered
-  abbrev pub nesting : Meaning P T R V (NestedState F N U)
-  nesting = record {
-    whole = nested_whole;
-    rest = nested_rest;
-    lost = nested_lost;
-    keeps = (n : N) → some n → (means n).keeps;
-    puts_back = ⊥;
-    lean = ⊥;
-    adds = λ is. is ≡ [];
-  }

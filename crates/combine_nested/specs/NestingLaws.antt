@@ -1,12 +1,14 @@
--- steps over frames keep the laws of a meaning
+-- what steps over frames mean, which keeps the laws of a meaning
 use Rattle.std.specs.Prelude.{◌≡◌, ◌↔◌, ℕ, zero, suc, Bool, true, false, ◌||◌, nat_lt, List, [], length}
 use Rattle.std.proofs.Common.{sym, ◌∙◌, subst, arith, ap, refl}
+use Rattle.combine_base.specs.Error.Errors.{Errors}
 use Rattle.combine_base.specs.Stream.View.{View}
 use Rattle.combine_base.specs.Parser.Kept.{KeptOf}
 use Rattle.combine_base.specs.Parser.Outcome.{Outcome, Accepted, Refused, Undecided, IsDecided}
-use Rattle.combine_base.specs.Parser.Meaning.{Meaning, Reading, IsReading, IsMeaning}
+use Rattle.combine_base.specs.Parser.Meaning.{Meaning, Reading, IsReading, IsMeaning, SameReasons}
 use Rattle.combine_base.specs.Sequence.Readings.{following_is_reading, sequel_is_reading}
-use Rattle.combine_nested.specs.Nesting.{Ends, Opened, Closed, Denied, TooDeep, answered, around, begins_steps, ended, goes_on, last_value, mark, marked, nested_lost, nested_rest, nested_whole, nesting, runs, stepping, steps, then, unchanged, valid_step}
+use Rattle.combine_nested.specs.Nesting.{Ends, Opened, Closed, Denied, TooDeep, answered, around, begins_steps, ended, goes_on, last_value, mark, marked, nested_lost, nested_rest, nested_whole, runs, stepping, steps, then, unchanged, valid_step}
+use Rattle.combine_nested.specs.NestingErrors.{RefusesNested}
 use Rattle.combine_nested.specs.declared.nested.Next.{Next}
 use Rattle.combine_nested.specs.declared.nested.steps.NestedState.{NestedState}
 use Rattle.combine_nested.specs.declared.nested.steps.NestedState.TheVariants as states
@@ -61,7 +63,22 @@ module _ {P T V : Type 0} where
     within = λ v a n k w. let i : n ≡ 0 = cc in omega arith;
   }
 
-module _ {P T R F I V N U : Type 0} (step : P → T → P) (depth : ℕ) (roots : F → Type 0) (answers : F → N → Type 0) (takes : F → I → Next F V → Type 0) (joins : F → V → Next F V → Type 0) (some : N → Type 0) (means : N → Meaning P T R I U) where
+module _ {P T R E F I V N U : Type 0} (step : P → T → P) (errors : Errors T R P E) (depth : ℕ) (roots : F → Type 0) (answers : F → N → Type 0) (takes : F → I → Next F V → Type 0) (joins : F → V → Next F V → Type 0) (some : N → Type 0) (means : N → Meaning P T R E I U) where
+  -- steps from the outermost frame on; a kept parser means what one of those does that may be answered
+  abbrev pub nesting : Meaning P T R E V (NestedState F N U)
+  nesting = record {
+    whole = nested_whole step depth roots answers takes joins some means;
+    rest = nested_rest step depth roots answers takes joins some means;
+    lost = nested_lost step depth roots answers takes joins some means;
+    keeps = (n : N) → some n → (means n).keeps;
+    puts_back = ⊥;
+    lean = ⊥;
+    adds = λ is. is ≡ [];
+    refuses = RefusesNested step errors depth roots answers takes joins means states.Start;
+    refuses_from = RefusesNested step errors depth roots answers takes joins means;
+  }
+
+module _ {P T R E F I V N U : Type 0} (step : P → T → P) (depth : ℕ) (roots : F → Type 0) (answers : F → N → Type 0) (takes : F → I → Next F V → Type 0) (joins : F → V → Next F V → Type 0) (some : N → Type 0) (means : N → Meaning P T R E I U) where
   module _ (lawful : N → Type 0) {fresh valid : U → Type 0} (laws : (n : N) → lawful n → IsMeaning fresh valid (means n)) (every : (f : F) (n : N) → answers f n → lawful n) where
     abbrev answered_at : F → Reading P T I
     answered_at f = answered step depth roots answers takes joins some means f
@@ -139,5 +156,10 @@ module _ {P T R F I V N U : Type 0} (step : P → T → P) (depth : ℕ) (roots 
     finds states.Start v d w = w
     finds (states.Running l) v d w = d
 
-    pub nesting_is_meaning : IsMeaning begins_steps (valid_step (KeptOf lawful means some) valid) (nesting step depth roots answers takes joins some means)
-    nesting_is_meaning = record { whole = whole_is_reading; rest = rest_is_reading; start = starts; found = finds }
+    module _ (errors : Errors T R P E) where
+      reasons_start : (z : NestedState F N U) → begins_steps z → SameReasons (RefusesNested step errors depth roots answers takes joins means z) (RefusesNested step errors depth roots answers takes joins means states.Start)
+      reasons_start states.Start d v w k e = (λ x. x, λ x. x)
+      reasons_start (states.Running l) d v w k e = absurd d
+
+      pub nesting_is_meaning : IsMeaning begins_steps (valid_step (KeptOf lawful means some) valid) (nesting step errors depth roots answers takes joins some means)
+      nesting_is_meaning = record { whole = whole_is_reading; rest = rest_is_reading; start = starts; found = finds; reasons = reasons_start }

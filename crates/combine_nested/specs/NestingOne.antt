@@ -1,13 +1,15 @@
 -- steps over frames have one outcome, where what comes of alike frames is alike
 use Rattle.std.specs.Prelude.{◌≡◌, ◌↔◌, ℕ, zero, suc, Bool, true, false, ◌||◌, nat_lt, List, [], ◌∷◌, length}
 use Rattle.std.proofs.Common.{sym, ◌∙◌, subst, ap, refl}
+use Rattle.combine_base.specs.Error.Errors.{Errors}
 use Rattle.combine_base.specs.Stream.View.{View, advanced}
 use Rattle.combine_base.specs.Parser.Kept.{KeptOf}
 use Rattle.combine_base.specs.Parser.Outcome.{Outcome, Accepted, Refused, Undecided, shape}
 use Rattle.combine_base.specs.Parser.Meaning.{Meaning, Reading, IsSingle, MeansOne}
 use Rattle.combine_base.specs.Sequence.Joined.{joined_one}
 use Rattle.combine_base.specs.Sequence.Readings.{continues, following_is_single}
-use Rattle.combine_nested.specs.Nesting.{Ends, Opened, Closed, Denied, TooDeep, answered, around, ended, goes_on, last_value, mark, marked, nested_rest, nested_whole, nesting, opens, runs, settles, stepping, steps, then, unchanged, valid_step}
+use Rattle.combine_nested.specs.Nesting.{Ends, Opened, Closed, Denied, TooDeep, answered, around, ended, goes_on, last_value, mark, marked, nested_rest, nested_whole, opens, runs, settles, stepping, steps, then, unchanged, valid_step}
+use Rattle.combine_nested.specs.NestingLaws.{nesting}
 use Rattle.combine_nested.specs.declared.nested.Next.{Next}
 use Rattle.combine_nested.specs.declared.nested.Next.TheVariants as nexts
 use Rattle.combine_nested.specs.declared.nested.steps.NestedState.{NestedState}
@@ -45,7 +47,7 @@ pub record GivesOne {P T I : Type 0} (alike_items : I → I → Type 0) (r : Rea
   pub one : (v : View P T) (a a' : I) (n : ℕ) (c : Bool) → r v (Accepted a n c) → r v (Accepted a' n c) → alike_items a a'
 
 -- What comes of alike frames is alike, where they are given alike items or values; and they are given parsers that mean the same, whose items are alike.
-pub record NestsOne {P T R F I V N U : Type 0} (roots : F → Type 0) (answers : F → N → Type 0) (takes : F → I → Next F V → Type 0) (joins : F → V → Next F V → Type 0) (some : N → Type 0) (means : N → Meaning P T R I U) (valid : U → Type 0) (alike : F → F → Type 0) (alike_items : I → I → Type 0) (alike_values : V → V → Type 0) : Type 0 where
+pub record NestsOne {P T R E F I V N U : Type 0} (roots : F → Type 0) (answers : F → N → Type 0) (takes : F → I → Next F V → Type 0) (joins : F → V → Next F V → Type 0) (some : N → Type 0) (means : N → Meaning P T R E I U) (valid : U → Type 0) (alike : F → F → Type 0) (alike_items : I → I → Type 0) (alike_values : V → V → Type 0) : Type 0 where
   pub same : (f : F) → alike f f
   pub root : (f g : F) → roots f → roots g → alike f g
   pub asks : (f g : F) → alike f g → (n m : N) → answers f n → answers g m → (v : View P T) (o : Outcome I) → (means n).whole v o ↔ (means m).whole v o
@@ -54,7 +56,7 @@ pub record NestsOne {P T R F I V N U : Type 0} (roots : F → Type 0) (answers :
   pub take : (f g : F) → alike f g → (a b : I) → alike_items a b → (x y : Next F V) → takes f a x → takes g b y → nexts_alike alike alike_values x y
   pub join : (f g : F) → alike f g → (v w : V) → alike_values v w → (x y : Next F V) → joins f v x → joins g w y → nexts_alike alike alike_values x y
 
-module _ {P T R F I V N U : Type 0} (step : P → T → P) (depth : ℕ) {roots : F → Type 0} {answers : F → N → Type 0} {takes : F → I → Next F V → Type 0} {joins : F → V → Next F V → Type 0} {some : N → Type 0} {means : N → Meaning P T R I U} {valid : U → Type 0} {alike : F → F → Type 0} {alike_items : I → I → Type 0} {alike_values : V → V → Type 0} (h : NestsOne roots answers takes joins some means valid alike alike_items alike_values) where
+module _ {P T R E F I V N U : Type 0} (step : P → T → P) (depth : ℕ) {roots : F → Type 0} {answers : F → N → Type 0} {takes : F → I → Next F V → Type 0} {joins : F → V → Next F V → Type 0} {some : N → Type 0} {means : N → Meaning P T R E I U} {valid : U → Type 0} {alike : F → F → Type 0} {alike_items : I → I → Type 0} {alike_values : V → V → Type 0} (h : NestsOne roots answers takes joins some means valid alike alike_items alike_values) where
   abbrev alls : List F → List F → Type 0
   alls = all_alike alike alike_values
 
@@ -213,5 +215,5 @@ module _ {P T R F I V N U : Type 0} (step : P → T → P) (depth : ℕ) {roots 
         let fs = around l.frames in
         following_is_single l.committed unchanged (stepping step depth roots answers takes joins some means runs_at (marked l.begun r) top fs) (record { one = stepping_one runs_at runs_at runs_one top top (h.same top) fs fs (all_same fs) l.begun r r (kept_alike l.parser d.0 l.state d.1) })
 
-    pub nesting_means_one : MeansOne (valid_step (KeptOf lawful means some) valid) (nesting step depth roots answers takes joins some means)
-    nesting_means_one = record { whole = whole_is_single; rest = rest_is_single }
+    pub nesting_means_one : (errors : Errors T R P E) → MeansOne (valid_step (KeptOf lawful means some) valid) (nesting step errors depth roots answers takes joins some means)
+    nesting_means_one errors = record { whole = whole_is_single; rest = rest_is_single }

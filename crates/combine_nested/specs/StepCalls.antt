@@ -5,7 +5,6 @@ use Rattle.combine_base.specs.Parser.Answer.{Answers, world}
 use Rattle.combine_base.specs.Parser.Drivers.{Explained}
 use Rattle.combine_base.specs.Parser.Judged.{NeedsMore}
 use Rattle.combine_base.specs.Parser.Meaning.{MeansSame}
-use Rattle.combine_base.specs.Parser.Reasons.{kept_from}
 use Rattle.combine_base.specs.Sequence.Parts.{refused_as, run_from}
 use Rattle.combine_base.specs.Stream.Calls.{Passes}
 use Rattle.combine_base.specs.Stream.View.{Takes}
@@ -98,7 +97,7 @@ module _ {F I V N Input U Checkpoint T R P E : Type 0} (p : parser.Ghosts N Inpu
   step_did input left from (CommitErr e) result = result ≡ dids.Stops (CommitErr e)
   step_did input left from (PeekErr t) result = result ≡ dids.Stops (refused_as from.committed t)
 
-  pub record CalledStep (first : Bool) (input left : Input) (from : RunningStep F N U) (state : NestedState F N U) (result : Did F V E) : Type 0 where
+  pub record CalledStep (input left : Input) (from : RunningStep F N U) (state : NestedState F N U) (result : Did F V E) : Type 0 where
     pub parser : N
     pub lawful : p.lawful parser
     pub same : MeansSame (p.meaning from.parser) (p.meaning parser)
@@ -106,6 +105,6 @@ module _ {F I V N Input U Checkpoint T R P E : Type 0} (p : parser.Ghosts N Inpu
     pub stopped : U
     pub answer : ParseResult I E
     pub answers : Answers (world i.step seen i.steady fresh) (p.meaning from.parser) (run_from from.state stopped (i.view input) (i.view left) (i.failures input) (i.failures left)) answer
-    pub explained : Explained seen (p.meaning from.parser) (p.refuses from.parser (kept_from first from.state) (i.view input)) (i.view input) (i.view left) answer
+    pub explained : Explained seen (p.meaning from.parser) ((p.meaning from.parser).refuses_from from.state) (i.view input) (i.view left) answer
     pub did : step_did input left from answer result
     pub keeps : keeps_step input left from parser stopped state answer

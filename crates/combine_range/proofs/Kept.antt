@@ -5,7 +5,7 @@ use Rattle.combine_base.specs.Stream.View.{View, Takes, Moves, extended}
 use Rattle.combine_base.specs.Error.Items.{Item}
 use Rattle.combine_base.specs.Parser.Drivers.{Broke}
 use Rattle.combine_base.specs.Parser.Outcome.{Outcome, Accepted, Refused, Undecided}
-use Rattle.combine_base.specs.Parser.Meaning.{Meaning, Reading, begun}
+use Rattle.combine_base.specs.Parser.Meaning.{Meaning, Reading, Refusing, begun}
 use Rattle.combine_base.specs.Parser.Answer.{Run, World, Answers, Accepts, Asks, Leaves, Resumes, ends, fails, loses, answers}
 use Rattle.combine_base.proofs.Progress.{takes_none, after_none}
 use Rattle.combine_base.specs.declared.stream.Kind.{Kind}
@@ -20,9 +20,9 @@ use Rattle.combine_range.specs.Peeking.{RefusesPeeked}
 use Rattle.combine_range.proofs.Peeked.{refused_peeked}
 use Rattle.combine_range.specs.Kept.{kept, HandsOut, hands_out, KeepsDistance, keeps_distance, NotPassed, not_passed}
 
-module _ {P T R A E : Type 0} (w : World P T Distance E) (size : T → ℕ) (read : ℕ → Reading P T A) (adds : List (Item T R) → Type 0) (r : Run P T Distance) (d : ℕ) (e : d ≡ (if r.first then 0 else r.state.items)) where
-  abbrev pub whole : Meaning P T R A Distance
-  whole = kept size read adds
+module _ {P T R A E : Type 0} (w : World P T Distance E) (size : T → ℕ) (read : ℕ → Reading P T A) (adds : List (Item T R) → Type 0) (says : ℕ → Refusing P T E) (r : Run P T Distance) (d : ℕ) (e : d ≡ (if r.first then 0 else r.state.items)) where
+  abbrev pub whole : Meaning P T R E A Distance
+  whole = kept size read adds says
 
   -- what the distance means is what stands for the call's meaning
   pub into : (v : View P T) (o : Outcome A) → read d v o → begun whole r.first r.state v o

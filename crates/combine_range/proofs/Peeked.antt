@@ -10,7 +10,7 @@ use Rattle.combine_base.specs.declared.error.ParseResult.{ParseResult}
 use Rattle.combine_base.specs.declared.error.ParseResult.TheVariants.{CommitOk, PeekOk, CommitErr, PeekErr}
 use Rattle.combine_range.specs.Peeking.{RefusesPeeked, refuses_peeked}
 
-module _ {P T R A S E : Type 0} (w : World P T S E) (m : Meaning P T R A S) (r : Run P T S) where
+module _ {P T R A S E : Type 0} (w : World P T S E) (m : Meaning P T R E A S) (r : Run P T S) where
   -- where the meaning refuses peeked, such an answer is one of the call
   pub refused_peeked : (result : ParseResult A E) → RefusesPeeked w.kind w.frugal r.old.is_open result → begun m r.first r.state r.old (Refused false) → Leaves w r → (w.steady → r.after ≡ r.before) → Answers w m r result
   refused_peeked result n p l f = record { is = by_result result n.is }

@@ -5,6 +5,7 @@ use Rattle.std.proofs.lemmas.List.{drop-drop}
 use Rattle.combine_base.specs.Stream.View.{View, Takes}
 use Rattle.combine_base.specs.Error.Items.{Item}
 use Rattle.combine_base.specs.Parser.Answer.{Run, World, Answers}
+use Rattle.combine_base.specs.Parser.Meaning.{Refusing}
 use Rattle.combine_base.specs.Refusals.{NoToken}
 use Rattle.combine_base.proofs.Progress.{takes_more, takes_open}
 use Rattle.combine_base.specs.declared.stream.Kind.TheVariants as kinds
@@ -63,18 +64,18 @@ module _ {P T R : Type 0} (steady : Type 0) (step : P → T → P) (size : T →
     pub passed : (filled : (t : T) → 0 < size t) → (e : ℕ) → e ≡ size_of size (take z.to old.unread) → Passed size spells t filled d e old
     passed filled e i = record { from = z.from; to = z.to; start = z.place; place = record { within = z.taken.enough; items = sym i }; rises = z.rises; fails = z.fails }
 
-module _ {P T R E : Type 0} (w : World P T Distance E) (size : T → ℕ) (filled : (t : T) → 0 < size t) (spells : R → List T → Type 0) (t : Wanted R) (adds : List (Item T R) → Type 0) (r : Run P T Distance) (d : ℕ) (e : d ≡ (if r.first then 0 else r.state.items)) (v : View P T) (g : Failures) (z : Went w.steady w.step size spells t d r.old v r.before g) where
+module _ {P T R E : Type 0} (w : World P T Distance E) (size : T → ℕ) (filled : (t : T) → 0 < size t) (spells : R → List T → Type 0) (t : Wanted R) (adds : List (Item T R) → Type 0) (says : ℕ → Refusing P T E) (r : Run P T Distance) (d : ℕ) (e : d ≡ (if r.first then 0 else r.state.items)) (v : View P T) (g : Failures) (z : Went w.steady w.step size spells t d r.old v r.before g) where
   -- found: what stands before is handed out
-  pub until_hands : Begins size spells t v.unread → (result : ParseResult R E) → HandsOut w.steady w.step spells r.old r.new g r.after z.to w.kind result → w.fresh r.left → r.before.reads ≤ g.reads → r.before.resets ≤ g.resets → Answers w (kept size (until_range size spells t) adds) r result
-  until_hands b result h l x y = hands_over w size (until_range size spells t) adds r d e z.to g spells result h (λ q p. record { from = z.from; place = z.place; first = first w.steady w.step size spells t d r.old v r.before g z b; spelled = p; kind = refl }) l x y z.failures
+  pub until_hands : Begins size spells t v.unread → (result : ParseResult R E) → HandsOut w.steady w.step spells r.old r.new g r.after z.to w.kind result → w.fresh r.left → r.before.reads ≤ g.reads → r.before.resets ≤ g.resets → Answers w (kept size (until_range size spells t) adds says) r result
+  until_hands b result h l x y = hands_over w size (until_range size spells t) adds says r d e z.to g spells result h (λ q p. record { from = z.from; place = z.place; first = first w.steady w.step size spells t d r.old v r.before g z b; spelled = p; kind = refl }) l x y z.failures
 
   module _ (m : Missing size spells t d r.old) where
-    pub until_keeps : (state : Distance) (result : ParseResult R E) → KeepsDistance w.steady w.step size r.old r.new g r.after z.to w.kind state r.left result → w.fresh state → r.before.reads ≤ g.reads → r.before.resets ≤ g.resets → v.is_open ≡ true → Answers w (kept size (until_range size spells t) adds) r result
+    pub until_keeps : (state : Distance) (result : ParseResult R E) → KeepsDistance w.steady w.step size r.old r.new g r.after z.to w.kind state r.left result → w.fresh state → r.before.reads ≤ g.reads → r.before.resets ≤ g.resets → v.is_open ≡ true → Answers w (kept size (until_range size spells t) adds says) r result
     until_keeps state result j l x y o =
         let still : r.old.is_open ≡ true = sym (takes_open w.step z.to r.old v z.taken) ∙ o in
-        asks_from w size (until_range size spells t) adds r d e z.to state v g result j z.taken l x y z.failures still (m, still) (λ i k. until_resumes size spells t filled d i r.old (passed w.steady w.step size spells t d r.old v r.before g z filled i k))
+        asks_from w size (until_range size spells t) adds says r d e z.to state v g result j z.taken l x y z.failures still (m, still) (λ i k. until_resumes size spells t filled d i r.old (passed w.steady w.step size spells t d r.old v r.before g z filled i k))
 
-    pub until_ends : (result : ParseResult R E) → NoToken w.kind w.frugal v.is_open kinds.End result → v.is_open ≡ false → r.new ≡ v → w.fresh r.left → (w.steady → r.after ≡ g) → Answers w (kept size (until_range size spells t) adds) r result
+    pub until_ends : (result : ParseResult R E) → NoToken w.kind w.frugal v.is_open kinds.End result → v.is_open ≡ false → r.new ≡ v → w.fresh r.left → (w.steady → r.after ≡ g) → Answers w (kept size (until_range size spells t) adds says) r result
     until_ends result n c b l s =
         let i = takes_open w.step z.to r.old v z.taken in
-        refuses w size (until_range size spells t) adds r d e result (subst (λ o. RefusesPeeked w.kind w.frugal o result) i (ended_peeked v.is_open result n c)) (Absent m (sym i ∙ c), refl) (record { count = z.to; taken = rw b z.taken }) l (λ a. s a ∙ z.failures a)
+        refuses w size (until_range size spells t) adds says r d e result (subst (λ o. RefusesPeeked w.kind w.frugal o result) i (ended_peeked v.is_open result n c)) (Absent m (sym i ∙ c), refl) (record { count = z.to; taken = rw b z.taken }) l (λ a. s a ∙ z.failures a)

@@ -4,7 +4,7 @@ use Rattle.std.proofs.Common.{arith}
 use Rattle.combine_base.specs.Stream.View.{View, Takes, Moves}
 use Rattle.combine_base.specs.Error.Items.{Item}
 use Rattle.combine_base.specs.Parser.Drivers.{Broke}
-use Rattle.combine_base.specs.Parser.Meaning.{Meaning, Reading, IsReading, IsSingle, IsMeaning, MeansOne}
+use Rattle.combine_base.specs.Parser.Meaning.{Meaning, Reading, Refusing, IsReading, IsSingle, IsMeaning, MeansOne}
 use Rattle.combine_base.specs.declared.stream.Kind.{Kind}
 use Rattle.combine_base.specs.declared.stream.Kind.TheVariants as kinds
 use Rattle.combine_base.specs.declared.stream.Failures.{Failures}
@@ -17,21 +17,22 @@ use Rattle.combine_range.specs.declared.distance.Distance.{Distance}
 abbrev pub items_of : Distance → ℕ
 items_of d = d.items
 
-module _ {P T R A : Type 0} where
-  -- one reading for each distance; that of distance 0 is the whole
-  abbrev pub kept : (T → ℕ) → (ℕ → Reading P T A) → (List (Item T R) → Type 0) → Meaning P T R A Distance
-  kept size read adds = record { whole = read 0; rest = λ d. read d.items; lost = λ d v. size_of size v.unread < d.items; keeps = ⊥; puts_back = Unit {0}; lean = Unit {0}; adds = adds }
+module _ {P T R E A : Type 0} where
+  -- one reading for each distance, and the errors of its refusals; those of distance 0 are the whole's
+  abbrev pub kept : (T → ℕ) → (ℕ → Reading P T A) → (List (Item T R) → Type 0) → (ℕ → Refusing P T E) → Meaning P T R E A Distance
+  kept size read adds refuses = record { whole = read 0; rest = λ d. read d.items; lost = λ d v. size_of size v.unread < d.items; keeps = ⊥; puts_back = Unit {0}; lean = Unit {0}; adds = adds; refuses = refuses 0; refuses_from = λ d. refuses d.items }
 
-  pub kept_is_meaning : (valid : Distance → Type 0) (size : T → ℕ) (read : ℕ → Reading P T A) (adds : List (Item T R) → Type 0) → ((d : ℕ) → IsReading (read d)) → IsMeaning (λ d. d.items ≡ 0) valid (kept size read adds)
-  kept_is_meaning valid size read adds h = record {
+  pub kept_is_meaning : (valid : Distance → Type 0) (size : T → ℕ) (read : ℕ → Reading P T A) (adds : List (Item T R) → Type 0) (refuses : ℕ → Refusing P T E) → ((d : ℕ) → IsReading (read d)) → IsMeaning (λ d. d.items ≡ 0) valid (kept size read adds refuses)
+  kept_is_meaning valid size read adds refuses h = record {
     whole = h 0;
     rest = λ s k. h s.items;
     start = λ s v o d. rw d (λ p. p, λ p. p);
     found = λ s v d p. let e = d in omega arith;
+    reasons = λ s d v w k e. rw d (λ p. p, λ p. p);
   }
 
-  pub kept_means_one : (valid : Distance → Type 0) (size : T → ℕ) (read : ℕ → Reading P T A) (adds : List (Item T R) → Type 0) → ((d : ℕ) → IsSingle (read d)) → MeansOne valid (kept size read adds)
-  kept_means_one valid size read adds h = record { whole = h 0; rest = λ s k. h s.items }
+  pub kept_means_one : (valid : Distance → Type 0) (size : T → ℕ) (read : ℕ → Reading P T A) (adds : List (Item T R) → Type 0) (refuses : ℕ → Refusing P T E) → ((d : ℕ) → IsSingle (read d)) → MeansOne valid (kept size read adds refuses)
+  kept_means_one valid size read adds refuses h = record { whole = h 0; rest = λ s k. h s.items }
 
 -- the answer where the kept distance was not passed over
 -- the input ended within the distance

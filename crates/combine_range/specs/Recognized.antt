@@ -2,6 +2,7 @@
 use Rattle.std.specs.Prelude.{ℕ, ◌+◌, ◌<◌, ◌≤◌, ◌≡◌, ◌++◌, Bool, true, false, nat_lt, List, length, take, refl, ◌↔◌}
 use Rattle.std.proofs.Common.{arith, ap, sym, subst, ◌∙◌, length-drop, ltb-false}
 use Rattle.std.proofs.lemmas.List.{take-append-le}
+use Rattle.combine_base.specs.Error.Errors.{Errors}
 use Rattle.combine_base.specs.Stream.View.{View, advanced, extended}
 use Rattle.combine_base.specs.Stream.Advance.{advanced_extended}
 use Rattle.combine_base.specs.Parser.Outcome.{Outcome, Accepted, Refused, Undecided, shape, IsDecided}
@@ -10,6 +11,7 @@ use Rattle.combine_stream.specs.Ranges.{size_of, Place, Inside}
 use Rattle.combine_stream.specs.RangeFacts.{one_place, place_stays, inside_stays}
 use Rattle.combine_base.specs.declared.error.ParseResult.{ParseResult}
 use Rattle.combine_base.specs.declared.error.ParseResult.TheVariants.{CommitOk, PeekOk, CommitErr, PeekErr}
+use Rattle.combine_range.specs.Reasons.{RefusesResumed, resumed_at_start, resumed_same}
 use Rattle.combine_range.specs.declared.range.recognized.RecognizeState.{RecognizeState}
 
 -- a default state: no distance is kept, and the part's state is a default one
@@ -71,17 +73,6 @@ module _ {P T V R : Type 0} (size : T → ℕ) (spells : R → List T → Type 0
     On : (goes : Goes d r v o) → Recognizes d r v o
     -- the kept distance ends inside a token: no call keeps such a one
     Split : (split : Inside size v.unread d) (is : o ≡ Refused false) → Recognizes d r v o
-
-  abbrev pub recognized : {S : Type 0} → Meaning P T R V S → Meaning P T R (R × V) (RecognizeState S)
-  recognized m = record {
-    whole = Recognizes 0 m.whole;
-    rest = λ s. Recognizes s.distance (m.rest s.part);
-    lost = λ s. Loses size step s.distance (m.lost s.part);
-    keeps = ⊥;
-    puts_back = Unit {0};
-    lean = m.lean;
-    adds = m.adds;
-  }
 
   shape_of : (us : List T) (n : ℕ) (i : Outcome V) (o : Outcome (R × V)) → sliced us n i o → shape o ≡ slice_shape n (shape i)
   shape_of us n (Accepted a m c) (Accepted p k e) h = let x = h.2 in let y = h.3 in rw (y, x) refl
@@ -177,28 +168,45 @@ module _ {P T V R : Type 0} (size : T → ℕ) (spells : R → List T → Type 0
   recognizes_both : (d : ℕ) (r r' : Reading P T V) → ((v : View P T) (o : Outcome V) → r v o ↔ r' v o) → (v : View P T) (o : Outcome (R × V)) → Recognizes d r v o ↔ Recognizes d r' v o
   recognizes_both d r r' i v o = (recognizes_into d r r' (λ v o. (i v o).0) v o, recognizes_into d r' r (λ v o. (i v o).1) v o)
 
-  module _ {S : Type 0} (filled : (t : T) → 0 < size t) where
-    pub recognized_is_meaning : (fresh valid : S → Type 0) (m : Meaning P T R V S) → IsMeaning fresh valid m → IsMeaning (IsFresh fresh) (HasValid valid) (recognized m)
+module _ {P T V R S E : Type 0} (errors : Errors T R P E) (size : T → ℕ) (spells : R → List T → Type 0) (step : P → T → P) where
+  abbrev pub recognized : Meaning P T R E V S → Meaning P T R E (R × V) (RecognizeState S)
+  recognized m = record {
+    whole = Recognizes size spells step 0 m.whole;
+    rest = λ s. Recognizes size spells step s.distance (m.rest s.part);
+    lost = λ s. Loses size step s.distance (m.lost s.part);
+    keeps = ⊥;
+    puts_back = Unit {0};
+    lean = m.lean;
+    adds = m.adds;
+    refuses = m.refuses;
+    refuses_from = λ s. RefusesResumed errors size step (m.refuses_from s.part) s.distance;
+  }
+
+  module _ (filled : (t : T) → 0 < size t) where
+    pub recognized_is_meaning : (fresh valid : S → Type 0) (m : Meaning P T R E V S) → IsMeaning fresh valid m → IsMeaning (IsFresh fresh) (HasValid valid) (recognized m)
     recognized_is_meaning fresh valid m h = record {
-      whole = recognizes_is_reading filled 0 m.whole h.whole;
-      rest = λ s k. recognizes_is_reading filled s.distance (m.rest s.part) (h.rest s.part k);
-      start = λ s v o d. rw d.0 (recognizes_both 0 (m.rest s.part) m.whole (λ v o. h.start s.part v o d.1) v o);
+      whole = recognizes_is_reading size spells step filled 0 m.whole h.whole;
+      rest = λ s k. recognizes_is_reading size spells step filled s.distance (m.rest s.part) (h.rest s.part k);
+      start = λ s v o d. rw d.0 (recognizes_both size spells step 0 (m.rest s.part) m.whole (λ v o. h.start s.part v o d.1) v o);
       found = λ s v d. never_lost size step s.distance (m.lost s.part) (λ v. h.found s.part v d.1) v d.0;
+      reasons = λ s d. resumed_at_start errors size step filled (m.refuses_from s.part) m.refuses (h.reasons s.part d.1) s.distance d.0;
     }
 
-    pub recognized_means_one : (valid : S → Type 0) (m : Meaning P T R V S) → MeansOne valid m → MeansOne (HasValid valid) (recognized m)
+    pub recognized_means_one : (valid : S → Type 0) (m : Meaning P T R E V S) → MeansOne valid m → MeansOne (HasValid valid) (recognized m)
     recognized_means_one valid m h = record {
-      whole = record { one = recognizes_one filled 0 m.whole h.whole };
-      rest = λ s k. record { one = recognizes_one filled s.distance (m.rest s.part) (h.rest s.part k) };
+      whole = record { one = recognizes_one size spells step filled 0 m.whole h.whole };
+      rest = λ s k. record { one = recognizes_one size spells step filled s.distance (m.rest s.part) (h.rest s.part k) };
     }
 
-  pub recognized_means_same : {S : Type 0} (m m' : Meaning P T R V S) → MeansSame m m' → MeansSame (recognized m) (recognized m')
+  pub recognized_means_same : (m m' : Meaning P T R E V S) → MeansSame m m' → MeansSame (recognized m) (recognized m')
   recognized_means_same m m' h = record {
-    whole = recognizes_both 0 m.whole m'.whole h.whole;
-    rest = λ s. recognizes_both s.distance (m.rest s.part) (m'.rest s.part) (h.rest s.part);
+    whole = recognizes_both size spells step 0 m.whole m'.whole h.whole;
+    rest = λ s. recognizes_both size spells step s.distance (m.rest s.part) (m'.rest s.part) (h.rest s.part);
     lost = λ s v. (loses_into size step s.distance (m.lost s.part) (m'.lost s.part) (λ v. (h.lost s.part v).0) v, loses_into size step s.distance (m'.lost s.part) (m.lost s.part) (λ v. (h.lost s.part v).1) v);
     keeps = (λ k. k, λ k. k);
     puts_back = (λ k. k, λ k. k);
     lean = h.lean;
     adds = h.adds;
+    refuses = h.refuses;
+    refuses_from = λ s. resumed_same errors size step (m.refuses_from s.part) (m'.refuses_from s.part) (h.refuses_from s.part) s.distance;
   }

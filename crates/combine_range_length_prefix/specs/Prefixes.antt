@@ -1,14 +1,14 @@
 -- a length, and then so many items
-use Rattle.std.specs.Prelude.{ℕ, codes, ◌+◌, ◌≡◌, ◌⊎◌, List, Bool, ◌||◌, nat_lt, Result, Ok, Err}
+use Rattle.std.specs.Prelude.{ℕ, codes, ◌+◌, ◌≡◌, ◌⊎◌, List, Bool, ◌||◌, false, nat_lt, Result, Ok, Err}
 use Rattle.combine_base.specs.Error.Errors.{Errors, Nothing, Only, Says}
 use Rattle.combine_base.specs.Error.Items.{Item, Fixed, Message}
 use Rattle.combine_base.specs.Parser.Drivers.{AtToken}
-use Rattle.combine_base.specs.Parser.Meaning.{Reading}
+use Rattle.combine_base.specs.Parser.Meaning.{Reading, Refusing, MeantRefusal}
 use Rattle.combine_base.specs.Parser.Outcome.{Accepted, Refused, Undecided}
-use Rattle.combine_base.specs.Stream.View.{View, advanced}
+use Rattle.combine_base.specs.Stream.View.{View, Takes, advanced}
 use Rattle.combine_combinator_function.specs.Changes.{MadeSaying}
 use Rattle.combine_range.specs.Lengths.{First, Unfit, Waits}
-use Rattle.combine_range.specs.Reasons.{refuses_unfit}
+use Rattle.combine_range.specs.Reasons.{RefusesLength}
 
 module _ {A E : Type 0} (turned : A → Result ℕ E → Type 0) where
   -- a value that is no length
@@ -44,6 +44,10 @@ module _ {P T A E : Type 0} (turned : A → Result ℕ E → Type 0) (r : Readin
     pub accepted : r v (Accepted value count committed)
     pub none : FitsNone turned value
 
+  -- no length was read: the part refuses, or a value was read that is none
+  abbrev pub LacksLength : Bool → Type 0
+  LacksLength committed = r v (Refused committed) ⊎ ReadsNone committed
+
 module _ {P T A E R : Type 0} (step : P → T → P) (size : T → ℕ) (spells : R → List T → Type 0) (turned : A → Result ℕ E → Type 0) (r : Reading P T A) where
   -- behind a length stand so many items, and this is their range
   pub record Framed (v : View P T) (q : R) (n : ℕ) (c : Bool) : Type 0 where
@@ -78,28 +82,26 @@ module _ {P T A E R : Type 0} (step : P → T → P) (size : T → ℕ) (spells 
   prefixed v Undecided = r v Undecided ⊎ Awaits v
 
 module _ {P T A X R E : Type 0} (step : P → T → P) (seen : Errors T R P E) (size : T → ℕ) (spells : R → List T → Type 0) (turned : A → Result ℕ X → Type 0) (r : Reading P T A) where
-  -- a value that is no length: the error is made where the call began, and says so
-  pub record SaysNone (v : View P T) (committed : Bool) (e : E) : Type 0 where
+  -- a value that is no length: its tokens stay taken, and the error is made where the call began, and says so
+  pub record SaysNone (v w : View P T) (committed : Bool) (e : E) : Type 0 where
     pub value : A
     pub count : ℕ
     pub accepted : r v (Accepted value count committed)
+    pub taken : Takes step count v w
     pub said : MadeSaying seen (out_of_range turned value) v.position e
 
-  -- too few items, or an end inside a token: the error is that of `take`, made behind the length, and then says which token stands there
-  pub record SaysUnframed (v : View P T) (committed : Bool) (e : E) : Type 0 where
+  -- too few items, or an end inside a token: what stands behind the length is left; the error is that of `take`, made there, and then says which token stands there
+  pub record SaysUnframed (v w : View P T) (committed : Bool) (e : E) : Type 0 where
     pub length : ℕ
     pub before : ℕ
     pub read : ReadsLength turned r v length before committed
+    pub left : w ≡ advanced step before v
     pub own : E
-    pub made : refuses_unfit seen size spells length (advanced step before v) own
-    pub explained : Says seen (Unit {0}) (AtToken Nothing (advanced step before v).unread) own e
+    pub made : RefusesLength seen size spells length w w false own
+    pub explained : Says seen (Unit {0}) (AtToken Nothing w.unread) own e
 
-  -- the error of a refusal: the part's, or one of these
-  pub data RefusesPrefixed (part : View P T → Bool → E → Type 0) (v : View P T) (committed : Bool) (e : E) : Type 0 where
-    Part : part v committed e → RefusesPrefixed part v committed e
-    NoLength : SaysNone v committed e → RefusesPrefixed part v committed e
-    TooFew : SaysUnframed v committed e → RefusesPrefixed part v committed e
-
--- each error of the first is one of the second
-abbrev pub Among : {P T E : Type 0} → (View P T → Bool → E → Type 0) → (View P T → Bool → E → Type 0) → Type 0
-Among {P} {T} {E} first second = (v : View P T) (committed : Bool) (e : E) → first v committed e → second v committed e
+  -- the error of a refusal: where no length was read the part's, or that of a value that is none; or that behind a length
+  pub data RefusesPrefixed (part : Refusing P T E) (v w : View P T) (committed : Bool) (e : E) : Type 0 where
+    Part : MeantRefusal r part v w committed e → RefusesPrefixed part v w committed e
+    NoLength : LacksLength turned r v committed → SaysNone v w committed e → RefusesPrefixed part v w committed e
+    TooFew : SaysUnframed v w committed e → RefusesPrefixed part v w committed e

@@ -1,9 +1,10 @@
 //! What `length_prefix` means, stated by functions that do nothing.
-ghost use Rattle.std.specs.Prelude.{◌↔◌, None};
+ghost use Rattle.std.specs.Prelude.{◌↔◌};
+ghost use Rattle.combine_base.specs.Parser.Meaning.{SameReasons};
 ghost use Rattle.combine_base.specs.Parser.Outcome.{Outcome};
 ghost use Rattle.combine_base.specs.Stream.View.{View};
 ghost use Rattle.combine_range_length_prefix.specs.LengthParsers.{length_prefix_of};
-ghost use Rattle.combine_range_length_prefix.specs.Prefixes.{Among, OneLength, RefusesPrefixed, prefixed};
+ghost use Rattle.combine_range_length_prefix.specs.Prefixes.{OneLength, RefusesPrefixed, prefixed};
 
 use crate::range::types::LengthPrefix;
 use combine_base::parser::Parser;
@@ -32,12 +33,12 @@ where
     ensures { ⟦<LengthPrefix<Input, P, Input::Range> as Parser<Input>>⟧.determined (length_prefix_of p.now) }
 {}
 
-/// The error of a refusal is the part's; or that of a value that is no length, made where the call began; or that of too few items, or of an end inside a token, made behind the length and explained there.
+/// Where no length was read, the error of a refusal is the part's, or that of a value that is no length, made where the call began; behind a length it is that of too few items, or of an end inside a token, made there and explained there.
 #[inline]
 pub fn length_prefix_refuses<Input: RangeStream, P: Parser<Input>>(p: &P)
 where
     Input::Range: Range,
     P::Output: TryInto<usize>,
     <P::Output as TryInto<usize>>::Error: Drop,
-    ensures { Among (⟦<LengthPrefix<Input, P, Input::Range> as Parser<Input>>⟧.refuses (length_prefix_of p.now) None) (RefusesPrefixed Input.step Input.Error.seen Input.size Input.spells P.Output.try_into_gives (P.meaning p.now).whole (P.refuses p.now None)) }
+    ensures { SameReasons (⟦<LengthPrefix<Input, P, Input::Range> as Parser<Input>>⟧.meaning (length_prefix_of p.now)).refuses (RefusesPrefixed Input.step Input.Error.seen Input.size Input.spells P.Output.try_into_gives (P.meaning p.now).whole (P.meaning p.now).refuses) }
 {}

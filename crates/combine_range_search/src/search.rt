@@ -1,9 +1,8 @@
 //! Searches for a place in what is unread, and the parser of what stands before it.
 ghost use Rattle.std.specs.Prelude.{◌≡◌, List};
 ghost use Rattle.combine_base.specs.Error.Errors.{Nothing};
-ghost use Rattle.combine_token.specs.Reasons.{begins_at};
-ghost use Rattle.combine_range.specs.Kept.{items_of, kept, kept_is_meaning, kept_means_one};
-ghost use Rattle.combine_range_search.specs.Reasons.{refuses_search};
+ghost use Rattle.combine_range.specs.Kept.{kept, kept_is_meaning, kept_means_one};
+ghost use Rattle.combine_range_search.specs.Reasons.{RefusesSearch};
 ghost use Rattle.combine_range_search.specs.Searches.{IsOneSearch, IsSearch, Search, Searched, searching, searching_is_reading, searching_is_single};
 
 use crate::passing::{is_nothing, may_grow, not_found, pass_up_to};
@@ -89,9 +88,7 @@ where
 
     ghost valid = { λ s. Unit {0} };
 
-    ghost meaning = { λ p. kept Input.size (searching Input.size Input.spells (S.search p.searcher)) Nothing };
-
-    ghost refuses = { λ p k. refuses_search Input.Error.seen Input.size Input.spells (S.search p.searcher) (begins_at items_of k) };
+    ghost meaning = { λ p. kept Input.size (searching Input.size Input.spells (S.search p.searcher)) Nothing (RefusesSearch Input.Error.seen Input.step Input.size Input.spells (S.search p.searcher)) };
 
     ghost parts = { λ p. 1 };
 
@@ -150,9 +147,9 @@ where
 
     ghost default_valid = { λ s d. tt };
 
-    ghost laws = { λ p l. kept_is_meaning _ _ _ _ (searching_is_reading _ _ _ Input.filled (S.stays p.searcher)) };
+    ghost laws = { λ p l. kept_is_meaning _ _ _ _ _ (searching_is_reading _ _ _ Input.filled (S.stays p.searcher)) };
 
-    ghost single = { λ p l d. kept_means_one _ _ _ _ (searching_is_single _ _ _ Input.filled (S.one p.searcher d)) };
+    ghost single = { λ p l d. kept_means_one _ _ _ _ _ (searching_is_single _ _ _ Input.filled (S.one p.searcher d)) };
 }
 
 /// The search by a function of ranges.

@@ -6,7 +6,7 @@
 //!
 //! A collection that can't grow gives the committed fault `Memory`, and a stream that can't be put back the committed fault `Reset`, each at the position where the turn began; the faults of the parser are passed on. On need of more the state keeps what is collected, whether a turn committed, which the crate forgets, and the turn that runs. What is added to an error, and how many parsers are counted, is as for the parser, but the skipping forms count as 1.
 //!
-//! Of the error that a refusal has nothing is said beyond its kind: what the parser says of its errors is known of one call, and not of one after several.
+//! Which error a refusal has is exact: that of a turn that is refused committed, that of a first turn that is asked for, as it is, or the message of a turn that takes nothing, at the place where it was begun or resumed. A turn's own error is one that the parser refuses with.
 ghost use Rattle.std.specs.Prelude.{◌≡◌};
 ghost use Rattle.combine_repeat.specs.Built.{many_of, many1_of, skip_many_of, skip_many1_of};
 

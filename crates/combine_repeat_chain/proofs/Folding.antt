@@ -1,5 +1,5 @@
 -- operands folded from the right, the last operator first
-use Rattle.std.proofs.Common.{◌≡◌, ◌+◌, List, [], ◌∷◌, ◌++◌, length, refl, arith}
+use Rattle.std.proofs.Common.{◌≡◌, List, [], ◌∷◌, ◌++◌, length, refl, arith}
 use Rattle.combine_repeat_chain.specs.Chains.{all_good, folded_right}
 use Rattle.combine_repeat_chain.specs.declared.operands.Left.{Left}
 

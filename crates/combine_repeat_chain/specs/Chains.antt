@@ -1,5 +1,6 @@
 -- operands and operators, folded from the right
 use Rattle.std.specs.Prelude.{◌≡◌, List, [], ◌∷◌, ◌++◌, Option, Some, None}
+use Rattle.combine_base.specs.Error.Errors.{Errors}
 use Rattle.combine_base.specs.Parser.Mapped.{mapped}
 use Rattle.combine_base.specs.Parser.Meaning.{Meaning}
 use Rattle.combine_combinator.specs.Tables.{by_table, stays}
@@ -71,16 +72,16 @@ gives_right post z r = folded_right post (kept_operands z).0 (kept_operands z).1
 abbrev pub each_operand : {O V : Type 0} → Collecting (Element O V) (Operands O V)
 each_operand = gathered (λ z. Some (kept_operands z)) None keeps_operand ⊥
 
-module _ {P T R O V U W : Type 0} (step : P → T → P) where
+module _ {P T R E O V U W : Type 0} (step : P → T → P) (errors : Errors T R P E) where
   -- an operand, and then turns of an operator and an operand
-  abbrev pub operands : Meaning P T R V U → Meaning P T R O W → Meaning P T R (Operands O V) (TurnsState (Operands O V) (SeparatedState O W U))
-  operands = joined step (Joined 1 None) each_operand
+  abbrev pub operands : Meaning P T R E V U → Meaning P T R E O W → Meaning P T R E (Operands O V) (TurnsState (Operands O V) (SeparatedState O W U))
+  operands = joined step errors (Joined 1 None) each_operand
 
   module _ (post : O → V → V → V → Type 0) where
     -- the same, folded from the right
-    abbrev pub right_fold : Meaning P T R V U → Meaning P T R O W → Meaning P T R V (TurnsState (Operands O V) (SeparatedState O W U))
+    abbrev pub right_fold : Meaning P T R E V U → Meaning P T R E O W → Meaning P T R E V (TurnsState (Operands O V) (SeparatedState O W U))
     right_fold m s = mapped (operands m s) (gives_right post)
 
     -- the same, of which each call begins again
-    abbrev pub chainr1 : Meaning P T R V U → Meaning P T R O W → Meaning P T R V (Unit {0})
-    chainr1 m s = by_table stays (right_fold m s) m.adds
+    abbrev pub chainr1 : Meaning P T R E V U → Meaning P T R E O W → Meaning P T R E V (Unit {0})
+    chainr1 m s = by_table stays (right_fold m s) m.adds (right_fold m s).refuses

@@ -1,3 +1,4 @@
+pub use Rattle.combine_base.specs.Error.Errors
 pub use Rattle.combine_base.specs.Parser.Answer
 pub use Rattle.combine_base.specs.Parser.Given
 pub use Rattle.combine_base.specs.Parser.Mapped

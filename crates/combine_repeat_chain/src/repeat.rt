@@ -1,6 +1,6 @@
 //! Repetitions that are compositions: a chain of operands that is folded from the right, and a text with escapes.
 //!
-//! A turn that takes nothing is refused, committed, with the message `repetition takes nothing`, at the position where it began. Of the error that a refusal has nothing is said beyond its kind.
+//! A turn that takes nothing is refused, committed, with the message `repetition takes nothing`, at the position where it began. Which error a refusal has is exact, as for `chainl1` and for `skip_many`.
 ghost use Rattle.std.specs.Prelude.{◌≡◌};
 ghost use Rattle.combine_repeat_chain.specs.ChainParsers.{chainr1_of, escaped_of};
 

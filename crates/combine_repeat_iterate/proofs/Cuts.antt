@@ -18,17 +18,17 @@ use Rattle.combine_repeat_iterate.specs.declared.repeat.Turn.{Turn}
 use Rattle.combine_repeat_iterate.specs.declared.repeat.Turn.TheVariants.{Gives, Over, Fails}
 use Rattle.combine_repeat_iterate.proofs.Dividing.{past_block}
 
-begun_is_reading : {P T R A S : Type 0} {fresh valid : S → Type 0} (m : Meaning P T R A S) → IsMeaning fresh valid m → (first : Bool) (s : S) → valid s → IsReading (begun m first s)
+begun_is_reading : {P T R E A S : Type 0} {fresh valid : S → Type 0} (m : Meaning P T R E A S) → IsMeaning fresh valid m → (first : Bool) (s : S) → valid s → IsReading (begun m first s)
 begun_is_reading m h true s d = h.whole
 begun_is_reading m h false s d = h.rest s d
 
 -- past a block, whatever follows
-pub past_block_with : {P T R A S : Type 0} {fresh valid : S → Type 0} (step : P → T → P) (m m' : Meaning P T R A S) → IsMeaning fresh valid m → MeansSame m m' → (first again : Bool) (s s' : S) → valid s → (v u : View P T) (b : Block A) → again ≡ true → begun m first s v (outcome b) → goes_at Any (place_of first) b.count b.committed ≡ true → u ≡ advanced step b.count v → (x : List T) (i : Bool) → Follows v.is_open x i → (bs : List (Block A)) (l : Outcome (Unit {0})) → remains step m' again s' (extended x i u) bs l → remains step m first s (extended x i v) (b ∷ bs) l
+pub past_block_with : {P T R E A S : Type 0} {fresh valid : S → Type 0} (step : P → T → P) (m m' : Meaning P T R E A S) → IsMeaning fresh valid m → MeansSame m m' → (first again : Bool) (s s' : S) → valid s → (v u : View P T) (b : Block A) → again ≡ true → begun m first s v (outcome b) → goes_at Any (place_of first) b.count b.committed ≡ true → u ≡ advanced step b.count v → (x : List T) (i : Bool) → Follows v.is_open x i → (bs : List (Block A)) (l : Outcome (Unit {0})) → remains step m' again s' (extended x i u) bs l → remains step m first s (extended x i v) (b ∷ bs) l
 past_block_with step m m' laws h first again s s' k v u b e d j q x i f bs l t =
     let r = begun_is_reading m laws first s k in
     past_block step m m' h first again s s' (extended x i v) (extended x i u) b e (stands (begun m first s) r v x i (outcome b) f tt d) j (ap (extended x i) q ∙ sym (advanced_extended step b.count x i v (r.within v b.value b.count b.committed d))) bs l t
 
-module _ {P T R A S : Type 0} (step : P → T → P) (m : Meaning P T R A S) (first : Bool) (s s' : S) (n : ℕ) (old new : View P T) (taken : Takes step n old new) (r : Resumes (begun m first s) (m.rest s') n old new) where
+module _ {P T R E A S : Type 0} (step : P → T → P) (m : Meaning P T R E A S) (first : Bool) (s s' : S) (n : ℕ) (old new : View P T) (taken : Takes step n old new) (r : Resumes (begun m first s) (m.rest s') n old new) where
   -- where a turn that goes on stops the turns, the whole turn does
   stops_whole : (o : Outcome A) (l : Outcome (Unit {0})) → judged Any never (place_of false) o ≡ Stops l → judged Any never (place_of first) (after n false o) ≡ Stops l
   stops_whole (Accepted a c true) l e = absurd (cc)
@@ -55,7 +55,7 @@ module _ {P T R A S : Type 0} (step : P → T → P) (m : Meaning P T R A S) (fi
       (refl, r.gives x i (outcome b) f d.1, ap (accepted_at (n + b.count) b.committed false) (goes_whole b d.2 t), subst At (sym e) d.3)
 
 -- a turn that needs more goes on behind the cut
-module _ {P T R A S E : Type 0} (w : World P T S E) (m : Meaning P T R A S) (r : Run P T S) where
+module _ {P T R A S E : Type 0} (w : World P T S E) (m : Meaning P T R E A S) (r : Run P T S) where
   asks_on : Asks w m r → Continues w.step m r.first r.state r.left r.old r.new
   asks_on a = record { count = a.count; taken = a.taken; goes_on = λ x i bs l. over_cut w.step m r.first r.state r.left a.count r.old r.new a.taken a.resumes x i (open_follows r.old.is_open x i a.is_open) bs l }
 

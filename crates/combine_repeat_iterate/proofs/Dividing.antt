@@ -18,14 +18,14 @@ use Rattle.combine_repeat_iterate.specs.declared.repeat.Turn.{Turn}
 use Rattle.combine_repeat_iterate.specs.declared.repeat.Turn.TheVariants.{Gives, Over, Fails}
 
 -- past a block
-pub past_block : {P T R A S : Type 0} (step : P → T → P) (m m' : Meaning P T R A S) → MeansSame m m' → (first again : Bool) (s s' : S) (v u : View P T) (b : Block A) → again ≡ true → begun m first s v (outcome b) → goes_at Any (place_of first) b.count b.committed ≡ true → u ≡ advanced step b.count v → (bs : List (Block A)) (l : Outcome (Unit {0})) → remains step m' again s' u bs l → remains step m first s v (b ∷ bs) l
+pub past_block : {P T R E A S : Type 0} (step : P → T → P) (m m' : Meaning P T R E A S) → MeansSame m m' → (first again : Bool) (s s' : S) (v u : View P T) (b : Block A) → again ≡ true → begun m first s v (outcome b) → goes_at Any (place_of first) b.count b.committed ≡ true → u ≡ advanced step b.count v → (bs : List (Block A)) (l : Outcome (Unit {0})) → remains step m' again s' u bs l → remains step m first s v (b ∷ bs) l
 past_block {T = T} step m m' h first again s s' v u b e d j q bs l t =
     let At : Bool → Type 0 = λ k. remains step m' k s' u bs l in
     let y = divides_into step (bounded Any never) (λ _. m'.whole) (λ _. m.whole) (λ g v o. (h.whole v o).1) m'.whole m.whole (λ v o. (h.whole v o).1) (place_of true) u l bs (subst At e t) in
     let To : View _ T → Type 0 = λ z. Divides step (bounded Any never) (λ _. m.whole) l m.whole (place_of true) bs z in
     (refl, d, ap (accepted_at b.count b.committed false) j, subst To q y)
 
-module _ {P T R A S E : Type 0} (w : World P T S E) (m : Meaning P T R A S) (r : Run P T S) where
+module _ {P T R A S E : Type 0} (w : World P T S E) (m : Meaning P T R E A S) (r : Run P T S) where
   -- the turns stop here
   abbrev here : Outcome (Unit {0}) → Type 0
   here l = remains w.step m r.first r.state r.old [] l

@@ -1,12 +1,12 @@
 -- a call of `iterate`, by the runs of its items' parsers
-use Rattle.std.proofs.Common.{ℕ, ◌+◌, ◌≡◌, ◌≤◌, inl, inr, List, [], ◌∷◌, Option, Some, None, Bool, true, false, ◌||◌, refl, sym, ◌∙◌, ap, subst, arith, add-zero}
+use Rattle.std.proofs.Common.{ℕ, ◌+◌, ◌≡◌, ◌≤◌, inl, inr, List, [], ◌∷◌, Bool, true, false, ◌||◌, refl, sym, ◌∙◌, ap, subst, arith, add-zero}
 use Rattle.combine_base.specs.Error.Errors.{Errors}
 use Rattle.combine_base.specs.Parser.Answer.{World, Run, Answers, Accepts, Resumes, Leaves, fails, world}
 use Rattle.combine_base.specs.Parser.Kept.{KeptOf}
-use Rattle.combine_base.specs.Parser.Meaning.{Meaning, Reading, IsMeaning, MeansSame}
+use Rattle.combine_base.specs.Parser.Meaning.{Meaning, Reading, Refusing, IsMeaning, MeansSame, refusals_from}
 use Rattle.combine_base.specs.Parser.Outcome.{Outcome, Accepted, Refused, Undecided}
 use Rattle.combine_base.specs.Parser.OutcomeFacts.{or_false}
-use Rattle.combine_base.specs.Parser.Reasons.{Reasoned, kept_from}
+use Rattle.combine_base.specs.Parser.Reasons.{Reasoned}
 use Rattle.combine_base.specs.Sequence.Joined.{joined}
 use Rattle.combine_base.specs.Sequence.Parts.{RunsFrom, accepted_as, refused_as, run_from}
 use Rattle.combine_base.specs.Sequence.Readings.{following}
@@ -27,8 +27,8 @@ use Rattle.combine_base.specs.declared.stream.StreamOnce as stream
 use Rattle.combine_repeat_iterate.specs.declared.repeat.items.Item.{Item}
 use Rattle.combine_repeat_iterate.specs.Items.{begins_items, starts_valid, valid_item, each, each_from, iterated, last_value, unchanged}
 use Rattle.combine_repeat_iterate.specs.ItemCalls.{CalledItem, Stores, item_did, keeps_item, unstored}
-use Rattle.combine_repeat_iterate.specs.ItemErrors.{item_refuses, items_refuse, iterated_refuses, running_refuses}
-use Rattle.combine_repeat_iterate.proofs.ItemErrors.{next_refuses}
+use Rattle.combine_repeat_iterate.specs.ItemErrors.{RefusesIterated, item_refuses, items_refuse, running_refuses}
+use Rattle.combine_repeat_iterate.proofs.ItemErrors.{item_meant, next_refuses}
 use Rattle.combine_repeat_iterate.specs.declared.repeat.items.Collected.{Collected}
 use Rattle.combine_repeat_iterate.specs.declared.repeat.items.Item.TheVariants as items
 use Rattle.combine_repeat_iterate.specs.declared.repeat.items.RunningItem.{RunningItem}
@@ -59,14 +59,14 @@ valid_from {S} {fresh} {valid} {first} {given} {s} h r v = by_mode first r
     by_mode false r = subst valid (sym (r.kept refl)) v
 
 module _ {N Input It I B C H U Checkpoint T R P E : Type 0} (p : parser.Ghosts N Input U B Checkpoint T R P E) (i : stream.Ghosts Input T R P E) (seen : Errors T R P E) (fresh : U → Type 0) (answers : I → N → Type 0) (some : N → Type 0) (held : C → H) (none : H) (more : H → B → H) (at : It → List I → Type 0) (lists : List I → Type 0) (lean spared : Type 0) where
-  abbrev all : Meaning P T R C (IterateState C It N U)
-  all = iterated i.step answers some p.meaning held none more at lists spared
+  abbrev all : Meaning P T R E C (IterateState C It N U)
+  all = iterated i.step seen answers some p.meaning held none more at lists spared
 
   abbrev these : H → List I → Reading P T C
-  these h xs = each i.step answers some p.meaning held none more at lists spared h xs
+  these h xs = each i.step seen answers some p.meaning held none more at lists spared h xs
 
   abbrev these_from : Reading P T B → H → List I → Reading P T C
-  these_from r h xs = each_from i.step answers some p.meaning held none more at lists spared r h xs
+  these_from r h xs = each_from i.step seen answers some p.meaning held none more at lists spared r h xs
 
   abbrev part_world : World P T U E
   part_world = world i.step seen i.steady fresh
@@ -82,31 +82,31 @@ module _ {N Input It I B C H U Checkpoint T R P E : Type 0} (p : parser.Ghosts N
   abbrev left_in : RunningItem C It N U → List I → Reading P T C
   left_in l xs = following l.before.committed unchanged (these_from ((p.meaning l.parser).rest l.state) (held l.before.values) xs)
 
-  -- what is left refuses so: where the items' turns come, and where an item's parser runs, afresh or from its state
-  abbrev refused_at : Collected C It → List I → View P T → Bool → E → Type 0
-  refused_at l xs = items_refuse i.step answers p.meaning seen p.refuses xs l.is_begun l.committed
+  -- what is left refuses so: where the items' turns come, and where an item's parser runs
+  abbrev refused_at : Collected C It → List I → Refusing P T E
+  refused_at l xs = items_refuse i.step answers p.meaning seen xs l.is_begun l.committed
 
-  abbrev refused_in : Option U → RunningItem C It N U → List I → View P T → Bool → E → Type 0
-  refused_in from l xs = running_refuses i.step answers p.meaning seen p.refuses xs from l
+  abbrev refused_in : RunningItem C It N U → List I → Refusing P T E
+  refused_in l xs = running_refuses i.step answers p.meaning seen xs l
 
-  abbrev refused_from : IterateState C It N U → View P T → Bool → E → Type 0
-  refused_from z = iterated_refuses i.step answers p.meaning seen p.refuses at lists (Some z)
+  abbrev refused_from : IterateState C It N U → Refusing P T E
+  refused_from z = RefusesIterated i.step answers p.meaning seen at lists z
 
   -- the call has come so far that the next item's turn comes
   pub record Reaches (z : IterateState C It N U) (old now : View P T) (before later : Failures) (l : Collected C It) : Type 0 where
     pub left : List I
     pub given : at l.items left
     pub progress : Progress part_world (all.rest z) (left_at l left) old now before later
-    pub refuses : (k : Bool) (e : E) → refused_at l left now k e → refused_from z old k e
+    pub refuses : (w : View P T) (k : Bool) (e : E) → refused_at l left now w k e → refused_from z old w k e
 
-  -- an item's parser runs, afresh or from its state
-  pub record Runs (z : IterateState C It N U) (old now : View P T) (before later : Failures) (from : Option U) (l : RunningItem C It N U) : Type 0 where
+  -- an item's parser runs
+  pub record Runs (z : IterateState C It N U) (old now : View P T) (before later : Failures) (l : RunningItem C It N U) : Type 0 where
     pub left : List I
     pub given : at l.before.items left
     pub kept : KeptOf p.lawful p.meaning some l.parser
     pub progress : Progress part_world (all.rest z) (left_in l left) old now before later
     pub lost : (p.meaning l.parser).lost l.state now → all.lost z old
-    pub refuses : (k : Bool) (e : E) → refused_in from l left now k e → refused_from z old k e
+    pub refuses : (w : View P T) (k : Bool) (e : E) → refused_in l left now w k e → refused_from z old w k e
 
   -- and it began so, from a state that it was given
   pub record Loops (first : Bool) (given : IterateState C It N U) (old now : View P T) (before later : Failures) (l : Collected C It) : Type 0 where
@@ -123,26 +123,22 @@ module _ {N Input It I B C H U Checkpoint T R P E : Type 0} (p : parser.Ghosts N
         left = xs;
         given = g;
         progress = progress_here part_world (all.rest states.Start) (left_at l xs) v f to;
-        refuses = λ j e w. (xs, k, subst (λ d. items_refuse i.step answers p.meaning seen p.refuses xs d false v j e) b (subst (λ d. items_refuse i.step answers p.meaning seen p.refuses xs l.is_begun d v j e) c w));
+        refuses = λ u j e w. record { is = (xs, k, subst (λ d. items_refuse i.step answers p.meaning seen xs d false v u j e) b (subst (λ d. items_refuse i.step answers p.meaning seen xs l.is_begun d v u j e) c w)) };
       }
 
   -- from a kept state
-  pub runs_first : (first : Bool) (z : IterateState C It N U) (l : RunningItem C It N U) → RunsFrom begins_items first z (states.Running l) → (xs : List I) (v : View P T) (f : Failures) → KeptOf p.lawful p.meaning some l.parser → at l.before.items xs → Runs (states.Running l) v v f f (kept_from first l.state) l
-  runs_first first z l from xs v f k g = record {
+  pub runs_first : (l : RunningItem C It N U) (xs : List I) (v : View P T) (f : Failures) → KeptOf p.lawful p.meaning some l.parser → at l.before.items xs → Runs (states.Running l) v v f f l
+  runs_first l xs v f k g = record {
     left = xs;
     given = g;
     kept = k;
     progress = progress_here part_world (all.rest (states.Running l)) (left_in l xs) v f (λ u o w. (xs, g, w));
     lost = λ x. x;
-    refuses = by_mode first from;
+    refuses = λ u j e w. record { is = (xs, g, w) };
   }
-    where
-      by_mode : (first : Bool) → RunsFrom begins_items first z (states.Running l) → (j : Bool) (e : E) → refused_in (kept_from first l.state) l xs v j e → refused_from (states.Running l) v j e
-      by_mode true from j e w = absurd (from.afresh refl)
-      by_mode false from j e w = (xs, g, w)
 
   -- the next item's parser runs, the stream being where it was
-  pub runs_next : {valid : U → Type 0} (z : IterateState C It N U) (old now there : View P T) (before later then : Failures) (l : Collected C It) (r : Reaches z old now before later l) (x : I) (xs : List I) → r.left ≡ x ∷ xs → (n : N) → answers x n → KeptOf p.lawful p.meaning some n → (u : U) → fresh u → IsMeaning fresh valid (p.meaning n) → (rest : It) → at rest xs → there ≡ now → then ≡ later → Runs z old there before then None (record { before = record { values = l.values; is_begun = l.is_begun; committed = l.committed; items = rest }; parser = n; state = u })
+  pub runs_next : {valid : U → Type 0} (z : IterateState C It N U) (old now there : View P T) (before later then : Failures) (l : Collected C It) (r : Reaches z old now before later l) (x : I) (xs : List I) → r.left ≡ x ∷ xs → (n : N) → answers x n → KeptOf p.lawful p.meaning some n → (u : U) → fresh u → IsMeaning fresh valid (p.meaning n) → (rest : It) → at rest xs → there ≡ now → then ≡ later → Runs z old there before then (record { before = record { values = l.values; is_begun = l.is_begun; committed = l.committed; items = rest }; parser = n; state = u })
   runs_next z old now there before later then l r x xs is n j k u d laws rest g stays fails =
       let q : RunningItem C It N U = record { before = record { values = l.values; is_begun = l.is_begun; committed = l.committed; items = rest }; parser = n; state = u } in
       let to : (v : View P T) (o : Outcome C) → left_in q xs v o → left_at l (x ∷ xs) v o = λ v o w. (w.0, (w.1.0, (n, j, (laws.start u v w.1.0 d).0 w.1.1), w.1.2), w.2) in
@@ -153,7 +149,7 @@ module _ {N Input It I B C H U Checkpoint T R P E : Type 0} (p : parser.Ghosts N
         kept = k;
         progress = rw (stays, fails) (progress_left part_world (all.rest z) (left_at l (x ∷ xs)) (left_in q xs) old now before later to h);
         lost = λ y. absurd (laws.found u there d y);
-        refuses = λ c e w. r.refuses c e (subst (λ ys. refused_at l ys now c e) (sym is) (subst (λ v. refused_at l (x ∷ xs) v c e) stays (next_refuses i.step answers p.meaning seen p.refuses x xs l.is_begun l.committed n j laws u d there c e w)));
+        refuses = λ left c e w. r.refuses left c e (subst (λ ys. refused_at l ys now left c e) (sym is) (subst (λ v. refused_at l (x ∷ xs) v left c e) stays (next_refuses i.step answers p.meaning seen x xs l.is_begun l.committed n j laws u d there left c e w)));
       }
 
   -- no item is left
@@ -183,7 +179,7 @@ module _ {N Input It I B C H U Checkpoint T R P E : Type 0} (p : parser.Ghosts N
       record { is = subst (λ y. fails whole_world all (run_from z state v v f f) y) (sym k) (λ y x. m x.1, leaves) }
 
   -- An item's parser was run: the lists that its iterator gives are one.
-  module _ (given : (it : It) (xs ys : List I) → at it xs → at it ys → xs ≡ ys) (z state : IterateState C It N U) (old : View P T) (before : Failures) (first : Bool) (input left : Input) (l : RunningItem C It N U) (reads : before.reads ≤ (i.failures input).reads) (resets : before.resets ≤ (i.failures input).resets) (r : Runs z old (i.view input) before (i.failures input) (kept_from first l.state) l) where
+  module _ (given : (it : It) (xs ys : List I) → at it xs → at it ys → xs ≡ ys) (z state : IterateState C It N U) (old : View P T) (before : Failures) (input left : Input) (l : RunningItem C It N U) (reads : before.reads ≤ (i.failures input).reads) (resets : before.resets ≤ (i.failures input).resets) (r : Runs z old (i.view input) before (i.failures input) l) where
     abbrev here : Reading P T C
     here = left_in l r.left
 
@@ -234,7 +230,7 @@ module _ {N Input It I B C H U Checkpoint T R P E : Type 0} (p : parser.Ghosts N
         record { is = subst (λ y. fails whole_world all (run_from z state old (i.view left) before (i.failures left)) y) (sym m.0) (λ f x. m.1 x.1, leaves) }
 
     -- its answer is that of the call
-    pub item_stops : (spared → lean) → (y : ParseResult C E) → CalledItem p i seen fresh held more lean first input left l state (items.Stops y) → Answers whole_world all (run_from z state old (i.view left) before (i.failures left)) y
+    pub item_stops : (spared → lean) → (y : ParseResult C E) → CalledItem p i seen fresh held more lean input left l state (items.Stops y) → Answers whole_world all (run_from z state old (i.view left) before (i.failures left)) y
     item_stops spares y g = by_answer g.answer g.answers g.did g.keeps
       where
         stores : (b : B) (k : Bool) → Accepts part_world (p.meaning l.parser) (run g.stopped) b k → begins_items state → (y : ParseResult C E) → unstored held more seen.kind lean l.before y → Answers whole_world all (run_from z state old (i.view left) before (i.failures left)) y
@@ -257,26 +253,26 @@ module _ {N Input It I B C H U Checkpoint T R P E : Type 0} (p : parser.Ghosts N
         by_answer (PeekErr t) a d (inr k) = subst (λ x. Answers whole_world all (run_from z state old (i.view left) before (i.failures left)) x) (stops_as d) (inside_refuses _ _ _ _ _ _ _ _ _ _ _ _ (inside g.stopped) (λ x. k.1) t a)
 
     -- and the error of a refusal is one that the call may have
-    pub item_reasons : (y : ParseResult C E) → CalledItem p i seen fresh held more lean first input left l state (items.Stops y) → Reasoned seen.kind (i.view left).is_open (refused_from z old) y
-    item_reasons y g = by_answer g.answer g.refuses g.did
+    pub item_reasons : (y : ParseResult C E) → CalledItem p i seen fresh held more lean input left l state (items.Stops y) → Reasoned seen.kind (i.view left).is_open (refused_from z old (i.view left)) y
+    item_reasons y g = by_answer g.answer (item_meant seen l.before.is_begun g.answers g.refuses) g.did
       where
         stops_as : {x : ParseResult C E} → ◌≡◌ {A = Item C It E} (items.Stops y) (items.Stops x) → x ≡ y
         stops_as e = cc
 
-        starves : (y : ParseResult C E) → unstored held more seen.kind lean l.before y → Reasoned seen.kind (i.view left).is_open (refused_from z old) y
-        starves (CommitErr e) m = reasons_fault seen.kind (i.view left).is_open (refused_from z old) e kinds.Memory m.0 tt
+        starves : (y : ParseResult C E) → unstored held more seen.kind lean l.before y → Reasoned seen.kind (i.view left).is_open (refused_from z old (i.view left)) y
+        starves (CommitErr e) m = reasons_fault seen.kind (i.view left).is_open (refused_from z old (i.view left)) e kinds.Memory m.0 tt
         starves (CommitOk v) m = absurd m
         starves (PeekOk v) m = absurd m
         starves (PeekErr t) m = absurd m
 
-        by_answer : (x : ParseResult B E) → Reasoned seen.kind (i.view left).is_open (item_refuses seen (p.meaning l.parser) (p.refuses l.parser (kept_from first l.state) (i.view input)) (i.view input) l.before.is_begun) x → item_did p i seen fresh held more lean l x (items.Stops y) → Reasoned seen.kind (i.view left).is_open (refused_from z old) y
+        by_answer : (x : ParseResult B E) → Reasoned seen.kind (i.view left).is_open (item_refuses seen (p.meaning l.parser) (refusals_from (p.meaning l.parser) l.state) (i.view input) (i.view left) l.before.is_begun) x → item_did p i seen fresh held more lean l x (items.Stops y) → Reasoned seen.kind (i.view left).is_open (refused_from z old (i.view left)) y
         by_answer (CommitOk b) x d = starves y d
         by_answer (PeekOk b) x d = starves y d
-        by_answer (CommitErr e) x d = subst (λ y. Reasoned seen.kind (i.view left).is_open (refused_from z old) y) (stops_as d) (reasons_committed seen.kind (i.view left).is_open (refused_from z old) e (λ n. r.refuses true e (inl (record { is = inl (refl, reason_committed seen.kind (i.view left).is_open _ e x n) }))))
-        by_answer (PeekErr t) x d = subst (λ y. Reasoned seen.kind (i.view left).is_open (refused_from z old) y) (stops_as d) (reasons_after seen.kind (i.view left).is_open (refused_from z old) l.before.committed t (r.refuses l.before.committed t.error (inl (record { is = inr (refl, reason_peeked seen.kind (i.view left).is_open _ t x) }))))
+        by_answer (CommitErr e) x d = subst (λ y. Reasoned seen.kind (i.view left).is_open (refused_from z old (i.view left)) y) (stops_as d) (reasons_committed seen.kind (i.view left).is_open (refused_from z old (i.view left)) e (λ n. r.refuses (i.view left) true e (inl (record { is = inl (refl, reason_committed seen.kind (i.view left).is_open _ e x n) }))))
+        by_answer (PeekErr t) x d = subst (λ y. Reasoned seen.kind (i.view left).is_open (refused_from z old (i.view left)) y) (stops_as d) (reasons_after seen.kind (i.view left).is_open (refused_from z old (i.view left)) l.before.committed t (r.refuses (i.view left) l.before.committed t.error (inl (record { is = inr (refl, reason_peeked seen.kind (i.view left).is_open _ t x) }))))
 
     -- it was accepted, and the next item's turn comes
-    pub item_goes : {valid : U → Type 0} → IsMeaning fresh valid (p.meaning l.parser) → valid l.state → (next : Collected C It) → CalledItem p i seen fresh held more lean first input left l state (items.Goes next) → begins_items state × Reaches z old (i.view left) before (i.failures left) next
+    pub item_goes : {valid : U → Type 0} → IsMeaning fresh valid (p.meaning l.parser) → valid l.state → (next : Collected C It) → CalledItem p i seen fresh held more lean input left l state (items.Goes next) → begins_items state × Reaches z old (i.view left) before (i.failures left) next
     item_goes {valid} laws v next g = by_answer g.answer g.answers g.did g.keeps
       where
         gone : (b : B) (k : Bool) → Accepts part_world (p.meaning l.parser) (run g.stopped) b k → Stores held more l.before b k next → Reaches z old (i.view left) before (i.failures left) next
@@ -294,14 +290,14 @@ module _ {N Input It I B C H U Checkpoint T R P E : Type 0} (p : parser.Ghosts N
               left = r.left;
               given = subst (λ t. at t r.left) (sym s.items) r.given;
               progress = progress_left part_world (all.rest z) (following c unchanged behind) (left_at next r.left) old (i.view left) before (i.failures left) to joined_on;
-              refuses = λ j e w. r.refuses j e (inr (record { value = b; count = a.count; before = k; accepted = a.meant; refuses = behind_refuses j e w }));
+              refuses = λ u j e w. r.refuses u j e (inr (record { value = b; count = a.count; before = k; accepted = a.meant; refuses = behind_refuses u j e w }));
             }
           where
-            behind_refuses : (j : Bool) (e : E) → refused_at next r.left (i.view left) j e → items_refuse i.step answers p.meaning seen p.refuses r.left true (l.before.committed || k) (advanced i.step a.count (i.view input)) j e
-            behind_refuses j e w =
-                let there = subst (λ v. refused_at next r.left v j e) a.taken.rest w in
-                let begun = subst (λ d. items_refuse i.step answers p.meaning seen p.refuses r.left d next.committed (advanced i.step a.count (i.view input)) j e) s.begun there in
-                subst (λ d. items_refuse i.step answers p.meaning seen p.refuses r.left true d (advanced i.step a.count (i.view input)) j e) s.committed begun
+            behind_refuses : (u : View P T) (j : Bool) (e : E) → refused_at next r.left (i.view left) u j e → items_refuse i.step answers p.meaning seen r.left true (l.before.committed || k) (advanced i.step a.count (i.view input)) u j e
+            behind_refuses u j e w =
+                let there = subst (λ v. refused_at next r.left v u j e) a.taken.rest w in
+                let begun = subst (λ d. items_refuse i.step answers p.meaning seen r.left d next.committed (advanced i.step a.count (i.view input)) u j e) s.begun there in
+                subst (λ d. items_refuse i.step answers p.meaning seen r.left true d (advanced i.step a.count (i.view input)) u j e) s.committed begun
 
             as_left : (u : View P T) (o : Outcome C) → following (l.before.committed || k) unchanged (these (held next.values) r.left) u o → following l.before.committed unchanged (following k (last_value b) (these (more (held l.before.values) b) r.left)) u o
             as_left u o w = (joined 0 k (last_value b) w.0, (w.0, subst (λ h. these h r.left u w.0) s.values w.1, refl), w.2 ∙ joined_twice l.before.committed k b w.0)
@@ -315,7 +311,7 @@ module _ {N Input It I B C H U Checkpoint T R P E : Type 0} (p : parser.Ghosts N
         by_answer (PeekErr t) a d k = absurd (let x : items.Goes next ≡ items.Stops (refused_as l.before.committed t) = d in cc)
 
 -- a parser that was just asked for may be kept
-pub asked_kept : {P T R B N U : Type 0} {lawful some : N → Type 0} (means : N → Meaning P T R B U) (n : N) → lawful n → some n → KeptOf lawful means some n
+pub asked_kept : {P T R E B N U : Type 0} {lawful some : N → Type 0} (means : N → Meaning P T R E B U) (n : N) → lawful n → some n → KeptOf lawful means some n
 asked_kept means n k s = record { is_lawful = k; parser = n; is_given = s; same = same_none (means n) }
 
 -- the state that is left is valid
@@ -323,8 +319,8 @@ module _ {N Input It I B C H U Checkpoint T R P E : Type 0} (p : parser.Ghosts N
   abbrev kept : N → Type 0
   kept = KeptOf p.lawful p.meaning some
 
-  pub item_leaves : {first : Bool} {input left : Input} {l : RunningItem C It N U} {state : IterateState C It N U} {y : Item C It E} → kept l.parser → ((xs : List I) × at l.before.items xs) → CalledItem p i seen fresh held more lean first input left l state y → valid_item kept p.valid at state
-  item_leaves {first} {input} {left} {l} {state} {y} given_parser given g = by_need g.keeps
+  pub item_leaves : {input left : Input} {l : RunningItem C It N U} {state : IterateState C It N U} {y : Item C It E} → kept l.parser → ((xs : List I) × at l.before.items xs) → CalledItem p i seen fresh held more lean input left l state y → valid_item kept p.valid at state
+  item_leaves {input} {left} {l} {state} {y} given_parser given g = by_need g.keeps
     where
       still : kept g.parser
       still = record { is_lawful = g.lawful; parser = given_parser.parser; is_given = given_parser.is_given; same = same_more _ _ _ given_parser.same g.same }
@@ -334,8 +330,8 @@ module _ {N Input It I B C H U Checkpoint T R P E : Type 0} (p : parser.Ghosts N
       by_need (inr k) = starts_valid kept p.valid at state k.1
 
   -- the items that are left are those that were left
-  pub item_passes : {first : Bool} {input left : Input} {l : RunningItem C It N U} {state : IterateState C It N U} {next : Collected C It} → CalledItem p i seen fresh held more lean first input left l state (items.Goes next) → next.items ≡ l.before.items
-  item_passes {first} {input} {left} {l} {state} {next} g = by_answer g.answer g.did
+  pub item_passes : {input left : Input} {l : RunningItem C It N U} {state : IterateState C It N U} {next : Collected C It} → CalledItem p i seen fresh held more lean input left l state (items.Goes next) → next.items ≡ l.before.items
+  item_passes {input} {left} {l} {state} {next} g = by_answer g.answer g.did
     where
       by_answer : (x : ParseResult B E) → item_did p i seen fresh held more lean l x (items.Goes next) → next.items ≡ l.before.items
       by_answer (CommitOk b) d = d.items

@@ -4,7 +4,7 @@ use Rattle.combine_base.specs.Error.Errors.{Errors}
 use Rattle.combine_base.specs.Parser.Answer.{Answers, world}
 use Rattle.combine_base.specs.Parser.Judged.{NeedsMore}
 use Rattle.combine_base.specs.Parser.Meaning.{MeansSame}
-use Rattle.combine_base.specs.Parser.Reasons.{Reasoned, kept_from}
+use Rattle.combine_base.specs.Parser.Reasons.{Reasoned}
 use Rattle.combine_base.specs.Sequence.Parts.{refused_as, run_from}
 use Rattle.combine_base.specs.Stream.Calls.{Passes}
 use Rattle.combine_base.specs.declared.stream.Kind.{Kind}
@@ -54,7 +54,7 @@ module _ {N Input It B C H U Checkpoint T R P E : Type 0} (p : parser.Ghosts N I
   item_did from (CommitErr e) result = result ≡ items.Stops (CommitErr e)
   item_did from (PeekErr t) result = result ≡ items.Stops (refused_as from.before.committed t)
 
-  pub record CalledItem (first : Bool) (input left : Input) (from : RunningItem C It N U) (state : IterateState C It N U) (result : Item C It E) : Type 0 where
+  pub record CalledItem (input left : Input) (from : RunningItem C It N U) (state : IterateState C It N U) (result : Item C It E) : Type 0 where
     pub parser : N
     pub lawful : p.lawful parser
     pub same : MeansSame (p.meaning from.parser) (p.meaning parser)
@@ -62,6 +62,6 @@ module _ {N Input It B C H U Checkpoint T R P E : Type 0} (p : parser.Ghosts N I
     pub stopped : U
     pub answer : ParseResult B E
     pub answers : Answers (world i.step seen i.steady fresh) (p.meaning from.parser) (run_from from.state stopped (i.view input) (i.view left) (i.failures input) (i.failures left)) answer
-    pub refuses : Reasoned seen.kind (i.view left).is_open (item_refuses seen (p.meaning from.parser) (p.refuses from.parser (kept_from first from.state) (i.view input)) (i.view input) from.before.is_begun) answer
+    pub refuses : Reasoned seen.kind (i.view left).is_open (item_refuses seen (p.meaning from.parser) ((p.meaning from.parser).refuses_from from.state) (i.view input) (i.view left) from.before.is_begun) answer
     pub did : item_did from answer result
     pub keeps : keeps_item (i.view left).is_open from parser stopped state answer

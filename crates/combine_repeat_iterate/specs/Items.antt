@@ -1,11 +1,13 @@
 -- a parser for each item of a list, one after another, and their values collected
 use Rattle.std.specs.Prelude.{◌≡◌, List, [], ◌∷◌, false}
 use Rattle.std.proofs.Common.{sym, subst, arith}
+use Rattle.combine_base.specs.Error.Errors.{Errors}
 use Rattle.combine_base.specs.Stream.View.{View}
 use Rattle.combine_base.specs.Parser.Outcome.{Outcome, Accepted, Refused, Undecided, shape}
 use Rattle.combine_base.specs.Parser.Kept.{KeptOf, means_one_as}
-use Rattle.combine_base.specs.Parser.Meaning.{Meaning, Reading, IsReading, IsSingle, IsMeaning, MeansOne}
+use Rattle.combine_base.specs.Parser.Meaning.{Meaning, Reading, IsReading, IsSingle, IsMeaning, MeansOne, SameReasons}
 use Rattle.combine_base.specs.Sequence.Readings.{following, sequel, continues, following_is_reading, following_is_single, sequel_is_reading, sequel_is_single, FollowsOne}
+use Rattle.combine_repeat_iterate.specs.ItemErrors.{RefusesIterated}
 use Rattle.combine_repeat_iterate.specs.declared.repeat.items.RunningItem.{RunningItem}
 use Rattle.combine_repeat_iterate.specs.declared.repeat.items.IterateState.{IterateState}
 use Rattle.combine_repeat_iterate.specs.declared.repeat.items.IterateState.TheVariants as states
@@ -40,7 +42,7 @@ module _ {C It I N U : Type 0} (kept : N → Type 0) (valid : U → Type 0) (at 
   starts_valid states.Start d = tt
   starts_valid (states.Running l) d = absurd d
 
-module _ {P T R I N It B C H U : Type 0} (step : P → T → P) (answers : I → N → Type 0) (some : N → Type 0) (means : N → Meaning P T R B U) (held : C → H) (none : H) (more : H → B → H) (at : It → List I → Type 0) (lists : List I → Type 0) (spared : Type 0) where
+module _ {P T R E I N It B C H U : Type 0} (step : P → T → P) (errors : Errors T R P E) (answers : I → N → Type 0) (some : N → Type 0) (means : N → Meaning P T R E B U) (held : C → H) (none : H) (more : H → B → H) (at : It → List I → Type 0) (lists : List I → Type 0) (spared : Type 0) where
   -- any parser that is answered for the item
   abbrev pub answered : I → Reading P T B
   answered x v o = (n : N) × answers x n × (means n).whole v o
@@ -67,7 +69,7 @@ module _ {P T R I N It B C H U : Type 0} (step : P → T → P) (answers : I →
   lost_of (states.Running l) v = (means l.parser).lost l.state v
 
   -- the parsers of the items of a list, one after another; some are those that may be answered by any function of the type
-  abbrev pub iterated : Meaning P T R C (IterateState C It N U)
+  abbrev pub iterated : Meaning P T R E C (IterateState C It N U)
   iterated = record {
     whole = λ v o. (xs : List I) × lists xs × each none xs v o;
     rest = rest_of;
@@ -76,6 +78,8 @@ module _ {P T R I N It B C H U : Type 0} (step : P → T → P) (answers : I →
     puts_back = ⊥;
     lean = ((n : N) → some n → (means n).lean) × spared;
     adds = λ is. is ≡ [];
+    refuses = RefusesIterated step answers means errors {C = C} at lists states.Start;
+    refuses_from = RefusesIterated step answers means errors at lists;
   }
 
   pub collected_is_reading : (h : H) → IsReading (collected h)
@@ -130,8 +134,12 @@ module _ {P T R I N It B C H U : Type 0} (step : P → T → P) (answers : I →
     finds states.Start v d w = w
     finds (states.Running l) v d w = d
 
+    reasoning : (z : IterateState C It N U) → begins_items z → SameReasons (iterated.refuses_from z) iterated.refuses
+    reasoning states.Start d v w k e = (λ x. x, λ x. x)
+    reasoning (states.Running l) d v w k e = absurd d
+
     pub iterated_is_meaning : IsMeaning begins_items (valid_item (KeptOf lawful means some) valid at) iterated
-    iterated_is_meaning = record { whole = whole_is_reading; rest = rest_is_reading; start = starts; found = finds }
+    iterated_is_meaning = record { whole = whole_is_reading; rest = rest_is_reading; start = starts; found = finds; reasons = reasoning }
 
   -- what comes of the items, whatever is collected
   abbrev any_each : List I → Reading P T C

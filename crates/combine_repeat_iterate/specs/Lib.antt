@@ -13,6 +13,6 @@ pub mod Turned
 pub mod Nexts
 pub use Rattle.combine_base.specs.Sequence.Readings
 pub mod Iterated
+pub mod ItemErrors
 pub mod Items
 pub mod ItemCalls
-pub mod ItemErrors

@@ -25,7 +25,7 @@ use Rattle.combine_repeat_iterate.specs.declared.repeat.Turn.{Turn}
 use Rattle.combine_repeat_iterate.specs.declared.repeat.Turn.TheVariants.{Gives, Over, Fails}
 
 -- The turns that are left, of which the first begins afresh or goes on from a state: these blocks, as `many` divides the list, and then a place where the turns stop so. A turn that goes on is a block also if it takes nothing more.
-abbrev pub remains : {P T R A S : Type 0} → (P → T → P) → Meaning P T R A S → Bool → S → View P T → List (Block A) → Outcome (Unit {0}) → Type 0
+abbrev pub remains : {P T R E A S : Type 0} → (P → T → P) → Meaning P T R E A S → Bool → S → View P T → List (Block A) → Outcome (Unit {0}) → Type 0
 remains step m first s v bs l = Divides step (bounded Any never) (λ _. m.whole) l (begun m first s) (place_of first) bs v
 
 -- these blocks, of which the first took n tokens more before
@@ -39,7 +39,7 @@ takes_any n [] = Unit {0}
 takes_any n (b ∷ bs) = 0 < n + b.count
 
 -- A cut inside a turn, which took some tokens before it: the turns that are left behind it, of which the first goes on from the state that was kept, are those that were left, the first with the tokens from before. If it began afresh, it has to take a token in all: behind the cut such a turn counts as one that took some.
-pub record Continues {P T R A S : Type 0} (step : P → T → P) (m : Meaning P T R A S) (first : Bool) (from kept : S) (old new : View P T) : Type 0 where
+pub record Continues {P T R E A S : Type 0} (step : P → T → P) (m : Meaning P T R E A S) (first : Bool) (from kept : S) (old new : View P T) : Type 0 where
   pub count : ℕ
   pub taken : Takes step count old new
   pub goes_on : (x : List T) (i : Bool) (bs : List (Block A)) (l : Outcome (Unit {0})) → (first ≡ true → takes_any count bs) → remains step m false kept (extended x i new) bs l → remains step m first from (extended x i old) (longer count bs) l

@@ -19,7 +19,7 @@ use Rattle.combine_repeat_iterate.specs.declared.repeat.Turn.TheVariants.{Gives,
 abbrev pub place_of : Bool → Place
 place_of first = record { number = 0; begun = not first }
 
-module _ {P T R A S E : Type 0} (w : World P T S E) (m : Meaning P T R A S) (r : Run P T S) where
+module _ {P T R A S E : Type 0} (w : World P T S E) (m : Meaning P T R E A S) (r : Run P T S) where
   -- the turn is accepted, committed or not, and is a block or takes nothing
   pub record Judged (a : A) (committed goes : Bool) : Type 0 where
     pub accepts : Accepts w m r a committed

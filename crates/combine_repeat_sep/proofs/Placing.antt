@@ -16,7 +16,7 @@ use Rattle.combine_base.specs.declared.error.ParseResult.{ParseResult}
 use Rattle.combine_base.specs.declared.error.ParseResult.TheVariants.{CommitOk, PeekOk, CommitErr, PeekErr}
 use Rattle.combine_repeat_sep.specs.Placed.{Ran}
 
-module _ {P T R A B S S' E : Type 0} (w : World P T S E) (fresh : S' → Type 0) (m : Meaning P T R A S) (m' : Meaning P T R B S') (f : A → B) (keep : S → S') where
+module _ {P T R A B S S' E : Type 0} (w : World P T S E) (fresh : S' → Type 0) (m : Meaning P T R E A S) (m' : Meaning P T R E B S') (f : A → B) (keep : S → S') where
   -- what is kept for the part goes on as the part does
   pub record Keeping : Type 0 where
     pub rest : (s : S) (v : View P T) (o : Outcome B) → m'.rest (keep s) v o → following false f (m.rest s) v o

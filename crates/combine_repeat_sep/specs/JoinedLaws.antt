@@ -1,4 +1,5 @@
 -- the laws of elements and separators
+use Rattle.combine_base.specs.Error.Errors.{Errors}
 use Rattle.combine_base.specs.Parser.Meaning.{Meaning, IsMeaning, MeansOne, MeansSame}
 use Rattle.combine_repeat_turns.specs.Turns.{Collecting}
 use Rattle.combine_repeat_turns.specs.Bounded.{fresh_turns, none_yet, running_turn}
@@ -12,12 +13,12 @@ use Rattle.combine_repeat_turns.specs.declared.turns.TurnsState.{TurnsState}
 use Rattle.combine_repeat_sep.specs.declared.separated.Element.{Element}
 use Rattle.combine_repeat_sep.specs.declared.separated.SeparatedState.{SeparatedState}
 
-module _ {P T R O A V U W : Type 0} (step : P → T → P) (b : Bounds) (c : Collecting (Element O A) V) where
-  pub joined_is_meaning : (good : O → Type 0) (fresh valid : U → Type 0) (fresh' valid' : W → Type 0) (m : Meaning P T R A U) (s : Meaning P T R O W) → IsMeaning fresh valid m → IsMeaning fresh' valid' s → IsMeaning (fresh_turns (separated_fresh fresh)) (λ z. separated_valid valid (led_valid good valid' valid) (running_turn z)) (joined step b c m s)
-  joined_is_meaning good fresh valid fresh' valid' m s h k = turns_is_meaning step b never c (none_yet c.none) (separated_fresh fresh) (separated_valid valid (led_valid good valid' valid)) (first_then first_element then_element m (pair step s m)) (later_turn then_element (pair step s m)) (then_is_turn first_element then_element h (led_is_meaning good valid' valid (pair_is_meaning step k h)))
+module _ {P T R E O A V U W : Type 0} (step : P → T → P) (errors : Errors T R P E) (b : Bounds) (c : Collecting (Element O A) V) where
+  pub joined_is_meaning : (good : O → Type 0) (fresh valid : U → Type 0) (fresh' valid' : W → Type 0) (m : Meaning P T R E A U) (s : Meaning P T R E O W) → IsMeaning fresh valid m → IsMeaning fresh' valid' s → IsMeaning (fresh_turns (separated_fresh fresh)) (λ z. separated_valid valid (led_valid good valid' valid) (running_turn z)) (joined step errors b c m s)
+  joined_is_meaning good fresh valid fresh' valid' m s h k = turns_is_meaning step errors b never c (none_yet c.none) (separated_fresh fresh) (separated_valid valid (led_valid good valid' valid)) (first_then first_element then_element m (pair step errors s m)) (later_turn then_element (pair step errors s m)) (then_is_turn first_element then_element h (led_is_meaning good valid' valid (pair_is_meaning step errors k h)))
 
-  pub joined_means_one : (good : O → Type 0) (valid : U → Type 0) (valid' : W → Type 0) (m : Meaning P T R A U) (s : Meaning P T R O W) → MeansOne valid m → MeansOne valid' s → MeansOne (λ (z : TurnsState V (SeparatedState O W U)). separated_valid valid (led_valid good valid' valid) (running_turn z)) (joined step b c m s)
-  joined_means_one good valid valid' m s h k = turns_means_one step b never c (none_yet c.none) (separated_valid valid (led_valid good valid' valid)) (first_then first_element then_element m (pair step s m)) (later_turn then_element (pair step s m)) (then_once first_element then_element h (led_means_one good valid' valid (pair_means_one step k h)))
+  pub joined_means_one : (good : O → Type 0) (valid : U → Type 0) (valid' : W → Type 0) (m : Meaning P T R E A U) (s : Meaning P T R E O W) → MeansOne valid m → MeansOne valid' s → MeansOne (λ (z : TurnsState V (SeparatedState O W U)). separated_valid valid (led_valid good valid' valid) (running_turn z)) (joined step errors b c m s)
+  joined_means_one good valid valid' m s h k = turns_means_one step errors b never c (none_yet c.none) (separated_valid valid (led_valid good valid' valid)) (first_then first_element then_element m (pair step errors s m)) (later_turn then_element (pair step errors s m)) (then_once first_element then_element h (led_means_one good valid' valid (pair_means_one step errors k h)))
 
-  pub joined_means_same : (m m' : Meaning P T R A U) (s s' : Meaning P T R O W) → MeansSame m m' → MeansSame s s' → MeansSame (joined step b c m s) (joined step b c m' s')
-  joined_means_same m m' s s' h k = turns_means_same step b never c (none_yet c.none) (first_then first_element then_element m (pair step s m)) (first_then first_element then_element m' (pair step s' m')) (later_turn then_element (pair step s m)) (later_turn then_element (pair step s' m')) (then_same first_element then_element m m' (pair step s m) (pair step s' m') h (pair_means_same step k h))
+  pub joined_means_same : (m m' : Meaning P T R E A U) (s s' : Meaning P T R E O W) → MeansSame m m' → MeansSame s s' → MeansSame (joined step errors b c m s) (joined step errors b c m' s')
+  joined_means_same m m' s s' h k = turns_means_same step errors b never c (none_yet c.none) (first_then first_element then_element m (pair step errors s m)) (first_then first_element then_element m' (pair step errors s' m')) (later_turn then_element (pair step errors s m)) (later_turn then_element (pair step errors s' m')) (then_same first_element then_element m m' (pair step errors s m) (pair step errors s' m') h (pair_means_same step errors k h))

@@ -1,6 +1,7 @@
 -- what separators give, and turns that begin with it
 use Rattle.std.specs.Prelude.{ℕ, Bool, false}
 use Rattle.std.proofs.Common.{sym, subst}
+use Rattle.combine_base.specs.Error.Errors.{Errors}
 use Rattle.combine_base.specs.Stream.View.{View}
 use Rattle.combine_base.specs.Parser.Given.{GivesOnly, ReadsOnly}
 use Rattle.combine_base.specs.Parser.Meaning.{Meaning, Reading}
@@ -52,17 +53,17 @@ module _ {P T : Type 0} where
     sequel_good : ReadsOnly (sequel step put_to r q) (λ t. good t.0)
     sequel_good = record { one = λ v t n k w. continues_good v w.0 w.1 t n k w.2 }
 
-module _ {P T R O V W U : Type 0} (step : P → T → P) {good : O → Type 0} {valid : W → Type 0} (part_valid : U → Type 0) {s : Meaning P T R O W} (m : Meaning P T R V U) (h : GivesOnly valid s good) where
-  pair_gives : GivesOnly (led_valid good valid part_valid) (pair step s m) (λ t. good t.0)
+module _ {P T R E O V W U : Type 0} (step : P → T → P) (errors : Errors T R P E) {good : O → Type 0} {valid : W → Type 0} (part_valid : U → Type 0) {s : Meaning P T R E O W} (m : Meaning P T R E V U) (h : GivesOnly valid s good) where
+  pair_gives : GivesOnly (led_valid good valid part_valid) (pair step errors s m) (λ t. good t.0)
   pair_gives = record { whole = sequel_good step good s.whole (λ _. m.whole) h.whole; rest = resting }
     where
-      resting : (z : PairState O W U) → led_valid good valid part_valid z → ReadsOnly ((pair step s m).rest z) (λ t. good t.0)
+      resting : (z : PairState O W U) → led_valid good valid part_valid z → ReadsOnly ((pair step errors s m).rest z) (λ t. good t.0)
       resting (Separator w) d = sequel_good step good (s.rest w) (λ _. m.whole) (h.rest w d.1)
       resting (Part o c u) d = following_any (λ t. good t.0) c (put_to o) (m.rest u) (λ b. d.0)
 
   -- the separator of each element that a turn gives is good
-  pub separated_gives : TurnsGive (separated_valid part_valid (led_valid good valid part_valid)) (first_then first_element then_element m (pair step s m)) (later_turn then_element (pair step s m)) (lead_good good)
-  separated_gives = record { first = record { whole = first m.whole; rest = λ z. resting (turn_place z) }; later = later (pair step s m).whole pair_gives.whole }
+  pub separated_gives : TurnsGive (separated_valid part_valid (led_valid good valid part_valid)) (first_then first_element then_element m (pair step errors s m)) (later_turn then_element (pair step errors s m)) (lead_good good)
+  separated_gives = record { first = record { whole = first m.whole; rest = λ z. resting (turn_place z) }; later = later (pair step errors s m).whole pair_gives.whole }
     where
       first : (r : Reading P T V) → ReadsOnly (following false first_element r) (lead_good good)
       first r = following_any (lead_good good) false first_element r (λ a. tt)
@@ -70,10 +71,10 @@ module _ {P T R O V W U : Type 0} (step : P → T → P) {good : O → Type 0} {
       later : (r : Reading P T (O × V)) → ReadsOnly r (λ t. good t.0) → ReadsOnly (following false then_element r) (lead_good good)
       later r g = following_good (λ t. good t.0) (lead_good good) false then_element r (λ t x. x) g
 
-      resting : (z : TurnPlace U (PairState O W U)) → valid_at part_valid (led_valid good valid part_valid) z → ReadsOnly (kept_reading first_element then_element m (pair step s m) z) (lead_good good)
+      resting : (z : TurnPlace U (PairState O W U)) → valid_at part_valid (led_valid good valid part_valid) z → ReadsOnly (kept_reading first_element then_element m (pair step errors s m) z) (lead_good good)
       resting (First u) d = first (m.rest u)
-      resting (Later z) d = later ((pair step s m).rest z) (pair_gives.rest z d)
+      resting (Later z) d = later ((pair step errors s m).rest z) (pair_gives.rest z d)
 
 -- where nothing is asked of what a separator gives
-pub any_given : {P T R O W : Type 0} {valid : W → Type 0} {s : Meaning P T R O W} → GivesOnly valid s (λ _. Unit {0})
+pub any_given : {P T R E O W : Type 0} {valid : W → Type 0} {s : Meaning P T R E O W} → GivesOnly valid s (λ _. Unit {0})
 any_given = record { whole = record { one = λ v a n c w. tt }; rest = λ s k. record { one = λ v a n c w. tt } }

@@ -1,8 +1,11 @@
+pub use Rattle.combine_base.specs.Error.Errors
 pub use Rattle.combine_base.specs.Parser.Answer
 pub use Rattle.combine_base.specs.Parser.Given
 pub use Rattle.combine_base.specs.Parser.Meaning
 pub use Rattle.combine_base.specs.Parser.Outcome
 pub use Rattle.combine_base.specs.Refusals
+pub use Rattle.combine_base.specs.Parser.Reasons
+pub use Rattle.combine_base.specs.Sequence.Behind
 pub use Rattle.combine_base.specs.Sequence.Joined
 pub use Rattle.combine_base.specs.Sequence.Parts
 pub use Rattle.combine_base.specs.Sequence.Followed
@@ -16,6 +19,8 @@ pub use Rattle.combine_repeat_turns.specs.Counts
 pub use Rattle.combine_repeat_turns.specs.OneThenTurns
 pub use Rattle.combine_repeat_turns.specs.Sound
 pub use Rattle.combine_repeat_turns.specs.Turn
+pub use Rattle.combine_repeat_turns.specs.TurnRefusals
+pub use Rattle.combine_repeat_turns.specs.TurnsMeaning
 pub use Rattle.combine_repeat_turns.specs.Turns
 pub mod Placed
 pub mod Pair

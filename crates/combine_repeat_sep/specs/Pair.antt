@@ -1,5 +1,6 @@
 -- a separator and the part behind it, as a tuple of two
 use Rattle.std.specs.Prelude.{ℕ, ◌≡◌, Bool}
+use Rattle.combine_base.specs.Error.Errors.{Errors}
 use Rattle.combine_base.specs.Stream.View.{View}
 use Rattle.combine_base.specs.Parser.Outcome.{Accepted}
 use Rattle.combine_base.specs.Parser.Meaning.{Meaning, IsMeaning, MeansOne, MeansSame}
@@ -40,7 +41,7 @@ abbrev pub still : {O W U : Type 0} → O → PairState O W U → Type 0
 still o (Separator x) = Unit {0}
 still o (Part a c u) = a ≡ o
 
-module _ {P T R O W U : Type 0} (s : Meaning P T R O W) where
+module _ {P T R E O W U : Type 0} (s : Meaning P T R E O W) where
   -- what is kept of the separator was given from that state
   abbrev pub given_from : W → PairState O W U → Type 0
   given_from w (Separator x) = Unit {0}
@@ -54,30 +55,30 @@ module _ {P T R O W U : Type 0} (s : Meaning P T R O W) where
   pub record LedBy (from left : PairState O W U) : Type 0 where
     pub is : led_by from left
 
-module _ {P T R O V W U : Type 0} (step : P → T → P) where
+module _ {P T R E O V W U : Type 0} (step : P → T → P) (errors : Errors T R P E) where
   -- a separator, and then a part
-  abbrev pub pair : Meaning P T R O W → Meaning P T R V U → Meaning P T R (O × V) (PairState O W U)
-  pair s m = followed step pair_place put_to s m
+  abbrev pub pair : Meaning P T R E O W → Meaning P T R E V U → Meaning P T R E (O × V) (PairState O W U)
+  pair s m = followed step errors pair_place put_to s m
 
-  pub pair_is_meaning : {fresh valid : W → Type 0} {s : Meaning P T R O W} {part_fresh part_valid : U → Type 0} {m : Meaning P T R V U} → IsMeaning fresh valid s → IsMeaning part_fresh part_valid m → IsMeaning (pair_begins fresh) (pair_valid valid part_valid) (pair s m)
-  pair_is_meaning h k = followed_is_meaning step pair_place put_to h k
+  pub pair_is_meaning : {fresh valid : W → Type 0} {s : Meaning P T R E O W} {part_fresh part_valid : U → Type 0} {m : Meaning P T R E V U} → IsMeaning fresh valid s → IsMeaning part_fresh part_valid m → IsMeaning (pair_begins fresh) (pair_valid valid part_valid) (pair s m)
+  pair_is_meaning h k = followed_is_meaning step errors pair_place put_to h k
 
-  pub pair_means_one : {valid : W → Type 0} {s : Meaning P T R O W} {part_valid : U → Type 0} {m : Meaning P T R V U} → MeansOne valid s → MeansOne part_valid m → MeansOne (pair_valid valid part_valid) (pair s m)
-  pair_means_one h k = followed_means_one step pair_place put_to h k
+  pub pair_means_one : {valid : W → Type 0} {s : Meaning P T R E O W} {part_valid : U → Type 0} {m : Meaning P T R E V U} → MeansOne valid s → MeansOne part_valid m → MeansOne (pair_valid valid part_valid) (pair s m)
+  pair_means_one h k = followed_means_one step errors pair_place put_to h k
 
-  pub pair_means_same : {s s' : Meaning P T R O W} {m m' : Meaning P T R V U} → MeansSame s s' → MeansSame m m' → MeansSame (pair s m) (pair s' m')
-  pair_means_same h k = followed_means_same step pair_place put_to h k
+  pub pair_means_same : {s s' : Meaning P T R E O W} {m m' : Meaning P T R E V U} → MeansSame s s' → MeansSame m m' → MeansSame (pair s m) (pair s' m')
+  pair_means_same h k = followed_means_same step errors pair_place put_to h k
 
 -- the same, from fewer states
-module _ {P T R A S : Type 0} {valid fewer : S → Type 0} {m : Meaning P T R A S} (f : (s : S) → fewer s → valid s) where
+module _ {P T R E A S : Type 0} {valid fewer : S → Type 0} {m : Meaning P T R E A S} (f : (s : S) → fewer s → valid s) where
   pub fewer_is_meaning : {fresh : S → Type 0} → IsMeaning fresh valid m → IsMeaning fresh fewer m
-  fewer_is_meaning h = record { whole = h.whole; rest = λ s d. h.rest s (f s d); start = h.start; found = h.found }
+  fewer_is_meaning h = record { whole = h.whole; rest = λ s d. h.rest s (f s d); start = h.start; found = h.found; reasons = h.reasons }
 
   pub fewer_means_one : MeansOne valid m → MeansOne fewer m
   fewer_means_one h = record { whole = h.whole; rest = λ s d. h.rest s (f s d) }
 
 -- from the states that keep only what is good
-module _ {P T R A O W U : Type 0} (good : O → Type 0) (valid : W → Type 0) (part_valid : U → Type 0) {n : Meaning P T R A (PairState O W U)} where
+module _ {P T R E A O W U : Type 0} (good : O → Type 0) (valid : W → Type 0) (part_valid : U → Type 0) {n : Meaning P T R E A (PairState O W U)} where
   pub led_is_meaning : {fresh : PairState O W U → Type 0} → IsMeaning fresh (pair_valid valid part_valid) n → IsMeaning fresh (led_valid good valid part_valid) n
   led_is_meaning h = fewer_is_meaning (λ z d. d.1) h
 

@@ -2,9 +2,9 @@
 use Rattle.std.specs.Prelude.{false, ◌↔◌}
 use Rattle.combine_base.specs.Stream.View.{View}
 use Rattle.combine_base.specs.Parser.Outcome.{Outcome}
-use Rattle.combine_base.specs.Parser.Meaning.{Meaning, Reading, IsReading, IsMeaning, MeansOne, MeansSame}
+use Rattle.combine_base.specs.Parser.Meaning.{Meaning, Reading, Refusing, SameReasons, IsReading, IsMeaning, MeansOne, MeansSame}
 use Rattle.combine_base.specs.Sequence.Readings.{following, following_is_reading, following_is_single, following_same}
-use Rattle.combine_repeat_turns.specs.Turn.{IsTurn, TurnsSame, EndsOnce, TurnsOnce, never_ends}
+use Rattle.combine_repeat_turns.specs.Turn.{Start, IsTurn, TurnsSame, EndsOnce, TurnsOnce, never_ends}
 use Rattle.combine_repeat_sep.specs.declared.pair.PairState.{PairState}
 use Rattle.combine_repeat_sep.specs.declared.pair.PairState.TheVariants as pairs
 use Rattle.combine_repeat_sep.specs.declared.separated.Lead.TheVariants as leads
@@ -71,21 +71,26 @@ default_at fresh valid valid' h (at.Later s) d = absurd d
 pub separated_default : {O W U : Type 0} (fresh valid : U → Type 0) (valid' : PairState O W U → Type 0) → ((s : U) → fresh s → valid s) → (s : SeparatedState O W U) → separated_fresh fresh s → separated_valid valid valid' s
 separated_default fresh valid valid' h s d = default_at fresh valid valid' h (turn_place s) d
 
--- a later turn, whose value is changed by f
-abbrev pub later_turn : {P T R A C W : Type 0} → (C → A) → Meaning P T R C W → Reading P T A
-later_turn f n = following false f n.whole
+-- the errors of the turn that runs
+abbrev pub kept_refuses : {P T R E C D O W U : Type 0} → Meaning P T R E D U → Meaning P T R E C (PairState O W U) → TurnPlace U (PairState O W U) → Refusing P T E
+kept_refuses m n (at.First s) = m.refuses_from s
+kept_refuses m n (at.Later s) = n.refuses_from s
 
-module _ {P T R A C D O W U : Type 0} (e : D → A) (f : C → A) where
-  abbrev pub kept_reading : Meaning P T R D U → Meaning P T R C (PairState O W U) → TurnPlace U (PairState O W U) → Reading P T A
+-- a later turn, whose value is changed by f
+abbrev pub later_turn : {P T R E A C W : Type 0} → (C → A) → Meaning P T R E C W → Start P T E A
+later_turn f n = record { reads = following false f n.whole; refuses = n.refuses }
+
+module _ {P T R E A C D O W U : Type 0} (e : D → A) (f : C → A) where
+  abbrev pub kept_reading : Meaning P T R E D U → Meaning P T R E C (PairState O W U) → TurnPlace U (PairState O W U) → Reading P T A
   kept_reading m n (at.First s) = following false e (m.rest s)
   kept_reading m n (at.Later s) = following false f (n.rest s)
 
-  abbrev pub kept_lost : Meaning P T R D U → Meaning P T R C (PairState O W U) → TurnPlace U (PairState O W U) → View P T → Type 0
+  abbrev pub kept_lost : Meaning P T R E D U → Meaning P T R E C (PairState O W U) → TurnPlace U (PairState O W U) → View P T → Type 0
   kept_lost m n (at.First s) = m.lost s
   kept_lost m n (at.Later s) = n.lost s
 
   -- the first turn is m, and later ones are n, whose value is changed by f
-  abbrev pub first_then : Meaning P T R D U → Meaning P T R C (PairState O W U) → Meaning P T R A (SeparatedState O W U)
+  abbrev pub first_then : Meaning P T R E D U → Meaning P T R E C (PairState O W U) → Meaning P T R E A (SeparatedState O W U)
   first_then m n = record {
     whole = following false e m.whole;
     rest = λ z. kept_reading m n (turn_place z);
@@ -94,9 +99,11 @@ module _ {P T R A C D O W U : Type 0} (e : D → A) (f : C → A) where
     puts_back = ⊥;
     lean = m.lean × n.lean;
     adds = m.adds;
+    refuses = m.refuses;
+    refuses_from = λ z. kept_refuses m n (turn_place z);
   }
 
-  module _ {fresh valid : U → Type 0} {fresh' valid' : PairState O W U → Type 0} {m : Meaning P T R D U} {n : Meaning P T R C (PairState O W U)} where
+  module _ {fresh valid : U → Type 0} {fresh' valid' : PairState O W U → Type 0} {m : Meaning P T R E D U} {n : Meaning P T R E C (PairState O W U)} where
     pub then_is_turn : IsMeaning fresh valid m → IsMeaning fresh' valid' n → IsTurn (separated_fresh fresh) (separated_valid valid valid') (first_then m n) (later_turn f n)
     then_is_turn h k = record {
       meaning = record {
@@ -104,6 +111,7 @@ module _ {P T R A C D O W U : Type 0} (e : D → A) (f : C → A) where
         rest = λ z. resting (turn_place z);
         start = λ z. starting (turn_place z);
         found = λ z. finding (turn_place z);
+        reasons = λ z. reasoning (turn_place z);
       };
       later = following_is_reading false f n.whole k.whole;
     }
@@ -120,7 +128,11 @@ module _ {P T R A C D O W U : Type 0} (e : D → A) (f : C → A) where
         finding (at.First s) v d = h.found s v d
         finding (at.Later s) v d = absurd d
 
-  module _ {valid : U → Type 0} {valid' : PairState O W U → Type 0} {m : Meaning P T R D U} {n : Meaning P T R C (PairState O W U)} where
+        reasoning : (s : TurnPlace U (PairState O W U)) → begins_at fresh s → SameReasons (kept_refuses m n s) m.refuses
+        reasoning (at.First s) d = h.reasons s d
+        reasoning (at.Later s) d = absurd d
+
+  module _ {valid : U → Type 0} {valid' : PairState O W U → Type 0} {m : Meaning P T R E D U} {n : Meaning P T R E C (PairState O W U)} where
     pub then_once : MeansOne valid m → MeansOne valid' n → TurnsOnce (separated_valid valid valid') (λ _. false) (first_then m n) (later_turn f n)
     then_once h k = record {
       whole = never_ends (following_is_single false e m.whole h.whole);
@@ -132,7 +144,7 @@ module _ {P T R A C D O W U : Type 0} (e : D → A) (f : C → A) where
         resting (at.First s) d = never_ends (following_is_single false e (m.rest s) (h.rest s d))
         resting (at.Later s) d = never_ends (following_is_single false f (n.rest s) (k.rest s d))
 
-  pub then_same : (m m' : Meaning P T R D U) (n n' : Meaning P T R C (PairState O W U)) → MeansSame m m' → MeansSame n n' → TurnsSame (first_then m n) (later_turn f n) (first_then m' n') (later_turn f n')
+  pub then_same : (m m' : Meaning P T R E D U) (n n' : Meaning P T R E C (PairState O W U)) → MeansSame m m' → MeansSame n n' → TurnsSame (first_then m n) (later_turn f n) (first_then m' n') (later_turn f n')
   then_same m m' n n' h k = record {
     meaning = record {
       whole = following_same false e m.whole m'.whole h.whole;
@@ -142,8 +154,10 @@ module _ {P T R A C D O W U : Type 0} (e : D → A) (f : C → A) where
       puts_back = (λ x. x, λ x. x);
       lean = (λ x. (h.lean.0 x.0, k.lean.0 x.1), λ x. (h.lean.1 x.0, k.lean.1 x.1));
       adds = h.adds;
+      refuses = h.refuses;
+      refuses_from = λ z. same_reasons (turn_place z);
     };
-    later = following_same false f n.whole n'.whole k.whole;
+    later = record { reads = following_same false f n.whole n'.whole k.whole; refuses = k.refuses };
   }
     where
       resting : (s : TurnPlace U (PairState O W U)) (v : View P T) (o : Outcome A) → kept_reading m n s v o ↔ kept_reading m' n' s v o
@@ -153,3 +167,7 @@ module _ {P T R A C D O W U : Type 0} (e : D → A) (f : C → A) where
       losing : (s : TurnPlace U (PairState O W U)) (v : View P T) → kept_lost m n s v ↔ kept_lost m' n' s v
       losing (at.First s) = h.lost s
       losing (at.Later s) = k.lost s
+
+      same_reasons : (s : TurnPlace U (PairState O W U)) → SameReasons (kept_refuses m n s) (kept_refuses m' n' s)
+      same_reasons (at.First s) = h.refuses_from s
+      same_reasons (at.Later s) = k.refuses_from s

@@ -109,7 +109,7 @@ fn parse_part<Input: Stream, O: Drop, W: Drop, P: Parser<Input>, M: ParseMode>(
 ) -> ParseResult<(O, P::Output), Input::Error>
     requires ready { ⟦<P as Calls<Input>>⟧.ready part.old kept }
     requires starts { M.first mode ≡ true → P.PartialState.is_default kept }
-    ensures { CalledLast P.Parser Input.StreamOnce Input.Error.seen P.PartialState.is_default (λ z. z ≡ state.old) pair_place put_to part.old part.new input.old input.new (M.first mode) (record { value = value; committed = committed; state = kept }) state.new result }
+    ensures { CalledLast P.Parser Input.StreamOnce Input.Error.seen P.PartialState.is_default (λ z. z ≡ state.old) pair_place put_to part.old part.new input.old input.new (record { value = value; committed = committed; state = kept }) state.new result }
 {
     let mut kept = kept;
     match part.parse_explained(mode, input, &mut kept) {
@@ -138,7 +138,7 @@ fn resume_part<Input: Stream, O: Drop, W: Drop, P: Parser<Input>, M: ParseMode>(
 ) -> ParseResult<(O, P::Output), Input::Error>
     requires ready { ⟦<P as Calls<Input>>⟧.ready part.old kept }
     requires starts { M.first mode ≡ true → P.PartialState.is_default kept }
-    ensures { CalledLast P.Parser Input.StreamOnce Input.Error.seen P.PartialState.is_default (λ z. z ≡ state.old) pair_place put_to part.old part.new input.old input.new (M.first mode) (record { value = value; committed = committed; state = kept }) state.new result }
+    ensures { CalledLast P.Parser Input.StreamOnce Input.Error.seen P.PartialState.is_default (λ z. z ≡ state.old) pair_place put_to part.old part.new input.old input.new (record { value = value; committed = committed; state = kept }) state.new result }
 {
     parse_part(value, committed, kept, part, mode, input, state)
 }

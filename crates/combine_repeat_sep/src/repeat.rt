@@ -4,7 +4,7 @@
 //!
 //! The first element may take nothing. A later turn that takes nothing is refused, committed, with the message `repetition takes nothing`, at the position where it began; in the crate such a parser may hang. A turn that took its tokens in an earlier piece counts as one that takes them. Where a separator is accepted committed and the element behind it is refused, the turn is refused committed, and so is the whole; where the separator took nothing, committed to nothing, and the element is refused peeked, the turn is refused peeked and ends the turns.
 //!
-//! Faults are as for `many`. On need of more the state keeps what is collected, how many elements there were, whether one committed, and the turn that runs. What is added to an error is as for the parser of the elements. Of the error that a refusal has nothing is said beyond its kind.
+//! Faults are as for `many`. On need of more the state keeps what is collected, how many elements there were, whether one committed, and the turn that runs. What is added to an error is as for the parser of the elements. Which error a refusal has is exact, as for `many`: a separator and the element behind it refuse as a tuple of two does, and `sep_count_min_max` says how many elements are missing.
 ghost use Rattle.std.specs.Prelude.{◌≡◌, ◌≤◌};
 ghost use Rattle.combine_repeat_sep.specs.SeparatedParsers.{chainl1_of, sep_by_of, sep_by1_of, sep_count_min_max_of};
 

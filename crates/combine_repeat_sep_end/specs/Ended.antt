@@ -1,6 +1,7 @@
 -- a part, and then turns of a separator and perhaps the part, which end where it is missing
 use Rattle.std.specs.Prelude.{ℕ, ◌≡◌, Bool, true, false, Option, Some, None, refl}
 use Rattle.std.proofs.Common.{sym, subst, ◌∙◌}
+use Rattle.combine_base.specs.Error.Errors.{Errors}
 use Rattle.combine_base.specs.Stream.View.{View, advanced}
 use Rattle.combine_base.specs.Parser.Outcome.{Outcome, Accepted, Refused, Undecided, shape}
 use Rattle.combine_base.specs.Parser.Meaning.{Meaning, Reading, IsSingle, MeansOne, MeansSame}
@@ -135,8 +136,8 @@ module _ {P T A : Type 0} where
       by_value (Here q f) = q
       by_value (Passed d q) = absurd (cc)
 
-  module _ {R S : Type 0} where
-    pub within_same : (m m' : Meaning P T R A S) → MeansSame (optional m) (optional m') → MeansSame m m'
+  module _ {R E S : Type 0} where
+    pub within_same : (m m' : Meaning P T R E A S) → MeansSame (optional m) (optional m') → MeansSame m m'
     within_same m m' h = record {
       whole = λ v o. (into m.whole m'.whole (λ v o. (h.whole v o).0) v o, into m'.whole m.whole (λ v o. (h.whole v o).1) v o);
       rest = λ s v o. (into (m.rest s) (m'.rest s) (λ v o. (h.rest s v o).0) v o, into (m'.rest s) (m.rest s) (λ v o. (h.rest s v o).1) v o);
@@ -145,16 +146,18 @@ module _ {P T A : Type 0} where
       puts_back = h.puts_back;
       lean = h.lean;
       adds = h.adds;
+      refuses = h.refuses;
+      refuses_from = h.refuses_from;
     }
 
-module _ {P T R A B U W : Type 0} (step : P → T → P) (valid : U → Type 0) (valid' : W → Type 0) (m : Meaning P T R A U) (s : Meaning P T R B W) (h : MeansOne valid m) (k : MeansOne valid' s) where
-  abbrev last_pair : Meaning P T R (B × Option A) (PairState B W U)
-  last_pair = pair step s (optional m)
+module _ {P T R E A B U W : Type 0} (step : P → T → P) (errors : Errors T R P E) (valid : U → Type 0) (valid' : W → Type 0) (m : Meaning P T R E A U) (s : Meaning P T R E B W) (h : MeansOne valid m) (k : MeansOne valid' s) where
+  abbrev last_pair : Meaning P T R E (B × Option A) (PairState B W U)
+  last_pair = pair step errors s (optional m)
 
   pair_one : MeansOne (pair_valid valid' valid) last_pair
-  pair_one = pair_means_one step k (optional_means_one valid m h)
+  pair_one = pair_means_one step errors k (optional_means_one valid m h)
 
-  ends_at : (p : SequencePlace W (SequenceState B U)) → in_place valid' (λ l. valid l.state) p → EndsAlike (λ x. is_none (last x)) (rest_at step pair_place s (independent put_to (optional m)) p)
+  ends_at : (p : SequencePlace W (SequenceState B U)) → in_place valid' (λ l. valid l.state) p → EndsAlike (λ x. is_none (last x)) (rest_at step pair_place s (independent errors put_to (optional m)) p)
   ends_at (Before z) d = sequel_alike step put_to (λ x. is_none (last x)) is_none (λ a b. refl) (s.rest z) (optional m).whole (k.rest z d) (optional_alike m.whole h.whole)
   ends_at (Last l) d = following_alike l.committed (put_to l.value) (λ x. is_none (last x)) ((optional m).rest l.state) (optional_alike (m.rest l.state) (h.rest l.state d))
 

@@ -1,7 +1,9 @@
+pub use Rattle.combine_base.specs.Error.Errors
 pub use Rattle.combine_base.specs.Parser.Answer
 pub use Rattle.combine_base.specs.Parser.Meaning
 pub use Rattle.combine_base.specs.Parser.Outcome
 pub use Rattle.combine_base.specs.Refusals
+pub use Rattle.combine_base.specs.Parser.Reasons
 pub use Rattle.combine_base.specs.Sequence.Parts
 pub use Rattle.combine_base.specs.Sequence.Places
 pub use Rattle.combine_base.specs.Sequence.Readings
@@ -12,12 +14,16 @@ pub use Rattle.combine_repeat_turns.specs.Bounded
 pub use Rattle.combine_repeat_turns.specs.Counts
 pub use Rattle.combine_repeat_turns.specs.Sound
 pub use Rattle.combine_repeat_turns.specs.Turn
+pub use Rattle.combine_repeat_turns.specs.TurnRefusals
+pub use Rattle.combine_repeat_turns.specs.TurnsMeaning
 pub use Rattle.combine_repeat_turns.specs.Turns
 pub use Rattle.combine_repeat_sep.specs.Elements
 pub use Rattle.combine_repeat_sep.specs.Placed
 pub use Rattle.combine_repeat_sep.specs.Separated
+pub use Rattle.combine_repeat_sep.specs.Pair
 pub use Rattle.combine_token.specs.Choice
 pub use Rattle.combine_token.specs.Optional
+pub use Rattle.combine_token.specs.Reasons as TokenReasons
 pub mod Ended
 pub mod SepEnd
 pub mod SepEndParsers

@@ -127,9 +127,9 @@ fn run_later<Input: Stream, P: Parser<Input>, S: Parser<Input>, M: ParseMode>(
     requires starts { M.first mode ≡ true → pair_begins S.PartialState.is_default kept }
     ensures lawful { S.lawful separator.new × P.lawful (within part.new) }
     ensures parts { MeansSame (S.meaning separator.old) (S.meaning separator.new) × MeansSame (P.meaning (within part.old)) (P.meaning (within part.new)) }
-    ensures same { MeansSame (pair Input.step (S.meaning separator.old) (optional (P.meaning (within part.old)))) (pair Input.step (S.meaning separator.new) (optional (P.meaning (within part.new)))) }
+    ensures same { MeansSame (pair Input.step Input.Error.seen (S.meaning separator.old) (optional (P.meaning (within part.old)))) (pair Input.step Input.Error.seen (S.meaning separator.new) (optional (P.meaning (within part.new)))) }
     ensures passes { Passes (Input.marks input.old) (Input.marks input.new) (Input.failures input.old) (Input.failures input.new) }
-    ensures ran { Ran (world Input.step Input.Error.seen Input.steady (pair_begins S.PartialState.is_default)) (pair Input.step (S.meaning separator.old) (optional (P.meaning (within part.old)))) (pair_valid S.valid P.valid) last later_kept
+    ensures ran { Ran (world Input.step Input.Error.seen Input.steady (pair_begins S.PartialState.is_default)) (pair Input.step Input.Error.seen (S.meaning separator.old) (optional (P.meaning (within part.old)))) (pair_valid S.valid P.valid) last later_kept
         false kept state.old state.new (Input.view input.old) (Input.view input.new) (Input.failures input.old) (Input.failures input.new) result }
 {
     let mut left = PairState::default();
@@ -164,9 +164,9 @@ impl<Input: Stream, P: Parser<Input>, S: Parser<Input>> Turn<Input> for Ended<P,
 
     ghost valid = { separated_valid P.valid (pair_valid S.valid P.valid) };
 
-    ghost meaning = { λ p. first_then some_of last (P.meaning (ended_part p)) (pair Input.step (S.meaning (closer_of p)) (optional (P.meaning (ended_part p)))) };
+    ghost meaning = { λ p. first_then some_of last (P.meaning (ended_part p)) (pair Input.step Input.Error.seen (S.meaning (closer_of p)) (optional (P.meaning (ended_part p)))) };
 
-    ghost again = { λ p. later_turn last (pair Input.step (S.meaning (closer_of p)) (optional (P.meaning (ended_part p)))) };
+    ghost again = { λ p. later_turn last (pair Input.step Input.Error.seen (S.meaning (closer_of p)) (optional (P.meaning (ended_part p)))) };
 
     ghost ending = { is_none };
 
@@ -223,9 +223,9 @@ impl<Input: Stream, P: Parser<Input>, S: Parser<Input>> Turn<Input> for Ended<P,
 
     ghost default_valid = { λ s d. separated_default P.PartialState.is_default P.valid (pair_valid S.valid P.valid) P.default_valid s d };
 
-    ghost laws = { λ p l. then_is_turn some_of last (P.laws (ended_part p) l.1) (pair_is_meaning Input.step (S.laws (closer_of p) l.0) (optional_is_meaning _ P.valid (P.meaning (ended_part p)) (P.laws (ended_part p) l.1))) };
+    ghost laws = { λ p l. then_is_turn some_of last (P.laws (ended_part p) l.1) (pair_is_meaning Input.step Input.Error.seen (S.laws (closer_of p) l.0) (optional_is_meaning _ P.valid (P.meaning (ended_part p)) (P.laws (ended_part p) l.1))) };
 
-    ghost once = { λ p l d. ended_once Input.step P.valid S.valid (P.meaning (ended_part p)) (S.meaning (closer_of p)) (P.single (ended_part p) l.1 d.1) (S.single (closer_of p) l.0 d.0) };
+    ghost once = { λ p l d. ended_once Input.step Input.Error.seen P.valid S.valid (P.meaning (ended_part p)) (S.meaning (closer_of p)) (P.single (ended_part p) l.1 d.1) (S.single (closer_of p) l.0 d.0) };
 
     ghost gives_only = { λ p l. gives_any };
 }

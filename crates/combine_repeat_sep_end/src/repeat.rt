@@ -4,7 +4,7 @@
 //!
 //! The first element may take nothing. A later turn that takes nothing is refused, committed, with the message `repetition takes nothing`, at the position where it began, unless it ends the turns; in the crate such a parser may hang. A turn that took its tokens in an earlier piece counts as one that takes them.
 //!
-//! Faults are as for `many`. On need of more the state keeps what is collected, whether an element was parsed, whether one committed, and the turn that runs. What is added to an error is as for the parser of the elements. Of the error that a refusal has nothing is said beyond its kind.
+//! Faults are as for `many`. On need of more the state keeps what is collected, whether an element was parsed, whether one committed, and the turn that runs. What is added to an error is as for the parser of the elements. Which error a refusal has is exact, as for `sep_by`: behind a separator a peeked refusal of the element is none.
 ghost use Rattle.std.specs.Prelude.{◌≡◌};
 ghost use Rattle.combine_repeat_sep_end.specs.SepEndParsers.{sep_end_by_of, sep_end_by1_of};
 

@@ -28,7 +28,7 @@ drops_value A (Accepted a n k) = refl
 drops_value A (Refused k) = tt
 drops_value A Undecided = tt
 
-module _ {P T R A V S Held : Type 0} (step : P → T → P) (held : V → Held) (none : Held) (more : Held → A → Held) (lean : Type 0) (m : Meaning P T R A S) (b : Bounds) where
+module _ {P T R E A V S Held : Type 0} (step : P → T → P) (held : V → Held) (none : Held) (more : Held → A → Held) (lean : Type 0) (m : Meaning P T R E A S) (b : Bounds) where
   abbrev collecting : Reading P T V
   collecting = Turned step (bounded b never) (appended held none more lean) (λ _. m.whole) m.whole (none_yet none)
 

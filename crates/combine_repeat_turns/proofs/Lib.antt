@@ -4,6 +4,7 @@ pub mod Judging
 pub mod Sounding
 pub mod Repeating
 pub mod Beginning
+pub mod TurnRefusals
 pub mod Plain
 pub mod Comparing
 pub mod OneThenTurns

@@ -1,15 +1,17 @@
 -- one call of a repetition: where its turns begin, and each way out of them
 use Rattle.std.proofs.Common.{ℕ, ◌+◌, ◌-◌, ◌<◌, ◌≤◌, ◌≡◌, Bool, true, false, ◌&&◌, ◌||◌, not, if◌then◌else◌, nat_lt, Some, None, length, drop, arith, ap, sym, refl, ◌∙◌, length-drop, ltb-true, ltb-false, subst}
+use Rattle.combine_base.specs.Error.Errors.{Errors}
 use Rattle.combine_base.specs.Stream.View.{View, Takes}
 use Rattle.combine_base.specs.Parser.Outcome.{Outcome, Accepted, Refused}
-use Rattle.combine_base.specs.Parser.Meaning.{Meaning, Reading, IsReading, begun}
+use Rattle.combine_base.specs.Parser.Meaning.{Meaning, IsReading, begun}
 use Rattle.combine_base.specs.Parser.Answer.{Run, World, Answers, Accepts, Asks}
 use Rattle.combine_base.specs.Sequence.Parts.{accepted_as}
 use Rattle.combine_base.proofs.Progress.{progress_none, progress_outcome, takes_open, takes_more, takes_none}
 use Rattle.combine_base.proofs.Calls.{around, needs}
 use Rattle.combine_repeat_turns.specs.Turns.{Goes, Stops, Collecting, SoFar, Turned}
-use Rattle.combine_repeat_turns.specs.Turn.{IsTurn, called}
-use Rattle.combine_repeat_turns.specs.Bounded.{counted, full_at, goes_at, accepted_at, refused_at, next_of, bounded, fresh_turns, running_turn, kept_or, so_far, so_far_or, turns_from}
+use Rattle.combine_repeat_turns.specs.Turn.{IsTurn, Start, called}
+use Rattle.combine_repeat_turns.specs.Bounded.{counted, full_at, goes_at, accepted_at, refused_at, next_of, bounded, fresh_turns, running_turn, kept_or, so_far, so_far_or}
+use Rattle.combine_repeat_turns.specs.TurnsMeaning.{turns_from}
 use Rattle.combine_repeat_turns.specs.BoundedLaws.{bounded_is_rule}
 use Rattle.combine_repeat_turns.specs.OneTurn.{GoesOn, IsOver, Ended, PutBack, IsRefused, NeedsMore, HasFailed, InTurn, TakesNothing, Unstored, Untold, Unreset, halted, stopped_answer, stopped_state}
 use Rattle.combine_repeat_turns.proofs.Turning.{turned_full}
@@ -109,19 +111,19 @@ judged_ends n k e i x = rw x refl
 pub resumed_valid : {S : Type 0} (valid : S → Type 0) (r s : S) → r ≡ s → valid s → valid r
 resumed_valid valid r s e d = rw e d
 
-module _ {P T R A V S E : Type 0} (w : World P T S E) (b : Bounds) (ending : A → Bool) (c : Collecting A V) (start : SoFar Place c.Held) (m : Meaning P T R A S) (again : Reading P T A) where
+module _ {P T R A V S E : Type 0} (w : World P T S E) (errors : Errors T R P E) (b : Bounds) (ending : A → Bool) (c : Collecting A V) (start : SoFar Place c.Held) (m : Meaning P T R E A S) (again : Start P T E A) where
   -- a call that began so has come to a place where a turn begins so
   abbrev pub Comes : Bool → TurnsState V S → View P T → Failures → Bool → Bool → S → View P T → Failures → Kept V → Type 0
-  Comes first state old before later turn_first turn_state now failures t = Reaches w (fresh_turns w.fresh) (bounded b ending) (bounded_is_rule b ending) c (λ _. again) (called m again later) (turns_from w.step b ending c start m again) first state old before turn_first turn_state now failures (so_far c.held t)
+  Comes first state old before later turn_first turn_state now failures t = Reaches w (fresh_turns w.fresh) (bounded b ending) (bounded_is_rule b ending) c (λ _. again.reads) (called m again later) (turns_from w.step errors b ending c start m again) first state old before turn_first turn_state now failures (so_far c.held t)
 
   -- in first mode the state of the turn that runs doesn't matter
   pub comes_first : (first : Bool) (state : TurnsState V S) (running : S) (old : View P T) (before : Failures) (from t : Kept V) → so_far c.held from ≡ start → t ≡ (if first then from else kept_or from state.earlier) → (first ≡ false → running ≡ running_turn state) → Comes first state old before false first running old before t
   comes_first true state running old before from t e i j = record {
-    progress = rw (i, e) (progress_none w (Turned w.step (bounded b ending) c (λ _. again) m.whole start) old before);
+    progress = rw (i, e) (progress_none w (Turned w.step (bounded b ending) c (λ _. again.reads) m.whole start) old before);
     lost = λ x. absurd (cc);
   }
   comes_first false state running old before from t e i j = record {
-    progress = rw (i, j refl, kept state.earlier) (progress_none w (Turned w.step (bounded b ending) c (λ _. again) (m.rest (running_turn state)) (so_far_or start c.held state.earlier)) old before);
+    progress = rw (i, j refl, kept state.earlier) (progress_none w (Turned w.step (bounded b ending) c (λ _. again.reads) (m.rest (running_turn state)) (so_far_or start c.held state.earlier)) old before);
     lost = λ x l. (refl, subst (λ x. m.lost x old) (j refl) l);
   }
     where
@@ -144,24 +146,24 @@ module _ {P T R A V S E : Type 0} (w : World P T S E) (b : Bounds) (ending : A �
   comes_on valid h first state old before later r t n z nf d g s =
       let u : Run P T (TurnsState V S) = record { first = first; state = state; left = state; old = old; new = old; before = before; after = before } in
       record {
-        progress = rw g.turns (turn_goes w (fresh_turns w.fresh) (bounded b ending) (bounded_is_rule b ending) c (λ _. again) (called m again later) (turns_from w.step b ending c start m again) u r (so_far c.held t) z nf (turn_reads valid h later r.first r.state d) g.turn.0 g.turn.1 g.held g.judged.accepts (judged_goes g.judged.accepts.count g.turn.1 (ending g.turn.0) (goes_at b t.place g.judged.accepts.count g.turn.1) g.judged.on g.judged.says) g.more);
+        progress = rw g.turns (turn_goes w (fresh_turns w.fresh) (bounded b ending) (bounded_is_rule b ending) c (λ _. again.reads) (called m again later) (turns_from w.step errors b ending c start m again) u r (so_far c.held t) z nf (turn_reads valid h later r.first r.state d) g.turn.0 g.turn.1 g.held g.judged.accepts (judged_goes g.judged.accepts.count g.turn.1 (ending g.turn.0) (goes_at b t.place g.judged.accepts.count g.turn.1) g.judged.on g.judged.says) g.more);
         lost = λ y. absurd (cc);
       }
 
-  accepted_answer : (u : Run P T (TurnsState V S)) (v : V) (k : Bool) → Accepts (around w (fresh_turns w.fresh)) (turns_from w.step b ending c start m again) u v k → Answers (around w (fresh_turns w.fresh)) (turns_from w.step b ending c start m again) u (accepted_as k v)
+  accepted_answer : (u : Run P T (TurnsState V S)) (v : V) (k : Bool) → Accepts (around w (fresh_turns w.fresh)) (turns_from w.step errors b ending c start m again) u v k → Answers (around w (fresh_turns w.fresh)) (turns_from w.step errors b ending c start m again) u (accepted_as k v)
   accepted_answer u v true x = record { is = x }
   accepted_answer u v false x = record { is = x }
 
   -- no turn runs any more
-  pub comes_full : (u : Run P T (TurnsState V S)) (later turn_first : Bool) (s : S) (t : Kept V) → Comes u.first u.state u.old u.before later turn_first s u.new u.after t → full_at b t.place ≡ true → fresh_turns w.fresh u.left → (result : ParseResult V E) → result ≡ accepted_as t.committed t.into → Answers (around w (fresh_turns w.fresh)) (turns_from w.step b ending c start m again) u result
+  pub comes_full : (u : Run P T (TurnsState V S)) (later turn_first : Bool) (s : S) (t : Kept V) → Comes u.first u.state u.old u.before later turn_first s u.new u.after t → full_at b t.place ≡ true → fresh_turns w.fresh u.left → (result : ParseResult V E) → result ≡ accepted_as t.committed t.into → Answers (around w (fresh_turns w.fresh)) (turns_from w.step errors b ending c start m again) u result
   comes_full u later turn_first s t z f l result e =
       let running = begun (called m again later) turn_first s in
       let p = z.progress in
       let o : Outcome V = Accepted t.into 0 t.committed in
-      let y = turned_full w.step (bounded b ending) (bounded_is_rule b ending) c (λ _. again) running (so_far c.held t) u.new o f refl refl in
+      let y = turned_full w.step (bounded b ending) (bounded_is_rule b ending) c (λ _. again.reads) running (so_far c.held t) u.new o f refl refl in
       rw e (accepted_answer u t.into t.committed (record {
         count = p.count + 0;
-        meant = progress_outcome w (begun (turns_from w.step b ending c start m again) u.first u.state) (Turned w.step (bounded b ending) c (λ _. again) running (so_far c.held t)) u.old u.new u.before u.after p o y;
+        meant = progress_outcome w (begun (turns_from w.step errors b ending c start m again) u.first u.state) (Turned w.step (bounded b ending) c (λ _. again.reads) running (so_far c.held t)) u.old u.new u.before u.after p o y;
         taken = takes_more w.step p.count 0 u.old u.new u.new p.taken (takes_none w.step u.new);
         state = l;
         failures = p.failures;
@@ -173,22 +175,22 @@ module _ {P T R A V S E : Type 0} (w : World P T S E) (b : Bounds) (ending : A �
       settled : u.left ≡ state → w.fresh r.left → fresh_turns w.fresh u.left
       settled l d = rw l (cleared, rw running d)
 
-      ends : u.left ≡ state → Ends w (fresh_turns w.fresh) (bounded b ending) (bounded_is_rule b ending) c (λ _. again) (called m again later) (turns_from w.step b ending c start m again) u r (so_far c.held t) z nf
+      ends : u.left ≡ state → Ends w (fresh_turns w.fresh) (bounded b ending) (bounded_is_rule b ending) c (λ _. again.reads) (called m again later) (turns_from w.step errors b ending c start m again) u r (so_far c.held t) z nf
       ends l = record { new = new; state = settled l; failures = λ _. failures }
 
-      comes_over : (n : Kept V) → IsOver w b ending c (called m again later) r t n → u.left ≡ state → Answers (around w (fresh_turns w.fresh)) (turns_from w.step b ending c start m again) u (accepted_as n.committed n.into)
-      comes_over n (PutBack i y v q) l = rw q (turn_ends w (fresh_turns w.fresh) (bounded b ending) (bounded_is_rule b ending) c (λ _. again) (called m again later) (turns_from w.step b ending c start m again) u r (so_far c.held t) z nf t.into _ (ap (λ x. refused_at x false) i) refl refl y (new ∙ v) (settled l) (λ _. failures))
-      comes_over n (Ended x a i q) l = rw q (accepted_answer u t.into (t.committed || x.1) (turn_accepts w (fresh_turns w.fresh) (bounded b ending) (bounded_is_rule b ending) c (λ _. again) (called m again later) (turns_from w.step b ending c start m again) u r (so_far c.held t) z nf (Accepted x.0 a.count x.1) a.count x.1 t.into a.meant (judged_ends a.count x.1 (ending x.0) (goes_at b t.place a.count x.1) i) refl (rw new a.taken) (settled l a.state) (λ _. failures) a.failures))
+      comes_over : (n : Kept V) → IsOver w b ending c (called m again later) r t n → u.left ≡ state → Answers (around w (fresh_turns w.fresh)) (turns_from w.step errors b ending c start m again) u (accepted_as n.committed n.into)
+      comes_over n (PutBack i y v q) l = rw q (turn_ends w (fresh_turns w.fresh) (bounded b ending) (bounded_is_rule b ending) c (λ _. again.reads) (called m again later) (turns_from w.step errors b ending c start m again) u r (so_far c.held t) z nf t.into _ (ap (λ x. refused_at x false) i) refl refl y (new ∙ v) (settled l) (λ _. failures))
+      comes_over n (Ended x a i q) l = rw q (accepted_answer u t.into (t.committed || x.1) (turn_accepts w (fresh_turns w.fresh) (bounded b ending) (bounded_is_rule b ending) c (λ _. again.reads) (called m again later) (turns_from w.step errors b ending c start m again) u r (so_far c.held t) z nf (Accepted x.0 a.count x.1) a.count x.1 t.into a.meant (judged_ends a.count x.1 (ending x.0) (goes_at b t.place a.count x.1) i) refl (rw new a.taken) (settled l a.state) (λ _. failures) a.failures))
 
-      comes_refused : (n : Kept V) (e : Tracked E) → IsRefused w b ending c (called m again later) r t n e → u.left ≡ state → Answers (around w (fresh_turns w.fresh)) (turns_from w.step b ending c start m again) u (stopped_answer (stop.Refused n e))
-      comes_refused n e p l = rw p.turns (turn_peeks w (fresh_turns w.fresh) (bounded b ending) (bounded_is_rule b ending) c (λ _. again) (called m again later) (turns_from w.step b ending c start m again) u r (so_far c.held t) z nf e _ (ap (λ x. refused_at x false) p.missing) refl p.answers (ends l))
+      comes_refused : (n : Kept V) (e : Tracked E) → IsRefused w b ending c (called m again later) r t n e → u.left ≡ state → Answers (around w (fresh_turns w.fresh)) (turns_from w.step errors b ending c start m again) u (stopped_answer (stop.Refused n e))
+      comes_refused n e p l = rw p.turns (turn_peeks w (fresh_turns w.fresh) (bounded b ending) (bounded_is_rule b ending) c (λ _. again.reads) (called m again later) (turns_from w.step errors b ending c start m again) u r (so_far c.held t) z nf e _ (ap (λ x. refused_at x false) p.missing) refl p.answers (ends l))
 
       -- the turns so far are kept, and the turn that runs
-      comes_more : (n : Kept V) (e : E) → NeedsMore w b ending c (called m again later) r t n e → u.left ≡ record { earlier = Turns n; running = state.running } → Answers (around w (fresh_turns w.fresh)) (turns_from w.step b ending c start m again) u (CommitErr e)
-      comes_more n e p l = needs w (fresh_turns w.fresh) (called m again later) (turns_from w.step b ending c start m again) r u e p.needs p.answers (takes_open w.step z.progress.count u.old r.old z.progress.taken) asks
+      comes_more : (n : Kept V) (e : E) → NeedsMore w b ending c (called m again later) r t n e → u.left ≡ record { earlier = Turns n; running = state.running } → Answers (around w (fresh_turns w.fresh)) (turns_from w.step errors b ending c start m again) u (CommitErr e)
+      comes_more n e p l = needs w (fresh_turns w.fresh) (called m again later) (turns_from w.step errors b ending c start m again) r u e p.needs p.answers (takes_open w.step z.progress.count u.old r.old z.progress.taken) asks
         where
-          asks : Asks w (called m again later) r → Asks (around w (fresh_turns w.fresh)) (turns_from w.step b ending c start m again) u
-          asks y = turn_asks w (fresh_turns w.fresh) (bounded b ending) (bounded_is_rule b ending) c (λ _. again) (called m again later) (turns_from w.step b ending c start m again) u r (so_far c.held t) z nf refl y (record {
+          asks : Asks w (called m again later) r → Asks (around w (fresh_turns w.fresh)) (turns_from w.step errors b ending c start m again) u
+          asks y = turn_asks w (fresh_turns w.fresh) (bounded b ending) (bounded_is_rule b ending) c (λ _. again.reads) (called m again later) (turns_from w.step errors b ending c start m again) u r (so_far c.held t) z nf refl y (record {
             rest = rw (l, running, p.turns, p.cut y.count y.taken) (λ v o x. x);
             lost = rw (l, running) (λ v x. x);
             keeps = λ b. b;
@@ -197,8 +199,8 @@ module _ {P T R A V S E : Type 0} (w : World P T S E) (b : Bounds) (ending : A �
             failures = λ _. failures;
           })
 
-      comes_fails : (e : E) → HasFailed w b ending c (called m again later) r t e → u.left ≡ state → Answers (around w (fresh_turns w.fresh)) (turns_from w.step b ending c start m again) u (CommitErr e)
-      comes_fails e (InTurn q p) l = turn_fails w (fresh_turns w.fresh) (bounded b ending) (bounded_is_rule b ending) c (λ _. again) (called m again later) (turns_from w.step b ending c start m again) u r (so_far c.held t) z nf e q p (record {
+      comes_fails : (e : E) → HasFailed w b ending c (called m again later) r t e → u.left ≡ state → Answers (around w (fresh_turns w.fresh)) (turns_from w.step errors b ending c start m again) u (CommitErr e)
+      comes_fails e (InTurn q p) l = turn_fails w (fresh_turns w.fresh) (bounded b ending) (bounded_is_rule b ending) c (λ _. again.reads) (called m again later) (turns_from w.step errors b ending c start m again) u r (so_far c.held t) z nf e q p (record {
         refused = refl;
         lean = λ x. x.0;
         new = new;
@@ -209,18 +211,18 @@ module _ {P T R A V S E : Type 0} (w : World P T S E) (b : Bounds) (ending : A �
       })
       comes_fails e (TakesNothing x j y) l =
           let a = j.accepts in
-          turn_told w (fresh_turns w.fresh) (bounded b ending) (bounded_is_rule b ending) c (λ _. again) (called m again later) (turns_from w.step b ending c start m again) u r (so_far c.held t) z nf (Accepted x.0 a.count x.1) e a.meant (judged_nothing a.count x.1 (ending x.0) (goes_at b t.place a.count x.1) j.on j.says) y (ends l) (record { count = a.count; taken = a.taken; state = a.state }) a.failures
-      comes_fails e (Unstored x a i y) l = turn_unstored w (fresh_turns w.fresh) (bounded b ending) (bounded_is_rule b ending) c (λ _. again) (called m again later) (turns_from w.step b ending c start m again) u r (so_far c.held t) z nf e i (λ q. y q.1) (ends l) (record { count = a.count; taken = a.taken; state = a.state })
+          turn_told w (fresh_turns w.fresh) (bounded b ending) (bounded_is_rule b ending) c (λ _. again.reads) (called m again later) (turns_from w.step errors b ending c start m again) u r (so_far c.held t) z nf (Accepted x.0 a.count x.1) e a.meant (judged_nothing a.count x.1 (ending x.0) (goes_at b t.place a.count x.1) j.on j.says) y (ends l) (record { count = a.count; taken = a.taken; state = a.state }) a.failures
+      comes_fails e (Unstored x a i y) l = turn_unstored w (fresh_turns w.fresh) (bounded b ending) (bounded_is_rule b ending) c (λ _. again.reads) (called m again later) (turns_from w.step errors b ending c start m again) u r (so_far c.held t) z nf e i (λ q. y q.1) (ends l) (record { count = a.count; taken = a.taken; state = a.state })
       comes_fails e (Untold y i x) l = record { is = rw i (λ f q. x f, record { count = z.progress.count + y.leaves.count; taken = takes_more w.step z.progress.count y.leaves.count u.old r.old u.new z.progress.taken (rw new y.leaves.taken); state = settled l y.leaves.state }) }
-      comes_fails e (Unreset i j y) l = turn_unreset w (fresh_turns w.fresh) (bounded b ending) (bounded_is_rule b ending) c (λ _. again) (called m again later) (turns_from w.step b ending c start m again) u r (so_far c.held t) z nf e i (rw failures (omega arith)) (ends l) y
+      comes_fails e (Unreset i j y) l = turn_unreset w (fresh_turns w.fresh) (bounded b ending) (bounded_is_rule b ending) c (λ _. again.reads) (called m again later) (turns_from w.step errors b ending c start m again) u r (so_far c.held t) z nf e i (rw failures (omega arith)) (ends l) y
 
-      pub comes_stopped : (why : Stop V E) → halted w b ending c (called m again later) r t why → u.left ≡ stopped_state why state → Answers (around w (fresh_turns w.fresh)) (turns_from w.step b ending c start m again) u (stopped_answer why)
+      pub comes_stopped : (why : Stop V E) → halted w b ending c (called m again later) r t why → u.left ≡ stopped_state why state → Answers (around w (fresh_turns w.fresh)) (turns_from w.step errors b ending c start m again) u (stopped_answer why)
       comes_stopped (stop.Over n) p l = comes_over n p l
       comes_stopped (stop.Refused n e) p l = comes_refused n e p l
       comes_stopped (stop.More n e) p l = comes_more n e p l
       comes_stopped (stop.Failed e) p l = comes_fails e p l
 
-pub goes_out : {P T R A V S E : Type 0} (w : World P T S E) (b : Bounds) (ending : A → Bool) (c : Collecting A V) (m : Meaning P T R A S) (r : Run P T S) (t n : Kept V) → full_at b t.place ≡ false → GoesOn w b ending c m r t n → length r.new.unread + idle_turns b n.place < length r.old.unread + idle_turns b t.place
+pub goes_out : {P T R A V S E : Type 0} (w : World P T S E) (b : Bounds) (ending : A → Bool) (c : Collecting A V) (m : Meaning P T R E A S) (r : Run P T S) (t n : Kept V) → full_at b t.place ≡ false → GoesOn w b ending c m r t n → length r.new.unread + idle_turns b n.place < length r.old.unread + idle_turns b t.place
 goes_out w b ending c m r t n nf g =
     let e : n.place ≡ next_of b t.place = ap (λ (x : SoFar Place c.Held). x.mark) g.turns in
     let a = g.judged.accepts in

@@ -1,13 +1,13 @@
 -- the values that turns give, and what is gathered of them
 use Rattle.std.proofs.Common.{◌≡◌, Bool, true, false, ap, sym}
 use Rattle.combine_base.specs.Parser.Given.{ReadsOnly}
-use Rattle.combine_base.specs.Parser.Meaning.{Meaning, Reading, begun}
+use Rattle.combine_base.specs.Parser.Meaning.{Meaning, begun}
 use Rattle.combine_base.specs.Parser.Answer.{Run, World, Accepts}
 use Rattle.combine_base.specs.Sequence.Parts.{accepted_as, refused_as}
 use Rattle.combine_base.specs.declared.error.Tracked.{Tracked}
 use Rattle.combine_base.specs.declared.error.ParseResult.{ParseResult}
 use Rattle.combine_repeat_turns.specs.Turns.{Collecting}
-use Rattle.combine_repeat_turns.specs.Turn.{TurnsGive, called}
+use Rattle.combine_repeat_turns.specs.Turn.{Start, TurnsGive, called}
 use Rattle.combine_repeat_turns.specs.Sound.{KeepsSound, LeavesSound, of_value}
 use Rattle.combine_repeat_turns.specs.FirstTurn.{FirstGoes}
 use Rattle.combine_repeat_turns.specs.OneTurn.{GoesOn, IsOver, Ended, PutBack, halted, stopped_answer, stopped_state}
@@ -16,9 +16,9 @@ use Rattle.combine_repeat_turns.specs.declared.turns.Stop.{Stop}
 use Rattle.combine_repeat_turns.specs.declared.turns.Stop.TheVariants as stop
 use Rattle.combine_repeat_turns.specs.declared.turns.Turns.{Turns as Kept}
 use Rattle.combine_repeat_turns.specs.declared.turns.TurnsState.{TurnsState}
-use Rattle.combine_repeat_turns.specs.declared.turns.Earlier.TheVariants.{Nothing, Turns}
+use Rattle.combine_repeat_turns.specs.declared.turns.Earlier.TheVariants.{Nothing}
 
-module _ {P T R A S E : Type 0} (w : World P T S E) (valid : S → Type 0) (m : Meaning P T R A S) (again : Reading P T A) (gives able : A → Type 0) (h : TurnsGive valid m again gives) (k : (a : A) → gives a → able a) where
+module _ {P T R A S E : Type 0} (w : World P T S E) (valid : S → Type 0) (m : Meaning P T R E A S) (again : Start P T E A) (gives able : A → Type 0) (h : TurnsGive valid m again gives) (k : (a : A) → gives a → able a) where
   -- a turn's value can be gathered
   given : (later first : Bool) (s : S) → valid s → ReadsOnly (begun (called m again later) first s) gives
   given true true s d = h.later
@@ -30,7 +30,7 @@ module _ {P T R A S E : Type 0} (w : World P T S E) (valid : S → Type 0) (m : 
   turn_able later r d a b x = k a ((given later r.first r.state d).one r.old a x.count b x.meant)
 
 -- what is held stays sound
-module _ {P T R A V S E : Type 0} (w : World P T S E) (c : Collecting A V) (able : A → Type 0) (sound : c.Held → Type 0) (h : KeepsSound c.none c.more able sound) (m : Meaning P T R A S) (r : Run P T S) where
+module _ {P T R A V S E : Type 0} (w : World P T S E) (c : Collecting A V) (able : A → Type 0) (sound : c.Held → Type 0) (h : KeepsSound c.none c.more able sound) (m : Meaning P T R E A S) (r : Run P T S) where
   pub first_sound : (n : Kept V) → (g : FirstGoes w c c.none m r n) → able g.turn.0 → sound (c.held n.into)
   first_sound n g a = let e = ap (λ x. x.held) g.turns in rw e (h.stays c.none g.turn.0 g.held h.begins a g.more)
 

@@ -25,7 +25,7 @@ every_token n m u v t e =
     let b : length v.unread ≡ length (drop n u.unread) = ap (λ (x : View _ _). length x.unread) t.rest in
     omega (arith, length-drop n u.unread)
 
-module _ {P T R A V S U E Mark : Type 0} (w : World P T S E) (fresh : U → Type 0) (rule : Rule A Mark) (hr : IsRule rule) (c : Collecting A V) (turn : Mark → Reading P T A) (m : Meaning P T R A S) (whole : Meaning P T R V U) where
+module _ {P T R A V S U E Mark : Type 0} (w : World P T S E) (fresh : U → Type 0) (rule : Rule A Mark) (hr : IsRule rule) (c : Collecting A V) (turn : Mark → Reading P T A) (m : Meaning P T R E A S) (whole : Meaning P T R E V U) where
   -- a call of the whole that began so has come to a place where a turn begins so
   pub record Reaches (first : Bool) (state : U) (old : View P T) (before : Failures) (turn_first : Bool) (turn_state : S) (now : View P T) (later : Failures) (s : SoFar Mark c.Held) : Type 0 where
     pub progress : Progress w (begun whole first state) (Turned w.step rule c turn (begun m turn_first turn_state) s) old now before later

@@ -1,8 +1,7 @@
 -- turns of which there are at least and at most so many
 use Rattle.std.specs.Prelude.{ℕ, ◌≡◌, ◌+◌, ◌-◌, Bool, true, false, ◌||◌, ◌&&◌, not, nat_lt, if◌then◌else◌, Some, None}
 use Rattle.combine_base.specs.Parser.Outcome.{Outcome, Accepted, Refused, Undecided}
-use Rattle.combine_base.specs.Parser.Meaning.{Meaning, Reading}
-use Rattle.combine_repeat_turns.specs.Turns.{Turn, Goes, Stops, Rule, Collecting, SoFar, Turned}
+use Rattle.combine_repeat_turns.specs.Turns.{Turn, Goes, Stops, Rule, Collecting, SoFar}
 use Rattle.combine_repeat_turns.specs.declared.turns.Bounds.{Bounds}
 use Rattle.combine_repeat_turns.specs.declared.turns.Bounds.TheVariants.{Any, Joined, Counted}
 use Rattle.combine_repeat_turns.specs.declared.turns.Place.{Place}
@@ -128,16 +127,3 @@ kept_or start (Turns t) = t
 abbrev pub so_far_or : {V Held : Type 0} → SoFar Place Held → (V → Held) → Earlier V → SoFar Place Held
 so_far_or start held Nothing = start
 so_far_or start held (Turns t) = so_far held t
-
-module _ {P T R A V S : Type 0} (step : P → T → P) (b : Bounds) (ending : A → Bool) (c : Collecting A V) where
-  -- turns that begin so
-  abbrev pub turns_from : SoFar Place c.Held → Meaning P T R A S → Reading P T A → Meaning P T R V (TurnsState V S)
-  turns_from start m again = record {
-    whole = Turned step (bounded b ending) c (λ _. again) m.whole start;
-    rest = λ s. Turned step (bounded b ending) c (λ _. again) (m.rest (running_turn s)) (so_far_or start c.held s.earlier);
-    lost = λ s. m.lost (running_turn s);
-    keeps = m.keeps;
-    puts_back = ⊥;
-    lean = m.lean × c.lean;
-    adds = m.adds;
-  }

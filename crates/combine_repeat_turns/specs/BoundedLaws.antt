@@ -3,11 +3,14 @@ use Rattle.std.specs.Prelude.{ℕ, ◌+◌, ◌<◌, ◌≡◌, ◌⊎◌, Bool,
 use Rattle.std.proofs.Common.{arith, ap, sym, subst, ◌∙◌, lt-ltb, ltb-true, ltb-false, zero, suc, inl, inr}
 use Rattle.combine_base.specs.Stream.View.{View}
 use Rattle.combine_base.specs.Parser.Outcome.{Outcome, Accepted, Refused, Undecided, after, shape, IsDecided, IsCommitted}
-use Rattle.combine_base.specs.Parser.Meaning.{Meaning, Reading, IsMeaning, MeansOne, MeansSame}
+use Rattle.combine_base.specs.Error.Errors.{Errors}
+use Rattle.combine_base.specs.Parser.Meaning.{Meaning, Reading, IsMeaning, MeansOne, MeansSame, SameReasons}
 use Rattle.combine_repeat_turns.specs.Turns.{Goes, Stops, IsRule, IsJudgedOnce, Collecting, SoFar, Turned}
 use Rattle.combine_repeat_turns.specs.TurnLaws.{turned_is_reading, turned_is_single, turned_into}
-use Rattle.combine_repeat_turns.specs.Turn.{IsTurn, TurnsSame, EndsOnce, TurnsOnce}
-use Rattle.combine_repeat_turns.specs.Bounded.{enough, goes_at, accepted_at, refused_at, judged, cut_at, bounded, so_far_or, fresh_turns, running_turn, turns_from}
+use Rattle.combine_repeat_turns.specs.Turn.{IsTurn, Start, StartsSame, TurnsSame, EndsOnce, TurnsOnce, from_start, from_state}
+use Rattle.combine_repeat_turns.specs.TurnRefusals.{RefusesOnward, StartsInto, onward_into}
+use Rattle.combine_repeat_turns.specs.TurnsMeaning.{turns_from}
+use Rattle.combine_repeat_turns.specs.Bounded.{enough, goes_at, accepted_at, refused_at, judged, cut_at, bounded, so_far_or, fresh_turns, running_turn}
 use Rattle.combine_repeat_turns.specs.declared.turns.Bounds.{Bounds}
 use Rattle.combine_repeat_turns.specs.declared.turns.Bounds.TheVariants.{Any, Joined, Counted}
 use Rattle.std.specs.Prelude.{Some, None}
@@ -165,33 +168,51 @@ module _ {A : Type 0} (b : Bounds) (ending : A → Bool) where
     judged_once : IsJudgedOnce (bounded b ending) g r
     judged_once = record { one = h.one; judged = λ v o o' p q. same_turn v o o' p q (h.one v o o' p q) }
 
-module _ {P T R A V S : Type 0} (step : P → T → P) (b : Bounds) (ending : A → Bool) (c : Collecting A V) (start : SoFar Place c.Held) where
-  pub turns_is_meaning : (fresh valid : S → Type 0) (m : Meaning P T R A S) (again : Reading P T A) → IsTurn fresh valid m again → IsMeaning (fresh_turns fresh) (λ s. valid (running_turn s)) (turns_from step b ending c start m again)
+-- parsers that mean the same start the same turns
+into_of : {P T E A : Type 0} (s s' : Start P T E A) → StartsSame s s' → StartsInto s s'
+into_of s s' h = record { reads = λ v o. (h.reads v o).0; refuses = λ v w k e. (h.refuses v w k e).0 }
+
+back_of : {P T E A : Type 0} (s s' : Start P T E A) → StartsSame s s' → StartsInto s' s
+back_of s s' h = record { reads = λ v o. (h.reads v o).1; refuses = λ v w k e. (h.refuses v w k e).1 }
+
+module _ {P T R E A : Type 0} (step : P → T → P) (errors : Errors T R P E) (b : Bounds) (ending : A → Bool) where
+  onward_same : (later later' : Start P T E A) → StartsSame later later' → (s s' : Start P T E A) → StartsSame s s' → (g : Place) (before : Bool) → SameReasons (RefusesOnward step errors b ending later s g before) (RefusesOnward step errors b ending later' s' g before)
+  onward_same later later' h s s' k g before v w j e = (
+    onward_into step errors b ending later later' (into_of later later' h) s s' (into_of s s' k) g before v w j e,
+    onward_into step errors b ending later' later (back_of later later' h) s' s (back_of s s' k) g before v w j e,
+  )
+
+module _ {P T R E A V S : Type 0} (step : P → T → P) (errors : Errors T R P E) (b : Bounds) (ending : A → Bool) (c : Collecting A V) (start : SoFar Place c.Held) where
+  pub turns_is_meaning : (fresh valid : S → Type 0) (m : Meaning P T R E A S) (again : Start P T E A) → IsTurn fresh valid m again → IsMeaning (fresh_turns fresh) (λ s. valid (running_turn s)) (turns_from step errors b ending c start m again)
   turns_is_meaning fresh valid m again t =
       let h = t.meaning in
       record {
-        whole = turned_is_reading step (bounded b ending) (bounded_is_rule b ending) c (λ _. again) (λ _. t.later) m.whole h.whole start;
-        rest = λ s k. turned_is_reading step (bounded b ending) (bounded_is_rule b ending) c (λ _. again) (λ _. t.later) (m.rest (running_turn s)) (h.rest (running_turn s) k) (so_far_or start c.held s.earlier);
+        whole = turned_is_reading step (bounded b ending) (bounded_is_rule b ending) c (λ _. again.reads) (λ _. t.later) m.whole h.whole start;
+        rest = λ s k. turned_is_reading step (bounded b ending) (bounded_is_rule b ending) c (λ _. again.reads) (λ _. t.later) (m.rest (running_turn s)) (h.rest (running_turn s) k) (so_far_or start c.held s.earlier);
         start = starting;
         found = finding;
+        reasons = reasoning;
       }
     where
-      starting : (s : TurnsState V S) (v : View P T) (o : Outcome V) → fresh_turns fresh s → (turns_from step b ending c start m again).rest s v o ↔ (turns_from step b ending c start m again).whole v o
+      starting : (s : TurnsState V S) (v : View P T) (o : Outcome V) → fresh_turns fresh s → (turns_from step errors b ending c start m again).rest s v o ↔ (turns_from step errors b ending c start m again).whole v o
       starting s v o d = rw d.0 (
-        turned_into step (bounded b ending) c (λ _. again) (λ _. again) (λ g v o q. q) (m.rest s.running) m.whole (λ v o q. (t.meaning.start s.running v o d.1).0 q) start v o,
-        turned_into step (bounded b ending) c (λ _. again) (λ _. again) (λ g v o q. q) m.whole (m.rest s.running) (λ v o q. (t.meaning.start s.running v o d.1).1 q) start v o,
+        turned_into step (bounded b ending) c (λ _. again.reads) (λ _. again.reads) (λ g v o q. q) (m.rest s.running) m.whole (λ v o q. (t.meaning.start s.running v o d.1).0 q) start v o,
+        turned_into step (bounded b ending) c (λ _. again.reads) (λ _. again.reads) (λ g v o q. q) m.whole (m.rest s.running) (λ v o q. (t.meaning.start s.running v o d.1).1 q) start v o,
       )
 
       finding : (s : TurnsState V S) (v : View P T) → fresh_turns fresh s → m.lost (running_turn s) v → ⊥
       finding s v d = t.meaning.found s.running v d.1
 
-  pub turns_means_one : (valid : S → Type 0) (m : Meaning P T R A S) (again : Reading P T A) → TurnsOnce valid ending m again → MeansOne (λ (s : TurnsState V S). valid (running_turn s)) (turns_from step b ending c start m again)
+      reasoning : (s : TurnsState V S) → fresh_turns fresh s → SameReasons ((turns_from step errors b ending c start m again).refuses_from s) (turns_from step errors b ending c start m again).refuses
+      reasoning s d = rw d.0 (onward_same step errors b ending again again (record { reads = λ v o. (λ q. q, λ q. q); refuses = λ v w k e. (λ q. q, λ q. q) }) (from_state m s.running) (from_start m) (record { reads = λ v o. t.meaning.start s.running v o d.1; refuses = t.meaning.reasons s.running d.1 }) start.mark start.committed)
+
+  pub turns_means_one : (valid : S → Type 0) (m : Meaning P T R E A S) (again : Start P T E A) → TurnsOnce valid ending m again → MeansOne (λ (s : TurnsState V S). valid (running_turn s)) (turns_from step errors b ending c start m again)
   turns_means_one valid m again h = record {
-    whole = turned_is_single step (bounded b ending) c (λ _. again) (λ g. judged_once b ending again g h.later) m.whole start (judged_once b ending m.whole start.mark h.whole);
-    rest = λ s k. turned_is_single step (bounded b ending) c (λ _. again) (λ g. judged_once b ending again g h.later) (m.rest (running_turn s)) (so_far_or start c.held s.earlier) (judged_once b ending (m.rest (running_turn s)) (so_far_or start c.held s.earlier).mark (h.rest (running_turn s) k));
+    whole = turned_is_single step (bounded b ending) c (λ _. again.reads) (λ g. judged_once b ending again.reads g h.later) m.whole start (judged_once b ending m.whole start.mark h.whole);
+    rest = λ s k. turned_is_single step (bounded b ending) c (λ _. again.reads) (λ g. judged_once b ending again.reads g h.later) (m.rest (running_turn s)) (so_far_or start c.held s.earlier) (judged_once b ending (m.rest (running_turn s)) (so_far_or start c.held s.earlier).mark (h.rest (running_turn s) k));
   }
 
-  pub turns_means_same : (m m' : Meaning P T R A S) (again again' : Reading P T A) → TurnsSame m again m' again' → MeansSame {State = TurnsState V S} (turns_from step b ending c start m again) (turns_from step b ending c start m' again')
+  pub turns_means_same : (m m' : Meaning P T R E A S) (again again' : Start P T E A) → TurnsSame m again m' again' → MeansSame {State = TurnsState V S} (turns_from step errors b ending c start m again) (turns_from step errors b ending c start m' again')
   turns_means_same m m' again again' t = record {
     whole = λ v o. (there m.whole m'.whole (λ v o. (h.whole v o).0) start v o, back m.whole m'.whole (λ v o. (h.whole v o).1) start v o);
     rest = λ s v o. (there (m.rest (running_turn s)) (m'.rest (running_turn s)) (λ v o. (h.rest (running_turn s) v o).0) (so_far_or start c.held s.earlier) v o, back (m.rest (running_turn s)) (m'.rest (running_turn s)) (λ v o. (h.rest (running_turn s) v o).1) (so_far_or start c.held s.earlier) v o);
@@ -200,13 +221,15 @@ module _ {P T R A V S : Type 0} (step : P → T → P) (b : Bounds) (ending : A 
     puts_back = (λ b. b, λ b. b);
     lean = (λ l. (h.lean.0 l.0, l.1), λ l. (h.lean.1 l.0, l.1));
     adds = h.adds;
+    refuses = onward_same step errors b ending again again' t.later (from_start m) (from_start m') (record { reads = h.whole; refuses = h.refuses }) start.mark start.committed;
+    refuses_from = λ s. onward_same step errors b ending again again' t.later (from_state m (running_turn s)) (from_state m' (running_turn s)) (record { reads = h.rest (running_turn s); refuses = h.refuses_from (running_turn s) }) (so_far_or start c.held s.earlier).mark (so_far_or start c.held s.earlier).committed;
   }
     where
       h : MeansSame m m'
       h = t.meaning
 
-      there : (r r' : Reading P T A) → ((v : View P T) (o : Outcome A) → r v o → r' v o) → (s : SoFar Place c.Held) (v : View P T) (o : Outcome V) → Turned step (bounded b ending) c (λ _. again) r s v o → Turned step (bounded b ending) c (λ _. again') r' s v o
-      there r r' i s v o k = turned_into step (bounded b ending) c (λ _. again) (λ _. again') (λ g v o. (t.later v o).0) r r' i s v o k
+      there : (r r' : Reading P T A) → ((v : View P T) (o : Outcome A) → r v o → r' v o) → (s : SoFar Place c.Held) (v : View P T) (o : Outcome V) → Turned step (bounded b ending) c (λ _. again.reads) r s v o → Turned step (bounded b ending) c (λ _. again'.reads) r' s v o
+      there r r' i s v o k = turned_into step (bounded b ending) c (λ _. again.reads) (λ _. again'.reads) (λ g v o. (t.later.reads v o).0) r r' i s v o k
 
-      back : (r r' : Reading P T A) → ((v : View P T) (o : Outcome A) → r' v o → r v o) → (s : SoFar Place c.Held) (v : View P T) (o : Outcome V) → Turned step (bounded b ending) c (λ _. again') r' s v o → Turned step (bounded b ending) c (λ _. again) r s v o
-      back r r' i s v o k = turned_into step (bounded b ending) c (λ _. again') (λ _. again) (λ g v o. (t.later v o).1) r' r i s v o k
+      back : (r r' : Reading P T A) → ((v : View P T) (o : Outcome A) → r' v o → r v o) → (s : SoFar Place c.Held) (v : View P T) (o : Outcome V) → Turned step (bounded b ending) c (λ _. again'.reads) r' s v o → Turned step (bounded b ending) c (λ _. again.reads) r s v o
+      back r r' i s v o k = turned_into step (bounded b ending) c (λ _. again'.reads) (λ _. again.reads) (λ g v o. (t.later.reads v o).1) r' r i s v o k

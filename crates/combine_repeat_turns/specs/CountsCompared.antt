@@ -1,5 +1,6 @@
 -- counted repetitions beside one another
 use Rattle.std.specs.Prelude.{ℕ, ◌≡◌}
+use Rattle.combine_base.specs.Error.Errors.{Errors}
 use Rattle.combine_base.specs.Stream.View.{View}
 use Rattle.combine_base.specs.Parser.Outcome.{Outcome, shape}
 use Rattle.combine_base.specs.Parser.Meaning.{Meaning, Reading}
@@ -12,6 +13,6 @@ pub record DropsValues {P T A V : Type 0} (c : Collecting A V) (collects : Readi
   -- any collection of what was dropped is what the first gives
   pub collected : (v : View P T) (o : Outcome Unit) → drops v o → (h : c.Held) × ((i : Outcome V) → shape i ≡ o → Collects c i h → collects v i)
 
-module _ {P T R A V S : Type 0} (step : P → T → P) (c : Collecting A V) (m : Meaning P T R A S) where
+module _ {P T R E A V S : Type 0} (step : P → T → P) (errors : Errors T R P E) (c : Collecting A V) (m : Meaning P T R E A S) where
   abbrev pub CountOrSkip : ℕ → ℕ → Type 0
-  CountOrSkip least most = DropsValues c (count_min_max step c least most m).whole (skip_count_min_max step least most m).whole
+  CountOrSkip least most = DropsValues c (count_min_max step errors c least most m).whole (skip_count_min_max step errors least most m).whole

@@ -11,7 +11,7 @@ use Rattle.combine_repeat_turns.specs.declared.turns.First.{First}
 use Rattle.combine_repeat_turns.specs.declared.turns.First.TheVariants.{Goes, Refused, More, Failed}
 use Rattle.combine_repeat_turns.specs.declared.turns.Turns.{Turns as Kept}
 
-module _ {P T R A V S E : Type 0} (w : World P T S E) (c : Collecting A V) (none : c.Held) (m : Meaning P T R A S) (r : Run P T S) where
+module _ {P T R A V S E : Type 0} (w : World P T S E) (c : Collecting A V) (none : c.Held) (m : Meaning P T R E A S) (r : Run P T S) where
   -- it is a block, and makes what is gathered
   pub record FirstGoes (new : Kept V) : Type 0 where
     pub turn : A × Bool

@@ -14,6 +14,8 @@ pub mod Turn
 pub mod Sound
 pub mod Bounded
 pub mod OneTurn
+pub mod TurnRefusals
+pub mod TurnsMeaning
 pub mod BoundedLaws
 pub mod FirstTurn
 pub mod Plain

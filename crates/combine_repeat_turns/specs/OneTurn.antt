@@ -22,14 +22,14 @@ use Rattle.combine_repeat_turns.specs.declared.turns.Turns.{Turns as Kept}
 use Rattle.combine_repeat_turns.specs.declared.turns.TurnsState.{TurnsState}
 use Rattle.combine_repeat_turns.specs.declared.turns.Earlier.TheVariants as earlier
 
-module _ {P T R A S E : Type 0} (w : World P T S E) (b : Bounds) (ending : A → Bool) (m : Meaning P T R A S) (r : Run P T S) (place : Place) where
+module _ {P T R A S E : Type 0} (w : World P T S E) (b : Bounds) (ending : A → Bool) (m : Meaning P T R E A S) (r : Run P T S) (place : Place) where
   -- the turn is accepted with that value, committed or not, which doesn't end the turns, and that answer says whether it is a block
   pub record Judged (x : A × Bool) (goes : Bool) : Type 0 where
     pub accepts : Accepts w m r x.0 x.1
     pub on : ending x.0 ≡ false
     pub says : goes ≡ goes_at b place accepts.count x.1
 
-module _ {P T R A V S E : Type 0} (w : World P T S E) (b : Bounds) (ending : A → Bool) (c : Collecting A V) (m : Meaning P T R A S) (r : Run P T S) (old : Kept V) where
+module _ {P T R A V S E : Type 0} (w : World P T S E) (b : Bounds) (ending : A → Bool) (c : Collecting A V) (m : Meaning P T R E A S) (r : Run P T S) (old : Kept V) where
   -- the turn is a block, and the next one runs
   pub record GoesOn (new : Kept V) : Type 0 where
     pub turn : A × Bool

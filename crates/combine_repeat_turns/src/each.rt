@@ -1,7 +1,7 @@
 //! The same parser in each turn, and each value appended or dropped.
 ghost use Rattle.std.specs.Prelude.{◌≡◌, false};
 ghost use Rattle.combine_repeat_turns.specs.Sound.{any_sound};
-ghost use Rattle.combine_repeat_turns.specs.Turn.{gives_any, plain_is_turn, plain_once};
+ghost use Rattle.combine_repeat_turns.specs.Turn.{from_start, gives_any, plain_is_turn, plain_once};
 ghost use Rattle.combine_repeat_turns.specs.Plain.{plain_parser};
 
 use crate::turns::{Gather, Turn};
@@ -29,7 +29,7 @@ impl<Input: Stream, P: Parser<Input>> Turn<Input> for Plain<P> {
 
     ghost meaning = { λ p. P.meaning (plain_parser p) };
 
-    ghost again = { λ p. (P.meaning (plain_parser p)).whole };
+    ghost again = { λ p. from_start (P.meaning (plain_parser p)) };
 
     ghost ending = { λ _. false };
 

@@ -4,7 +4,7 @@
 //!
 //! A collection that can't grow gives the committed fault `Memory`, and a stream that can't be put back the committed fault `Reset`, each at the position where the turn began; the faults of the parser are passed on. On need of more the state keeps what is collected, how many turns there were, whether one committed, which the crate forgets, and the turn that runs. What is added to an error is as for the parser; each counts as one parser.
 //!
-//! Of the error that a refusal has nothing is said beyond its kind: what the parser says of its errors is known of one call, and not of one after several.
+//! Which error a refusal has is exact: that of a turn that is refused committed, or one that says how many turns are missing, at the place where the last turn was begun or resumed. A turn's own error is one that the parser refuses with.
 ghost use Rattle.std.specs.Prelude.{◌≡◌, ◌≤◌};
 ghost use Rattle.combine_repeat_turns.specs.CountParsers.{count_min_max_of, count_of, skip_count_min_max_of, skip_count_of};
 

@@ -3,6 +3,7 @@ ghost use Rattle.std.specs.Prelude.{◌≡◌, ◌-◌, ◌||◌, ℕ, Bool, fal
 ghost use Rattle.combine_base.specs.Stream.View.{View, Takes};
 ghost use Rattle.combine_base.specs.Parser.Answer.{Answers, Run, world};
 ghost use Rattle.combine_base.specs.Parser.AnswersCalls.{AnswersCall};
+ghost use Rattle.combine_base.specs.Parser.Reasons.{ReasonedCall};
 ghost use Rattle.combine_base.specs.Stream.Calls.{Passes};
 ghost use Rattle.combine_base.specs.Error.Errors.{Only};
 ghost use Rattle.combine_base.specs.Error.Items.{Count, Message};
@@ -12,8 +13,10 @@ ghost use Rattle.std.specs.Prelude.{None};
 ghost use Rattle.combine_repeat_turns.specs.FirstTurn.{FirstTurn};
 ghost use Rattle.combine_repeat_turns.specs.OneTurn.{IsGathered, OneTurn, Ran, halted, stopped_answer, stopped_state, then_left};
 ghost use Rattle.combine_repeat_turns.specs.Sound.{LeavesSound, kept_sound};
-ghost use Rattle.combine_repeat_turns.specs.Turn.{TurnsSame, called};
-ghost use Rattle.combine_repeat_turns.specs.Bounded.{gathered, cut_at, counted, fresh_turns, kept_or, none_yet, running_turn, so_far, turns_from};
+ghost use Rattle.combine_repeat_turns.specs.TurnRefusals.{FirstRefuses, JudgesRefusal, StepRefuses};
+ghost use Rattle.combine_repeat_turns.specs.Turn.{TurnsSame, called, started};
+ghost use Rattle.combine_repeat_turns.specs.TurnsMeaning.{turns_from};
+ghost use Rattle.combine_repeat_turns.specs.Bounded.{gathered, cut_at, counted, fresh_turns, kept_or, none_yet, running_turn, so_far};
 ghost use Rattle.combine_base.specs.declared.error.ParseResult.TheVariants.{PeekErr};
 
 mod entry;
@@ -32,12 +35,13 @@ use std::mem;
 /// What runs in a turn: the first one, or any later one, which may differ.
 pub trait Turn<Input: Stream> {
     ghost use Rattle.std.specs.Prelude.{◌≡◌, Bool, true};
-    ghost use Rattle.combine_base.specs.Parser.Meaning.{Meaning, Reading};
+    ghost use Rattle.combine_base.specs.Parser.Meaning.{Meaning};
     ghost use Rattle.combine_base.specs.Parser.Answer.{Answers, world};
     ghost use Rattle.combine_base.specs.Parser.AnswersCalls.{AnswersCall};
+    ghost use Rattle.combine_base.specs.Parser.Reasons.{ReasonedCall};
     ghost use Rattle.combine_base.specs.Error.Errors.{Says};
     ghost use Rattle.combine_base.specs.Stream.Calls.{Passes};
-    ghost use Rattle.combine_repeat_turns.specs.Turn.{TurnsSame, TurnsOnce, TurnsGive, IsTurn, called};
+    ghost use Rattle.combine_repeat_turns.specs.Turn.{Start, TurnsSame, TurnsOnce, TurnsGive, IsTurn, called};
 
     /// What a turn gives.
     type Value: Drop;
@@ -52,10 +56,10 @@ pub trait Turn<Input: Stream> {
     ghost valid: { Self.Running → Type 0 };
 
     /// The first turn from its start, and any from a kept state.
-    ghost meaning: { Self → Meaning Input.Position Input.Token Input.Range Self.Value Self.Running };
+    ghost meaning: { Self → Meaning Input.Position Input.Token Input.Range Input.Error Self.Value Self.Running };
 
-    /// A later turn from its start.
-    ghost again: { Self → Reading Input.Position Input.Token Self.Value };
+    /// A later turn from its start: its outcomes, and the errors of its refusals.
+    ghost again: { Self → Start Input.Position Input.Token Input.Error Self.Value };
 
     /// The values that end the turns.
     ghost ending: { Self.Value → Bool };
@@ -77,7 +81,8 @@ pub trait Turn<Input: Stream> {
         ensures valid { valid state.new }
         ensures same { TurnsSame (meaning self.old) (again self.old) (meaning self.new) (again self.new) }
         ensures passes { Passes (Input.marks input.old) (Input.marks input.new) (Input.failures input.old) (Input.failures input.new) }
-        ensures answers { AnswersCall Input.StreamOnce Input.Error.seen Self.Running.is_default (called (meaning self.old) (again self.old) later) (M.first mode) state.old state.new input.old input.new result };
+        ensures answers { AnswersCall Input.StreamOnce Input.Error.seen Self.Running.is_default (called (meaning self.old) (again self.old) later) (M.first mode) state.old state.new input.old input.new result }
+        ensures refuses { ReasonedCall Input.Error.seen (called (meaning self.old) (again self.old) later) (M.first mode) state.old (Input.view input.old) (Input.view input.new) result };
 
     /// What the first turn adds.
     fn add_error(&mut self, error: &mut Tracked<Input::Error>)
@@ -386,6 +391,7 @@ fn parse_turn<Input: Stream, P: Turn<Input>, M: ParseMode>(
     ensures same { TurnsSame (P.meaning parser.old) (P.again parser.old) (P.meaning parser.new) (P.again parser.new) }
     ensures passes { Passes (Input.marks input.old) (Input.marks input.new) (Input.failures input.old) (Input.failures input.new) }
     ensures answers { AnswersCall Input.StreamOnce Input.Error.seen P.Running.is_default (called (P.meaning parser.old) (P.again parser.old) false) (M.first mode) state.old state.new input.old input.new result }
+    ensures refuses { ReasonedCall Input.Error.seen (called (P.meaning parser.old) (P.again parser.old) false) (M.first mode) state.old (Input.view input.old) (Input.view input.new) result }
 {
     if mode.is_first() {
         return Afresh { later: false }.enter(parser, input, state);
@@ -442,6 +448,7 @@ fn judge_refusal<G: Gather<P::Value>, Input: Stream, P: Turn<Input>, B: Bounded>
         Answers (world Input.step Input.Error.seen Input.steady P.Running.is_default) (called (P.meaning p) (P.again p) later) r (PeekErr refusal) →
         halted (world Input.step Input.Error.seen Input.steady P.Running.is_default) (B.bounds bounds) P.ending (gathered G.held G.none G.more G.lean) (called (P.meaning p) (P.again p) later)
         (then_left r (Input.view input.new) (Input.failures input.new)) turns result }
+    ensures refuses { (p : P) (later : Bool) → JudgesRefusal Input.step Input.Error.seen (B.bounds bounds) P.ending (called (P.meaning p) (P.again p) later) turns position refusal.error (Input.view input.old) (Input.view input.new) result }
 {
     if is_enough(bounds, turns.place) {
         if let Err(kind) = input.reset(since) {
@@ -481,6 +488,7 @@ fn one_turn<G: Gather<P::Value>, Input: Stream, P: Turn<Input>, B: Bounded, C: E
         (B.bounds bounds) P.ending (gathered G.held G.none G.more G.lean) (called (P.meaning parser.old) (P.again parser.old) (C.later entry))
         (record { first = C.first entry; state = running.old; left = running.new; old = Input.view input.old; new = Input.view input.new; before = Input.failures input.old; after = Input.failures input.new })
         turns result }
+    ensures refuses { StepRefuses Input.step Input.Error.seen (B.bounds bounds) P.ending (started (called (P.meaning parser.old) (P.again parser.old) (C.later entry)) (C.first entry) running.old) (Input.view input.old) (Input.view input.new) turns result }
 {
     let since = input.checkpoint();
     let position = input.position();
@@ -543,6 +551,7 @@ fn first_turn<G: Gather<P::Value>, Input: Stream, P: Turn<Input>, M: ParseMode>(
         (gathered G.held G.none G.more G.lean) G.none (called (P.meaning parser.old) (P.again parser.old) false)
         (record { first = M.first mode; state = running.old; left = running.new; old = Input.view input.old; new = Input.view input.new; before = Input.failures input.old; after = Input.failures input.new })
         result }
+    ensures refuses { FirstRefuses Input.Error.seen (started (called (P.meaning parser.old) (P.again parser.old) false) (M.first mode) running.old) (Input.view input.old) (Input.view input.new) result }
 {
     let position = input.position();
     let (value, committed) = match parse_turn(parser, mode, input, running) {
@@ -606,7 +615,8 @@ pub fn take_turns<G: Gather<P::Value>, Input: Stream, P: Turn<Input>, M: ParseMo
     ensures valid { P.valid (running_turn state.new) }
     ensures same { TurnsSame (P.meaning parser.old) (P.again parser.old) (P.meaning parser.new) (P.again parser.new) }
     ensures passes { Passes (Input.marks input.old) (Input.marks input.new) (Input.failures input.old) (Input.failures input.new) }
-    ensures answers { AnswersCall Input.StreamOnce Input.Error.seen (fresh_turns P.Running.is_default) (turns_from Input.step (B.bounds bounds) P.ending (gathered G.held G.none G.more G.lean) (so_far G.held start) (P.meaning parser.old) (P.again parser.old)) (M.first mode) state.old state.new input.old input.new result }
+    ensures answers { AnswersCall Input.StreamOnce Input.Error.seen (fresh_turns P.Running.is_default) (turns_from Input.step Input.Error.seen (B.bounds bounds) P.ending (gathered G.held G.none G.more G.lean) (so_far G.held start) (P.meaning parser.old) (P.again parser.old)) (M.first mode) state.old state.new input.old input.new result }
+    ensures refuses { ReasonedCall Input.Error.seen (turns_from Input.step Input.Error.seen (B.bounds bounds) P.ending (gathered G.held G.none G.more G.lean) (so_far G.held start) (P.meaning parser.old) (P.again parser.old)) (M.first mode) state.old (Input.view input.old) (Input.view input.new) result }
 {
     let mut turns = state.begin(mode.is_first(), start);
     let mut later = false;
@@ -670,7 +680,8 @@ pub fn take_joined<G: Gather<P::Value>, Input: Stream, P: Turn<Input>, M: ParseM
     ensures sound { LeavesSound (λ i. G.sound (G.held i)) state.new result }
     ensures same { TurnsSame (P.meaning parser.old) (P.again parser.old) (P.meaning parser.new) (P.again parser.new) }
     ensures passes { Passes (Input.marks input.old) (Input.marks input.new) (Input.failures input.old) (Input.failures input.new) }
-    ensures answers { AnswersCall Input.StreamOnce Input.Error.seen (fresh_turns P.Running.is_default) (turns_from Input.step (Bounds.Joined 1 None) P.ending (gathered G.held G.none G.more G.lean) (none_yet G.none) (P.meaning parser.old) (P.again parser.old)) (M.first mode) state.old state.new input.old input.new result }
+    ensures answers { AnswersCall Input.StreamOnce Input.Error.seen (fresh_turns P.Running.is_default) (turns_from Input.step Input.Error.seen (Bounds.Joined 1 None) P.ending (gathered G.held G.none G.more G.lean) (none_yet G.none) (P.meaning parser.old) (P.again parser.old)) (M.first mode) state.old state.new input.old input.new result }
+    ensures refuses { ReasonedCall Input.Error.seen (turns_from Input.step Input.Error.seen (Bounds.Joined 1 None) P.ending (gathered G.held G.none G.more G.lean) (none_yet G.none) (P.meaning parser.old) (P.again parser.old)) (M.first mode) state.old (Input.view input.old) (Input.view input.new) result }
 {
     let bounds = JoinedFrom { least: 1 };
     let mut turns: Turns<G::Into>;

@@ -1,4 +1,5 @@
 mod Comparing
+mod Muting
 mod OneTurns
 mod UntilCalls
 mod UntilErrors

@@ -14,7 +14,7 @@ use Rattle.combine_repeat_turns.specs.Turns.{Collecting}
 use Rattle.combine_repeat_until.specs.UntilTurn.{GoesOn, NeedsMore, HasFailed, Unreset}
 use Rattle.combine_repeat_until.specs.declared.until.Blocks.{Blocks}
 
-module _ {P T R A S E : Type 0} (w : World P T S E) (m : Meaning P T R (Option A) S) where
+module _ {P T R A S E : Type 0} (w : World P T S E) (m : Meaning P T R E (Option A) S) where
   pub accepts_value : (r : Run P T S) (x : Option A × Bool) (a y : Option A) (k : Bool) → x ≡ (a, k) → x.0 ≡ y → Accepts w m r a k → Accepts w m r y x.1
   accepts_value r x a y k e f p = let q : Accepts w m r x.0 x.1 = rw e p in rw f at q
 
@@ -25,7 +25,7 @@ module _ {P T R A S E : Type 0} (w : World P T S E) (m : Meaning P T R (Option A
       let y = h.2 in
       Unreset (q ∙ h.0) (omega arith) (record { count = p.count + x.count; taken = takes_more w.step p.count x.count old now new p.taken x.taken; state = p.state })
 
-module _ {P T R A V S E : Type 0} (w : World P T S E) (m : Meaning P T R (Option A) S) (c : Collecting (Option A) V) (r : Run P T S) (marked : View P T → Type 0) (old new : Blocks V) where
+module _ {P T R A V S E : Type 0} (w : World P T S E) (m : Meaning P T R E (Option A) S) (c : Collecting (Option A) V) (r : Run P T S) (marked : View P T → Type 0) (old new : Blocks V) where
   -- its parser needs more, and the blocks are those of the next piece
   pub needs_more : (e : E) → (w.kind e ≡ kinds.End) × (r.new.is_open ≡ true) → Answers w m r (CommitErr e) → ((n : ℕ) → Takes w.step n r.old r.new → new ≡ record { into = old.into; committed = old.committed; begun = old.begun || nat_lt 0 n }) → NeedsMore w m c r marked old new e
   needs_more e q p h =

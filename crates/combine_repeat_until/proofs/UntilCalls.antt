@@ -8,6 +8,7 @@ use Rattle.combine_base.specs.Parser.Meaning.{Meaning, Reading, IsReading, IsMea
 use Rattle.combine_base.specs.Parser.Answer.{Run, World, Answers, Accepts, Refuses, Asks, Leaves, fails, peeks, loses}
 use Rattle.combine_base.specs.Parser.Drivers.{Broke}
 use Rattle.combine_base.specs.Distances.{stops}
+use Rattle.combine_base.specs.Error.Errors.{Errors}
 use Rattle.combine_base.specs.Sequence.Parts.{accepted_as}
 use Rattle.combine_base.proofs.Progress.{takes_more, takes_none, takes_open, after_none}
 use Rattle.combine_base.proofs.Calls.{around, need_of_more, needs, same_mark as marks_same, settles}
@@ -20,8 +21,9 @@ use Rattle.combine_base.specs.declared.error.ParseResult.{ParseResult}
 use Rattle.combine_base.specs.declared.error.ParseResult.TheVariants.{CommitErr, PeekErr}
 use Rattle.combine_combinator.specs.Attempt.{Loses, Short, Within, losing}
 use Rattle.combine_repeat_turns.specs.Turns.{Block, outcome, taken, values, any_committed, Goes, Stops, Collecting, SoFar, Folds, Divides, Collects}
-use Rattle.combine_repeat_until.specs.Until.{block_at, until_judged, until_rule, stop_at, stopped_at, Until, no_blocks, blocks_so_far, until_fresh, until_valid, until_lost, until}
+use Rattle.combine_repeat_until.specs.Until.{block_at, until_judged, until_rule, stop_at, stopped_at, Until, no_blocks, blocks_so_far, until_fresh, until_valid}
 use Rattle.combine_repeat_until.specs.UntilLaws.{until_is_rule, until_into}
+use Rattle.combine_repeat_until.specs.UntilMeaning.{until, until_lost}
 use Rattle.combine_repeat_until.specs.UntilTurn.{Afresh, HandsOut, handed, Comes, GoesOn, EndsHere, NeedsMore, HasFailed, InTurn, TakesNothing, Unstored, Unreset, OneTurn, halted, turned, HasKept, HasBroken, Keeps, KeepsRunning, Settled}
 use Rattle.combine_repeat_until.specs.declared.until.Blocks.{Blocks}
 use Rattle.combine_repeat_until.specs.declared.until.Kept.{Kept}
@@ -57,14 +59,14 @@ both_true : (a b : Bool) → (a && b) ≡ true → a ≡ true
 both_true true b e = refl
 both_true false b e = absurd (cc)
 
-module _ {P T R A V S E : Type 0} (w : World P T S E) (c : Collecting (Option A) V) (m : Meaning P T R (Option A) S) where
+module _ {P T R A V S E : Type 0} (w : World P T S E) (errors : Errors T R P E) (c : Collecting (Option A) V) (m : Meaning P T R E (Option A) S) where
   -- a call that began so has come to a turn that runs so and began at that place
   pub record Reaches (first : Bool) (state : UntilState V S) (old : View P T) (earlier : Failures) (turn_first : Bool) (turn_state : S) (place now : View P T) (later : Failures) (s : SoFar Bool c.Held) : Type 0 where
     pub before : ℕ
     pub beyond : ℕ
     pub there : Takes w.step before old place
     pub on : Takes w.step beyond place now
-    pub leads : (x : List T) (b : Bool) (o : Outcome V) → Follows old.is_open x b → Until w.step c m.whole before beyond (begun m turn_first turn_state) s (extended x b old) o → begun (until w.step c m) first state (extended x b old) o
+    pub leads : (x : List T) (b : Bool) (o : Outcome V) → Follows old.is_open x b → Until w.step c m.whole before beyond (begun m turn_first turn_state) s (extended x b old) o → begun (until w.step errors c m) first state (extended x b old) o
     pub counted : 0 < before → s.committed ≡ true
     pub lost : turn_first ≡ false → m.lost turn_state now → (first ≡ false) × until_lost w.step c m state old
     pub failures : w.steady → later ≡ earlier
@@ -94,7 +96,7 @@ module _ {P T R A V S E : Type 0} (w : World P T S E) (c : Collecting (Option A)
         whole_from true v o x = x
         whole_from false v o x = (h.start k.running v o a.running).0 x
 
-    pub starts : (first : Bool) (state : UntilState V S) (k : Kept V S) (into : V) → handed fresh into first state k → c.held into ≡ c.none → (v : View P T) (o : Outcome V) → Until w.step c m.whole k.before k.beyond (begun m first k.running) (blocks_so_far c.held k.blocks) v o → begun (until w.step c m) first state v o
+    pub starts : (first : Bool) (state : UntilState V S) (k : Kept V S) (into : V) → handed fresh into first state k → c.held into ≡ c.none → (v : View P T) (o : Outcome V) → Until w.step c m.whole k.before k.beyond (begun m first k.running) (blocks_so_far c.held k.blocks) v o → begun (until w.step errors c m) first state v o
     starts true state k into a e v o u = from_nothing k into a e true v o u
     starts false Begin k into a e v o u = from_nothing k into a e false v o u
     starts false (At j) k into a e v o u = let f : k ≡ j = a in subst (λ k. Until w.step c m.whole k.before k.beyond (m.rest k.running) (blocks_so_far c.held k.blocks) v o) f u
@@ -169,7 +171,7 @@ module _ {P T R A V S E : Type 0} (w : World P T S E) (c : Collecting (Option A)
         block : Block (Option A)
         block = record { value = Some g.value; count = n0; committed = g.committed }
 
-        leading : (x : List T) (e : Bool) (o : Outcome V) → Follows u.old.is_open x e → Until w.step c m.whole (z.before + z.beyond + n0) 0 m.whole (record { mark = false; held = g.held; committed = b.committed || g.committed }) (extended x e u.old) o → begun (until w.step c m) u.first u.state (extended x e u.old) o
+        leading : (x : List T) (e : Bool) (o : Outcome V) → Follows u.old.is_open x e → Until w.step c m.whole (z.before + z.beyond + n0) 0 m.whole (record { mark = false; held = g.held; committed = b.committed || g.committed }) (extended x e u.old) o → begun (until w.step errors c m) u.first u.state (extended x e u.old) o
         leading x e o f t = z.leads x e o f (record {
           enough = let i = come.enough in omega (arith, length-append u.old.unread x);
           blocks = block ∷ t.blocks;
@@ -194,9 +196,9 @@ module _ {P T R A V S E : Type 0} (w : World P T S E) (c : Collecting (Option A)
             far = ap (λ i. advanced w.step i (extended x e u.old)) {x = z.before + z.beyond + n0 + 0} {y = z.before + z.beyond + n0} (omega arith) ∙ sym (advanced_twice w.step (z.before + z.beyond) n0 (extended x e u.old))
 
     -- the blocks stop here
-    stops_here : (i : Outcome (Option A)) (l : Outcome (Unit {0})) (o : Outcome V) → begun m r.first r.state r.old i → until_judged b.begun i ≡ Stops l → shape o ≡ stopped_at z.before (b.committed || false) l → Collects c o (c.held b.into) → begun (until w.step c m) u.first u.state u.old o
+    stops_here : (i : Outcome (Option A)) (l : Outcome (Unit {0})) (o : Outcome V) → begun m r.first r.state r.old i → until_judged b.begun i ≡ Stops l → shape o ≡ stopped_at z.before (b.committed || false) l → Collects c o (c.held b.into) → begun (until w.step errors c m) u.first u.state u.old o
     stops_here i l o d j e q =
-        let Whole : View P T → Type 0 = λ v. begun (until w.step c m) u.first u.state v o in
+        let Whole : View P T → Type 0 = λ v. begun (until w.step errors c m) u.first u.state v o in
         let Part : View P T → Type 0 = λ v. Until w.step c m.whole z.before z.beyond (begun m r.first r.state) (blocks_so_far c.held b) v o in
         let At : View P T → Type 0 = λ v. begun m r.first r.state v i in
         subst Whole (extended_none u.old) (z.leads [] u.old.is_open o (follows_none T u.old.is_open) (subst Part (sym (extended_none u.old)) (record {
@@ -222,14 +224,14 @@ module _ {P T R A V S E : Type 0} (w : World P T S E) (c : Collecting (Option A)
     steady : Quits → (w.steady → r.after ≡ r.before) → w.steady → u.after ≡ u.before
     steady q f s = q.after ∙ f s ∙ z.failures s
 
-    pub until_ends : (marked : View P T → Type 0) (n : Blocks V) → EndsHere w m c r marked b n → marked place → Quits → Answers (around w until_fresh) (until w.step c m) u (accepted_as n.committed n.into)
+    pub until_ends : (marked : View P T → Type 0) (n : Blocks V) → EndsHere w m c r marked b n → marked place → Quits → Answers (around w until_fresh) (until w.step errors c m) u (accepted_as n.committed n.into)
     until_ends marked n p i q = rw p.blocks (by_kind (b.committed || p.committed) accepted)
       where
         kind : (t : Bool) → nat_lt 0 z.before ≡ t → (b.committed || p.committed) ≡ (t || ((b.committed || false) || p.committed))
         kind true e = let x : b.committed ≡ true = z.counted (ltb-true 0 z.before e) in rw x refl
         kind false e = rw (or_false b.committed) refl
 
-        accepted : Accepts (around w until_fresh) (until w.step c m) u b.into (b.committed || p.committed)
+        accepted : Accepts (around w until_fresh) (until w.step errors c m) u b.into (b.committed || p.committed)
         accepted = record {
           count = z.before;
           meant = stops_here (Accepted None p.count p.committed) (Accepted tt p.count p.committed) (Accepted b.into z.before (b.committed || p.committed)) p.meant refl (ap (Accepted tt z.before) (kind (nat_lt 0 z.before) refl)) refl;
@@ -238,17 +240,17 @@ module _ {P T R A V S E : Type 0} (w : World P T S E) (c : Collecting (Option A)
           failures = steady q p.failures;
         }
 
-        by_kind : (k : Bool) → Accepts (around w until_fresh) (until w.step c m) u b.into k → Answers (around w until_fresh) (until w.step c m) u (accepted_as k b.into)
+        by_kind : (k : Bool) → Accepts (around w until_fresh) (until w.step errors c m) u b.into k → Answers (around w until_fresh) (until w.step errors c m) u (accepted_as k b.into)
         by_kind true x = record { is = x }
         by_kind false x = record { is = x }
 
-    refuses : (k : Bool) → Quits → Refuses w m r k → Refuses (around w until_fresh) (until w.step c m) u k
+    refuses : (k : Bool) → Quits → Refuses w m r k → Refuses (around w until_fresh) (until w.step errors c m) u k
     refuses k q y = record { meant = stops_here (Refused k) (Refused k) (Refused k) y.meant refl refl tt; leaves = leaves q y.leaves; failures = steady q y.failures }
 
-    pub until_refused : (t : Tracked E) → Answers w m r (PeekErr t) → Quits → Answers (around w until_fresh) (until w.step c m) u (PeekErr t)
+    pub until_refused : (t : Tracked E) → Answers w m r (PeekErr t) → Quits → Answers (around w until_fresh) (until w.step errors c m) u (PeekErr t)
     until_refused t p q = record { is = by_kind (w.kind t.error) p.is }
       where
-        by_kind : (k : Kind) → peeks w m r k → peeks (around w until_fresh) (until w.step c m) u k
+        by_kind : (k : Kind) → peeks w m r k → peeks (around w until_fresh) (until w.step errors c m) u k
         by_kind kinds.Refused y = refuses false q y
         by_kind kinds.End y = (sym same_mark ∙ y.0, refuses false q y.1)
         by_kind kinds.Memory y = y
@@ -256,8 +258,8 @@ module _ {P T R A V S E : Type 0} (w : World P T S E) (c : Collecting (Option A)
         by_kind kinds.Reset y = y
         by_kind kinds.Lost y = y
 
-    pub until_fails : (marked : View P T → Type 0) (e : E) → HasFailed w m c r marked b e → Quits → Answers (around w until_fresh) (until w.step c m) u (CommitErr e)
-    until_fails marked e (InTurn n p) q = settles w until_fresh m (until w.step c m) r u e n p (record {
+    pub until_fails : (marked : View P T → Type 0) (e : E) → HasFailed w m c r marked b e → Quits → Answers (around w until_fresh) (until w.step errors c m) u (CommitErr e)
+    until_fails marked e (InTurn n p) q = settles w until_fresh m (until w.step errors c m) r u e n p (record {
       is_open = same_mark;
       refuses = refuses true q;
       leaves = leaves q;
@@ -267,7 +269,7 @@ module _ {P T R A V S E : Type 0} (w : World P T S E) (c : Collecting (Option A)
       loses = losing_by r.first u.first refl refl;
     })
       where
-        losing_by : (f g : Bool) → r.first ≡ f → u.first ≡ g → loses w m r f → loses (around w until_fresh) (until w.step c m) u g
+        losing_by : (f g : Bool) → r.first ≡ f → u.first ≡ g → loses w m r f → loses (around w until_fresh) (until w.step errors c m) u g
         losing_by true g i j y = absurd y
         losing_by false true i j y = absurd (let x = (z.lost i y.0).0 in cc)
         losing_by false false i j y = ((z.lost i y.0).1, leaves q y.1)
@@ -276,10 +278,10 @@ module _ {P T R A V S E : Type 0} (w : World P T S E) (c : Collecting (Option A)
         left : Leaves w r
         left = record { count = a.count; taken = a.taken; state = a.state }
 
-        refused : Refuses (around w until_fresh) (until w.step c m) u true
+        refused : Refuses (around w until_fresh) (until w.step errors c m) u true
         refused = record { meant = stops_here (Accepted (Some value) a.count k) (Refused true) (Refused true) a.meant (ap block_at i) refl tt; leaves = leaves q left; failures = steady q a.failures }
 
-        by_kind : (w.kind e ≡ kinds.Refused) ⊎ ((w.kind e ≡ kinds.Memory) × (w.frugal → ⊥)) → Answers (around w until_fresh) (until w.step c m) u (CommitErr e)
+        by_kind : (w.kind e ≡ kinds.Refused) ⊎ ((w.kind e ≡ kinds.Memory) × (w.frugal → ⊥)) → Answers (around w until_fresh) (until w.step errors c m) u (CommitErr e)
         by_kind (inl k) = record { is = rw k refused }
         by_kind (inr k) = record { is = rw k.0 (λ f l. k.1 f, leaves q left) }
     until_fails marked e (Unstored k a y) q = record { is = rw k (λ f l. a l.1, leaves q y) }
@@ -338,7 +340,7 @@ module _ {P T R A V S E : Type 0} (w : World P T S E) (c : Collecting (Option A)
             far : advanced w.step q.count (advanced w.step (z.before + (z.beyond + p.count)) (extended x e u.old)) ≡ advanced w.step (p.count + q.count) (advanced w.step d (extended x e u.old))
             far = advanced_twice w.step (z.before + (z.beyond + p.count)) q.count (extended x e u.old) ∙ ap (λ n. advanced w.step n (extended x e u.old)) {x = z.before + (z.beyond + p.count) + q.count} {y = d + (p.count + q.count)} (omega arith) ∙ sym (advanced_twice w.step d (p.count + q.count) (extended x e u.old))
 
-    asks : (p : Asks w m r) (g : Bool) → g ≡ (b.begun || nat_lt 0 p.count) → u.new ≡ u.old → (w.steady → u.after ≡ r.after) → u.left ≡ At (record { before = z.before; beyond = z.beyond + p.count; blocks = record { into = b.into; committed = b.committed; begun = g }; running = r.left }) → Asks (around w until_fresh) (until w.step c m) u
+    asks : (p : Asks w m r) (g : Bool) → g ≡ (b.begun || nat_lt 0 p.count) → u.new ≡ u.old → (w.steady → u.after ≡ r.after) → u.left ≡ At (record { before = z.before; beyond = z.beyond + p.count; blocks = record { into = b.into; committed = b.committed; begun = g }; running = r.left }) → Asks (around w until_fresh) (until w.step errors c m) u
     asks p g i n a l = record {
       is_open = sym same_mark ∙ p.is_open;
       count = 0;
@@ -365,7 +367,7 @@ module _ {P T R A V S E : Type 0} (w : World P T S E) (c : Collecting (Option A)
         never x e (Within h) = p.found x e (subst (m.lost r.left) (there x e) h)
 
     -- a failed read or reset of its own, counted after the turn
-    broken : (k : Kind) → Broke k r.after u.after → r.before.reads ≤ r.after.reads → r.before.resets ≤ r.after.resets → Leaves (around w until_fresh) u → fails (around w until_fresh) (until w.step c m) u k
+    broken : (k : Kind) → Broke k r.after u.after → r.before.reads ≤ r.after.reads → r.before.resets ≤ r.after.resets → Leaves (around w until_fresh) u → fails (around w until_fresh) (until w.step errors c m) u k
     broken kinds.Read h x y l = (let i = z.reads in omega arith, l)
     broken kinds.Reset h x y l = (let i = z.resets in omega arith, l)
     broken kinds.Refused h x y l = absurd h
@@ -374,25 +376,25 @@ module _ {P T R A V S E : Type 0} (w : World P T S E) (c : Collecting (Option A)
     broken kinds.Lost h x y l = absurd h
 
     -- need of more, whose distances are kept, or could not be measured
-    pub until_more : (marked begins stood : View P T → Type 0) (n : Blocks V) (e : E) (given : UntilState V S) (result : ParseResult V E) → NeedsMore w m c r marked b n e → begins u.old → stood place → Keeps w.steady w.step w.kind begins stood r.new u.new r.after u.after n r.left e given u.left result → given ≡ Begin → r.before.reads ≤ r.after.reads → r.before.resets ≤ r.after.resets → Answers (around w until_fresh) (until w.step c m) u result
+    pub until_more : (marked begins stood : View P T → Type 0) (n : Blocks V) (e : E) (given : UntilState V S) (result : ParseResult V E) → NeedsMore w m c r marked b n e → begins u.old → stood place → Keeps w.steady w.step w.kind begins stood r.new u.new r.after u.after n r.left e given u.left result → given ≡ Begin → r.before.reads ≤ r.after.reads → r.before.resets ≤ r.after.resets → Answers (around w until_fresh) (until w.step errors c m) u result
     until_more marked begins stood n e given result p i j h k x y = by_kept (h.is u.old place z.before (z.beyond + a.count) i j z.there (takes_more w.step z.beyond a.count place r.old r.new z.on a.taken))
       where
         a : Asks w m r
         a = need_of_more w m r e p.needs.0 (sym (marks_same w m r e p.answers) ∙ p.needs.1) p.answers
 
-        by_kept : HasKept w.steady w.step w.kind begins stood r.new u.new r.after u.after n r.left e given u.left result u.old z.before (z.beyond + a.count) ⊎ HasBroken w.steady w.step w.kind begins stood r.new u.new r.after u.after n r.left e given u.left result u.old → Answers (around w until_fresh) (until w.step c m) u result
-        by_kept (inl q) = rw q.answer (needs w until_fresh m (until w.step c m) r u e p.needs p.answers same_mark (λ _. asks a p.begun_so (p.cut a.count a.taken) q.back q.failures (q.state ∙ ap (λ t. At (record { before = z.before; beyond = z.beyond + a.count; blocks = t; running = r.left })) p.blocks)))
+        by_kept : HasKept w.steady w.step w.kind begins stood r.new u.new r.after u.after n r.left e given u.left result u.old z.before (z.beyond + a.count) ⊎ HasBroken w.steady w.step w.kind begins stood r.new u.new r.after u.after n r.left e given u.left result u.old → Answers (around w until_fresh) (until w.step errors c m) u result
+        by_kept (inl q) = rw q.answer (needs w until_fresh m (until w.step errors c m) r u e p.needs p.answers same_mark (λ _. asks a p.begun_so (p.cut a.count a.taken) q.back q.failures (q.state ∙ ap (λ t. At (record { before = z.before; beyond = z.beyond + a.count; blocks = t; running = r.left })) p.blocks)))
         by_kept (inr q) = rw q.answer (record { is = broken (w.kind q.error) q.broke x y (record { count = q.moves.count; taken = q.moves.taken; state = q.state ∙ k }) })
 
     -- what blocks answer that stop so
-    pub until_settled : (marked begins stood : View P T → Type 0) (why : Stop V E) (given : UntilState V S) (result : ParseResult V E) → halted w m c r marked b why → Settled w.steady w.step w.kind begins stood r.new u.new r.after u.after r.left given u.left result why → given ≡ Begin → marked place → begins u.old → stood place → r.before.reads ≤ r.after.reads → r.before.resets ≤ r.after.resets → Answers (around w until_fresh) (until w.step c m) u result
+    pub until_settled : (marked begins stood : View P T → Type 0) (why : Stop V E) (given : UntilState V S) (result : ParseResult V E) → halted w m c r marked b why → Settled w.steady w.step w.kind begins stood r.new u.new r.after u.after r.left given u.left result why → given ≡ Begin → marked place → begins u.old → stood place → r.before.reads ≤ r.after.reads → r.before.resets ≤ r.after.resets → Answers (around w until_fresh) (until w.step errors c m) u result
     until_settled marked begins stood (stop.Ends n) given result h s g i j k x y = let q = s.is.1 in rw s.is.0 (until_ends marked n h i (record { new = q.view; left = q.state ∙ g; after = q.failures }))
     until_settled marked begins stood (stop.Refused t) given result h s g i j k x y = let q = s.is.1 in rw s.is.0 (until_refused t h (record { new = q.view; left = q.state ∙ g; after = q.failures }))
     until_settled marked begins stood (stop.More n e) given result h s g i j k x y = until_more marked begins stood n e given result h j k s.is g x y
     until_settled marked begins stood (stop.Failed e) given result h s g i j k x y = let q = s.is.1 in rw s.is.0 (until_fails marked e h (record { new = q.view; left = q.state ∙ g; after = q.failures }))
 
   -- the kept distances could not be passed over
-  pub until_short : (fresh valid : S → Type 0) → IsMeaning fresh valid m → (u : Run P T (UntilState V S)) (k : Kept V S) (into : V) → HandsOut fresh into u.first u.state k → (j i : Kind) (e : E) → i ≡ losing j → w.kind e ≡ i → stops w.steady w.step u.old u.new u.before u.after (k.before + k.beyond) j → Moves w.step u.old u.new → u.left ≡ Begin → Answers (around w until_fresh) (until w.step c m) u (CommitErr e)
+  pub until_short : (fresh valid : S → Type 0) → IsMeaning fresh valid m → (u : Run P T (UntilState V S)) (k : Kept V S) (into : V) → HandsOut fresh into u.first u.state k → (j i : Kind) (e : E) → i ≡ losing j → w.kind e ≡ i → stops w.steady w.step u.old u.new u.before u.after (k.before + k.beyond) j → Moves w.step u.old u.new → u.left ≡ Begin → Answers (around w until_fresh) (until w.step errors c m) u (CommitErr e)
   until_short fresh valid h u k into a j i e q f s t l = record { is = rw (f, q) (by_kind j s) }
     where
       left : Leaves (around w until_fresh) u
@@ -403,11 +405,11 @@ module _ {P T R A V S E : Type 0} (w : World P T S E) (c : Collecting (Option A)
       short false Begin a y = let p = a.before in let q = a.beyond in absurd (omega arith)
       short false (At d) a y = let g : k ≡ d = a in (refl, Short (subst (λ (n : Kept V S). length u.old.unread < n.before + n.beyond) g y))
 
-      loses_by : (b : Bool) → (b ≡ false) × until_lost w.step c m u.state u.old → loses (around w until_fresh) (until w.step c m) u b
+      loses_by : (b : Bool) → (b ≡ false) × until_lost w.step c m u.state u.old → loses (around w until_fresh) (until w.step errors c m) u b
       loses_by true y = absurd (let g = y.0 in cc)
       loses_by false y = (y.1, left)
 
-      by_kind : (j : Kind) → stops w.steady w.step u.old u.new u.before u.after (k.before + k.beyond) j → fails (around w until_fresh) (until w.step c m) u (losing j)
+      by_kind : (j : Kind) → stops w.steady w.step u.old u.new u.before u.after (k.before + k.beyond) j → fails (around w until_fresh) (until w.step errors c m) u (losing j)
       by_kind kinds.End y = loses_by u.first (short u.first u.state a.is y)
       by_kind kinds.Read y = (y, left)
       by_kind kinds.Refused y = absurd y
@@ -416,7 +418,7 @@ module _ {P T R A V S E : Type 0} (w : World P T S E) (c : Collecting (Option A)
       by_kind kinds.Lost y = absurd y
 
 -- what one turn did is what it did of another parser that means the same
-module _ {P T R A V S E : Type 0} (w : World P T S E) (c : Collecting (Option A) V) (m m' : Meaning P T R (Option A) S) (h : MeansSame m m') (r : Run P T S) (marked : View P T → Type 0) (b : Blocks V) where
+module _ {P T R A V S E : Type 0} (w : World P T S E) (c : Collecting (Option A) V) (m m' : Meaning P T R E (Option A) S) (h : MeansSame m m') (r : Run P T S) (marked : View P T → Type 0) (b : Blocks V) where
   begun_back : (first : Bool) (o : Outcome (Option A)) → begun m' first r.state r.old o → begun m first r.state r.old o
   begun_back true o p = (h.whole r.old o).1 p
   begun_back false o p = (h.rest r.state r.old o).1 p
@@ -443,7 +445,7 @@ module _ {P T R A V S E : Type 0} (w : World P T S E) (c : Collecting (Option A)
   pub turn_back : (x : Step V E) → OneTurn w m' c r marked b x → OneTurn w m c r marked b x
   turn_back x p = record { is = turned_back x p.is }
 
-pub begun_reads : {P T R A S : Type 0} (fresh valid : S → Type 0) (m : Meaning P T R A S) → IsMeaning fresh valid m → (first : Bool) (s : S) → valid s → IsReading (begun m first s)
+pub begun_reads : {P T R E A S : Type 0} (fresh valid : S → Type 0) (m : Meaning P T R E A S) → IsMeaning fresh valid m → (first : Bool) (s : S) → valid s → IsReading (begun m first s)
 begun_reads fresh valid m h true s v = h.whole
 begun_reads fresh valid m h false s v = h.rest s v
 

@@ -14,12 +14,11 @@ pub use Rattle.combine_repeat_turns.specs.CountsCompared
 pub use Rattle.combine_repeat_turns.specs.Turn
 pub use Rattle.combine_repeat_turns.specs.Turns
 pub mod Until
+pub mod UntilMeaning
 pub mod UntilLaws
 pub mod UntilTurn
-pub mod RefusesAlike
 pub mod UntilErrors
 pub mod Mute
 pub mod Next
 pub mod UntilParsers
-pub mod PlaceErrors
 pub mod UntilCompared

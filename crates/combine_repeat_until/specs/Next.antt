@@ -1,6 +1,8 @@
 -- what runs at each place: a parser whose acceptance ends the blocks, and where it is refused peeked, the parser of a block
 use Rattle.std.specs.Prelude.{ℕ, ◌≡◌, Bool, true, false, Option, Some, None, refl}
 use Rattle.std.proofs.Common.{sym, ◌∙◌}
+use Rattle.std.specs.declared.cmp.Ordering.{Ordering}
+use Rattle.combine_base.specs.Error.Errors.{Errors}
 use Rattle.combine_base.specs.Stream.View.{View}
 use Rattle.combine_base.specs.Parser.Outcome.{Accepted, Refused}
 use Rattle.combine_base.specs.Parser.Mapped.{mapped, mapped_reading, mapped_means_one, mapped_is_meaning}
@@ -10,7 +12,7 @@ use Rattle.combine_token.specs.Choice.{Either, Here, Later, refused}
 use Rattle.combine_token.specs.Or.{either_of, or_is_meaning, or_means_one, or_valid}
 use Rattle.combine_token.specs.declared.choice.OrState.{OrState}
 use Rattle.combine_token.specs.declared.choice.OrState.TheVariants as running
-use Rattle.combine_repeat_turns.specs.Turn.{EndsOnce, TurnsOnce}
+use Rattle.combine_repeat_turns.specs.Turn.{EndsOnce, TurnsOnce, from_start}
 use Rattle.combine_repeat_until.specs.Until.{is_none}
 
 -- a value that is dropped, and one that is kept
@@ -36,18 +38,18 @@ module _ {P T A B : Type 0} where
   alike e r h v a a' n k (Later d p) (Here q g) = absurd (let s = h.one v (Accepted q.0 n k) (Refused false) q.1 d in cc)
   alike e r h v a a' n k (Later d p) (Later i q) = some_given r v a n k p ∙ sym (some_given r v a' n k q)
 
-  module _ {R S U : Type 0} where
+  module _ {R E S U : Type 0} (errors : Errors T R P E) (cmp : P → P → Ordering) where
     -- a parser, or else a block
-    abbrev pub next : Meaning P T R B U → Meaning P T R A S → Meaning P T R (Option A) (OrState U S)
-    next end part = either_of (mapped end (Picks absent)) (mapped part (Picks present))
+    abbrev pub next : Meaning P T R E B U → Meaning P T R E A S → Meaning P T R E (Option A) (OrState U S)
+    next end part = either_of errors cmp (mapped end (Picks absent)) (mapped part (Picks present))
 
-    pub next_is_meaning : {fresh valid : U → Type 0} {fresh' valid' : S → Type 0} (end : Meaning P T R B U) (part : Meaning P T R A S) → IsMeaning fresh valid end → IsMeaning fresh' valid' part → IsMeaning (λ s. s ≡ running.Peek) (or_valid valid valid') (next end part)
-    next_is_meaning {fresh} {valid} {fresh'} {valid'} end part h k = or_is_meaning fresh valid fresh' valid' (mapped end (Picks absent)) (mapped part (Picks present)) (mapped_is_meaning fresh valid end (Picks absent) h) (mapped_is_meaning fresh' valid' part (Picks present) k)
+    pub next_is_meaning : {fresh valid : U → Type 0} {fresh' valid' : S → Type 0} (end : Meaning P T R E B U) (part : Meaning P T R E A S) → IsMeaning fresh valid end → IsMeaning fresh' valid' part → IsMeaning (λ s. s ≡ running.Peek) (or_valid valid valid') (next end part)
+    next_is_meaning {fresh} {valid} {fresh'} {valid'} end part h k = or_is_meaning errors cmp fresh valid fresh' valid' (mapped end (Picks absent)) (mapped part (Picks present)) (mapped_is_meaning fresh valid end (Picks absent) h) (mapped_is_meaning fresh' valid' part (Picks present) k)
 
-    pub next_means_one : (fresh valid : U → Type 0) (fresh' valid' : S → Type 0) (end : Meaning P T R B U) (part : Meaning P T R A S) → MeansOne valid end → MeansOne valid' part → MeansOne (or_valid valid valid') (next end part)
-    next_means_one fresh valid fresh' valid' end part h k = or_means_one fresh valid fresh' valid' (mapped end (Picks absent)) (mapped part (Picks present)) (mapped_means_one valid end (Picks absent) h) (mapped_means_one valid' part (Picks present) k)
+    pub next_means_one : (fresh valid : U → Type 0) (fresh' valid' : S → Type 0) (end : Meaning P T R E B U) (part : Meaning P T R E A S) → MeansOne valid end → MeansOne valid' part → MeansOne (or_valid valid valid') (next end part)
+    next_means_one fresh valid fresh' valid' end part h k = or_means_one errors cmp fresh valid fresh' valid' (mapped end (Picks absent)) (mapped part (Picks present)) (mapped_means_one valid end (Picks absent) h) (mapped_means_one valid' part (Picks present) k)
 
-    pub next_once : (fresh valid : U → Type 0) (fresh' valid' : S → Type 0) (end : Meaning P T R B U) (part : Meaning P T R A S) → MeansOne valid end → MeansOne valid' part → TurnsOnce (or_valid valid valid') is_none (next end part) (next end part).whole
+    pub next_once : (fresh valid : U → Type 0) (fresh' valid' : S → Type 0) (end : Meaning P T R E B U) (part : Meaning P T R E A S) → MeansOne valid end → MeansOne valid' part → TurnsOnce (or_valid valid valid') is_none (next end part) (from_start (next end part))
     next_once fresh valid fresh' valid' end part h k = record { whole = whole; rest = resting; later = whole }
       where
         one : MeansOne (or_valid valid valid') (next end part)

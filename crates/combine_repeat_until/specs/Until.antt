@@ -2,8 +2,7 @@
 use Rattle.std.specs.Prelude.{ℕ, ◌+◌, ◌≡◌, ◌≤◌, Bool, true, false, ◌||◌, ◌&&◌, nat_lt, List, [], ◌∷◌, length, Option, Some, None}
 use Rattle.combine_base.specs.Stream.View.{View, advanced}
 use Rattle.combine_base.specs.Parser.Outcome.{Outcome, Accepted, Refused, Undecided, shape}
-use Rattle.combine_base.specs.Parser.Meaning.{Meaning, Reading}
-use Rattle.combine_combinator.specs.Attempt.{Loses}
+use Rattle.combine_base.specs.Parser.Meaning.{Reading}
 use Rattle.combine_repeat_turns.specs.Bounded.{gathered}
 use Rattle.combine_repeat_turns.specs.Turns.{Block, taken, values, any_committed, Turn, Goes, Stops, Rule, Collecting, SoFar, Folds, Divides, Collects}
 use Rattle.combine_repeat_until.specs.declared.until.Blocks.{Blocks}
@@ -80,24 +79,3 @@ until_fresh s = s ≡ Begin
 abbrev pub until_valid : {V S : Type 0} → (S → Type 0) → UntilState V S → Type 0
 until_valid valid Begin = Unit {0}
 until_valid valid (At k) = valid k.running
-
-module _ {P T R A V S : Type 0} (step : P → T → P) (c : Collecting (Option A) V) (m : Meaning P T R (Option A) S) where
-  abbrev pub until_rest : UntilState V S → Reading P T V
-  until_rest Begin = Until step c m.whole 0 0 m.whole (no_blocks c.none)
-  until_rest (At k) = Until step c m.whole k.before k.beyond (m.rest k.running) (blocks_so_far c.held k.blocks)
-
-  -- a kept distance is longer than the input, or the running parser's own is
-  abbrev pub until_lost : UntilState V S → View P T → Type 0
-  until_lost Begin v = ⊥
-  until_lost (At k) v = Loses step (k.before + k.beyond) (m.lost k.running) v
-
-  abbrev pub until : Meaning P T R V (UntilState V S)
-  until = record {
-    whole = Until step c m.whole 0 0 m.whole (no_blocks c.none);
-    rest = until_rest;
-    lost = until_lost;
-    keeps = ⊥;
-    puts_back = Unit {0};
-    lean = m.lean × c.lean;
-    adds = m.adds;
-  }

@@ -1,17 +1,23 @@
 -- the laws of blocks up to a place
 use Rattle.std.specs.Prelude.{ℕ, ◌+◌, ◌<◌, ◌≤◌, ◌≡◌, ◌⊎◌, Bool, true, false, ◌||◌, ◌&&◌, nat_lt, List, [], ◌∷◌, length, Option, Some, None, refl, ◌↔◌}
-use Rattle.std.proofs.Common.{arith, ap, sym, subst, ◌∙◌, inr, length-append, length-drop, ltb-false}
+use Rattle.std.proofs.Common.{arith, ap, sym, subst, ◌∙◌, inl, inr, length-append, length-drop, ltb-false}
+use Rattle.combine_base.specs.Error.Errors.{Errors}
+use Rattle.combine_base.specs.Error.Items.{Item}
+use Rattle.combine_base.specs.Sequence.Behind.{refusal_into}
 use Rattle.combine_base.specs.Stream.View.{View, advanced, extended}
 use Rattle.combine_base.specs.Stream.Advance.{advanced_extended, open_follows}
 use Rattle.combine_base.specs.Parser.Outcome.{Outcome, Accepted, Refused, Undecided, after, shape, IsDecided, IsCommitted}
 use Rattle.combine_base.specs.Parser.OutcomeFacts.{both_false, decided_shape}
-use Rattle.combine_base.specs.Parser.Meaning.{Meaning, Reading, IsReading, IsSingle, IsMeaning, MeansOne, MeansSame}
+use Rattle.combine_base.specs.Parser.Meaning.{Meaning, Reading, IsReading, IsSingle, IsMeaning, MeansOne, MeansSame, SameReasons, MeantRefusal}
 use Rattle.combine_combinator.specs.Attempt.{Loses, Short, Within}
 use Rattle.combine_repeat_turns.specs.BoundedLaws.{begun_over}
-use Rattle.combine_repeat_turns.specs.Turn.{EndsOnce, TurnsOnce}
-use Rattle.combine_repeat_turns.specs.Turns.{Block, taken, any_committed, Goes, Stops, IsRule, IsJudgedOnce, Collecting, SoFar, Divides}
+use Rattle.combine_repeat_turns.specs.Turn.{EndsOnce, Start, TurnsOnce, from_start, from_state}
+use Rattle.combine_repeat_turns.specs.TurnRefusals.{StartsInto}
+use Rattle.combine_repeat_turns.specs.Turns.{Block, taken, any_committed, Goes, Stops, IsRule, IsJudgedOnce, Collecting, SoFar, Divides, outcome}
 use Rattle.combine_repeat_turns.specs.TurnLaws.{divides_one, divides_ended, divides_stands, divides_within, divides_into}
-use Rattle.combine_repeat_until.specs.Until.{is_none, block_at, until_judged, until_rule, stop_at, stopped_at, Until, no_blocks, blocks_so_far, until_fresh, until_valid, until_rest, until_lost, until}
+use Rattle.combine_repeat_until.specs.Until.{is_none, block_at, until_judged, until_rule, stop_at, stopped_at, Until, no_blocks, blocks_so_far, until_fresh, until_valid}
+use Rattle.combine_repeat_until.specs.UntilErrors.{RefusesUntil, blocks_refuse, place_refuses}
+use Rattle.combine_repeat_until.specs.UntilMeaning.{until, until_lost, until_refuses_from, until_rest}
 use Rattle.combine_repeat_until.specs.declared.until.UntilState.{UntilState}
 use Rattle.combine_repeat_until.specs.declared.until.UntilState.TheVariants.{Begin, At}
 
@@ -193,31 +199,50 @@ until_into step c again again' i before beyond running running' j s v o t = reco
   collected = t.collected;
 }
 
+module _ {P T R E A S : Type 0} (errors : Errors T R P E) (m m' : Meaning P T R E (Option A) S) (lean : m'.lean → m.lean) (adds : (is : List (Item T R)) → m.adds is → m'.adds is) where
+  meant_into : (s s' : Start P T E (Option A)) → StartsInto s s' → (v w : View P T) (k : Bool) (e : E) → MeantRefusal s.reads s.refuses v w k e → MeantRefusal s'.reads s'.refuses v w k e
+  meant_into s s' i v w k e x = record { meant = i.reads v (Refused k) x.meant; error = i.refuses v w k e x.error }
+
+  -- a place whose outcomes and errors are among those of another
+  pub place_into : (s s' : Start P T E (Option A)) → StartsInto s s' → (b : Bool) (v w : View P T) (k : Bool) (e : E) → place_refuses errors m s b v w k e → place_refuses errors m' s' b v w k e
+  place_into s s' i b v w true e (inl x) = inl (meant_into s s' i v w true e x)
+  place_into s s' i b v w true e (inr x) = inr (record { value = x.value; count = x.count; commits = x.commits; accepted = i.reads v _ x.accepted; idle = x.idle; says = x.says })
+  place_into s s' i b v w false e x = refusal_into errors m m' (MeantRefusal s.reads s.refuses) (MeantRefusal s'.reads s'.refuses) lean adds (meant_into s s' i) v w e x
+
+  module _ (step : P → T → P) (again : StartsInto (from_start m) (from_start m')) where
+    pub blocks_into : (bs : List (Block (Option A))) (s s' : Start P T E (Option A)) → StartsInto s s' → (b : Bool) (v w : View P T) (k : Bool) (e : E) → blocks_refuse step errors m bs s b v w k e → blocks_refuse step errors m' bs s' b v w k e
+    blocks_into [] s s' i b v w k e x = place_into s s' i b v w k e x
+    blocks_into (q ∷ bs) s s' i b v w k e x = (i.reads v (outcome q) x.0, x.1, blocks_into bs (from_start m) (from_start m') again false (advanced step q.count v) w k e x.2)
+
+    until_refuses_into : (d : ℕ) (s s' : Start P T E (Option A)) → StartsInto s s' → (b : Bool) (v w : View P T) (k : Bool) (e : E) → RefusesUntil step errors m d s b v w k e → RefusesUntil step errors m' d s' b v w k e
+    until_refuses_into d s s' i b v w k e x = record { enough = x.enough; blocks = x.blocks; is = blocks_into x.blocks s s' i b (advanced step d v) w k e x.is }
+
 loses_into : {P T : Type 0} (step : P → T → P) (d : ℕ) (l l' : View P T → Type 0) → ((v : View P T) → l v → l' v) → (v : View P T) → Loses step d l v → Loses step d l' v
 loses_into step d l l' i v (Short p) = Short p
 loses_into step d l l' i v (Within p) = Within (i _ p)
 
-module _ {P T R A V S : Type 0} (step : P → T → P) (c : Collecting (Option A) V) where
-  pub until_is_meaning : (fresh valid : S → Type 0) (m : Meaning P T R (Option A) S) → IsMeaning fresh valid m → IsMeaning until_fresh (until_valid valid) (until step c m)
+module _ {P T R E A V S : Type 0} (step : P → T → P) (errors : Errors T R P E) (c : Collecting (Option A) V) where
+  pub until_is_meaning : (fresh valid : S → Type 0) (m : Meaning P T R E (Option A) S) → IsMeaning fresh valid m → IsMeaning until_fresh (until_valid valid) (until step errors c m)
   until_is_meaning fresh valid m h = record {
     whole = until_is_reading step c m.whole h.whole 0 0 m.whole h.whole (no_blocks c.none);
     rest = resting;
     start = λ s v o d. rw d (λ x. x, λ x. x);
     found = λ s v d. rw d (λ x. x);
+    reasons = λ s d v w k e. rw d (λ x. x, λ x. x);
   }
     where
       resting : (s : UntilState V S) → until_valid valid s → IsReading (until_rest step c m s)
       resting Begin d = until_is_reading step c m.whole h.whole 0 0 m.whole h.whole (no_blocks c.none)
       resting (At k) d = until_is_reading step c m.whole h.whole k.before k.beyond (m.rest k.running) (h.rest k.running d) (blocks_so_far c.held k.blocks)
 
-  pub until_means_one : (valid : S → Type 0) (m : Meaning P T R (Option A) S) → TurnsOnce valid is_none m m.whole → MeansOne (until_valid valid) (until step c m)
+  pub until_means_one : (valid : S → Type 0) (m : Meaning P T R E (Option A) S) → TurnsOnce valid is_none m (from_start m) → MeansOne (until_valid valid) (until step errors c m)
   until_means_one valid m h = record { whole = until_is_single step c m.whole h.whole 0 0 m.whole h.whole (no_blocks c.none); rest = resting }
     where
       resting : (s : UntilState V S) → until_valid valid s → IsSingle (until_rest step c m s)
       resting Begin d = until_is_single step c m.whole h.whole 0 0 m.whole h.whole (no_blocks c.none)
       resting (At k) d = until_is_single step c m.whole h.whole k.before k.beyond (m.rest k.running) (h.rest k.running d) (blocks_so_far c.held k.blocks)
 
-  module _ (m m' : Meaning P T R (Option A) S) (h : MeansSame m m') where
+  module _ (m m' : Meaning P T R E (Option A) S) (h : MeansSame m m') where
     there : (before beyond : ℕ) (r r' : Reading P T (Option A)) → ((v : View P T) (o : Outcome (Option A)) → r v o → r' v o) → (s : SoFar Bool c.Held) (v : View P T) (o : Outcome V) → Until step c m.whole before beyond r s v o → Until step c m'.whole before beyond r' s v o
     there before beyond r r' i = until_into step c m.whole m'.whole (λ v o. (h.whole v o).0) before beyond r r' i
 
@@ -232,7 +257,26 @@ module _ {P T R A V S : Type 0} (step : P → T → P) (c : Collecting (Option A
     losts Begin v = (λ x. x, λ x. x)
     losts (At k) v = (loses_into step (k.before + k.beyond) (m.lost k.running) (m'.lost k.running) (λ v. (h.lost k.running v).0) v, loses_into step (k.before + k.beyond) (m'.lost k.running) (m.lost k.running) (λ v. (h.lost k.running v).1) v)
 
-    pub until_means_same : MeansSame {State = UntilState V S} (until step c m) (until step c m')
+    starts_there : StartsInto (from_start m) (from_start m')
+    starts_there = record { reads = λ v o. (h.whole v o).0; refuses = λ v w k e. (h.refuses v w k e).0 }
+
+    starts_back : StartsInto (from_start m') (from_start m)
+    starts_back = record { reads = λ v o. (h.whole v o).1; refuses = λ v w k e. (h.refuses v w k e).1 }
+
+    refuses_there : (d : ℕ) (s s' : Start P T E (Option A)) → StartsInto s s' → (b : Bool) (v w : View P T) (k : Bool) (e : E) → RefusesUntil step errors m d s b v w k e → RefusesUntil step errors m' d s' b v w k e
+    refuses_there = until_refuses_into errors m m' h.lean.1 (λ is. (h.adds is).0) step starts_there
+
+    refuses_back : (d : ℕ) (s s' : Start P T E (Option A)) → StartsInto s s' → (b : Bool) (v w : View P T) (k : Bool) (e : E) → RefusesUntil step errors m' d s b v w k e → RefusesUntil step errors m d s' b v w k e
+    refuses_back = until_refuses_into errors m' m h.lean.0 (λ is. (h.adds is).1) step starts_back
+
+    reasons : (s : UntilState V S) → SameReasons (until_refuses_from step errors m s) (until_refuses_from step errors m' s)
+    reasons Begin v w k e = (refuses_there 0 (from_start m) (from_start m') starts_there false v w k e, refuses_back 0 (from_start m') (from_start m) starts_back false v w k e)
+    reasons (At j) v w k e = (
+      refuses_there (j.before + j.beyond) (from_state m j.running) (from_state m' j.running) (record { reads = λ v o. (h.rest j.running v o).0; refuses = λ v w k e. (h.refuses_from j.running v w k e).0 }) j.blocks.begun v w k e,
+      refuses_back (j.before + j.beyond) (from_state m' j.running) (from_state m j.running) (record { reads = λ v o. (h.rest j.running v o).1; refuses = λ v w k e. (h.refuses_from j.running v w k e).1 }) j.blocks.begun v w k e,
+    )
+
+    pub until_means_same : MeansSame {State = UntilState V S} (until step errors c m) (until step errors c m')
     until_means_same = record {
       whole = rests Begin;
       rest = rests;
@@ -241,4 +285,6 @@ module _ {P T R A V S : Type 0} (step : P → T → P) (c : Collecting (Option A
       puts_back = (λ x. x, λ x. x);
       lean = (λ l. (h.lean.0 l.0, l.1), λ l. (h.lean.1 l.0, l.1));
       adds = h.adds;
+      refuses = reasons Begin;
+      refuses_from = reasons;
     }

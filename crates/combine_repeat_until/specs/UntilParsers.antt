@@ -1,5 +1,7 @@
 -- the parsers that the constructors build, and their parts
 use Rattle.std.specs.declared.alloc.Global.{Global}
+use Rattle.std.specs.declared.cmp.Ordering.{Ordering}
+use Rattle.combine_base.specs.Error.Errors.{Errors}
 use Rattle.combine_base.specs.Parser.Meaning.{Meaning}
 use Rattle.combine_combinator.specs.Parsers.{picked_of, picked_part}
 use Rattle.combine_combinator.specs.declared.combinator.values.Nothing.{Nothing}
@@ -10,7 +12,7 @@ use Rattle.combine_token.specs.declared.token.types.Any.{Any}
 use Rattle.std.specs.Prelude.{Option}
 use Rattle.combine_repeat_turns.specs.Turns.{Collecting}
 use Rattle.combine_repeat_until.specs.Next.{next}
-use Rattle.combine_repeat_until.specs.Until.{until}
+use Rattle.combine_repeat_until.specs.UntilMeaning.{until}
 use Rattle.combine_repeat_until.specs.declared.mute.Mute.{Mute}
 use Rattle.combine_repeat_until.specs.declared.next.Next.{Next}
 use Rattle.combine_repeat_until.specs.declared.repeat.types.BlocksUntil.{BlocksUntil}
@@ -51,12 +53,6 @@ repeat_skip_until_of part end = skips_of part (mute_of end)
 abbrev pub skip_until_of : {I A Y : Type 0} → Y → Picked (Skips A (Any I) Y) Nothing (Unit {0})
 skip_until_of end = skips_of any_parser end
 
-abbrev pub skipped_turn : {A X Y : Type 0} → Skips A X Y → Next A X Y
-skipped_turn p = p.turn
-
-abbrev pub blocks_turn : {F A X Y : Type 0} → BlocksUntil F A X Y → Next A X Y
-blocks_turn p = p.turn
-
 abbrev pub skipped_end : {A X Y : Type 0} → Skips A X Y → Y
 skipped_end p = next_end p.turn
 
@@ -69,7 +65,7 @@ blocks_end p = next_end p.turn
 abbrev pub blocks_part : {F A X Y : Type 0} → BlocksUntil F A X Y → X
 blocks_part p = next_part p.turn
 
-module _ {P T R A B V S U : Type 0} (step : P → T → P) (c : Collecting (Option A) V) where
+module _ {P T R E A B V S U : Type 0} (step : P → T → P) (errors : Errors T R P E) (cmp : P → P → Ordering) (c : Collecting (Option A) V) where
   -- blocks of a parser, up to the first place where the other one isn't refused peeked
-  abbrev pub repeat_until : Meaning P T R A S → Meaning P T R B U → Meaning P T R V (UntilState V (OrState U S))
-  repeat_until part end = until step c (next end part)
+  abbrev pub repeat_until : Meaning P T R E A S → Meaning P T R E B U → Meaning P T R E V (UntilState V (OrState U S))
+  repeat_until part end = until step errors c (next errors cmp end part)

@@ -5,8 +5,7 @@ use Rattle.combine_base.specs.Distances.{stops}
 use Rattle.combine_base.specs.Error.Errors.{Errors}
 use Rattle.combine_base.specs.Parser.Drivers.{Broke, Refusal}
 use Rattle.combine_base.specs.Parser.Judged.{IsRefusal}
-use Rattle.combine_base.specs.Parser.Reasons.{Refusing, kept_from}
-use Rattle.combine_base.specs.Parser.Meaning.{Meaning, begun}
+use Rattle.combine_base.specs.Parser.Meaning.{Meaning, begun, begun_refuses, MeantRefusal}
 use Rattle.combine_base.specs.Parser.Outcome.{Accepted}
 use Rattle.combine_base.specs.Parser.Answer.{Run, World, Answers, Accepts, Leaves}
 use Rattle.combine_base.specs.Refusals.{Told}
@@ -16,6 +15,7 @@ use Rattle.combine_base.specs.declared.error.ParseResult.TheVariants.{CommitErr,
 use Rattle.combine_base.specs.declared.stream.Failures.{Failures}
 use Rattle.combine_base.specs.declared.stream.Kind.{Kind}
 use Rattle.combine_base.specs.declared.stream.Kind.TheVariants as kinds
+use Rattle.combine_repeat_turns.specs.Turn.{started}
 use Rattle.combine_repeat_turns.specs.Turns.{Collecting}
 use Rattle.combine_repeat_until.specs.Until.{blocks_so_far}
 use Rattle.combine_repeat_until.specs.UntilErrors.{place_refuses}
@@ -60,7 +60,7 @@ module _ {P T C : Type 0} (steady : Type 0) (step : P → T → P) (stands : C �
   pub record ComesTo (result : Result C Kind) : Type 0 where
     pub is : comes_to result
 
-module _ {P T R A V S E : Type 0} (w : World P T S E) (m : Meaning P T R (Option A) S) (c : Collecting (Option A) V) (r : Run P T S) (marked : View P T → Type 0) (old : Blocks V) where
+module _ {P T R A V S E : Type 0} (w : World P T S E) (m : Meaning P T R E (Option A) S) (c : Collecting (Option A) V) (r : Run P T S) (marked : View P T → Type 0) (old : Blocks V) where
   -- the turn is a block
   pub record GoesOn (new : Blocks V) : Type 0 where
     pub value : A
@@ -113,12 +113,12 @@ module _ {P T R A V S E : Type 0} (w : World P T S E) (m : Meaning P T R (Option
     pub is : turned result
 
 -- the errors of the turn's refusals
-module _ {P T R A V S E : Type 0} (errors : Errors T R P E) (m : Meaning P T R (Option A) S) (own : Refusing P T S E) (first : Bool) (from : S) (begun_so : Bool) (old new : View P T) where
+module _ {P T R A V S E : Type 0} (errors : Errors T R P E) (m : Meaning P T R E (Option A) S) (first : Bool) (from : S) (begun_so : Bool) (old new : View P T) where
   abbrev pub stop_says : Stop V E → Type 0
   stop_says (stop.Ends n) = Unit {0}
-  stop_says (stop.Refused t) = Refusal errors m (own (kept_from first from) old) old new t.error
+  stop_says (stop.Refused t) = Refusal errors m (MeantRefusal (begun m first from) (begun_refuses m first from)) old new t.error
   stop_says (stop.More n e) = Unit {0}
-  stop_says (stop.Failed e) = IsRefusal new.is_open (errors.kind e) → place_refuses errors m own (begun m first from) (kept_from first from) begun_so old true e
+  stop_says (stop.Failed e) = IsRefusal new.is_open (errors.kind e) → place_refuses errors m (started m first from) begun_so old new true e
 
   abbrev pub step_says : Step V E → Type 0
   step_says (steps.Goes n) = Unit {0}

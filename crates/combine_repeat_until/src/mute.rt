@@ -38,8 +38,6 @@ impl<Input: Stream, P: Parser<Input>> Parser<Input> for Mute<P> {
 
     ghost meaning = { λ p. mute (P.meaning (muted_part p)) };
 
-    ghost refuses = { λ p. P.refuses (muted_part p) };
-
     ghost parts = { λ _. 1 };
 
     ghost default_valid = { P.default_valid };

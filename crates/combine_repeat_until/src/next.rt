@@ -1,7 +1,6 @@
 //! What runs at each place of a repetition up to a place: the parser that ends it, or else that of a block.
 ghost use Rattle.std.specs.Prelude.{◌≡◌};
 ghost use Rattle.combine_token.specs.Or.{or_valid};
-ghost use Rattle.combine_token.specs.Reasons.{RefusesOr};
 ghost use Rattle.combine_repeat_until.specs.Next.{next, next_is_meaning, next_means_one};
 ghost use Rattle.combine_repeat_until.specs.UntilParsers.{next_end, next_of, next_part};
 
@@ -103,17 +102,15 @@ impl<Input: Stream, A: Drop, P: Parser<Input, Output = A>, E: Parser<Input>> Par
 
     ghost valid = { or_valid E.valid P.valid };
 
-    ghost meaning = { λ p. next (E.meaning (next_end p)) (P.meaning (next_part p)) };
-
-    ghost refuses = { λ p. RefusesOr Input.Error.seen Input.Position.cmp E.PartialState.is_default P.PartialState.is_default (E.refuses (next_end p)) (P.refuses (next_part p)) };
+    ghost meaning = { λ p. next Input.Error.seen Input.Position.cmp (E.meaning (next_end p)) (P.meaning (next_part p)) };
 
     ghost parts = { λ _. 1 };
 
     ghost default_valid = { λ s d. rw d tt };
 
-    ghost laws = { λ p l. next_is_meaning (E.meaning (next_end p)) (P.meaning (next_part p)) (E.laws (next_end p) l.0) (P.laws (next_part p) l.1) };
+    ghost laws = { λ p l. next_is_meaning Input.Error.seen Input.Position.cmp (E.meaning (next_end p)) (P.meaning (next_part p)) (E.laws (next_end p) l.0) (P.laws (next_part p) l.1) };
 
-    ghost single = { λ p l d. next_means_one E.PartialState.is_default E.valid P.PartialState.is_default P.valid (E.meaning (next_end p)) (P.meaning (next_part p)) (E.single (next_end p) l.0 d.0) (P.single (next_part p) l.1 d.1) };
+    ghost single = { λ p l d. next_means_one Input.Error.seen Input.Position.cmp E.PartialState.is_default E.valid P.PartialState.is_default P.valid (E.meaning (next_end p)) (P.meaning (next_part p)) (E.single (next_end p) l.0 d.0) (P.single (next_part p) l.1 d.1) };
 
     #[inline(always)]
     fn parse_mode<M: ParseMode>(

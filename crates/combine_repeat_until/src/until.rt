@@ -3,14 +3,13 @@ ghost use Rattle.std.specs.Prelude.{◌≡◌, ◌||◌, ◌&&◌, ℕ, nat_lt, 
 ghost use Rattle.combine_base.specs.Parser.Answer.{world};
 ghost use Rattle.combine_base.specs.Parser.AnswersCalls.{AnswersCall};
 ghost use Rattle.combine_base.specs.Parser.Meaning.{MeansSame};
-ghost use Rattle.combine_base.specs.Parser.Reasons.{Reasoned, kept_from};
+ghost use Rattle.combine_base.specs.Parser.Reasons.{ReasonedCall};
 ghost use Rattle.combine_base.specs.Sequence.Parts.{accepted_as};
 ghost use Rattle.combine_base.specs.Stream.Calls.{Passes};
 ghost use Rattle.combine_base.specs.Stream.View.{Takes, View};
 ghost use Rattle.combine_combinator.specs.Attempt.{losing};
-ghost use Rattle.combine_repeat_until.specs.RefusesAlike.{RefusesAlike};
-ghost use Rattle.combine_repeat_until.specs.Until.{blocks_so_far, some_appended, until, until_fresh, until_valid};
-ghost use Rattle.combine_repeat_until.specs.UntilErrors.{RefusesUntil};
+ghost use Rattle.combine_repeat_until.specs.Until.{blocks_so_far, some_appended, until_fresh, until_valid};
+ghost use Rattle.combine_repeat_until.specs.UntilMeaning.{until};
 ghost use Rattle.combine_repeat_until.specs.UntilTurn.{ComesTo, HandsOut, Keeps, KeepsRunning, OneTurn, RefusesTurn, Settled};
 
 use combine_base::distance::{measure, pass_over};
@@ -261,7 +260,7 @@ fn one_turn<
     ensures turned { OneTurn (world Input.step Input.Error.seen Input.steady N.PartialState.is_default) (N.meaning parser.old) (some_appended F.held F.none F.more F.lean)
         (record { first = M.first mode; state = running.old; left = running.new; old = Input.view input.old; new = Input.view input.new; before = Input.failures input.old; after = Input.failures input.new })
         (Input.stands input.old place) blocks result }
-    ensures refuses { RefusesTurn Input.Error.seen (N.meaning parser.old) (N.refuses parser.old) (M.first mode) running.old blocks.begun (Input.view input.old) (Input.view input.new) result }
+    ensures refuses { RefusesTurn Input.Error.seen (N.meaning parser.old) (M.first mode) running.old blocks.begun (Input.view input.old) (Input.view input.new) result }
 {
     let position = input.position();
     let since = input.checkpoint();
@@ -381,8 +380,8 @@ pub fn take_blocks<
     ensures valid { until_valid N.valid state.new }
     ensures same { MeansSame (N.meaning parser.old) (N.meaning parser.new) }
     ensures passes { Passes (Input.marks input.old) (Input.marks input.new) (Input.failures input.old) (Input.failures input.new) }
-    ensures answers { AnswersCall Input.StreamOnce Input.Error.seen until_fresh (until Input.step (some_appended F.held F.none F.more F.lean) (N.meaning parser.old)) (M.first mode) state.old state.new input.old input.new result }
-    ensures refuses { Reasoned Input.Error.seen.kind (Input.view input.new).is_open (RefusesUntil Input.step Input.Error.seen N.PartialState.is_default (N.meaning parser.old) (RefusesAlike N.lawful N.meaning N.refuses parser.old) (kept_from (M.first mode) state.old) (Input.view input.old)) result }
+    ensures answers { AnswersCall Input.StreamOnce Input.Error.seen until_fresh (until Input.step Input.Error.seen (some_appended F.held F.none F.more F.lean) (N.meaning parser.old)) (M.first mode) state.old state.new input.old input.new result }
+    ensures refuses { ReasonedCall Input.Error.seen (until Input.step Input.Error.seen (some_appended F.held F.none F.more F.lean) (N.meaning parser.old)) (M.first mode) state.old (Input.view input.old) (Input.view input.new) result }
 {
     let start = input.checkpoint();
     let position = input.position();

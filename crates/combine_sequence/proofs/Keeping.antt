@@ -47,12 +47,12 @@ module _ {Q K N Input A B S U Checkpoint T R P E : Type 0} (q : parser.Ghosts Q 
     same = same_none (p.meaning n);
   }
 
-module _ {N Input V A B C S U Checkpoint T R P E : Type 0} (p : parser.Ghosts N Input U B Checkpoint T R P E) (i : stream.Ghosts Input T R P E) (seen : Errors T R P E) (last_fresh : U → Type 0) (fresh valid : S → Type 0) (keep : A → V) (join : V → B → C) (answers : A → N → Type 0) (some : N → Type 0) (m : Meaning P T R A S) where
-  abbrev both : Meaning P T R C (AnsweredState S V N U)
-  both = then i.step keep join answers some m p.meaning
+module _ {N Input V A B C S U Checkpoint T R P E : Type 0} (p : parser.Ghosts N Input U B Checkpoint T R P E) (i : stream.Ghosts Input T R P E) (seen : Errors T R P E) (last_fresh : U → Type 0) (fresh valid : S → Type 0) (keep : A → V) (join : V → B → C) (answers : A → N → Type 0) (some : N → Type 0) (m : Meaning P T R E A S) where
+  abbrev both : Meaning P T R E C (AnsweredState S V N U)
+  both = then i.step seen keep join answers some m p.meaning
 
-  abbrev second : After P T A B C (Answering V N U)
-  second = answered keep join answers p.meaning some
+  abbrev second : After P T E A B C (Answering V N U)
+  second = answered seen keep join answers p.meaning some
 
   abbrev kept : N → Type 0
   kept = KeptOf p.lawful p.meaning some
@@ -83,16 +83,16 @@ module _ {N Input V A B C S U Checkpoint T R P E : Type 0} (p : parser.Ghosts N 
   }
 
   -- the state that is left is valid
-  pub leaves_valid : ((s : S) → fresh s → valid s) → {first : Bool} {input left : Input} {l : Answering V N U} {state : AnsweredState S V N U} {y : ParseResult C E} → kept l.parser → CalledAnswered p i seen last_fresh fresh join first input left l state y → valid_step valid kept p.valid state
-  leaves_valid h {first} {input} {left} {l} {state} {y} d g = by_need g.runs.leaves
+  pub leaves_valid : ((s : S) → fresh s → valid s) → {input left : Input} {l : Answering V N U} {state : AnsweredState S V N U} {y : ParseResult C E} → kept l.parser → CalledAnswered p i seen last_fresh fresh join input left l state y → valid_step valid kept p.valid state
+  leaves_valid h {input} {left} {l} {state} {y} d g = by_need g.runs.leaves
     where
       by_need : (NeedsMore seen.kind (i.view left).is_open g.runs.answer × (step_of state ≡ Last (kept_with l g.parser g.runs.stopped)) × p.valid g.runs.stopped) ⊎ ((NeedsMore seen.kind (i.view left).is_open g.runs.answer → ⊥) × starts_first fresh state) → valid_step valid kept p.valid state
       by_need (inl j) = rw j.1 (record { is_lawful = g.lawful; parser = d.parser; is_given = d.is_given; same = same_more _ _ _ d.same g.same }, j.2)
       by_need (inr j) = starts_valid kept p.valid h state j.1
 
   -- a call that begins in the answered parser
-  pub then_resumes : {first : Bool} {input left : Input} {l : Answering V N U} {z state : AnsweredState S V N U} {y : ParseResult C E} → z ≡ Second l → kept l.parser → CalledAnswered p i seen last_fresh fresh join first input left l state y → Answers all_world both (run_from z state (i.view input) (i.view left) (i.failures input) (i.failures left)) y
-  then_resumes {first} {input} {left} {l} {z} {state} {y} is d g =
+  pub then_resumes : {input left : Input} {l : Answering V N U} {z state : AnsweredState S V N U} {y : ParseResult C E} → z ≡ Second l → kept l.parser → CalledAnswered p i seen last_fresh fresh join input left l state y → Answers all_world both (run_from z state (i.view input) (i.view left) (i.failures input) (i.failures left)) y
+  then_resumes {input} {left} {l} {z} {state} {y} is d g =
       let e = ap step_of is in
       let old = i.view input in
       let before = i.failures input in
@@ -103,7 +103,7 @@ module _ {N Input V A B C S U Checkpoint T R P E : Type 0} (p : parser.Ghosts N 
   module _ (h : IsMeaning fresh valid m) where
     -- The call begins in the first parser, which was run in that mode.
     module _ {first : Bool} {z : AnsweredState S V N U} {at stopped : S} (is : z ≡ First at) (starts : first ≡ true → starts_first fresh z) {input mid : Input} where
-      at_first : {x : ParseResult A E} → Answers first_world m (call_of first at stopped input mid) x → Answers first_world m (call_of false at stopped input mid) x
+      pub at_first : {x : ParseResult A E} → Answers first_world m (call_of first at stopped input mid) x → Answers first_world m (call_of false at stopped input mid) x
       at_first {x} a = at_rest first_world valid m h (call_of first at stopped input mid) (λ e. subst (starts_first fresh) is (starts e)) x a
 
       -- what it accepts, it accepts from its state
@@ -121,15 +121,15 @@ module _ {N Input V A B C S U Checkpoint T R P E : Type 0} (p : parser.Ghosts N 
 
       -- it was accepted, and the answered one was run from its beginning
       module _ (d : valid at) {a : A} {n : N} (j : answers a n) (w : kept n) (k : IsMeaning last_fresh p.valid (p.meaning n)) {u : U} (b : last_fresh u) {left : Input} {state : AnsweredState S V N U} {y : ParseResult C E} (reads : (i.failures input).reads ≤ (i.failures mid).reads) (resets : (i.failures input).resets ≤ (i.failures mid).resets) where
-        goes_on : (c : Bool) → Accepts first_world m (call_of false at stopped input mid) a c → CalledAnswered p i seen last_fresh fresh join true mid left (record { value = keep a; parser = n; committed = c; state = u }) state y → Answers all_world both (run_from z state (i.view input) (i.view left) (i.failures input) (i.failures left)) y
+        goes_on : (c : Bool) → Accepts first_world m (call_of false at stopped input mid) a c → CalledAnswered p i seen last_fresh fresh join mid left (record { value = keep a; parser = n; committed = c; state = u }) state y → Answers all_world both (run_from z state (i.view input) (i.view left) (i.failures input) (i.failures left)) y
         goes_on c x g =
             let l : Answering V N U = record { value = keep a; parser = n; committed = c; state = u } in
             let q = accepted_before i.step seen i.steady fresh step_of m second at stopped z state (ap step_of is) (i.view input) (i.view mid) (i.failures input) (i.failures mid) valid h d a c x last_fresh in
             let into : (v : View P T) (o : Outcome C) → following c (join (keep a)) ((p.meaning n).rest u) v o → following c (join (keep a)) (second.whole a) v o = λ v o f. (f.0, (n, j, (k.start u v f.0 b).0 f.1), f.2) in
             runs_answer i.step seen i.steady fresh step_of m second (p.meaning n) last_fresh p.valid c (join (keep a)) (kept_with l g.parser) (holds l w g.parser g.same) u z state (i.view input) (i.view mid) (i.view left) (i.failures input) (i.failures mid) (i.failures left) (progress_left last_world (both.rest z) (following c (join (keep a)) (second.whole a)) (following c (join (keep a)) ((p.meaning n).rest u)) (i.view input) (i.view mid) (i.failures input) (i.failures mid) into q) reads resets (λ f. absurd (k.found u (i.view mid) b f)) y g.runs
 
-        pub then_commits : Answers first_world m (call_of first at stopped input mid) (CommitOk a) → CalledAnswered p i seen last_fresh fresh join true mid left (record { value = keep a; parser = n; committed = true; state = u }) state y → Answers all_world both (run_from z state (i.view input) (i.view left) (i.failures input) (i.failures left)) y
+        pub then_commits : Answers first_world m (call_of first at stopped input mid) (CommitOk a) → CalledAnswered p i seen last_fresh fresh join mid left (record { value = keep a; parser = n; committed = true; state = u }) state y → Answers all_world both (run_from z state (i.view input) (i.view left) (i.failures input) (i.failures left)) y
         then_commits x g = goes_on true (at_first x).is g
 
-        pub then_peeks : Answers first_world m (call_of first at stopped input mid) (PeekOk a) → CalledAnswered p i seen last_fresh fresh join true mid left (record { value = keep a; parser = n; committed = false; state = u }) state y → Answers all_world both (run_from z state (i.view input) (i.view left) (i.failures input) (i.failures left)) y
+        pub then_peeks : Answers first_world m (call_of first at stopped input mid) (PeekOk a) → CalledAnswered p i seen last_fresh fresh join mid left (record { value = keep a; parser = n; committed = false; state = u }) state y → Answers all_world both (run_from z state (i.view input) (i.view left) (i.failures input) (i.failures left)) y
         then_peeks x g = goes_on false (at_first x).is g

@@ -2,11 +2,13 @@
 use Rattle.std.specs.Prelude.{ℕ, ◌≡◌, Bool, refl}
 use denote.Ref.{Bor, MutBor}
 use Rattle.std.specs.Fn.{Shared}
+use Rattle.combine_base.specs.Error.Errors.{Errors}
 use Rattle.combine_base.specs.Stream.View.{View}
 use Rattle.combine_base.specs.Parser.Outcome.{Outcome, Accepted, shape}
 use Rattle.combine_base.specs.Parser.Given.{GivesOnly, ReadsOnly}
 use Rattle.combine_base.specs.Parser.Kept.{KeptOf, means_one_as}
-use Rattle.combine_base.specs.Parser.Meaning.{Meaning, Reading, IsMeaning, IsReading, MeansOne, MeansSame}
+use Rattle.combine_base.specs.Parser.Meaning.{Meaning, Reading, IsMeaning, IsReading, MeansOne, MeansSame, refusals, refusals_from}
+use Rattle.combine_base.specs.Sequence.Behind.{RefusesLast}
 use Rattle.combine_base.specs.Sequence.Readings.{following, following_is_reading, following_is_single, FollowsOne}
 use Rattle.combine_base.specs.Sequence.Meanings.{Second, IsSecond, SecondSame, sequence, sequence_is_meaning, sequence_means_one, sequence_means_same}
 use Rattle.combine_base.specs.Sequence.Places.{begins, in_place}
@@ -90,7 +92,7 @@ module _ {K A N : Type 0} (callable : K → A → Type 0) (answers : K → A →
   abbrev pub asks_lawful : K → A → Type 0
   asks_lawful k a = callable k a × ((n : N) → answers k a n → lawful n)
 
-  module _ {Q P T R S : Type 0} (fit : Q → Type 0) (valid : S → Type 0) (gives : Q → Meaning P T R A S) where
+  module _ {Q P T R E S : Type 0} (fit : Q → Type 0) (valid : S → Type 0) (gives : Q → Meaning P T R E A S) where
     -- answered for a value that a first parser gives, by one who may be asked for each of its values
     pub record AnsweredBySome (n : N) : Type 0 where
       pub first : Q
@@ -109,9 +111,16 @@ module _ {K A N : Type 0} (callable : K → A → Type 0) (answers : K → A →
     pub some_lawful : (n : N) → AnsweredBySome n → lawful n
     some_lawful n h = ((h.asks.rest h.state h.is_valid).one h.view h.value h.count h.committed h.accepted).1 n h.answered
 
-module _ {P T R A V B C N U : Type 0} (keep : A → V) (join : V → B → C) (answers : A → N → Type 0) (means : N → Meaning P T R B U) (some : N → Type 0) where
+module _ {P T R E A B N U : Type 0} (errors : Errors T R P E) (answers : A → N → Type 0) (means : N → Meaning P T R E B U) where
+  -- a parser that was answered for the value before it refused; before says whether something was committed to before it
+  pub record RefusesAnswered (value : A) (before : Bool) (v w : View P T) (committed : Bool) (e : E) : Type 0 where
+    pub parser : N
+    pub is_answered : answers value parser
+    pub refuses : RefusesLast errors (means parser) (refusals (means parser)) before v w committed e
+
+module _ {P T R E A V B C N U : Type 0} (errors : Errors T R P E) (keep : A → V) (join : V → B → C) (answers : A → N → Type 0) (means : N → Meaning P T R E B U) (some : N → Type 0) where
   -- any parser that is answered for the value; keep is what is kept of the value, and join puts the second value to it
-  abbrev pub answered : Second P T A B C (Answering V N U)
+  abbrev pub answered : Second P T E A B C (Answering V N U)
   answered = record {
     join = λ a. join (keep a);
     whole = λ a v o. (n : N) × answers a n × (means n).whole v o;
@@ -119,6 +128,8 @@ module _ {P T R A V B C N U : Type 0} (keep : A → V) (join : V → B → C) (a
     lost = λ l. (means l.parser).lost l.state;
     keeps = (n : N) → some n → (means n).keeps;
     lean = (n : N) → some n → (means n).lean;
+    refuses = RefusesAnswered errors answers means;
+    refuses_from = λ l. RefusesLast errors (means l.parser) (refusals_from (means l.parser) l.state) l.committed;
   }
 
   module _ (lawful : N → Type 0) {last_fresh last_valid : U → Type 0} (laws : (n : N) → lawful n → IsMeaning last_fresh last_valid (means n)) where
@@ -133,7 +144,7 @@ module _ {P T R A V B C N U : Type 0} (keep : A → V) (join : V → B → C) (a
     reads_only : {r : Reading P T A} → ReadsOnly r (λ a. (n : N) → answers a n → lawful n) → ReadsOnly r (λ a. IsReading (answered.whole a))
     reads_only h = record { one = λ v a n c w. whole_is_reading a (h.one v a n c w) }
 
-    module _ {S : Type 0} {valid : S → Type 0} {m : Meaning P T R A S} where
+    module _ {S : Type 0} {valid : S → Type 0} {m : Meaning P T R E A S} where
       pub answered_is_second : GivesOnly valid m (λ a. (n : N) → answers a n → lawful n) → IsSecond valid m (valid_last (KeptOf lawful means some) last_valid) answered
       answered_is_second h = record {
         whole = record { whole = reads_only h.whole; rest = λ s d. reads_only (h.rest s d) };
@@ -148,33 +159,35 @@ module _ {P T R A V B C N U : Type 0} (keep : A → V) (join : V → B → C) (a
     lost = λ l v. (λ x. x, λ x. x);
     keeps = (λ x. x, λ x. x);
     lean = (λ x. x, λ x. x);
+    refuses = λ a c v w k e. (λ x. x, λ x. x);
+    refuses_from = λ l v w k e. (λ x. x, λ x. x);
   }
 
 -- Where the first parser is accepted, all parsers that may be answered for its value, whichever it is, have one outcome, but for the value.
 pub record AnswersOne {P T A B N : Type 0} (r : Reading P T A) (answers : A → N → Type 0) (means : N → Reading P T B) : Type 0 where
   pub one : (v : View P T) (a a' : A) (n : ℕ) (c : Bool) → r v (Accepted a n c) → r v (Accepted a' n c) → (p p' : N) → answers a p → answers a' p' → (u : View P T) (o o' : Outcome B) → means p u o → means p' u o' → shape o ≡ shape o'
 
-module _ {P T R A V B C N U : Type 0} (step : P → T → P) (keep : A → V) (join : V → B → C) (answers : A → N → Type 0) (some : N → Type 0) where
-  follows_one : (r : Reading P T A) (means : N → Meaning P T R B U) → AnswersOne r answers (λ n. (means n).whole) → FollowsOne step (λ a. join (keep a)) r (answered keep join answers means some).whole
+module _ {P T R E A V B C N U : Type 0} (step : P → T → P) (errors : Errors T R P E) (keep : A → V) (join : V → B → C) (answers : A → N → Type 0) (some : N → Type 0) where
+  follows_one : (r : Reading P T A) (means : N → Meaning P T R E B U) → AnswersOne r answers (λ n. (means n).whole) → FollowsOne step (λ a. join (keep a)) r (answered errors keep join answers means some).whole
   follows_one r means h = record { one = λ v a a' n c w w' u o o' x x'. h.one v a a' n c w w' x.0 x'.0 x.1 x'.1 u o o' x.2 x'.2 }
 
-module _ {P T R A V B C N S U : Type 0} (step : P → T → P) (keep : A → V) (join : V → B → C) (answers : A → N → Type 0) (some : N → Type 0) where
+module _ {P T R E A V B C N S U : Type 0} (step : P → T → P) (errors : Errors T R P E) (keep : A → V) (join : V → B → C) (answers : A → N → Type 0) (some : N → Type 0) where
   -- the parser, and then any one that is answered for its value; some are those that may be answered by any function of the type
-  abbrev pub then : Meaning P T R A S → (N → Meaning P T R B U) → Meaning P T R C (AnsweredState S V N U)
-  then m means = sequence step step_of m (answered keep join answers means some)
+  abbrev pub then : Meaning P T R E A S → (N → Meaning P T R E B U) → Meaning P T R E C (AnsweredState S V N U)
+  then m means = sequence step step_of m (answered errors keep join answers means some)
 
-  pub then_means_same : {m m' : Meaning P T R A S} (means : N → Meaning P T R B U) → MeansSame m m' → MeansSame (then m means) (then m' means)
-  then_means_same {m} {m'} means h = sequence_means_same step step_of m m' (answered keep join answers means some) (answered keep join answers means some) h (answered_same keep join answers means some)
+  pub then_means_same : {m m' : Meaning P T R E A S} (means : N → Meaning P T R E B U) → MeansSame m m' → MeansSame (then m means) (then m' means)
+  then_means_same {m} {m'} means h = sequence_means_same step step_of m m' (answered errors keep join answers means some) (answered errors keep join answers means some) h (answered_same errors keep join answers means some)
 
-  module _ (lawful : N → Type 0) {valid : S → Type 0} {m : Meaning P T R A S} {last_valid : U → Type 0} {means : N → Meaning P T R B U} where
+  module _ (lawful : N → Type 0) {valid : S → Type 0} {m : Meaning P T R E A S} {last_valid : U → Type 0} {means : N → Meaning P T R E B U} where
     pub then_is_meaning : {fresh : S → Type 0} {last_fresh : U → Type 0} → IsMeaning fresh valid m → ((n : N) → lawful n → IsMeaning last_fresh last_valid (means n)) → GivesOnly valid m (λ a. (n : N) → answers a n → lawful n) → IsMeaning (starts_first fresh) (valid_step valid (KeptOf lawful means some) last_valid) (then m means)
     then_is_meaning {fresh} {last_fresh} h k g =
-        sequence_is_meaning step step_of m (answered keep join answers means some) fresh valid (valid_last (KeptOf lawful means some) last_valid) h (answered_is_second keep join answers means some lawful k g)
+        sequence_is_meaning step step_of m (answered errors keep join answers means some) fresh valid (valid_last (KeptOf lawful means some) last_valid) h (answered_is_second errors keep join answers means some lawful k g)
 
     pub then_means_one : MeansOne valid m → ((n : N) → some n → MeansOne last_valid (means n)) → AnswersOne m.whole answers (λ n. (means n).whole) → ((s : S) → valid s → AnswersOne (m.rest s) answers (λ n. (means n).whole)) → MeansOne (valid_step valid (KeptOf lawful means some) last_valid) (then m means)
     then_means_one h k whole rest =
-        sequence_means_one step step_of m (answered keep join answers means some) valid (valid_last (KeptOf lawful means some) last_valid) h (record {
-          whole = follows_one step keep join answers some m.whole means whole;
-          rest = λ s d. follows_one step keep join answers some (m.rest s) means (rest s d);
+        sequence_means_one step step_of m (answered errors keep join answers means some) valid (valid_last (KeptOf lawful means some) last_valid) h (record {
+          whole = follows_one step errors keep join answers some m.whole means whole;
+          rest = λ s d. follows_one step errors keep join answers some (m.rest s) means (rest s d);
           last = λ l d. following_is_single l.committed (join l.value) ((means l.parser).rest l.state) ((means_one_as d.0.same (k d.0.parser d.0.is_given)).rest l.state d.1);
         })

@@ -48,10 +48,10 @@ last_within size number at f zero h = omega arith
 last_within size number at f (suc i) h = f.within i (omega arith)
 
 -- a window is parsed by a parser that means the same
-pub window_same : {P T R A S E : Type 0} (frugal steady : Type 0) (step : P → T → P) (kind : E → Kind) (fresh : S → Type 0) (start : P) (m m' : Meaning P T R A S) (s left : S) (whole : List T) (from to : ℕ) (more : Bool) (taken : ℕ) (result : Result (Answer A E) Kind) → MeansSame m m' → ParsesWindow frugal steady step kind fresh start m' s left whole from to more taken result → ParsesWindow frugal steady step kind fresh start m s left whole from to more taken result
+pub window_same : {P T R A S E : Type 0} (frugal steady : Type 0) (step : P → T → P) (kind : E → Kind) (fresh : S → Type 0) (start : P) (m m' : Meaning P T R E A S) (s left : S) (whole : List T) (from to : ℕ) (more : Bool) (taken : ℕ) (result : Result (Answer A E) Kind) → MeansSame m m' → ParsesWindow frugal steady step kind fresh start m' s left whole from to more taken result → ParsesWindow frugal steady step kind fresh start m s left whole from to more taken result
 window_same frugal steady step kind fresh start m m' s left whole from to more taken result h p = record { new = p.new; failures = p.failures; parsed = p.parsed; place = p.place; is = p.is; answers = answers_same _ m m' h _ p.parsed p.answers }
 
-module _ {P T R A S : Type 0} (frugal : Type 0) (step : P → T → P) (start : P) (m : Meaning P T R A S) (whole : List T) (number : ℕ) (at : ℕ → ℕ) where
+module _ {P T R E A S : Type 0} (frugal : Type 0) (step : P → T → P) (start : P) (m : Meaning P T R E A S) (whole : List T) (number : ℕ) (at : ℕ → ℕ) where
   -- more was asked for at each of the first i cuts
   pub record SoFar (s : S) (t i : ℕ) : Type 0 where
     pub reached : Reached frugal step start m whole s t (last_cut at i)
@@ -91,7 +91,7 @@ module _ {P T R A S : Type 0} (frugal : Type 0) (step : P → T → P) (start : 
       here : Reached frugal step start m whole s t cut
       here = reached_later frugal step start m whole (last_cut at i) cut (next_cut (length whole) number at fit i h) s t (fit.within i h) far.reached
 
-      answered : {E : Type 0} (a : Answer A E) (o : Outcome A) → (Decides frugal start m whole o → decided frugal start m whole a) → IsDecided o → on frugal start m (take cut whole) true o → Ran frugal start m whole number at i a
+      answered : (a : Answer A E) (o : Outcome A) → (Decides frugal start m whole o → decided frugal start m whole a) → IsDecided o → on frugal start m (take cut whole) true o → Ran frugal start m whole number at i a
       answered a o f d p = record {
         answer = f (decides o (on_all false o (stays cut false (length whole) o (fit.within i h) d p)));
         within = omega arith;
@@ -106,7 +106,7 @@ module _ {P T R A S : Type 0} (frugal : Type 0) (step : P → T → P) (start : 
                 | no l ↦ absurd (decided_shape o d (z.one _ o Undecided (stays cut true (at j) o (rise (length whole) number at fit i j (omega arith) k) d p) u))
               ]
 
-      module _ {E : Type 0} (steady : Type 0) (kind : E → Kind) (fresh : S → Type 0) (left : S) (taken : ℕ) where
+      module _ (steady : Type 0) (kind : E → Kind) (fresh : S → Type 0) (left : S) (taken : ℕ) where
         abbrev Parsed : Result (Answer A E) Kind → Type 0
         Parsed r = ParsesWindow frugal steady step kind fresh start m s left whole t cut true taken r
 
@@ -119,7 +119,7 @@ module _ {P T R A S : Type 0} (frugal : Type 0) (step : P → T → P) (start : 
         pub stops : (n : ℕ) → n ≡ i → (a : Answer A E) (r : Result (Answer A E) Kind) → a ≢ answers.More → r ≡ Ok a → Parsed r → RunsCuts frugal start m whole number at (Ok (n, a))
         stops n c a r d e p = record { is = subst (λ j. Ran frugal start m whole number at j a) (sym c) (decided_here a d (subst Parsed e p)) }
 
-        pub stops_by : (k : Kind) (r : Result (Answer A E) Kind) → r ≡ Err k → Parsed r → RunsCuts frugal start m whole number at {E = E} (Err k)
+        pub stops_by : (k : Kind) (r : Result (Answer A E) Kind) → r ≡ Err k → Parsed r → RunsCuts frugal start m whole number at (Err k)
         stops_by k r e p = record { is = window_judged frugal step start m whole s t cut here steady kind fresh left true taken (Err k) (subst Parsed e p) }
 
         pub goes_on : (r : Result (Answer A E) Kind) → r ≡ Ok answers.More → Parsed r → SoFar left taken (i + 1)
@@ -140,11 +140,11 @@ module _ {P T R A S : Type 0} (frugal : Type 0) (step : P → T → P) (start : 
       there : Reached frugal step start m whole s t (length whole)
       there = reached_later frugal step start m whole (last_cut at i) (length whole) (last_within (length whole) number at fit i l) s t (omega arith) far.reached
 
-      module _ {E : Type 0} (steady : Type 0) (kind : E → Kind) (fresh : S → Type 0) (left : S) (taken : ℕ) where
+      module _ (steady : Type 0) (kind : E → Kind) (fresh : S → Type 0) (left : S) (taken : ℕ) where
         abbrev Ended : Result (Answer A E) Kind → Type 0
         Ended r = ParsesWindow frugal steady step kind fresh start m s left whole t (length whole) false taken r
 
-        pub ends_by : (k : Kind) (r : Result (Answer A E) Kind) → r ≡ Err k → Ended r → RunsCuts frugal start m whole number at {E = E} (Err k)
+        pub ends_by : (k : Kind) (r : Result (Answer A E) Kind) → r ≡ Err k → Ended r → RunsCuts frugal start m whole number at (Err k)
         ends_by k r e p = record { is = window_judged frugal step start m whole s t (length whole) there steady kind fresh left false taken (Err k) (subst Ended e p) }
 
         -- all cuts were gone through

@@ -19,7 +19,7 @@ use Rattle.combine_base.specs.declared.error.ParseResult.{ParseResult}
 use Rattle.combine_base.specs.declared.error.ParseResult.TheVariants.{CommitOk, PeekOk, CommitErr, PeekErr}
 
 -- every call takes some first tokens
-module _ {P T R A S E : Type 0} (w : World P T S E) (m : Meaning P T R A S) (r : Run P T S) where
+module _ {P T R A S E : Type 0} (w : World P T S E) (m : Meaning P T R E A S) (r : Run P T S) where
   abbrev Some : Type 0
   Some = (n : ℕ) × Takes w.step n r.old r.new
 
@@ -63,7 +63,7 @@ module _ {P T R A S E : Type 0} (w : World P T S E) (m : Meaning P T R A S) (r :
       let e = ap (λ (v : View P T). length v.unread) t.1.rest in
       omega (arith, length-drop t.0 r.old.unread)
 
-module _ {P T R A S : Type 0} (frugal : Type 0) (step : P → T → P) (start : P) (m : Meaning P T R A S) (whole : List T) where
+module _ {P T R E A S : Type 0} (frugal : Type 0) (step : P → T → P) (start : P) (m : Meaning P T R E A S) (whole : List T) where
   -- the place t before the cut c, with a kept state: what is left there means what the whole does
   pub record Reached (s : S) (t c : ℕ) : Type 0 where
     pub before : t ≤ c
@@ -109,7 +109,7 @@ module _ {P T R A S : Type 0} (frugal : Type 0) (step : P → T → P) (start : 
     window_found : (b : Bool) → m.lost s (window_at step start whole t c b) → ⊥
     window_found b l = let At : View P T → Type 0 = λ v. m.lost s v in r.found [] b (subst At (sym (same_window b)) l)
 
-    module _ {E : Type 0} (steady : Type 0) (kind : E → Kind) (fresh : S → Type 0) (left : S) (more : Bool) (new : View P T) (f : Failures) where
+    module _ (steady : Type 0) (kind : E → Kind) (fresh : S → Type 0) (left : S) (more : Bool) (new : View P T) (f : Failures) where
       abbrev world : World P T S E
       world = record { step = step; kind = kind; frugal = frugal; steady = steady; fresh = fresh }
 
@@ -180,7 +180,7 @@ module _ {P T R A S : Type 0} (frugal : Type 0) (step : P → T → P) (start : 
         judging (CommitErr x) h = failed x (kind x) h.is
         judging (PeekErr x) h = peeked (kind x.error) h.is
 
-    pub window_judged : {E : Type 0} (steady : Type 0) (kind : E → Kind) (fresh : S → Type 0) (left : S) (more : Bool) (taken : ℕ) (result : Result (Answer A E) Kind) (p : ParsesWindow frugal steady step kind fresh start m s left whole t c more taken result) → Judged steady kind fresh left more p.new p.failures taken p.place result
+    pub window_judged : (steady : Type 0) (kind : E → Kind) (fresh : S → Type 0) (left : S) (more : Bool) (taken : ℕ) (result : Result (Answer A E) Kind) (p : ParsesWindow frugal steady step kind fresh start m s left whole t c more taken result) → Judged steady kind fresh left more p.new p.failures taken p.place result
     window_judged steady kind fresh left more taken result p = subst (Judged steady kind fresh left more p.new p.failures taken p.place) (sym p.is) (judging steady kind fresh left more p.new p.failures taken p.place p.parsed p.answers)
 
 -- a window, by the position behind what stands before it
@@ -200,7 +200,7 @@ pub record Later {P T : Type 0} (step : P → T → P) (start : P) (whole : List
   pub left : k + length new.unread ≡ to
 
 -- where a call on a window leaves the stream
-pub window_left : {P T R A S E : Type 0} (w : World P T S E) (m : Meaning P T R A S) (r : Run P T S) (start : P) (whole : List T) (from to : ℕ) (more : Bool) (result : ParseResult A E) → r.old ≡ window_at w.step start whole from to more → to ≤ length whole → from ≤ to → Answers w m r result → (k : ℕ) × Later w.step start whole from to more r.new k
+pub window_left : {P T R A S E : Type 0} (w : World P T S E) (m : Meaning P T R E A S) (r : Run P T S) (start : P) (whole : List T) (from to : ℕ) (more : Bool) (result : ParseResult A E) → r.old ≡ window_at w.step start whole from to more → to ≤ length whole → from ≤ to → Answers w m r result → (k : ℕ) × Later w.step start whole from to more r.new k
 window_left w m r start whole from to more result e h l p =
     let some = some_taken w m r result p in
     let n = some.0 in
@@ -223,6 +223,6 @@ window_left w m r start whole from to more result e h l p =
     )
 
 -- a parsed window
-pub parsed_window : {P T R A S E : Type 0} (frugal steady : Type 0) (step : P → T → P) (kind : E → Kind) (fresh : S → Type 0) (start : P) (m : Meaning P T R A S) (s left : S) (whole : List T) (from to : ℕ) (more : Bool) (taken k : ℕ) (old new : View P T) (f g : Failures) (parsed : ParseResult A E) (result : Result (Answer A E) Kind) → old ≡ window_at step start whole from to more → f ≡ g → Later step start whole from to more new k → taken ≡ k → result ≡ answer_to kind new.is_open taken parsed → Answers (record { step = step; kind = kind; frugal = frugal; steady = steady; fresh = fresh }) m (record { first = false; state = s; left = left; old = old; new = new; before = f; after = g }) parsed → ParsesWindow frugal steady step kind fresh start m s left whole from to more taken result
+pub parsed_window : {P T R A S E : Type 0} (frugal steady : Type 0) (step : P → T → P) (kind : E → Kind) (fresh : S → Type 0) (start : P) (m : Meaning P T R E A S) (s left : S) (whole : List T) (from to : ℕ) (more : Bool) (taken k : ℕ) (old new : View P T) (f g : Failures) (parsed : ParseResult A E) (result : Result (Answer A E) Kind) → old ≡ window_at step start whole from to more → f ≡ g → Later step start whole from to more new k → taken ≡ k → result ≡ answer_to kind new.is_open taken parsed → Answers (record { step = step; kind = kind; frugal = frugal; steady = steady; fresh = fresh }) m (record { first = false; state = s; left = left; old = old; new = new; before = f; after = g }) parsed → ParsesWindow frugal steady step kind fresh start m s left whole from to more taken result
 parsed_window frugal steady step kind fresh start m s left whole from to more taken k old new f g parsed result e i u t j p =
     record { new = new; failures = g; parsed = parsed; place = let a = u.left in omega arith; is = j ∙ ap (λ b. answer_to kind b taken parsed) u.is_open; answers = rw (← e) (rw i at p) }

@@ -26,7 +26,7 @@ module _ {P T : Type 0} where
   abbrev pub window_at : (P → T → P) → P → List T → ℕ → ℕ → Bool → View P T
   window_at step start whole from to more = advanced step from (up_to start whole to more)
 
-module _ {P T R Value State : Type 0} (frugal : Type 0) (start : P) (m : Meaning P T R Value State) where
+module _ {P T R E Value State : Type 0} (frugal : Type 0) (start : P) (m : Meaning P T R E Value State) where
   -- the outcome on these tokens from the start, open or ended
   abbrev pub on : List T → Bool → Outcome Value → Type 0
   on x more = m.whole (record { position = start; unread = x; is_open = more })
@@ -36,28 +36,28 @@ module _ {P T R Value State : Type 0} (frugal : Type 0) (start : P) (m : Meaning
     pub is : on x false o
     pub only : IsSingle m.whole → (p : Outcome Value) → on x false p → shape p ≡ shape o
 
-  abbrev pub decided : {E : Type 0} → List T → Answer Value E → Type 0
+  abbrev pub decided : List T → Answer Value E → Type 0
   decided x answers.More = ⊥
   decided x (answers.Accepted value taken committed) = Decides x (Accepted value taken committed)
   decided x (answers.Refused error committed) = Decides x (Refused committed)
 
   module _ (whole : List T) (number : ℕ) (at : ℕ → ℕ) where
     -- There are so many cuts, each behind so many tokens. The answer is one on the whole, and more was asked for at the first n cuts: before each of them it is undecided, and where there is only one outcome, before no other.
-    pub record Ran {E : Type 0} (n : ℕ) (a : Answer Value E) : Type 0 where
+    pub record Ran (n : ℕ) (a : Answer Value E) : Type 0 where
       pub answer : decided whole a
       pub within : n ≤ number
       pub here : (i : ℕ) → i < n → on (take (at i) whole) true Undecided
       pub only : IsSingle m.whole → (i : ℕ) → i < number → on (take (at i) whole) true Undecided → i < n
 
-    abbrev pub ran : {E : Type 0} → Result (ℕ × Answer Value E) Kind → Type 0
+    abbrev pub ran : Result (ℕ × Answer Value E) Kind → Type 0
     ran (Ok r) = Ran r.0 r.1
     ran (Err k) = (k ≡ kinds.Memory) × (frugal → m.lean → ⊥)
 
-    pub record RunsCuts {E : Type 0} (result : Result (ℕ × Answer Value E) Kind) : Type 0 where
+    pub record RunsCuts (result : Result (ℕ × Answer Value E) Kind) : Type 0 where
       pub is : ran result
 
 -- one call on a window
-pub record ParsesWindow {P T R Value State E : Type 0} (frugal steady : Type 0) (step : P → T → P) (kind : E → Kind) (fresh : State → Type 0) (start : P) (m : Meaning P T R Value State) (state left : State) (whole : List T) (from to : ℕ) (more : Bool) (taken : ℕ) (result : Result (Answer Value E) Kind) : Type 0 where
+pub record ParsesWindow {P T R Value State E : Type 0} (frugal steady : Type 0) (step : P → T → P) (kind : E → Kind) (fresh : State → Type 0) (start : P) (m : Meaning P T R E Value State) (state left : State) (whole : List T) (from to : ℕ) (more : Bool) (taken : ℕ) (result : Result (Answer Value E) Kind) : Type 0 where
   pub new : View P T
   pub failures : Failures
   pub parsed : ParseResult Value E

@@ -26,7 +26,7 @@ firm_after n Undecided f = f
 takes_same : {P T : Type 0} (step : P → T → P) (n : ℕ) (a b c d : View P T) → a ≡ b → d ≡ c → Takes step n a c → Takes step n b d
 takes_same step n a b c d e f h = rw f (subst (λ x. Takes step n x c) e h)
 
-module _ {P T R V S : Type 0} (fresh valid : S → Type 0) (m : Meaning P T R V S) (h : IsMeaning fresh valid m) where
+module _ {P T R E V S : Type 0} (fresh valid : S → Type 0) (m : Meaning P T R E V S) (h : IsMeaning fresh valid m) where
   begun_whole : (first : Bool) (s : S) → fresh s → (v : View P T) (o : Outcome V) → begun m first s v o → m.whole v o
   begun_whole true s d v o p = p
   begun_whole false s d v o p = (h.start s v o d).0 p
@@ -39,7 +39,7 @@ module _ {P T R V S : Type 0} (fresh valid : S → Type 0) (m : Meaning P T R V 
   begun_reads true s k = h.whole
   begun_reads false s k = h.rest s k
 
-module _ {P T R V S S' E : Type 0} (w : World P T S E) (fresh : S' → Type 0) (m : Meaning P T R V S) (q : Reading P T V) (m' : Meaning P T R V S') where
+module _ {P T R V S S' E : Type 0} (w : World P T S E) (fresh : S' → Type 0) (m : Meaning P T R E V S) (q : Reading P T V) (m' : Meaning P T R E V S') where
   -- a choice that began so tries an alternative so, with the stream where the choice began; q is what the later alternatives mean
   pub record Tries (first : Bool) (state : S) (now : View P T) (so_far : Failures) (began : Bool) (given : S') (old : View P T) (before : Failures) : Type 0 where
     pub same : now ≡ old
@@ -184,7 +184,7 @@ module _ {P T R V S S' E : Type 0} (w : World P T S E) (fresh : S' → Type 0) (
       tries_needs (PeekErr e) i p g l = absurd i
 
 -- the choice begins with this alternative
-pub tries_start : {P T R V S S' E : Type 0} (w : World P T S E) (fresh : S' → Type 0) (m : Meaning P T R V S) (q : Reading P T V) (m' : Meaning P T R V S') (valid : S → Type 0) → IsMeaning w.fresh valid m → (first : Bool) (s : S) (given : S') → (first ≡ true → w.fresh s) → ((v : View P T) (o : Outcome V) → Either (m.rest s) q v o → m'.rest given v o) → ((v : View P T) → m.lost s v → m'.lost given v) → (m'.keeps → m.keeps) → (m'.puts_back → m.puts_back) → (m'.lean → m.lean) → (v : View P T) (f : Failures) → Tries w fresh m q m' first s v f false given v f
+pub tries_start : {P T R V S S' E : Type 0} (w : World P T S E) (fresh : S' → Type 0) (m : Meaning P T R E V S) (q : Reading P T V) (m' : Meaning P T R E V S') (valid : S → Type 0) → IsMeaning w.fresh valid m → (first : Bool) (s : S) (given : S') → (first ≡ true → w.fresh s) → ((v : View P T) (o : Outcome V) → Either (m.rest s) q v o → m'.rest given v o) → ((v : View P T) → m.lost s v → m'.lost given v) → (m'.keeps → m.keeps) → (m'.puts_back → m.puts_back) → (m'.lean → m.lean) → (v : View P T) (f : Failures) → Tries w fresh m q m' first s v f false given v f
 tries_start w fresh m q m' valid h first s given d g l k b e v f = record {
   same = refl;
   gives = λ x c o j i. g _ o (either_into (begun m first s) (m.rest s) q q (begun_rest w.fresh valid m h first s d) (λ v o i. i) _ o i);
@@ -198,7 +198,7 @@ tries_start w fresh m q m' valid h first s given d g l k b e v f = record {
 }
 
 -- an alternative was refused peeked and the stream put back: the next is tried
-module _ {P T R V S S' S'' E : Type 0} (w : World P T S E) (fresh : S' → Type 0) (m : Meaning P T R V S) (q : Reading P T V) (m' : Meaning P T R V S') (fresh2 valid2 : S'' → Type 0) (m2 : Meaning P T R V S'') (q2 : Reading P T V) (h : IsMeaning fresh2 valid2 m2) (r : Run P T S) (began : Bool) (given : S') (old : View P T) (before : Failures) (z : Tries w fresh m q m' r.first r.state r.old r.before began given old before) where
+module _ {P T R V S S' S'' E : Type 0} (w : World P T S E) (fresh : S' → Type 0) (m : Meaning P T R E V S) (q : Reading P T V) (m' : Meaning P T R E V S') (fresh2 valid2 : S'' → Type 0) (m2 : Meaning P T R E V S'') (q2 : Reading P T V) (h : IsMeaning fresh2 valid2 m2) (r : Run P T S) (began : Bool) (given : S') (old : View P T) (before : Failures) (z : Tries w fresh m q m' r.first r.state r.old r.before began given old before) where
   pub tries_next : {C : Type 0} {a d : C → View P T → Type 0} → IsReading (begun m r.first r.state) → (e : Tracked E) → Answers w m r (PeekErr e) → ((v : View P T) (o : Outcome V) → Either m2.whole q2 v o → q v o) → (m'.keeps → m2.keeps) → (m'.puts_back → m2.puts_back) → (m'.lean → m2.lean) → (first : Bool) (s : S'') → fresh2 s → (now : View P T) (so_far : Failures) → now ≡ r.old → (w.steady → so_far ≡ r.after) → Passes a d r.before so_far → Tries (around w fresh2) fresh m2 q2 m' first s now so_far began given old before
   tries_next y e p i ke pu le first s d now so_far n f a =
       let c = peeked_refusal w m r (w.kind e.error) p.is in
@@ -215,7 +215,7 @@ module _ {P T R V S S' S'' E : Type 0} (w : World P T S E) (fresh : S' → Type 
       }
 
 -- the alternative's own state is the choice's
-module _ {P T R V S E : Type 0} (w : World P T S E) (m m' : Meaning P T R V S) (q : Reading P T V) (g : (s : S) (v : View P T) (o : Outcome V) → m'.rest s v o → Either (m.rest s) q v o) (i : (s : S) (v : View P T) → m'.lost s v → m.lost s v) (r : Run P T S) (u : Run P T S) (z : Tries w w.fresh m q m' r.first r.state r.old r.before u.first u.state u.old u.before) (n : u.new ≡ r.new) (l : u.left ≡ r.left) (f : u.after ≡ r.after) where
+module _ {P T R V S E : Type 0} (w : World P T S E) (m m' : Meaning P T R E V S) (q : Reading P T V) (g : (s : S) (v : View P T) (o : Outcome V) → m'.rest s v o → Either (m.rest s) q v o) (i : (s : S) (v : View P T) → m'.lost s v → m.lost s v) (r : Run P T S) (u : Run P T S) (z : Tries w w.fresh m q m' r.first r.state r.old r.before u.first u.state u.old u.before) (n : u.new ≡ r.new) (l : u.left ≡ r.left) (f : u.after ≡ r.after) where
   left_fresh : w.fresh r.left → w.fresh u.left
   left_fresh d = rw l d
 
@@ -233,7 +233,7 @@ module _ {P T R V S E : Type 0} (w : World P T S E) (m m' : Meaning P T R V S) (
       ]
 
 -- an answer of a choice from one state is one from another
-module _ {P T R V S E : Type 0} (w : World P T S E) (m : Meaning P T R V S) (r : Run P T S) (u : Run P T S) (z : Tries w w.fresh m refused m r.first r.state r.old r.before u.first u.state u.old u.before) (n : u.new ≡ r.new) (l : u.left ≡ r.left) (f : u.after ≡ r.after) where
+module _ {P T R V S E : Type 0} (w : World P T S E) (m : Meaning P T R E V S) (r : Run P T S) (u : Run P T S) (z : Tries w w.fresh m refused m r.first r.state r.old r.before u.first u.state u.old u.before) (n : u.new ≡ r.new) (l : u.left ≡ r.left) (f : u.after ≡ r.after) where
   alone : (s : S) (v : View P T) (o : Outcome V) → m.rest s v o → Either (m.rest s) refused v o
   alone s v o i = firm_or (m.rest s) v o i
 

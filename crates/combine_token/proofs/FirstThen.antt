@@ -29,7 +29,7 @@ first_is_valid valid valid' Peek h = tt
 first_is_valid valid valid' (A s) h = h
 first_is_valid valid valid' (B t) h = tt
 
-module _ {P T R V S S' E : Type 0} (step : P → T → P) (errors : Errors T R P E) (steady : Type 0) {fresh valid : S → Type 0} {fresh' valid' : S' → Type 0} {a : Meaning P T R V S} {b : Meaning P T R V S'} (says : Option S → View P T → Bool → E → Type 0) (h : IsMeaning fresh valid a) (k : IsMeaning fresh' valid' b) (first : Bool) (given : OrState S S') (old : View P T) (before : Failures) where
+module _ {P T R V S S' E : Type 0} (step : P → T → P) (errors : Errors T R P E) (steady : Type 0) (cmp : P → P → Ordering) {fresh valid : S → Type 0} {fresh' valid' : S' → Type 0} {a : Meaning P T R E V S} {b : Meaning P T R E V S'} (h : IsMeaning fresh valid a) (k : IsMeaning fresh' valid' b) (first : Bool) (given : OrState S S') (old : View P T) (before : Failures) where
   abbrev w : World P T S E
   w = world step errors steady fresh
 
@@ -39,8 +39,8 @@ module _ {P T R V S S' E : Type 0} (step : P → T → P) (errors : Errors T R P
   abbrev q : Reading P T V
   q = Either b.whole refused
 
-  abbrev m : Meaning P T R V (OrState S S')
-  m = either_of a b
+  abbrev m : Meaning P T R E V (OrState S S')
+  m = either_of errors cmp a b
 
   abbrev empty : OrState S S' → Type 0
   empty s = s ≡ Peek
@@ -75,7 +75,7 @@ module _ {P T R V S S' E : Type 0} (step : P → T → P) (errors : Errors T R P
     abbrev whole_run : Run P T (OrState S S')
     whole_run = record { first = first; state = given; left = left; old = old; new = new; before = before; after = after }
 
-    answered : (answer : ParseResult V E) (ran : Ran w fresh' valid a says first given left old new before after new after answer) → Keeps w fresh' valid a says first given left old new before after ran.stopped answer → IsFinal w fresh' valid a says first given left old new before after answer → Answers (world step errors steady empty) m whole_run answer
+    answered : (answer : ParseResult V E) (ran : Ran w fresh' valid a first given left old new before after new after answer) → Keeps w fresh' valid a first given left old new before after ran.stopped answer → IsFinal w fresh' valid a first given left old new before after answer → Answers (world step errors steady empty) m whole_run answer
     answered (CommitOk v) ran l f = tries_commit_ok w empty a q m (record { first = first; state = ran.state; left = ran.stopped; old = old; new = new; before = before; after = after }) whole_run (first_tries ran.state ran.begun) refl refl v (l.ends (λ i. i)) ran.answers
     answered (PeekOk v) ran l f = tries_peek_ok w empty a q m (record { first = first; state = ran.state; left = ran.stopped; old = old; new = new; before = before; after = after }) whole_run (first_tries ran.state ran.begun) refl refl v (l.ends (λ i. i)) ran.answers
     answered (CommitErr e) ran l f =
@@ -85,11 +85,11 @@ module _ {P T R V S S' E : Type 0} (step : P → T → P) (errors : Errors T R P
         ]
     answered (PeekErr t) ran l f = absurd f
 
-    pub ended_answers : (answer : ParseResult V E) → Ended w fresh' valid a says first given left old new before after answer → Answers (world step errors steady empty) m whole_run answer
+    pub ended_answers : (answer : ParseResult V E) → Ended w fresh' valid a first given left old new before after answer → Answers (world step errors steady empty) m whole_run answer
     ended_answers answer (Answered ran l f) = answered answer ran l f
     ended_answers answer (Failed e i u) = rw i (unreset (world step errors steady empty) m whole_run e u.kind (record { count = u.count; taken = u.taken; state = u.empty }) u.more)
 
-    pub ended_valid : (answer : ParseResult V E) → Ended w fresh' valid a says first given left old new before after answer → or_valid valid valid' left
+    pub ended_valid : (answer : ParseResult V E) → Ended w fresh' valid a first given left old new before after answer → or_valid valid valid' left
     ended_valid answer (Answered ran l f) =
         elim (asks_or_not errors.kind new.is_open answer) [
           | inl i ↦ rw (l.asks i) l.holds
@@ -100,9 +100,9 @@ module _ {P T R V S S' E : Type 0} (step : P → T → P) (errors : Errors T R P
   -- the later ones are tried
   module _ (none : OrState S S') (now : View P T) (so_far : Failures) (kept : S') where
     abbrev goes : Option (Tracked E) → Type 0
-    goes t = turned w fresh' valid a says first given none old now before so_far (Goes kept t)
+    goes t = turned w fresh' valid a first given none old now before so_far (Goes kept t)
 
-    resumes : Resumed w fresh' valid a says first given none old now before so_far kept → Tries w' empty b refused m first kept now so_far first given old before
+    resumes : Resumed w fresh' valid a first given none old now before so_far kept → Tries w' empty b refused m first kept now so_far first given old before
     resumes x = record {
       same = x.same;
       gives = λ t c o j i. let y = subst (λ f. Either (begun b f kept) refused (extended t c old) o) x.partial i in rw (x.partial, x.was) y;
@@ -135,8 +135,8 @@ module _ {P T R V S S' E : Type 0} (step : P → T → P) (errors : Errors T R P
         let r = x.ran in
         no_fault w a (record { first = first; state = r.state; left = r.stopped; old = old; new = x.view; before = before; after = x.failures }) t r.answers
 
-    pub gone_valid : (kept' : S') (is_open : Bool) (cmp : P → P → Ordering) (left : OrState S S') (t : Option (Tracked E)) → goes t → (answer result : ParseResult V E) → Settled errors cmp is_open t kept' none left answer result → valid' kept' → or_valid valid valid' left
-    gone_valid kept' is_open cmp left t x answer result s v =
+    pub gone_valid : (kept' : S') (is_open : Bool) (left : OrState S S') (t : Option (Tracked E)) → goes t → (answer result : ParseResult V E) → Settled errors cmp is_open t kept' none left answer result → valid' kept' → or_valid valid valid' left
+    gone_valid kept' is_open left t x answer result s v =
         elim (asks_or_not errors.kind is_open answer) [
           | inl i ↦ rw (s.asks i) v
           | inr i ↦ rw (s.ends i ∙ is_empty t x) tt
@@ -146,7 +146,7 @@ module _ {P T R V S S' E : Type 0} (step : P → T → P) (errors : Errors T R P
       abbrev later_run : Run P T S'
       later_run = record { first = first; state = kept; left = kept'; old = now; new = new; before = so_far; after = after }
 
-      module _ (cmp : P → P → Ordering) (left : OrState S S') where
+      module _ (left : OrState S S') where
         abbrev all_run : Run P T (OrState S S')
         all_run = record { first = first; state = given; left = left; old = old; new = new; before = before; after = after }
 

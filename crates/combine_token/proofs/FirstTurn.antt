@@ -1,13 +1,12 @@
 -- the first alternative ends the choice, or the later ones do
 use Rattle.std.proofs.Common.{◌+◌, ◌<◌, ◌≤◌, ◌≡◌, ◌⊎◌, inr, Bool, true, false, arith, refl, ◌∙◌}
-use Rattle.std.specs.Prelude.{Option}
 use Rattle.combine_base.specs.Stream.View.{View, Moves}
-use Rattle.combine_base.specs.Parser.Meaning.{Meaning}
+use Rattle.combine_base.specs.Parser.Meaning.{Meaning, begun_refuses}
 use Rattle.combine_base.specs.Parser.Answer.{Run, World, Answers}
 use Rattle.combine_base.proofs.Calls.{peeked_refusal}
 use Rattle.combine_base.proofs.Progress.{takes_more}
 use Rattle.combine_base.proofs.Starting.{need_or_not}
-use Rattle.combine_base.specs.Parser.Reasons.{Reasoned, kept_from}
+use Rattle.combine_base.specs.Parser.Reasons.{Reasoned}
 use Rattle.combine_base.specs.declared.stream.Failures.{Failures}
 use Rattle.combine_base.specs.declared.stream.Kind.{Kind}
 use Rattle.combine_base.specs.declared.stream.Kind.TheVariants as kinds
@@ -35,14 +34,14 @@ begun_valid fresh valid d false (A t) s b h = rw b h
 begun_valid fresh valid d false (B t) s b h = absurd b
 
 -- what could not be put back after a peeked refusal
-pub unreset_here : {P T R V S S' E : Type 0} (w : World P T S E) (fresh : S' → Type 0) (valid : S → Type 0) (a : Meaning P T R V S) (says : Option S → View P T → Bool → E → Type 0) (first : Bool) (given left : OrState S S') (r : Run P T S) (new : View P T) (after : Failures) (t : Tracked E) → Answers w a r (PeekErr t) → (k : Kind) → (k ≡ kinds.Reset) × Moves w.step r.new new × (r.after.resets < after.resets) → r.before.resets ≤ r.after.resets → left ≡ Peek → (e : E) → w.kind e ≡ k → Unreset w fresh valid a says first given left r.old new r.before after e
-unreset_here w fresh valid a says first given left r new after t p k h x l e q =
+pub unreset_here : {P T R V S S' E : Type 0} (w : World P T S E) (fresh : S' → Type 0) (valid : S → Type 0) (a : Meaning P T R E V S) (first : Bool) (given left : OrState S S') (r : Run P T S) (new : View P T) (after : Failures) (t : Tracked E) → Answers w a r (PeekErr t) → (k : Kind) → (k ≡ kinds.Reset) × Moves w.step r.new new × (r.after.resets < after.resets) → r.before.resets ≤ r.after.resets → left ≡ Peek → (e : E) → w.kind e ≡ k → Unreset w fresh valid a first given left r.old new r.before after e
+unreset_here w fresh valid a first given left r new after t p k h x l e q =
     let y = (peeked_refusal w a r (w.kind t.error) p.is).leaves in
     let z = h.1 in
     let b = h.2 in
     record { kind = q ∙ h.0; count = y.count + z.count; taken = takes_more w.step y.count z.count r.old r.new new y.taken z.taken; empty = l; more = omega arith }
 
-module _ {P T R V S S' E : Type 0} (w : World P T S E) (later : S' → Type 0) (valid : S → Type 0) (a : Meaning P T R V S) (says : Option S → View P T → Bool → E → Type 0) (first : Bool) (given : OrState S S') (s stopped : S) (old mid : View P T) (before middle : Failures) (b : begins w.fresh first given s) (h : valid s) (i : valid stopped) where
+module _ {P T R V S S' E : Type 0} (w : World P T S E) (later : S' → Type 0) (valid : S → Type 0) (a : Meaning P T R E V S) (first : Bool) (given : OrState S S') (s stopped : S) (old mid : View P T) (before middle : Failures) (b : begins w.fresh first given s) (h : valid s) (i : valid stopped) where
   abbrev run : Run P T S
   run = record { first = first; state = s; left = stopped; old = old; new = mid; before = before; after = middle }
 
@@ -51,18 +50,18 @@ module _ {P T R V S S' E : Type 0} (w : World P T S E) (later : S' → Type 0) (
     Leads = GoesOn w.step w.kind w.steady later stands stopped left mid new middle after
 
     abbrev Here : Turn V S' E → Type 0
-    Here = Turned w later valid a says first given left old new before after
+    Here = Turned w later valid a first given left old new before after
 
     abbrev Said : ParseResult V E → Type 0
-    Said answer = Reasoned w.kind mid.is_open (says (kept_from first s) old) answer
+    Said answer = Reasoned w.kind mid.is_open (begun_refuses a first s old mid) answer
 
-    ends : (answer : ParseResult V E) (turn : Turn V S' E) → turn ≡ Ends answer → Stays mid new middle after → Answers w a run answer → Said answer → IsFinal w later valid a says first given left old new before after answer → (NeedsMore w.kind mid.is_open answer → left ≡ A stopped) → ((NeedsMore w.kind mid.is_open answer → ⊥) → left ≡ Peek) → Here turn
+    ends : (answer : ParseResult V E) (turn : Turn V S' E) → turn ≡ Ends answer → Stays mid new middle after → Answers w a run answer → Said answer → IsFinal w later valid a first given left old new before after answer → (NeedsMore w.kind mid.is_open answer → left ≡ A stopped) → ((NeedsMore w.kind mid.is_open answer → ⊥) → left ≡ Peek) → Here turn
     ends answer turn e k p r f y n = rw (e, k.same, k.failures) (record { is = Answered (record { state = s; stopped = stopped; begun = b; reads = h; answers = p; refuses = r }) (record { holds = i; asks = y; ends = n }) f })
 
     peeked : (t : Tracked E) (turn : Turn V S' E) → Leads (PeekErr t) turn → Answers w a run (PeekErr t) → Said (PeekErr t) → Here turn
     peeked t (Ends answer) g p r =
         let n = g.is in
-        record { is = Failed n.error n.is (unreset_here w later valid a says first given left run new after t p (w.kind n.error) (n.why, n.moves, n.more) resets n.empty n.error refl) }
+        record { is = Failed n.error n.is (unreset_here w later valid a first given left run new after t p (w.kind n.error) (n.why, n.moves, n.more) resets n.empty n.error refl) }
     peeked t (Goes fresh refused) g p r =
         let n = g.is in
         rw n.refused_so (record { is = record { fresh = n.is_fresh; view = mid; failures = middle; ran = record { state = s; stopped = stopped; begun = b; reads = h; answers = p; refuses = r }; back = n.back old back; steady = n.failures; empty = n.empty } })

@@ -2,16 +2,20 @@
 use Rattle.std.proofs.Common.{ℕ, zero, suc, ◌<◌, ◌≡◌, List, [], ◌∷◌, length, Bool, Some, None, Option, refl, sym, ap, subst, arith, slice_get, ◌↔◌}
 use Rattle.combine_base.specs.Stream.View.{View}
 use Rattle.combine_base.specs.Error.Items.{Item}
+use Rattle.combine_base.specs.Error.Errors.{Errors}
 use Rattle.combine_base.specs.Parser.Outcome.{Outcome}
-use Rattle.combine_base.specs.Parser.Meaning.{Alike, MeansSame}
+use Rattle.combine_base.specs.Parser.Meaning.{Alike, MeansSame, SameReasons}
 use Rattle.combine_base.specs.Parser.Answer.{Answers, Run, World}
 use Rattle.combine_base.proofs.Same.{answers_alike}
+use Rattle.combine_base.specs.declared.error.Info.{Info}
 use Rattle.combine_base.specs.declared.error.ParseResult.{ParseResult}
-use Rattle.combine_token.specs.TokenLists.{TokenList, matching, token_list}
+use Rattle.combine_token.specs.TokenLists.{TokenList, matching}
+use Rattle.combine_token.specs.TokenListLaws.{token_list}
 use Rattle.combine_token.specs.Iterated.{GaveAt, GaveAll, Stands, Ends, iterated}
 use Rattle.combine_token.specs.Listed.{Within, listed}
+use Rattle.combine_token.specs.Reasons.{RefusesList}
 use Rattle.combine_token.proofs.Iterating.{gave_none}
-use Rattle.combine_token.proofs.Listing.{matching_within}
+use Rattle.combine_token.proofs.Listing.{matching_within, refuses_within}
 
 -- each known item, and the end after them, can come
 pub record Gives {L I A B : Type 0} (clones : L → L → Type 0) (makes : L → I → Type 0) (steps : I → Option A → I → Type 0) (list : L) (v : A → B) (ys : List B) : Type 0 where
@@ -69,9 +73,9 @@ module _ {P T V : Type 0} (l l' : TokenList T) (h : Within l l') (k : Within l' 
   both_ways : (n : ℕ) (v : View P T) (o : Outcome V) → matching l {P = P} gives n v o ↔ matching l' gives' n v o
   both_ways n v o = (matching_within l l' h gives gives' (λ x. (g x).0) n v.is_open v.unread o, matching_within l' l k gives' gives (λ x. (g x).1) n v.is_open v.unread o)
 
-  module _ {R S : Type 0} (matched : S → ℕ) (lean lean' : Type 0) (f : lean ↔ lean') (adds adds' : List (Item T R) → Type 0) where
-    -- whatever they add to errors
-    pub token_list_alike : Alike (token_list l {P = P} gives matched lean adds) (token_list l' gives' matched lean' adds')
+  module _ {R S E : Type 0} (errors : Errors T R P E) (expected expected' : Option (Info T R)) (matched : S → ℕ) (lean lean' : Type 0) (f : lean ↔ lean') (adds adds' : List (Item T R) → Type 0) where
+    -- whatever they add to errors, and say was expected
+    pub token_list_alike : Alike (token_list errors l expected gives matched lean adds) (token_list errors l' expected' gives' matched lean' adds')
     token_list_alike = record {
       whole = both_ways 0;
       rest = λ s. both_ways (matched s);
@@ -81,12 +85,16 @@ module _ {P T V : Type 0} (l l' : TokenList T) (h : Within l l') (k : Within l' 
       lean = f;
     }
 
-    pub token_list_means_same : ((is : List (Item T R)) → adds is ↔ adds' is) → MeansSame (token_list l {P = P} gives matched lean adds) (token_list l' gives' matched lean' adds')
+  module _ {R S E : Type 0} (errors : Errors T R P E) (expected : Option (Info T R)) (matched : S → ℕ) (lean lean' : Type 0) (f : lean ↔ lean') (adds adds' : List (Item T R) → Type 0) where
+    same_reasons : (n : ℕ) → SameReasons (RefusesList errors l expected n) (RefusesList errors l' expected n)
+    same_reasons n v w c e = (refuses_within l l' h errors expected n v w c e, refuses_within l' l k errors expected n v w c e)
+
+    pub token_list_means_same : ((is : List (Item T R)) → adds is ↔ adds' is) → MeansSame (token_list errors l expected gives matched lean adds) (token_list errors l' expected gives' matched lean' adds')
     token_list_means_same j =
-        let a = token_list_alike in
-        record { whole = a.whole; rest = a.rest; lost = a.lost; keeps = a.keeps; puts_back = a.puts_back; lean = a.lean; adds = j }
+        let a = token_list_alike errors expected expected matched lean lean' f adds adds' in
+        record { whole = a.whole; rest = a.rest; lost = a.lost; keeps = a.keeps; puts_back = a.puts_back; lean = a.lean; adds = j; refuses = same_reasons 0; refuses_from = λ s. same_reasons (matched s) }
 
 -- the same list, whose value is a clone of it: such a parser asks for memory where a clone does
-module _ {P T R V S E : Type 0} (w : World P T S E) (l : TokenList T) (gives : V → Type 0) (matched : S → ℕ) (lean : Type 0) (adds : List (Item T R) → Type 0) (r : Run P T S) where
-  pub answers_cloned : (result : ParseResult V E) → Answers w (token_list l gives matched (lean × lean) adds) r result → Answers w (token_list l gives matched lean adds) r result
-  answers_cloned = answers_alike w (token_list l gives matched lean adds) (token_list l gives matched (lean × lean) adds) (token_list_alike l l (within_same l) (within_same l) gives gives (λ v. (λ p. p, λ p. p)) matched lean (lean × lean) (λ p. (p, p), λ p. p.0) adds adds) r
+module _ {P T R V S E : Type 0} (w : World P T S E) (errors : Errors T R P E) (l : TokenList T) (expected : Option (Info T R)) (gives : V → Type 0) (matched : S → ℕ) (lean : Type 0) (adds : List (Item T R) → Type 0) (r : Run P T S) where
+  pub answers_cloned : (result : ParseResult V E) → Answers w (token_list errors l expected gives matched (lean × lean) adds) r result → Answers w (token_list errors l expected gives matched lean adds) r result
+  answers_cloned = answers_alike w (token_list errors l expected gives matched lean adds) (token_list errors l expected gives matched (lean × lean) adds) (token_list_alike l l (within_same l) (within_same l) gives gives (λ v. (λ p. p, λ p. p)) errors expected expected matched lean (lean × lean) (λ p. (p, p), λ p. p.0) adds adds) r

@@ -17,7 +17,8 @@ use Rattle.combine_base.specs.declared.stream.Failures.{Failures}
 use Rattle.combine_base.specs.declared.error.Tracked.{Tracked}
 use Rattle.combine_base.specs.declared.error.ParseResult.{ParseResult}
 use Rattle.combine_base.specs.declared.error.ParseResult.TheVariants.{CommitOk, PeekOk, CommitErr, PeekErr}
-use Rattle.combine_token.specs.TokenLists.{TokenList, stops, matching_at, matching, token_list}
+use Rattle.combine_token.specs.TokenLists.{TokenList, stops, matching_at, matching}
+use Rattle.combine_token.specs.TokenListLaws.{token_list}
 use Rattle.combine_token.specs.ListAnswers.{expecting, FindsNone, finds_none, Mismatch, PutBack, is_put_back}
 use Rattle.combine_token.specs.ListAnswers as given
 use Rattle.combine_token.proofs.Matches.{Arrived, none_matched, token_taken}
@@ -47,16 +48,16 @@ pub end_refused : {V V' E : Type 0} (kind : E → Kind) (frugal : Type 0) (is_op
 end_refused kind frugal is_open true why t h = record { is = inl (h.is.0 ∙ sym h.is.1, λ i j. refl) }
 end_refused kind frugal is_open false why t h = record { is = (h.is.0, h.is.1, h.is.2, refl) }
 
-module _ {P T R V S E : Type 0} (w : World P T S E) (l : TokenList T) (gives : V → Type 0) (matched : S → ℕ) (lean : Type 0) (adds : List (Item T R) → Type 0) (r : Run P T S) where
-  abbrev m : Meaning P T R V S
-  m = token_list l gives matched lean adds
+module _ {P T R V S E : Type 0} (w : World P T S E) (errors : Errors T R P E) (l : TokenList T) (expected : Option (Info T R)) (gives : V → Type 0) (matched : S → ℕ) (lean : Type 0) (adds : List (Item T R) → Type 0) (r : Run P T S) where
+  abbrev m : Meaning P T R E V S
+  m = token_list errors l expected gives matched lean adds
 
   -- before an item is asked for
   pub no_memory : (e : E) → w.kind e ≡ kinds.Memory → (lean → ⊥) → r.new ≡ r.old → w.fresh r.left → Answers w m r (CommitErr e)
   no_memory e i j k d = record { is = rw i (λ f x. j x, record { count = 0; taken = rw k (takes_none w.step r.old); state = d }) }
 
   -- the match has come to place n
-  module _ (n : ℕ) (now : View P T) (later : Failures) (q : Arrived w l gives matched lean adds r.first r.state n r.old now r.before later) (d : w.fresh r.left) where
+  module _ (n : ℕ) (now : View P T) (later : Failures) (q : Arrived w errors l expected gives matched lean adds r.first r.state n r.old now r.before later) (d : w.fresh r.left) where
     meant : (o : Outcome V) → matching l gives n now o → begun m r.first r.state r.old (after q.progress.count false o)
     meant o p = progress_outcome w (begun m r.first r.state) (matching l gives n) r.old now r.before later q.progress o p
 
@@ -179,7 +180,7 @@ module _ {P T R V S E : Type 0} (w : World P T S E) (l : TokenList T) (gives : V
           by_result (PeekErr e) p = rw p.0 (peeking why x p.1 p.2 p.3)
 
   -- all that is unread was matched, and more may follow
-  module _ (n : ℕ) (now : View P T) (later : Failures) (q : Arrived w l gives matched lean adds r.first r.state n r.old now r.before later) (s : l.has n) (i : matched r.left ≡ n) (x : FindsEnd w.steady w.step now r.new later r.after) (o : r.new.is_open ≡ true) where
+  module _ (n : ℕ) (now : View P T) (later : Failures) (q : Arrived w errors l expected gives matched lean adds r.first r.state n r.old now r.before later) (s : l.has n) (i : matched r.left ≡ n) (x : FindsEnd w.steady w.step now r.new later r.after) (o : r.new.is_open ≡ true) where
     every_token : q.progress.count ≡ length r.old.unread
     every_token =
         let t = q.progress.taken in

@@ -5,7 +5,8 @@ use Rattle.combine_base.specs.Stream.Calls.{TakesToken, no_token}
 use Rattle.combine_base.specs.Error.Items.{Item}
 use Rattle.combine_base.specs.Error.Errors.{Errors, New}
 use Rattle.combine_base.specs.Parser.Answer.{World}
-use Rattle.combine_base.specs.Parser.Reasons.{Reasoned, kept_from}
+use Rattle.combine_base.specs.Parser.Meaning.{begun_refuses}
+use Rattle.combine_base.specs.Parser.Reasons.{Reasoned, ReasonedCall}
 use Rattle.combine_base.proofs.Progress.{takes_open}
 use Rattle.combine_base.specs.declared.error.Info.{Info}
 use Rattle.combine_base.specs.declared.stream.Kind.{Kind}
@@ -16,6 +17,7 @@ use Rattle.combine_base.specs.declared.error.ParseResult.TheVariants.{CommitOk, 
 use Rattle.combine_token.specs.ListAnswers.{Accepted, FindsNone, Mismatch}
 use Rattle.combine_token.specs.Reasons.{RefusesList, SaysEnded, begins_at, peeked_only, refuses_next}
 use Rattle.combine_token.specs.TokenLists.{TokenList, stops}
+use Rattle.combine_token.specs.TokenListLaws.{token_list}
 use Rattle.combine_token.proofs.ListAnswered.{stops_at_end, stops_at_token}
 use Rattle.combine_token.proofs.Matches.{Arrived}
 use Rattle.combine_base.proofs.Reasoning.{reasons_ok, reasons_peek_ok, reasons_committed, reasons_fault, reasons_into}
@@ -28,9 +30,9 @@ accepted_reasons kind is_open says gives infallible committed (CommitErr e) h = 
 accepted_reasons kind is_open says gives infallible committed (PeekErr t) h = absurd h.is
 
 -- the match has come to place n, where an item stands
-module _ {P T R V S E : Type 0} (w : World P T S E) (l : TokenList T) (gives : V → Type 0) (matched : S → ℕ) (lean : Type 0) (adds : List (Item T R) → Type 0) (first : Bool) (state : S) (n : ℕ) (old now : View P T) (before later : Failures) (q : Arrived w l gives matched lean adds first state n old now before later) (s : Errors T R P E) (expected : Option (Info T R)) (h : l.has n) where
+module _ {P T R V S E : Type 0} (w : World P T S E) (s : Errors T R P E) (l : TokenList T) (expected : Option (Info T R)) (gives : V → Type 0) (matched : S → ℕ) (lean : Type 0) (adds : List (Item T R) → Type 0) (first : Bool) (state : S) (n : ℕ) (old now : View P T) (before later : Failures) (q : Arrived w s l expected gives matched lean adds first state n old now before later) (h : l.has n) (new : View P T) where
   abbrev says : Bool → E → Type 0
-  says = RefusesList s l expected (begins_at matched (kept_from first state)) old
+  says = RefusesList s l expected (begins_at matched first state) old new
 
   same_rest : now.unread ≡ drop q.progress.count old.unread
   same_rest = ap (λ (v : View P T). v.unread) q.progress.taken.rest
@@ -48,21 +50,21 @@ module _ {P T R V S E : Type 0} (w : World P T S E) (l : TokenList T) (gives : V
     says = subst (λ us. refuses_next s old.position expected us committed e) same_rest r;
   }
 
-  module _ (is_open : Bool) (t : T) (mid : View P T) (middle : Failures) (f : l.fits n t false) (k : TakesToken w.steady w.step now mid later middle t) where
+  module _ (t : T) (mid : View P T) (middle : Failures) (f : l.fits n t false) (k : TakesToken w.steady w.step now mid later middle t) where
     stopped : stops l n now.is_open now.unread
     stopped = stops_at_token l gives n now.is_open now.unread mid.unread t k.unread f
 
-    pub mismatch_reasons : (e : E) → true ≡ nat_lt 0 n → Mismatch s old.position t expected e → Reasoned {V = V} s.kind is_open says (CommitErr e)
-    mismatch_reasons e b m = reasons_committed s.kind is_open says e (λ i. refused_there true e stopped b (rw k.unread m))
+    pub mismatch_reasons : (e : E) → true ≡ nat_lt 0 n → Mismatch s old.position t expected e → Reasoned {V = V} s.kind new.is_open says (CommitErr e)
+    mismatch_reasons e b m = reasons_committed s.kind new.is_open says e (λ i. refused_there true e stopped b (rw k.unread m))
 
-    pub put_back_reasons : (result : ParseResult V E) → false ≡ nat_lt 0 n → Reasoned s.kind is_open (peeked_only (New s kinds.Refused old.position)) result → Reasoned s.kind is_open says result
-    put_back_reasons result b r = reasons_into s.kind is_open (peeked_only (New s kinds.Refused old.position)) says result into r
+    pub put_back_reasons : (result : ParseResult V E) → false ≡ nat_lt 0 n → Reasoned s.kind new.is_open (peeked_only (New s kinds.Refused old.position)) result → Reasoned s.kind new.is_open says result
+    put_back_reasons result b r = reasons_into s.kind new.is_open (peeked_only (New s kinds.Refused old.position)) says result into r
       where
         into : (committed : Bool) (e : E) → peeked_only (New s kinds.Refused old.position) committed e → says committed e
         into true e p = absurd p
         into false e p = refused_there false e stopped b (rw k.unread p)
 
-  module _ (new : View P T) (after : Failures) (committed : Bool) (b : committed ≡ nat_lt 0 n) where
+  module _ (after : Failures) (committed : Bool) (b : committed ≡ nat_lt 0 n) where
     closed : (i : Bool) → ((kinds.End ≡ kinds.End) × (i ≡ true) → ⊥) → i ≡ false
     closed true f = absurd (f (refl, refl))
     closed false f = refl
@@ -87,3 +89,12 @@ module _ {P T R V S E : Type 0} (w : World P T S E) (l : TokenList T) (gives : V
     unread_reasons kinds.Memory result x o p r = absurd x
     unread_reasons kinds.Reset result x o p r = absurd x
     unread_reasons kinds.Lost result x o p r = absurd x
+
+-- the error of a parser of a list, in its mode
+module _ {P T R V S E : Type 0} (s : Errors T R P E) (l : TokenList T) (expected : Option (Info T R)) (gives : V → Type 0) (matched : S → ℕ) (lean : Type 0) (adds : List (Item T R) → Type 0) (first : Bool) (state : S) where
+  in_mode : (f : Bool) (v w : View P T) (k : Bool) (e : E) → RefusesList s l expected (begins_at matched f state) v w k e → begun_refuses (token_list s l expected gives matched lean adds) f state v w k e
+  in_mode true v w k e p = p
+  in_mode false v w k e p = p
+
+  pub list_reasons : (old new : View P T) (result : ParseResult V E) → Reasoned s.kind new.is_open (RefusesList s l expected (begins_at matched first state) old new) result → ReasonedCall s (token_list s l expected gives matched lean adds) first state old new result
+  list_reasons old new result r k e x = in_mode first old new k e (r k e x)

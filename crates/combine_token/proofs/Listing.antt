@@ -82,8 +82,8 @@ module _ {T : Type 0} (l l' : TokenList T) (h : Within l l') where
   matching_within gives gives' g n b us Undecided p = (p.0, h.has (n + length us) p.1, matched_within n (length us) us p.2)
 
   -- and what its errors say
-  pub refuses_within : {R P E : Type 0} (s : Errors T R P E) (expected : Option (Info T R)) (n : ℕ) (v : View P T) (committed : Bool) (e : E) → RefusesList s l expected n v committed e → RefusesList s l' expected n v committed e
-  refuses_within s expected n v committed e p = record {
+  pub refuses_within : {R P E : Type 0} (s : Errors T R P E) (expected : Option (Info T R)) (n : ℕ) (v w : View P T) (committed : Bool) (e : E) → RefusesList s l expected n v w committed e → RefusesList s l' expected n v w committed e
+  refuses_within s expected n v w committed e p = record {
     count = p.count;
     has = h.has (n + p.count) p.has;
     matched = matched_within n p.count v.unread p.matched;

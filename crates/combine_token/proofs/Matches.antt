@@ -1,5 +1,5 @@
 -- a token that fits, and then what is left of the match
-use Rattle.std.proofs.Common.{ℕ, zero, suc, ◌+◌, ◌≡◌, List, [], ◌∷◌, ◌++◌, take, drop, length, length-drop, ap, Bool, true, false, not, nat_lt, if◌then◌else◌, refl, sym, subst, ◌∙◌, arith, lt-ltb}
+use Rattle.std.proofs.Common.{Option, ℕ, zero, suc, ◌+◌, ◌≡◌, List, [], ◌∷◌, ◌++◌, take, drop, length, length-drop, ap, Bool, true, false, not, nat_lt, if◌then◌else◌, refl, sym, subst, ◌∙◌, arith, lt-ltb}
 use Rattle.combine_base.specs.Stream.View.{View, Takes}
 use Rattle.combine_base.specs.Error.Items.{Item}
 use Rattle.combine_base.specs.Parser.Outcome.{Outcome, Accepted, Refused, Undecided, after, IsCommitted}
@@ -9,9 +9,11 @@ use Rattle.combine_base.specs.Parser.Answer.{Resumes, World}
 use Rattle.combine_base.proofs.Progress.{Progress, takes_more, takes_open, resumes_more}
 use Rattle.combine_base.proofs.Starting.{progress_here}
 use Rattle.combine_base.specs.declared.stream.Failures.{Failures}
-use Rattle.combine_base.specs.Parser.Reasons.{kept_from}
+use Rattle.combine_base.specs.Error.Errors.{Errors}
+use Rattle.combine_base.specs.declared.error.Info.{Info}
 use Rattle.combine_token.specs.Reasons.{begins_at}
-use Rattle.combine_token.specs.TokenLists.{TokenList, EndsOnce, Matched, all_fit, stops, matching_at, matching, token_list}
+use Rattle.combine_token.specs.TokenLists.{TokenList, EndsOnce, Matched, all_fit, stops, matching_at, matching}
+use Rattle.combine_token.specs.TokenListLaws.{token_list}
 
 -- the first token is taken
 pub token_taken : {P T : Type 0} (steady : Type 0) (step : P → T → P) (old new : View P T) (before later : Failures) (t : T) → TakesToken steady step old new before later t → Takes step 1 old new
@@ -64,28 +66,28 @@ module _ {T : Type 0} (l : TokenList T) where
       let j : c + 1 ≡ suc c = omega arith in
       record { enough = omega (arith, length-drop c us); each = rw j (next_fits n c us vs t m.each e a) }
 
-module _ {P T R V S E : Type 0} (w : World P T S E) (l : TokenList T) (gives : V → Type 0) (matched : S → ℕ) (lean : Type 0) (adds : List (Item T R) → Type 0) (first : Bool) (state : S) where
+module _ {P T R V S E : Type 0} (w : World P T S E) (errors : Errors T R P E) (l : TokenList T) (expected : Option (Info T R)) (gives : V → Type 0) (matched : S → ℕ) (lean : Type 0) (adds : List (Item T R) → Type 0) (first : Bool) (state : S) where
   -- a call has come to the item at place n, and each token that it took fits its item
   pub record Arrived (n : ℕ) (old now : View P T) (before later : Failures) : Type 0 where
-    pub progress : Progress w (begun (token_list l gives matched lean adds) first state) (matching l gives n) old now before later
-    pub place : n ≡ begins_at matched (kept_from first state) + progress.count
-    pub fit : Matched l (begins_at matched (kept_from first state)) progress.count old.unread
+    pub progress : Progress w (begun (token_list errors l expected gives matched lean adds) first state) (matching l gives n) old now before later
+    pub place : n ≡ begins_at matched first state + progress.count
+    pub fit : Matched l (begins_at matched first state) progress.count old.unread
 
-module _ {P T R V S E : Type 0} (w : World P T S E) (l : TokenList T) (gives : V → Type 0) (matched : S → ℕ) (lean : Type 0) (adds : List (Item T R) → Type 0) where
+module _ {P T R V S E : Type 0} (w : World P T S E) (errors : Errors T R P E) (l : TokenList T) (expected : Option (Info T R)) (gives : V → Type 0) (matched : S → ℕ) (lean : Type 0) (adds : List (Item T R) → Type 0) where
   -- it begins after as many items as were matched before
-  pub arrived_first : (first : Bool) (state : S) (n : ℕ) (v : View P T) (f : Failures) → n ≡ (if not first then matched state else 0) → Arrived w l gives matched lean adds first state n v v f f
+  pub arrived_first : (first : Bool) (state : S) (n : ℕ) (v : View P T) (f : Failures) → n ≡ (if not first then matched state else 0) → Arrived w errors l expected gives matched lean adds first state n v v f f
   arrived_first true state n v f e = rw e (record { progress = progress_here w (matching l gives 0) (matching l gives 0) v f (λ v o p. p); place = omega arith; fit = none_matched l 0 v.unread })
   arrived_first false state n v f e = rw e (record { progress = progress_here w (matching l gives (matched state)) (matching l gives (matched state)) v f (λ v o p. p); place = omega arith; fit = none_matched l (matched state) v.unread })
 
   -- and goes on at a token that fits
-  pub arrived_next : (h : EndsOnce l) (first : Bool) (state : S) (n : ℕ) (u v x : View P T) (f g i : Failures) → Arrived w l gives matched lean adds first state n u v f g → (t : T) → l.fits n t true → l.has n → TakesToken w.steady w.step v x g i t → Arrived w l gives matched lean adds first state (n + 1) u x f i
+  pub arrived_next : (h : EndsOnce l) (first : Bool) (state : S) (n : ℕ) (u v x : View P T) (f g i : Failures) → Arrived w errors l expected gives matched lean adds first state n u v f g → (t : T) → l.fits n t true → l.has n → TakesToken w.steady w.step v x g i t → Arrived w errors l expected gives matched lean adds first state (n + 1) u x f i
   arrived_next h first state n u v x f g i p t a b k = record {
     place = let e = p.place in omega arith;
-    fit = one_more_fits l (begins_at matched (kept_from first state)) p.progress.count u.unread x.unread t p.fit (sym (ap (λ (y : View P T). y.unread) p.progress.taken.rest) ∙ k.unread) (subst (λ j. l.fits j t true) p.place a);
+    fit = one_more_fits l (begins_at matched first state) p.progress.count u.unread x.unread t p.fit (sym (ap (λ (y : View P T). y.unread) p.progress.taken.rest) ∙ k.unread) (subst (λ j. l.fits j t true) p.place a);
     progress = record {
       count = p.progress.count + 1;
       taken = takes_more w.step p.progress.count 1 u v x p.progress.taken (token_taken w.steady w.step v x g i t k);
-      resumes = resumes_more (begun (token_list l gives matched lean adds) first state) (matching l gives n) (matching l gives (n + 1)) p.progress.count 1 u v x (takes_open w.step p.progress.count u v p.progress.taken) p.progress.resumes (one_matched l h gives n t a b w.steady w.step v x g i k);
+      resumes = resumes_more (begun (token_list errors l expected gives matched lean adds) first state) (matching l gives n) (matching l gives (n + 1)) p.progress.count 1 u v x (takes_open w.step p.progress.count u v p.progress.taken) p.progress.resumes (one_matched l h gives n t a b w.steady w.step v x g i k);
       failures = λ s. k.failures s ∙ p.progress.failures s;
     };
   }

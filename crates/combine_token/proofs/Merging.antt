@@ -11,7 +11,7 @@ use Rattle.combine_base.specs.declared.error.ParseResult.{ParseResult}
 use Rattle.combine_base.specs.declared.error.ParseResult.TheVariants.{CommitOk, PeekOk, CommitErr, PeekErr}
 use Rattle.combine_token.specs.Alternatives.{AfterRefusal, refuses_both}
 
-module _ {P T R V S E : Type 0} (w : World P T S E) (m : Meaning P T R V S) (r : Run P T S) where
+module _ {P T R V S E : Type 0} (w : World P T S E) (m : Meaning P T R E V S) (r : Run P T S) where
   peeks_no_fault : (k : Kind) → peeks w m r k → IsFault k → ⊥
   peeks_no_fault kinds.Refused p i = i
   peeks_no_fault kinds.End p i = i
@@ -24,7 +24,7 @@ module _ {P T R V S E : Type 0} (w : World P T S E) (m : Meaning P T R V S) (r :
   pub no_fault : (t : Tracked E) → Answers w m r (PeekErr t) → IsFault (w.kind t.error) → ⊥
   no_fault t p = peeks_no_fault (w.kind t.error) p.is
 
-module _ {P T R V S E : Type 0} (step : P → T → P) (s : Errors T R P E) (steady : Type 0) (fresh : S → Type 0) (m : Meaning P T R V S) (r : Run P T S) (cmp : P → P → Ordering) (first : E) (n : IsFault (s.kind first) → ⊥) where
+module _ {P T R V S E : Type 0} (step : P → T → P) (s : Errors T R P E) (steady : Type 0) (fresh : S → Type 0) (m : Meaning P T R E V S) (r : Run P T S) (cmp : P → P → Ordering) (first : E) (n : IsFault (s.kind first) → ⊥) where
   joins : (j k : Kind) → (IsFault j → ⊥) → peeks (world step s steady fresh) m r k → peeks (world step s steady fresh) m r (joined_kind j k)
   joins kinds.End k n p = p
   joins kinds.Refused k n p = peeked_refusal (world step s steady fresh) m r k p

@@ -2,7 +2,7 @@
 use Rattle.std.proofs.Common.{◌<◌, ◌≤◌, ◌≡◌, ◌+◌, List, [], ◌∷◌, Bool, true, false, Option, Some, None, Ok, Err, refl, subst, sym, arith}
 use Rattle.combine_base.specs.Stream.View.{View, Takes}
 use Rattle.combine_base.specs.Error.Items.{Item}
-use Rattle.combine_base.specs.Error.Errors.{Nothing}
+use Rattle.combine_base.specs.Error.Errors.{Errors, Nothing}
 use Rattle.combine_base.specs.Parser.Outcome.{Outcome, Accepted, Refused, Undecided}
 use Rattle.combine_base.specs.Stream.Calls.{Uncons, TakesToken, ResetTo}
 use Rattle.combine_base.specs.Parser.Answer.{Run, World, Answers, ends}
@@ -13,6 +13,8 @@ use Rattle.combine_base.specs.declared.stream.Failures.{Failures}
 use Rattle.combine_base.specs.declared.error.ParseResult.{ParseResult}
 use Rattle.combine_base.specs.declared.error.ParseResult.TheVariants.{PeekOk, CommitErr}
 use Rattle.combine_token.specs.OneToken.{holds, of_token, one_token, one_token_at, satisfied, takes_one, ReadsToken, ReadsTokenIf}
+use Rattle.combine_token.specs.Reasons.{RefusesToken}
+use Rattle.combine_token.specs.Stateless.{never, stateless}
 use Rattle.combine_token.proofs.Stateless.{Allows, into_begun, asks, answers_too}
 
 -- nothing is unread
@@ -38,11 +40,11 @@ module _ {P T B S E : Type 0} (w : World P T S E) (f : Option T → Option B →
       is_open : old.is_open ≡ true
       is_open = subst (λ (v : View P T). v.is_open ≡ true) u.is.same i
 
-      by_run : (first : Bool) (state left : S) → w.fresh left → Answers w (takes_one {R = Unit {0}} f (Unit {0}) Nothing) (record { first = first; state = state; left = left; old = old; new = new; before = before; after = after }) (CommitErr e)
+      by_run : (first : Bool) (state left : S) → w.fresh left → Answers w (stateless {R = Unit {0}} {E = E} (one_token f) (Unit {0}) (Unit {0}) Nothing never) (record { first = first; state = state; left = left; old = old; new = new; before = before; after = after }) (CommitErr e)
       by_run first state left s =
           let r : Run P T S = record { first = first; state = state; left = left; old = old; new = new; before = before; after = after } in
-          let a = asks w (one_token f) (Unit {0}) (Unit {0}) (Nothing {R = Unit {0}}) r is_open (undecided_at f old.is_open old.unread u.is.unread is_open) (λ x. u.is.unread) u.is.same u.is.failures in
-          record { is = rw k (subst (ends w (takes_one f (Unit {0}) Nothing) r) (sym is_open) a) }
+          let a = asks w (one_token f) (Unit {0}) (Unit {0}) (Nothing {R = Unit {0}}) never r is_open (undecided_at f old.is_open old.unread u.is.unread is_open) (λ x. u.is.unread) u.is.same u.is.failures in
+          record { is = rw k (subst (ends w (stateless {R = Unit {0}} {E = E} (one_token f) (Unit {0}) (Unit {0}) Nothing never) r) (sym is_open) a) }
 
   -- the end of an ended list, for which the test answers a value
   pub accepts_end : (b : B) → Uncons {Token = T} w.steady w.step old new before after (Err kinds.End) → new.is_open ≡ false → f None (Some b) → ReadsToken w f old new before after (PeekOk b)
@@ -52,7 +54,7 @@ module _ {P T B S E : Type 0} (w : World P T S E) (f : Option T → Option B →
         answers = λ first state left s. record {
           is = record {
             count = 0;
-            meant = into_begun (one_token f) (Unit {0}) (Unit {0}) (Nothing {R = Unit {0}}) first state old (Accepted b 0 false) (ended_at f old.is_open old.unread b u.is.unread is_open p);
+            meant = into_begun (one_token f) (Unit {0}) (Unit {0}) (Nothing {R = Unit {0}}) (never {E = E}) first state old (Accepted b 0 false) (ended_at f old.is_open old.unread b u.is.unread is_open p);
             taken = rw u.is.same (takes_none w.step old);
             state = s;
             failures = u.is.failures;
@@ -79,14 +81,14 @@ module _ {T B : Type 0} (f g : Option T → Option B → Type 0) (h : (i : Optio
   allows : {P : Type 0} → Allows {P = P} (one_token f) (one_token g)
   allows = record { into = λ v o. allows_at v.is_open v.unread o }
 
-module _ {P T R B S E : Type 0} (w : World P T S E) (f g : Option T → Option B → Type 0) (lean : Type 0) (adds : List (Item T R) → Type 0) (r : Run P T S) (s : w.fresh r.left) where
+module _ {P T R B S E : Type 0} (w : World P T S E) (errors : Errors T R P E) (f g : Option T → Option B → Type 0) (lean : Type 0) (adds : List (Item T R) → Type 0) (r : Run P T S) (s : w.fresh r.left) where
   -- a parser that makes such a call, under a test that answers as its own allows
-  pub takes : (result : ParseResult B E) → ReadsToken w f r.old r.new r.before r.after result → ((i : Option T) (o : Option B) → f i o → g i o) → Answers w (takes_one g lean adds) r result
-  takes result h i = answers_too w (one_token f) (one_token g) (allows f g i) (Unit {0}) (Unit {0}) lean (Nothing {R = Unit {0}}) adds (λ l. tt) r result (h.answers r.first r.state r.left s)
+  pub takes : (result : ParseResult B E) → ReadsToken w f r.old r.new r.before r.after result → ((i : Option T) (o : Option B) → f i o → g i o) → Answers w (takes_one errors g lean adds) r result
+  takes result h i = answers_too w (one_token f) (one_token g) (allows f g i) (Unit {0}) (Unit {0}) lean (Nothing {R = Unit {0}}) adds never (RefusesToken errors) (λ l. tt) r result (h.answers r.first r.state r.left s)
 
 -- a call under one test, made by one under another that answers as the first allows
 pub reads_under : {P T B S E : Type 0} (w : World P T S E) (f g : Option T → Option B → Type 0) (old new : View P T) (before after : Failures) (result : ParseResult B E) → ReadsToken w f old new before after result → ((i : Option T) (o : Option B) → f i o → g i o) → ReadsToken w g old new before after result
-reads_under w f g old new before after result h i = record { answers = λ first state left s. takes w f g (Unit {0}) (Nothing {R = Unit {0}}) _ s result h i }
+reads_under w f g old new before after result h i = record { answers = λ first state left s. answers_too w (one_token f) (one_token g) (allows f g i) (Unit {0}) (Unit {0}) (Unit {0}) (Nothing {R = Unit {0}}) (Nothing {R = Unit {0}}) never never (λ l. l) _ result (h.answers first state left s) }
 
 of_token_too : {T B : Type 0} (f g : T → Option B → Type 0) → ((t : T) (o : Option B) → f t o → g t o) → (i : Option T) (o : Option B) → of_token f i o → of_token g i o
 of_token_too f g h None None s = s
@@ -101,7 +103,7 @@ holds_too : {T : Type 0} (p q : T → Bool → Type 0) → ((t : T) (b : Bool) �
 holds_too p q h t None s = h t false s
 holds_too p q h t (Some u) s = (s.0, h t true s.1)
 
-module _ {P T R S E : Type 0} (w : World P T S E) (p q : T → Bool → Type 0) (lean : Type 0) (adds : List (Item T R) → Type 0) (r : Run P T S) (s : w.fresh r.left) where
+module _ {P T R S E : Type 0} (w : World P T S E) (errors : Errors T R P E) (p q : T → Bool → Type 0) (lean : Type 0) (adds : List (Item T R) → Type 0) (r : Run P T S) (s : w.fresh r.left) where
   -- the same of a parser that makes a call under a predicate
-  pub takes_if : (result : ParseResult T E) → ReadsTokenIf w p r.old r.new r.before r.after result → ((t : T) (b : Bool) → p t b → q t b) → Answers w (takes_one (satisfied q) lean adds) r result
-  takes_if result h i = takes w (satisfied p) (satisfied q) lean adds r s result h.reads (of_token_too (holds p) (holds q) (holds_too p q i))
+  pub takes_if : (result : ParseResult T E) → ReadsTokenIf w p r.old r.new r.before r.after result → ((t : T) (b : Bool) → p t b → q t b) → Answers w (takes_one errors (satisfied q) lean adds) r result
+  takes_if result h i = takes w errors (satisfied p) (satisfied q) lean adds r s result h.reads (of_token_too (holds p) (holds q) (holds_too p q i))

@@ -1,8 +1,8 @@
 -- what a call promises, in one fact that names no parser
 use Rattle.combine_base.specs.Stream.View.{View}
-use Rattle.combine_base.specs.Parser.Meaning.{Meaning, MeansSame}
+use Rattle.combine_base.specs.Parser.Meaning.{Meaning, MeansSame, begun_refuses}
 use Rattle.combine_base.specs.Parser.Answer.{Run, World, Answers, world}
-use Rattle.combine_base.specs.Parser.Reasons.{Reasoned, kept_from}
+use Rattle.combine_base.specs.Parser.Reasons.{Reasoned}
 use Rattle.combine_base.specs.Stream.Calls.{Passes}
 use Rattle.std.specs.Prelude.{Bool, Option}
 use Rattle.combine_base.specs.declared.stream.Failures.{Failures}
@@ -14,24 +14,24 @@ use Rattle.combine_base.specs.Error.Errors.{Errors}
 use Rattle.combine_base.specs.declared.error.Tracked.{Tracked}
 use Rattle.combine_token.specs.declared.choice.first.Turn.{Turn}
 
-pub record Chose {P T R V S E C : Type 0} (w : World P T S E) (law : Type 0) (accepts : S → Type 0) (m m' : Meaning P T R V S) (says : Option S → View P T → Bool → E → Type 0) (x y : C → View P T → Type 0) (r : Run P T S) (result : ParseResult V E) : Type 0 where
+pub record Chose {P T R V S E C : Type 0} (w : World P T S E) (law : Type 0) (accepts : S → Type 0) (m m' : Meaning P T R E V S) (x y : C → View P T → Type 0) (r : Run P T S) (result : ParseResult V E) : Type 0 where
   pub lawful : law
   pub valid : accepts r.left
   pub same : MeansSame m m'
   pub passes : Passes x y r.before r.after
   pub answers : Answers w m r result
-  pub refuses : Reasoned w.kind r.new.is_open (says (kept_from r.first r.state) r.old) result
+  pub refuses : Reasoned w.kind r.new.is_open (begun_refuses m r.first r.state r.old r.new) result
 
 -- what came of the first, run by a call: that of `Turned`, and what the call promises besides
-pub record Tried {P T R V S S' E C : Type 0} (w : World P T S E) (later : S' → Type 0) (valid : S → Type 0) (law : Type 0) (a a' : Meaning P T R V S) (says : Option S → View P T → Bool → E → Type 0) (x y : C → View P T → Type 0) (first : Bool) (given left : OrState S S') (old new : View P T) (before after : Failures) (result : Turn V S' E) : Type 0 where
+pub record Tried {P T R V S S' E C : Type 0} (w : World P T S E) (later : S' → Type 0) (valid : S → Type 0) (law : Type 0) (a a' : Meaning P T R E V S) (x y : C → View P T → Type 0) (first : Bool) (given left : OrState S S') (old new : View P T) (before after : Failures) (result : Turn V S' E) : Type 0 where
   pub lawful : law
   pub same : MeansSame a a'
   pub passes : Passes x y before after
-  pub turned : Turned w later valid a says first given left old new before after result
+  pub turned : Turned w later valid a first given left old new before after result
 
 -- what a call of the later part promises, after that refusal of the first: how it answers, and what is made of it
-pub record Followed {P T R V S S' E C : Type 0} (step : P → T → P) (errors : Errors T R P E) (steady : Type 0) (cmp : P → P → Ordering) (fresh : S' → Type 0) (law : Type 0) (accepts : S' → Type 0) (b b' : Meaning P T R V S') (says : Option S' → View P T → Bool → E → Type 0) (y z : C → View P T → Type 0) (first : Bool) (kept : S') (none left : OrState S S') (refused : Option (Tracked E)) (old new : View P T) (before after : Failures) (result : ParseResult V E) : Type 0 where
+pub record Followed {P T R V S S' E C : Type 0} (step : P → T → P) (errors : Errors T R P E) (steady : Type 0) (cmp : P → P → Ordering) (fresh : S' → Type 0) (law : Type 0) (accepts : S' → Type 0) (b b' : Meaning P T R E V S') (y z : C → View P T → Type 0) (first : Bool) (kept : S') (none left : OrState S S') (refused : Option (Tracked E)) (old new : View P T) (before after : Failures) (result : ParseResult V E) : Type 0 where
   pub answer : ParseResult V E
   pub stopped : S'
-  pub called : Chose (world step errors steady fresh) law accepts b b' says y z (record { first = first; state = kept; left = stopped; old = old; new = new; before = before; after = after }) answer
+  pub called : Chose (world step errors steady fresh) law accepts b b' y z (record { first = first; state = kept; left = stopped; old = old; new = new; before = before; after = after }) answer
   pub settled : Settled errors cmp new.is_open refused stopped none left answer result

@@ -5,7 +5,7 @@ use Rattle.combine_base.specs.Stream.View.{View, extended}
 use Rattle.combine_base.specs.Error.Items.{Item}
 use Rattle.combine_base.specs.Parser.Outcome.{Outcome, Accepted, Refused, Undecided, shape}
 use Rattle.combine_base.specs.Parser.Meaning.{Meaning, Reading, IsReading, IsSingle, IsMeaning, MeansOne}
-use Rattle.combine_token.specs.Stateless.{stateless, stateless_is_meaning, stateless_means_one}
+use Rattle.combine_token.specs.Stateless.{never, stateless, stateless_is_meaning, stateless_means_one}
 
 module _ {P T B : Type 0} (f : P → B → Type 0) where
   -- accepted everywhere, peeked
@@ -37,12 +37,12 @@ module _ {P T B : Type 0} (f : P → B → Type 0) where
   pub given_is_single : IsSingle given
   given_is_single = record { one = one_shape }
 
-module _ {P T R B S : Type 0} (f : P → B → Type 0) (lean : Type 0) (adds : List (Item T R) → Type 0) where
-  abbrev pub gives : Meaning P T R B S
-  gives = stateless (given f) (Unit {0}) lean adds
+module _ {P T R E B S : Type 0} (f : P → B → Type 0) (lean : Type 0) (adds : List (Item T R) → Type 0) where
+  abbrev pub gives : Meaning P T R E B S
+  gives = stateless (given f) (Unit {0}) lean adds never
 
   pub gives_is_meaning : (fresh valid : S → Type 0) → IsMeaning fresh valid gives
-  gives_is_meaning fresh valid = stateless_is_meaning fresh valid (given f) (Unit {0}) lean adds (given_is_reading f)
+  gives_is_meaning fresh valid = stateless_is_meaning fresh valid (given f) (Unit {0}) lean adds never (given_is_reading f)
 
   pub gives_means_one : (valid : S → Type 0) → MeansOne valid gives
-  gives_means_one valid = stateless_means_one valid (given f) (Unit {0}) lean adds (given_is_single f)
+  gives_means_one valid = stateless_means_one valid (given f) (Unit {0}) lean adds never (given_is_single f)

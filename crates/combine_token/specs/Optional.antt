@@ -1,4 +1,4 @@
--- a parser, or else what a reading says
+-- a parser, or else what a reading says, which refuses nothing
 use Rattle.std.specs.Prelude.{◌≡◌, false, Option, Some, None}
 use Rattle.std.proofs.Common.{arith}
 use Rattle.combine_base.specs.Parser.Outcome.{Accepted}
@@ -11,8 +11,8 @@ use Rattle.combine_token.specs.declared.choice.types.Optional.{Optional}
 abbrev pub optional_parser : {X : Type 0} → X → Optional X
 optional_parser p = record { 0 = p }
 
-module _ {P T R V S : Type 0} where
-  abbrev pub otherwise : Meaning P T R V S → Reading P T V → Meaning P T R V S
+module _ {P T R E V S : Type 0} where
+  abbrev pub otherwise : Meaning P T R E V S → Reading P T V → Meaning P T R E V S
   otherwise m q = record {
     whole = Either m.whole q;
     rest = λ s. Either (m.rest s) q;
@@ -21,20 +21,23 @@ module _ {P T R V S : Type 0} where
     puts_back = m.puts_back;
     lean = m.lean;
     adds = m.adds;
+    refuses = m.refuses;
+    refuses_from = m.refuses_from;
   }
 
-  pub otherwise_is_meaning : (fresh valid : S → Type 0) (m : Meaning P T R V S) (q : Reading P T V) → IsMeaning fresh valid m → IsReading q → IsMeaning fresh valid (otherwise m q)
+  pub otherwise_is_meaning : (fresh valid : S → Type 0) (m : Meaning P T R E V S) (q : Reading P T V) → IsMeaning fresh valid m → IsReading q → IsMeaning fresh valid (otherwise m q)
   otherwise_is_meaning fresh valid m q h k = record {
     whole = either_is_reading m.whole q h.whole k;
     rest = λ s d. either_is_reading (m.rest s) q (h.rest s d) k;
     start = λ s v o d. either_both (m.rest s) m.whole q q (λ v o. h.start s v o d) (agree_self q) v o;
     found = h.found;
+    reasons = h.reasons;
   }
 
-  pub otherwise_means_one : (valid : S → Type 0) (m : Meaning P T R V S) (q : Reading P T V) → MeansOne valid m → IsSingle q → MeansOne valid (otherwise m q)
+  pub otherwise_means_one : (valid : S → Type 0) (m : Meaning P T R E V S) (q : Reading P T V) → MeansOne valid m → IsSingle q → MeansOne valid (otherwise m q)
   otherwise_means_one valid m q h k = record { whole = either_is_single m.whole q h.whole k; rest = λ s d. either_is_single (m.rest s) q (h.rest s d) k }
 
-  pub otherwise_means_same : (m m' : Meaning P T R V S) (q : Reading P T V) → MeansSame m m' → MeansSame (otherwise m q) (otherwise m' q)
+  pub otherwise_means_same : (m m' : Meaning P T R E V S) (q : Reading P T V) → MeansSame m m' → MeansSame (otherwise m q) (otherwise m' q)
   otherwise_means_same m m' q h = record {
     whole = either_both m.whole m'.whole q q h.whole (agree_self q);
     rest = λ s. either_both (m.rest s) (m'.rest s) q q (h.rest s) (agree_self q);
@@ -43,6 +46,8 @@ module _ {P T R V S : Type 0} where
     puts_back = h.puts_back;
     lean = h.lean;
     adds = h.adds;
+    refuses = h.refuses;
+    refuses_from = h.refuses_from;
   }
 
 abbrev pub is_some : {A : Type 0} → A → Option A → Type 0
@@ -61,16 +66,16 @@ module _ {P T A : Type 0} where
     within = λ v a n k p. let e : n ≡ 0 = cc in omega arith;
   }
 
-  module _ {R S : Type 0} where
+  module _ {R E S : Type 0} where
     -- the choice of the parser with its value, and of no value
-    abbrev pub optional : Meaning P T R A S → Meaning P T R (Option A) S
+    abbrev pub optional : Meaning P T R E A S → Meaning P T R E (Option A) S
     optional m = otherwise (mapped m is_some) nothing
 
-    pub optional_is_meaning : (fresh valid : S → Type 0) (m : Meaning P T R A S) → IsMeaning fresh valid m → IsMeaning fresh valid (optional m)
+    pub optional_is_meaning : (fresh valid : S → Type 0) (m : Meaning P T R E A S) → IsMeaning fresh valid m → IsMeaning fresh valid (optional m)
     optional_is_meaning fresh valid m h = otherwise_is_meaning fresh valid (mapped m is_some) nothing (mapped_is_meaning fresh valid m is_some h) nothing_is_reading
 
-    pub optional_means_one : (valid : S → Type 0) (m : Meaning P T R A S) → MeansOne valid m → MeansOne valid (optional m)
+    pub optional_means_one : (valid : S → Type 0) (m : Meaning P T R E A S) → MeansOne valid m → MeansOne valid (optional m)
     optional_means_one valid m h = otherwise_means_one valid (mapped m is_some) nothing (mapped_means_one valid m is_some h) (record { one = λ v o o' p q. cc })
 
-    pub optional_means_same : (m m' : Meaning P T R A S) → MeansSame m m' → MeansSame (optional m) (optional m')
+    pub optional_means_same : (m m' : Meaning P T R E A S) → MeansSame m m' → MeansSame (optional m) (optional m')
     optional_means_same m m' h = otherwise_means_same (mapped m is_some) (mapped m' is_some) nothing (mapped_means_same m m' is_some h)

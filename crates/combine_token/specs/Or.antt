@@ -1,10 +1,13 @@
 -- a choice of two parsers, whose state is the running alternative and its state
 use Rattle.std.specs.Prelude.{◌≡◌, List, ◌↔◌}
+use Rattle.std.specs.declared.cmp.Ordering.{Ordering}
 use Rattle.combine_base.specs.Stream.View.{View}
+use Rattle.combine_base.specs.Error.Errors.{Errors}
 use Rattle.combine_base.specs.Error.Items.{Item}
-use Rattle.combine_base.specs.Parser.Meaning.{Meaning, Reading, IsReading, IsSingle, IsMeaning, MeansOne, MeansSame}
+use Rattle.combine_base.specs.Parser.Meaning.{Meaning, Reading, Refusing, IsReading, IsSingle, IsMeaning, MeansOne, MeansSame, SameReasons, refusals, refusals_from, refusals_from_same, refusals_same}
 use Rattle.combine_token.specs.Alternatives.{Together, together_both, together_assoc}
 use Rattle.combine_token.specs.Choice.{Agree, Either, refused, refused_is_reading, refused_is_single, either_is_reading, either_is_single, either_both, agree_self, either_lists_assoc}
+use Rattle.combine_token.specs.Reasons.{RefusesOr, or_same}
 use Rattle.combine_token.specs.declared.choice.OrState.{OrState}
 use Rattle.combine_token.specs.declared.choice.OrState.TheVariants.{Peek, A, B}
 use Rattle.combine_token.specs.declared.choice.types.Or.{Or}
@@ -18,22 +21,29 @@ or_valid f g Peek = Unit {0}
 or_valid f g (A s) = f s
 or_valid f g (B t) = g t
 
-module _ {P T R V S S' : Type 0} where
-  abbrev pub or_whole : Meaning P T R V S → Meaning P T R V S' → Reading P T V
+module _ {P T R E V S S' : Type 0} where
+  abbrev pub or_whole : Meaning P T R E V S → Meaning P T R E V S' → Reading P T V
   or_whole a b = Either a.whole (Either b.whole refused)
 
-  abbrev pub or_rest : Meaning P T R V S → Meaning P T R V S' → OrState S S' → Reading P T V
+  abbrev pub or_rest : Meaning P T R E V S → Meaning P T R E V S' → OrState S S' → Reading P T V
   or_rest a b Peek = or_whole a b
   or_rest a b (A s) = Either (a.rest s) (Either b.whole refused)
   or_rest a b (B t) = Either (b.rest t) refused
 
-  abbrev pub or_lost : Meaning P T R V S → Meaning P T R V S' → OrState S S' → View P T → Type 0
+  abbrev pub or_lost : Meaning P T R E V S → Meaning P T R E V S' → OrState S S' → View P T → Type 0
   or_lost a b Peek v = ⊥
   or_lost a b (A s) v = a.lost s v
   or_lost a b (B t) v = b.lost t v
 
+module _ {P T R E V S S' : Type 0} (errors : Errors T R P E) (cmp : P → P → Ordering) where
+  -- the errors from a kept state: each alternative's where it is meant to be refused so; a second that the call comes to begins afresh
+  abbrev pub or_refuses_from : Meaning P T R E V S → Meaning P T R E V S' → OrState S S' → Refusing P T E
+  or_refuses_from a b Peek = RefusesOr errors cmp a.whole (refusals a) (refusals b)
+  or_refuses_from a b (A s) = RefusesOr errors cmp (a.rest s) (refusals_from a s) (refusals b)
+  or_refuses_from a b (B t) = b.refuses_from t
+
   -- the first that isn't refused peeked; from a kept state the running alternative goes on
-  abbrev pub either_of : Meaning P T R V S → Meaning P T R V S' → Meaning P T R V (OrState S S')
+  abbrev pub either_of : Meaning P T R E V S → Meaning P T R E V S' → Meaning P T R E V (OrState S S')
   either_of a b = record {
     whole = or_whole a b;
     rest = or_rest a b;
@@ -42,9 +52,11 @@ module _ {P T R V S S' : Type 0} where
     puts_back = a.puts_back × b.puts_back;
     lean = a.lean × b.lean;
     adds = Together a.adds b.adds;
+    refuses = RefusesOr errors cmp a.whole (refusals a) (refusals b);
+    refuses_from = or_refuses_from a b;
   }
 
-  module _ (f f' : S → Type 0) (g g' : S' → Type 0) (a : Meaning P T R V S) (b : Meaning P T R V S') where
+  module _ (f f' : S → Type 0) (g g' : S' → Type 0) (a : Meaning P T R E V S) (b : Meaning P T R E V S') where
     second_reads : IsMeaning g g' b → IsReading (Either b.whole refused)
     second_reads k = either_is_reading b.whole refused k.whole refused_is_reading
 
@@ -59,6 +71,7 @@ module _ {P T R V S S' : Type 0} where
       rest = rest_reads h k;
       start = λ s v o d. rw d (λ p. p, λ p. p);
       found = λ s v d. rw d (λ p. p);
+      reasons = λ s d v w k e. rw d (λ p. p, λ p. p);
     }
 
     second_one : MeansOne g' b → IsSingle (Either b.whole refused)
@@ -72,7 +85,7 @@ module _ {P T R V S S' : Type 0} where
     pub or_means_one : MeansOne f' a → MeansOne g' b → MeansOne (or_valid f' g') (either_of a b)
     or_means_one h k = record { whole = rest_one h k Peek tt; rest = rest_one h k }
 
-  module _ (a a' : Meaning P T R V S) (b b' : Meaning P T R V S') (h : MeansSame a a') (k : MeansSame b b') where
+  module _ (a a' : Meaning P T R E V S) (b b' : Meaning P T R E V S') (h : MeansSame a a') (k : MeansSame b b') where
     second_same : Agree (Either b.whole refused) (Either b'.whole refused)
     second_same = either_both b.whole b'.whole refused refused k.whole (agree_self refused)
 
@@ -86,6 +99,11 @@ module _ {P T R V S S' : Type 0} where
     lost_same (A s) v = h.lost s v
     lost_same (B t) v = k.lost t v
 
+    reasons_same : (s : OrState S S') → SameReasons (or_refuses_from a b s) (or_refuses_from a' b' s)
+    reasons_same Peek = or_same errors cmp a.whole a'.whole (refusals a) (refusals a') (refusals b) (refusals b') h.whole (refusals_same h) (refusals_same k)
+    reasons_same (A s) = or_same errors cmp (a.rest s) (a'.rest s) (refusals_from a s) (refusals_from a' s) (refusals b) (refusals b') (h.rest s) (refusals_from_same h s) (refusals_same k)
+    reasons_same (B t) = k.refuses_from t
+
     pub or_means_same : MeansSame (either_of a b) (either_of a' b')
     or_means_same = record {
       whole = rest_same Peek;
@@ -95,19 +113,21 @@ module _ {P T R V S S' : Type 0} where
       puts_back = (λ p. (h.puts_back.0 p.0, k.puts_back.0 p.1), λ p. (h.puts_back.1 p.0, k.puts_back.1 p.1));
       lean = (λ p. (h.lean.0 p.0, k.lean.0 p.1), λ p. (h.lean.1 p.0, k.lean.1 p.1));
       adds = together_both a.adds a'.adds b.adds b'.adds h.adds k.adds;
+      refuses = reasons_same Peek;
+      refuses_from = reasons_same;
     }
 
 -- two parsers have the same outcomes from the start, leave tokens unread and ask for memory alike, and add the same to an error; their states may differ
-pub record StartsSame {P T R V S S' : Type 0} (m : Meaning P T R V S) (m' : Meaning P T R V S') : Type 0 where
+pub record StartsSame {P T R E V S S' : Type 0} (m : Meaning P T R E V S) (m' : Meaning P T R E V S') : Type 0 where
   pub whole : Agree m.whole m'.whole
   pub keeps : m.keeps ↔ m'.keeps
   pub puts_back : m.puts_back ↔ m'.puts_back
   pub lean : m.lean ↔ m'.lean
   pub adds : (is : List (Item T R)) → m.adds is ↔ m'.adds is
 
-module _ {P T R V S S' S'' : Type 0} (a : Meaning P T R V S) (b : Meaning P T R V S') (c : Meaning P T R V S'') where
+module _ {P T R E V S S' S'' : Type 0} (errors : Errors T R P E) (cmp : P → P → Ordering) (a : Meaning P T R E V S) (b : Meaning P T R E V S') (c : Meaning P T R E V S'') where
   -- grouped from the left a choice means what it does grouped from the right
-  pub is_associative : StartsSame (either_of (either_of a b) c) (either_of a (either_of b c))
+  pub is_associative : StartsSame (either_of errors cmp (either_of errors cmp a b) c) (either_of errors cmp a (either_of errors cmp b c))
   is_associative = record {
     whole = either_lists_assoc a.whole b.whole c.whole;
     keeps = (λ p. (p.0.0, (p.0.1, p.1)), λ p. ((p.0, p.1.0), p.1.1));

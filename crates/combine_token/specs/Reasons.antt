@@ -1,21 +1,18 @@
 -- what the errors of the refusals of these parsers are
-use Rattle.std.specs.Prelude.{ℕ, ◌+◌, ◌≡◌, ◌⊎◌, List, [], ◌∷◌, drop, Bool, true, false, nat_lt, Option, Some, None}
+use Rattle.std.specs.Prelude.{ℕ, ◌+◌, ◌≡◌, ◌⊎◌, List, [], ◌∷◌, drop, Bool, true, false, nat_lt, Option}
+use Rattle.std.proofs.Common.{inl, inr}
 use Rattle.std.specs.declared.cmp.Ordering.{Ordering}
 use Rattle.combine_base.specs.Stream.View.{View}
 use Rattle.combine_base.specs.Error.Items.{end_of_input}
 use Rattle.combine_base.specs.Error.Errors.{Errors, Joined, New, Only, later}
+use Rattle.combine_base.specs.Parser.Meaning.{Reading, Refusing, SameReasons}
+use Rattle.combine_base.specs.Parser.Outcome.{Outcome, Refused}
 use Rattle.combine_base.specs.Refusals.{Saying}
 use Rattle.combine_base.specs.declared.error.Info.{Info}
 use Rattle.combine_base.specs.declared.stream.Kind.TheVariants as kinds
+use Rattle.combine_token.specs.Choice.{Agree}
 use Rattle.combine_token.specs.ListAnswers.{Mismatch}
 use Rattle.combine_token.specs.TokenLists.{TokenList, Matched, stops}
-use Rattle.combine_token.specs.declared.choice.OrState.{OrState}
-use Rattle.combine_token.specs.declared.choice.OrState.TheVariants.{Peek, A, B}
-
--- the committed refusals, and no peeked one
-abbrev pub committed_only : {E : Type 0} → (Bool → E → Type 0) → Bool → E → Type 0
-committed_only says true e = says true e
-committed_only says false e = ⊥
 
 -- peeked refusals, and no committed one
 abbrev pub peeked_only : {E : Type 0} → (E → Type 0) → Bool → E → Type 0
@@ -28,9 +25,10 @@ module _ {T R P E : Type 0} (s : Errors T R P E) where
   refuses_one place [] e = Saying s kinds.End place (Only end_of_input) e
   refuses_one place (t ∷ ts) e = New s kinds.Refused place e
 
-  -- the error of a parser of one token that begins there: never committed
-  pub record RefusesToken (v : View P T) (committed : Bool) (e : E) : Type 0 where
+  -- the error of a parser of one token that begins there: never committed, and the stream is left as it was
+  pub record RefusesToken (v w : View P T) (committed : Bool) (e : E) : Type 0 where
     pub is : peeked_only (refuses_one v.position v.unread) committed e
+    pub back : w ≡ v
 
   -- the input ended
   pub record SaysEnded (place : P) (after : Bool) (committed : Bool) (e : E) : Type 0 where
@@ -44,7 +42,7 @@ module _ {T R P E : Type 0} (s : Errors T R P E) where
   refuses_next place expected (t ∷ ts) false e = New s kinds.Refused place e
 
   -- the error of a parser of a list that begins there at item n: so many tokens fit, and the next item finds none that does
-  pub record RefusesList (l : TokenList T) (expected : Option (Info T R)) (n : ℕ) (v : View P T) (committed : Bool) (e : E) : Type 0 where
+  pub record RefusesList (l : TokenList T) (expected : Option (Info T R)) (n : ℕ) (v w : View P T) (committed : Bool) (e : E) : Type 0 where
     pub count : ℕ
     pub has : l.has (n + count)
     pub matched : Matched l n count v.unread
@@ -52,37 +50,42 @@ module _ {T R P E : Type 0} (s : Errors T R P E) where
     pub commits : committed ≡ nat_lt 0 (n + count)
     pub says : refuses_next v.position expected (drop count v.unread) committed e
 
--- the item that a call begins at
-abbrev pub begins_at : {S : Type 0} → (S → ℕ) → Option S → ℕ
-begins_at matched None = 0
-begins_at matched (Some s) = matched s
+-- the item that a call begins at, in its mode
+abbrev pub begins_at : {S : Type 0} → (S → ℕ) → Bool → S → ℕ
+begins_at matched true s = 0
+begins_at matched false s = matched s
 
-module _ {T R P E : Type 0} (s : Errors T R P E) (cmp : P → P → Ordering) (first second : Bool → E → Type 0) where
-  -- both were refused peeked, and their errors are merged in order
-  pub record RefusesBoth (e : E) : Type 0 where
+module _ {T R P E : Type 0} (s : Errors T R P E) (cmp : P → P → Ordering) where
+  -- both were refused peeked, the second from where the first had begun, and their errors are merged in order
+  pub record RefusesBoth (first second : Refusing P T E) (v w : View P T) (e : E) : Type 0 where
     pub own : E
     pub other : E
-    pub refused_first : first false own
-    pub refused_second : second false other
+    pub left : View P T
+    pub refused_first : first v left false own
+    pub refused_second : second v w false other
     pub joined : Joined s (later cmp (s.position own) (s.position other)) own other e
 
-  -- a committed refusal is one of the first's or of the second's
-  abbrev pub either_refuses : Bool → E → Type 0
-  either_refuses true e = first true e ⊎ second true e
-  either_refuses false e = RefusesBoth e
+  module _ {V : Type 0} (r : Reading P T V) (first second : Refusing P T E) (v w : View P T) where
+    -- a committed refusal is the first's; or the second's, where the first has a peeked refusal on this view
+    abbrev pub either_refuses : Bool → E → Type 0
+    either_refuses true e = first v w true e ⊎ (r v (Refused false) × second v w true e)
+    either_refuses false e = RefusesBoth first second v w e
 
--- the errors of a parser that begins in some default state
-abbrev pub from_default : {P T S E : Type 0} → (S → Type 0) → (Option S → View P T → Bool → E → Type 0) → View P T → Bool → E → Type 0
-from_default {P} {T} {S} {E} fresh refuses v committed e = (s : S) × fresh s × refuses (Some s) v committed e
+    -- the error of a choice of two, by what the first means and by the errors of the two
+    pub record RefusesOr (committed : Bool) (e : E) : Type 0 where
+      pub is : either_refuses committed e
 
-module _ {T R P S S' E : Type 0} (s : Errors T R P E) (cmp : P → P → Ordering) (fresh : S → Type 0) (fresh' : S' → Type 0) (first : Option S → View P T → Bool → E → Type 0) (second : Option S' → View P T → Bool → E → Type 0) where
-  -- an alternative that begins after the other, or when the call resumes, does so in a default state
-  abbrev pub or_refuses : Option (OrState S S') → View P T → Bool → E → Type 0
-  or_refuses None v = either_refuses s cmp (first None v) (second None v)
-  or_refuses (Some Peek) v = either_refuses s cmp (from_default fresh first v) (from_default fresh' second v)
-  or_refuses (Some (A k)) v = either_refuses s cmp (first (Some k) v) (from_default fresh' second v)
-  or_refuses (Some (B k)) v = second (Some k) v
+  module _ {V : Type 0} (r r' : Reading P T V) (first first' second second' : Refusing P T E) where
+    pub or_into : ((v : View P T) (o : Outcome V) → r v o → r' v o) → ((v w : View P T) (k : Bool) (e : E) → first v w k e → first' v w k e) → ((v w : View P T) (k : Bool) (e : E) → second v w k e → second' v w k e) → (v w : View P T) (k : Bool) (e : E) → RefusesOr r first second v w k e → RefusesOr r' first' second' v w k e
+    or_into i f g v w k e x = record { is = by_case k x.is }
+      where
+        by_case : (c : Bool) → either_refuses r first second v w c e → either_refuses r' first' second' v w c e
+        by_case true (inl y) = inl (f v w true e y)
+        by_case true (inr y) = inr (i v (Refused false) y.0, g v w true e y.1)
+        by_case false y = record { own = y.own; other = y.other; left = y.left; refused_first = f v y.left false y.own y.refused_first; refused_second = g v w false y.other y.refused_second; joined = y.joined }
 
-  -- the error of a choice, from the start or from a kept state
-  pub record RefusesOr (k : Option (OrState S S')) (v : View P T) (committed : Bool) (e : E) : Type 0 where
-    pub is : or_refuses k v committed e
+  pub or_same : {V : Type 0} (r r' : Reading P T V) (first first' second second' : Refusing P T E) → Agree r r' → SameReasons first first' → SameReasons second second' → SameReasons (RefusesOr r first second) (RefusesOr r' first' second')
+  or_same r r' first first' second second' i f g v w k e = (
+    or_into r r' first first' second second' (λ v o. (i v o).0) (λ v w k e. (f v w k e).0) (λ v w k e. (g v w k e).0) v w k e,
+    or_into r' r first' first second' second (λ v o. (i v o).1) (λ v w k e. (f v w k e).1) (λ v w k e. (g v w k e).1) v w k e,
+  )

@@ -1,13 +1,16 @@
--- the laws of the meaning of a list of tokens
-use Rattle.std.specs.Prelude.{ℕ, zero, suc, ◌+◌, ◌-◌, ◌<◌, ◌≤◌, ◌≡◌, List, [], ◌∷◌, ◌++◌, take, drop, length, Bool, true, false, nat_lt, refl, ◌⊎◌}
+-- the meaning of a list of tokens, and its laws
+use Rattle.std.specs.Prelude.{ℕ, zero, suc, ◌+◌, ◌-◌, ◌<◌, ◌≤◌, ◌≡◌, List, [], ◌∷◌, ◌++◌, take, drop, length, Bool, true, false, nat_lt, refl, Option, ◌⊎◌}
 use Rattle.std.proofs.Common.{arith, sym, ltb-false, length-append, inl, inr}
 use Rattle.std.proofs.lemmas.List.{take-append-le, drop-append-le}
 use Rattle.std.proofs.lemmas.Bool.{cases_lt, cases_order}
 use Rattle.std.proofs.Math.ListN.{drop_of_length-le}
+use Rattle.combine_base.specs.Error.Errors.{Errors}
 use Rattle.combine_base.specs.Error.Items.{Item}
 use Rattle.combine_base.specs.Parser.Outcome.{Outcome, Accepted, Refused, Undecided, IsDecided, shape}
-use Rattle.combine_base.specs.Parser.Meaning.{IsReading, IsSingle, IsMeaning, MeansOne}
-use Rattle.combine_token.specs.TokenLists.{TokenList, EndsOnce, ComparesOnce, Matched, all_fit, stops, matching_at, matching, token_list}
+use Rattle.combine_base.specs.Parser.Meaning.{Meaning, IsReading, IsSingle, IsMeaning, MeansOne}
+use Rattle.combine_base.specs.declared.error.Info.{Info}
+use Rattle.combine_token.specs.Reasons.{RefusesList}
+use Rattle.combine_token.specs.TokenLists.{TokenList, EndsOnce, ComparesOnce, Matched, all_fit, stops, matching_at, matching}
 
 module _ {T : Type 0} (l : TokenList T) where
   matched_longer : (n i : ℕ) (us x : List T) → Matched l n i us → Matched l n i (us ++ x)
@@ -81,14 +84,30 @@ module _ {P T V : Type 0} (l : TokenList T) (gives : V → Type 0) (n : ℕ) whe
   pub matching_is_single : EndsOnce l → ComparesOnce l → IsSingle (matching l {P = P} gives n)
   matching_is_single h f = record { one = λ v o o' p q. one_shape l gives n h f v.is_open v.unread o o' p q }
 
-module _ {P T R V S : Type 0} (fresh valid : S → Type 0) (l : TokenList T) (gives : V → Type 0) (matched : S → ℕ) (lean : Type 0) (adds : List (Item T R) → Type 0) where
-  pub token_list_is_meaning : ((s : S) → fresh s → matched s ≡ 0) → IsMeaning fresh valid (token_list l {P = P} gives matched lean adds)
-  token_list_is_meaning h = record {
-    whole = matching_is_reading l gives 0;
-    rest = λ s k. matching_is_reading l gives (matched s);
-    start = λ s v o d. let e = h s d in rw e (λ p. p, λ p. p);
-    found = λ s v d p. p;
+module _ {P T R E V S : Type 0} (errors : Errors T R P E) (l : TokenList T) (expected : Option (Info T R)) (gives : V → Type 0) (matched : S → ℕ) (lean : Type 0) (adds : List (Item T R) → Type 0) where
+  -- the list from its beginning, or from a state after as many items as it counts; expected is what the error of a mismatch says was expected
+  abbrev pub token_list : Meaning P T R E V S
+  token_list = record {
+    whole = matching l gives 0;
+    rest = λ s. matching l gives (matched s);
+    lost = λ s v. ⊥;
+    keeps = Unit {0};
+    puts_back = ⊥;
+    lean = lean;
+    adds = adds;
+    refuses = RefusesList errors l expected 0;
+    refuses_from = λ s. RefusesList errors l expected (matched s);
   }
 
-  pub token_list_means_one : EndsOnce l → ComparesOnce l → MeansOne valid (token_list l {P = P} gives matched lean adds)
-  token_list_means_one h f = record { whole = matching_is_single l gives 0 h f; rest = λ s k. matching_is_single l gives (matched s) h f }
+  module _ (fresh valid : S → Type 0) where
+    pub token_list_is_meaning : ((s : S) → fresh s → matched s ≡ 0) → IsMeaning fresh valid token_list
+    token_list_is_meaning h = record {
+      whole = matching_is_reading l gives 0;
+      rest = λ s k. matching_is_reading l gives (matched s);
+      start = λ s v o d. let e = h s d in rw e (λ p. p, λ p. p);
+      found = λ s v d p. p;
+      reasons = λ s d v w k x. let e = h s d in rw e (λ p. p, λ p. p);
+    }
+
+    pub token_list_means_one : EndsOnce l → ComparesOnce l → MeansOne valid token_list
+    token_list_means_one h f = record { whole = matching_is_single l gives 0 h f; rest = λ s k. matching_is_single l gives (matched s) h f }

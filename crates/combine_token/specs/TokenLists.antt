@@ -1,8 +1,7 @@
 -- a list of tokens that is matched one by one: the list is known by what its items answer, and by where it ends
 use Rattle.std.specs.Prelude.{ℕ, ◌+◌, ◌-◌, ◌<◌, ◌≤◌, ◌≡◌, List, [], ◌∷◌, take, drop, length, Bool, true, false, nat_lt}
-use Rattle.combine_base.specs.Error.Items.{Item}
 use Rattle.combine_base.specs.Parser.Outcome.{Outcome, Accepted, Refused, Undecided}
-use Rattle.combine_base.specs.Parser.Meaning.{Meaning, Reading}
+use Rattle.combine_base.specs.Parser.Meaning.{Reading}
 
 -- what is known of a list, and of how its items compare with tokens
 pub record TokenList (T : Type 0) : Type 1 where
@@ -47,7 +46,3 @@ module _ {T : Type 0} (l : TokenList T) where
   module _ {P V : Type 0} where
     abbrev pub matching : (V → Type 0) → ℕ → Reading P T V
     matching gives n v o = matching_at gives n v.is_open v.unread o
-
-    -- the list from its beginning, or from a state after as many items as it counts
-    abbrev pub token_list : {R S : Type 0} → (V → Type 0) → (S → ℕ) → Type 0 → (List (Item T R) → Type 0) → Meaning P T R V S
-    token_list gives matched lean adds = record { whole = matching gives 0; rest = λ s. matching gives (matched s); lost = λ s v. ⊥; keeps = Unit {0}; puts_back = ⊥; lean = lean; adds = adds }

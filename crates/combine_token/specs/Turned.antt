@@ -2,8 +2,8 @@
 use Rattle.std.specs.Prelude.{ℕ, ◌<◌, ◌≡◌, Bool, true, false, Option, Some, None, Result, Ok, Err}
 use Rattle.std.specs.declared.cmp.Ordering.{Ordering}
 use Rattle.combine_base.specs.Stream.View.{View, Moves, Takes}
-use Rattle.combine_base.specs.Parser.Reasons.{Reasoned, kept_from}
-use Rattle.combine_base.specs.Parser.Meaning.{Meaning}
+use Rattle.combine_base.specs.Parser.Reasons.{Reasoned}
+use Rattle.combine_base.specs.Parser.Meaning.{Meaning, begun_refuses}
 use Rattle.combine_base.specs.Parser.Answer.{World, Answers}
 use Rattle.combine_base.specs.Error.Errors.{Errors, IsFault}
 use Rattle.combine_base.specs.declared.stream.Failures.{Failures}
@@ -44,7 +44,7 @@ module _ {S S' : Type 0} (fresh : S → Type 0) where
   pub record RunsOn (first : Bool) (given : OrState S S') (result : Result S S') : Type 0 where
     pub is : runs_on first given result
 
-module _ {P T R V S S' E : Type 0} (w : World P T S E) (later : S' → Type 0) (valid : S → Type 0) (a : Meaning P T R V S) (says : Option S → View P T → Bool → E → Type 0) (first : Bool) (given left : OrState S S') (old new : View P T) (before after : Failures) where
+module _ {P T R V S S' E : Type 0} (w : World P T S E) (later : S' → Type 0) (valid : S → Type 0) (a : Meaning P T R E V S) (first : Bool) (given left : OrState S S') (old new : View P T) (before after : Failures) where
   -- the first was run, and left this
   pub record Ran (view : View P T) (failures : Failures) (answer : ParseResult V E) : Type 0 where
     pub state : S
@@ -52,7 +52,7 @@ module _ {P T R V S S' E : Type 0} (w : World P T S E) (later : S' → Type 0) (
     pub begun : begins w.fresh first given state
     pub reads : valid state
     pub answers : Answers w a (record { first = first; state = state; left = stopped; old = old; new = view; before = before; after = failures }) answer
-    pub refuses : Reasoned w.kind view.is_open (says (kept_from first state) old) answer
+    pub refuses : Reasoned w.kind view.is_open (begun_refuses a first state old view) answer
 
   -- on need of more its state is kept, and else none is
   pub record Keeps (stopped : S) (answer : ParseResult V E) : Type 0 where

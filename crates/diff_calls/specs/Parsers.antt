@@ -2,6 +2,7 @@
 use Rattle.std.specs.Prelude.{ℕ, ◌≡◌, nat_eq, Bool, Option}
 use Rattle.combine_base.specs.Parser.Meaning.{Meaning, Reading}
 use Rattle.combine_base.specs.Error.Errors.{Nothing}
+use Rattle.combine_base.specs.Error.NoItems.{no_items}
 use Rattle.combine_base.specs.Sequence.Tuples.{tuple_1, tuple_2, tuple_3, tuple_4}
 use Rattle.combine_token.specs.Among.{among, beside}
 use Rattle.combine_token.specs.Choice.{Either, refused}
@@ -13,6 +14,7 @@ use Rattle.combine_token.specs.TokenLists.{matching}
 use Rattle.combine_combinator.specs.Attempt.{attempted}
 use Rattle.combine_repeat.specs.Repetition.{many, many1, skip_many, skip_many1}
 use Rattle.combine_repeat_turns.specs.Turns.{Collecting}
+use Rattle.combine_base.specs.declared.error.UnexpectedParse.{UnexpectedParse}
 
 -- one token of which this holds
 abbrev pub one_where : {P T : Type 0} → (T → Bool) → Reading P T T
@@ -50,9 +52,9 @@ byte_given b = given (λ at v. v ≡ b)
 abbrev pub either : {P T V : Type 0} → Reading P T V → Reading P T V → Reading P T V
 either r q = Either r (Either q refused)
 
--- A part of which only this is known: what it means from the start. What an operator means from the start depends on no more of its parts.
-abbrev pub known : {P T V : Type 0} → Reading P T V → Meaning P T (Unit {0}) V (Unit {0})
-known r = record { whole = r; rest = λ s. r; lost = λ s v. ⊥; keeps = Unit {0}; puts_back = Unit {0}; lean = Unit {0}; adds = Nothing }
+-- A part of which only this is known: what it means from the start. Which outcomes an operator has from the start depends on no more of its parts.
+abbrev pub known : {P T V : Type 0} → Reading P T V → Meaning P T (Unit {0}) UnexpectedParse V (Unit {0})
+known r = record { whole = r; rest = λ s. r; lost = λ s v. ⊥; keeps = Unit {0}; puts_back = Unit {0}; lean = Unit {0}; adds = Nothing; refuses = λ v w k e. Unit {0}; refuses_from = λ s v w k e. Unit {0} }
 
 -- this, or no value
 abbrev pub maybe : {P T V : Type 0} → Reading P T V → Reading P T (Option V)
@@ -67,23 +69,23 @@ module _ {P T : Type 0} (step : P → T → P) where
 
   -- turns whose values are dropped, and of which there need be none
   abbrev pub skipping : {V : Type 0} → Reading P T V → Reading P T (Unit {0})
-  skipping r = (skip_many step (known r)).whole
+  skipping r = (skip_many step no_items (known r)).whole
 
   abbrev pub skipping1 : {V : Type 0} → Reading P T V → Reading P T (Unit {0})
-  skipping1 r = (skip_many1 step (known r)).whole
+  skipping1 r = (skip_many1 step no_items (known r)).whole
 
   -- turns whose values are collected so
   abbrev pub collecting : {A V : Type 0} → Collecting A V → Reading P T A → Reading P T V
-  collecting c r = (many step c (known r)).whole
+  collecting c r = (many step no_items c (known r)).whole
 
   abbrev pub collecting1 : {A V : Type 0} → Collecting A V → Reading P T A → Reading P T V
-  collecting1 c r = (many1 step c (known r)).whole
+  collecting1 c r = (many1 step no_items c (known r)).whole
 
   abbrev pub pair : {A B : Type 0} → Reading P T A → Reading P T B → Reading P T (A × B)
-  pair a b = (tuple_2 step (known a) (known b)).whole
+  pair a b = (tuple_2 step no_items (known a) (known b)).whole
 
   abbrev pub triple : {A B C : Type 0} → Reading P T A → Reading P T B → Reading P T C → Reading P T (A × B × C)
-  triple a b c = (tuple_3 step (known a) (known b) (known c)).whole
+  triple a b c = (tuple_3 step no_items (known a) (known b) (known c)).whole
 
   abbrev pub quadruple : {A B C D : Type 0} → Reading P T A → Reading P T B → Reading P T C → Reading P T D → Reading P T (A × B × C × D)
-  quadruple a b c d = (tuple_4 step (known a) (known b) (known c) (known d)).whole
+  quadruple a b c d = (tuple_4 step no_items (known a) (known b) (known c) (known d)).whole

@@ -62,7 +62,7 @@ module _ (pieces : List (List ℕ)) (n : ℕ) (so_far : length (concatenated pie
             let j = eq-eqb (length piece) 0 (omega arith) in
             absurd (cc)
 
-module _ {F P R S : Type 0} (makes : F → P → Type 0) (meaning : P → Meaning ℕ ℕ R (Vec ℕ) S) where
+module _ {F P R E S : Type 0} (makes : F → P → Type 0) (meaning : P → Meaning ℕ ℕ R E (Vec ℕ) S) where
   module _ (from : F) where
     -- a decoder that was fed these bytes, of whose messages the lines were written
     pub record Written (old now : Option (List ℕ)) (fed : List ℕ) (d : Decoding F P ℕ S) : Type 0 where

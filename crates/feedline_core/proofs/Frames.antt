@@ -2,6 +2,7 @@
 use Rattle.std.proofs.Common.{ℕ, ◌≡◌, subst, List, [], ◌∷◌, ◌++◌, drop, Bool, true, Option, Result, Ok, Err}
 use Rattle.std.specs.Global.{Vec}
 use Rattle.std.specs.declared.alloc.Global.{Global}
+use Rattle.combine_base.specs.Error.NoItems.{no_items}
 use Rattle.combine_base.specs.Stream.View.{View, advanced}
 use Rattle.combine_base.specs.Parser.Outcome.{Outcome, Accepted, Refused, Undecided}
 use Rattle.combine_base.specs.Parser.Meaning.{Reading}
@@ -50,10 +51,10 @@ decodes_as r q has input old new (Err why) h = record { is = h.is }
 -- as many bytes as the length says, by the parser that is answered for it
 module _ (Input : Type 0) (alloc : Global) where
   abbrev answered : ℕ → Reading ℕ ℕ (Vec ℕ)
-  answered n v o = (p : CountMinMax (Vec ℕ) (Any Input)) × (p ≡ count_min_max_of alloc n n any_parser) × (count_min_max step (appended (λ v. v.items) [] (λ bs b. bs ++ b ∷ []) ⊥) (least_of_count_min_max p) (most_of_count_min_max p) (byte_where (λ b. true))).whole v o
+  answered n v o = (p : CountMinMax (Vec ℕ) (Any Input)) × (p ≡ count_min_max_of alloc n n any_parser) × (count_min_max step no_items (appended (λ v. v.items) [] (λ bs b. bs ++ b ∷ []) ⊥) (least_of_count_min_max p) (most_of_count_min_max p) (byte_where (λ b. true))).whole v o
 
   answers_bytes : (n : ℕ) (v : View ℕ ℕ) (o : Outcome (Vec ℕ)) → answered n v o → bytes n v o
-  answers_bytes n v o w = subst (λ p. (count_min_max step (appended (λ v. v.items) [] (λ bs b. bs ++ b ∷ []) ⊥) (least_of_count_min_max p) (most_of_count_min_max p) (byte_where (λ b. true))).whole v o) w.1 w.2
+  answers_bytes n v o w = subst (λ p. (count_min_max step no_items (appended (λ v. v.items) [] (λ bs b. bs ++ b ∷ []) ⊥) (least_of_count_min_max p) (most_of_count_min_max p) (byte_where (λ b. true))).whole v o) w.1 w.2
 
   then_bytes : (v : View ℕ ℕ) (p : Outcome ℕ) (o : Outcome (Vec ℕ)) → continues step (λ n message. message) answered v p o → continues step (λ n message. message) bytes v p o
   then_bytes v (Accepted n k c) o u = (u.0, answers_bytes n (advanced step k v) u.0 u.1, u.2)

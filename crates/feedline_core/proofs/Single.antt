@@ -1,9 +1,11 @@
 -- a message has one outcome on a view, but for its value
-use Rattle.std.proofs.Common.{ℕ, ◌≡◌, Bool, None, [], ◌∷◌, ◌++◌}
+use Rattle.std.proofs.Common.{ℕ, ◌≡◌, Bool, None, [], ◌∷◌, ◌++◌, nat_eq}
 use Rattle.std.specs.Global.{Vec}
 use Rattle.combine_base.specs.Parser.Meaning.{Meaning, IsSingle, MeansOne}
 use Rattle.combine_base.specs.Parser.Mapped.{mapped_means_one}
-use Rattle.combine_base.specs.Error.Errors.{Nothing}
+use Rattle.combine_base.specs.Error.Errors.{Nothing, Only}
+use Rattle.combine_base.specs.Error.Items.{Expected, OfToken}
+use Rattle.combine_base.specs.Error.NoItems.{no_items}
 use Rattle.combine_base.specs.Sequence.Places.{valid_in, valid_1, place_2, place_3, place_4}
 use Rattle.combine_base.specs.Sequence.Tuples.{push_1, push_2, push_3, tuple_3, tuple_4, tuple_1_means_one, followed_means_one}
 use Rattle.combine_token.specs.Choice.{Either, refused, refused_is_single, either_is_single}
@@ -13,26 +15,27 @@ use Rattle.combine_repeat_turns.specs.Counts.{appended}
 use Rattle.combine_repeat_turns.specs.CountLaws.{repeated_means_one}
 use Rattle.combine_repeat_turns.specs.declared.turns.Bounds.TheVariants.{Joined}
 use Rattle.combine_repeat_turns.specs.declared.turns.TurnsState.{TurnsState}
-use Rattle.feedline_core.specs.Messages.{step, byte_where, bytes_where, delete, set, message}
+use Rattle.combine_base.specs.declared.error.UnexpectedParse.{UnexpectedParse}
+use Rattle.feedline_core.specs.Messages.{step, byte, byte_where, bytes_where, delete, set, message}
 use Rattle.feedline_core.specs.declared.message.Message.TheVariants.{Set, Delete}
 
 -- every state
 abbrev all : {S : Type 0} → S → Type 0
 all s = Unit {0}
 
-byte_one : (f : ℕ → Bool) → MeansOne {State = Unit {0}} all (byte_where f)
-byte_one f = takes_one_means_one (satisfied (of_function f)) (Unit {0}) Nothing all (satisfied_is_test (of_function f) (of_function_is_predicate f))
+byte_one : (b : ℕ) → MeansOne {State = Unit {0}} all (byte b)
+byte_one b = takes_one_means_one no_items (satisfied (of_function (λ t. nat_eq t b))) (Unit {0}) (Only (Expected (OfToken b))) all (satisfied_is_test (of_function (λ t. nat_eq t b)) (of_function_is_predicate (λ t. nat_eq t b)))
 
 bytes_one : (f : ℕ → Bool) → MeansOne {State = TurnsState (Vec ℕ) (Unit {0})} all (bytes_where f)
-bytes_one f = repeated_means_one step (Joined 1 None) (appended (λ v. v.items) [] (λ bs b. bs ++ b ∷ []) ⊥) all (byte_where f) (byte_one f)
+bytes_one f = repeated_means_one step no_items (Joined 1 None) (appended (λ v. v.items) [] (λ bs b. bs ++ b ∷ []) ⊥) all (byte_where f) (takes_one_means_one no_items (satisfied (of_function f)) (Unit {0}) Nothing all (satisfied_is_test (of_function f) (of_function_is_predicate f)))
 
 -- tuples whose parts have one outcome
-module _ {A B C U V W : Type 0} {f : U → Type 0} {g : V → Type 0} {h : W → Type 0} {m : Meaning ℕ ℕ (Unit {0}) A U} {n : Meaning ℕ ℕ (Unit {0}) B V} {p : Meaning ℕ ℕ (Unit {0}) C W} (one : MeansOne f m) (two : MeansOne g n) (three : MeansOne h p) where
-  three_one : MeansOne (valid_in place_3 (valid_in place_2 (valid_1 f) g) h) (tuple_3 step m n p)
-  three_one = followed_means_one step place_3 push_2 (followed_means_one step place_2 push_1 (tuple_1_means_one one) two) three
+module _ {A B C U V W : Type 0} {f : U → Type 0} {g : V → Type 0} {h : W → Type 0} {m : Meaning ℕ ℕ (Unit {0}) UnexpectedParse A U} {n : Meaning ℕ ℕ (Unit {0}) UnexpectedParse B V} {p : Meaning ℕ ℕ (Unit {0}) UnexpectedParse C W} (one : MeansOne f m) (two : MeansOne g n) (three : MeansOne h p) where
+  three_one : MeansOne (valid_in place_3 (valid_in place_2 (valid_1 f) g) h) (tuple_3 step no_items m n p)
+  three_one = followed_means_one step no_items place_3 push_2 (followed_means_one step no_items place_2 push_1 (tuple_1_means_one one) two) three
 
-  four_one : {D X : Type 0} {k : X → Type 0} {q : Meaning ℕ ℕ (Unit {0}) D X} → MeansOne k q → MeansOne (valid_in place_4 (valid_in place_3 (valid_in place_2 (valid_1 f) g) h) k) (tuple_4 step m n p q)
-  four_one four = followed_means_one step place_4 push_3 three_one four
+  four_one : {D X : Type 0} {k : X → Type 0} {q : Meaning ℕ ℕ (Unit {0}) UnexpectedParse D X} → MeansOne k q → MeansOne (valid_in place_4 (valid_in place_3 (valid_in place_2 (valid_1 f) g) h) k) (tuple_4 step no_items m n p q)
+  four_one four = followed_means_one step no_items place_4 push_3 three_one four
 
 delete_is_single : IsSingle delete.whole
 delete_is_single = (mapped_means_one _ _ (λ parts m. m ≡ Delete parts.1) (three_one (attempted_means_one step _ _ (four_one (byte_one _) (byte_one _) (byte_one _) (byte_one _))) (bytes_one _) (byte_one _))).whole

@@ -40,7 +40,7 @@ IsRefusedGrowth errors.TooLong = ⊥
 IsRefusedGrowth errors.Closed = ⊥
 IsRefusedGrowth errors.Failed = ⊥
 
-module _ {F P R S : Type 0} (makes : F → P → Type 0) (meaning : P → Meaning ℕ ℕ R (Vec ℕ) S) where
+module _ {F P R E S : Type 0} (makes : F → P → Type 0) (meaning : P → Meaning ℕ ℕ R E (Vec ℕ) S) where
   -- a decoder that may go on, for which the piece is not too long
   pub record HasRoom (d : Decoding F P ℕ S) (piece : List ℕ) : Type 0 where
     pub behind : List ℕ

@@ -1,6 +1,7 @@
 -- a message behind its length
 use Rattle.std.specs.Prelude.{ℕ, [], ◌∷◌, ◌++◌, true}
 use Rattle.std.specs.Global.{Vec}
+use Rattle.combine_base.specs.Error.NoItems.{no_items}
 use Rattle.combine_base.specs.Parser.Meaning.{Reading}
 use Rattle.combine_base.specs.Sequence.Readings.{sequel}
 use Rattle.combine_byte_num.specs.Numbers.{big_endian}
@@ -14,7 +15,7 @@ length_before = whole_number 2 big_endian
 
 -- so many bytes, collected
 abbrev pub bytes : ℕ → Reading ℕ ℕ (Vec ℕ)
-bytes n = (count_min_max step (appended (λ v. v.items) [] (λ bs b. bs ++ b ∷ []) ⊥) n n (byte_where (λ b. true))).whole
+bytes n = (count_min_max step no_items (appended (λ v. v.items) [] (λ bs b. bs ++ b ∷ []) ⊥) n n (byte_where (λ b. true))).whole
 
 -- a length, and then as many bytes, which are the value
 abbrev pub frame : Reading ℕ ℕ (Vec ℕ)

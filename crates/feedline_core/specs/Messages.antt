@@ -4,10 +4,14 @@ use Rattle.std.specs.Char.{is_ascii_digit, is_ascii_lowercase}
 use Rattle.std.specs.Global.{Vec}
 use Rattle.combine_base.specs.Parser.Meaning.{Meaning}
 use Rattle.combine_base.specs.Parser.Mapped.{mapped}
-use Rattle.combine_base.specs.Error.Errors.{Nothing}
+use Rattle.std.specs.Ordering.{nat_cmp}
+use Rattle.combine_base.specs.Error.Errors.{Nothing, Only}
+use Rattle.combine_base.specs.Error.Items.{Expected, OfToken}
+use Rattle.combine_base.specs.Error.NoItems.{no_items}
 use Rattle.combine_base.specs.Sequence.Tuples.{tuple_3, tuple_4}
 use Rattle.combine_token.specs.Or.{either_of}
 use Rattle.combine_token.specs.OneToken.{of_function, satisfied, takes_one}
+use Rattle.combine_base.specs.declared.error.UnexpectedParse.{UnexpectedParse}
 use Rattle.combine_base.specs.declared.sequence.SequenceState.{SequenceState}
 use Rattle.combine_base.specs.declared.sequence.PartialState3.{PartialState3}
 use Rattle.combine_base.specs.declared.sequence.PartialState4.{PartialState4}
@@ -25,25 +29,30 @@ abbrev pub step : ℕ → ℕ → ℕ
 step p b = p + 1
 
 -- one byte of which this holds
-abbrev pub byte_where : (ℕ → Bool) → Meaning ℕ ℕ (Unit {0}) ℕ (Unit {0})
-byte_where f = takes_one (satisfied (of_function f)) (Unit {0}) Nothing
+abbrev pub byte_where : (ℕ → Bool) → Meaning ℕ ℕ (Unit {0}) UnexpectedParse ℕ (Unit {0})
+byte_where f = takes_one no_items (satisfied (of_function f)) (Unit {0}) Nothing
 
-abbrev pub byte : ℕ → Meaning ℕ ℕ (Unit {0}) ℕ (Unit {0})
-byte b = byte_where (λ t. nat_eq t b)
+-- this byte, which is said to be expected
+abbrev pub byte : ℕ → Meaning ℕ ℕ (Unit {0}) UnexpectedParse ℕ (Unit {0})
+byte b = takes_one no_items (satisfied (of_function (λ t. nat_eq t b))) (Unit {0}) (Only (Expected (OfToken b)))
 
 -- one or more such bytes, collected
-abbrev pub bytes_where : (ℕ → Bool) → Meaning ℕ ℕ (Unit {0}) (Vec ℕ) (TurnsState (Vec ℕ) (Unit {0}))
-bytes_where f = many1 step (appended (λ v. v.items) [] (λ bs b. bs ++ b ∷ []) ⊥) (byte_where f)
+abbrev pub bytes_where : (ℕ → Bool) → Meaning ℕ ℕ (Unit {0}) UnexpectedParse (Vec ℕ) (TurnsState (Vec ℕ) (Unit {0}))
+bytes_where f = many1 step no_items (appended (λ v. v.items) [] (λ bs b. bs ++ b ∷ []) ⊥) (byte_where f)
 
-abbrev pub word : Meaning ℕ ℕ (Unit {0}) (Vec ℕ) (TurnsState (Vec ℕ) (Unit {0}))
+abbrev pub word : Meaning ℕ ℕ (Unit {0}) UnexpectedParse (Vec ℕ) (TurnsState (Vec ℕ) (Unit {0}))
 word = bytes_where is_ascii_lowercase
 
-abbrev pub digits : Meaning ℕ ℕ (Unit {0}) (Vec ℕ) (TurnsState (Vec ℕ) (Unit {0}))
+abbrev pub digits : Meaning ℕ ℕ (Unit {0}) UnexpectedParse (Vec ℕ) (TurnsState (Vec ℕ) (Unit {0}))
 digits = bytes_where is_ascii_digit
 
--- the bytes of `del `, all or none of which are taken
-abbrev pub del : Meaning ℕ ℕ (Unit {0}) (ℕ × ℕ × ℕ × ℕ) (TryState (PartialState4 (SequenceState (Unit {0}) (Unit {0})) (SequenceState (record { 0 : ℕ }) (Unit {0})) (SequenceState (ℕ × ℕ) (Unit {0})) (SequenceState (ℕ × ℕ × ℕ) (Unit {0}))))
-del = attempted step (tuple_4 step (byte 100) (byte 101) (byte 108) (byte 32))
+-- these bytes, all or none of which are taken
+abbrev pub all_four : ℕ → ℕ → ℕ → ℕ → Meaning ℕ ℕ (Unit {0}) UnexpectedParse (ℕ × ℕ × ℕ × ℕ) (TryState (PartialState4 (SequenceState (Unit {0}) (Unit {0})) (SequenceState (record { 0 : ℕ }) (Unit {0})) (SequenceState (ℕ × ℕ) (Unit {0})) (SequenceState (ℕ × ℕ × ℕ) (Unit {0}))))
+all_four a b c d = attempted step (tuple_4 step no_items (byte a) (byte b) (byte c) (byte d))
+
+-- the bytes of `del `, so
+abbrev pub del : Meaning ℕ ℕ (Unit {0}) UnexpectedParse (ℕ × ℕ × ℕ × ℕ) (TryState (PartialState4 (SequenceState (Unit {0}) (Unit {0})) (SequenceState (record { 0 : ℕ }) (Unit {0})) (SequenceState (ℕ × ℕ) (Unit {0})) (SequenceState (ℕ × ℕ × ℕ) (Unit {0}))))
+del = all_four 100 101 108 32
 
 -- what is kept of a message that deletes, and of one that sets
 abbrev pub DeleteState : Type 0 → Type 0
@@ -53,20 +62,20 @@ abbrev pub SetState : Type 0
 SetState = PartialState4 (SequenceState (Unit {0}) (TurnsState (Vec ℕ) (Unit {0}))) (SequenceState (record { 0 : Vec ℕ }) (Unit {0})) (SequenceState (Vec ℕ × ℕ) (TurnsState (Vec ℕ) (Unit {0}))) (SequenceState (Vec ℕ × ℕ × Vec ℕ) (Unit {0}))
 
 -- what is read before a word that is deleted, that word, and `;`
-abbrev pub delete_after : {S : Type 0} → Meaning ℕ ℕ (Unit {0}) (ℕ × ℕ × ℕ × ℕ) S → Meaning ℕ ℕ (Unit {0}) Message (DeleteState S)
-delete_after before = mapped (tuple_3 step before word (byte 59)) (λ parts m. m ≡ Delete parts.1)
+abbrev pub delete_after : {S : Type 0} → Meaning ℕ ℕ (Unit {0}) UnexpectedParse (ℕ × ℕ × ℕ × ℕ) S → Meaning ℕ ℕ (Unit {0}) UnexpectedParse Message (DeleteState S)
+delete_after before = mapped (tuple_3 step no_items before word (byte 59)) (λ parts m. m ≡ Delete parts.1)
 
 -- `del WORD;`
-abbrev pub delete : Meaning ℕ ℕ (Unit {0}) Message (DeleteState (TryState (PartialState4 (SequenceState (Unit {0}) (Unit {0})) (SequenceState (record { 0 : ℕ }) (Unit {0})) (SequenceState (ℕ × ℕ) (Unit {0})) (SequenceState (ℕ × ℕ × ℕ) (Unit {0})))))
+abbrev pub delete : Meaning ℕ ℕ (Unit {0}) UnexpectedParse Message (DeleteState (TryState (PartialState4 (SequenceState (Unit {0}) (Unit {0})) (SequenceState (record { 0 : ℕ }) (Unit {0})) (SequenceState (ℕ × ℕ) (Unit {0})) (SequenceState (ℕ × ℕ × ℕ) (Unit {0})))))
 delete = delete_after del
 
 -- `WORD=DIGITS;`
-abbrev pub set : Meaning ℕ ℕ (Unit {0}) Message SetState
-set = mapped (tuple_4 step word (byte 61) digits (byte 59)) (λ parts m. m ≡ Set parts.0 parts.2)
+abbrev pub set : Meaning ℕ ℕ (Unit {0}) UnexpectedParse Message SetState
+set = mapped (tuple_4 step no_items word (byte 61) digits (byte 59)) (λ parts m. m ≡ Set parts.0 parts.2)
 
 -- the first of these and `set` that isn't refused peeked
-abbrev pub or_set : {S : Type 0} → Meaning ℕ ℕ (Unit {0}) Message S → Meaning ℕ ℕ (Unit {0}) Message (OrState S SetState)
-or_set first = either_of first set
+abbrev pub or_set : {S : Type 0} → Meaning ℕ ℕ (Unit {0}) UnexpectedParse Message S → Meaning ℕ ℕ (Unit {0}) UnexpectedParse Message (OrState S SetState)
+or_set first = either_of no_items nat_cmp first set
 
-abbrev pub message : Meaning ℕ ℕ (Unit {0}) Message (OrState (DeleteState (TryState (PartialState4 (SequenceState (Unit {0}) (Unit {0})) (SequenceState (record { 0 : ℕ }) (Unit {0})) (SequenceState (ℕ × ℕ) (Unit {0})) (SequenceState (ℕ × ℕ × ℕ) (Unit {0}))))) SetState)
+abbrev pub message : Meaning ℕ ℕ (Unit {0}) UnexpectedParse Message (OrState (DeleteState (TryState (PartialState4 (SequenceState (Unit {0}) (Unit {0})) (SequenceState (record { 0 : ℕ }) (Unit {0})) (SequenceState (ℕ × ℕ) (Unit {0})) (SequenceState (ℕ × ℕ × ℕ) (Unit {0}))))) SetState)
 message = or_set delete

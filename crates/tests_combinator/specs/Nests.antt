@@ -3,8 +3,9 @@ use Rattle.std.specs.Prelude.{ℕ, zero, suc, ◌+◌, ◌≡◌, ◌≤◌, nat
 use Rattle.std.proofs.Common.{arith, subst}
 use Rattle.combine_base.specs.Stream.View.{View, advanced}
 use Rattle.combine_base.specs.Error.Errors.{Nothing}
+use Rattle.combine_base.specs.Error.NoItems.{no_items}
 use Rattle.combine_base.specs.Parser.Mapped.{mapped_is_meaning, mapped_means_one, mapped_reading}
-use Rattle.combine_base.specs.Parser.Meaning.{Meaning, Reading, IsMeaning, IsReading, IsSingle, MeansOne}
+use Rattle.combine_base.specs.Parser.Meaning.{Meaning, Reading, Refusing, IsMeaning, IsReading, IsSingle, MeansOne}
 use Rattle.combine_base.specs.Parser.Outcome.{Outcome, Accepted, Refused, Undecided, shape}
 use Rattle.combine_base.specs.Sequence.Joined.{joined}
 use Rattle.combine_base.specs.Sequence.Readings.{FollowsOne, continues, following, following_is_reading, sequel, sequel_is_reading, sequel_is_single}
@@ -13,6 +14,7 @@ use Rattle.combine_token.specs.Choice.{Either, Here, Later}
 use Rattle.combine_token.specs.OneToken.{of_function, of_function_is_predicate, one_token, one_token_at, satisfied, satisfied_is_test, takes_one, takes_one_is_meaning, takes_one_means_one}
 use Rattle.combine_token.specs.Optional.{is_some, nothing, optional_is_meaning, optional_means_one}
 use Rattle.combine_token.specs.Stateless.{stateless, stateless_is_meaning, stateless_means_one}
+use Rattle.combine_base.specs.declared.error.UnexpectedParse.{UnexpectedParse}
 
 -- the value of the second of two parts
 abbrev pub second : {A B : Type 0} → A → B → B
@@ -20,6 +22,10 @@ second a b = b
 
 fresh : Unit {0} → Type 0
 fresh s = Unit {0}
+
+-- whatever error
+abbrev pub any_error : {P T E : Type 0} → Refusing P T E
+any_error v w k e = Unit {0}
 
 -- an opening bracket is one byte
 one_opened_at : (is_open : Bool) (us : List ℕ) (a n : ℕ) (c : Bool) → one_token_at (satisfied (of_function (λ t. nat_eq t 40))) is_open us (Accepted a n c) → n ≡ 1
@@ -57,18 +63,18 @@ module _ {P : Type 0} where
     nest k = sequel step second opened (λ b. inside b k)
 
   -- a parser of this byte
-  abbrev of_byte : ℕ → Meaning P ℕ (Unit {0}) ℕ (Unit {0})
-  of_byte b = takes_one (satisfied (of_function (λ t. nat_eq t b))) (Unit {0}) Nothing
+  abbrev of_byte : ℕ → Meaning P ℕ (Unit {0}) UnexpectedParse ℕ (Unit {0})
+  of_byte b = takes_one no_items (satisfied (of_function (λ t. nat_eq t b))) (Unit {0}) Nothing
 
   -- two bytes, one after the other
   abbrev pub byte_pair : (P → ℕ → P) → ℕ → ℕ → Reading P ℕ (ℕ × ℕ)
   byte_pair step a b = sequel step push_1 (following false (push_0 tt) (byte a)) (λ p. byte b)
 
   byte_reads : (b : ℕ) → IsMeaning fresh fresh (of_byte b)
-  byte_reads b = takes_one_is_meaning (satisfied (of_function (λ t. nat_eq t b))) (Unit {0}) Nothing fresh fresh
+  byte_reads b = takes_one_is_meaning no_items (satisfied (of_function (λ t. nat_eq t b))) (Unit {0}) Nothing fresh fresh
 
   byte_one : (b : ℕ) → MeansOne fresh (of_byte b)
-  byte_one b = takes_one_means_one (satisfied (of_function (λ t. nat_eq t b))) (Unit {0}) Nothing fresh (satisfied_is_test (of_function (λ t. nat_eq t b)) (of_function_is_predicate (λ t. nat_eq t b)))
+  byte_one b = takes_one_means_one no_items (satisfied (of_function (λ t. nat_eq t b))) (Unit {0}) Nothing fresh (satisfied_is_test (of_function (λ t. nat_eq t b)) (of_function_is_predicate (λ t. nat_eq t b)))
 
   pub byte_is_reading : (b : ℕ) → IsReading (byte b)
   byte_is_reading b = (byte_reads b).whole
@@ -186,13 +192,13 @@ module _ {P : Type 0} where
         let x = last_value opened (λ b. inside step b k) v n i c p in
         inside_few x.0 k _ n x.2 x.4 x.6
 
-    module _ {R S : Type 0} (k : ℕ) where
+    module _ {R E S : Type 0} (k : ℕ) where
       -- each call begins again
-      abbrev pub nesting : Meaning P ℕ R ℕ S
-      nesting = stateless (nest step k) ⊥ (Unit {0}) Nothing
+      abbrev pub nesting : Meaning P ℕ R E ℕ S
+      nesting = stateless (nest step k) ⊥ (Unit {0}) Nothing any_error
 
       pub nesting_is_meaning : (fresh valid : S → Type 0) → IsMeaning fresh valid nesting
-      nesting_is_meaning fresh valid = stateless_is_meaning fresh valid (nest step k) ⊥ (Unit {0}) Nothing (nest_is_reading k)
+      nesting_is_meaning fresh valid = stateless_is_meaning fresh valid (nest step k) ⊥ (Unit {0}) Nothing any_error (nest_is_reading k)
 
       pub nesting_means_one : (valid : S → Type 0) → MeansOne valid nesting
-      nesting_means_one valid = stateless_means_one valid (nest step k) ⊥ (Unit {0}) Nothing (single_after k (λ b. inside_is_single b k))
+      nesting_means_one valid = stateless_means_one valid (nest step k) ⊥ (Unit {0}) Nothing any_error (single_after k (λ b. inside_is_single b k))

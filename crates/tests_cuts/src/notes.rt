@@ -95,8 +95,6 @@ where
 
     ghost parts = { λ p. P.parts p.part };
 
-    ghost refuses = { λ p. P.refuses p.part };
-
     ghost default_valid = { P.default_valid };
 
     ghost laws = { λ p h. P.laws p.part h };

@@ -1,6 +1,7 @@
 -- parsers of which a caller's functions are asked have one outcome, where those answer from their arguments alone
 use Rattle.std.proofs.Common.{ℕ, ◌≡◌, ◌∙◌, Bool, true, List, [], ◌∷◌, ap, sym, subst}
 use Rattle.combine_base.specs.Error.Errors.{Nothing}
+use Rattle.combine_base.specs.Error.NoItems.{no_items}
 use Rattle.combine_base.specs.Parser.Meaning.{IsSingle, Reading}
 use Rattle.combine_base.specs.Parser.Outcome.{Accepted}
 use Rattle.combine_byte_num.specs.WholeNumbers.{whole_number}
@@ -29,7 +30,7 @@ one_for_number width value {means} made h = record {
 }
 
 -- so many of any tokens, collected
-pub counted_is_single : {P T V : Type 0} (step : P → T → P) (c : Collecting T V) (n : ℕ) → IsSingle (count_min_max {R = Unit {0}} {S = Unit {0}} step c n n (takes_one (satisfied (of_function (λ t. true))) (Unit {0}) Nothing)).whole
+pub counted_is_single : {P T V : Type 0} (step : P → T → P) (c : Collecting T V) (n : ℕ) → IsSingle (count_min_max {R = Unit {0}} {S = Unit {0}} step no_items c n n (takes_one no_items (satisfied (of_function (λ t. true))) (Unit {0}) Nothing)).whole
 counted_is_single step c n =
     let any = satisfied (of_function (λ t. true)) in
-    (repeated_means_one {R = Unit {0}} {S = Unit {0}} step (Counted n n) c (λ s. Unit {0}) (takes_one any (Unit {0}) Nothing) (takes_one_means_one any (Unit {0}) Nothing (λ s. Unit {0}) (satisfied_is_test _ (of_function_is_predicate (λ t. true))))).whole
+    (repeated_means_one {R = Unit {0}} {S = Unit {0}} step no_items (Counted n n) c (λ s. Unit {0}) (takes_one no_items any (Unit {0}) Nothing) (takes_one_means_one no_items any (Unit {0}) Nothing (λ s. Unit {0}) (satisfied_is_test _ (of_function_is_predicate (λ t. true))))).whole

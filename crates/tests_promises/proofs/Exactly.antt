@@ -13,7 +13,7 @@ use Rattle.combine_base.specs.declared.error.ParseResult.{ParseResult}
 use Rattle.combine_base.specs.declared.error.ParseResult.TheVariants.{CommitOk, PeekOk, CommitErr, PeekErr}
 use Rattle.tests_promises.specs.Asking.{AsksExactly, is_fault_kind}
 
-module _ {P T R V S E : Type 0} (w : World P T S E) (m : Meaning P T R V S) (h : IsSingle m.whole) (state left : S) (old new : View P T) (before after : Failures) where
+module _ {P T R V S E : Type 0} (w : World P T S E) (m : Meaning P T R E V S) (h : IsSingle m.whole) (state left : S) (old new : View P T) (before after : Failures) where
   abbrev run : Run P T S
   run = afresh w m state left old new before after
 

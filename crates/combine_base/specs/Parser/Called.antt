@@ -3,7 +3,7 @@ use Rattle.std.specs.Prelude.{Bool}
 use Rattle.combine_base.specs.Parser.Answer.{Answers, world}
 use Rattle.combine_base.specs.Error.Errors.{Errors}
 use Rattle.combine_base.specs.Parser.Meaning.{MeansSame}
-use Rattle.combine_base.specs.Parser.Reasons.{Reasoned, kept_from}
+use Rattle.combine_base.specs.Parser.Reasons.{ReasonedCall}
 use Rattle.combine_base.specs.Stream.Calls.{Passes}
 use Rattle.combine_base.specs.declared.error.ParseResult.{ParseResult}
 use Rattle.combine_base.specs.declared.parser.Parser as parser
@@ -22,4 +22,4 @@ module _ {Self Input Output State Checkpoint Token Range Position Error : Type 0
     pub same : MeansSame (p.meaning old) (p.meaning new)
     pub passes : Passes (i.marks input) (i.marks left) (i.failures input) (i.failures left)
     pub answers : Answers (world i.step seen i.steady fresh) (p.meaning old) (record { first = first; state = from; left = state; old = i.view input; new = i.view left; before = i.failures input; after = i.failures left }) result
-    pub refuses : Reasoned seen.kind (i.view left).is_open (p.refuses old (kept_from first from) (i.view input)) result
+    pub refuses : ReasonedCall seen (p.meaning old) first from (i.view input) (i.view left) result

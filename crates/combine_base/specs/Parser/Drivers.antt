@@ -1,9 +1,9 @@
 -- what a peeked refusal is made to say, and what the drivers answer
-use Rattle.std.specs.Prelude.{◌≡◌, ◌<◌, ◌⊎◌, List, [], ◌∷◌, Bool, true, false, Result, Ok, Err, Option, Some, None}
+use Rattle.std.specs.Prelude.{◌≡◌, ◌<◌, ◌⊎◌, List, [], ◌∷◌, true, false, Result, Ok, Err, Option, Some, None}
 use Rattle.combine_base.specs.Stream.View.{View, Moves}
 use Rattle.combine_base.specs.Error.Items.{Item, Unexpected, OfToken}
 use Rattle.combine_base.specs.Error.Errors.{Errors, Says}
-use Rattle.combine_base.specs.Parser.Meaning.{Meaning}
+use Rattle.combine_base.specs.Parser.Meaning.{Meaning, Refusing}
 use Rattle.combine_base.specs.Error.Results.{as_result}
 use Rattle.combine_base.specs.Parser.Judged.{IsRefusal}
 use Rattle.combine_base.specs.Parser.Answer.{World, Run, Answers}
@@ -47,25 +47,26 @@ module _ {P T : Type 0} (steady : Type 0) (step : P → T → P) (marked : View 
   pub record Explains {R E : Type 0} (s : Errors T R P E) (lean : Type 0) (adds : List (Item T R) → Type 0) (e e' : E) (result : Result Unit Kind) : Type 0 where
     pub is : is_put_back (λ v u. Says s lean (AtToken adds v.unread) e e') result
 
-module _ {P T R V S E : Type 0} (s : Errors T R P E) (m : Meaning P T R V S) (refuses : Bool → E → Type 0) (old new : View P T) where
+module _ {P T R V S E : Type 0} (s : Errors T R P E) (m : Meaning P T R E V S) (refuses : Refusing P T E) (old new : View P T) where
   -- what the parser refused with, and what that error was then made to say
   pub record Refusal (e : E) : Type 0 where
     pub own : E
-    pub refused : refuses false own
+    pub left : View P T
+    pub refused : refuses old left false own
     pub back : new ≡ old
     pub says : Says s m.lean (AtToken m.adds old.unread) own e
 
   abbrev pub explained : ParseResult V E → Type 0
   explained (CommitOk v) = Unit {0}
   explained (PeekOk v) = Unit {0}
-  explained (CommitErr e) = IsRefusal new.is_open (s.kind e) → refuses true e
+  explained (CommitErr e) = IsRefusal new.is_open (s.kind e) → refuses old new true e
   explained (PeekErr t) = Refusal t.error
 
   -- an answer whose refusals have such errors, a peeked one being put back and explained
   pub record Explained (result : ParseResult V E) : Type 0 where
     pub is : explained result
 
-module _ {P T R V S E : Type 0} (w : World P T S E) (m : Meaning P T R V S) where
+module _ {P T R V S E : Type 0} (w : World P T S E) (m : Meaning P T R E V S) where
   -- a call from a state of its own, which is a default one
   abbrev pub afresh : S → S → View P T → View P T → Failures → Failures → Run P T S
   afresh s l old new before after = record { first = true; state = s; left = l; old = old; new = new; before = before; after = after }
@@ -77,14 +78,14 @@ module _ {P T R V S E : Type 0} (w : World P T S E) (m : Meaning P T R V S) wher
     pub answers : Answers w m (afresh state left old new before after) result
 
   -- an answer as a result, explained
-  pub record Results (s : Errors T R P E) (refuses : Bool → E → Type 0) (r : Run P T S) (result : Result V E) : Type 0 where
+  pub record Results (s : Errors T R P E) (refuses : Refusing P T E) (r : Run P T S) (result : Result V E) : Type 0 where
     pub answer : ParseResult V E
     pub is : as_result answer ≡ result
     pub answers : Answers w m r answer
     pub explained : Explained s m refuses r.old r.new answer
 
   -- the same from the start
-  pub record StartResults (s : Errors T R P E) (refuses : Bool → E → Type 0) (old new : View P T) (before after : Failures) (result : Result V E) : Type 0 where
+  pub record StartResults (s : Errors T R P E) (old new : View P T) (before after : Failures) (result : Result V E) : Type 0 where
     pub state : S
     pub left : S
-    pub results : Results s refuses (afresh state left old new before after) result
+    pub results : Results s m.refuses (afresh state left old new before after) result

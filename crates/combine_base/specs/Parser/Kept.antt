@@ -1,7 +1,7 @@
 -- parsers that a state keeps
 use Rattle.combine_base.specs.Parser.Meaning.{Meaning, MeansOne, MeansSame}
 
-module _ {Position Token Range Value State N : Type 0} (lawful : N → Type 0) (means : N → Meaning Position Token Range Value State) (given : N → Type 0) where
+module _ {Position Token Range Error Value State N : Type 0} (lawful : N → Type 0) (means : N → Meaning Position Token Range Error Value State) (given : N → Type 0) where
   -- a lawful parser that means what one of those that are given does, as it does after calls of it
   pub record KeptOf (n : N) : Type 0 where
     pub is_lawful : lawful n
@@ -9,7 +9,7 @@ module _ {Position Token Range Value State N : Type 0} (lawful : N → Type 0) (
     pub is_given : given parser
     pub same : MeansSame (means parser) (means n)
 
-module _ {Position Token Range Value State : Type 0} {valid : State → Type 0} {m m' : Meaning Position Token Range Value State} where
+module _ {Position Token Range Error Value State : Type 0} {valid : State → Type 0} {m m' : Meaning Position Token Range Error Value State} where
   -- what means the same has one outcome too
   pub means_one_as : MeansSame m m' → MeansOne valid m → MeansOne valid m'
   means_one_as h k = record {

@@ -10,8 +10,8 @@ module _ {P T A B : Type 0} where
   mapped_reading r f v (Refused k) = r v (Refused k)
   mapped_reading r f v Undecided = r v Undecided
 
-  abbrev pub mapped : {R S : Type 0} → Meaning P T R A S → (A → B → Type 0) → Meaning P T R B S
-  mapped m f = record { whole = mapped_reading m.whole f; rest = λ s. mapped_reading (m.rest s) f; lost = m.lost; keeps = m.keeps; puts_back = m.puts_back; lean = m.lean; adds = m.adds }
+  abbrev pub mapped : {R E S : Type 0} → Meaning P T R E A S → (A → B → Type 0) → Meaning P T R E B S
+  mapped m f = record { whole = mapped_reading m.whole f; rest = λ s. mapped_reading (m.rest s) f; lost = m.lost; keeps = m.keeps; puts_back = m.puts_back; lean = m.lean; adds = m.adds; refuses = m.refuses; refuses_from = m.refuses_from }
 
   -- an outcome of the mapped reading stands on one of the reading, of the same shape
   abbrev under : (r : Reading P T A) (f : A → B → Type 0) (v : View P T) (o : Outcome B) → mapped_reading r f v o → (i : Outcome A) × r v i × shape i ≡ shape o
@@ -47,18 +47,19 @@ module _ {P T A B : Type 0} where
   both_ways r t f h v (Refused k) = h v _
   both_ways r t f h v Undecided = h v _
 
-  pub mapped_is_meaning : {R S : Type 0} (fresh valid : S → Type 0) (m : Meaning P T R A S) (f : A → B → Type 0) → IsMeaning fresh valid m → IsMeaning fresh valid (mapped m f)
+  pub mapped_is_meaning : {R E S : Type 0} (fresh valid : S → Type 0) (m : Meaning P T R E A S) (f : A → B → Type 0) → IsMeaning fresh valid m → IsMeaning fresh valid (mapped m f)
   mapped_is_meaning fresh valid m f h = record {
     whole = mapped_is_reading m.whole f h.whole;
     rest = λ s k. mapped_is_reading (m.rest s) f (h.rest s k);
     start = λ s v o d. both_ways (m.rest s) m.whole f (λ v o. h.start s v o d) v o;
     found = h.found;
+    reasons = h.reasons;
   }
 
-  pub mapped_means_one : {R S : Type 0} (valid : S → Type 0) (m : Meaning P T R A S) (f : A → B → Type 0) → MeansOne valid m → MeansOne valid (mapped m f)
+  pub mapped_means_one : {R E S : Type 0} (valid : S → Type 0) (m : Meaning P T R E A S) (f : A → B → Type 0) → MeansOne valid m → MeansOne valid (mapped m f)
   mapped_means_one valid m f h = record { whole = mapped_is_single m.whole f h.whole; rest = λ s k. mapped_is_single (m.rest s) f (h.rest s k) }
 
-  pub mapped_means_same : {R S : Type 0} (m m' : Meaning P T R A S) (f : A → B → Type 0) → MeansSame m m' → MeansSame (mapped m f) (mapped m' f)
+  pub mapped_means_same : {R E S : Type 0} (m m' : Meaning P T R E A S) (f : A → B → Type 0) → MeansSame m m' → MeansSame (mapped m f) (mapped m' f)
   mapped_means_same m m' f h = record {
     whole = both_ways m.whole m'.whole f h.whole;
     rest = λ s. both_ways (m.rest s) (m'.rest s) f (h.rest s);
@@ -67,4 +68,6 @@ module _ {P T A B : Type 0} where
     puts_back = h.puts_back;
     lean = h.lean;
     adds = h.adds;
+    refuses = h.refuses;
+    refuses_from = h.refuses_from;
   }

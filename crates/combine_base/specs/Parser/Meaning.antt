@@ -2,14 +2,22 @@
 use Rattle.std.specs.Prelude.{ℕ, ◌≡◌, ◌≤◌, List, Bool, true, false, length, ◌↔◌}
 use Rattle.combine_base.specs.Stream.View.{View, extended}
 use Rattle.combine_base.specs.Error.Items.{Item}
-use Rattle.combine_base.specs.Parser.Outcome.{Outcome, Accepted, Undecided, IsDecided, shape}
+use Rattle.combine_base.specs.Parser.Outcome.{Outcome, Accepted, Refused, Undecided, IsDecided, shape}
 
 -- A relation between a view and its outcome.
 abbrev pub Reading : Type 0 → Type 0 → Type 0 → Type 1
 Reading Position Token Value = View Position Token → Outcome Value → Type 0
 
+-- Which errors a refusal may have: by the view before it and the view that it leaves, committed or not.
+abbrev pub Refusing : Type 0 → Type 0 → Type 0 → Type 1
+Refusing Position Token Error = View Position Token → View Position Token → Bool → Error → Type 0
+
+-- the same errors
+abbrev pub SameReasons : {Position Token Error : Type 0} → Refusing Position Token Error → Refusing Position Token Error → Type 0
+SameReasons {Position} {Token} {Error} r r' = (v w : View Position Token) (k : Bool) (e : Error) → r v w k e ↔ r' v w k e
+
 -- What a parser means: which outcome it has on a view from the start, and from each kept state.
-pub record Meaning (Position Token Range Value State : Type 0) : Type 1 where
+pub record Meaning (Position Token Range Error Value State : Type 0) : Type 1 where
   -- from the start
   pub whole : Reading Position Token Value
   -- from a kept state
@@ -24,6 +32,10 @@ pub record Meaning (Position Token Range Value State : Type 0) : Type 1 where
   pub lean : Type 0
   -- the items that are added to an error, in order
   pub adds : List (Item Token Range) → Type 0
+  -- the errors of its refusals, from the start
+  pub refuses : Refusing Position Token Error
+  -- and from a kept state
+  pub refuses_from : State → Refusing Position Token Error
 
 -- the laws of one reading
 pub record IsReading {Position Token Value : Type 0} (r : Reading Position Token Value) : Type 0 where
@@ -41,20 +53,21 @@ pub record IsSingle {Position Token Value : Type 0} (r : Reading Position Token 
   pub one : (v : View Position Token) (o o' : Outcome Value) → r v o → r v o' → shape o ≡ shape o'
 
 -- the laws of a meaning; fresh are the default states, and valid the states that a call may be given
-pub record IsMeaning {Position Token Range Value State : Type 0} (fresh valid : State → Type 0) (m : Meaning Position Token Range Value State) : Type 0 where
+pub record IsMeaning {Position Token Range Error Value State : Type 0} (fresh valid : State → Type 0) (m : Meaning Position Token Range Error Value State) : Type 0 where
   pub whole : IsReading m.whole
   pub rest : (s : State) → valid s → IsReading (m.rest s)
   -- a default state means the whole
   pub start : (s : State) (v : View Position Token) (o : Outcome Value) → fresh s → m.rest s v o ↔ m.whole v o
   pub found : (s : State) (v : View Position Token) → fresh s → m.lost s v → ⊥
+  pub reasons : (s : State) → fresh s → SameReasons (m.refuses_from s) m.refuses
 
 -- a meaning with at most one outcome, from the start and from each valid state
-pub record MeansOne {Position Token Range Value State : Type 0} (valid : State → Type 0) (m : Meaning Position Token Range Value State) : Type 0 where
+pub record MeansOne {Position Token Range Error Value State : Type 0} (valid : State → Type 0) (m : Meaning Position Token Range Error Value State) : Type 0 where
   pub whole : IsSingle m.whole
   pub rest : (s : State) → valid s → IsSingle (m.rest s)
 
--- two meanings have the same outcomes, and ask for memory alike; what they add to an error may differ
-pub record Alike {Position Token Range Value State : Type 0} (m m' : Meaning Position Token Range Value State) : Type 0 where
+-- two meanings have the same outcomes, and ask for memory alike; what they add to an error, and which errors they refuse with, may differ
+pub record Alike {Position Token Range Error Value State : Type 0} (m m' : Meaning Position Token Range Error Value State) : Type 0 where
   pub whole : (v : View Position Token) (o : Outcome Value) → m.whole v o ↔ m'.whole v o
   pub rest : (s : State) (v : View Position Token) (o : Outcome Value) → m.rest s v o ↔ m'.rest s v o
   pub lost : (s : State) (v : View Position Token) → m.lost s v ↔ m'.lost s v
@@ -63,7 +76,7 @@ pub record Alike {Position Token Range Value State : Type 0} (m m' : Meaning Pos
   pub lean : m.lean ↔ m'.lean
 
 -- two parsers mean the same, and say the same
-pub record MeansSame {Position Token Range Value State : Type 0} (m m' : Meaning Position Token Range Value State) : Type 0 where
+pub record MeansSame {Position Token Range Error Value State : Type 0} (m m' : Meaning Position Token Range Error Value State) : Type 0 where
   pub whole : (v : View Position Token) (o : Outcome Value) → m.whole v o ↔ m'.whole v o
   pub rest : (s : State) (v : View Position Token) (o : Outcome Value) → m.rest s v o ↔ m'.rest s v o
   pub lost : (s : State) (v : View Position Token) → m.lost s v ↔ m'.lost s v
@@ -71,8 +84,45 @@ pub record MeansSame {Position Token Range Value State : Type 0} (m m' : Meaning
   pub puts_back : m.puts_back ↔ m'.puts_back
   pub lean : m.lean ↔ m'.lean
   pub adds : (is : List (Item Token Range)) → m.adds is ↔ m'.adds is
+  pub refuses : SameReasons m.refuses m'.refuses
+  pub refuses_from : (s : State) → SameReasons (m.refuses_from s) (m'.refuses_from s)
+
+-- a refusal that is meant on that view, with such an error
+pub record MeantRefusal {Position Token Value Error : Type 0} (r : Reading Position Token Value) (own : Refusing Position Token Error) (v w : View Position Token) (committed : Bool) (e : Error) : Type 0 where
+  pub meant : r v (Refused committed)
+  pub error : own v w committed e
+
+pub meant_same : {Position Token Value Error : Type 0} (r r' : Reading Position Token Value) (own own' : Refusing Position Token Error) → ((v : View Position Token) (o : Outcome Value) → r v o ↔ r' v o) → SameReasons own own' → SameReasons (MeantRefusal r own) (MeantRefusal r' own')
+meant_same r r' own own' f g v w k e = (
+  λ x. record { meant = (f v (Refused k)).0 x.meant; error = (g v w k e).0 x.error },
+  λ x. record { meant = (f v (Refused k)).1 x.meant; error = (g v w k e).1 x.error },
+)
+
+-- what a parser refuses with where it refuses: from the start
+abbrev pub refusals : {Position Token Range Error Value State : Type 0} → Meaning Position Token Range Error Value State → Refusing Position Token Error
+refusals m = MeantRefusal m.whole m.refuses
+
+-- and from a kept state
+abbrev pub refusals_from : {Position Token Range Error Value State : Type 0} → Meaning Position Token Range Error Value State → State → Refusing Position Token Error
+refusals_from m s = MeantRefusal (m.rest s) (m.refuses_from s)
+
+module _ {Position Token Range Error Value State : Type 0} {m m' : Meaning Position Token Range Error Value State} (h : MeansSame m m') where
+  pub refusals_same : SameReasons (refusals m) (refusals m')
+  refusals_same = meant_same m.whole m'.whole m.refuses m'.refuses h.whole h.refuses
+
+  pub refusals_from_same : (s : State) → SameReasons (refusals_from m s) (refusals_from m' s)
+  refusals_from_same s = meant_same (m.rest s) (m'.rest s) (m.refuses_from s) (m'.refuses_from s) (h.rest s) (h.refuses_from s)
+
+-- a default state refuses as the start
+pub refusals_begin : {Position Token Range Error Value State : Type 0} {fresh valid : State → Type 0} {m : Meaning Position Token Range Error Value State} → IsMeaning fresh valid m → (s : State) → fresh s → SameReasons (refusals_from m s) (refusals m)
+refusals_begin {m = m} h s d = meant_same (m.rest s) m.whole (m.refuses_from s) m.refuses (λ v o. h.start s v o d) (h.reasons s d)
 
 -- the reading that a call begins with
-abbrev pub begun : {Position Token Range Value State : Type 0} → Meaning Position Token Range Value State → Bool → State → Reading Position Token Value
+abbrev pub begun : {Position Token Range Error Value State : Type 0} → Meaning Position Token Range Error Value State → Bool → State → Reading Position Token Value
 begun m true s = m.whole
 begun m false s = m.rest s
+
+-- and the errors of its refusals
+abbrev pub begun_refuses : {Position Token Range Error Value State : Type 0} → Meaning Position Token Range Error Value State → Bool → State → Refusing Position Token Error
+begun_refuses m true s = m.refuses
+begun_refuses m false s = m.refuses_from s

@@ -59,7 +59,7 @@ checked stages.Failed = Err errors.Failed
 abbrev pub counted_from_start : {Token Value : Type 0} → Reading ℕ Token Value → Reading ℕ Token Value
 counted_from_start {Token} {Value} r v o = (p : Outcome Value) × (o ≡ after v.position false p) × r v p
 
-module _ {Parser Token Range Value State : Type 0} (meaning : Parser → Meaning ℕ Token Range Value State) where
+module _ {Parser Token Range Error Value State : Type 0} (meaning : Parser → Meaning ℕ Token Range Error Value State) where
   -- what is left of a session: the outcomes after these further tokens, open or ended
   abbrev pub left : Course Parser Token State → List Token → Bool → Outcome Value → Type 0
   left c x m = counted_from_start ((meaning c.parser).rest c.state) (extended x m c.seen)

@@ -1,61 +1,63 @@
--- which errors the refusals of a sequence have: parts, and then one more
-use Rattle.std.specs.Prelude.{ℕ, ◌≡◌, ◌⊎◌, Bool, true, Option, Some, None}
-use Rattle.combine_base.specs.Error.Errors.{Errors}
-use Rattle.combine_base.specs.Parser.Drivers.{Refusal}
-use Rattle.combine_base.specs.Parser.Meaning.{Meaning, Reading}
-use Rattle.combine_base.specs.Parser.Outcome.{Accepted}
-use Rattle.combine_base.specs.Parser.Reasons.{Begins, Refusing, from_part}
-use Rattle.combine_base.specs.Sequence.Tuples.{followed}
+-- the errors of a part that is run behind others
+use Rattle.std.specs.Prelude.{◌≡◌, ◌⊎◌, ℕ, List, [], ◌∷◌, Bool, true}
+use Rattle.std.proofs.Common.{inl, inr}
+use Rattle.combine_base.specs.Error.Errors.{Errors, Says, Added, Unstored}
+use Rattle.combine_base.specs.Error.Items.{Item}
+use Rattle.combine_base.specs.Parser.Drivers.{AtToken, Refusal}
+use Rattle.combine_base.specs.Parser.Meaning.{Meaning, MeansSame, Reading, Refusing, SameReasons}
+use Rattle.combine_base.specs.Parser.Outcome.{Outcome, Accepted}
 use Rattle.combine_base.specs.Stream.View.{View, advanced}
-use Rattle.combine_base.specs.declared.parser.Parser as parser
-use Rattle.combine_base.specs.declared.sequence.SequencePlace.{SequencePlace}
-use Rattle.combine_base.specs.declared.sequence.SequencePlace.TheVariants.{Before, Last}
-use Rattle.combine_base.specs.declared.sequence.SequenceState.{SequenceState}
 
-module _ {P T R B U E : Type 0} (errors : Errors T R P E) (m : Meaning P T R B U) where
-  -- The last part refused, with such an error of its own: committed, or peeked, and then it was put back to where that part began, and explained. c says whether something was committed to before it.
-  pub record RefusesLast (own : Bool → E → Type 0) (c : Bool) (v : View P T) (committed : Bool) (e : E) : Type 0 where
-    pub is : ((committed ≡ true) × own true e) ⊎ ((committed ≡ c) × Refusal errors m own v v e)
+pub says_into : {T R P E : Type 0} (s : Errors T R P E) (lean lean' : Type 0) (adds adds' : List (Item T R) → Type 0) (e e' : E) → (lean' → lean) → ((is : List (Item T R)) → adds is → adds' is) → Says s lean adds e e' → Says s lean' adds' e e'
+says_into s lean lean' adds adds' e e' f g a = record { is = by_case a.is }
+  where
+    by_case : ((is : List (Item _ _)) × adds is × Added s is e e') ⊎ Unstored s lean e e' → ((is : List (Item _ _)) × adds' is × Added s is e e') ⊎ Unstored s lean' e e'
+    by_case (inl k) = inl (k.0, g k.0 k.1, k.2)
+    by_case (inr u) = inr (record { kind = u.kind; position = u.position; memory = λ i l. u.memory i (f l) })
 
-  -- it was run afresh, or from a default state
-  pub record RefusesBegun (fresh : U → Type 0) (own : Refusing P T U E) (c : Bool) (v : View P T) (committed : Bool) (e : E) : Type 0 where
-    pub at : Option U
-    pub begins : Begins fresh at
-    pub refuses : RefusesLast (own at v) c v committed e
+pub at_token_into : {T R : Type 0} (adds adds' : List (Item T R) → Type 0) → ((is : List (Item T R)) → adds is → adds' is) → (us : List T) (is : List (Item T R)) → AtToken adds us is → AtToken adds' us is
+at_token_into adds adds' g [] is a = g is a
+at_token_into adds adds' g (t ∷ ts) [] a = a
+at_token_into adds adds' g (t ∷ ts) (i ∷ is) a = (a.0, g is a.1)
 
-module _ {P T A E : Type 0} (step : P → T → P) (begun : A → Bool → View P T → Bool → E → Type 0) where
+-- A part refused, with such an error of its own: committed, or peeked, and then it was put back to where it began, and explained. c says whether something was committed to before it.
+pub record RefusesLast {P T R E B U : Type 0} (errors : Errors T R P E) (m : Meaning P T R E B U) (own : Refusing P T E) (c : Bool) (v w : View P T) (committed : Bool) (e : E) : Type 0 where
+  pub is : ((committed ≡ true) × own v w true e) ⊎ ((committed ≡ c) × Refusal errors m own v w e)
+
+module _ {P T R E B U : Type 0} (errors : Errors T R P E) where
+  module _ (m m' : Meaning P T R E B U) (own own' : Refusing P T E) (lean : m'.lean → m.lean) (adds : (is : List (Item T R)) → m.adds is → m'.adds is) (refuses : (v w : View P T) (k : Bool) (e : E) → own v w k e → own' v w k e) where
+    pub refusal_into : (v w : View P T) (e : E) → Refusal errors m own v w e → Refusal errors m' own' v w e
+    refusal_into v w e x = record {
+      own = x.own;
+      left = x.left;
+      refused = refuses v x.left _ x.own x.refused;
+      back = x.back;
+      says = says_into errors m.lean m'.lean (AtToken m.adds v.unread) (AtToken m'.adds v.unread) x.own e lean (at_token_into m.adds m'.adds adds v.unread) x.says;
+    }
+
+    pub last_into : (c : Bool) (v w : View P T) (k : Bool) (e : E) → RefusesLast errors m own c v w k e → RefusesLast errors m' own' c v w k e
+    last_into c v w k e x = record { is = by_case x.is }
+      where
+        by_case : ((k ≡ true) × own v w true e) ⊎ ((k ≡ c) × Refusal errors m own v w e) → ((k ≡ true) × own' v w true e) ⊎ ((k ≡ c) × Refusal errors m' own' v w e)
+        by_case (inl y) = inl (y.0, refuses v w true e y.1)
+        by_case (inr y) = inr (y.0, refusal_into v w e y.1)
+
+  -- parsers that mean the same, with errors of their own that are the same
+  pub last_same : (m m' : Meaning P T R E B U) (own own' : Refusing P T E) → MeansSame m m' → SameReasons own own' → (c : Bool) → SameReasons (RefusesLast errors m own c) (RefusesLast errors m' own' c)
+  last_same m m' own own' h r c v w k e = (
+    last_into m m' own own' h.lean.1 (λ is. (h.adds is).0) (λ v w k e. (r v w k e).0) c v w k e,
+    last_into m' m own' own h.lean.0 (λ is. (h.adds is).1) (λ v w k e. (r v w k e).1) c v w k e,
+  )
+
+module _ {P T A E : Type 0} (step : P → T → P) (behind : A → Bool → Refusing P T E) where
   -- the parts before the last were accepted, and the last refused behind them
-  pub record RefusesBehind (r : Reading P T A) (v : View P T) (committed : Bool) (e : E) : Type 0 where
+  pub record RefusesBehind (r : Reading P T A) (v w : View P T) (committed : Bool) (e : E) : Type 0 where
     pub value : A
     pub count : ℕ
     pub before : Bool
     pub accepted : r v (Accepted value count before)
-    pub refuses : begun value before (advanced step count v) committed e
+    pub refuses : behind value before (advanced step count v) w committed e
 
--- The parts before the last are what m means and refuse so; the last refuses so where it is begun, after a value, committed to or not, and from what is kept of it.
-module _ {P T R A S L Z E : Type 0} (step : P → T → P) (place : Z → SequencePlace S L) (m : Meaning P T R A S) (first : Refusing P T S E) (begun : A → Bool → View P T → Bool → E → Type 0) (kept : L → View P T → Bool → E → Type 0) where
-  abbrev pub refuses_at : Option (SequencePlace S L) → View P T → Bool → E → Type 0
-  refuses_at None v committed e = first None v committed e ⊎ RefusesBehind step begun m.whole v committed e
-  refuses_at (Some (Before s)) v committed e = first (Some s) v committed e ⊎ RefusesBehind step begun (m.rest s) v committed e
-  refuses_at (Some (Last l)) v committed e = kept l v committed e
-
-  -- the error of a sequence's refusal, by where it stands: that of the parts before the last, or that of the last
-  pub record RefusesSequence (from : Option Z) (v : View P T) (committed : Bool) (e : E) : Type 0 where
-    pub is : refuses_at (from_part place from) v committed e
-
--- of parts and one more, which doesn't depend on their value
-abbrev pub refuses_followed : {P T R A B S U Z E : Type 0} → (P → T → P) → Errors T R P E → (Z → SequencePlace S (SequenceState A U)) → (U → Type 0) → Meaning P T R A S → Refusing P T S E → Meaning P T R B U → Refusing P T U E → Refusing P T Z E
-refuses_followed step errors place fresh m first n last =
-    RefusesSequence step place m first (λ a. RefusesBegun errors n fresh last) (λ l v. RefusesLast errors n (last (Some l.state) v) l.committed v)
-
--- what parts mean, and which errors their refusals have
-pub record Parts (P T R A S E : Type 0) : Type 1 where
-  pub meaning : Meaning P T R A S
-  pub refuses : Refusing P T S E
-
--- parts, and then one more
-abbrev pub one_more : {Self Input Checkpoint P T R A B C S U Z E : Type 0} → (P → T → P) → Errors T R P E → (Z → SequencePlace S (SequenceState A U)) → (A → B → C) → (U → Type 0) → parser.Ghosts Self Input U B Checkpoint T R P E → Self → Parts P T R A S E → Parts P T R C Z E
-one_more step errors place f fresh q last before = record {
-  meaning = followed step place f before.meaning (q.meaning last);
-  refuses = refuses_followed step errors place fresh before.meaning before.refuses (q.meaning last) (q.refuses last);
-}
+-- by the outcomes of the parts before it, and by its errors behind them
+pub behind_into : {P T A E : Type 0} (step : P → T → P) (behind behind' : A → Bool → Refusing P T E) (r r' : Reading P T A) → ((v : View P T) (o : Outcome A) → r v o → r' v o) → ((a : A) (c : Bool) (v w : View P T) (k : Bool) (e : E) → behind a c v w k e → behind' a c v w k e) → (v w : View P T) (k : Bool) (e : E) → RefusesBehind step behind r v w k e → RefusesBehind step behind' r' v w k e
+behind_into step behind behind' r r' f g v w k e x = record { value = x.value; count = x.count; before = x.before; accepted = f v _ x.accepted; refuses = g x.value x.before _ w k e x.refuses }

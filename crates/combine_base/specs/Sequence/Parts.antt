@@ -7,7 +7,6 @@ use Rattle.combine_base.specs.Parser.Meaning.{Meaning, MeansSame}
 use Rattle.combine_base.specs.Parser.Answer.{World, Run, Answers, world}
 use Rattle.combine_base.specs.Parser.Drivers.{Explained}
 use Rattle.combine_base.specs.Parser.Judged.{NeedsMore}
-use Rattle.combine_base.specs.Parser.Reasons.{Refusing, kept_from}
 use Rattle.combine_base.specs.declared.stream.Failures.{Failures}
 use Rattle.combine_base.specs.declared.parser.Parser as parser
 use Rattle.combine_base.specs.declared.stream.StreamOnce as stream
@@ -44,26 +43,25 @@ joined_answer c f (PeekOk a) = accepted_as c (f a)
 joined_answer c f (CommitErr e) = CommitErr e
 joined_answer c f (PeekErr t) = refused_as c t
 
--- the last part, which errors it refuses with, and the states of the sequence
-module _ {P T R B C S L U Z E : Type 0} (w : World P T U E) (errors : Errors T R P E) (valid : U → Type 0) (fresh : Z → Type 0) (place : Z → SequencePlace S L) (m : Meaning P T R B U) (own : Refusing P T U E) (c : Bool) (f : B → C) (kept : U → L) (left : Z) (old new : View P T) (before after : Failures) (result : ParseResult C E) where
-  -- The last part was run, afresh or from a state, with c and f for what was before it: the sequence answers what it answered, joined. A peeked refusal was explained.
-  pub record Runs (first : Bool) (state : U) : Type 0 where
+-- the last part and the states of the sequence
+module _ {P T R B C S L U Z E : Type 0} (w : World P T U E) (errors : Errors T R P E) (valid : U → Type 0) (fresh : Z → Type 0) (place : Z → SequencePlace S L) (m : Meaning P T R E B U) (c : Bool) (f : B → C) (kept : U → L) (left : Z) (old new : View P T) (before after : Failures) (result : ParseResult C E) where
+  -- The last part was run from a state, with c and f for what was before it: the sequence answers what it answered, joined. A peeked refusal was explained.
+  pub record Runs (state : U) : Type 0 where
     pub stopped : U
     pub answer : ParseResult B E
     pub answers : Answers w m (run_from state stopped old new before after) answer
-    pub explained : Explained errors m (own (kept_from first state) old) old new answer
+    pub explained : Explained errors m (m.refuses_from state) old new answer
     pub is : result ≡ joined_answer c f answer
     -- need of more keeps the state in which it stopped; every other answer leaves one that begins the sequence
     pub leaves : (NeedsMore w.kind new.is_open answer × (place left ≡ Last (kept stopped)) × valid stopped) ⊎ ((NeedsMore w.kind new.is_open answer → ⊥) × fresh left)
 
   -- from the beginning
   pub record RunsAfresh : Type 0 where
-    pub first : Bool
     pub state : U
     pub afresh : w.fresh state
-    pub runs : Runs first state
+    pub runs : Runs state
 
-module _ {P T R A B C S U Z E : Type 0} (w : World P T U E) (errors : Errors T R P E) (valid : U → Type 0) (fresh : Z → Type 0) (place : Z → SequencePlace S (SequenceState A U)) (f : A → B → C) (m : Meaning P T R B U) (own : Refusing P T U E) (kept : S) (left : Z) (old new : View P T) (before after : Failures) (result : ParseResult C E) where
+module _ {P T R A B C S U Z E : Type 0} (w : World P T U E) (errors : Errors T R P E) (valid : U → Type 0) (fresh : Z → Type 0) (place : Z → SequencePlace S (SequenceState A U)) (f : A → B → C) (m : Meaning P T R E B U) (kept : S) (left : Z) (old new : View P T) (before after : Failures) (result : ParseResult C E) where
   -- the last part was not run
   pub record Stops (same : ParseResult C E) (leaves : Type 0) : Type 0 where
     pub answer : result ≡ same
@@ -72,7 +70,7 @@ module _ {P T R A B C S U Z E : Type 0} (w : World P T U E) (errors : Errors T R
     pub failures : after ≡ before
 
   abbrev pub runs_afresh : A → Bool → Type 0
-  runs_afresh a c = RunsAfresh w errors valid fresh place m own c (f a) (λ s. record { value = a; committed = c; state = s }) left old new before after result
+  runs_afresh a c = RunsAfresh w errors valid fresh place m c (f a) (λ s. record { value = a; committed = c; state = s }) left old new before after result
 
   abbrev pub goes_on : ParseResult A E → Type 0
   goes_on (CommitOk a) = runs_afresh a true
@@ -86,16 +84,16 @@ module _ {P T R A B C S U Z E : Type 0} (w : World P T U E) (errors : Errors T R
 
 -- the parser that is the last part, by its record: what its runs promise, each as one fact
 module _ {Self Input A B C S U Z Checkpoint T R P E : Type 0} (p : parser.Ghosts Self Input U B Checkpoint T R P E) (i : stream.Ghosts Input T R P E) (seen : Errors T R P E) (part_fresh : U → Type 0) (fresh : Z → Type 0) (place : Z → SequencePlace S (SequenceState A U)) (f : A → B → C) (old new : Self) (input left : Input) where
-  -- what a run of the last part promises, in first mode or not
-  pub record CalledLast (first : Bool) (from : SequenceState A U) (state : Z) (result : ParseResult C E) : Type 0 where
+  -- what a run of the last part promises
+  pub record CalledLast (from : SequenceState A U) (state : Z) (result : ParseResult C E) : Type 0 where
     pub lawful : p.lawful new
     pub same : MeansSame (p.meaning old) (p.meaning new)
     pub passes : Passes (i.marks input) (i.marks left) (i.failures input) (i.failures left)
-    pub runs : Runs (world i.step seen i.steady part_fresh) seen p.valid fresh place (p.meaning old) (p.refuses old) from.committed (f from.value) (λ s. record { value = from.value; committed = from.committed; state = s }) state (i.view input) (i.view left) (i.failures input) (i.failures left) result first from.state
+    pub runs : Runs (world i.step seen i.steady part_fresh) seen p.valid fresh place (p.meaning old) from.committed (f from.value) (λ s. record { value = from.value; committed = from.committed; state = s }) state (i.view input) (i.view left) (i.failures input) (i.failures left) result from.state
 
   -- and the rest of a sequence, after the parts before it have answered so and left the state kept
   pub record CalledRest (kept : S) (state : Z) (result : ParseResult C E) (answer : ParseResult A E) : Type 0 where
     pub lawful : p.lawful new
     pub same : MeansSame (p.meaning old) (p.meaning new)
     pub passes : Passes (i.marks input) (i.marks left) (i.failures input) (i.failures left)
-    pub goes_on : GoesOn (world i.step seen i.steady part_fresh) seen p.valid fresh place f (p.meaning old) (p.refuses old) kept state (i.view input) (i.view left) (i.failures input) (i.failures left) result answer
+    pub goes_on : GoesOn (world i.step seen i.steady part_fresh) seen p.valid fresh place f (p.meaning old) kept state (i.view input) (i.view left) (i.failures input) (i.failures left) result answer

@@ -22,8 +22,6 @@ impl<Input: Stream, P: Parser<Input>> Parser<Input> for &mut P {
 
     ghost parts = { λ p. P.parts p.now };
 
-    ghost refuses = { λ p. P.refuses p.now };
-
     ghost default_valid = { P.default_valid };
 
     ghost laws = { λ p h. P.laws p.now h };

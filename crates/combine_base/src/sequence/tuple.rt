@@ -2,7 +2,6 @@
 ghost use Rattle.std.specs.Prelude.{◌≡◌, ◌+◌, false, min, true};
 ghost use Rattle.combine_base.specs.Parser.Meaning.{MeansSame};
 ghost use Rattle.combine_base.specs.Sequence.Places.{begins_valid_1, begins_valid_2, begins_valid_3, begins_valid_4, valid_1, valid_2, valid_3, valid_4};
-ghost use Rattle.combine_base.specs.Sequence.TupleRefusals.{refuses_tuple_1, refuses_tuple_2, refuses_tuple_3, refuses_tuple_4};
 ghost use Rattle.combine_base.specs.Sequence.Tuples.{tuple_1, tuple_1_is_meaning, tuple_1_means_one, tuple_2, tuple_2_is_meaning, tuple_2_means_one, tuple_3, tuple_3_is_meaning, tuple_3_means_one, tuple_4, tuple_4_is_meaning, tuple_4_means_one};
 
 use crate::error::{ErrorOffset, ParseResult, Tracked};
@@ -68,7 +67,7 @@ pub fn parse_1<Input: Stream, A: Parser<Input>, M: ParseMode>(
     requires ready { ⟦<(A,) as Calls<Input>>⟧.ready (record { 0 = a.old }) from }
     requires starts { M.first mode ≡ true → ⟦<State1<Input, A> as Default>⟧.is_default from }
     requires fresh { ⟦<State1<Input, A> as Default>⟧.is_default state.old }
-    ensures called { ⟦<(A,) as Calls<Input>>⟧.called (record { 0 = a.old }) (record { 0 = a.new }) input.old input.new (M.first mode) from state.new result }
+    ensures called { ⟦<(A,) as Calls<Input>>⟧.called (record { 0 = a.old }) (record { 0 = a.new }) input.old input.new false from state.new result }
     ensures part { MeansSame (A.meaning a.old) (A.meaning a.new) }
 {
     let SequenceState {
@@ -104,7 +103,7 @@ pub fn parse_2<Input: Stream, A: Parser<Input>, B: Parser<Input>, M: ParseMode>(
     requires ready { ⟦<(A, B) as Calls<Input>>⟧.ready (a.old, b.old) from }
     requires starts { M.first mode ≡ true → ⟦<State2<Input, A, B> as Default>⟧.is_default from }
     requires fresh { ⟦<State2<Input, A, B> as Default>⟧.is_default state.old }
-    ensures called { ⟦<(A, B) as Calls<Input>>⟧.called (a.old, b.old) (a.new, b.new) input.old input.new (M.first mode) from state.new result }
+    ensures called { ⟦<(A, B) as Calls<Input>>⟧.called (a.old, b.old) (a.new, b.new) input.old input.new false from state.new result }
     ensures parts { MeansSame (A.meaning a.old) (A.meaning a.new) × MeansSame (B.meaning b.old) (B.meaning b.new) }
 {
     match from.into_place() {
@@ -131,7 +130,7 @@ fn parse_3<Input: Stream, A: Parser<Input>, B: Parser<Input>, C: Parser<Input>, 
     requires ready { ⟦<(A, B, C) as Calls<Input>>⟧.ready (a.old, b.old, c.old) from }
     requires starts { M.first mode ≡ true → ⟦<State3<Input, A, B, C> as Default>⟧.is_default from }
     requires fresh { ⟦<State3<Input, A, B, C> as Default>⟧.is_default state.old }
-    ensures { ⟦<(A, B, C) as Calls<Input>>⟧.called (a.old, b.old, c.old) (a.new, b.new, c.new) input.old input.new (M.first mode) from state.new result }
+    ensures { ⟦<(A, B, C) as Calls<Input>>⟧.called (a.old, b.old, c.old) (a.new, b.new, c.new) input.old input.new false from state.new result }
 {
     match from.into_place() {
         SequencePlace::Before(at) => {
@@ -165,7 +164,7 @@ fn parse_4<
     requires ready { ⟦<(A, B, C, D) as Calls<Input>>⟧.ready (a.old, b.old, c.old, d.old) from }
     requires starts { M.first mode ≡ true → ⟦<State4<Input, A, B, C, D> as Default>⟧.is_default from }
     requires fresh { ⟦<State4<Input, A, B, C, D> as Default>⟧.is_default state.old }
-    ensures { ⟦<(A, B, C, D) as Calls<Input>>⟧.called (a.old, b.old, c.old, d.old) (a.new, b.new, c.new, d.new) input.old input.new (M.first mode) from state.new result }
+    ensures { ⟦<(A, B, C, D) as Calls<Input>>⟧.called (a.old, b.old, c.old, d.old) (a.new, b.new, c.new, d.new) input.old input.new false from state.new result }
 {
     match from.into_place() {
         SequencePlace::Before(at) => {
@@ -191,8 +190,6 @@ impl<Input: Stream, A: Parser<Input>> Parser<Input> for (A,) {
     ghost valid = { valid_1 A.valid };
 
     ghost meaning = { λ p. tuple_1 (A.meaning p.0) };
-
-    ghost refuses = { λ p. refuses_tuple_1 (A.refuses p.0) };
 
     ghost parts = { λ p. A.parts p.0 };
 
@@ -237,9 +234,7 @@ impl<Input: Stream, A: Parser<Input>, B: Parser<Input>> Parser<Input> for (A, B)
 
     ghost valid = { valid_2 A.valid B.valid };
 
-    ghost meaning = { λ p. tuple_2 Input.step (A.meaning p.0) (B.meaning p.1) };
-
-    ghost refuses = { λ p. refuses_tuple_2 Input.step Input.Error.seen B.PartialState.is_default A.Parser B.Parser p.0 p.1 };
+    ghost meaning = { λ p. tuple_2 Input.step Input.Error.seen (A.meaning p.0) (B.meaning p.1) };
 
     ghost parts = { λ p. min (A.parts p.0 + B.parts p.1) 255 };
 
@@ -266,9 +261,9 @@ impl<Input: Stream, A: Parser<Input>, B: Parser<Input>> Parser<Input> for (A, B)
 
     ghost default_valid = { begins_valid_2 B.valid A.default_valid };
 
-    ghost laws = { λ p l. tuple_2_is_meaning Input.step (A.laws p.0 l.0) (B.laws p.1 l.1) };
+    ghost laws = { λ p l. tuple_2_is_meaning Input.step Input.Error.seen (A.laws p.0 l.0) (B.laws p.1 l.1) };
 
-    ghost single = { λ p l d. tuple_2_means_one Input.step (A.single p.0 l.0 d.0) (B.single p.1 l.1 d.1) };
+    ghost single = { λ p l d. tuple_2_means_one Input.step Input.Error.seen (A.single p.0 l.0 d.0) (B.single p.1 l.1 d.1) };
 }
 
 impl<Input, A: Outputs<Input>, B: Outputs<Input>, C: Outputs<Input>> Outputs<Input> for (A, B, C) {
@@ -285,9 +280,7 @@ impl<Input: Stream, A: Parser<Input>, B: Parser<Input>, C: Parser<Input>> Parser
 
     ghost valid = { valid_3 A.valid B.valid C.valid };
 
-    ghost meaning = { λ p. tuple_3 Input.step (A.meaning p.0) (B.meaning p.1) (C.meaning p.2) };
-
-    ghost refuses = { λ p. refuses_tuple_3 Input.step Input.Error.seen B.PartialState.is_default C.PartialState.is_default A.Parser B.Parser C.Parser p.0 p.1 p.2 };
+    ghost meaning = { λ p. tuple_3 Input.step Input.Error.seen (A.meaning p.0) (B.meaning p.1) (C.meaning p.2) };
 
     ghost parts = { λ p. min (A.parts p.0 + B.parts p.1 + C.parts p.2) 255 };
 
@@ -325,9 +318,9 @@ impl<Input: Stream, A: Parser<Input>, B: Parser<Input>, C: Parser<Input>> Parser
 
     ghost default_valid = { begins_valid_3 B.valid C.valid A.default_valid };
 
-    ghost laws = { λ p l. tuple_3_is_meaning Input.step (A.laws p.0 l.0) (B.laws p.1 l.1) (C.laws p.2 l.2) };
+    ghost laws = { λ p l. tuple_3_is_meaning Input.step Input.Error.seen (A.laws p.0 l.0) (B.laws p.1 l.1) (C.laws p.2 l.2) };
 
-    ghost single = { λ p l d. tuple_3_means_one Input.step (A.single p.0 l.0 d.0) (B.single p.1 l.1 d.1) (C.single p.2 l.2 d.2) };
+    ghost single = { λ p l d. tuple_3_means_one Input.step Input.Error.seen (A.single p.0 l.0 d.0) (B.single p.1 l.1 d.1) (C.single p.2 l.2 d.2) };
 }
 
 impl<Input, A: Outputs<Input>, B: Outputs<Input>, C: Outputs<Input>, D: Outputs<Input>> Outputs<
@@ -347,9 +340,7 @@ impl<Input: Stream, A: Parser<Input>, B: Parser<Input>, C: Parser<Input>, D: Par
 
     ghost valid = { valid_4 A.valid B.valid C.valid D.valid };
 
-    ghost meaning = { λ p. tuple_4 Input.step (A.meaning p.0) (B.meaning p.1) (C.meaning p.2) (D.meaning p.3) };
-
-    ghost refuses = { λ p. refuses_tuple_4 Input.step Input.Error.seen B.PartialState.is_default C.PartialState.is_default D.PartialState.is_default A.Parser B.Parser C.Parser D.Parser p.0 p.1 p.2 p.3 };
+    ghost meaning = { λ p. tuple_4 Input.step Input.Error.seen (A.meaning p.0) (B.meaning p.1) (C.meaning p.2) (D.meaning p.3) };
 
     ghost parts = { λ p. min (A.parts p.0 + B.parts p.1 + C.parts p.2 + D.parts p.3) 255 };
 
@@ -391,7 +382,7 @@ impl<Input: Stream, A: Parser<Input>, B: Parser<Input>, C: Parser<Input>, D: Par
 
     ghost default_valid = { begins_valid_4 B.valid C.valid D.valid A.default_valid };
 
-    ghost laws = { λ p l. tuple_4_is_meaning Input.step (A.laws p.0 l.0) (B.laws p.1 l.1) (C.laws p.2 l.2) (D.laws p.3 l.3) };
+    ghost laws = { λ p l. tuple_4_is_meaning Input.step Input.Error.seen (A.laws p.0 l.0) (B.laws p.1 l.1) (C.laws p.2 l.2) (D.laws p.3 l.3) };
 
-    ghost single = { λ p l d. tuple_4_means_one Input.step (A.single p.0 l.0 d.0) (B.single p.1 l.1 d.1) (C.single p.2 l.2 d.2) (D.single p.3 l.3 d.3) };
+    ghost single = { λ p l d. tuple_4_means_one Input.step Input.Error.seen (A.single p.0 l.0 d.0) (B.single p.1 l.1 d.1) (C.single p.2 l.2 d.2) (D.single p.3 l.3 d.3) };
 }

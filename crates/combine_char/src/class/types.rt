@@ -3,7 +3,6 @@ ghost use Rattle.std.specs.Prelude.{◌≡◌};
 ghost use Rattle.combine_base.specs.Error.Errors.{Only};
 ghost use Rattle.combine_base.specs.Error.Items.{Expected, Fixed};
 ghost use Rattle.combine_token.specs.OneToken.{of_function, of_function_is_predicate, satisfied, satisfied_is_test, takes_one, takes_one_is_meaning, takes_one_means_one};
-ghost use Rattle.combine_token.specs.Reasons.{RefusesToken};
 
 use crate::class::Class;
 use combine_base::error::{ErrorOffset, Info, ParseError, ParseResult, Tracked};
@@ -33,9 +32,7 @@ impl<Input: Stream, C: Class<Input::Token>> Parser<Input> for InClass<Input, C> 
 
     ghost valid = { λ s. Unit {0} };
 
-    ghost meaning = { λ p. takes_one (satisfied (of_function C.members)) (Unit {0}) (Only (Expected (Fixed C.bytes))) };
-
-    ghost refuses = { λ p k. RefusesToken Input.Error.seen };
+    ghost meaning = { λ p. takes_one Input.Error.seen (satisfied (of_function C.members)) (Unit {0}) (Only (Expected (Fixed C.bytes))) };
 
     ghost parts = { λ p. 1 };
 
@@ -67,7 +64,7 @@ impl<Input: Stream, C: Class<Input::Token>> Parser<Input> for InClass<Input, C> 
 
     ghost default_valid = { λ s d. tt };
 
-    ghost laws = { λ p l. takes_one_is_meaning (satisfied (of_function C.members)) _ _ _ _ };
+    ghost laws = { λ p l. takes_one_is_meaning Input.Error.seen (satisfied (of_function C.members)) _ _ _ _ };
 
-    ghost single = { λ p l d. takes_one_means_one (satisfied (of_function C.members)) _ _ _ (satisfied_is_test _ (of_function_is_predicate C.members)) };
+    ghost single = { λ p l d. takes_one_means_one Input.Error.seen (satisfied (of_function C.members)) _ _ _ (satisfied_is_test _ (of_function_is_predicate C.members)) };
 }

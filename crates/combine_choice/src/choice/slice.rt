@@ -4,11 +4,11 @@ ghost use Rattle.std.specs.List.{All};
 ghost use Rattle.combine_base.specs.Error.Errors.{Says};
 ghost use Rattle.combine_base.specs.Parser.Answer.{Answers, world};
 ghost use Rattle.combine_base.specs.Parser.AnswersCalls.{AnswersCall};
-ghost use Rattle.combine_base.specs.Parser.Meaning.{MeansSame};
-ghost use Rattle.combine_base.specs.Parser.Reasons.{Reasoned, kept_from};
+ghost use Rattle.combine_base.specs.Parser.Meaning.{MeansSame, begun, begun_refuses};
+ghost use Rattle.combine_base.specs.Parser.Reasons.{Reasoned, ReasonedCall};
 ghost use Rattle.combine_base.specs.Stream.Calls.{Passes};
 ghost use Rattle.combine_choice.specs.Chosen.{AllSame, choice_of, slice_valid};
-ghost use Rattle.combine_choice.specs.Merged.{RefusesChoice, tried_refuses};
+ghost use Rattle.combine_choice.specs.Merged.{tried_refuses};
 ghost use Rattle.combine_choice.specs.OneTurn.{NoAlternative, Resumes, Turn};
 
 use super::{ChoiceOutputs, ChoiceParser};
@@ -64,7 +64,7 @@ fn take_turn<Input: Stream, P: Parser<Input>, M: ParseMode>(
     ensures turn { Turn (world Input.step Input.Error.seen Input.steady P.PartialState.is_default) (P.meaning alternative.old)
         SliceState.Peek (λ s. SliceState.At index s)
         (M.first mode) kept state.new (Input.view input.old) (Input.view input.new) (Input.failures input.old) (Input.failures input.new) result }
-    ensures refuses { Reasoned Input.Error.seen.kind (Input.view input.new).is_open (P.refuses alternative.old (kept_from (M.first mode) kept) (Input.view input.old)) result }
+    ensures refuses { ReasonedCall Input.Error.seen (P.meaning alternative.old) (M.first mode) kept (Input.view input.old) (Input.view input.new) result }
 {
     let mut kept = kept;
     let answer = alternative.parse_mode(mode, input, &mut kept);
@@ -94,10 +94,12 @@ fn choose<Input: Stream, P: Parser<Input>, M: ParseMode>(
     ensures same { AllSame P.meaning alternatives.old alternatives.new }
     ensures passes { Passes (Input.marks input.old) (Input.marks input.new) (Input.failures input.old) (Input.failures input.new) }
     ensures answers { Answers (world Input.step Input.Error.seen Input.steady (λ s. s ≡ SliceState.Peek))
-        (choice_of P.meaning alternatives.old)
+        (choice_of Input.Error.seen Input.Position.cmp P.meaning alternatives.old)
         (record { first = false; state = SliceState.At index kept; left = state.new; old = Input.view input.old; new = Input.view input.new; before = Input.failures input.old; after = Input.failures input.new })
         result }
-    ensures refuses { Reasoned Input.Error.seen.kind (Input.view input.new).is_open (tried_refuses Input.Error.seen Input.Position.cmp P.refuses (drop index alternatives.old) (kept_from (M.first mode) kept) (Input.view input.old)) result }
+    ensures refuses { Reasoned Input.Error.seen.kind (Input.view input.new).is_open
+        (tried_refuses Input.Error.seen Input.Position.cmp P.meaning (λ x. begun (P.meaning x) (M.first mode) kept) (λ x. begun_refuses (P.meaning x) (M.first mode) kept) (drop index alternatives.old) (Input.view input.old) (Input.view input.new))
+        result }
 {
     let start = input.checkpoint();
     let position = input.position();
@@ -143,10 +145,12 @@ fn resume<Input: Stream, P: Parser<Input>, M: ParseMode>(
     ensures same { AllSame P.meaning alternatives.old alternatives.new }
     ensures passes { Passes (Input.marks input.old) (Input.marks input.new) (Input.failures input.old) (Input.failures input.new) }
     ensures answers { Answers (world Input.step Input.Error.seen Input.steady (λ s. s ≡ SliceState.Peek))
-        (choice_of P.meaning alternatives.old)
+        (choice_of Input.Error.seen Input.Position.cmp P.meaning alternatives.old)
         (record { first = false; state = SliceState.At index kept; left = state.new; old = Input.view input.old; new = Input.view input.new; before = Input.failures input.old; after = Input.failures input.new })
         result }
-    ensures refuses { Reasoned Input.Error.seen.kind (Input.view input.new).is_open (tried_refuses Input.Error.seen Input.Position.cmp P.refuses (drop index alternatives.old) (kept_from (M.first mode) kept) (Input.view input.old)) result }
+    ensures refuses { Reasoned Input.Error.seen.kind (Input.view input.new).is_open
+        (tried_refuses Input.Error.seen Input.Position.cmp P.meaning (λ x. begun (P.meaning x) (M.first mode) kept) (λ x. begun_refuses (P.meaning x) (M.first mode) kept) (drop index alternatives.old) (Input.view input.old) (Input.view input.new))
+        result }
 {
     choose(alternatives, index, mode, input, kept, state)
 }
@@ -190,10 +194,10 @@ fn parse_slice<Input: Stream, P: Parser<Input>, M: ParseMode>(
     requires valid { slice_valid P.valid state.old }
     ensures lawful { All P.lawful alternatives.new }
     ensures valid { slice_valid P.valid state.new }
-    ensures same { MeansSame (choice_of P.meaning alternatives.old) (choice_of P.meaning alternatives.new) }
+    ensures same { MeansSame (choice_of Input.Error.seen Input.Position.cmp P.meaning alternatives.old) (choice_of Input.Error.seen Input.Position.cmp P.meaning alternatives.new) }
     ensures passes { Passes (Input.marks input.old) (Input.marks input.new) (Input.failures input.old) (Input.failures input.new) }
-    ensures answers { AnswersCall Input.StreamOnce Input.Error.seen (λ s. s ≡ SliceState.Peek) (choice_of P.meaning alternatives.old) (M.first mode) state.old state.new input.old input.new result }
-    ensures refuses { Reasoned Input.Error.seen.kind (Input.view input.new).is_open (RefusesChoice Input.Error.seen Input.Position.cmp P.refuses alternatives.old (kept_from (M.first mode) state.old) (Input.view input.old)) result }
+    ensures answers { AnswersCall Input.StreamOnce Input.Error.seen (λ s. s ≡ SliceState.Peek) (choice_of Input.Error.seen Input.Position.cmp P.meaning alternatives.old) (M.first mode) state.old state.new input.old input.new result }
+    ensures refuses { ReasonedCall Input.Error.seen (choice_of Input.Error.seen Input.Position.cmp P.meaning alternatives.old) (M.first mode) state.old (Input.view input.old) (Input.view input.new) result }
 {
     let kept = replace(state, SliceState::Peek);
     if alternatives.is_empty() {
@@ -224,8 +228,8 @@ fn add_errors<Input: Stream, P: Parser<Input>>(
 )
     requires { All P.lawful alternatives.old }
     ensures lawful { All P.lawful alternatives.new }
-    ensures same { MeansSame (choice_of P.meaning alternatives.old) (choice_of P.meaning alternatives.new) }
-    ensures says { Says Input.Error.seen (choice_of P.meaning alternatives.old).lean (choice_of P.meaning alternatives.old).adds error.old.error error.new.error }
+    ensures same { MeansSame (choice_of Input.Error.seen Input.Position.cmp P.meaning alternatives.old) (choice_of Input.Error.seen Input.Position.cmp P.meaning alternatives.new) }
+    ensures says { Says Input.Error.seen (choice_of Input.Error.seen Input.Position.cmp P.meaning alternatives.old).lean (choice_of Input.Error.seen Input.Position.cmp P.meaning alternatives.old).adds error.old.error error.new.error }
 {
     for at in 0..alternatives.len() {
         alternatives[at].add_error(error);
@@ -240,7 +244,6 @@ impl<'a, Input: Stream, P: Parser<Input>> ChoiceParser<Input> for Slice<'a, P> {
     ghost use Rattle.std.specs.List.{All};
     ghost use Rattle.combine_base.specs.Parser.Meaning.{IsMeaning, MeansOne};
     ghost use Rattle.combine_choice.specs.Chosen.{chosen_is_meaning, chosen_means_one, choice_of, every_all, every_both, slice_valid};
-    ghost use Rattle.combine_choice.specs.Merged.{RefusesChoice};
 
     type PartialState = SliceState<P::PartialState>;
 
@@ -250,15 +253,13 @@ impl<'a, Input: Stream, P: Parser<Input>> ChoiceParser<Input> for Slice<'a, P> {
 
     ghost valid = { slice_valid P.valid };
 
-    ghost meaning = { λ p. choice_of P.meaning p.0.now };
-
-    ghost refuses = { λ p. RefusesChoice Input.Error.seen Input.Position.cmp P.refuses p.0.now };
+    ghost meaning = { λ p. choice_of Input.Error.seen Input.Position.cmp P.meaning p.0.now };
 
     ghost default_valid = { λ s d. rw d tt };
 
-    ghost laws = { λ p l. chosen_is_meaning P.meaning P.PartialState.is_default P.valid p.0.now (every_all P.meaning P.lawful (IsMeaning P.PartialState.is_default P.valid) P.laws p.0.now l) };
+    ghost laws = { λ p l. chosen_is_meaning Input.Error.seen Input.Position.cmp P.meaning P.PartialState.is_default P.valid p.0.now (every_all P.meaning P.lawful (IsMeaning P.PartialState.is_default P.valid) P.laws p.0.now l) };
 
-    ghost single = { λ p l d. chosen_means_one P.meaning P.PartialState.is_default P.valid p.0.now (every_both P.meaning P.lawful P.determined (MeansOne P.valid) P.single p.0.now l d) };
+    ghost single = { λ p l d. chosen_means_one Input.Error.seen Input.Position.cmp P.meaning P.PartialState.is_default P.valid p.0.now (every_both P.meaning P.lawful P.determined (MeansOne P.valid) P.single p.0.now l d) };
 
     #[inline(always)]
     fn parse_mode_choice<M: ParseMode>(
@@ -284,7 +285,6 @@ impl<Input: Stream, P: Parser<Input>, const N: usize> ChoiceParser<Input> for [P
     ghost use Rattle.std.specs.List.{All};
     ghost use Rattle.combine_base.specs.Parser.Meaning.{IsMeaning, MeansOne};
     ghost use Rattle.combine_choice.specs.Chosen.{chosen_is_meaning, chosen_means_one, choice_of, every_all, every_both, slice_valid};
-    ghost use Rattle.combine_choice.specs.Merged.{RefusesChoice};
 
     type PartialState = SliceState<P::PartialState>;
 
@@ -294,15 +294,13 @@ impl<Input: Stream, P: Parser<Input>, const N: usize> ChoiceParser<Input> for [P
 
     ghost valid = { slice_valid P.valid };
 
-    ghost meaning = { λ p. choice_of P.meaning p };
-
-    ghost refuses = { λ p. RefusesChoice Input.Error.seen Input.Position.cmp P.refuses p };
+    ghost meaning = { λ p. choice_of Input.Error.seen Input.Position.cmp P.meaning p };
 
     ghost default_valid = { λ s d. rw d tt };
 
-    ghost laws = { λ p l. chosen_is_meaning P.meaning P.PartialState.is_default P.valid p (every_all P.meaning P.lawful (IsMeaning P.PartialState.is_default P.valid) P.laws p l) };
+    ghost laws = { λ p l. chosen_is_meaning Input.Error.seen Input.Position.cmp P.meaning P.PartialState.is_default P.valid p (every_all P.meaning P.lawful (IsMeaning P.PartialState.is_default P.valid) P.laws p l) };
 
-    ghost single = { λ p l d. chosen_means_one P.meaning P.PartialState.is_default P.valid p (every_both P.meaning P.lawful P.determined (MeansOne P.valid) P.single p l d) };
+    ghost single = { λ p l d. chosen_means_one Input.Error.seen Input.Position.cmp P.meaning P.PartialState.is_default P.valid p (every_both P.meaning P.lawful P.determined (MeansOne P.valid) P.single p l d) };
 
     #[inline(always)]
     fn parse_mode_choice<M: ParseMode>(

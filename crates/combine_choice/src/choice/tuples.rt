@@ -26,8 +26,6 @@ impl<Input: Stream, A: Parser<Input>> ChoiceParser<Input> for (A,) {
 
     ghost meaning = { λ p. A.meaning p.0 };
 
-    ghost refuses = { λ p. A.refuses p.0 };
-
     ghost default_valid = { A.default_valid };
 
     ghost laws = { λ p l. A.laws p.0 l };
@@ -57,7 +55,6 @@ impl<Input: Stream, A: Parser<Input>, B: Parser<Input, Output = A::Output>> Choi
     for (A, B) {
     ghost use Rattle.std.specs.Prelude.{◌≡◌};
     ghost use Rattle.combine_token.specs.Or.{either_of, or_valid};
-    ghost use Rattle.combine_token.specs.Reasons.{RefusesOr};
     ghost use Rattle.combine_token.specs.declared.choice.OrState.TheVariants.{Peek};
     ghost use Rattle.combine_choice.specs.Nested.{nest_laws, nest_one};
 
@@ -69,9 +66,7 @@ impl<Input: Stream, A: Parser<Input>, B: Parser<Input, Output = A::Output>> Choi
 
     ghost valid = { or_valid A.valid B.valid };
 
-    ghost meaning = { λ p. either_of (A.meaning p.0) (B.meaning p.1) };
-
-    ghost refuses = { λ p. RefusesOr Input.Error.seen Input.Position.cmp A.PartialState.is_default B.PartialState.is_default (A.refuses p.0) (B.refuses p.1) };
+    ghost meaning = { λ p. either_of Input.Error.seen Input.Position.cmp (A.meaning p.0) (B.meaning p.1) };
 
     ghost default_valid = { λ s d. rw d tt };
 
@@ -107,7 +102,6 @@ impl<
 > ChoiceParser<Input> for (A, B, C) {
     ghost use Rattle.std.specs.Prelude.{◌≡◌};
     ghost use Rattle.combine_token.specs.Or.{either_of, or_valid};
-    ghost use Rattle.combine_token.specs.Reasons.{RefusesOr};
     ghost use Rattle.combine_token.specs.declared.choice.OrState.TheVariants.{Peek};
     ghost use Rattle.combine_choice.specs.Nested.{nest_laws, nest_one};
 
@@ -119,9 +113,7 @@ impl<
 
     ghost valid = { or_valid A.valid (or_valid B.valid C.valid) };
 
-    ghost meaning = { λ p. either_of (A.meaning p.0) (either_of (B.meaning p.1) (C.meaning p.2)) };
-
-    ghost refuses = { λ p. RefusesOr Input.Error.seen Input.Position.cmp A.PartialState.is_default (λ s. s ≡ Peek) (A.refuses p.0) (RefusesOr Input.Error.seen Input.Position.cmp B.PartialState.is_default C.PartialState.is_default (B.refuses p.1) (C.refuses p.2)) };
+    ghost meaning = { λ p. either_of Input.Error.seen Input.Position.cmp (A.meaning p.0) (either_of Input.Error.seen Input.Position.cmp (B.meaning p.1) (C.meaning p.2)) };
 
     ghost default_valid = { λ s d. rw d tt };
 
@@ -159,7 +151,6 @@ impl<
 > ChoiceParser<Input> for (A, B, C, D) {
     ghost use Rattle.std.specs.Prelude.{◌≡◌};
     ghost use Rattle.combine_token.specs.Or.{either_of, or_valid};
-    ghost use Rattle.combine_token.specs.Reasons.{RefusesOr};
     ghost use Rattle.combine_token.specs.declared.choice.OrState.TheVariants.{Peek};
     ghost use Rattle.combine_choice.specs.Nested.{nest_laws, nest_one};
 
@@ -171,9 +162,7 @@ impl<
 
     ghost valid = { or_valid (or_valid A.valid B.valid) (or_valid C.valid D.valid) };
 
-    ghost meaning = { λ p. either_of (either_of (A.meaning p.0) (B.meaning p.1)) (either_of (C.meaning p.2) (D.meaning p.3)) };
-
-    ghost refuses = { λ p. RefusesOr Input.Error.seen Input.Position.cmp (λ s. s ≡ Peek) (λ s. s ≡ Peek) (RefusesOr Input.Error.seen Input.Position.cmp A.PartialState.is_default B.PartialState.is_default (A.refuses p.0) (B.refuses p.1)) (RefusesOr Input.Error.seen Input.Position.cmp C.PartialState.is_default D.PartialState.is_default (C.refuses p.2) (D.refuses p.3)) };
+    ghost meaning = { λ p. either_of Input.Error.seen Input.Position.cmp (either_of Input.Error.seen Input.Position.cmp (A.meaning p.0) (B.meaning p.1)) (either_of Input.Error.seen Input.Position.cmp (C.meaning p.2) (D.meaning p.3)) };
 
     ghost default_valid = { λ s d. rw d tt };
 
@@ -221,7 +210,6 @@ impl<
 > ChoiceParser<Input> for (A, B, C, D, E) {
     ghost use Rattle.std.specs.Prelude.{◌≡◌};
     ghost use Rattle.combine_token.specs.Or.{either_of, or_valid};
-    ghost use Rattle.combine_token.specs.Reasons.{RefusesOr};
     ghost use Rattle.combine_token.specs.declared.choice.OrState.TheVariants.{Peek};
     ghost use Rattle.combine_choice.specs.Nested.{nest_laws, nest_one};
 
@@ -233,9 +221,7 @@ impl<
 
     ghost valid = { or_valid A.valid (or_valid (or_valid B.valid C.valid) (or_valid D.valid E.valid)) };
 
-    ghost meaning = { λ p. either_of (A.meaning p.0) (either_of (either_of (B.meaning p.1) (C.meaning p.2)) (either_of (D.meaning p.3) (E.meaning p.4))) };
-
-    ghost refuses = { λ p. RefusesOr Input.Error.seen Input.Position.cmp A.PartialState.is_default (λ s. s ≡ Peek) (A.refuses p.0) (RefusesOr Input.Error.seen Input.Position.cmp (λ s. s ≡ Peek) (λ s. s ≡ Peek) (RefusesOr Input.Error.seen Input.Position.cmp B.PartialState.is_default C.PartialState.is_default (B.refuses p.1) (C.refuses p.2)) (RefusesOr Input.Error.seen Input.Position.cmp D.PartialState.is_default E.PartialState.is_default (D.refuses p.3) (E.refuses p.4))) };
+    ghost meaning = { λ p. either_of Input.Error.seen Input.Position.cmp (A.meaning p.0) (either_of Input.Error.seen Input.Position.cmp (either_of Input.Error.seen Input.Position.cmp (B.meaning p.1) (C.meaning p.2)) (either_of Input.Error.seen Input.Position.cmp (D.meaning p.3) (E.meaning p.4))) };
 
     ghost default_valid = { λ s d. rw d tt };
 
@@ -286,7 +272,6 @@ impl<
 > ChoiceParser<Input> for (A, B, C, D, E, F) {
     ghost use Rattle.std.specs.Prelude.{◌≡◌};
     ghost use Rattle.combine_token.specs.Or.{either_of, or_valid};
-    ghost use Rattle.combine_token.specs.Reasons.{RefusesOr};
     ghost use Rattle.combine_token.specs.declared.choice.OrState.TheVariants.{Peek};
     ghost use Rattle.combine_choice.specs.Nested.{nest_laws, nest_one};
 
@@ -298,9 +283,7 @@ impl<
 
     ghost valid = { or_valid (or_valid A.valid B.valid) (or_valid (or_valid C.valid D.valid) (or_valid E.valid F.valid)) };
 
-    ghost meaning = { λ p. either_of (either_of (A.meaning p.0) (B.meaning p.1)) (either_of (either_of (C.meaning p.2) (D.meaning p.3)) (either_of (E.meaning p.4) (F.meaning p.5))) };
-
-    ghost refuses = { λ p. RefusesOr Input.Error.seen Input.Position.cmp (λ s. s ≡ Peek) (λ s. s ≡ Peek) (RefusesOr Input.Error.seen Input.Position.cmp A.PartialState.is_default B.PartialState.is_default (A.refuses p.0) (B.refuses p.1)) (RefusesOr Input.Error.seen Input.Position.cmp (λ s. s ≡ Peek) (λ s. s ≡ Peek) (RefusesOr Input.Error.seen Input.Position.cmp C.PartialState.is_default D.PartialState.is_default (C.refuses p.2) (D.refuses p.3)) (RefusesOr Input.Error.seen Input.Position.cmp E.PartialState.is_default F.PartialState.is_default (E.refuses p.4) (F.refuses p.5))) };
+    ghost meaning = { λ p. either_of Input.Error.seen Input.Position.cmp (either_of Input.Error.seen Input.Position.cmp (A.meaning p.0) (B.meaning p.1)) (either_of Input.Error.seen Input.Position.cmp (either_of Input.Error.seen Input.Position.cmp (C.meaning p.2) (D.meaning p.3)) (either_of Input.Error.seen Input.Position.cmp (E.meaning p.4) (F.meaning p.5))) };
 
     ghost default_valid = { λ s d. rw d tt };
 
@@ -354,7 +337,6 @@ impl<
 > ChoiceParser<Input> for (A, B, C, D, E, F, G) {
     ghost use Rattle.std.specs.Prelude.{◌≡◌};
     ghost use Rattle.combine_token.specs.Or.{either_of, or_valid};
-    ghost use Rattle.combine_token.specs.Reasons.{RefusesOr};
     ghost use Rattle.combine_token.specs.declared.choice.OrState.TheVariants.{Peek};
     ghost use Rattle.combine_choice.specs.Nested.{nest_laws, nest_one};
 
@@ -366,9 +348,7 @@ impl<
 
     ghost valid = { or_valid (or_valid A.valid (or_valid B.valid C.valid)) (or_valid (or_valid D.valid E.valid) (or_valid F.valid G.valid)) };
 
-    ghost meaning = { λ p. either_of (either_of (A.meaning p.0) (either_of (B.meaning p.1) (C.meaning p.2))) (either_of (either_of (D.meaning p.3) (E.meaning p.4)) (either_of (F.meaning p.5) (G.meaning p.6))) };
-
-    ghost refuses = { λ p. RefusesOr Input.Error.seen Input.Position.cmp (λ s. s ≡ Peek) (λ s. s ≡ Peek) (RefusesOr Input.Error.seen Input.Position.cmp A.PartialState.is_default (λ s. s ≡ Peek) (A.refuses p.0) (RefusesOr Input.Error.seen Input.Position.cmp B.PartialState.is_default C.PartialState.is_default (B.refuses p.1) (C.refuses p.2))) (RefusesOr Input.Error.seen Input.Position.cmp (λ s. s ≡ Peek) (λ s. s ≡ Peek) (RefusesOr Input.Error.seen Input.Position.cmp D.PartialState.is_default E.PartialState.is_default (D.refuses p.3) (E.refuses p.4)) (RefusesOr Input.Error.seen Input.Position.cmp F.PartialState.is_default G.PartialState.is_default (F.refuses p.5) (G.refuses p.6))) };
+    ghost meaning = { λ p. either_of Input.Error.seen Input.Position.cmp (either_of Input.Error.seen Input.Position.cmp (A.meaning p.0) (either_of Input.Error.seen Input.Position.cmp (B.meaning p.1) (C.meaning p.2))) (either_of Input.Error.seen Input.Position.cmp (either_of Input.Error.seen Input.Position.cmp (D.meaning p.3) (E.meaning p.4)) (either_of Input.Error.seen Input.Position.cmp (F.meaning p.5) (G.meaning p.6))) };
 
     ghost default_valid = { λ s d. rw d tt };
 
@@ -426,7 +406,6 @@ impl<
 > ChoiceParser<Input> for (A, B, C, D, E, F, G, H) {
     ghost use Rattle.std.specs.Prelude.{◌≡◌};
     ghost use Rattle.combine_token.specs.Or.{either_of, or_valid};
-    ghost use Rattle.combine_token.specs.Reasons.{RefusesOr};
     ghost use Rattle.combine_token.specs.declared.choice.OrState.TheVariants.{Peek};
     ghost use Rattle.combine_choice.specs.Nested.{nest_laws, nest_one};
 
@@ -438,9 +417,7 @@ impl<
 
     ghost valid = { or_valid (or_valid (or_valid A.valid B.valid) (or_valid C.valid D.valid)) (or_valid (or_valid E.valid F.valid) (or_valid G.valid H.valid)) };
 
-    ghost meaning = { λ p. either_of (either_of (either_of (A.meaning p.0) (B.meaning p.1)) (either_of (C.meaning p.2) (D.meaning p.3))) (either_of (either_of (E.meaning p.4) (F.meaning p.5)) (either_of (G.meaning p.6) (H.meaning p.7))) };
-
-    ghost refuses = { λ p. RefusesOr Input.Error.seen Input.Position.cmp (λ s. s ≡ Peek) (λ s. s ≡ Peek) (RefusesOr Input.Error.seen Input.Position.cmp (λ s. s ≡ Peek) (λ s. s ≡ Peek) (RefusesOr Input.Error.seen Input.Position.cmp A.PartialState.is_default B.PartialState.is_default (A.refuses p.0) (B.refuses p.1)) (RefusesOr Input.Error.seen Input.Position.cmp C.PartialState.is_default D.PartialState.is_default (C.refuses p.2) (D.refuses p.3))) (RefusesOr Input.Error.seen Input.Position.cmp (λ s. s ≡ Peek) (λ s. s ≡ Peek) (RefusesOr Input.Error.seen Input.Position.cmp E.PartialState.is_default F.PartialState.is_default (E.refuses p.4) (F.refuses p.5)) (RefusesOr Input.Error.seen Input.Position.cmp G.PartialState.is_default H.PartialState.is_default (G.refuses p.6) (H.refuses p.7))) };
+    ghost meaning = { λ p. either_of Input.Error.seen Input.Position.cmp (either_of Input.Error.seen Input.Position.cmp (either_of Input.Error.seen Input.Position.cmp (A.meaning p.0) (B.meaning p.1)) (either_of Input.Error.seen Input.Position.cmp (C.meaning p.2) (D.meaning p.3))) (either_of Input.Error.seen Input.Position.cmp (either_of Input.Error.seen Input.Position.cmp (E.meaning p.4) (F.meaning p.5)) (either_of Input.Error.seen Input.Position.cmp (G.meaning p.6) (H.meaning p.7))) };
 
     ghost default_valid = { λ s d. rw d tt };
 

@@ -68,7 +68,7 @@ impl<
     B: Parser<Input, Output = A::Output>,
     C: Parser<Input, Output = A::Output>,
 > Parser<Input> for Dispatch3<A, B, C> {
-    ghost use Rattle.combine_choice_dispatch.specs.Variants3.{each_3, each_3_into, variant_3, variant_3_is_meaning, variant_3_means_one, variant_3_refuses};
+    ghost use Rattle.combine_choice_dispatch.specs.Variants3.{each_3, each_3_into, variant_3, variant_3_is_meaning, variant_3_means_one};
 
     type PartialState = Dispatch3<A::PartialState, B::PartialState, C::PartialState>;
 
@@ -79,8 +79,6 @@ impl<
     ghost valid = { each_3 A.valid B.valid C.valid };
 
     ghost meaning = { variant_3 A.meaning B.meaning C.meaning };
-
-    ghost refuses = { variant_3_refuses A.PartialState.is_default B.PartialState.is_default C.PartialState.is_default A.refuses B.refuses C.refuses };
 
     ghost parts = { λ p. 1 };
 

@@ -80,7 +80,7 @@ impl<
     C: Parser<Input, Output = A::Output>,
     D: Parser<Input, Output = A::Output>,
 > Parser<Input> for Dispatch4<A, B, C, D> {
-    ghost use Rattle.combine_choice_dispatch.specs.Variants4.{each_4, each_4_into, variant_4, variant_4_is_meaning, variant_4_means_one, variant_4_refuses};
+    ghost use Rattle.combine_choice_dispatch.specs.Variants4.{each_4, each_4_into, variant_4, variant_4_is_meaning, variant_4_means_one};
 
     type PartialState = Dispatch4<
         A::PartialState,
@@ -96,8 +96,6 @@ impl<
     ghost valid = { each_4 A.valid B.valid C.valid D.valid };
 
     ghost meaning = { variant_4 A.meaning B.meaning C.meaning D.meaning };
-
-    ghost refuses = { variant_4_refuses A.PartialState.is_default B.PartialState.is_default C.PartialState.is_default D.PartialState.is_default A.refuses B.refuses C.refuses D.refuses };
 
     ghost parts = { λ p. 1 };
 

@@ -93,7 +93,7 @@ impl<
     D: Parser<Input, Output = A::Output>,
     E: Parser<Input, Output = A::Output>,
 > Parser<Input> for Dispatch5<A, B, C, D, E> {
-    ghost use Rattle.combine_choice_dispatch.specs.Variants5.{each_5, each_5_into, variant_5, variant_5_is_meaning, variant_5_means_one, variant_5_refuses};
+    ghost use Rattle.combine_choice_dispatch.specs.Variants5.{each_5, each_5_into, variant_5, variant_5_is_meaning, variant_5_means_one};
 
     type PartialState = Dispatch5<
         A::PartialState,
@@ -110,8 +110,6 @@ impl<
     ghost valid = { each_5 A.valid B.valid C.valid D.valid E.valid };
 
     ghost meaning = { variant_5 A.meaning B.meaning C.meaning D.meaning E.meaning };
-
-    ghost refuses = { variant_5_refuses A.PartialState.is_default B.PartialState.is_default C.PartialState.is_default D.PartialState.is_default E.PartialState.is_default A.refuses B.refuses C.refuses D.refuses E.refuses };
 
     ghost parts = { λ p. 1 };
 

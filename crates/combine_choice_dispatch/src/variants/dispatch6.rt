@@ -129,7 +129,7 @@ impl<
     E: Parser<Input, Output = A::Output>,
     F: Parser<Input, Output = A::Output>,
 > Parser<Input> for Dispatch6<A, B, C, D, E, F> {
-    ghost use Rattle.combine_choice_dispatch.specs.Variants6.{each_6, each_6_into, variant_6, variant_6_is_meaning, variant_6_means_one, variant_6_refuses};
+    ghost use Rattle.combine_choice_dispatch.specs.Variants6.{each_6, each_6_into, variant_6, variant_6_is_meaning, variant_6_means_one};
 
     type PartialState = Dispatch6<
         A::PartialState,
@@ -147,8 +147,6 @@ impl<
     ghost valid = { each_6 A.valid B.valid C.valid D.valid E.valid F.valid };
 
     ghost meaning = { variant_6 A.meaning B.meaning C.meaning D.meaning E.meaning F.meaning };
-
-    ghost refuses = { variant_6_refuses A.PartialState.is_default B.PartialState.is_default C.PartialState.is_default D.PartialState.is_default E.PartialState.is_default F.PartialState.is_default A.refuses B.refuses C.refuses D.refuses E.refuses F.refuses };
 
     ghost parts = { λ p. 1 };
 

@@ -152,7 +152,7 @@ impl<
     F: Parser<Input, Output = A::Output>,
     G: Parser<Input, Output = A::Output>,
 > Parser<Input> for Dispatch7<A, B, C, D, E, F, G> {
-    ghost use Rattle.combine_choice_dispatch.specs.Variants7.{each_7, each_7_into, variant_7, variant_7_is_meaning, variant_7_means_one, variant_7_refuses};
+    ghost use Rattle.combine_choice_dispatch.specs.Variants7.{each_7, each_7_into, variant_7, variant_7_is_meaning, variant_7_means_one};
 
     type PartialState = Dispatch7<
         A::PartialState,
@@ -171,8 +171,6 @@ impl<
     ghost valid = { each_7 A.valid B.valid C.valid D.valid E.valid F.valid G.valid };
 
     ghost meaning = { variant_7 A.meaning B.meaning C.meaning D.meaning E.meaning F.meaning G.meaning };
-
-    ghost refuses = { variant_7_refuses A.PartialState.is_default B.PartialState.is_default C.PartialState.is_default D.PartialState.is_default E.PartialState.is_default F.PartialState.is_default G.PartialState.is_default A.refuses B.refuses C.refuses D.refuses E.refuses F.refuses G.refuses };
 
     ghost parts = { λ p. 1 };
 

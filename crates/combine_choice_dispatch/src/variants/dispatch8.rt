@@ -195,7 +195,7 @@ impl<
     G: Parser<Input, Output = A::Output>,
     H: Parser<Input, Output = A::Output>,
 > Parser<Input> for Dispatch8<A, B, C, D, E, F, G, H> {
-    ghost use Rattle.combine_choice_dispatch.specs.Variants8.{each_8, each_8_into, variant_8, variant_8_is_meaning, variant_8_means_one, variant_8_refuses};
+    ghost use Rattle.combine_choice_dispatch.specs.Variants8.{each_8, each_8_into, variant_8, variant_8_is_meaning, variant_8_means_one};
 
     type PartialState = Dispatch8<
         A::PartialState,
@@ -215,8 +215,6 @@ impl<
     ghost valid = { each_8 A.valid B.valid C.valid D.valid E.valid F.valid G.valid H.valid };
 
     ghost meaning = { variant_8 A.meaning B.meaning C.meaning D.meaning E.meaning F.meaning G.meaning H.meaning };
-
-    ghost refuses = { variant_8_refuses A.PartialState.is_default B.PartialState.is_default C.PartialState.is_default D.PartialState.is_default E.PartialState.is_default F.PartialState.is_default G.PartialState.is_default H.PartialState.is_default A.refuses B.refuses C.refuses D.refuses E.refuses F.refuses G.refuses H.refuses };
 
     ghost parts = { λ p. 1 };
 

@@ -53,7 +53,7 @@ impl<Input, L: Outputs<Input>, R> Outputs<Input> for Either<L, R> {
 
 impl<Input: Stream, L: Parser<Input>, R: Parser<Input, Output = L::Output>> Parser<Input>
     for Either<L, R> {
-    ghost use Rattle.combine_choice_dispatch.specs.Variants2.{each_2, each_2_into, variant_2, variant_2_is_meaning, variant_2_means_one, variant_2_refuses};
+    ghost use Rattle.combine_choice_dispatch.specs.Variants2.{each_2, each_2_into, variant_2, variant_2_is_meaning, variant_2_means_one};
 
     type PartialState = Either<L::PartialState, R::PartialState>;
 
@@ -64,8 +64,6 @@ impl<Input: Stream, L: Parser<Input>, R: Parser<Input, Output = L::Output>> Pars
     ghost valid = { each_2 L.valid R.valid };
 
     ghost meaning = { variant_2 L.meaning R.meaning };
-
-    ghost refuses = { variant_2_refuses L.PartialState.is_default R.PartialState.is_default L.refuses R.refuses };
 
     ghost parts = { λ p. 1 };
 

@@ -1,5 +1,5 @@
 //! Parsers whose calls each begin again: their outcome is read off that of their part, which keeps no state.
-ghost use Rattle.std.specs.Prelude.{◌≡◌, None};
+ghost use Rattle.std.specs.Prelude.{◌≡◌};
 ghost use Rattle.combine_base.specs.Error.Errors.{Nothing};
 ghost use Rattle.combine_base.specs.Stream.Calls.{Passes};
 ghost use Rattle.combine_combinator.specs.Backs.{PutBackFor, RefusesFollowed};
@@ -53,17 +53,15 @@ impl<Input: Stream, P: Parser<Input>> Parser<Input> for LookAhead<P> {
 
     ghost valid = { λ _. Unit {0} };
 
-    ghost meaning = { λ p. by_table looks (P.meaning (look_part p)) (P.meaning (look_part p)).adds };
-
-    ghost refuses = { λ p k. P.refuses (look_part p) None };
+    ghost meaning = { λ p. by_table looks (P.meaning (look_part p)) (P.meaning (look_part p)).adds (P.meaning (look_part p)).refuses };
 
     ghost parts = { λ p. P.parts (look_part p) };
 
     ghost default_valid = { λ s d. tt };
 
-    ghost laws = { λ p l. table_is_meaning looks looks_is_table _ _ (P.meaning (look_part p)).adds (P.laws (look_part p) l) };
+    ghost laws = { λ p l. table_is_meaning looks looks_is_table _ _ (P.meaning (look_part p)).adds (P.meaning (look_part p)).refuses (P.laws (look_part p) l) };
 
-    ghost single = { λ p l d. table_means_one looks looks_is_table _ (P.meaning (look_part p)).adds (P.single (look_part p) l d) };
+    ghost single = { λ p l d. table_means_one looks looks_is_table _ (P.meaning (look_part p)).adds (P.meaning (look_part p)).refuses (P.single (look_part p) l d) };
 
     #[inline]
     fn parse_mode<M: ParseMode>(
@@ -117,17 +115,15 @@ impl<Input: Stream, P: Parser<Input>> Parser<Input> for NotFollowedBy<P> {
 
     ghost valid = { λ _. Unit {0} };
 
-    ghost meaning = { λ p. by_table is_not (P.meaning (denied_part p)) Nothing };
-
-    ghost refuses = { λ p k. RefusesFollowed Input.Error.seen };
+    ghost meaning = { λ p. by_table is_not (P.meaning (denied_part p)) Nothing (RefusesFollowed Input.Error.seen) };
 
     ghost parts = { λ p. P.parts (denied_part p) };
 
     ghost default_valid = { λ s d. tt };
 
-    ghost laws = { λ p l. table_is_meaning is_not not_is_table _ _ Nothing (P.laws (denied_part p) l) };
+    ghost laws = { λ p l. table_is_meaning is_not not_is_table _ _ Nothing (RefusesFollowed Input.Error.seen) (P.laws (denied_part p) l) };
 
-    ghost single = { λ p l d. table_means_one is_not not_is_table _ Nothing (P.single (denied_part p) l d) };
+    ghost single = { λ p l d. table_means_one is_not not_is_table _ Nothing (RefusesFollowed Input.Error.seen) (P.single (denied_part p) l d) };
 
     #[inline]
     fn parse_mode<M: ParseMode>(
@@ -196,17 +192,15 @@ impl<Input: Stream, P: Parser<Input>> Parser<Input> for NoPartial<P> {
 
     ghost valid = { λ _. Unit {0} };
 
-    ghost meaning = { λ p. by_table stays (P.meaning (whole_part p)) (P.meaning (whole_part p)).adds };
-
-    ghost refuses = { λ p k. P.refuses (whole_part p) None };
+    ghost meaning = { λ p. by_table stays (P.meaning (whole_part p)) (P.meaning (whole_part p)).adds (P.meaning (whole_part p)).refuses };
 
     ghost parts = { λ p. P.parts (whole_part p) };
 
     ghost default_valid = { λ s d. tt };
 
-    ghost laws = { λ p l. table_is_meaning stays stays_is_table _ _ (P.meaning (whole_part p)).adds (P.laws (whole_part p) l) };
+    ghost laws = { λ p l. table_is_meaning stays stays_is_table _ _ (P.meaning (whole_part p)).adds (P.meaning (whole_part p)).refuses (P.laws (whole_part p) l) };
 
-    ghost single = { λ p l d. table_means_one stays stays_is_table _ (P.meaning (whole_part p)).adds (P.single (whole_part p) l d) };
+    ghost single = { λ p l d. table_means_one stays stays_is_table _ (P.meaning (whole_part p)).adds (P.meaning (whole_part p)).refuses (P.single (whole_part p) l d) };
 
     #[inline]
     fn parse_mode<M: ParseMode>(

@@ -1,6 +1,6 @@
 //! The parsers that the functions of `combinator` answer.
 ghost use Rattle.std.specs.Prelude.{◌≡◌};
-ghost use Rattle.combine_combinator.specs.Attempt.{HasValid, attempt_refuses, attempted, attempted_is_meaning, attempted_means_one, losing, refusing};
+ghost use Rattle.combine_combinator.specs.Attempt.{HasValid, attempted, attempted_is_meaning, attempted_means_one, losing, refusing};
 ghost use Rattle.combine_combinator.specs.Parsers.{attempt_part, map_function, map_of, map_part};
 ghost use Rattle.combine_combinator.specs.PutBack.{KeepsDistance, PutsBack};
 ghost use Rattle.combine_base.specs.Parser.Given.{GivesOnly};
@@ -59,8 +59,6 @@ impl<Input: Stream, P: Parser<Input>, B: Drop, F: Maps<P::Output, B>> Parser<Inp
 
     ghost parts = { λ p. P.parts (map_part p) };
 
-    ghost refuses = { λ p. P.refuses (map_part p) };
-
     ghost default_valid = { P.default_valid };
 
     ghost laws = { λ p l. mapped_is_meaning P.PartialState.is_default P.valid (P.meaning (map_part p)) (F.answers (map_function p)) (P.laws (map_part p) l.0) };
@@ -115,8 +113,6 @@ impl<Input: Stream, P: Parser<Input>> Parser<Input> for Try<P> {
     ghost meaning = { λ p. attempted Input.step (P.meaning (attempt_part p)) };
 
     ghost parts = { λ p. P.parts (attempt_part p) };
-
-    ghost refuses = { λ p. attempt_refuses Input.step (P.refuses (attempt_part p)) };
 
     ghost default_valid = { λ s d. P.default_valid _ d.1 };
 

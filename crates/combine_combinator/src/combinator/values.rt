@@ -95,8 +95,6 @@ impl<Input: Stream, P: Parser<Input>, B: Drop, W: Pick<P::Output, Output = B>> P
 
     ghost parts = { λ p. W.counted (P.parts (picked_part p)) };
 
-    ghost refuses = { λ p. P.refuses (picked_part p) };
-
     ghost default_valid = { P.default_valid };
 
     ghost laws = { λ p l. mapped_is_meaning P.PartialState.is_default P.valid (P.meaning (picked_part p)) (Picks W.picked) (P.laws (picked_part p) l) };

@@ -3,7 +3,7 @@ ghost use Rattle.std.specs.Prelude.{◌≡◌, MatchResult};
 ghost use Rattle.combine_base.specs.Error.Errors.{Only};
 ghost use Rattle.combine_base.specs.Error.Items.{Unexpected as SaysUnexpected, shown};
 ghost use Rattle.combine_token.specs.ListAnswers.{NoText};
-ghost use Rattle.combine_combinator_function.specs.Refusing.{RefusesThere, refuses_all, refuses_all_is_meaning, refuses_all_means_one, unexpected_info};
+ghost use Rattle.combine_combinator_function.specs.Refusing.{refuses_all, refuses_all_is_meaning, refuses_all_means_one, unexpected_info};
 
 use combine_base::error::{ErrorOffset, Info, ParseError, ParseResult, Tracked};
 use combine_base::parser::{Outputs, ParseMode, Parser};
@@ -60,9 +60,7 @@ impl<Input: Stream, V: Drop> Parser<Input>
 
     ghost valid = { λ s. Unit {0} };
 
-    ghost meaning = { λ p. refuses_all (Only (SaysUnexpected (shown (unexpected_info p)))) };
-
-    ghost refuses = { λ p k. RefusesThere Input.Error.seen };
+    ghost meaning = { λ p. refuses_all Input.Error.seen (Only (SaysUnexpected (shown (unexpected_info p)))) };
 
     ghost parts = { λ p. 1 };
 
@@ -89,7 +87,7 @@ impl<Input: Stream, V: Drop> Parser<Input>
 
     ghost default_valid = { λ s d. tt };
 
-    ghost laws = { λ p l. refuses_all_is_meaning _ _ _ };
+    ghost laws = { λ p l. refuses_all_is_meaning _ _ _ _ };
 
-    ghost single = { λ p l d. refuses_all_means_one _ _ };
+    ghost single = { λ p l d. refuses_all_means_one _ _ _ };
 }

@@ -2,7 +2,7 @@
 ghost use Rattle.std.specs.Prelude.{◌≡◌, IfOk, IfErr};
 ghost use Rattle.combine_base.specs.Error.Results.{from_standard};
 ghost use Rattle.combine_base.specs.Parser.Meaning.{IsSingle};
-ghost use Rattle.combine_combinator_function.specs.Functions.{AnswersAt, AnswersWith, FunctionReading, IsFunction, NeedsNoMemory, RefusesCalled, as_function, as_function_is_meaning, as_function_means_one, call_of};
+ghost use Rattle.combine_combinator_function.specs.Functions.{AnswersAt, AnswersWith, FunctionReading, IsFunction, NeedsNoMemory, as_function, as_function_is_meaning, as_function_means_one, call_of};
 
 use combine_base::error::{ErrorOffset, ParseResult, StdParseResult, Tracked};
 use combine_base::parser::{Outputs, ParseMode, Parser};
@@ -110,8 +110,6 @@ impl<Input: Stream, C: Call<Input>> Parser<Input> for Called<Input, C> {
     ghost valid = { λ s. Unit {0} };
 
     ghost meaning = { λ p. as_function Input.step Input.Error.seen.kind Input.view (C.answers (call_of p)) (C.infallible (call_of p) × NeedsNoMemory Input.step Input.Error.seen.kind Input.view (C.answers (call_of p))) };
-
-    ghost refuses = { λ p k. RefusesCalled Input.view (C.answers (call_of p)) };
 
     ghost parts = { λ p. 1 };
 

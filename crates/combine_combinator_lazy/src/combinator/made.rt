@@ -46,7 +46,7 @@ pub fn run_made<Input: Stream, N: Parser<Input> + Drop, M: ParseMode>(
     requires ready { ⟦<N as Calls<Input>>⟧.ready from.parser from.state }
     requires starts { M.first mode ≡ true → N.PartialState.is_default from.state }
     requires fresh { state.old ≡ MadeState.Unmade }
-    ensures { CalledMade N.Parser Input.StreamOnce Input.Error.seen N.PartialState.is_default (M.first mode) input.old input.new from state.new result }
+    ensures { CalledMade N.Parser Input.StreamOnce Input.Error.seen N.PartialState.is_default input.old input.new from state.new result }
 {
     let Made {
         mut parser,
@@ -80,7 +80,7 @@ pub fn resume_made<Input: Stream, N: Parser<Input> + Drop, M: ParseMode>(
     requires ready { ⟦<N as Calls<Input>>⟧.ready from.parser from.state }
     requires starts { M.first mode ≡ true → N.PartialState.is_default from.state }
     requires fresh { state.old ≡ MadeState.Unmade }
-    ensures { CalledMade N.Parser Input.StreamOnce Input.Error.seen N.PartialState.is_default (M.first mode) input.old input.new from state.new result }
+    ensures { CalledMade N.Parser Input.StreamOnce Input.Error.seen N.PartialState.is_default input.old input.new from state.new result }
 {
     run_made(mode, input, from, state)
 }
@@ -110,7 +110,7 @@ pub fn make_and_run<Input: Stream, N: Parser<Input> + Drop, F: Fn(&mut Input) ->
     requires in_place { InPlace Input.view Input.marks Input.failures (λ i n l. F.post maker.now i n l) }
     requires lawful { (n : N) → MadeAt Input.view (λ i n l. F.post maker.now i n l) (Input.view input.old) n → N.lawful n }
     requires fresh { state.old ≡ MadeState.Unmade }
-    ensures { RunsMade N.Parser Input.StreamOnce Input.Error.seen N.PartialState.is_default (λ i n l. F.post maker.now i n l) (M.first mode) input.old input.new state.new result }
+    ensures { RunsMade N.Parser Input.StreamOnce Input.Error.seen N.PartialState.is_default (λ i n l. F.post maker.now i n l) input.old input.new state.new result }
 {
     let parser = ask(maker, input);
     let made = Made {

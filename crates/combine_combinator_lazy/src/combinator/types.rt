@@ -3,7 +3,7 @@ ghost use Rattle.std.specs.Prelude.{◌≡◌};
 ghost use Rattle.combine_base.specs.Error.Errors.{Nothing};
 ghost use Rattle.combine_base.specs.Parser.Kept.{KeptOf};
 ghost use Rattle.combine_base.specs.Stream.View.{View};
-ghost use Rattle.combine_combinator_lazy.specs.Made.{Adds, InPlace, MadeAt, MakesOne, RefusesMade, at_any, at_any_lasts, by_factory, by_lazy, factory_maker, is_unmade_valid, lazy_maker, made, made_at_lasts, made_is_meaning, made_means_one, valid_made};
+ghost use Rattle.combine_combinator_lazy.specs.Made.{Adds, InPlace, MadeAt, MakesOne, at_any, at_any_lasts, by_factory, by_lazy, factory_maker, is_unmade_valid, lazy_maker, made, made_at_lasts, made_is_meaning, made_means_one, valid_made};
 
 pub use super::made::{Made, MadeState};
 use super::made::{make_and_run, resume_made, run_made};
@@ -86,8 +86,6 @@ impl<Input: Stream, N: Parser<Input> + Drop, F: Fn() -> N> Parser<Input> for Laz
 
     ghost meaning = { λ p. made (at_any (F.post (lazy_maker p))) (by_lazy F.Fn N.lawful) N.meaning (Adds (F.post (lazy_maker p)) N.meaning) };
 
-    ghost refuses = { λ p. RefusesMade (at_any (F.post (lazy_maker p))) N.PartialState.is_default N.refuses };
-
     ghost parts = { λ p. 1 };
 
     ghost default_valid = { is_unmade_valid (KeptOf N.lawful N.meaning (by_lazy F.Fn N.lawful)) N.valid };
@@ -149,8 +147,6 @@ impl<Input: Stream, N: Parser<Input> + Drop, F: Fn(&mut Input) -> N> Parser<Inpu
     ghost valid = { valid_made (KeptOf N.lawful N.meaning (by_factory Input.view Input.marks Input.failures F.Fn N.lawful)) N.valid };
 
     ghost meaning = { λ p. made (MadeAt Input.view (λ i n l. F.post (factory_maker p) i n l)) (by_factory Input.view Input.marks Input.failures F.Fn N.lawful) N.meaning Nothing };
-
-    ghost refuses = { λ p. RefusesMade (MadeAt Input.view (λ i n l. F.post (factory_maker p) i n l)) N.PartialState.is_default N.refuses };
 
     ghost parts = { λ p. 1 };
 

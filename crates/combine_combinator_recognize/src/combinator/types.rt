@@ -1,6 +1,6 @@
 //! The parser that `recognize` answers.
 ghost use Rattle.std.specs.Prelude.{◌≡◌};
-ghost use Rattle.combine_combinator_recognize.specs.Gathered.{HasValid, IsFresh, begins_with, collected_by, parser_of, recognized, recognized_is_meaning, recognized_means_one};
+ghost use Rattle.combine_combinator_recognize.specs.Gathered.{HasValid, IsFresh, collected_by, parser_of, recognized, recognized_is_meaning, recognized_means_one};
 
 use crate::collecting::collect_since;
 use combine_base::error::{ErrorOffset, ParseResult, Tracked};
@@ -76,8 +76,6 @@ impl<Input: Stream, P: Parser<Input>, F: Append<Input::Token>> Parser<Input> for
     ghost valid = { HasValid P.valid };
 
     ghost meaning = { λ p. recognized F.held F.none F.more F.lean (P.meaning (parser_of p)) };
-
-    ghost refuses = { λ p k. P.refuses (parser_of p) (begins_with k) };
 
     ghost parts = { λ p. 1 };
 

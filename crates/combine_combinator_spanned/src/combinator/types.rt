@@ -1,6 +1,6 @@
 //! The parser that `spanned` answers.
 ghost use Rattle.std.specs.Prelude.{◌≡◌};
-ghost use Rattle.combine_combinator_spanned.specs.Spanned.{Spans, SpansAnswer, SpansReason, spanned_part};
+ghost use Rattle.combine_combinator_spanned.specs.Spanned.{Spans, SpansAnswer, spanned, spanned_is_meaning, spanned_means_one, spanned_part};
 
 use combine_base::error::{DetailedError, ErrorOffset, ParseError, ParseResult, Tracked};
 use combine_base::parser::{Outputs, ParseMode, Parser};
@@ -64,17 +64,15 @@ where
 
     ghost valid = { P.valid };
 
-    ghost meaning = { λ p. P.meaning (spanned_part p) };
-
-    ghost refuses = { λ p k v. SpansReason Q.cmp Input.Error.seen Input.step v (P.refuses (spanned_part p) k v) };
+    ghost meaning = { λ p. spanned Q.cmp Input.Error.seen Input.step (P.meaning (spanned_part p)) };
 
     ghost parts = { λ p. 1 };
 
     ghost default_valid = { P.default_valid };
 
-    ghost laws = { λ p l. P.laws (spanned_part p) l };
+    ghost laws = { λ p l. spanned_is_meaning Q.cmp Input.Error.seen Input.step (P.laws (spanned_part p) l) };
 
-    ghost single = { λ p l d. P.single (spanned_part p) l d };
+    ghost single = { λ p l d. spanned_means_one Q.cmp Input.Error.seen Input.step (P.single (spanned_part p) l d) };
 
     #[inline(always)]
     fn parse_mode<M: ParseMode>(

@@ -5,7 +5,7 @@ ghost use Rattle.combine_base.specs.Error.Items as items;
 ghost use Rattle.combine_base.specs.Error.Items.{shown};
 ghost use Rattle.combine_base.specs.Parser.Judged.{IsRefusal};
 ghost use Rattle.combine_error.specs.Copies.{NoText};
-ghost use Rattle.combine_error.specs.Saying.{AndThen, Hushes, InPlace, Tells, ToldLess, saying, saying_is_meaning, saying_means_one, told_more};
+ghost use Rattle.combine_error.specs.Saying.{AndThen, Hushes, InPlace, Tells, ToldLess, saying, saying_is_meaning, saying_means_one, told_less_is_monotone, told_more, told_more_is_monotone, unchanged, unchanged_is_monotone};
 ghost use Rattle.combine_error.specs.Shaped.{hushed_part, named_info, named_part, told_info, told_part};
 
 use crate::info::copied;
@@ -133,17 +133,15 @@ impl<Input: Stream, P: Parser<Input>> Parser<Input>
 
     ghost valid = { P.valid };
 
-    ghost meaning = { λ p. saying (P.meaning (told_part p)) (AndThen (P.meaning (told_part p)).adds (items.Message (shown (told_info p)))) };
-
-    ghost refuses = { λ p k v. told_more Input.Error.seen (P.refuses (told_part p) k v) (items.Message (shown (told_info p))) };
+    ghost meaning = { λ p. saying (P.meaning (told_part p)) (AndThen (P.meaning (told_part p)).adds (items.Message (shown (told_info p)))) (told_more Input.Error.seen (items.Message (shown (told_info p)))) };
 
     ghost parts = { λ p. P.parts (told_part p) };
 
     ghost default_valid = { P.default_valid };
 
-    ghost laws = { λ p l. saying_is_meaning P.PartialState.is_default P.valid (P.meaning (told_part p)) (AndThen (P.meaning (told_part p)).adds (items.Message (shown (told_info p)))) (P.laws (told_part p) l) };
+    ghost laws = { λ p l. saying_is_meaning P.PartialState.is_default P.valid (P.meaning (told_part p)) _ _ (told_more_is_monotone Input.Error.seen (items.Message (shown (told_info p)))) (P.laws (told_part p) l) };
 
-    ghost single = { λ p l d. saying_means_one P.valid (P.meaning (told_part p)) (AndThen (P.meaning (told_part p)).adds (items.Message (shown (told_info p)))) (P.single (told_part p) l d) };
+    ghost single = { λ p l d. saying_means_one P.valid (P.meaning (told_part p)) _ (told_more Input.Error.seen (items.Message (shown (told_info p)))) (P.single (told_part p) l d) };
 
     #[inline(always)]
     fn parse_mode<M: ParseMode>(
@@ -181,17 +179,15 @@ impl<Input: Stream, P: Parser<Input>> Parser<Input> for Silent<P> {
 
     ghost valid = { P.valid };
 
-    ghost meaning = { λ p. saying (P.meaning (hushed_part p)) Nothing };
-
-    ghost refuses = { λ p k v. ToldLess Input.Error.seen (P.refuses (hushed_part p) k v) };
+    ghost meaning = { λ p. saying (P.meaning (hushed_part p)) Nothing (ToldLess Input.Error.seen) };
 
     ghost parts = { λ p. P.parts (hushed_part p) };
 
     ghost default_valid = { P.default_valid };
 
-    ghost laws = { λ p l. saying_is_meaning P.PartialState.is_default P.valid (P.meaning (hushed_part p)) Nothing (P.laws (hushed_part p) l) };
+    ghost laws = { λ p l. saying_is_meaning P.PartialState.is_default P.valid (P.meaning (hushed_part p)) Nothing (ToldLess Input.Error.seen) (told_less_is_monotone Input.Error.seen) (P.laws (hushed_part p) l) };
 
-    ghost single = { λ p l d. saying_means_one P.valid (P.meaning (hushed_part p)) Nothing (P.single (hushed_part p) l d) };
+    ghost single = { λ p l d. saying_means_one P.valid (P.meaning (hushed_part p)) Nothing (ToldLess Input.Error.seen) (P.single (hushed_part p) l d) };
 
     #[inline(always)]
     fn parse_mode<M: ParseMode>(
@@ -227,17 +223,15 @@ impl<Input: Stream, P: Parser<Input>> Parser<Input>
 
     ghost valid = { P.valid };
 
-    ghost meaning = { λ p. saying (P.meaning (named_part p)) (InPlace (P.meaning (named_part p)).adds (items.Expected (shown (named_info p)))) };
-
-    ghost refuses = { λ p. P.refuses (named_part p) };
+    ghost meaning = { λ p. saying (P.meaning (named_part p)) (InPlace (P.meaning (named_part p)).adds (items.Expected (shown (named_info p)))) unchanged };
 
     ghost parts = { λ p. P.parts (named_part p) };
 
     ghost default_valid = { P.default_valid };
 
-    ghost laws = { λ p l. saying_is_meaning P.PartialState.is_default P.valid (P.meaning (named_part p)) (InPlace (P.meaning (named_part p)).adds (items.Expected (shown (named_info p)))) (P.laws (named_part p) l) };
+    ghost laws = { λ p l. saying_is_meaning P.PartialState.is_default P.valid (P.meaning (named_part p)) (InPlace (P.meaning (named_part p)).adds (items.Expected (shown (named_info p)))) unchanged unchanged_is_monotone (P.laws (named_part p) l) };
 
-    ghost single = { λ p l d. saying_means_one P.valid (P.meaning (named_part p)) (InPlace (P.meaning (named_part p)).adds (items.Expected (shown (named_info p)))) (P.single (named_part p) l d) };
+    ghost single = { λ p l d. saying_means_one P.valid (P.meaning (named_part p)) (InPlace (P.meaning (named_part p)).adds (items.Expected (shown (named_info p)))) unchanged (P.single (named_part p) l d) };
 
     #[inline(always)]
     fn parse_mode<M: ParseMode>(

@@ -180,7 +180,7 @@ pub(super) fn run_step<
     requires ready { ⟦<N as Calls<Input>>⟧.ready from.parser from.state }
     requires starts { M.first mode ≡ true → N.PartialState.is_default from.state }
     requires fresh { begins_steps state.old }
-    ensures { CalledStep N.Parser Input.StreamOnce Input.Error.seen N.PartialState.is_default depth F.takes F.joins (M.first mode) input.old input.new from state.new result }
+    ensures { CalledStep N.Parser Input.StreamOnce Input.Error.seen N.PartialState.is_default depth F.takes F.joins input.old input.new from state.new result }
 {
     let RunningStep {
         frames,

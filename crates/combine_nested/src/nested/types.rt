@@ -2,9 +2,8 @@
 ghost use Rattle.std.specs.Prelude.{◌≡◌};
 ghost use Rattle.combine_base.specs.Parser.Kept.{KeptOf};
 ghost use Rattle.combine_nested.specs.Asks.{asked_by_some, asked_so};
-ghost use Rattle.combine_nested.specs.Nesting.{asked_part, depth_part, nesting, root_part, starts_valid, valid_step};
-ghost use Rattle.combine_nested.specs.NestingErrors.{RefusesNested};
-ghost use Rattle.combine_nested.specs.NestingLaws.{nesting_is_meaning};
+ghost use Rattle.combine_nested.specs.Nesting.{asked_part, depth_part, root_part, starts_valid, valid_step};
+ghost use Rattle.combine_nested.specs.NestingLaws.{nesting, nesting_is_meaning};
 ghost use Rattle.combine_nested.specs.NestingOne.{NestsOne, nesting_means_one};
 
 use super::Frame;
@@ -50,17 +49,15 @@ impl<
 
     ghost valid = { valid_step (KeptOf N.lawful N.meaning (asked_by_some S.callable S.answers N.lawful)) N.valid };
 
-    ghost meaning = { λ p. nesting Input.step (depth_part p) (R.makes (root_part p)) (S.answers (asked_part p)) F.takes F.joins (asked_by_some S.callable S.answers N.lawful) N.meaning };
-
-    ghost refuses = { λ p. RefusesNested Input.step (depth_part p) (R.makes (root_part p)) (S.answers (asked_part p)) F.takes F.joins N.meaning Input.Error.seen N.refuses };
+    ghost meaning = { λ p. nesting Input.step Input.Error.seen (depth_part p) (R.makes (root_part p)) (S.answers (asked_part p)) F.takes F.joins (asked_by_some S.callable S.answers N.lawful) N.meaning };
 
     ghost parts = { λ _. 1 };
 
     ghost default_valid = { starts_valid (KeptOf N.lawful N.meaning (asked_by_some S.callable S.answers N.lawful)) N.valid };
 
-    ghost laws = { λ p l. nesting_is_meaning Input.step (depth_part p) (R.makes (root_part p)) (S.answers (asked_part p)) F.takes F.joins (asked_by_some S.callable S.answers N.lawful) N.meaning N.lawful N.laws l.2 };
+    ghost laws = { λ p l. nesting_is_meaning Input.step (depth_part p) (R.makes (root_part p)) (S.answers (asked_part p)) F.takes F.joins (asked_by_some S.callable S.answers N.lawful) N.meaning N.lawful N.laws l.2 Input.Error.seen };
 
-    ghost single = { λ p l d. nesting_means_one Input.step (depth_part p) d.1 N.lawful (λ n i. N.single n (i.all n i.made) (d.0 n i)) (asked_so (asked_part p) l.1 l.2) };
+    ghost single = { λ p l d. nesting_means_one Input.step (depth_part p) d.1 N.lawful (λ n i. N.single n (i.all n i.made) (d.0 n i)) (asked_so (asked_part p) l.1 l.2) Input.Error.seen };
 
     fn parse_mode<M: ParseMode>(
         &mut self,

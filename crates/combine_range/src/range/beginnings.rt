@@ -2,13 +2,12 @@
 ghost use Rattle.std.specs.Prelude.{◌≡◌, true, false};
 ghost use Rattle.combine_base.specs.Parser.Answer.{Answers, world};
 ghost use Rattle.combine_base.specs.Error.Errors.{Nothing};
-ghost use Rattle.combine_base.specs.Parser.Reasons.{Reasoned, kept_from};
+ghost use Rattle.combine_base.specs.Parser.Reasons.{ReasonedCall};
 ghost use Rattle.combine_base.specs.Stream.Calls.{Passes};
-ghost use Rattle.combine_token.specs.Reasons.{peeked_only};
 ghost use Rattle.combine_stream.specs.RangeFacts.{IsPredicate};
 ghost use Rattle.combine_range.specs.Kept.{kept, kept_is_meaning, kept_means_one};
 ghost use Rattle.combine_range.specs.Beginnings.{beginning, beginning_is_reading, beginning_is_single};
-ghost use Rattle.combine_range.specs.Reasons.{refuses_empty, refuses_kept};
+ghost use Rattle.combine_range.specs.Reasons.{RefusesKept, refuses_beginning};
 
 use crate::distance::Distance;
 use crate::passing::{
@@ -49,12 +48,12 @@ where
     requires { (t : Input.Token) → F.callable test.now t }
     ensures passes { Passes (Input.marks input.old) (Input.marks input.new) (Input.failures input.old) (Input.failures input.new) }
     ensures answers { Answers (world Input.step Input.Error.seen Input.steady ⟦<Distance as Default>⟧.is_default)
-        (kept {R = Input.Range} Input.size (beginning Input.size Input.spells (F.answers test.now) some) Nothing)
+        (kept {R = Input.Range} Input.size (beginning Input.size Input.spells (F.answers test.now) some) Nothing (RefusesKept Input.Error.seen Input.size (refuses_beginning Input.Error.seen (F.answers test.now) some)))
         (record { first = first; state = state.old; left = state.new; old = Input.view input.old; new = Input.view input.new; before = Input.failures input.old; after = Input.failures input.new })
         result }
-    ensures refuses { Reasoned Input.Error.seen.kind (Input.view input.new).is_open
-        (peeked_only (refuses_kept Input.Error.seen Input.size (refuses_empty Input.Error.seen (F.answers test.now) some) (kept_from first state.old) (Input.view input.old)))
-        result }
+    ensures refuses { ReasonedCall Input.Error.seen
+        (kept {R = Input.Range} Input.size (beginning Input.size Input.spells (F.answers test.now) some) Nothing (RefusesKept Input.Error.seen Input.size (refuses_beginning Input.Error.seen (F.answers test.now) some)))
+        first state.old (Input.view input.old) (Input.view input.new) result }
 {
     let start = input.checkpoint();
     let position = input.position();
@@ -98,9 +97,7 @@ where
 
     ghost valid = { λ s. Unit {0} };
 
-    ghost meaning = { λ p. kept Input.size (beginning Input.size Input.spells (F.answers p.predicate) false) Nothing };
-
-    ghost refuses = { λ p k v. peeked_only (refuses_kept Input.Error.seen Input.size (λ d u e. ⊥) k v) };
+    ghost meaning = { λ p. kept Input.size (beginning Input.size Input.spells (F.answers p.predicate) false) Nothing (RefusesKept Input.Error.seen Input.size (refuses_beginning Input.Error.seen (F.answers p.predicate) false)) };
 
     ghost parts = { λ p. 1 };
 
@@ -124,9 +121,9 @@ where
 
     ghost default_valid = { λ s d. tt };
 
-    ghost laws = { λ p l. kept_is_meaning _ _ _ _ (beginning_is_reading _ _ _ false Input.filled) };
+    ghost laws = { λ p l. kept_is_meaning _ _ _ _ _ (beginning_is_reading _ _ _ false Input.filled) };
 
-    ghost single = { λ p l d. kept_means_one _ _ _ _ (beginning_is_single _ _ _ false Input.filled d) };
+    ghost single = { λ p l d. kept_means_one _ _ _ _ _ (beginning_is_single _ _ _ false Input.filled d) };
 }
 
 impl<Input: StreamOnce, F> Outputs<Input> for TakeWhile1<Input, F> {
@@ -145,9 +142,7 @@ where
 
     ghost valid = { λ s. Unit {0} };
 
-    ghost meaning = { λ p. kept Input.size (beginning Input.size Input.spells (F.answers p.predicate) true) Nothing };
-
-    ghost refuses = { λ p k v. peeked_only (refuses_kept Input.Error.seen Input.size (refuses_empty Input.Error.seen (F.answers p.predicate) true) k v) };
+    ghost meaning = { λ p. kept Input.size (beginning Input.size Input.spells (F.answers p.predicate) true) Nothing (RefusesKept Input.Error.seen Input.size (refuses_beginning Input.Error.seen (F.answers p.predicate) true)) };
 
     ghost parts = { λ p. 1 };
 
@@ -171,7 +166,7 @@ where
 
     ghost default_valid = { λ s d. tt };
 
-    ghost laws = { λ p l. kept_is_meaning _ _ _ _ (beginning_is_reading _ _ _ true Input.filled) };
+    ghost laws = { λ p l. kept_is_meaning _ _ _ _ _ (beginning_is_reading _ _ _ true Input.filled) };
 
-    ghost single = { λ p l d. kept_means_one _ _ _ _ (beginning_is_single _ _ _ true Input.filled d) };
+    ghost single = { λ p l d. kept_means_one _ _ _ _ _ (beginning_is_single _ _ _ true Input.filled d) };
 }

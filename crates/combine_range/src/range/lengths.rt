@@ -2,10 +2,9 @@
 ghost use Rattle.std.specs.Prelude.{◌≡◌};
 ghost use Rattle.combine_base.specs.Error.Errors.{Nothing, Only};
 ghost use Rattle.combine_base.specs.Error.Items.{Expected, OfRange};
-ghost use Rattle.combine_token.specs.Reasons.{peeked_only};
 ghost use Rattle.combine_token.specs.Stateless.{stateless, stateless_is_meaning, stateless_means_one};
 ghost use Rattle.combine_range.specs.Lengths.{matching, matching_is_reading, matching_is_single, taking, taking_is_reading, taking_is_single};
-ghost use Rattle.combine_range.specs.Reasons.{refuses_differing, refuses_unfit};
+ghost use Rattle.combine_range.specs.Reasons.{RefusesDiffering, RefusesLength};
 ghost use Rattle.combine_range.specs.Wanted.{Fair, given};
 
 use crate::passing::no_range;
@@ -45,9 +44,7 @@ where
 
     ghost valid = { λ s. Unit {0} };
 
-    ghost meaning = { λ p. stateless (taking Input.size Input.spells p.count) ⊥ (Unit {0}) Nothing };
-
-    ghost refuses = { λ p k v. peeked_only (refuses_unfit Input.Error.seen Input.size Input.spells p.count v) };
+    ghost meaning = { λ p. stateless (taking Input.size Input.spells p.count) ⊥ (Unit {0}) Nothing (RefusesLength Input.Error.seen Input.size Input.spells p.count) };
 
     ghost parts = { λ p. 1 };
 
@@ -82,9 +79,9 @@ where
 
     ghost default_valid = { λ s d. tt };
 
-    ghost laws = { λ p l. stateless_is_meaning _ _ _ _ _ _ (taking_is_reading _ _ Input.filled _) };
+    ghost laws = { λ p l. stateless_is_meaning _ _ _ _ _ _ _ (taking_is_reading _ _ Input.filled _) };
 
-    ghost single = { λ p l d. stateless_means_one _ _ _ _ _ (taking_is_single _ _ Input.filled _) };
+    ghost single = { λ p l d. stateless_means_one _ _ _ _ _ _ (taking_is_single _ _ Input.filled _) };
 }
 
 impl<Input, R: Drop> Outputs<Input> for Range<Input, R> {
@@ -104,9 +101,8 @@ where
 
     ghost valid = { λ s. Unit {0} };
 
-    ghost meaning = { λ p. stateless (matching Input.size Input.spells (given Input.Range.count Input.Range.eq p.wanted)) ⊥ (Unit {0}) (Only (Expected (OfRange p.wanted))) };
-
-    ghost refuses = { λ p k v. peeked_only (refuses_differing Input.Error.seen Input.size Input.spells (given Input.Range.count Input.Range.eq p.wanted) v) };
+    ghost meaning = { λ p. stateless (matching Input.size Input.spells (given Input.Range.count Input.Range.eq p.wanted)) ⊥ (Unit {0}) (Only (Expected (OfRange p.wanted)))
+        (RefusesDiffering Input.Error.seen Input.size Input.spells (given Input.Range.count Input.Range.eq p.wanted)) };
 
     ghost parts = { λ p. 1 };
 
@@ -149,7 +145,7 @@ where
 
     ghost default_valid = { λ s d. tt };
 
-    ghost laws = { λ p l. stateless_is_meaning _ _ _ _ _ _ (matching_is_reading _ _ Input.filled _) };
+    ghost laws = { λ p l. stateless_is_meaning _ _ _ _ _ _ _ (matching_is_reading _ _ Input.filled _) };
 
-    ghost single = { λ p l d. stateless_means_one _ _ _ _ _ (matching_is_single _ _ Input.filled _ d) };
+    ghost single = { λ p l d. stateless_means_one _ _ _ _ _ _ (matching_is_single _ _ Input.filled _ d) };
 }

@@ -3,7 +3,6 @@ ghost use Rattle.std.specs.Prelude.{◌≡◌, if◌then◌else◌};
 ghost use Rattle.combine_base.specs.Parser.Mapped.{mapped, mapped_is_meaning, mapped_means_one};
 ghost use Rattle.combine_base.specs.Stream.Calls.{Passes};
 ghost use Rattle.combine_base.specs.Stream.View.{View, Takes};
-ghost use Rattle.combine_range.specs.Reasons.{refuses_part};
 ghost use Rattle.combine_range.specs.Recognized.{HasValid, IsFresh, beside, recognized, recognized_is_meaning, recognized_means_one};
 
 use crate::passing::{hand_out, not_passed, pass_items};
@@ -77,17 +76,15 @@ where
 
     ghost valid = { HasValid P.valid };
 
-    ghost meaning = { λ p. recognized Input.size Input.spells Input.step (P.meaning p.0) };
-
-    ghost refuses = { λ p. refuses_part Input.Error.seen Input.size Input.step (P.refuses p.0) };
+    ghost meaning = { λ p. recognized Input.Error.seen Input.size Input.spells Input.step (P.meaning p.0) };
 
     ghost parts = { λ p. 1 };
 
     ghost default_valid = { λ s d. P.default_valid _ d.1 };
 
-    ghost laws = { λ p l. recognized_is_meaning Input.size Input.spells Input.step Input.filled P.PartialState.is_default P.valid (P.meaning p.0) (P.laws p.0 l) };
+    ghost laws = { λ p l. recognized_is_meaning Input.Error.seen Input.size Input.spells Input.step Input.filled P.PartialState.is_default P.valid (P.meaning p.0) (P.laws p.0 l) };
 
-    ghost single = { λ p l d. recognized_means_one Input.size Input.spells Input.step Input.filled P.valid (P.meaning p.0) (P.single p.0 l d) };
+    ghost single = { λ p l d. recognized_means_one Input.Error.seen Input.size Input.spells Input.step Input.filled P.valid (P.meaning p.0) (P.single p.0 l d) };
 
     #[inline(always)]
     fn parse_mode<M: ParseMode>(
@@ -154,17 +151,15 @@ where
 
     ghost valid = { HasValid P.valid };
 
-    ghost meaning = { λ p. mapped (recognized Input.size Input.spells Input.step (P.meaning p.0.0)) (λ both range. range ≡ both.0) };
-
-    ghost refuses = { λ p. refuses_part Input.Error.seen Input.size Input.step (P.refuses p.0.0) };
+    ghost meaning = { λ p. mapped (recognized Input.Error.seen Input.size Input.spells Input.step (P.meaning p.0.0)) (λ both range. range ≡ both.0) };
 
     ghost parts = { λ p. 1 };
 
     ghost default_valid = { λ s d. P.default_valid _ d.1 };
 
-    ghost laws = { λ p l. mapped_is_meaning (IsFresh P.PartialState.is_default) (HasValid P.valid) _ _ (recognized_is_meaning Input.size Input.spells Input.step Input.filled P.PartialState.is_default P.valid (P.meaning p.0.0) (P.laws p.0.0 l)) };
+    ghost laws = { λ p l. mapped_is_meaning (IsFresh P.PartialState.is_default) (HasValid P.valid) _ _ (recognized_is_meaning Input.Error.seen Input.size Input.spells Input.step Input.filled P.PartialState.is_default P.valid (P.meaning p.0.0) (P.laws p.0.0 l)) };
 
-    ghost single = { λ p l d. mapped_means_one (HasValid P.valid) _ _ (recognized_means_one Input.size Input.spells Input.step Input.filled P.valid (P.meaning p.0.0) (P.single p.0.0 l d)) };
+    ghost single = { λ p l d. mapped_means_one (HasValid P.valid) _ _ (recognized_means_one Input.Error.seen Input.size Input.spells Input.step Input.filled P.valid (P.meaning p.0.0) (P.single p.0.0 l d)) };
 
     #[inline(always)]
     fn parse_mode<M: ParseMode>(

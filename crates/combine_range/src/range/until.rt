@@ -1,9 +1,8 @@
 //! What stands before the first occurrence of a range.
 ghost use Rattle.std.specs.Prelude.{◌≡◌};
 ghost use Rattle.combine_base.specs.Error.Errors.{Nothing};
-ghost use Rattle.combine_token.specs.Reasons.{peeked_only};
 ghost use Rattle.combine_range.specs.Kept.{kept, kept_is_meaning, kept_means_one};
-ghost use Rattle.combine_range.specs.Reasons.{refuses_kept, refuses_missing};
+ghost use Rattle.combine_range.specs.Reasons.{RefusesKept, RefusesMissing};
 ghost use Rattle.combine_range.specs.Until.{until_is_reading, until_is_single, until_range};
 ghost use Rattle.combine_range.specs.Wanted.{Fair, given};
 
@@ -41,9 +40,8 @@ where
 
     ghost valid = { λ s. Unit {0} };
 
-    ghost meaning = { λ p. kept Input.size (until_range Input.size Input.spells (given Input.Range.count Input.Range.eq p.wanted)) Nothing };
-
-    ghost refuses = { λ p k v. peeked_only (refuses_kept Input.Error.seen Input.size (refuses_missing Input.Error.seen Input.size Input.spells (given Input.Range.count Input.Range.eq p.wanted)) k v) };
+    ghost meaning = { λ p. kept Input.size (until_range Input.size Input.spells (given Input.Range.count Input.Range.eq p.wanted)) Nothing
+        (RefusesKept Input.Error.seen Input.size (RefusesMissing Input.Error.seen Input.size Input.spells (given Input.Range.count Input.Range.eq p.wanted))) };
 
     ghost parts = { λ p. 1 };
 
@@ -85,7 +83,7 @@ where
 
     ghost default_valid = { λ s d. tt };
 
-    ghost laws = { λ p l. kept_is_meaning _ _ _ _ (until_is_reading _ _ _ Input.filled) };
+    ghost laws = { λ p l. kept_is_meaning _ _ _ _ _ (until_is_reading _ _ _ Input.filled) };
 
-    ghost single = { λ p l d. kept_means_one _ _ _ _ (until_is_single _ _ _ Input.filled d) };
+    ghost single = { λ p l d. kept_means_one _ _ _ _ _ (until_is_single _ _ _ Input.filled d) };
 }

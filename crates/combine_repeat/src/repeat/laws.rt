@@ -10,19 +10,19 @@ use combine_base::stream::Stream;
 pub fn many1_is_once_then_turns<F, Input: Stream, P: Parser<Input>>(parser: &P)
 where
     F: Append<P::Output>,
-    ensures { OnceThenTurns Input.step (appended F.held F.none F.more F.lean) (P.meaning parser.now) }
+    ensures { OnceThenTurns Input.step Input.Error.seen (appended F.held F.none F.more F.lean) (P.meaning parser.now) }
 {}
 
 /// `skip_many(p)` has the count and kind of `many(p)`.
 pub fn skip_many_is_many_dropped<F, Input: Stream, P: Parser<Input>>(parser: &P)
 where
     F: Append<P::Output>,
-    ensures { ManyOrSkip Input.step (appended F.held F.none F.more F.lean) (P.meaning parser.now) }
+    ensures { ManyOrSkip Input.step Input.Error.seen (appended F.held F.none F.more F.lean) (P.meaning parser.now) }
 {}
 
 /// `skip_many1(p)` has the count and kind of `many1(p)`.
 pub fn skip_many1_is_many1_dropped<F, Input: Stream, P: Parser<Input>>(parser: &P)
 where
     F: Append<P::Output>,
-    ensures { Many1OrSkip Input.step (appended F.held F.none F.more F.lean) (P.meaning parser.now) }
+    ensures { Many1OrSkip Input.step Input.Error.seen (appended F.held F.none F.more F.lean) (P.meaning parser.now) }
 {}

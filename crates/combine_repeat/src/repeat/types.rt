@@ -39,15 +39,15 @@ impl<Input: Stream, P: Parser<Input>, F: Append<P::Output>> Parser<Input> for Ma
 
     ghost valid = { λ s. P.valid (running_turn s) };
 
-    ghost meaning = { λ p. many Input.step (appended F.held F.none F.more F.lean) (P.meaning (repeated_by_many p)) };
+    ghost meaning = { λ p. many Input.step Input.Error.seen (appended F.held F.none F.more F.lean) (P.meaning (repeated_by_many p)) };
 
     ghost parts = { λ p. P.parts (repeated_by_many p) };
 
     ghost default_valid = { begun_valid P.PartialState.is_default P.valid P.default_valid };
 
-    ghost laws = { λ p l. repeated_is_meaning Input.step Any (appended F.held F.none F.more F.lean) P.PartialState.is_default P.valid (P.meaning (repeated_by_many p)) (P.laws (repeated_by_many p) l) };
+    ghost laws = { λ p l. repeated_is_meaning Input.step Input.Error.seen Any (appended F.held F.none F.more F.lean) P.PartialState.is_default P.valid (P.meaning (repeated_by_many p)) (P.laws (repeated_by_many p) l) };
 
-    ghost single = { λ p l d. repeated_means_one Input.step Any (appended F.held F.none F.more F.lean) P.valid (P.meaning (repeated_by_many p)) (P.single (repeated_by_many p) l d) };
+    ghost single = { λ p l d. repeated_means_one Input.step Input.Error.seen Any (appended F.held F.none F.more F.lean) P.valid (P.meaning (repeated_by_many p)) (P.single (repeated_by_many p) l d) };
 
     #[inline(always)]
     fn parse_mode<M: ParseMode>(
@@ -106,15 +106,15 @@ impl<Input: Stream, P: Parser<Input>, F: Append<P::Output>> Parser<Input> for Ma
 
     ghost valid = { λ s. P.valid (running_turn s) };
 
-    ghost meaning = { λ p. many1 Input.step (appended F.held F.none F.more F.lean) (P.meaning (repeated_by_many1 p)) };
+    ghost meaning = { λ p. many1 Input.step Input.Error.seen (appended F.held F.none F.more F.lean) (P.meaning (repeated_by_many1 p)) };
 
     ghost parts = { λ p. P.parts (repeated_by_many1 p) };
 
     ghost default_valid = { begun_valid P.PartialState.is_default P.valid P.default_valid };
 
-    ghost laws = { λ p l. repeated_is_meaning Input.step (Joined 1 None) (appended F.held F.none F.more F.lean) P.PartialState.is_default P.valid (P.meaning (repeated_by_many1 p)) (P.laws (repeated_by_many1 p) l) };
+    ghost laws = { λ p l. repeated_is_meaning Input.step Input.Error.seen (Joined 1 None) (appended F.held F.none F.more F.lean) P.PartialState.is_default P.valid (P.meaning (repeated_by_many1 p)) (P.laws (repeated_by_many1 p) l) };
 
-    ghost single = { λ p l d. repeated_means_one Input.step (Joined 1 None) (appended F.held F.none F.more F.lean) P.valid (P.meaning (repeated_by_many1 p)) (P.single (repeated_by_many1 p) l d) };
+    ghost single = { λ p l d. repeated_means_one Input.step Input.Error.seen (Joined 1 None) (appended F.held F.none F.more F.lean) P.valid (P.meaning (repeated_by_many1 p)) (P.single (repeated_by_many1 p) l d) };
 
     #[inline(always)]
     fn parse_mode<M: ParseMode>(
@@ -167,15 +167,15 @@ impl<Input: Stream, P: Parser<Input>> Parser<Input> for SkipMany<P> {
 
     ghost valid = { λ s. P.valid (running_turn s) };
 
-    ghost meaning = { λ p. skip_many Input.step (P.meaning (repeated_by_skip_many p)) };
+    ghost meaning = { λ p. skip_many Input.step Input.Error.seen (P.meaning (repeated_by_skip_many p)) };
 
     ghost parts = { λ _. 1 };
 
     ghost default_valid = { begun_valid P.PartialState.is_default P.valid P.default_valid };
 
-    ghost laws = { λ p l. repeated_is_meaning Input.step Any dropped P.PartialState.is_default P.valid (P.meaning (repeated_by_skip_many p)) (P.laws (repeated_by_skip_many p) l) };
+    ghost laws = { λ p l. repeated_is_meaning Input.step Input.Error.seen Any dropped P.PartialState.is_default P.valid (P.meaning (repeated_by_skip_many p)) (P.laws (repeated_by_skip_many p) l) };
 
-    ghost single = { λ p l d. repeated_means_one Input.step Any dropped P.valid (P.meaning (repeated_by_skip_many p)) (P.single (repeated_by_skip_many p) l d) };
+    ghost single = { λ p l d. repeated_means_one Input.step Input.Error.seen Any dropped P.valid (P.meaning (repeated_by_skip_many p)) (P.single (repeated_by_skip_many p) l d) };
 
     #[inline(always)]
     fn parse_mode<M: ParseMode>(
@@ -222,15 +222,15 @@ impl<Input: Stream, P: Parser<Input>> Parser<Input> for SkipMany1<P> {
 
     ghost valid = { λ s. P.valid (running_turn s) };
 
-    ghost meaning = { λ p. skip_many1 Input.step (P.meaning (repeated_by_skip_many1 p)) };
+    ghost meaning = { λ p. skip_many1 Input.step Input.Error.seen (P.meaning (repeated_by_skip_many1 p)) };
 
     ghost parts = { λ _. 1 };
 
     ghost default_valid = { begun_valid P.PartialState.is_default P.valid P.default_valid };
 
-    ghost laws = { λ p l. repeated_is_meaning Input.step (Joined 1 None) dropped P.PartialState.is_default P.valid (P.meaning (repeated_by_skip_many1 p)) (P.laws (repeated_by_skip_many1 p) l) };
+    ghost laws = { λ p l. repeated_is_meaning Input.step Input.Error.seen (Joined 1 None) dropped P.PartialState.is_default P.valid (P.meaning (repeated_by_skip_many1 p)) (P.laws (repeated_by_skip_many1 p) l) };
 
-    ghost single = { λ p l d. repeated_means_one Input.step (Joined 1 None) dropped P.valid (P.meaning (repeated_by_skip_many1 p)) (P.single (repeated_by_skip_many1 p) l d) };
+    ghost single = { λ p l d. repeated_means_one Input.step Input.Error.seen (Joined 1 None) dropped P.valid (P.meaning (repeated_by_skip_many1 p)) (P.single (repeated_by_skip_many1 p) l d) };
 
     #[inline(always)]
     fn parse_mode<M: ParseMode>(

@@ -1,8 +1,8 @@
 //! One item's parser, run, and what is kept while it runs.
 ghost use Rattle.std.specs.Prelude.{◌≡◌, false, true, MatchResult};
 ghost use Rattle.combine_base.specs.Parser.AnswersCalls.{AnswersCall};
-ghost use Rattle.combine_base.specs.Parser.Meaning.{MeansSame};
-ghost use Rattle.combine_base.specs.Parser.Reasons.{Reasoned, kept_from};
+ghost use Rattle.combine_base.specs.Parser.Meaning.{MeansSame, begun_refuses};
+ghost use Rattle.combine_base.specs.Parser.Reasons.{Reasoned};
 ghost use Rattle.combine_base.specs.Stream.Calls.{Passes};
 ghost use Rattle.combine_repeat_iterate.specs.Items.{begins_items};
 ghost use Rattle.combine_repeat_iterate.specs.ItemCalls.{CalledItem, Stores};
@@ -113,7 +113,7 @@ fn call_item<Input: Stream, N: Parser<Input>, M: ParseMode>(
     ensures same { MeansSame (N.meaning parser.old) (N.meaning parser.new) }
     ensures passes { Passes (Input.marks input.old) (Input.marks input.new) (Input.failures input.old) (Input.failures input.new) }
     ensures answers { AnswersCall Input.StreamOnce Input.Error.seen N.PartialState.is_default (N.meaning parser.old) (M.first mode) state.old state.new input.old input.new result }
-    ensures refuses { Reasoned Input.Error.seen.kind (Input.view input.new).is_open (item_refuses Input.Error.seen (N.meaning parser.old) (N.refuses parser.old (kept_from (M.first mode) state.old) (Input.view input.old)) (Input.view input.old) is_begun) result }
+    ensures refuses { Reasoned Input.Error.seen.kind (Input.view input.new).is_open (item_refuses Input.Error.seen (N.meaning parser.old) (begun_refuses (N.meaning parser.old) (M.first mode) state.old) (Input.view input.old) (Input.view input.new) is_begun) result }
 {
     if is_begun {
         return parser.parse_explained(mode, input, state);
@@ -138,7 +138,7 @@ pub(super) fn parse_item<
     requires ready { ⟦<N as Calls<Input>>⟧.ready from.parser from.state }
     requires starts { M.first mode ≡ true → N.PartialState.is_default from.state }
     requires fresh { begins_items state.old }
-    ensures { CalledItem N.Parser Input.StreamOnce Input.Error.seen N.PartialState.is_default C.held C.more C.lean (M.first mode) input.old input.new from state.new result }
+    ensures { CalledItem N.Parser Input.StreamOnce Input.Error.seen N.PartialState.is_default C.held C.more C.lean input.old input.new from state.new result }
 {
     let RunningItem {
         before,
@@ -189,7 +189,7 @@ pub(super) fn resume_item<
     requires ready { ⟦<N as Calls<Input>>⟧.ready from.parser from.state }
     requires starts { M.first mode ≡ true → N.PartialState.is_default from.state }
     requires fresh { begins_items state.old }
-    ensures { CalledItem N.Parser Input.StreamOnce Input.Error.seen N.PartialState.is_default C.held C.more C.lean (M.first mode) input.old input.new from state.new result }
+    ensures { CalledItem N.Parser Input.StreamOnce Input.Error.seen N.PartialState.is_default C.held C.more C.lean input.old input.new from state.new result }
 {
     parse_item(mode, input, from, state)
 }

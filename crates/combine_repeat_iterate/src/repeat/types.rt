@@ -2,7 +2,6 @@
 ghost use Rattle.std.specs.Prelude.{◌≡◌, List};
 ghost use Rattle.combine_base.specs.Parser.Kept.{KeptOf};
 ghost use Rattle.combine_repeat_iterate.specs.Iterated.{AskedFor, Gives, InPlace, Lists, asked_part, by_function, gives_one, items_part};
-ghost use Rattle.combine_repeat_iterate.specs.ItemErrors.{iterate_refuses};
 ghost use Rattle.combine_repeat_iterate.specs.Items.{AnswersOne, iterated, iterated_is_meaning, iterated_means_one, starts_valid, valid_item};
 
 use super::items::{Collected, Item, parse_item, resume_item};
@@ -49,17 +48,15 @@ where
 
     ghost valid = { valid_item (KeptOf N.lawful N.meaning (by_function Input.view Input.marks Input.failures F.Fn N.lawful)) N.valid (Gives J.IntoIter.can_next J.IntoIter.remaining J.IntoIter.next_gives) };
 
-    ghost meaning = { λ p. iterated Input.step (AskedFor (λ a i n l. F.post (asked_part p) a i n l)) (by_function Input.view Input.marks Input.failures F.Fn N.lawful) N.meaning C.held C.none C.more (Gives J.IntoIter.can_next J.IntoIter.remaining J.IntoIter.next_gives) (Lists J.IntoIter.can_next J.IntoIter.remaining J.IntoIter.next_gives J.is_clone J.into_iter_gives (items_part p)) (C.lean × J.is_infallible (items_part p)) };
-
-    ghost refuses = { λ p. iterate_refuses Input.step (AskedFor (λ a i n l. F.post (asked_part p) a i n l)) N.meaning Input.Error.seen N.refuses J.IntoIter.can_next J.IntoIter.remaining J.IntoIter.next_gives J.is_clone J.into_iter_gives (items_part p) };
+    ghost meaning = { λ p. iterated Input.step Input.Error.seen (AskedFor (λ a i n l. F.post (asked_part p) a i n l)) (by_function Input.view Input.marks Input.failures F.Fn N.lawful) N.meaning C.held C.none C.more (Gives J.IntoIter.can_next J.IntoIter.remaining J.IntoIter.next_gives) (Lists J.IntoIter.can_next J.IntoIter.remaining J.IntoIter.next_gives J.is_clone J.into_iter_gives (items_part p)) (C.lean × J.is_infallible (items_part p)) };
 
     ghost parts = { λ _. 1 };
 
     ghost default_valid = { starts_valid (KeptOf N.lawful N.meaning (by_function Input.view Input.marks Input.failures F.Fn N.lawful)) N.valid (Gives J.IntoIter.can_next J.IntoIter.remaining J.IntoIter.next_gives) };
 
-    ghost laws = { λ p l. iterated_is_meaning Input.step (AskedFor (λ a i n l. F.post (asked_part p) a i n l)) (by_function Input.view Input.marks Input.failures F.Fn N.lawful) N.meaning C.held C.none C.more (Gives J.IntoIter.can_next J.IntoIter.remaining J.IntoIter.next_gives) (Lists J.IntoIter.can_next J.IntoIter.remaining J.IntoIter.next_gives J.is_clone J.into_iter_gives (items_part p)) (C.lean × J.is_infallible (items_part p)) N.lawful N.laws l.2 };
+    ghost laws = { λ p l. iterated_is_meaning Input.step Input.Error.seen (AskedFor (λ a i n l. F.post (asked_part p) a i n l)) (by_function Input.view Input.marks Input.failures F.Fn N.lawful) N.meaning C.held C.none C.more (Gives J.IntoIter.can_next J.IntoIter.remaining J.IntoIter.next_gives) (Lists J.IntoIter.can_next J.IntoIter.remaining J.IntoIter.next_gives J.is_clone J.into_iter_gives (items_part p)) (C.lean × J.is_infallible (items_part p)) N.lawful N.laws l.2 };
 
-    ghost single = { λ p l d. iterated_means_one Input.step (AskedFor (λ a i n l. F.post (asked_part p) a i n l)) (by_function Input.view Input.marks Input.failures F.Fn N.lawful) N.meaning C.held C.none C.more (Gives J.IntoIter.can_next J.IntoIter.remaining J.IntoIter.next_gives) (Lists J.IntoIter.can_next J.IntoIter.remaining J.IntoIter.next_gives J.is_clone J.into_iter_gives (items_part p)) (C.lean × J.is_infallible (items_part p)) d.0 N.lawful (λ n i. N.single n (i.all i.item n i.answered) (d.1 n i)) d.2 (gives_one J.IntoIter.can_next J.IntoIter.remaining J.IntoIter.next_gives) };
+    ghost single = { λ p l d. iterated_means_one Input.step Input.Error.seen (AskedFor (λ a i n l. F.post (asked_part p) a i n l)) (by_function Input.view Input.marks Input.failures F.Fn N.lawful) N.meaning C.held C.none C.more (Gives J.IntoIter.can_next J.IntoIter.remaining J.IntoIter.next_gives) (Lists J.IntoIter.can_next J.IntoIter.remaining J.IntoIter.next_gives J.is_clone J.into_iter_gives (items_part p)) (C.lean × J.is_infallible (items_part p)) d.0 N.lawful (λ n i. N.single n (i.all i.item n i.answered) (d.1 n i)) d.2 (gives_one J.IntoIter.can_next J.IntoIter.remaining J.IntoIter.next_gives) };
 
     fn parse_mode<M: ParseMode>(
         &mut self,

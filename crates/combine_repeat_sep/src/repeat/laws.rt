@@ -13,5 +13,5 @@ pub fn sep_by1_is_one_then_turns<F, Input: Stream, P: Parser<Input>, S: Parser<I
 )
 where
     F: Append<P::Output>,
-    ensures { SepBy1IsOneThenTurns Input.step (appended F.held F.none F.more F.lean) (P.meaning parser.now) (S.meaning separator.now) }
+    ensures { SepBy1IsOneThenTurns Input.step Input.Error.seen (appended F.held F.none F.more F.lean) (P.meaning parser.now) (S.meaning separator.now) }
 {}

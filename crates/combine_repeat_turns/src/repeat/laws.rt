@@ -14,5 +14,5 @@ pub fn skip_count_min_max_is_count_min_max_dropped<F, Input: Stream, P: Parser<I
 )
 where
     F: Append<P::Output>,
-    ensures { CountOrSkip Input.step (appended F.held F.none F.more F.lean) (P.meaning parser.now) min max }
+    ensures { CountOrSkip Input.step Input.Error.seen (appended F.held F.none F.more F.lean) (P.meaning parser.now) min max }
 {}

@@ -70,15 +70,15 @@ impl<Input: Stream, P: Parser<Input>, F: Append<P::Output>> Parser<Input> for Co
 
     ghost valid = { λ s. P.valid (running_turn s) };
 
-    ghost meaning = { λ p. count_min_max Input.step (appended F.held F.none F.more F.lean) (least_of_count_min_max p) (most_of_count_min_max p) (P.meaning (repeated_by_count_min_max p)) };
+    ghost meaning = { λ p. count_min_max Input.step Input.Error.seen (appended F.held F.none F.more F.lean) (least_of_count_min_max p) (most_of_count_min_max p) (P.meaning (repeated_by_count_min_max p)) };
 
     ghost parts = { λ _. 1 };
 
     ghost default_valid = { begun_valid P.PartialState.is_default P.valid P.default_valid };
 
-    ghost laws = { λ p l. repeated_is_meaning Input.step (Counted (least_of_count_min_max p) (most_of_count_min_max p)) (appended F.held F.none F.more F.lean) P.PartialState.is_default P.valid (P.meaning (repeated_by_count_min_max p)) (P.laws (repeated_by_count_min_max p) l) };
+    ghost laws = { λ p l. repeated_is_meaning Input.step Input.Error.seen (Counted (least_of_count_min_max p) (most_of_count_min_max p)) (appended F.held F.none F.more F.lean) P.PartialState.is_default P.valid (P.meaning (repeated_by_count_min_max p)) (P.laws (repeated_by_count_min_max p) l) };
 
-    ghost single = { λ p l d. repeated_means_one Input.step (Counted (least_of_count_min_max p) (most_of_count_min_max p)) (appended F.held F.none F.more F.lean) P.valid (P.meaning (repeated_by_count_min_max p)) (P.single (repeated_by_count_min_max p) l d) };
+    ghost single = { λ p l d. repeated_means_one Input.step Input.Error.seen (Counted (least_of_count_min_max p) (most_of_count_min_max p)) (appended F.held F.none F.more F.lean) P.valid (P.meaning (repeated_by_count_min_max p)) (P.single (repeated_by_count_min_max p) l d) };
 
     #[inline(always)]
     fn parse_mode<M: ParseMode>(
@@ -142,15 +142,15 @@ impl<Input: Stream, P: Parser<Input>> Parser<Input> for SkipCountMinMax<P> {
 
     ghost valid = { λ s. P.valid (running_turn s) };
 
-    ghost meaning = { λ p. skip_count_min_max Input.step (least_of_skip_count_min_max p) (most_of_skip_count_min_max p) (P.meaning (repeated_by_skip_count_min_max p)) };
+    ghost meaning = { λ p. skip_count_min_max Input.step Input.Error.seen (least_of_skip_count_min_max p) (most_of_skip_count_min_max p) (P.meaning (repeated_by_skip_count_min_max p)) };
 
     ghost parts = { λ _. 1 };
 
     ghost default_valid = { begun_valid P.PartialState.is_default P.valid P.default_valid };
 
-    ghost laws = { λ p l. repeated_is_meaning Input.step (Counted (least_of_skip_count_min_max p) (most_of_skip_count_min_max p)) dropped P.PartialState.is_default P.valid (P.meaning (repeated_by_skip_count_min_max p)) (P.laws (repeated_by_skip_count_min_max p) l) };
+    ghost laws = { λ p l. repeated_is_meaning Input.step Input.Error.seen (Counted (least_of_skip_count_min_max p) (most_of_skip_count_min_max p)) dropped P.PartialState.is_default P.valid (P.meaning (repeated_by_skip_count_min_max p)) (P.laws (repeated_by_skip_count_min_max p) l) };
 
-    ghost single = { λ p l d. repeated_means_one Input.step (Counted (least_of_skip_count_min_max p) (most_of_skip_count_min_max p)) dropped P.valid (P.meaning (repeated_by_skip_count_min_max p)) (P.single (repeated_by_skip_count_min_max p) l d) };
+    ghost single = { λ p l d. repeated_means_one Input.step Input.Error.seen (Counted (least_of_skip_count_min_max p) (most_of_skip_count_min_max p)) dropped P.valid (P.meaning (repeated_by_skip_count_min_max p)) (P.single (repeated_by_skip_count_min_max p) l d) };
 
     #[inline(always)]
     fn parse_mode<M: ParseMode>(
@@ -212,15 +212,15 @@ impl<Input: Stream, P: Parser<Input>, F: Append<P::Output>> Parser<Input> for Co
 
     ghost valid = { λ s. P.valid (running_turn s) };
 
-    ghost meaning = { λ p. count Input.step (appended F.held F.none F.more F.lean) (most_of_count p) (P.meaning (repeated_by_count p)) };
+    ghost meaning = { λ p. count Input.step Input.Error.seen (appended F.held F.none F.more F.lean) (most_of_count p) (P.meaning (repeated_by_count p)) };
 
     ghost parts = { λ _. 1 };
 
     ghost default_valid = { begun_valid P.PartialState.is_default P.valid P.default_valid };
 
-    ghost laws = { λ p l. repeated_is_meaning Input.step (Counted 0 (most_of_count p)) (appended F.held F.none F.more F.lean) P.PartialState.is_default P.valid (P.meaning (repeated_by_count p)) (P.laws (repeated_by_count p) l) };
+    ghost laws = { λ p l. repeated_is_meaning Input.step Input.Error.seen (Counted 0 (most_of_count p)) (appended F.held F.none F.more F.lean) P.PartialState.is_default P.valid (P.meaning (repeated_by_count p)) (P.laws (repeated_by_count p) l) };
 
-    ghost single = { λ p l d. repeated_means_one Input.step (Counted 0 (most_of_count p)) (appended F.held F.none F.more F.lean) P.valid (P.meaning (repeated_by_count p)) (P.single (repeated_by_count p) l d) };
+    ghost single = { λ p l d. repeated_means_one Input.step Input.Error.seen (Counted 0 (most_of_count p)) (appended F.held F.none F.more F.lean) P.valid (P.meaning (repeated_by_count p)) (P.single (repeated_by_count p) l d) };
 
     #[inline(always)]
     fn parse_mode<M: ParseMode>(
@@ -280,15 +280,15 @@ impl<Input: Stream, P: Parser<Input>> Parser<Input> for SkipCount<P> {
 
     ghost valid = { λ s. P.valid (running_turn s) };
 
-    ghost meaning = { λ p. skip_count Input.step (most_of_skip_count p) (P.meaning (repeated_by_skip_count p)) };
+    ghost meaning = { λ p. skip_count Input.step Input.Error.seen (most_of_skip_count p) (P.meaning (repeated_by_skip_count p)) };
 
     ghost parts = { λ _. 1 };
 
     ghost default_valid = { begun_valid P.PartialState.is_default P.valid P.default_valid };
 
-    ghost laws = { λ p l. repeated_is_meaning Input.step (Counted 0 (most_of_skip_count p)) dropped P.PartialState.is_default P.valid (P.meaning (repeated_by_skip_count p)) (P.laws (repeated_by_skip_count p) l) };
+    ghost laws = { λ p l. repeated_is_meaning Input.step Input.Error.seen (Counted 0 (most_of_skip_count p)) dropped P.PartialState.is_default P.valid (P.meaning (repeated_by_skip_count p)) (P.laws (repeated_by_skip_count p) l) };
 
-    ghost single = { λ p l d. repeated_means_one Input.step (Counted 0 (most_of_skip_count p)) dropped P.valid (P.meaning (repeated_by_skip_count p)) (P.single (repeated_by_skip_count p) l d) };
+    ghost single = { λ p l d. repeated_means_one Input.step Input.Error.seen (Counted 0 (most_of_skip_count p)) dropped P.valid (P.meaning (repeated_by_skip_count p)) (P.single (repeated_by_skip_count p) l d) };
 
     #[inline(always)]
     fn parse_mode<M: ParseMode>(

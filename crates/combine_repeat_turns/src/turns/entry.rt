@@ -10,6 +10,7 @@ use combine_base::stream::{Stream, needs_more};
 pub trait Entry {
     ghost use Rattle.std.specs.Prelude.{◌≡◌, Bool, true};
     ghost use Rattle.combine_base.specs.Parser.Answer.{Answers, world};
+    ghost use Rattle.combine_base.specs.Parser.Reasons.{ReasonedCall};
     ghost use Rattle.combine_base.specs.Stream.Calls.{Passes};
     ghost use Rattle.combine_repeat_turns.specs.Turn.{TurnsSame, called};
 
@@ -36,7 +37,8 @@ pub trait Entry {
         ensures answers { Answers (world Input.step Input.Error.seen Input.steady P.Running.is_default)
             (called (P.meaning parser.old) (P.again parser.old) (later self))
             (record { first = first self; state = state.old; left = state.new; old = Input.view input.old; new = Input.view input.new; before = Input.failures input.old; after = Input.failures input.new })
-            result };
+            result }
+        ensures refuses { ReasonedCall Input.Error.seen (called (P.meaning parser.old) (P.again parser.old) (later self)) (first self) state.old (Input.view input.old) (Input.view input.new) result };
 }
 
 /// A turn that begins afresh: a first-mode call, so that the mode is known where it is compiled, with a state of its own, which is stored on need of more alone.

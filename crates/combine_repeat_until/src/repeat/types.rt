@@ -1,10 +1,9 @@
 //! The parsers that the functions of this module answer.
 ghost use Rattle.combine_token.specs.Or.{or_valid};
 ghost use Rattle.combine_repeat_until.specs.Next.{next, next_is_meaning, next_once};
-ghost use Rattle.combine_repeat_until.specs.PlaceErrors.{turns_refuse};
 ghost use Rattle.combine_repeat_until.specs.Until.{some_appended, some_dropped, until_valid};
 ghost use Rattle.combine_repeat_until.specs.UntilLaws.{until_is_meaning, until_means_one};
-ghost use Rattle.combine_repeat_until.specs.UntilParsers.{blocks_end, blocks_part, blocks_turn, repeat_until, skipped_end, skipped_part, skipped_turn};
+ghost use Rattle.combine_repeat_until.specs.UntilParsers.{blocks_end, blocks_part, repeat_until, skipped_end, skipped_part};
 
 pub use crate::mute::Mute;
 use crate::next::{Next, NextState};
@@ -54,17 +53,15 @@ impl<Input: Stream, A: Drop, P: Parser<Input, Output = A>, E: Parser<Input>, F: 
 
     ghost valid = { until_valid (or_valid E.valid P.valid) };
 
-    ghost meaning = { λ p. repeat_until Input.step (some_appended F.held F.none F.more F.lean) (P.meaning (blocks_part p)) (E.meaning (blocks_end p)) };
-
-    ghost refuses = { λ p. turns_refuse E.Parser P.Parser Input.Error.seen Input.Position.cmp E.PartialState.is_default P.PartialState.is_default Input.step (blocks_turn p) };
+    ghost meaning = { λ p. repeat_until Input.step Input.Error.seen Input.Position.cmp (some_appended F.held F.none F.more F.lean) (P.meaning (blocks_part p)) (E.meaning (blocks_end p)) };
 
     ghost parts = { λ _. 1 };
 
     ghost default_valid = { λ s d. rw d tt };
 
-    ghost laws = { λ p l. until_is_meaning Input.step (some_appended F.held F.none F.more F.lean) _ (or_valid E.valid P.valid) (next (E.meaning (blocks_end p)) (P.meaning (blocks_part p))) (next_is_meaning (E.meaning (blocks_end p)) (P.meaning (blocks_part p)) (E.laws (blocks_end p) l.0) (P.laws (blocks_part p) l.1)) };
+    ghost laws = { λ p l. until_is_meaning Input.step Input.Error.seen (some_appended F.held F.none F.more F.lean) _ (or_valid E.valid P.valid) (next Input.Error.seen Input.Position.cmp (E.meaning (blocks_end p)) (P.meaning (blocks_part p))) (next_is_meaning Input.Error.seen Input.Position.cmp (E.meaning (blocks_end p)) (P.meaning (blocks_part p)) (E.laws (blocks_end p) l.0) (P.laws (blocks_part p) l.1)) };
 
-    ghost single = { λ p l d. until_means_one Input.step (some_appended F.held F.none F.more F.lean) (or_valid E.valid P.valid) (next (E.meaning (blocks_end p)) (P.meaning (blocks_part p))) (next_once E.PartialState.is_default E.valid P.PartialState.is_default P.valid (E.meaning (blocks_end p)) (P.meaning (blocks_part p)) (E.single (blocks_end p) l.0 d.0) (P.single (blocks_part p) l.1 d.1)) };
+    ghost single = { λ p l d. until_means_one Input.step Input.Error.seen (some_appended F.held F.none F.more F.lean) (or_valid E.valid P.valid) (next Input.Error.seen Input.Position.cmp (E.meaning (blocks_end p)) (P.meaning (blocks_part p))) (next_once Input.Error.seen Input.Position.cmp E.PartialState.is_default E.valid P.PartialState.is_default P.valid (E.meaning (blocks_end p)) (P.meaning (blocks_part p)) (E.single (blocks_end p) l.0 d.0) (P.single (blocks_part p) l.1 d.1)) };
 
     #[inline(always)]
     fn parse_mode<M: ParseMode>(
@@ -111,17 +108,15 @@ impl<Input: Stream, A: Drop, P: Parser<Input, Output = A>, E: Parser<Input>> Par
 
     ghost valid = { until_valid (or_valid E.valid P.valid) };
 
-    ghost meaning = { λ p. repeat_until Input.step some_dropped (P.meaning (skipped_part p)) (E.meaning (skipped_end p)) };
-
-    ghost refuses = { λ p. turns_refuse E.Parser P.Parser Input.Error.seen Input.Position.cmp E.PartialState.is_default P.PartialState.is_default Input.step (skipped_turn p) };
+    ghost meaning = { λ p. repeat_until Input.step Input.Error.seen Input.Position.cmp some_dropped (P.meaning (skipped_part p)) (E.meaning (skipped_end p)) };
 
     ghost parts = { λ _. 1 };
 
     ghost default_valid = { λ s d. rw d tt };
 
-    ghost laws = { λ p l. until_is_meaning Input.step some_dropped _ (or_valid E.valid P.valid) (next (E.meaning (skipped_end p)) (P.meaning (skipped_part p))) (next_is_meaning (E.meaning (skipped_end p)) (P.meaning (skipped_part p)) (E.laws (skipped_end p) l.0) (P.laws (skipped_part p) l.1)) };
+    ghost laws = { λ p l. until_is_meaning Input.step Input.Error.seen some_dropped _ (or_valid E.valid P.valid) (next Input.Error.seen Input.Position.cmp (E.meaning (skipped_end p)) (P.meaning (skipped_part p))) (next_is_meaning Input.Error.seen Input.Position.cmp (E.meaning (skipped_end p)) (P.meaning (skipped_part p)) (E.laws (skipped_end p) l.0) (P.laws (skipped_part p) l.1)) };
 
-    ghost single = { λ p l d. until_means_one Input.step some_dropped (or_valid E.valid P.valid) (next (E.meaning (skipped_end p)) (P.meaning (skipped_part p))) (next_once E.PartialState.is_default E.valid P.PartialState.is_default P.valid (E.meaning (skipped_end p)) (P.meaning (skipped_part p)) (E.single (skipped_end p) l.0 d.0) (P.single (skipped_part p) l.1 d.1)) };
+    ghost single = { λ p l d. until_means_one Input.step Input.Error.seen some_dropped (or_valid E.valid P.valid) (next Input.Error.seen Input.Position.cmp (E.meaning (skipped_end p)) (P.meaning (skipped_part p))) (next_once Input.Error.seen Input.Position.cmp E.PartialState.is_default E.valid P.PartialState.is_default P.valid (E.meaning (skipped_end p)) (P.meaning (skipped_part p)) (E.single (skipped_end p) l.0 d.0) (P.single (skipped_part p) l.1 d.1)) };
 
     #[inline(always)]
     fn parse_mode<M: ParseMode>(

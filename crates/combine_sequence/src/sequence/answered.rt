@@ -3,7 +3,7 @@ ghost use Rattle.std.specs.Prelude.{◌≡◌, true};
 ghost use Rattle.combine_base.specs.Parser.Given.{GivesOnly, gives_as};
 ghost use Rattle.combine_base.specs.Parser.Kept.{KeptOf};
 ghost use Rattle.combine_sequence.specs.Answered.{AnsweredBySome, AnswersOne, answered_of, asked_part, asks_lawful, first_part, some_lawful, starts_first, starts_valid, then, then_is_meaning, then_means_one, valid_step};
-ghost use Rattle.combine_sequence.specs.Thens.{CalledAnswered, refuses_then};
+ghost use Rattle.combine_sequence.specs.Thens.{CalledAnswered};
 
 pub(super) mod asked;
 pub(super) mod state;
@@ -70,17 +70,15 @@ impl<
 
     ghost valid = { valid_step P.valid (KeptOf N.lawful N.meaning (AnsweredBySome K.callable K.answers N.lawful P.lawful P.valid P.meaning)) N.valid };
 
-    ghost meaning = { λ p. then Input.step K.keeps V.joined (K.answers (asked_part p)) (AnsweredBySome K.callable K.answers N.lawful P.lawful P.valid P.meaning) (P.meaning (first_part p)) N.meaning };
-
-    ghost refuses = { λ p. refuses_then Input.Error.seen (K.answers (asked_part p)) N.PartialState.is_default N.meaning N.refuses Input.step (P.meaning (first_part p)) (P.refuses (first_part p)) };
+    ghost meaning = { λ p. then Input.step Input.Error.seen K.keeps V.joined (K.answers (asked_part p)) (AnsweredBySome K.callable K.answers N.lawful P.lawful P.valid P.meaning) (P.meaning (first_part p)) N.meaning };
 
     ghost parts = { λ _. 1 };
 
     ghost default_valid = { starts_valid (KeptOf N.lawful N.meaning (AnsweredBySome K.callable K.answers N.lawful P.lawful P.valid P.meaning)) N.valid P.default_valid };
 
-    ghost laws = { λ p l. then_is_meaning Input.step K.keeps V.joined (K.answers (asked_part p)) (AnsweredBySome K.callable K.answers N.lawful P.lawful P.valid P.meaning) N.lawful (P.laws (first_part p) l.0) N.laws (gives_as (λ a h. h.1) l.1) };
+    ghost laws = { λ p l. then_is_meaning Input.step Input.Error.seen K.keeps V.joined (K.answers (asked_part p)) (AnsweredBySome K.callable K.answers N.lawful P.lawful P.valid P.meaning) N.lawful (P.laws (first_part p) l.0) N.laws (gives_as (λ a h. h.1) l.1) };
 
-    ghost single = { λ p l d. then_means_one Input.step K.keeps V.joined (K.answers (asked_part p)) (AnsweredBySome K.callable K.answers N.lawful P.lawful P.valid P.meaning) N.lawful (P.single (first_part p) l.0 d.0) (λ n i. N.single n (some_lawful K.callable K.answers N.lawful P.lawful P.valid P.meaning n i) (d.1 n i)) d.2 d.3 };
+    ghost single = { λ p l d. then_means_one Input.step Input.Error.seen K.keeps V.joined (K.answers (asked_part p)) (AnsweredBySome K.callable K.answers N.lawful P.lawful P.valid P.meaning) N.lawful (P.single (first_part p) l.0 d.0) (λ n i. N.single n (some_lawful K.callable K.answers N.lawful P.lawful P.valid P.meaning n i) (d.1 n i)) d.2 d.3 };
 
     #[inline(always)]
     fn parse_mode<M: ParseMode>(
@@ -142,7 +140,7 @@ fn parse_answered<
     requires ready { ⟦<N as Calls<Input>>⟧.ready from.parser from.state }
     requires starts { M.first mode ≡ true → N.PartialState.is_default from.state }
     requires fresh { starts_first S.is_default state.old }
-    ensures { CalledAnswered N.Parser Input.StreamOnce Input.Error.seen N.PartialState.is_default S.is_default V.joined (M.first mode) input.old input.new from state.new result }
+    ensures { CalledAnswered N.Parser Input.StreamOnce Input.Error.seen N.PartialState.is_default S.is_default V.joined input.old input.new from state.new result }
 {
     let Answering {
         value,
@@ -186,7 +184,7 @@ fn resume_answered<
     requires ready { ⟦<N as Calls<Input>>⟧.ready from.parser from.state }
     requires starts { M.first mode ≡ true → N.PartialState.is_default from.state }
     requires fresh { starts_first S.is_default state.old }
-    ensures { CalledAnswered N.Parser Input.StreamOnce Input.Error.seen N.PartialState.is_default S.is_default V.joined (M.first mode) input.old input.new from state.new result }
+    ensures { CalledAnswered N.Parser Input.StreamOnce Input.Error.seen N.PartialState.is_default S.is_default V.joined input.old input.new from state.new result }
 {
     parse_answered(mode, input, from, state)
 }

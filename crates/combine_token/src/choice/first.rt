@@ -101,7 +101,7 @@ pub fn call<Input: Stream, P: Parser<Input>, M: ParseMode>(
 ) -> ParseResult<P::Output, Input::Error>
     requires lawful { P.lawful parser.old }
     requires valid { P.valid state.old }
-    ensures { Chose (world Input.step Input.Error.seen Input.steady P.PartialState.is_default) (P.lawful parser.new) P.valid (P.meaning parser.old) (P.meaning parser.new) (P.refuses parser.old) (Input.marks input.old) (Input.marks input.new) (record { first = M.first mode; state = state.old; left = state.new; old = Input.view input.old; new = Input.view input.new; before = Input.failures input.old; after = Input.failures input.new }) result }
+    ensures { Chose (world Input.step Input.Error.seen Input.steady P.PartialState.is_default) (P.lawful parser.new) P.valid (P.meaning parser.old) (P.meaning parser.new) (Input.marks input.old) (Input.marks input.new) (record { first = M.first mode; state = state.old; left = state.new; old = Input.view input.old; new = Input.view input.new; before = Input.failures input.old; after = Input.failures input.new }) result }
 {
     parser.parse_mode(mode, input, state)
 }

@@ -4,7 +4,6 @@ ghost use Rattle.combine_base.specs.Parser.Answer.{world};
 ghost use Rattle.combine_token.specs.Chose.{Chose, Followed, Tried};
 ghost use Rattle.combine_token.specs.Turned.{NoFault, first_valid};
 ghost use Rattle.combine_token.specs.Or.{either_of, or_valid};
-ghost use Rattle.combine_token.specs.Reasons.{RefusesOr};
 
 use super::OrState;
 use super::first::{Turn, begin, call, go_on, settle};
@@ -28,7 +27,7 @@ pub fn try_1<Input: Stream, A: Parser<Input>, S: Default + Drop, M: ParseMode>(
 ) -> Turn<A::Output, S, Input::Error>
     requires lawful { A.lawful a.old }
     requires valid { first_valid A.valid state.old }
-    ensures { Tried (world Input.step Input.Error.seen Input.steady A.PartialState.is_default) S.is_default A.valid (A.lawful a.new) (A.meaning a.old) (A.meaning a.new) (A.refuses a.old) (Input.marks input.old) (Input.marks input.new) (M.first mode) state.old state.new (Input.view input.old) (Input.view input.new) (Input.failures input.old) (Input.failures input.new) result }
+    ensures { Tried (world Input.step Input.Error.seen Input.steady A.PartialState.is_default) S.is_default A.valid (A.lawful a.new) (A.meaning a.old) (A.meaning a.new) (Input.marks input.old) (Input.marks input.new) (M.first mode) state.old state.new (Input.view input.old) (Input.view input.new) (Input.failures input.old) (Input.failures input.new) result }
 {
     let mut kept = match begin(state, mode) {
         Ok(kept) => kept,
@@ -53,7 +52,7 @@ pub fn then_1<Input: Stream, A: Parser<Input>, S: Drop, M: ParseMode>(
     requires lawful { A.lawful a.old }
     requires valid { A.valid kept }
     requires refused { NoFault Input.Error.seen.kind refused }
-    ensures { Followed Input.step Input.Error.seen Input.steady Input.Position.cmp A.PartialState.is_default (A.lawful a.new) A.valid (A.meaning a.old) (A.meaning a.new) (A.refuses a.old) (Input.marks input.old) (Input.marks input.new) (M.first mode) kept state.old state.new refused (Input.view input.old) (Input.view input.new) (Input.failures input.old) (Input.failures input.new) result }
+    ensures { Followed Input.step Input.Error.seen Input.steady Input.Position.cmp A.PartialState.is_default (A.lawful a.new) A.valid (A.meaning a.old) (A.meaning a.new) (Input.marks input.old) (Input.marks input.new) (M.first mode) kept state.old state.new refused (Input.view input.old) (Input.view input.new) (Input.failures input.old) (Input.failures input.new) result }
 {
     let mut kept = kept;
     let answer = call(a, mode, input, &mut kept);
@@ -76,7 +75,7 @@ pub fn choose_2<
 ) -> ParseResult<A::Output, Input::Error>
     requires lawful { A.lawful a.old × B.lawful b.old }
     requires valid { or_valid A.valid B.valid state.old }
-    ensures { Chose (world Input.step Input.Error.seen Input.steady (λ s. s ≡ OrState.Peek)) (A.lawful a.new × B.lawful b.new) (or_valid A.valid B.valid) (either_of (A.meaning a.old) (B.meaning b.old)) (either_of (A.meaning a.new) (B.meaning b.new)) (RefusesOr Input.Error.seen Input.Position.cmp A.PartialState.is_default B.PartialState.is_default (A.refuses a.old) (B.refuses b.old)) (Input.marks input.old) (Input.marks input.new) (record { first = M.first mode; state = state.old; left = state.new; old = Input.view input.old; new = Input.view input.new; before = Input.failures input.old; after = Input.failures input.new }) result }
+    ensures { Chose (world Input.step Input.Error.seen Input.steady (λ s. s ≡ OrState.Peek)) (A.lawful a.new × B.lawful b.new) (or_valid A.valid B.valid) (either_of Input.Error.seen Input.Position.cmp (A.meaning a.old) (B.meaning b.old)) (either_of Input.Error.seen Input.Position.cmp (A.meaning a.new) (B.meaning b.new)) (Input.marks input.old) (Input.marks input.new) (record { first = M.first mode; state = state.old; left = state.new; old = Input.view input.old; new = Input.view input.new; before = Input.failures input.old; after = Input.failures input.new }) result }
 {
     match try_1(a, mode, input, state) {
         Turn::Ends(answer) => answer,

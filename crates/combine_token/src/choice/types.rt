@@ -1,6 +1,5 @@
 //! The parsers that the functions of `choice` answer.
 ghost use Rattle.std.specs.Prelude.{◌≡◌};
-ghost use Rattle.combine_token.specs.Reasons.{RefusesOr, committed_only};
 ghost use Rattle.combine_token.specs.Optional.{optional, optional_is_meaning, optional_means_one};
 ghost use Rattle.combine_token.specs.Or.{either_of, or_is_meaning, or_means_one, or_valid};
 
@@ -28,17 +27,15 @@ impl<Input: Stream, P: Parser<Input>, Q: Parser<Input, Output = P::Output>> Pars
 
     ghost valid = { or_valid P.valid Q.valid };
 
-    ghost meaning = { λ p. either_of (P.meaning p.0) (Q.meaning p.1) };
-
-    ghost refuses = { λ p. RefusesOr Input.Error.seen Input.Position.cmp P.PartialState.is_default Q.PartialState.is_default (P.refuses p.0) (Q.refuses p.1) };
+    ghost meaning = { λ p. either_of Input.Error.seen Input.Position.cmp (P.meaning p.0) (Q.meaning p.1) };
 
     ghost parts = { λ _. 1 };
 
     ghost default_valid = { λ s d. rw d tt };
 
-    ghost laws = { λ p l. or_is_meaning P.PartialState.is_default P.valid Q.PartialState.is_default Q.valid _ _ (P.laws p.0 l.0) (Q.laws p.1 l.1) };
+    ghost laws = { λ p l. or_is_meaning Input.Error.seen Input.Position.cmp P.PartialState.is_default P.valid Q.PartialState.is_default Q.valid _ _ (P.laws p.0 l.0) (Q.laws p.1 l.1) };
 
-    ghost single = { λ p l d. or_means_one P.PartialState.is_default P.valid Q.PartialState.is_default Q.valid _ _ (P.single p.0 l.0 d.0) (Q.single p.1 l.1 d.1) };
+    ghost single = { λ p l d. or_means_one Input.Error.seen Input.Position.cmp P.PartialState.is_default P.valid Q.PartialState.is_default Q.valid _ _ (P.single p.0 l.0 d.0) (Q.single p.1 l.1 d.1) };
 
     #[inline(always)]
     fn parse_mode<M: ParseMode>(
@@ -80,8 +77,6 @@ impl<Input: Stream, P: Parser<Input>> Parser<Input> for Optional<P> {
     ghost valid = { P.valid };
 
     ghost meaning = { λ p. optional (P.meaning p.0) };
-
-    ghost refuses = { λ p k v. committed_only (P.refuses p.0 k v) };
 
     ghost parts = { λ p. P.parts p.0 };
 

@@ -24,7 +24,7 @@ pub fn one_token<B, Input: Stream, F: FnOnce(Option<Input::Token>) -> Option<B>>
     ensures passes { Passes (Input.marks input.old) (Input.marks input.new) (Input.failures input.old) (Input.failures input.new) }
     ensures reads { ReadsToken (world Input.step Input.Error.seen Input.steady ⟦<() as Default>⟧.is_default) (F.post test) (Input.view input.old) (Input.view input.new) (Input.failures input.old) (Input.failures input.new) result }
     ensures back { PutBack (Input.view input.old) (Input.view input.new) result }
-    ensures refuses { Reasoned Input.Error.seen.kind (Input.view input.new).is_open (RefusesToken Input.Error.seen (Input.view input.old)) result }
+    ensures refuses { Reasoned Input.Error.seen.kind (Input.view input.new).is_open (RefusesToken Input.Error.seen (Input.view input.old) (Input.view input.new)) result }
 {
     let start = input.checkpoint();
     let position = input.position();
@@ -62,7 +62,7 @@ pub fn token_map<B, Input: Stream, F: FnOnce(Input::Token) -> Option<B>>(
     ensures passes { Passes (Input.marks input.old) (Input.marks input.new) (Input.failures input.old) (Input.failures input.new) }
     ensures reads { ReadsToken (world Input.step Input.Error.seen Input.steady ⟦<() as Default>⟧.is_default) (of_token (F.post function)) (Input.view input.old) (Input.view input.new) (Input.failures input.old) (Input.failures input.new) result }
     ensures back { PutBack (Input.view input.old) (Input.view input.new) result }
-    ensures refuses { Reasoned Input.Error.seen.kind (Input.view input.new).is_open (RefusesToken Input.Error.seen (Input.view input.old)) result }
+    ensures refuses { Reasoned Input.Error.seen.kind (Input.view input.new).is_open (RefusesToken Input.Error.seen (Input.view input.old) (Input.view input.new)) result }
 {
     one_token(
         |first: Option<Input::Token>| -> Option<B>
@@ -88,7 +88,7 @@ pub fn token_if<Input: Stream, F: FnOnce(Input::Token) -> bool>(
     ensures passes { Passes (Input.marks input.old) (Input.marks input.new) (Input.failures input.old) (Input.failures input.new) }
     ensures reads { ReadsTokenIf (world Input.step Input.Error.seen Input.steady ⟦<() as Default>⟧.is_default) (F.post predicate) (Input.view input.old) (Input.view input.new) (Input.failures input.old) (Input.failures input.new) result }
     ensures back { PutBack (Input.view input.old) (Input.view input.new) result }
-    ensures refuses { Reasoned Input.Error.seen.kind (Input.view input.new).is_open (RefusesToken Input.Error.seen (Input.view input.old)) result }
+    ensures refuses { Reasoned Input.Error.seen.kind (Input.view input.new).is_open (RefusesToken Input.Error.seen (Input.view input.old) (Input.view input.new)) result }
 {
     token_map(
         |token: Input::Token| -> Option<Input::Token>

@@ -1,11 +1,8 @@
 //! Tuples of five to eight as parsers: each is a tuple of references to the parts before its last one, and then that one.
 ghost use Rattle.std.specs.Prelude.{◌≡◌, ◌+◌, min, true};
-ghost use Rattle.combine_base.specs.Parser.Reasons.{Reasoned, kept_from};
-ghost use Rattle.combine_base.specs.Sequence.Behind.{one_more};
 ghost use Rattle.combine_base.specs.Sequence.Followed.{Follows};
 ghost use Rattle.combine_base.specs.Sequence.Longer.{begins_valid_5, begins_valid_6, begins_valid_7, begins_valid_8, tuple_5, tuple_5_is_meaning, tuple_5_means_one, tuple_6, tuple_6_is_meaning, tuple_6_means_one, tuple_7, tuple_7_is_meaning, tuple_7_means_one, tuple_8, tuple_8_is_meaning, tuple_8_means_one, valid_5, valid_6, valid_7, valid_8};
 ghost use Rattle.combine_base.specs.Sequence.Places.{begins, valid_in};
-ghost use Rattle.combine_base.specs.Sequence.TupleRefusals.{refuses_tuple_5, refuses_tuple_6, refuses_tuple_7, refuses_tuple_8};
 ghost use Rattle.combine_base.specs.Sequence.Tuples.{followed};
 
 mod front;
@@ -45,7 +42,6 @@ fn parse_one_after<
     ensures lent { Q.same before.old before.new }
     ensures lawful { Q.lawful before.new × E.lawful e.new }
     ensures follows { Follows S.place T.pushed Input.StreamOnce Input.Error.seen Q.fresh Q.valid E.Parser (Q.meaning before.old) (Q.meaning before.new) e.old e.new input.old input.new from state.new result }
-    ensures refuses { Reasoned Input.Error.seen.kind (Input.view input.new).is_open ((one_more Input.step Input.Error.seen S.place T.pushed E.PartialState.is_default E.Parser e.old (record { meaning = Q.meaning before.old; refuses = Q.refuses before.old })).refuses (kept_from (M.first mode) from) (Input.view input.old)) result }
 {
     match from.into_place() {
         SequencePlace::Before(at) => {
@@ -84,8 +80,7 @@ fn parse_two_after<
     requires fresh { begins S.place (begins N.place Q.fresh) state.old }
     ensures lent { Q.same before.old before.new }
     ensures lawful { Q.lawful before.new × E.lawful e.new × F.lawful f.new }
-    ensures follows { Follows S.place V.pushed Input.StreamOnce Input.Error.seen (begins N.place Q.fresh) (valid_in N.place Q.valid E.valid) F.Parser (followed Input.step N.place T.pushed (Q.meaning before.old) (E.meaning e.old)) (followed Input.step N.place T.pushed (Q.meaning before.new) (E.meaning e.new)) f.old f.new input.old input.new from state.new result }
-    ensures refuses { Reasoned Input.Error.seen.kind (Input.view input.new).is_open ((one_more Input.step Input.Error.seen S.place V.pushed F.PartialState.is_default F.Parser f.old (one_more Input.step Input.Error.seen N.place T.pushed E.PartialState.is_default E.Parser e.old (record { meaning = Q.meaning before.old; refuses = Q.refuses before.old }))).refuses (kept_from (M.first mode) from) (Input.view input.old)) result }
+    ensures follows { Follows S.place V.pushed Input.StreamOnce Input.Error.seen (begins N.place Q.fresh) (valid_in N.place Q.valid E.valid) F.Parser (followed Input.step Input.Error.seen N.place T.pushed (Q.meaning before.old) (E.meaning e.old)) (followed Input.step Input.Error.seen N.place T.pushed (Q.meaning before.new) (E.meaning e.new)) f.old f.new input.old input.new from state.new result }
 {
     match from.into_place() {
         SequencePlace::Before(at) => {
@@ -128,8 +123,7 @@ fn parse_three_after<
     requires fresh { begins S.place (begins N.place (begins L.place Q.fresh)) state.old }
     ensures lent { Q.same before.old before.new }
     ensures lawful { Q.lawful before.new × E.lawful e.new × F.lawful f.new × G.lawful g.new }
-    ensures follows { Follows S.place W.pushed Input.StreamOnce Input.Error.seen (begins N.place (begins L.place Q.fresh)) (valid_in N.place (valid_in L.place Q.valid E.valid) F.valid) G.Parser (followed Input.step N.place V.pushed (followed Input.step L.place T.pushed (Q.meaning before.old) (E.meaning e.old)) (F.meaning f.old)) (followed Input.step N.place V.pushed (followed Input.step L.place T.pushed (Q.meaning before.new) (E.meaning e.new)) (F.meaning f.new)) g.old g.new input.old input.new from state.new result }
-    ensures refuses { Reasoned Input.Error.seen.kind (Input.view input.new).is_open ((one_more Input.step Input.Error.seen S.place W.pushed G.PartialState.is_default G.Parser g.old (one_more Input.step Input.Error.seen N.place V.pushed F.PartialState.is_default F.Parser f.old (one_more Input.step Input.Error.seen L.place T.pushed E.PartialState.is_default E.Parser e.old (record { meaning = Q.meaning before.old; refuses = Q.refuses before.old })))).refuses (kept_from (M.first mode) from) (Input.view input.old)) result }
+    ensures follows { Follows S.place W.pushed Input.StreamOnce Input.Error.seen (begins N.place (begins L.place Q.fresh)) (valid_in N.place (valid_in L.place Q.valid E.valid) F.valid) G.Parser (followed Input.step Input.Error.seen N.place V.pushed (followed Input.step Input.Error.seen L.place T.pushed (Q.meaning before.old) (E.meaning e.old)) (F.meaning f.old)) (followed Input.step Input.Error.seen N.place V.pushed (followed Input.step Input.Error.seen L.place T.pushed (Q.meaning before.new) (E.meaning e.new)) (F.meaning f.new)) g.old g.new input.old input.new from state.new result }
 {
     match from.into_place() {
         SequencePlace::Before(at) => {
@@ -178,8 +172,7 @@ fn parse_four_after<
     requires fresh { begins S.place (begins N.place (begins L.place (begins K.place Q.fresh))) state.old }
     ensures lent { Q.same before.old before.new }
     ensures lawful { Q.lawful before.new × E.lawful e.new × F.lawful f.new × G.lawful g.new × H.lawful h.new }
-    ensures follows { Follows S.place Y.pushed Input.StreamOnce Input.Error.seen (begins N.place (begins L.place (begins K.place Q.fresh))) (valid_in N.place (valid_in L.place (valid_in K.place Q.valid E.valid) F.valid) G.valid) H.Parser (followed Input.step N.place W.pushed (followed Input.step L.place V.pushed (followed Input.step K.place T.pushed (Q.meaning before.old) (E.meaning e.old)) (F.meaning f.old)) (G.meaning g.old)) (followed Input.step N.place W.pushed (followed Input.step L.place V.pushed (followed Input.step K.place T.pushed (Q.meaning before.new) (E.meaning e.new)) (F.meaning f.new)) (G.meaning g.new)) h.old h.new input.old input.new from state.new result }
-    ensures refuses { Reasoned Input.Error.seen.kind (Input.view input.new).is_open ((one_more Input.step Input.Error.seen S.place Y.pushed H.PartialState.is_default H.Parser h.old (one_more Input.step Input.Error.seen N.place W.pushed G.PartialState.is_default G.Parser g.old (one_more Input.step Input.Error.seen L.place V.pushed F.PartialState.is_default F.Parser f.old (one_more Input.step Input.Error.seen K.place T.pushed E.PartialState.is_default E.Parser e.old (record { meaning = Q.meaning before.old; refuses = Q.refuses before.old }))))).refuses (kept_from (M.first mode) from) (Input.view input.old)) result }
+    ensures follows { Follows S.place Y.pushed Input.StreamOnce Input.Error.seen (begins N.place (begins L.place (begins K.place Q.fresh))) (valid_in N.place (valid_in L.place (valid_in K.place Q.valid E.valid) F.valid) G.valid) H.Parser (followed Input.step Input.Error.seen N.place W.pushed (followed Input.step Input.Error.seen L.place V.pushed (followed Input.step Input.Error.seen K.place T.pushed (Q.meaning before.old) (E.meaning e.old)) (F.meaning f.old)) (G.meaning g.old)) (followed Input.step Input.Error.seen N.place W.pushed (followed Input.step Input.Error.seen L.place V.pushed (followed Input.step Input.Error.seen K.place T.pushed (Q.meaning before.new) (E.meaning e.new)) (F.meaning f.new)) (G.meaning g.new)) h.old h.new input.old input.new from state.new result }
 {
     match from.into_place() {
         SequencePlace::Before(at) => {
@@ -246,9 +239,7 @@ impl<
 
     ghost valid = { valid_5 A.valid B.valid C.valid D.valid E.valid };
 
-    ghost meaning = { λ p. tuple_5 Input.step (A.meaning p.0) (B.meaning p.1) (C.meaning p.2) (D.meaning p.3) (E.meaning p.4) };
-
-    ghost refuses = { λ p. refuses_tuple_5 Input.step Input.Error.seen B.PartialState.is_default C.PartialState.is_default D.PartialState.is_default E.PartialState.is_default A.Parser B.Parser C.Parser D.Parser E.Parser p.0 p.1 p.2 p.3 p.4 };
+    ghost meaning = { λ p. tuple_5 Input.step Input.Error.seen (A.meaning p.0) (B.meaning p.1) (C.meaning p.2) (D.meaning p.3) (E.meaning p.4) };
 
     ghost parts = { λ p. min (A.parts p.0 + B.parts p.1 + C.parts p.2 + D.parts p.3 + E.parts p.4) 255 };
 
@@ -285,9 +276,9 @@ impl<
 
     ghost default_valid = { begins_valid_5 B.valid C.valid D.valid E.valid A.default_valid };
 
-    ghost laws = { λ p l. tuple_5_is_meaning Input.step (A.laws p.0 l.0) (B.laws p.1 l.1) (C.laws p.2 l.2) (D.laws p.3 l.3) (E.laws p.4 l.4) };
+    ghost laws = { λ p l. tuple_5_is_meaning Input.step Input.Error.seen (A.laws p.0 l.0) (B.laws p.1 l.1) (C.laws p.2 l.2) (D.laws p.3 l.3) (E.laws p.4 l.4) };
 
-    ghost single = { λ p l d. tuple_5_means_one Input.step (A.single p.0 l.0 d.0) (B.single p.1 l.1 d.1) (C.single p.2 l.2 d.2) (D.single p.3 l.3 d.3) (E.single p.4 l.4 d.4) };
+    ghost single = { λ p l d. tuple_5_means_one Input.step Input.Error.seen (A.single p.0 l.0 d.0) (B.single p.1 l.1 d.1) (C.single p.2 l.2 d.2) (D.single p.3 l.3 d.3) (E.single p.4 l.4 d.4) };
 }
 
 type State6<Input, A, B, C, D, E, F> = PartialState6<
@@ -362,9 +353,7 @@ impl<
 
     ghost valid = { valid_6 A.valid B.valid C.valid D.valid E.valid F.valid };
 
-    ghost meaning = { λ p. tuple_6 Input.step (A.meaning p.0) (B.meaning p.1) (C.meaning p.2) (D.meaning p.3) (E.meaning p.4) (F.meaning p.5) };
-
-    ghost refuses = { λ p. refuses_tuple_6 Input.step Input.Error.seen B.PartialState.is_default C.PartialState.is_default D.PartialState.is_default E.PartialState.is_default F.PartialState.is_default A.Parser B.Parser C.Parser D.Parser E.Parser F.Parser p.0 p.1 p.2 p.3 p.4 p.5 };
+    ghost meaning = { λ p. tuple_6 Input.step Input.Error.seen (A.meaning p.0) (B.meaning p.1) (C.meaning p.2) (D.meaning p.3) (E.meaning p.4) (F.meaning p.5) };
 
     ghost parts = { λ p. min (A.parts p.0 + B.parts p.1 + C.parts p.2 + D.parts p.3 + E.parts p.4 + F.parts p.5) 255 };
 
@@ -412,9 +401,9 @@ impl<
 
     ghost default_valid = { begins_valid_6 B.valid C.valid D.valid E.valid F.valid A.default_valid };
 
-    ghost laws = { λ p l. tuple_6_is_meaning Input.step (A.laws p.0 l.0) (B.laws p.1 l.1) (C.laws p.2 l.2) (D.laws p.3 l.3) (E.laws p.4 l.4) (F.laws p.5 l.5) };
+    ghost laws = { λ p l. tuple_6_is_meaning Input.step Input.Error.seen (A.laws p.0 l.0) (B.laws p.1 l.1) (C.laws p.2 l.2) (D.laws p.3 l.3) (E.laws p.4 l.4) (F.laws p.5 l.5) };
 
-    ghost single = { λ p l d. tuple_6_means_one Input.step (A.single p.0 l.0 d.0) (B.single p.1 l.1 d.1) (C.single p.2 l.2 d.2) (D.single p.3 l.3 d.3) (E.single p.4 l.4 d.4) (F.single p.5 l.5 d.5) };
+    ghost single = { λ p l d. tuple_6_means_one Input.step Input.Error.seen (A.single p.0 l.0 d.0) (B.single p.1 l.1 d.1) (C.single p.2 l.2 d.2) (D.single p.3 l.3 d.3) (E.single p.4 l.4 d.4) (F.single p.5 l.5 d.5) };
 }
 
 type State7<Input, A, B, C, D, E, F, G> = PartialState7<
@@ -503,9 +492,7 @@ impl<
 
     ghost valid = { valid_7 A.valid B.valid C.valid D.valid E.valid F.valid G.valid };
 
-    ghost meaning = { λ p. tuple_7 Input.step (A.meaning p.0) (B.meaning p.1) (C.meaning p.2) (D.meaning p.3) (E.meaning p.4) (F.meaning p.5) (G.meaning p.6) };
-
-    ghost refuses = { λ p. refuses_tuple_7 Input.step Input.Error.seen B.PartialState.is_default C.PartialState.is_default D.PartialState.is_default E.PartialState.is_default F.PartialState.is_default G.PartialState.is_default A.Parser B.Parser C.Parser D.Parser E.Parser F.Parser G.Parser p.0 p.1 p.2 p.3 p.4 p.5 p.6 };
+    ghost meaning = { λ p. tuple_7 Input.step Input.Error.seen (A.meaning p.0) (B.meaning p.1) (C.meaning p.2) (D.meaning p.3) (E.meaning p.4) (F.meaning p.5) (G.meaning p.6) };
 
     ghost parts = { λ p. min (A.parts p.0 + B.parts p.1 + C.parts p.2 + D.parts p.3 + E.parts p.4 + F.parts p.5 + G.parts p.6) 255 };
 
@@ -557,9 +544,9 @@ impl<
 
     ghost default_valid = { begins_valid_7 B.valid C.valid D.valid E.valid F.valid G.valid A.default_valid };
 
-    ghost laws = { λ p l. tuple_7_is_meaning Input.step (A.laws p.0 l.0) (B.laws p.1 l.1) (C.laws p.2 l.2) (D.laws p.3 l.3) (E.laws p.4 l.4) (F.laws p.5 l.5) (G.laws p.6 l.6) };
+    ghost laws = { λ p l. tuple_7_is_meaning Input.step Input.Error.seen (A.laws p.0 l.0) (B.laws p.1 l.1) (C.laws p.2 l.2) (D.laws p.3 l.3) (E.laws p.4 l.4) (F.laws p.5 l.5) (G.laws p.6 l.6) };
 
-    ghost single = { λ p l d. tuple_7_means_one Input.step (A.single p.0 l.0 d.0) (B.single p.1 l.1 d.1) (C.single p.2 l.2 d.2) (D.single p.3 l.3 d.3) (E.single p.4 l.4 d.4) (F.single p.5 l.5 d.5) (G.single p.6 l.6 d.6) };
+    ghost single = { λ p l d. tuple_7_means_one Input.step Input.Error.seen (A.single p.0 l.0 d.0) (B.single p.1 l.1 d.1) (C.single p.2 l.2 d.2) (D.single p.3 l.3 d.3) (E.single p.4 l.4 d.4) (F.single p.5 l.5 d.5) (G.single p.6 l.6 d.6) };
 }
 
 type State8<Input, A, B, C, D, E, F, G, H> = PartialState8<
@@ -663,9 +650,7 @@ impl<
 
     ghost valid = { valid_8 A.valid B.valid C.valid D.valid E.valid F.valid G.valid H.valid };
 
-    ghost meaning = { λ p. tuple_8 Input.step (A.meaning p.0) (B.meaning p.1) (C.meaning p.2) (D.meaning p.3) (E.meaning p.4) (F.meaning p.5) (G.meaning p.6) (H.meaning p.7) };
-
-    ghost refuses = { λ p. refuses_tuple_8 Input.step Input.Error.seen B.PartialState.is_default C.PartialState.is_default D.PartialState.is_default E.PartialState.is_default F.PartialState.is_default G.PartialState.is_default H.PartialState.is_default A.Parser B.Parser C.Parser D.Parser E.Parser F.Parser G.Parser H.Parser p.0 p.1 p.2 p.3 p.4 p.5 p.6 p.7 };
+    ghost meaning = { λ p. tuple_8 Input.step Input.Error.seen (A.meaning p.0) (B.meaning p.1) (C.meaning p.2) (D.meaning p.3) (E.meaning p.4) (F.meaning p.5) (G.meaning p.6) (H.meaning p.7) };
 
     ghost parts = { λ p. min (A.parts p.0 + B.parts p.1 + C.parts p.2 + D.parts p.3 + E.parts p.4 + F.parts p.5 + G.parts p.6 + H.parts p.7) 255 };
 
@@ -721,7 +706,7 @@ impl<
 
     ghost default_valid = { begins_valid_8 B.valid C.valid D.valid E.valid F.valid G.valid H.valid A.default_valid };
 
-    ghost laws = { λ p l. tuple_8_is_meaning Input.step (A.laws p.0 l.0) (B.laws p.1 l.1) (C.laws p.2 l.2) (D.laws p.3 l.3) (E.laws p.4 l.4) (F.laws p.5 l.5) (G.laws p.6 l.6) (H.laws p.7 l.7) };
+    ghost laws = { λ p l. tuple_8_is_meaning Input.step Input.Error.seen (A.laws p.0 l.0) (B.laws p.1 l.1) (C.laws p.2 l.2) (D.laws p.3 l.3) (E.laws p.4 l.4) (F.laws p.5 l.5) (G.laws p.6 l.6) (H.laws p.7 l.7) };
 
-    ghost single = { λ p l d. tuple_8_means_one Input.step (A.single p.0 l.0 d.0) (B.single p.1 l.1 d.1) (C.single p.2 l.2 d.2) (D.single p.3 l.3 d.3) (E.single p.4 l.4 d.4) (F.single p.5 l.5 d.5) (G.single p.6 l.6 d.6) (H.single p.7 l.7 d.7) };
+    ghost single = { λ p l d. tuple_8_means_one Input.step Input.Error.seen (A.single p.0 l.0 d.0) (B.single p.1 l.1 d.1) (C.single p.2 l.2 d.2) (D.single p.3 l.3 d.3) (E.single p.4 l.4 d.4) (F.single p.5 l.5 d.5) (G.single p.6 l.6 d.6) (H.single p.7 l.7 d.7) };
 }

@@ -12,7 +12,7 @@ returns-clause-answers g c =
     let compares = g.F.Fits.compares c.args.fits.now in
     let items = c.characters-items.result in
     let text = c.args.text.now in
-    given_answers _ _ _ (chars_within items text k.valid k.rest compares) (within_chars items text k.valid k.rest compares) _ _ (λ r. (λ e. e, λ e. e)) _ _ (tt, tt) _ _ _ _ c.match_list.ensures.answers
+    given_answers _ _ _ _ _ (chars_within items text k.valid k.rest compares) (within_chars items text k.valid k.rest compares) _ _ (λ r. (λ e. e, λ e. e)) _ _ (tt, tt) _ _ _ _ c.match_list.ensures.answers
 
 pub returns-clause-refuses : goal.returns-clause-refuses
 returns-clause-refuses g c =
@@ -20,4 +20,4 @@ returns-clause-refuses g c =
     let compares = g.F.Fits.compares c.args.fits.now in
     let items = c.characters-items.result in
     let text = c.args.text.now in
-    spelled_reasons _ _ _ _ (chars_within items text k.valid k.rest compares) _ _ _ _ c.match_list.ensures.refuses
+    spelled_reasons g.Input.Error.ParseError.seen _ _ _ (chars_within items text k.valid k.rest compares) _ _ _ _ _ c.match_list.ensures.refuses

@@ -14,5 +14,5 @@ returns g c =
       parser = run.parser;
       made = run.made;
       answers = starts_made g.N.Parser g.Input.StreamOnce g.Input.Error.ParseError.seen g.N.PartialState.Default.is_default run.called run.view run.failures run.is_default (g.met.N.Parser.laws _ lawful);
-      refuses = refuses_made g.N.Parser g.Input.StreamOnce g.Input.Error.ParseError.seen g.N.PartialState.Default.is_default run.called run.view;
+      refuses = refuses_made g.N.Parser g.Input.StreamOnce g.Input.Error.ParseError.seen g.N.PartialState.Default.is_default run.called run.view run.is_default (g.met.N.Parser.laws _ lawful);
     }

@@ -1,6 +1,7 @@
 use Rattle.std.proofs.Common.{inl, inr, refl}
 use Rattle.combine_base.specs.Parser.Answer.{world}
 use Rattle.combine_base.specs.declared.error.ParseResult.TheVariants.{CommitErr}
+use Rattle.combine_base.proofs.Refusing.{explained_at_rest}
 use Rattle.combine_base.proofs.Starting.{at_rest}
 use Rattle.combine_repeat_sep.proofs.pair.parse_part.Goals as goal
 
@@ -15,7 +16,7 @@ returns-in-CommitOk g c =
         stopped = _;
         answer = _;
         answers = at_rest _ _ _ (g.met.P.Parser.laws c.args.part.now c.requires.ready.lawful) _ c.requires.starts _ c.in-CommitOk.ensures.answers;
-        explained = c.in-CommitOk.ensures.explained;
+        explained = explained_at_rest (g.met.P.Parser.laws c.args.part.now c.requires.ready.lawful) c.requires.starts c.in-CommitOk.ensures.explained;
         is = refl;
         leaves = inr (λ q. q, refl);
       };
@@ -32,7 +33,7 @@ returns-in-PeekOk g c =
         stopped = _;
         answer = _;
         answers = at_rest _ _ _ (g.met.P.Parser.laws c.args.part.now c.requires.ready.lawful) _ c.requires.starts _ c.in-PeekOk.ensures.answers;
-        explained = c.in-PeekOk.ensures.explained;
+        explained = explained_at_rest (g.met.P.Parser.laws c.args.part.now c.requires.ready.lawful) c.requires.starts c.in-PeekOk.ensures.explained;
         is = c.accepted_after.ensures;
         leaves = inr (λ q. q, refl);
       };
@@ -50,7 +51,7 @@ returns-then-needs_more g c =
         stopped = _;
         answer = CommitErr c.in-CommitErr.error;
         answers = at_rest around _ _ (g.met.P.Parser.laws c.args.part.now c.requires.ready.lawful) _ c.requires.starts _ c.in-CommitErr.ensures.answers;
-        explained = c.in-CommitErr.ensures.explained;
+        explained = explained_at_rest (g.met.P.Parser.laws c.args.part.now c.requires.ready.lawful) c.requires.starts c.in-CommitErr.ensures.explained;
         is = refl;
         leaves = inl (c.needs_more.ensures.0 c.if-needs_more.true, refl, c.in-CommitErr.ensures.valid);
       };
@@ -67,7 +68,7 @@ returns-else-needs_more g c =
         stopped = _;
         answer = _;
         answers = at_rest _ _ _ (g.met.P.Parser.laws c.args.part.now c.requires.ready.lawful) _ c.requires.starts _ c.in-CommitErr.ensures.answers;
-        explained = c.in-CommitErr.ensures.explained;
+        explained = explained_at_rest (g.met.P.Parser.laws c.args.part.now c.requires.ready.lawful) c.requires.starts c.in-CommitErr.ensures.explained;
         is = refl;
         leaves = inr (λ q. let e = c.needs_more.ensures.1 q in let f = c.if-needs_more.false in cc, refl);
       };
@@ -84,7 +85,7 @@ returns-in-PeekErr g c =
         stopped = _;
         answer = _;
         answers = at_rest _ _ _ (g.met.P.Parser.laws c.args.part.now c.requires.ready.lawful) _ c.requires.starts _ c.in-PeekErr.ensures.answers;
-        explained = c.in-PeekErr.ensures.explained;
+        explained = explained_at_rest (g.met.P.Parser.laws c.args.part.now c.requires.ready.lawful) c.requires.starts c.in-PeekErr.ensures.explained;
         is = c.refused_after.ensures;
         leaves = inr (λ q. q, refl);
       };

@@ -8,6 +8,6 @@ pub returns : goal.returns
 returns g c =
     let call = c.parse_part.ensures in
     elim c.match-answer.branch [
-      | in-CommitOk w ↦ rw w.in-CommitOk.is (record { lawful = call.lawful; same = call.same; passes = call.passes; goes_on = record { is = record { first = _; state = _; afresh = c.default-kept.ensures; runs = rw w.value-is at call.runs } } })
-      | in-PeekOk w ↦ rw w.in-PeekOk.is (record { lawful = call.lawful; same = call.same; passes = call.passes; goes_on = record { is = record { first = _; state = _; afresh = c.default-kept.ensures; runs = rw w.value-is at call.runs } } })
+      | in-CommitOk w ↦ rw w.in-CommitOk.is (record { lawful = call.lawful; same = call.same; passes = call.passes; goes_on = record { is = record { state = _; afresh = c.default-kept.ensures; runs = rw w.value-is at call.runs } } })
+      | in-PeekOk w ↦ rw w.in-PeekOk.is (record { lawful = call.lawful; same = call.same; passes = call.passes; goes_on = record { is = record { state = _; afresh = c.default-kept.ensures; runs = rw w.value-is at call.runs } } })
     ]

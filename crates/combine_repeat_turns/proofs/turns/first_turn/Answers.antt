@@ -1,4 +1,5 @@
-use Rattle.std.proofs.Common.{refl, sym, ◌∙◌}
+use Rattle.std.proofs.Common.{false, true, refl, sym, ◌∙◌}
+use Rattle.combine_base.proofs.Refusing.{reasoned_meant}
 use Rattle.std.proofs.lemmas.Bool.{false≢true}
 use Rattle.combine_repeat_turns.specs.FirstTurn.{FirstInTurn, FirstUnstored}
 use Rattle.combine_repeat_turns.proofs.Judging.{accepts_by}
@@ -27,3 +28,9 @@ returns-in-Err-clause-turned g c =
       | in-CommitOk w ↦ record { is = FirstUnstored c.match-parse_turn.value (accepts_by _ _ _ _ _ _ w.value-is w.in-CommitOk.ensures.answers.is) c.new_error.ensures.kind c.in-Err.ensures }
       | in-PeekOk w ↦ record { is = FirstUnstored c.match-parse_turn.value (accepts_by _ _ _ _ _ _ w.value-is w.in-PeekOk.ensures.answers.is) c.new_error.ensures.kind c.in-Err.ensures }
     ]
+
+pub returns-in-PeekErr-clause-refuses : goal.returns-in-PeekErr-clause-refuses
+returns-in-PeekErr-clause-refuses g c = record { is = reasoned_meant c.in-PeekErr.ensures.answers c.in-PeekErr.ensures.refuses false _ (record { is = refl }) }
+
+pub returns-in-CommitErr-clause-refuses : goal.returns-in-CommitErr-clause-refuses
+returns-in-CommitErr-clause-refuses g c = record { is = λ i. reasoned_meant c.in-CommitErr.ensures.answers c.in-CommitErr.ensures.refuses true _ (record { is = (refl, i) }) }

@@ -1,5 +1,6 @@
 use Rattle.std.proofs.Common.{refl, sym, ◌∙◌}
 use Rattle.combine_repeat_turns.specs.OneTurn.{PutBack}
+use Rattle.combine_repeat_turns.specs.TurnRefusals.{Few}
 use Rattle.combine_repeat_turns.proofs.Judging.{put_back, not_put_back, ran_answers}
 use Rattle.combine_repeat_turns.proofs.turns.judge_refusal.Goals as goal
 
@@ -11,3 +12,6 @@ returns-then-is_enough-clause-halted g c = λ p later r n a.
     let i = c.in_default.ensures.to.is in
     let e = i.0 _ n.begun_at in
     PutBack (sym c.is_enough.ensures ∙ c.if-is_enough.true) (put_back _ _ _ _ _ _ _ _ _ _ _ _ (ran_answers _ _ _ _ _ _ n _ a) e i.1) e refl
+
+pub returns-clause-refuses : goal.returns-clause-refuses
+returns-clause-refuses g c = λ p later. record { is = λ first s v q x. record { is = (refl, Few refl (sym c.is_enough.ensures ∙ c.if-is_enough.false) (sym c.owns.ensures ∙ c.if-owns.false) c.args.refusal.error x (rw (q, ← c.missing.ensures, c.from.ensures) c.too_few-error.ensures.says)) } }

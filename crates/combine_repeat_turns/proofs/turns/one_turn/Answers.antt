@@ -1,5 +1,7 @@
-use Rattle.std.proofs.Common.{refl, sym, ◌∙◌}
+use Rattle.std.proofs.Common.{false, true, refl, sym, ◌∙◌}
+use Rattle.combine_base.proofs.Refusing.{reasoned_meant}
 use Rattle.combine_repeat_turns.specs.OneTurn.{Ended, TakesNothing, Unstored}
+use Rattle.combine_repeat_turns.specs.TurnRefusals.{Idle, Own}
 use Rattle.combine_repeat_turns.proofs.Judging.{judged_by, accepts_by, gathered_on, needs_on}
 use Rattle.combine_repeat_turns.proofs.Sounding.{turn_able}
 use Rattle.combine_repeat_turns.proofs.turns.one_turn.Goals as goal
@@ -57,3 +59,21 @@ returns-in-Err-clause-turned g c =
       | in-CommitOk w ↦ record { is = Unstored _ (accepts_by _ _ _ _ _ _ w.value-is w.in-CommitOk.ensures.answers.is) c.new_error.ensures.kind c.in-Err.ensures }
       | in-PeekOk w ↦ record { is = Unstored _ (accepts_by _ _ _ _ _ _ w.value-is w.in-PeekOk.ensures.answers.is) c.new_error.ensures.kind c.in-Err.ensures }
     ]
+
+pub returns-then-not-goes-clause-refuses : goal.returns-then-not-goes-clause-refuses
+returns-then-not-goes-clause-refuses g c =
+    let since = g.met.Input.ResetStream.lasts _ _ _ _ c.enter.ensures.passes.marks c.checkpoint-since.ensures.stands in
+    let on = sym c.ends.ensures ∙ c.if-ends.false in
+    let said = rw c.position-position.ensures at c.refusal_saying-error.ensures.says in
+    elim c.match-enter.branch [
+      | in-CommitOk w ↦ let j = judged_by _ (g.B.Bounded.bounds c.args.bounds) g.P.Turn.ending _ _ c.args.turns.place _ _ _ _ _ w.value-is w.in-CommitOk.ensures.answers.is on (λ i t. c.goes.ensures i _ since t) c.if-not-goes.true in record { is = record { is = λ i. Idle refl _ j.accepts.count _ j.accepts.meant j.on (sym j.says) said } }
+      | in-PeekOk w ↦ let j = judged_by _ (g.B.Bounded.bounds c.args.bounds) g.P.Turn.ending _ _ c.args.turns.place _ _ _ _ _ w.value-is w.in-PeekOk.ensures.answers.is on (λ i t. c.goes.ensures i _ since t) c.if-not-goes.true in record { is = record { is = λ i. Idle refl _ j.accepts.count _ j.accepts.meant j.on (sym j.says) said } }
+    ]
+
+pub returns-in-PeekErr-clause-refuses : goal.returns-in-PeekErr-clause-refuses
+returns-in-PeekErr-clause-refuses g c =
+    let judged = c.judge_refusal.ensures.refuses c.args.parser.now (g.C.Entry.later c.args.entry) in
+    record { is = judged.is (g.C.Entry.first c.args.entry) c.args.running.now _ (sym c.position-position.ensures) (reasoned_meant c.in-PeekErr.ensures.answers c.in-PeekErr.ensures.refuses false _ (record { is = refl })) }
+
+pub returns-in-CommitErr-clause-refuses : goal.returns-in-CommitErr-clause-refuses
+returns-in-CommitErr-clause-refuses g c = record { is = record { is = λ i. Own refl (reasoned_meant c.in-CommitErr.ensures.answers c.in-CommitErr.ensures.refuses true _ (record { is = (refl, i) })) } }

@@ -1,8 +1,11 @@
-use Rattle.std.proofs.Common.{true, false, refl, sym, ◌∙◌}
+use Rattle.std.proofs.Common.{true, false, refl, sym, ◌∙◌, None}
+use Rattle.combine_base.specs.Parser.Answer.{world}
+use Rattle.combine_repeat_turns.specs.declared.turns.Bounds.TheVariants.{Joined}
 use Rattle.combine_base.proofs.Same.{passes_none, passes_more}
-use Rattle.combine_repeat_turns.specs.Bounded.{gathered}
+use Rattle.combine_repeat_turns.specs.Bounded.{gathered, none_yet}
 use Rattle.combine_repeat_turns.proofs.Judging.{called_same, turned_same, turns_same_more}
 use Rattle.combine_repeat_turns.proofs.Repeating.{comes_on, comes_stopped, resumed_valid}
+use Rattle.combine_repeat_turns.proofs.TurnRefusals.{first_failed_leads, first_refused_leads, leads_entered, leads_first_on, leads_kept, leads_on, stops_leading, stops_same}
 use Rattle.combine_repeat_turns.proofs.Beginning.{not_first, valid_begun, comes_kept, enters, first_on, first_refused, first_more, first_fails}
 use Rattle.combine_repeat_turns.proofs.Sounding.{first_sound, goes_sound, nothing_kept, stopped_sound, turn_able}
 use Rattle.combine_repeat_turns.proofs.turns.take_joined.Goals as goal
@@ -12,9 +15,9 @@ pub returns-in-Stops-clause-answers : goal.returns-in-Stops-clause-answers
 returns-in-Stops-clause-answers g c =
     let f = not_first g.P.Running.Default.is_default g.P.Turn.valid _ _ _ _ (rw c.is_first.ensures at c.hand_out-given.ensures.afresh) c.in-Turns.is in
     let r = (rw c.is_first.ensures at c.hand_out-given.ensures.resumed) f in
-    let z = comes_kept _ _ _ _ _ _ _ _ _ _ _ _ f (sym r.0 ∙ c.in-Turns.is) (sym r.1) in
+    let z = comes_kept _ _ _ _ _ _ _ _ _ _ _ _ _ f (sym r.0 ∙ c.in-Turns.is) (sym r.1) in
     let q = passes_none (g.Input.StreamOnce.marks c.args.input.now) (g.Input.StreamOnce.failures c.args.input.now) in
-    rw c.stopped.ensures.answer (comes_stopped _ _ _ _ _ _ _ _ false _ _ z refl _ c.hand_out-given.ensures.left refl refl refl q.reads q.resets _ c.in-Stops.ensures.turned.is c.stopped.ensures.state)
+    rw c.stopped.ensures.answer (comes_stopped _ _ _ _ _ _ _ _ _ false _ _ z refl _ c.hand_out-given.ensures.left refl refl refl q.reads q.resets _ c.in-Stops.ensures.turned.is c.stopped.ensures.state)
 
 pub returns-in-Stops-clause-sound : goal.returns-in-Stops-clause-sound
 returns-in-Stops-clause-sound g c =
@@ -39,21 +42,21 @@ returns-in-Stops-one_turn-clause-sound g c =
 pub returns-in-Refused-clause-answers : goal.returns-in-Refused-clause-answers
 returns-in-Refused-clause-answers g c =
     let r = rw c.is_first.ensures at c.hand_out-given.ensures.resumed in
-    let z = enters _ _ _ _ _ _ _ _ _ _ _ (λ f. (sym (r f).0 ∙ c.in-Nothing.is, sym (r f).1)) in
-    first_refused _ _ _ _ _ _ _ _ _ z _ c.in-Refused.ensures.turned.is (c.hand_out-given.ensures.left, refl)
+    let z = enters _ _ _ _ _ _ _ _ _ _ _ _ (λ f. (sym (r f).0 ∙ c.in-Nothing.is, sym (r f).1)) in
+    first_refused _ _ _ _ _ _ _ _ _ _ z _ c.in-Refused.ensures.turned.is (c.hand_out-given.ensures.left, refl)
 
 pub returns-in-More-clause-answers : goal.returns-in-More-clause-answers
 returns-in-More-clause-answers g c =
     let r = rw c.is_first.ensures at c.hand_out-given.ensures.resumed in
-    let z = enters _ _ _ _ _ _ _ _ _ _ _ (λ f. (sym (r f).0 ∙ c.in-Nothing.is, sym (r f).1)) in
-    first_more _ _ _ _ _ _ _ _ _ z _ c.in-More.ensures.turned.is (c.hand_out-given.ensures.left, refl)
+    let z = enters _ _ _ _ _ _ _ _ _ _ _ _ (λ f. (sym (r f).0 ∙ c.in-Nothing.is, sym (r f).1)) in
+    first_more _ _ _ _ _ _ _ _ _ _ z _ c.in-More.ensures.turned.is (c.hand_out-given.ensures.left, refl)
 
 pub returns-in-Failed-clause-answers : goal.returns-in-Failed-clause-answers
 returns-in-Failed-clause-answers g c =
     let r = rw c.is_first.ensures at c.hand_out-given.ensures.resumed in
-    let z = enters _ _ _ _ _ _ _ _ _ _ _ (λ f. (sym (r f).0 ∙ c.in-Nothing.is, sym (r f).1)) in
+    let z = enters _ _ _ _ _ _ _ _ _ _ _ _ (λ f. (sym (r f).0 ∙ c.in-Nothing.is, sym (r f).1)) in
     let q = passes_none (g.Input.StreamOnce.marks c.args.input.now) (g.Input.StreamOnce.failures c.args.input.now) in
-    first_fails _ _ _ _ _ _ _ _ _ z q.reads q.resets _ c.in-Failed.ensures.turned.is (c.hand_out-given.ensures.left, refl)
+    first_fails _ _ _ _ _ _ _ _ _ _ z q.reads q.resets _ c.in-Failed.ensures.turned.is (c.hand_out-given.ensures.left, refl)
 
 pub turns-init : goal.turns-init
 turns-init g c =
@@ -62,7 +65,7 @@ turns-init g c =
     elim c.match-given.branch [
       | in-Turns+in-Goes w ↦
           let f = not_first g.P.Running.Default.is_default g.P.Turn.valid _ _ _ _ a w.in-Turns.is in
-          let z = comes_kept _ _ _ _ _ _ _ _ _ _ _ _ f (sym (r f).0 ∙ w.in-Turns.is) (sym (r f).1) in
+          let z = comes_kept _ _ _ _ _ _ _ _ _ _ _ _ _ f (sym (r f).0 ∙ w.in-Turns.is) (sym (r f).1) in
           let s = w.in-Goes.ensures.turned.is in
           record {
             lawful = rw w.parser-is w.one_turn.ensures.lawful;
@@ -70,12 +73,13 @@ turns-init g c =
             fresh = rw w.state-is s.judged.accepts.state;
             same = rw w.parser-is w.one_turn.ensures.same;
             passes = rw w.input-is w.one_turn.ensures.passes;
+            leads = rw (w.input-is, w.turns-is) (leads_on (world g.Input.StreamOnce.step g.Input.Error.ParseError.seen g.Input.StreamOnce.steady g.P.Running.Default.is_default) g.Input.Error.ParseError.seen (Joined 1 None) g.P.Turn.ending (gathered g.G.Gather.held g.G.Gather.none g.G.Gather.more g.G.Gather.lean) (none_yet g.G.Gather.none) (g.P.Turn.meaning c.args.parser.now) (g.P.Turn.again c.args.parser.now) false _ _ _ _ _ _ refl s (leads_kept g.Input.StreamOnce.step g.Input.Error.ParseError.seen (Joined 1 None) g.P.Turn.ending (gathered g.G.Gather.held g.G.Gather.none g.G.Gather.more g.G.Gather.lean) (none_yet g.G.Gather.none) (g.P.Turn.meaning c.args.parser.now) (g.P.Turn.again c.args.parser.now) _ _ _ _ _ f (sym (r f).0 ∙ w.in-Turns.is) (sym (r f).1)));
             cleared = rw w.state-is c.hand_out-given.ensures.left;
             sound = rw w.turns-is (goes_sound _ (gathered g.G.Gather.held g.G.Gather.none g.G.Gather.more g.G.Gather.lean) g.G.Gather.able g.G.Gather.sound g.met.G.Gather.keeps_sound _ _ _ _ _ (c.requires.sound _ (sym (r f).0 ∙ w.in-Turns.is)) _ s (turn_able _ g.P.Turn.valid _ _ g.P.Turn.gives g.G.Gather.able (g.met.P.Turn.gives_only _ c.requires.lawful) c.requires.able false _ (resumed_valid g.P.Turn.valid _ _ (r f).1 c.requires.valid) _ _ s.judged.accepts));
-            reaches = rw (w.state-is, w.input-is, w.turns-is) (comes_on _ _ _ _ _ _ _ _ (g.met.P.Turn.laws _ c.requires.lawful) _ _ _ _ false _ _ _ z refl (resumed_valid g.P.Turn.valid _ _ (r f).1 c.requires.valid) s _);
+            reaches = rw (w.state-is, w.input-is, w.turns-is) (comes_on _ _ _ _ _ _ _ _ _ (g.met.P.Turn.laws _ c.requires.lawful) _ _ _ _ false _ _ _ z refl (resumed_valid g.P.Turn.valid _ _ (r f).1 c.requires.valid) s _);
           }
       | in-Nothing+in-Goes-first_turn w ↦
-          let z = enters _ _ _ _ _ _ _ _ _ _ _ (λ f. (sym (r f).0 ∙ w.in-Nothing.is, sym (r f).1)) in
+          let z = enters _ _ _ _ _ _ _ _ _ _ _ _ (λ f. (sym (r f).0 ∙ w.in-Nothing.is, sym (r f).1)) in
           let s = w.in-Goes-first_turn.ensures.turned.is in
           record {
             lawful = rw w.parser-is w.first_turn.ensures.lawful;
@@ -83,9 +87,10 @@ turns-init g c =
             fresh = rw w.state-is s.accepts.state;
             same = rw w.parser-is w.first_turn.ensures.same;
             passes = rw w.input-is w.first_turn.ensures.passes;
+            leads = rw (w.input-is, w.turns-is) (leads_first_on (world g.Input.StreamOnce.step g.Input.Error.ParseError.seen g.Input.StreamOnce.steady g.P.Running.Default.is_default) g.Input.Error.ParseError.seen g.P.Turn.ending (gathered g.G.Gather.held g.G.Gather.none g.G.Gather.more g.G.Gather.lean) g.G.Gather.none (g.P.Turn.meaning c.args.parser.now) (g.P.Turn.again c.args.parser.now) c.requires.never _ _ _ _ _ s (leads_entered g.Input.StreamOnce.step g.Input.Error.ParseError.seen (Joined 1 None) g.P.Turn.ending (gathered g.G.Gather.held g.G.Gather.none g.G.Gather.more g.G.Gather.lean) (none_yet g.G.Gather.none) (g.P.Turn.meaning c.args.parser.now) (g.P.Turn.again c.args.parser.now) _ _ _ _ (λ f. (sym (r f).0 ∙ w.in-Nothing.is, sym (r f).1))));
             cleared = rw w.state-is c.hand_out-given.ensures.left;
             sound = rw w.turns-is (first_sound _ (gathered g.G.Gather.held g.G.Gather.none g.G.Gather.more g.G.Gather.lean) g.G.Gather.able g.G.Gather.sound g.met.G.Gather.keeps_sound _ _ _ s (turn_able _ g.P.Turn.valid _ _ g.P.Turn.gives g.G.Gather.able (g.met.P.Turn.gives_only _ c.requires.lawful) c.requires.able false _ (valid_begun g.P.Running.Default.is_default g.P.Turn.valid g.met.P.Turn.default_valid _ _ _ _ _ r a c.requires.valid) _ _ s.accepts));
-            reaches = rw (w.state-is, w.input-is, w.turns-is) (first_on _ _ _ _ _ _ _ (g.met.P.Turn.laws _ c.requires.lawful) c.requires.never _ _ _ z (valid_begun g.P.Running.Default.is_default g.P.Turn.valid g.met.P.Turn.default_valid _ _ _ _ _ r a c.requires.valid) s _);
+            reaches = rw (w.state-is, w.input-is, w.turns-is) (first_on _ _ _ _ _ _ _ _ (g.met.P.Turn.laws _ c.requires.lawful) c.requires.never _ _ _ z (valid_begun g.P.Running.Default.is_default g.P.Turn.valid g.met.P.Turn.default_valid _ _ _ _ _ r a c.requires.valid) s _);
           }
     ]
 
@@ -94,7 +99,7 @@ returns-in-Stops-one_turn-clause-answers g c =
     let i = c.turns.invariant in
     let q = i.passes in
     let s = turned_same _ _ _ _ _ (called_same _ _ _ _ i.same true) _ _ _ _ c.in-Stops-one_turn.ensures.turned in
-    rw c.stopped-in-Stops-one_turn.ensures.answer (comes_stopped _ _ _ _ _ _ _ _ true _ _ i.reaches refl _ i.cleared refl refl refl q.reads q.resets _ s.is c.stopped-in-Stops-one_turn.ensures.state)
+    rw c.stopped-in-Stops-one_turn.ensures.answer (comes_stopped _ _ _ _ _ _ _ _ _ true _ _ i.reaches refl _ i.cleared refl refl refl q.reads q.resets _ s.is c.stopped-in-Stops-one_turn.ensures.state)
 
 pub turns-preserved : goal.turns-preserved
 turns-preserved g c =
@@ -107,7 +112,33 @@ turns-preserved g c =
       fresh = s.judged.accepts.state;
       same = turns_same_more _ _ _ _ _ _ i.same c.one_turn-in-turns.ensures.same;
       passes = passes_more _ _ _ _ _ _ i.passes c.one_turn-in-turns.ensures.passes;
+      leads = leads_on (world g.Input.StreamOnce.step g.Input.Error.ParseError.seen g.Input.StreamOnce.steady g.P.Running.Default.is_default) g.Input.Error.ParseError.seen (Joined 1 None) g.P.Turn.ending (gathered g.G.Gather.held g.G.Gather.none g.G.Gather.more g.G.Gather.lean) (none_yet g.G.Gather.none) (g.P.Turn.meaning c.args.parser.now) (g.P.Turn.again c.args.parser.now) true _ _ _ _ _ _ refl s i.leads;
       cleared = i.cleared;
       sound = goes_sound _ (gathered g.G.Gather.held g.G.Gather.none g.G.Gather.more g.G.Gather.lean) g.G.Gather.able g.G.Gather.sound g.met.G.Gather.keeps_sound _ _ _ _ _ i.sound _ c.in-Goes-one_turn.ensures.turned.is (turn_able _ g.P.Turn.valid _ _ g.P.Turn.gives g.G.Gather.able (g.met.P.Turn.gives_only _ i.lawful) c.requires.able true _ i.valid _ _ c.in-Goes-one_turn.ensures.turned.is.judged.accepts);
-      reaches = comes_on _ _ _ _ _ _ _ _ (g.met.P.Turn.laws _ c.requires.lawful) _ _ _ _ true _ _ _ i.reaches refl i.valid s _;
+      reaches = comes_on _ _ _ _ _ _ _ _ _ (g.met.P.Turn.laws _ c.requires.lawful) _ _ _ _ true _ _ _ i.reaches refl i.valid s _;
     }
+
+pub returns-in-Stops-clause-refuses : goal.returns-in-Stops-clause-refuses
+returns-in-Stops-clause-refuses g c =
+    let f = not_first g.P.Running.Default.is_default g.P.Turn.valid _ _ _ _ (rw c.is_first.ensures at c.hand_out-given.ensures.afresh) c.in-Turns.is in
+    let r = (rw c.is_first.ensures at c.hand_out-given.ensures.resumed) f in
+    let z = leads_kept g.Input.StreamOnce.step g.Input.Error.ParseError.seen (Joined 1 None) g.P.Turn.ending (gathered g.G.Gather.held g.G.Gather.none g.G.Gather.more g.G.Gather.lean) (none_yet g.G.Gather.none) (g.P.Turn.meaning c.args.parser.now) (g.P.Turn.again c.args.parser.now) _ _ _ _ _ f (sym r.0 ∙ c.in-Turns.is) (sym r.1) in
+    rw c.stopped.ensures.answer (stops_leading g.Input.StreamOnce.step g.Input.Error.ParseError.seen (Joined 1 None) g.P.Turn.ending (gathered g.G.Gather.held g.G.Gather.none g.G.Gather.more g.G.Gather.lean) (none_yet g.G.Gather.none) (g.P.Turn.meaning c.args.parser.now) (g.P.Turn.again c.args.parser.now) _ _ _ _ _ _ _ refl z _ c.in-Stops.ensures.refuses.is)
+
+pub returns-in-Refused-clause-refuses : goal.returns-in-Refused-clause-refuses
+returns-in-Refused-clause-refuses g c =
+    let r = rw c.is_first.ensures at c.hand_out-given.ensures.resumed in
+    let z = leads_entered g.Input.StreamOnce.step g.Input.Error.ParseError.seen (Joined 1 None) g.P.Turn.ending (gathered g.G.Gather.held g.G.Gather.none g.G.Gather.more g.G.Gather.lean) (none_yet g.G.Gather.none) (g.P.Turn.meaning c.args.parser.now) (g.P.Turn.again c.args.parser.now) _ _ _ _ (λ f. (sym (r f).0 ∙ c.in-Nothing.is, sym (r f).1)) in
+    first_refused_leads g.Input.StreamOnce.step g.Input.Error.ParseError.seen g.P.Turn.ending (gathered g.G.Gather.held g.G.Gather.none g.G.Gather.more g.G.Gather.lean) g.G.Gather.none (g.P.Turn.meaning c.args.parser.now) (g.P.Turn.again c.args.parser.now) _ _ _ _ _ _ z _ c.in-Refused.ensures.refuses.is
+
+pub returns-in-Failed-clause-refuses : goal.returns-in-Failed-clause-refuses
+returns-in-Failed-clause-refuses g c =
+    let r = rw c.is_first.ensures at c.hand_out-given.ensures.resumed in
+    let z = leads_entered g.Input.StreamOnce.step g.Input.Error.ParseError.seen (Joined 1 None) g.P.Turn.ending (gathered g.G.Gather.held g.G.Gather.none g.G.Gather.more g.G.Gather.lean) (none_yet g.G.Gather.none) (g.P.Turn.meaning c.args.parser.now) (g.P.Turn.again c.args.parser.now) _ _ _ _ (λ f. (sym (r f).0 ∙ c.in-Nothing.is, sym (r f).1)) in
+    first_failed_leads g.Input.StreamOnce.step g.Input.Error.ParseError.seen g.P.Turn.ending (gathered g.G.Gather.held g.G.Gather.none g.G.Gather.more g.G.Gather.lean) g.G.Gather.none (g.P.Turn.meaning c.args.parser.now) (g.P.Turn.again c.args.parser.now) _ _ _ _ _ _ z _ c.in-Failed.ensures.refuses.is
+
+pub returns-in-Stops-one_turn-clause-refuses : goal.returns-in-Stops-one_turn-clause-refuses
+returns-in-Stops-one_turn-clause-refuses g c =
+    let i = c.turns.invariant in
+    let s = stops_same g.Input.StreamOnce.step g.Input.Error.ParseError.seen (Joined 1 None) g.P.Turn.ending _ _ (called_same _ _ _ _ i.same true) true c.args.state.now.running _ _ _ _ c.in-Stops-one_turn.ensures.refuses.is in
+    rw c.stopped-in-Stops-one_turn.ensures.answer (stops_leading g.Input.StreamOnce.step g.Input.Error.ParseError.seen (Joined 1 None) g.P.Turn.ending (gathered g.G.Gather.held g.G.Gather.none g.G.Gather.more g.G.Gather.lean) (none_yet g.G.Gather.none) (g.P.Turn.meaning c.args.parser.now) (g.P.Turn.again c.args.parser.now) _ _ _ _ _ _ _ refl i.leads _ s)

@@ -2,11 +2,13 @@ use Rattle.combine_repeat_turns.specs.declared.turns.Earlier.TheVariants.{Nothin
 use Rattle.std.proofs.Common.{◌≡◌, ◌+◌, length, true}
 use Rattle.combine_base.specs.Parser.Answer.{world}
 use Rattle.combine_base.specs.Stream.Calls.{Passes}
-use Rattle.combine_repeat_turns.specs.Turn.{TurnsSame, called}
-use Rattle.combine_repeat_turns.specs.Bounded.{bounded, gathered, fresh_turns, so_far, turns_from}
+use Rattle.combine_repeat_turns.specs.Turn.{TurnsSame, called, started}
+use Rattle.combine_repeat_turns.specs.Bounded.{bounded, gathered, fresh_turns, so_far}
+use Rattle.combine_repeat_turns.specs.TurnsMeaning.{turns_from}
 use Rattle.combine_repeat_turns.specs.BoundedLaws.{bounded_is_rule}
 use Rattle.combine_repeat_turns.proofs.TurnCalls.{Reaches}
 use Rattle.combine_repeat_turns.proofs.Repeating.{idle_turns}
+use Rattle.combine_repeat_turns.proofs.TurnRefusals.{Leads}
 use Rattle.combine_repeat_turns.proofs.turns.take_turns.Given as goal
 
 abbrev pub invariant-turns : goal.invariant-turns
@@ -22,12 +24,19 @@ invariant-turns g l = record {
       (fresh_turns g.P.Running.Default.is_default)
       (bounded (g.B.Bounded.bounds l.fn.bounds) g.P.Turn.ending) (bounded_is_rule (g.B.Bounded.bounds l.fn.bounds) g.P.Turn.ending)
       (gathered g.G.Gather.held g.G.Gather.none g.G.Gather.more g.G.Gather.lean)
-      (λ _. g.P.Turn.again l.fn.parser)
+      (λ _. (g.P.Turn.again l.fn.parser).reads)
       (called (g.P.Turn.meaning l.fn.parser) (g.P.Turn.again l.fn.parser) l.later)
-      (turns_from g.Input.StreamOnce.step (g.B.Bounded.bounds l.fn.bounds) g.P.Turn.ending (gathered g.G.Gather.held g.G.Gather.none g.G.Gather.more g.G.Gather.lean) (so_far g.G.Gather.held l.fn.start) (g.P.Turn.meaning l.fn.parser) (g.P.Turn.again l.fn.parser))
+      (turns_from g.Input.StreamOnce.step g.Input.Error.ParseError.seen (g.B.Bounded.bounds l.fn.bounds) g.P.Turn.ending (gathered g.G.Gather.held g.G.Gather.none g.G.Gather.more g.G.Gather.lean) (so_far g.G.Gather.held l.fn.start) (g.P.Turn.meaning l.fn.parser) (g.P.Turn.again l.fn.parser))
       (g.M.ParseMode.first l.fn.mode) l.fn.state (g.Input.StreamOnce.view l.fn.input) (g.Input.StreamOnce.failures l.fn.input)
       true l.state.running (g.Input.StreamOnce.view l.input) (g.Input.StreamOnce.failures l.input)
       (so_far g.G.Gather.held l.turns);
+  leads : Leads
+      g.Input.StreamOnce.step g.Input.Error.ParseError.seen (g.B.Bounded.bounds l.fn.bounds) g.P.Turn.ending
+      (gathered g.G.Gather.held g.G.Gather.none g.G.Gather.more g.G.Gather.lean) (so_far g.G.Gather.held l.fn.start)
+      (g.P.Turn.meaning l.fn.parser) (g.P.Turn.again l.fn.parser)
+      (g.M.ParseMode.first l.fn.mode) l.fn.state (g.Input.StreamOnce.view l.fn.input)
+      (started (called (g.P.Turn.meaning l.fn.parser) (g.P.Turn.again l.fn.parser) l.later) true l.state.running)
+      l.turns.place l.turns.committed (g.Input.StreamOnce.view l.input);
 }
 
 abbrev pub decreases-turns : goal.decreases-turns

@@ -1,4 +1,6 @@
-use Rattle.std.proofs.Common.{inr, refl, sym, ◌∙◌}
+use Rattle.std.proofs.Common.{false, true, inl, inr, refl, sym, ◌∙◌}
+use Rattle.combine_base.proofs.Refusing.{refusal_is_meant, refusal_meant}
+use Rattle.combine_base.specs.declared.error.ParseResult.TheVariants.{CommitErr, PeekErr}
 use Rattle.combine_repeat_until.specs.UntilTurn.{TakesNothing}
 use Rattle.combine_repeat_until.proofs.OneTurns.{accepts_value, needs_more, unreset_by}
 use Rattle.combine_repeat_until.proofs.until.one_turn.Goals as goal
@@ -64,3 +66,9 @@ returns-then-not-is_block-clause-refuses g c =
           let p = accepts_value _ _ _ _ _ _ _ w.value-is c.in-Some.is w.in-PeekOk.ensures.answers.is in
           record { is = λ i. inr (record { value = c.in-Some.value; count = p.count; commits = c.match-parse_explained.value.1; accepted = p.meant; idle = sym (c.is_block.ensures p.count _ since p.taken) ∙ c.if-not-is_block.true; says = rw c.position-position.ensures at c.refusal_saying-error.ensures.says }) }
     ]
+
+pub returns-in-PeekErr-clause-refuses : goal.returns-in-PeekErr-clause-refuses
+returns-in-PeekErr-clause-refuses g c = record { is = refusal_meant (refusal_is_meant (PeekErr _) c.in-PeekErr.ensures.answers false _ refl) c.in-PeekErr.ensures.explained.is }
+
+pub returns-in-CommitErr-clause-refuses : goal.returns-in-CommitErr-clause-refuses
+returns-in-CommitErr-clause-refuses g c = record { is = λ i. inl (record { meant = refusal_is_meant (CommitErr _) c.in-CommitErr.ensures.answers true _ (refl, i); error = c.in-CommitErr.ensures.explained.is i }) }

@@ -4,7 +4,6 @@ ghost use Rattle.std.specs.Iterator.{IsFinite};
 ghost use Rattle.combine_base.specs.Error.Errors.{Nothing};
 ghost use Rattle.combine_token.specs.Among.{EndsAlways, Finds, among, beside, expects_each, not_is_predicate};
 ghost use Rattle.combine_token.specs.OneToken.{IsPredicate, satisfied, satisfied_is_test, takes_one, takes_one_is_meaning, takes_one_means_one};
-ghost use Rattle.combine_token.specs.Reasons.{RefusesToken};
 
 use crate::token::among::{expect_each, is_among};
 use crate::token::reading::token_if;
@@ -45,9 +44,7 @@ where
 
     ghost valid = { λ s. Unit {0} };
 
-    ghost meaning = { λ p. takes_one (satisfied (among T.is_clone T.into_iter_gives T.IntoIter.next_gives p.tokens Input.Token.eq)) (T.is_infallible p.tokens) (expects_each T.is_clone T.into_iter_gives T.IntoIter.next_gives p.tokens) };
-
-    ghost refuses = { λ p k. RefusesToken Input.Error.seen };
+    ghost meaning = { λ p. takes_one Input.Error.seen (satisfied (among T.is_clone T.into_iter_gives T.IntoIter.next_gives p.tokens Input.Token.eq)) (T.is_infallible p.tokens) (expects_each T.is_clone T.into_iter_gives T.IntoIter.next_gives p.tokens) };
 
     ghost parts = { λ p. 1 };
 
@@ -88,9 +85,9 @@ where
 
     ghost default_valid = { λ s d. tt };
 
-    ghost laws = { λ p l. takes_one_is_meaning (satisfied (among T.is_clone T.into_iter_gives T.IntoIter.next_gives p.tokens Input.Token.eq)) _ _ _ _ };
+    ghost laws = { λ p l. takes_one_is_meaning Input.Error.seen (satisfied (among T.is_clone T.into_iter_gives T.IntoIter.next_gives p.tokens Input.Token.eq)) _ _ _ _ };
 
-    ghost single = { λ p l d. takes_one_means_one (satisfied (among T.is_clone T.into_iter_gives T.IntoIter.next_gives p.tokens Input.Token.eq)) _ _ _ (satisfied_is_test _ d) };
+    ghost single = { λ p l d. takes_one_means_one Input.Error.seen (satisfied (among T.is_clone T.into_iter_gives T.IntoIter.next_gives p.tokens Input.Token.eq)) _ _ _ (satisfied_is_test _ d) };
 }
 
 impl<Input: StreamOnce, T> Outputs<Input> for NoneOf<T, Input> {
@@ -109,9 +106,7 @@ where
 
     ghost valid = { λ s. Unit {0} };
 
-    ghost meaning = { λ p. takes_one (satisfied (beside T.is_clone T.into_iter_gives T.IntoIter.next_gives p.tokens Input.Token.eq)) (T.is_infallible p.tokens) Nothing };
-
-    ghost refuses = { λ p k. RefusesToken Input.Error.seen };
+    ghost meaning = { λ p. takes_one Input.Error.seen (satisfied (beside T.is_clone T.into_iter_gives T.IntoIter.next_gives p.tokens Input.Token.eq)) (T.is_infallible p.tokens) Nothing };
 
     ghost parts = { λ p. 1 };
 
@@ -147,7 +142,7 @@ where
 
     ghost default_valid = { λ s d. tt };
 
-    ghost laws = { λ p l. takes_one_is_meaning (satisfied (beside T.is_clone T.into_iter_gives T.IntoIter.next_gives p.tokens Input.Token.eq)) _ _ _ _ };
+    ghost laws = { λ p l. takes_one_is_meaning Input.Error.seen (satisfied (beside T.is_clone T.into_iter_gives T.IntoIter.next_gives p.tokens Input.Token.eq)) _ _ _ _ };
 
-    ghost single = { λ p l d. takes_one_means_one (satisfied (beside T.is_clone T.into_iter_gives T.IntoIter.next_gives p.tokens Input.Token.eq)) _ _ _ (satisfied_is_test _ (not_is_predicate _ d)) };
+    ghost single = { λ p l d. takes_one_means_one Input.Error.seen (satisfied (beside T.is_clone T.into_iter_gives T.IntoIter.next_gives p.tokens Input.Token.eq)) _ _ _ (satisfied_is_test _ (not_is_predicate _ d)) };
 }

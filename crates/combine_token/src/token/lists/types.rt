@@ -3,9 +3,8 @@ ghost use Rattle.std.specs.Prelude.{◌≡◌, not, if◌then◌else◌, MatchRe
 ghost use Rattle.combine_base.specs.Error.Errors.{Nothing, Only};
 ghost use Rattle.combine_base.specs.Error.Items.{Expected, shown};
 ghost use Rattle.combine_token.specs.ListAnswers.{NoText};
-ghost use Rattle.combine_token.specs.Reasons.{RefusesList, begins_at};
-ghost use Rattle.combine_token.specs.TokenLists.{ComparesOnce, token_list};
-ghost use Rattle.combine_token.specs.TokenListLaws.{token_list_is_meaning, token_list_means_one};
+ghost use Rattle.combine_token.specs.TokenLists.{ComparesOnce};
+ghost use Rattle.combine_token.specs.TokenListLaws.{token_list, token_list_is_meaning, token_list_means_one};
 ghost use Rattle.combine_token.specs.Iterated.{IsIterated, iterated, iterated_ends_once};
 
 use crate::token::lists::match_list;
@@ -91,17 +90,15 @@ where
 
     ghost valid = { λ s. Unit {0} };
 
-    ghost meaning = { λ p. token_list (iterated T.is_clone T.into_iter_gives T.IntoIter.next_gives p.tokens (λ x t b. C.post p.cmp x t b)) (T.is_clone p.tokens) (λ s. s.matched) (T.is_infallible p.tokens) (Only (Expected (shown p.expected))) };
-
-    ghost refuses = { λ p k. RefusesList Input.Error.seen (iterated T.is_clone T.into_iter_gives T.IntoIter.next_gives p.tokens (λ x t b. C.post p.cmp x t b)) (Some p.expected) (begins_at (λ s. s.matched) k) };
+    ghost meaning = { λ p. token_list Input.Error.seen (iterated T.is_clone T.into_iter_gives T.IntoIter.next_gives p.tokens (λ x t b. C.post p.cmp x t b)) (Some p.expected) (T.is_clone p.tokens) (λ s. s.matched) (T.is_infallible p.tokens) (Only (Expected (shown p.expected))) };
 
     ghost parts = { λ _. 1 };
 
     ghost default_valid = { λ s d. tt };
 
-    ghost laws = { λ p l. token_list_is_meaning _ _ _ _ _ _ _ (λ s d. d) };
+    ghost laws = { λ p l. token_list_is_meaning Input.Error.seen _ _ _ _ _ _ _ _ (λ s d. d) };
 
-    ghost single = { λ p l d. token_list_means_one (λ _. Unit {0}) _ _ _ _ _ _ (iterated_ends_once _ _ _ _ _ _ _ l.1) d };
+    ghost single = { λ p l d. token_list_means_one Input.Error.seen _ _ _ _ _ _ (λ _. Unit {0}) (λ _. Unit {0}) (iterated_ends_once _ _ _ _ _ _ _ l.1) d };
 
     #[inline(always)]
     fn parse_mode<M: ParseMode>(
@@ -159,17 +156,15 @@ where
 
     ghost valid = { λ s. Unit {0} };
 
-    ghost meaning = { λ p. token_list (iterated T.is_clone T.into_iter_gives T.IntoIter.next_gives p.tokens (λ x t b. C.post p.cmp x t b)) (T.is_clone p.tokens) (λ s. s.matched) (T.is_infallible p.tokens) Nothing };
-
-    ghost refuses = { λ p k. RefusesList Input.Error.seen (iterated T.is_clone T.into_iter_gives T.IntoIter.next_gives p.tokens (λ x t b. C.post p.cmp x t b)) None (begins_at (λ s. s.matched) k) };
+    ghost meaning = { λ p. token_list Input.Error.seen (iterated T.is_clone T.into_iter_gives T.IntoIter.next_gives p.tokens (λ x t b. C.post p.cmp x t b)) None (T.is_clone p.tokens) (λ s. s.matched) (T.is_infallible p.tokens) Nothing };
 
     ghost parts = { λ _. 1 };
 
     ghost default_valid = { λ s d. tt };
 
-    ghost laws = { λ p l. token_list_is_meaning _ _ _ _ _ _ _ (λ s d. d) };
+    ghost laws = { λ p l. token_list_is_meaning Input.Error.seen _ _ _ _ _ _ _ _ (λ s d. d) };
 
-    ghost single = { λ p l d. token_list_means_one (λ _. Unit {0}) _ _ _ _ _ _ (iterated_ends_once _ _ _ _ _ _ _ l.1) d };
+    ghost single = { λ p l d. token_list_means_one Input.Error.seen _ _ _ _ _ _ (λ _. Unit {0}) (λ _. Unit {0}) (iterated_ends_once _ _ _ _ _ _ _ l.1) d };
 
     #[inline(always)]
     fn parse_mode<M: ParseMode>(

@@ -1,11 +1,7 @@
 use Rattle.std.proofs.Common.{sym, ◌∙◌}
-use Rattle.combine_base.specs.Parser.Answer.{world}
-use Rattle.combine_base.specs.Sequence.Places.{begins_1, begins_valid_1, first_fresh, place_2}
-use Rattle.combine_base.specs.Sequence.TupleRefusals.{refuses_tuple_1}
-use Rattle.combine_base.specs.Sequence.Tuples.{push_1, tuple_1, tuple_1_is_meaning, tuple_2_is_meaning}
+use Rattle.combine_base.specs.Sequence.Places.{begins_valid_1, place_2}
+use Rattle.combine_base.specs.Sequence.Tuples.{push_1, tuple_1, tuple_1_is_meaning}
 use Rattle.combine_base.proofs.Following.{last_called, sequence_called}
-use Rattle.combine_base.proofs.Refusing.{last_reasons, sequence_reasons}
-use Rattle.combine_base.proofs.Starting.{at_rest, in_own_mode}
 use Rattle.combine_base.proofs.sequence.tuple.parse_2.Goals as goal
 
 pub parse_1-answer-requires-clause-ready : goal.parse_1-answer-requires-clause-ready
@@ -17,10 +13,8 @@ parse_1-answer-requires-clause-starts g c = λ h. rw (sym c.into_place.ensures �
 pub returns-in-Before-clause-called : goal.returns-in-Before-clause-called
 returns-in-Before-clause-called g c =
     let first = c.parse_1-answer.ensures.called in
-    let around = world g.Input.StreamOnce.step g.Input.Error.ParseError.seen g.Input.StreamOnce.steady (begins_1 (first_fresh g.A.PartialState.Default.is_default)) in
-    let answers = at_rest around _ _ (tuple_1_is_meaning (g.met.A.Parser.laws _ c.requires.ready.lawful.0)) _ (λ h. rw (sym c.into_place.ensures ∙ c.in-Before.is) at c.requires.starts h) _ first.answers in
-    let all = sequence_called place_2 push_1 c.requires.fresh (begins_valid_1 g.met.A.Parser.default_valid) (tuple_1_is_meaning (g.met.A.Parser.laws _ c.requires.ready.lawful.0)) (g.met.B.Parser.laws _ c.requires.ready.lawful.1) (sym c.into_place.ensures ∙ c.in-Before.is) c.requires.ready.valid first.valid first.same first.passes answers c.parse_rest.ensures in
-    record { lawful = (first.lawful, c.parse_rest.ensures.lawful); valid = all.valid; same = all.same; passes = all.passes; answers = in_own_mode _ _ _ (tuple_2_is_meaning _ (g.met.A.Parser.laws _ c.requires.ready.lawful.0) (g.met.B.Parser.laws _ c.requires.ready.lawful.1)) _ _ _ c.requires.starts _ _ _ _ _ all.answers; refuses = sequence_reasons place_2 push_1 (tuple_1 (g.A.Parser.meaning c.args.a.now)) (refuses_tuple_1 (g.A.Parser.refuses c.args.a.now)) (tuple_1_is_meaning (g.met.A.Parser.laws _ c.requires.ready.lawful.0)) c.requires.starts (sym c.into_place.ensures ∙ c.in-Before.is) answers first.refuses c.parse_rest.ensures }
+    let all = sequence_called place_2 push_1 c.requires.fresh (begins_valid_1 g.met.A.Parser.default_valid) (tuple_1_is_meaning (g.met.A.Parser.laws _ c.requires.ready.lawful.0)) (g.met.B.Parser.laws _ c.requires.ready.lawful.1) (sym c.into_place.ensures ∙ c.in-Before.is) c.requires.ready.valid first.valid first.same first.passes first.answers first.refuses c.parse_rest.ensures in
+    record { lawful = (first.lawful, c.parse_rest.ensures.lawful); valid = all.valid; same = all.same; passes = all.passes; answers = all.answers; refuses = all.refuses }
 
 pub resume_last-requires-clause-ready : goal.resume_last-requires-clause-ready
 resume_last-requires-clause-ready g c = record { lawful = c.requires.ready.lawful.1; valid = rw (sym c.into_place.ensures ∙ c.in-Last.is) at c.requires.ready.valid }
@@ -32,4 +26,4 @@ resume_last-requires-clause-starts g c = λ h. absurd (rw (sym c.into_place.ensu
 pub returns-in-Last-clause-called : goal.returns-in-Last-clause-called
 returns-in-Last-clause-called g c =
     let all = last_called place_2 push_1 c.requires.fresh (tuple_1 (g.A.Parser.meaning c.args.a.now)) (begins_valid_1 g.met.A.Parser.default_valid) (sym c.into_place.ensures ∙ c.in-Last.is) c.resume_last.ensures in
-    record { lawful = (c.requires.ready.lawful.0, c.resume_last.ensures.lawful); valid = all.valid; same = all.same; passes = all.passes; answers = in_own_mode _ _ _ (tuple_2_is_meaning _ (g.met.A.Parser.laws _ c.requires.ready.lawful.0) (g.met.B.Parser.laws _ c.requires.ready.lawful.1)) _ _ _ c.requires.starts _ _ _ _ _ all.answers; refuses = last_reasons place_2 push_1 (tuple_1 (g.A.Parser.meaning c.args.a.now)) (refuses_tuple_1 (g.A.Parser.refuses c.args.a.now)) _ c.requires.starts (sym c.into_place.ensures ∙ c.in-Last.is) c.resume_last.ensures }
+    record { lawful = (c.requires.ready.lawful.0, c.resume_last.ensures.lawful); valid = all.valid; same = all.same; passes = all.passes; answers = all.answers; refuses = all.refuses }

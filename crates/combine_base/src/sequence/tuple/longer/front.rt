@@ -1,7 +1,6 @@
 //! The parts before those of a longer tuple, lent.
 ghost use Rattle.std.specs.Prelude.{◌≡◌, refl};
 ghost use Rattle.combine_base.specs.Sequence.Places.{begins_4, begins_valid_4, first_fresh, valid_4};
-ghost use Rattle.combine_base.specs.Sequence.TupleRefusals.{refuses_tuple_4};
 ghost use Rattle.combine_base.specs.Sequence.Tuples.{tuple_4, tuple_4_is_meaning};
 
 use crate::error::ParseResult;
@@ -12,13 +11,12 @@ use crate::stream::Stream;
 
 /// Parts that were lent, which are run before another one.
 pub(super) trait Front<Input: Stream> {
-    ghost use Rattle.std.specs.Prelude.{◌≡◌, Bool, Option, true};
+    ghost use Rattle.std.specs.Prelude.{◌≡◌, false, true};
     ghost use Rattle.combine_base.specs.Parser.Meaning.{Meaning, IsMeaning, MeansSame};
     ghost use Rattle.combine_base.specs.Parser.Answer.{Answers, world};
-    ghost use Rattle.combine_base.specs.Parser.Reasons.{Reasoned, kept_from};
+    ghost use Rattle.combine_base.specs.Parser.Reasons.{ReasonedCall};
     ghost use Rattle.combine_base.specs.Sequence.Parts.{run_from};
     ghost use Rattle.combine_base.specs.Stream.Calls.{Passes};
-    ghost use Rattle.combine_base.specs.Stream.View.{View};
 
     type Output: Drop;
 
@@ -31,10 +29,7 @@ pub(super) trait Front<Input: Stream> {
     /// The states that begin the parts.
     ghost fresh: { Self.State → Type 0 };
 
-    ghost meaning: { Self → Meaning Input.Position Input.Token Input.Range Self.Output Self.State };
-
-    /// Which errors their refusals have.
-    ghost refuses: { Self → Option Self.State → View Input.Position Input.Token → Bool → Input.Error → Type 0 };
+    ghost meaning: { Self → Meaning Input.Position Input.Token Input.Range Input.Error Self.Output Self.State };
 
     /// The same parts are lent.
     ghost same: { Self → Self → Type 0 };
@@ -61,7 +56,7 @@ pub(super) trait Front<Input: Stream> {
         ensures same { MeansSame (meaning self.old) (meaning self.new) }
         ensures passes { Passes (Input.marks input.old) (Input.marks input.new) (Input.failures input.old) (Input.failures input.new) }
         ensures answers { Answers (world Input.step Input.Error.seen Input.steady fresh) (meaning self.old) (run_from from state.new (Input.view input.old) (Input.view input.new) (Input.failures input.old) (Input.failures input.new)) result }
-        ensures refuses { Reasoned Input.Error.seen.kind (Input.view input.new).is_open (refuses self.old (kept_from (M.first mode) from) (Input.view input.old)) result };
+        ensures refuses { ReasonedCall Input.Error.seen (meaning self.old) false from (Input.view input.old) (Input.view input.new) result };
 
     ghost fresh_valid: { (s : Self.State) → fresh s → valid s };
 
@@ -83,9 +78,7 @@ impl<Input: Stream, A: Parser<Input>, B: Parser<Input>, C: Parser<Input>, D: Par
 
     ghost fresh = { begins_4 (first_fresh A.PartialState.is_default) };
 
-    ghost meaning = { λ p. tuple_4 Input.step (A.meaning p.0.now) (B.meaning p.1.now) (C.meaning p.2.now) (D.meaning p.3.now) };
-
-    ghost refuses = { λ p. refuses_tuple_4 Input.step Input.Error.seen B.PartialState.is_default C.PartialState.is_default D.PartialState.is_default A.Parser B.Parser C.Parser D.Parser p.0.now p.1.now p.2.now p.3.now };
+    ghost meaning = { λ p. tuple_4 Input.step Input.Error.seen (A.meaning p.0.now) (B.meaning p.1.now) (C.meaning p.2.now) (D.meaning p.3.now) };
 
     ghost same = { λ p q. (p.0.ghost_name ≡ q.0.ghost_name) × (p.1.ghost_name ≡ q.1.ghost_name) × (p.2.ghost_name ≡ q.2.ghost_name) × (p.3.ghost_name ≡ q.3.ghost_name) };
 
@@ -109,5 +102,5 @@ impl<Input: Stream, A: Parser<Input>, B: Parser<Input>, C: Parser<Input>, D: Par
 
     ghost fresh_valid = { begins_valid_4 B.valid C.valid D.valid A.default_valid };
 
-    ghost laws = { λ p l. tuple_4_is_meaning Input.step (A.laws p.0.now l.0) (B.laws p.1.now l.1) (C.laws p.2.now l.2) (D.laws p.3.now l.3) };
+    ghost laws = { λ p l. tuple_4_is_meaning Input.step Input.Error.seen (A.laws p.0.now l.0) (B.laws p.1.now l.1) (C.laws p.2.now l.2) (D.laws p.3.now l.3) };
 }

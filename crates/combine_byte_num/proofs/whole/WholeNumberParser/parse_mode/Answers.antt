@@ -4,7 +4,7 @@ use Rattle.combine_base.proofs.Distances.{takes_token}
 use Rattle.combine_base.proofs.Progress.{takes_more}
 use Rattle.combine_base.proofs.Same.{passes_more}
 use Rattle.combine_byte_num.specs.WholeNumbers.{worth}
-use Rattle.combine_byte_num.proofs.Taking.{number_cut, number_unread, take_next}
+use Rattle.combine_byte_num.proofs.Taking.{cut_reasons, number_cut, number_unread, take_next, unread_reasons}
 use Rattle.combine_byte_num.proofs.whole.WholeNumberParser.parse_mode.Goals as goal
 
 pub returns-then-eq-clause-answers : goal.returns-then-eq-clause-answers
@@ -21,6 +21,17 @@ returns-in-Err-clause-answers g c =
     let i = c.bytes.invariant in
     let other : c.in-Err.kind ≡ kinds.End → ⊥ = search rules in
     number_unread _ g.Input.Error.ParseError.seen _ _ g.N.Number.width (worth g.N.Number.of_sum g.O.Order.number) _ _ _ tt _ _ c.bytes.count _ _ _ _ i.taken i.passes.reads _ c.in-Err.ensures.read.is other _ c.new_error.ensures.kind
+
+pub returns-then-eq-clause-refuses : goal.returns-then-eq-clause-refuses
+returns-then-eq-clause-refuses g c =
+    let i = c.bytes.invariant in
+    let stands = g.met.Input.ResetStream.lasts _ _ _ _ c.uncons.ensures.passes.marks (g.met.Input.ResetStream.lasts _ _ _ _ i.passes.marks c.checkpoint-start.ensures.stands) in
+    cut_reasons g.Input.Error.ParseError.seen g.N.Number.width (worth g.N.Number.of_sum g.O.Order.number) (g.M.ParseMode.first c.args.mode) c.args.state.now _ _ _ _ _ _ _ _ _ _ stands c.position-position.ensures c.too_few.ensures.back
+
+pub returns-in-Err-clause-refuses : goal.returns-in-Err-clause-refuses
+returns-in-Err-clause-refuses g c =
+    let other : c.in-Err.kind ≡ kinds.End → ⊥ = search rules in
+    unread_reasons g.Input.Error.ParseError.seen g.N.Number.width (worth g.N.Number.of_sum g.O.Order.number) (g.M.ParseMode.first c.args.mode) c.args.state.now _ _ _ _ _ _ _ _ c.in-Err.ensures.read.is other _ c.new_error.ensures.kind
 
 pub bytes-preserved : goal.bytes-preserved
 bytes-preserved g c =

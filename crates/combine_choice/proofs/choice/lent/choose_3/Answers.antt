@@ -1,4 +1,3 @@
-use Rattle.combine_token.specs.Reasons.{RefusesOr}
 use Rattle.combine_token.specs.Or.{or_valid}
 use Rattle.combine_token.proofs.TupleCalls.{ended_chose, gone_chose, is_no_fault, ready}
 use Rattle.combine_token.proofs.FirstThen.{first_is_valid}
@@ -12,26 +11,26 @@ pub returns-in-Ends : goal.returns-in-Ends
 returns-in-Ends g c =
     let l = c.requires.lawful in
     let h = (g.met.A.Parser.laws _ l.0) in
-    let k = (nest_laws (g.met.B.Parser.laws _ l.1.0) (g.met.C.Parser.laws _ l.1.1)) in
-    ended_chose g.Input.StreamOnce.step g.Input.Error.ParseError.seen g.Input.StreamOnce.steady g.Input.Position.Ord.cmp (g.A.Parser.refuses c.args.a.now) (RefusesOr g.Input.Error.ParseError.seen g.Input.Position.Ord.cmp g.B.PartialState.Default.is_default g.C.PartialState.Default.is_default (g.B.Parser.refuses c.args.b.now) (g.C.Parser.refuses c.args.c.now)) h k _ _ _ _ _ _ _ l.1 _ c.in-Ends.ensures
+    let k = (nest_laws {errors = g.Input.Error.ParseError.seen} {cmp = g.Input.Position.Ord.cmp} (g.met.B.Parser.laws _ l.1.0) (g.met.C.Parser.laws _ l.1.1)) in
+    ended_chose g.Input.StreamOnce.step g.Input.Error.ParseError.seen g.Input.StreamOnce.steady g.Input.Position.Ord.cmp h k _ _ _ _ _ _ _ l.1 _ c.in-Ends.ensures
 
 pub then_2-requires-clause-valid : goal.then_2-requires-clause-valid
 then_2-requires-clause-valid g c =
     let l = c.requires.lawful in
     let h = (g.met.A.Parser.laws _ l.0) in
-    let k = (nest_laws (g.met.B.Parser.laws _ l.1.0) (g.met.C.Parser.laws _ l.1.1)) in
-    ready g.Input.StreamOnce.step g.Input.Error.ParseError.seen g.Input.StreamOnce.steady g.Input.Position.Ord.cmp (g.A.Parser.refuses c.args.a.now) (RefusesOr g.Input.Error.ParseError.seen g.Input.Position.Ord.cmp g.B.PartialState.Default.is_default g.C.PartialState.Default.is_default (g.B.Parser.refuses c.args.b.now) (g.C.Parser.refuses c.args.c.now)) h k _ _ _ _ _ _ _ _ _ c.in-Goes.ensures (λ s d. rw d tt) c.requires.valid
+    let k = (nest_laws {errors = g.Input.Error.ParseError.seen} {cmp = g.Input.Position.Ord.cmp} (g.met.B.Parser.laws _ l.1.0) (g.met.C.Parser.laws _ l.1.1)) in
+    ready g.Input.StreamOnce.step g.Input.Error.ParseError.seen g.Input.StreamOnce.steady g.Input.Position.Ord.cmp h k _ _ _ _ _ _ _ _ _ c.in-Goes.ensures (λ s d. rw d tt) c.requires.valid
 
 pub then_2-requires-clause-refused : goal.then_2-requires-clause-refused
 then_2-requires-clause-refused g c =
     let l = c.requires.lawful in
     let h = (g.met.A.Parser.laws _ l.0) in
-    let k = (nest_laws (g.met.B.Parser.laws _ l.1.0) (g.met.C.Parser.laws _ l.1.1)) in
-    is_no_fault g.Input.StreamOnce.step g.Input.Error.ParseError.seen g.Input.StreamOnce.steady g.Input.Position.Ord.cmp (g.A.Parser.refuses c.args.a.now) (RefusesOr g.Input.Error.ParseError.seen g.Input.Position.Ord.cmp g.B.PartialState.Default.is_default g.C.PartialState.Default.is_default (g.B.Parser.refuses c.args.b.now) (g.C.Parser.refuses c.args.c.now)) h k _ _ _ _ _ _ _ _ _ c.in-Goes.ensures
+    let k = (nest_laws {errors = g.Input.Error.ParseError.seen} {cmp = g.Input.Position.Ord.cmp} (g.met.B.Parser.laws _ l.1.0) (g.met.C.Parser.laws _ l.1.1)) in
+    is_no_fault g.Input.StreamOnce.step g.Input.Error.ParseError.seen g.Input.StreamOnce.steady g.Input.Position.Ord.cmp h k _ _ _ _ _ _ _ _ _ c.in-Goes.ensures
 
 pub returns-in-Goes : goal.returns-in-Goes
 returns-in-Goes g c =
     let l = c.requires.lawful in
     let h = (g.met.A.Parser.laws _ l.0) in
-    let k = (nest_laws (g.met.B.Parser.laws _ l.1.0) (g.met.C.Parser.laws _ l.1.1)) in
-    gone_chose g.Input.StreamOnce.step g.Input.Error.ParseError.seen g.Input.StreamOnce.steady g.Input.Position.Ord.cmp (g.A.Parser.refuses c.args.a.now) (RefusesOr g.Input.Error.ParseError.seen g.Input.Position.Ord.cmp g.B.PartialState.Default.is_default g.C.PartialState.Default.is_default (g.B.Parser.refuses c.args.b.now) (g.C.Parser.refuses c.args.c.now)) h k _ _ _ _ _ _ _ _ _ c.in-Goes.ensures _ _ _ _ c.then_2.ensures
+    let k = (nest_laws {errors = g.Input.Error.ParseError.seen} {cmp = g.Input.Position.Ord.cmp} (g.met.B.Parser.laws _ l.1.0) (g.met.C.Parser.laws _ l.1.1)) in
+    gone_chose g.Input.StreamOnce.step g.Input.Error.ParseError.seen g.Input.StreamOnce.steady g.Input.Position.Ord.cmp h k _ _ _ _ _ _ _ _ _ c.in-Goes.ensures _ _ _ _ c.then_2.ensures

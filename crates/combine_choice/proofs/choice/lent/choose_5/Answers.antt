@@ -1,6 +1,3 @@
-use Rattle.std.proofs.Common.{◌≡◌}
-use Rattle.combine_token.specs.Reasons.{RefusesOr}
-use Rattle.combine_token.specs.declared.choice.OrState.TheVariants.{Peek}
 use Rattle.combine_token.specs.Or.{or_valid}
 use Rattle.combine_token.proofs.TupleCalls.{ended_chose, gone_chose, is_no_fault, ready}
 use Rattle.combine_token.proofs.FirstThen.{first_is_valid}
@@ -14,26 +11,26 @@ pub returns-in-Ends : goal.returns-in-Ends
 returns-in-Ends g c =
     let l = c.requires.lawful in
     let h = (g.met.A.Parser.laws _ l.0) in
-    let k = (nest_laws (nest_laws (g.met.B.Parser.laws _ l.1.0.0) (g.met.C.Parser.laws _ l.1.0.1)) (nest_laws (g.met.D.Parser.laws _ l.1.1.0) (g.met.E.Parser.laws _ l.1.1.1))) in
-    ended_chose g.Input.StreamOnce.step g.Input.Error.ParseError.seen g.Input.StreamOnce.steady g.Input.Position.Ord.cmp (g.A.Parser.refuses c.args.a.now) (RefusesOr g.Input.Error.ParseError.seen g.Input.Position.Ord.cmp (λ s. s ≡ Peek) (λ s. s ≡ Peek) (RefusesOr g.Input.Error.ParseError.seen g.Input.Position.Ord.cmp g.B.PartialState.Default.is_default g.C.PartialState.Default.is_default (g.B.Parser.refuses c.args.b.now) (g.C.Parser.refuses c.args.c.now)) (RefusesOr g.Input.Error.ParseError.seen g.Input.Position.Ord.cmp g.D.PartialState.Default.is_default g.E.PartialState.Default.is_default (g.D.Parser.refuses c.args.d.now) (g.E.Parser.refuses c.args.e.now))) h k _ _ _ _ _ _ _ l.1 _ c.in-Ends.ensures
+    let k = (nest_laws {errors = g.Input.Error.ParseError.seen} {cmp = g.Input.Position.Ord.cmp} (nest_laws {errors = g.Input.Error.ParseError.seen} {cmp = g.Input.Position.Ord.cmp} (g.met.B.Parser.laws _ l.1.0.0) (g.met.C.Parser.laws _ l.1.0.1)) (nest_laws {errors = g.Input.Error.ParseError.seen} {cmp = g.Input.Position.Ord.cmp} (g.met.D.Parser.laws _ l.1.1.0) (g.met.E.Parser.laws _ l.1.1.1))) in
+    ended_chose g.Input.StreamOnce.step g.Input.Error.ParseError.seen g.Input.StreamOnce.steady g.Input.Position.Ord.cmp h k _ _ _ _ _ _ _ l.1 _ c.in-Ends.ensures
 
 pub then_4-requires-clause-valid : goal.then_4-requires-clause-valid
 then_4-requires-clause-valid g c =
     let l = c.requires.lawful in
     let h = (g.met.A.Parser.laws _ l.0) in
-    let k = (nest_laws (nest_laws (g.met.B.Parser.laws _ l.1.0.0) (g.met.C.Parser.laws _ l.1.0.1)) (nest_laws (g.met.D.Parser.laws _ l.1.1.0) (g.met.E.Parser.laws _ l.1.1.1))) in
-    ready g.Input.StreamOnce.step g.Input.Error.ParseError.seen g.Input.StreamOnce.steady g.Input.Position.Ord.cmp (g.A.Parser.refuses c.args.a.now) (RefusesOr g.Input.Error.ParseError.seen g.Input.Position.Ord.cmp (λ s. s ≡ Peek) (λ s. s ≡ Peek) (RefusesOr g.Input.Error.ParseError.seen g.Input.Position.Ord.cmp g.B.PartialState.Default.is_default g.C.PartialState.Default.is_default (g.B.Parser.refuses c.args.b.now) (g.C.Parser.refuses c.args.c.now)) (RefusesOr g.Input.Error.ParseError.seen g.Input.Position.Ord.cmp g.D.PartialState.Default.is_default g.E.PartialState.Default.is_default (g.D.Parser.refuses c.args.d.now) (g.E.Parser.refuses c.args.e.now))) h k _ _ _ _ _ _ _ _ _ c.in-Goes.ensures (λ s d. rw d tt) c.requires.valid
+    let k = (nest_laws {errors = g.Input.Error.ParseError.seen} {cmp = g.Input.Position.Ord.cmp} (nest_laws {errors = g.Input.Error.ParseError.seen} {cmp = g.Input.Position.Ord.cmp} (g.met.B.Parser.laws _ l.1.0.0) (g.met.C.Parser.laws _ l.1.0.1)) (nest_laws {errors = g.Input.Error.ParseError.seen} {cmp = g.Input.Position.Ord.cmp} (g.met.D.Parser.laws _ l.1.1.0) (g.met.E.Parser.laws _ l.1.1.1))) in
+    ready g.Input.StreamOnce.step g.Input.Error.ParseError.seen g.Input.StreamOnce.steady g.Input.Position.Ord.cmp h k _ _ _ _ _ _ _ _ _ c.in-Goes.ensures (λ s d. rw d tt) c.requires.valid
 
 pub then_4-requires-clause-refused : goal.then_4-requires-clause-refused
 then_4-requires-clause-refused g c =
     let l = c.requires.lawful in
     let h = (g.met.A.Parser.laws _ l.0) in
-    let k = (nest_laws (nest_laws (g.met.B.Parser.laws _ l.1.0.0) (g.met.C.Parser.laws _ l.1.0.1)) (nest_laws (g.met.D.Parser.laws _ l.1.1.0) (g.met.E.Parser.laws _ l.1.1.1))) in
-    is_no_fault g.Input.StreamOnce.step g.Input.Error.ParseError.seen g.Input.StreamOnce.steady g.Input.Position.Ord.cmp (g.A.Parser.refuses c.args.a.now) (RefusesOr g.Input.Error.ParseError.seen g.Input.Position.Ord.cmp (λ s. s ≡ Peek) (λ s. s ≡ Peek) (RefusesOr g.Input.Error.ParseError.seen g.Input.Position.Ord.cmp g.B.PartialState.Default.is_default g.C.PartialState.Default.is_default (g.B.Parser.refuses c.args.b.now) (g.C.Parser.refuses c.args.c.now)) (RefusesOr g.Input.Error.ParseError.seen g.Input.Position.Ord.cmp g.D.PartialState.Default.is_default g.E.PartialState.Default.is_default (g.D.Parser.refuses c.args.d.now) (g.E.Parser.refuses c.args.e.now))) h k _ _ _ _ _ _ _ _ _ c.in-Goes.ensures
+    let k = (nest_laws {errors = g.Input.Error.ParseError.seen} {cmp = g.Input.Position.Ord.cmp} (nest_laws {errors = g.Input.Error.ParseError.seen} {cmp = g.Input.Position.Ord.cmp} (g.met.B.Parser.laws _ l.1.0.0) (g.met.C.Parser.laws _ l.1.0.1)) (nest_laws {errors = g.Input.Error.ParseError.seen} {cmp = g.Input.Position.Ord.cmp} (g.met.D.Parser.laws _ l.1.1.0) (g.met.E.Parser.laws _ l.1.1.1))) in
+    is_no_fault g.Input.StreamOnce.step g.Input.Error.ParseError.seen g.Input.StreamOnce.steady g.Input.Position.Ord.cmp h k _ _ _ _ _ _ _ _ _ c.in-Goes.ensures
 
 pub returns-in-Goes : goal.returns-in-Goes
 returns-in-Goes g c =
     let l = c.requires.lawful in
     let h = (g.met.A.Parser.laws _ l.0) in
-    let k = (nest_laws (nest_laws (g.met.B.Parser.laws _ l.1.0.0) (g.met.C.Parser.laws _ l.1.0.1)) (nest_laws (g.met.D.Parser.laws _ l.1.1.0) (g.met.E.Parser.laws _ l.1.1.1))) in
-    gone_chose g.Input.StreamOnce.step g.Input.Error.ParseError.seen g.Input.StreamOnce.steady g.Input.Position.Ord.cmp (g.A.Parser.refuses c.args.a.now) (RefusesOr g.Input.Error.ParseError.seen g.Input.Position.Ord.cmp (λ s. s ≡ Peek) (λ s. s ≡ Peek) (RefusesOr g.Input.Error.ParseError.seen g.Input.Position.Ord.cmp g.B.PartialState.Default.is_default g.C.PartialState.Default.is_default (g.B.Parser.refuses c.args.b.now) (g.C.Parser.refuses c.args.c.now)) (RefusesOr g.Input.Error.ParseError.seen g.Input.Position.Ord.cmp g.D.PartialState.Default.is_default g.E.PartialState.Default.is_default (g.D.Parser.refuses c.args.d.now) (g.E.Parser.refuses c.args.e.now))) h k _ _ _ _ _ _ _ _ _ c.in-Goes.ensures _ _ _ _ c.then_4.ensures
+    let k = (nest_laws {errors = g.Input.Error.ParseError.seen} {cmp = g.Input.Position.Ord.cmp} (nest_laws {errors = g.Input.Error.ParseError.seen} {cmp = g.Input.Position.Ord.cmp} (g.met.B.Parser.laws _ l.1.0.0) (g.met.C.Parser.laws _ l.1.0.1)) (nest_laws {errors = g.Input.Error.ParseError.seen} {cmp = g.Input.Position.Ord.cmp} (g.met.D.Parser.laws _ l.1.1.0) (g.met.E.Parser.laws _ l.1.1.1))) in
+    gone_chose g.Input.StreamOnce.step g.Input.Error.ParseError.seen g.Input.StreamOnce.steady g.Input.Position.Ord.cmp h k _ _ _ _ _ _ _ _ _ c.in-Goes.ensures _ _ _ _ c.then_4.ensures

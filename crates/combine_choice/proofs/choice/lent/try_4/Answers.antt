@@ -1,6 +1,5 @@
 use Rattle.std.proofs.Common.{◌≡◌}
 use Rattle.combine_token.specs.Or.{or_valid}
-use Rattle.combine_token.specs.Reasons.{RefusesOr}
 use Rattle.combine_token.specs.declared.choice.OrState.TheVariants.{Peek}
 use Rattle.combine_base.specs.Parser.Answer.{world}
 use Rattle.combine_token.proofs.FirstTurn.{begun_valid}
@@ -10,7 +9,7 @@ use Rattle.combine_choice.proofs.choice.lent.try_4.Goals as goal
 pub returns-in-Err : goal.returns-in-Err
 returns-in-Err g c =
     let b = rw c.in-Err.is at c.begin.ensures.begun.is in
-    resumed (world g.Input.StreamOnce.step g.Input.Error.ParseError.seen g.Input.StreamOnce.steady (λ s. s ≡ Peek)) _ (or_valid (or_valid g.A.Parser.valid g.B.Parser.valid) (or_valid g.C.Parser.valid g.D.Parser.valid)) _ (RefusesOr g.Input.Error.ParseError.seen g.Input.Position.Ord.cmp (λ s. s ≡ Peek) (λ s. s ≡ Peek) (RefusesOr g.Input.Error.ParseError.seen g.Input.Position.Ord.cmp g.A.PartialState.Default.is_default g.B.PartialState.Default.is_default (g.A.Parser.refuses c.args.a.now) (g.B.Parser.refuses c.args.b.now)) (RefusesOr g.Input.Error.ParseError.seen g.Input.Position.Ord.cmp g.C.PartialState.Default.is_default g.D.PartialState.Default.is_default (g.C.Parser.refuses c.args.c.now) (g.D.Parser.refuses c.args.d.now))) _ _ _ _ _ _ c.requires.lawful _ b.0 b.1 c.begin.ensures.left
+    resumed (world g.Input.StreamOnce.step g.Input.Error.ParseError.seen g.Input.StreamOnce.steady (λ s. s ≡ Peek)) _ (or_valid (or_valid g.A.Parser.valid g.B.Parser.valid) (or_valid g.C.Parser.valid g.D.Parser.valid)) _ _ _ _ _ _ _ c.requires.lawful _ b.0 b.1 c.begin.ensures.left
 
 pub choose_4-answer-requires-clause-valid : goal.choose_4-answer-requires-clause-valid
 choose_4-answer-requires-clause-valid g c =
@@ -21,4 +20,4 @@ pub returns : goal.returns
 returns g c =
     let b = rw c.in-Ok.is at c.begin.ensures.begun.is in
     let stands = g.met.Input.ResetStream.lasts _ _ _ _ c.choose_4-answer.ensures.passes.marks c.checkpoint-start.ensures.stands in
-    tried g.Input.StreamOnce.step g.Input.Error.ParseError.seen g.Input.StreamOnce.steady _ (RefusesOr g.Input.Error.ParseError.seen g.Input.Position.Ord.cmp (λ s. s ≡ Peek) (λ s. s ≡ Peek) (RefusesOr g.Input.Error.ParseError.seen g.Input.Position.Ord.cmp g.A.PartialState.Default.is_default g.B.PartialState.Default.is_default (g.A.Parser.refuses c.args.a.now) (g.B.Parser.refuses c.args.b.now)) (RefusesOr g.Input.Error.ParseError.seen g.Input.Position.Ord.cmp g.C.PartialState.Default.is_default g.D.PartialState.Default.is_default (g.C.Parser.refuses c.args.c.now) (g.D.Parser.refuses c.args.d.now))) _ _ _ _ _ _ _ _ _ _ _ _ b (begun_valid (λ s. s ≡ Peek) (or_valid (or_valid g.A.Parser.valid g.B.Parser.valid) (or_valid g.C.Parser.valid g.D.Parser.valid)) (λ s d. rw d tt) _ _ _ b c.requires.valid) _ c.choose_4-answer.ensures stands c.go_on.ensures.passes _ c.go_on.ensures.goes
+    tried g.Input.StreamOnce.step g.Input.Error.ParseError.seen g.Input.StreamOnce.steady _ _ _ _ _ _ _ _ _ _ _ _ _ b (begun_valid (λ s. s ≡ Peek) (or_valid (or_valid g.A.Parser.valid g.B.Parser.valid) (or_valid g.C.Parser.valid g.D.Parser.valid)) (λ s d. rw d tt) _ _ _ b c.requires.valid) _ c.choose_4-answer.ensures stands c.go_on.ensures.passes _ c.go_on.ensures.goes

@@ -26,7 +26,7 @@ loop-at-preserved g c =
     }
 
 pub returns-clause-same : goal.returns-clause-same
-returns-clause-same g c = chosen_same g.P.Parser.meaning _ _ c.loop-at.invariant.same
+returns-clause-same g c = chosen_same g.Input.Error.ParseError.seen g.Input.Position.Ord.cmp g.P.Parser.meaning _ _ c.loop-at.invariant.same
 
 pub returns-clause-says : goal.returns-clause-says
 returns-clause-says g c =

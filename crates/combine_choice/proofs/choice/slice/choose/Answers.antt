@@ -2,11 +2,12 @@ use Rattle.std.proofs.Common.{◌≤◌, ◌<◌, ◌∙◌, true, length, arith
 use Rattle.std.proofs.lemmas.List.{drop-set-lt}
 use Rattle.std.proofs.lemmas.List.Elements.{All-set}
 use Rattle.combine_base.specs.Parser.Answer.{world}
+use Rattle.combine_base.specs.Parser.Meaning.{begun, begun_refuses}
 use Rattle.combine_base.proofs.Same.{passes_more}
 use Rattle.combine_token.proofs.Choosing.{begun_reads}
 use Rattle.combine_choice.specs.Chosen.{every_drop}
 use Rattle.combine_choice.proofs.Listed.{drop_at, drop_here, drop_past, same_self, same_set}
-use Rattle.combine_choice.proofs.Refusing.{begins_at, later_refuses, later_settles, peeked_no_fault, refusing_end, refusing_here, refusing_next, refusing_unreset, turn_no_fault, turn_settles}
+use Rattle.combine_choice.proofs.Refusing.{begins_at, later_refuses, later_settles, peeked_no_fault, refusing_end, refusing_here, refusing_next, refusing_unreset, turn_meant, turn_no_fault, turn_settles}
 use Rattle.combine_base.proofs.Reasoning.{reasons_fault, reasons_ok, reasons_peek_ok}
 use Rattle.combine_base.specs.declared.stream.Kind.TheVariants as kinds
 use Rattle.combine_choice.proofs.MergedErrors.{first_commits, goes_end, goes_first, goes_next, next_reasons}
@@ -25,22 +26,22 @@ pub returns-in-CommitOk-clause-answers : goal.returns-in-CommitOk-clause-answers
 returns-in-CommitOk-clause-answers g c =
     let here = drop_at _ _ c.index-alternatives-index.result c.requires.within in
     let h = g.met.P.Parser.laws _ (c.requires.lawful _ c.index-alternatives-index.result c.requires.within) in
-    let z = begins_at (world g.Input.StreamOnce.step g.Input.Error.ParseError.seen g.Input.StreamOnce.steady g.P.PartialState.Default.is_default) _ g.P.Parser.meaning _ _ _ _ here h _ _ c.requires.fresh _ _ in
-    turn_settles g.Input.StreamOnce.step g.Input.Error.ParseError.seen g.Input.StreamOnce.steady g.P.PartialState.Default.is_default g.P.Parser.meaning _ _ _ _ _ _ _ _ here _ _ _ _ _ _ _ z _ tt c.in-CommitOk.ensures.turn
+    let z = begins_at (world g.Input.StreamOnce.step g.Input.Error.ParseError.seen g.Input.StreamOnce.steady g.P.PartialState.Default.is_default) g.Input.Error.ParseError.seen g.Input.Position.Ord.cmp _ g.P.Parser.meaning _ _ _ _ here h _ _ c.requires.fresh _ _ in
+    turn_settles g.Input.StreamOnce.step g.Input.Error.ParseError.seen g.Input.Position.Ord.cmp g.Input.StreamOnce.steady g.P.PartialState.Default.is_default g.P.Parser.meaning _ _ _ _ _ _ _ _ here _ _ _ _ _ _ _ z _ tt c.in-CommitOk.ensures.turn
 
 pub returns-in-PeekOk-clause-answers : goal.returns-in-PeekOk-clause-answers
 returns-in-PeekOk-clause-answers g c =
     let here = drop_at _ _ c.index-alternatives-index.result c.requires.within in
     let h = g.met.P.Parser.laws _ (c.requires.lawful _ c.index-alternatives-index.result c.requires.within) in
-    let z = begins_at (world g.Input.StreamOnce.step g.Input.Error.ParseError.seen g.Input.StreamOnce.steady g.P.PartialState.Default.is_default) _ g.P.Parser.meaning _ _ _ _ here h _ _ c.requires.fresh _ _ in
-    turn_settles g.Input.StreamOnce.step g.Input.Error.ParseError.seen g.Input.StreamOnce.steady g.P.PartialState.Default.is_default g.P.Parser.meaning _ _ _ _ _ _ _ _ here _ _ _ _ _ _ _ z _ tt c.in-PeekOk.ensures.turn
+    let z = begins_at (world g.Input.StreamOnce.step g.Input.Error.ParseError.seen g.Input.StreamOnce.steady g.P.PartialState.Default.is_default) g.Input.Error.ParseError.seen g.Input.Position.Ord.cmp _ g.P.Parser.meaning _ _ _ _ here h _ _ c.requires.fresh _ _ in
+    turn_settles g.Input.StreamOnce.step g.Input.Error.ParseError.seen g.Input.Position.Ord.cmp g.Input.StreamOnce.steady g.P.PartialState.Default.is_default g.P.Parser.meaning _ _ _ _ _ _ _ _ here _ _ _ _ _ _ _ z _ tt c.in-PeekOk.ensures.turn
 
 pub returns-in-CommitErr-clause-answers : goal.returns-in-CommitErr-clause-answers
 returns-in-CommitErr-clause-answers g c =
     let here = drop_at _ _ c.index-alternatives-index.result c.requires.within in
     let h = g.met.P.Parser.laws _ (c.requires.lawful _ c.index-alternatives-index.result c.requires.within) in
-    let z = begins_at (world g.Input.StreamOnce.step g.Input.Error.ParseError.seen g.Input.StreamOnce.steady g.P.PartialState.Default.is_default) _ g.P.Parser.meaning _ _ _ _ here h _ _ c.requires.fresh _ _ in
-    turn_settles g.Input.StreamOnce.step g.Input.Error.ParseError.seen g.Input.StreamOnce.steady g.P.PartialState.Default.is_default g.P.Parser.meaning _ _ _ _ _ _ _ _ here _ _ _ _ _ _ _ z _ tt c.in-CommitErr.ensures.turn
+    let z = begins_at (world g.Input.StreamOnce.step g.Input.Error.ParseError.seen g.Input.StreamOnce.steady g.P.PartialState.Default.is_default) g.Input.Error.ParseError.seen g.Input.Position.Ord.cmp _ g.P.Parser.meaning _ _ _ _ here h _ _ c.requires.fresh _ _ in
+    turn_settles g.Input.StreamOnce.step g.Input.Error.ParseError.seen g.Input.Position.Ord.cmp g.Input.StreamOnce.steady g.P.PartialState.Default.is_default g.P.Parser.meaning _ _ _ _ _ _ _ _ here _ _ _ _ _ _ _ z _ tt c.in-CommitErr.ensures.turn
 
 pub loop-at-init : goal.loop-at-init
 loop-at-init g c =
@@ -48,15 +49,16 @@ loop-at-init g c =
     let h = g.met.P.Parser.laws _ (c.requires.lawful _ c.index-alternatives-index.result c.requires.within) in
     let w = world g.Input.StreamOnce.step g.Input.Error.ParseError.seen g.Input.StreamOnce.steady g.P.PartialState.Default.is_default in
     let t = c.in-PeekErr.ensures.turn in
-    let z = begins_at w _ g.P.Parser.meaning _ _ _ _ here h _ _ c.requires.fresh _ _ in
+    let z = begins_at w g.Input.Error.ParseError.seen g.Input.Position.Ord.cmp _ g.P.Parser.meaning _ _ _ _ here h _ _ c.requires.fresh _ _ in
+    let d = turn_meant w _ _ _ _ _ _ _ _ _ _ _ t c.in-PeekErr.ensures.refuses in
     record {
       lawful = All-set g.P.Parser.lawful _ _ _ c.in-PeekErr.ensures.lawful c.requires.lawful;
       same = same_set g.P.Parser.meaning _ _ _ c.index-alternatives-index.result _ (same_self g.P.Parser.meaning _) c.requires.within c.in-PeekErr.ensures.same;
       untried = λ k l. drop-set-lt k c.args.alternatives.now c.args.index _ (omega arith);
       state = t.ends (λ a. a);
       passes = c.in-PeekErr.ensures.passes;
-      goes = goes_first _ _ g.P.Parser.refuses _ _ _ _ _ here _ _ c.in-PeekErr.ensures.refuses;
-      refusing = refusing_next w g.P.Parser.meaning _ _ _ _ _ _ _ _ z (begun_reads _ _ _ h _ _ c.requires.valid) _ t.answers c.in-PeekErr.ensures.passes (every_drop g.P.Parser.meaning (λ a. a.keeps) _ _) (every_drop g.P.Parser.meaning (λ a. a.puts_back) _ _) (every_drop g.P.Parser.meaning (λ a. a.lean) _ _);
+      goes = goes_first _ _ g.P.Parser.meaning _ (λ x. begun (g.P.Parser.meaning x) (g.M.ParseMode.first c.args.mode) c.args.kept) (λ x. begun_refuses (g.P.Parser.meaning x) (g.M.ParseMode.first c.args.mode) c.args.kept) _ _ _ here _ _ d;
+      refusing = refusing_next w g.Input.Error.ParseError.seen g.Input.Position.Ord.cmp g.P.Parser.meaning _ _ _ _ _ _ _ _ z (begun_reads _ _ _ h _ _ c.requires.valid) _ t.answers c.in-PeekErr.ensures.passes (every_drop g.P.Parser.meaning (λ a. a.keeps) _ _) (every_drop g.P.Parser.meaning (λ a. a.puts_back) _ _) (every_drop g.P.Parser.meaning (λ a. a.lean) _ _);
     }
 
 pub take_turn-answer-requires-clause-lawful : goal.take_turn-answer-requires-clause-lawful
@@ -70,7 +72,7 @@ after_refusal-requires-clause-later g c = turn_no_fault (world g.Input.StreamOnc
 
 pub returns-in-Err-clause-answers : goal.returns-in-Err-clause-answers
 returns-in-Err-clause-answers g c =
-    refusing_unreset g.Input.StreamOnce.step g.Input.Error.ParseError.seen g.Input.StreamOnce.steady g.P.PartialState.Default.is_default g.P.Parser.meaning _ _ _ _ _ _ _ _ _ _ _ _ c.loop-at.invariant.refusing _ c.in-Err.ensures.to.is c.loop-at.invariant.state _ c.new_error.ensures.kind
+    refusing_unreset g.Input.StreamOnce.step g.Input.Error.ParseError.seen g.Input.Position.Ord.cmp g.Input.StreamOnce.steady g.P.PartialState.Default.is_default g.P.Parser.meaning _ _ _ _ _ _ _ _ _ _ _ _ c.loop-at.invariant.refusing _ c.in-Err.ensures.to.is c.loop-at.invariant.state _ c.new_error.ensures.kind
 
 pub returns-in-CommitOk-after_refusal-clause-same : goal.returns-in-CommitOk-after_refusal-clause-same
 returns-in-CommitOk-after_refusal-clause-same g c =
@@ -85,8 +87,8 @@ returns-in-CommitOk-after_refusal-clause-answers g c =
     let h = g.met.P.Parser.laws _ (c.loop-at.invariant.lawful _ c.index-alternatives-at.result within) in
     let n = c.in-Ok.ensures.to.is in
     let back = n.0 _ (g.met.Input.ResetStream.lasts _ _ _ _ c.loop-at.invariant.passes.marks c.checkpoint-start.ensures.stands) in
-    let z = refusing_here w g.P.Parser.meaning _ _ _ _ _ _ _ _ here _ _ _ c.loop-at.invariant.refusing _ h _ _ c.default-fresh.ensures _ _ back n.1 c.in-Ok.ensures.passes in
-    later_settles g.Input.StreamOnce.step g.Input.Error.ParseError.seen g.Input.StreamOnce.steady g.P.PartialState.Default.is_default g.P.Parser.meaning _ _ _ _ _ _ _ _ here _ _ _ _ _ _ _ z _ _ _ _ tt c.take_turn-answer.ensures.turn c.in-CommitOk-after_refusal.ensures
+    let z = refusing_here w g.Input.Error.ParseError.seen g.Input.Position.Ord.cmp g.P.Parser.meaning _ _ _ _ _ _ _ _ here _ _ _ c.loop-at.invariant.refusing _ h _ _ c.default-fresh.ensures _ _ back n.1 c.in-Ok.ensures.passes in
+    later_settles g.Input.StreamOnce.step g.Input.Error.ParseError.seen g.Input.Position.Ord.cmp g.Input.StreamOnce.steady g.P.PartialState.Default.is_default g.P.Parser.meaning _ _ _ _ _ _ _ _ here _ _ _ _ _ _ _ z _ _ _ tt c.take_turn-answer.ensures.turn c.in-CommitOk-after_refusal.ensures
 
 pub returns-in-PeekOk-after_refusal-clause-same : goal.returns-in-PeekOk-after_refusal-clause-same
 returns-in-PeekOk-after_refusal-clause-same g c =
@@ -101,8 +103,8 @@ returns-in-PeekOk-after_refusal-clause-answers g c =
     let h = g.met.P.Parser.laws _ (c.loop-at.invariant.lawful _ c.index-alternatives-at.result within) in
     let n = c.in-Ok.ensures.to.is in
     let back = n.0 _ (g.met.Input.ResetStream.lasts _ _ _ _ c.loop-at.invariant.passes.marks c.checkpoint-start.ensures.stands) in
-    let z = refusing_here w g.P.Parser.meaning _ _ _ _ _ _ _ _ here _ _ _ c.loop-at.invariant.refusing _ h _ _ c.default-fresh.ensures _ _ back n.1 c.in-Ok.ensures.passes in
-    later_settles g.Input.StreamOnce.step g.Input.Error.ParseError.seen g.Input.StreamOnce.steady g.P.PartialState.Default.is_default g.P.Parser.meaning _ _ _ _ _ _ _ _ here _ _ _ _ _ _ _ z _ _ _ _ tt c.take_turn-answer.ensures.turn c.in-PeekOk-after_refusal.ensures
+    let z = refusing_here w g.Input.Error.ParseError.seen g.Input.Position.Ord.cmp g.P.Parser.meaning _ _ _ _ _ _ _ _ here _ _ _ c.loop-at.invariant.refusing _ h _ _ c.default-fresh.ensures _ _ back n.1 c.in-Ok.ensures.passes in
+    later_settles g.Input.StreamOnce.step g.Input.Error.ParseError.seen g.Input.Position.Ord.cmp g.Input.StreamOnce.steady g.P.PartialState.Default.is_default g.P.Parser.meaning _ _ _ _ _ _ _ _ here _ _ _ _ _ _ _ z _ _ _ tt c.take_turn-answer.ensures.turn c.in-PeekOk-after_refusal.ensures
 
 pub returns-in-CommitErr-after_refusal-clause-same : goal.returns-in-CommitErr-after_refusal-clause-same
 returns-in-CommitErr-after_refusal-clause-same g c =
@@ -117,8 +119,8 @@ returns-in-CommitErr-after_refusal-clause-answers g c =
     let h = g.met.P.Parser.laws _ (c.loop-at.invariant.lawful _ c.index-alternatives-at.result within) in
     let n = c.in-Ok.ensures.to.is in
     let back = n.0 _ (g.met.Input.ResetStream.lasts _ _ _ _ c.loop-at.invariant.passes.marks c.checkpoint-start.ensures.stands) in
-    let z = refusing_here w g.P.Parser.meaning _ _ _ _ _ _ _ _ here _ _ _ c.loop-at.invariant.refusing _ h _ _ c.default-fresh.ensures _ _ back n.1 c.in-Ok.ensures.passes in
-    later_settles g.Input.StreamOnce.step g.Input.Error.ParseError.seen g.Input.StreamOnce.steady g.P.PartialState.Default.is_default g.P.Parser.meaning _ _ _ _ _ _ _ _ here _ _ _ _ _ _ _ z _ _ _ _ tt c.take_turn-answer.ensures.turn c.in-CommitErr-after_refusal.ensures
+    let z = refusing_here w g.Input.Error.ParseError.seen g.Input.Position.Ord.cmp g.P.Parser.meaning _ _ _ _ _ _ _ _ here _ _ _ c.loop-at.invariant.refusing _ h _ _ c.default-fresh.ensures _ _ back n.1 c.in-Ok.ensures.passes in
+    later_settles g.Input.StreamOnce.step g.Input.Error.ParseError.seen g.Input.Position.Ord.cmp g.Input.StreamOnce.steady g.P.PartialState.Default.is_default g.P.Parser.meaning _ _ _ _ _ _ _ _ here _ _ _ _ _ _ _ z _ _ _ tt c.take_turn-answer.ensures.turn c.in-CommitErr-after_refusal.ensures
 
 pub loop-at-preserved : goal.loop-at-preserved
 loop-at-preserved g c =
@@ -128,22 +130,23 @@ loop-at-preserved g c =
     let h = g.met.P.Parser.laws _ (c.loop-at.invariant.lawful _ c.index-alternatives-at.result within) in
     let n = c.in-Ok.ensures.to.is in
     let back = n.0 _ (g.met.Input.ResetStream.lasts _ _ _ _ c.loop-at.invariant.passes.marks c.checkpoint-start.ensures.stands) in
-    let z = refusing_here w g.P.Parser.meaning _ _ _ _ _ _ _ _ here _ _ _ c.loop-at.invariant.refusing _ h _ _ c.default-fresh.ensures _ _ back n.1 c.in-Ok.ensures.passes in
-    let q = later_refuses g.Input.StreamOnce.step g.Input.Error.ParseError.seen g.Input.StreamOnce.steady g.P.PartialState.Default.is_default g.P.Parser.meaning _ _ _ _ _ _ _ _ here _ _ _ _ _ _ _ z (begun_reads _ _ _ h true _ (g.met.P.Parser.default_valid _ c.default-fresh.ensures)) _ _ _ _ c.take_turn-answer.ensures.turn c.in-PeekErr-after_refusal.ensures c.loop-at.invariant.refusing.peeked c.take_turn-answer.ensures.passes (every_drop g.P.Parser.meaning (λ a. a.keeps) _ _) (every_drop g.P.Parser.meaning (λ a. a.puts_back) _ _) (every_drop g.P.Parser.meaning (λ a. a.lean) _ _) in
+    let z = refusing_here w g.Input.Error.ParseError.seen g.Input.Position.Ord.cmp g.P.Parser.meaning _ _ _ _ _ _ _ _ here _ _ _ c.loop-at.invariant.refusing _ h _ _ c.default-fresh.ensures _ _ back n.1 c.in-Ok.ensures.passes in
+    let q = later_refuses g.Input.StreamOnce.step g.Input.Error.ParseError.seen g.Input.Position.Ord.cmp g.Input.StreamOnce.steady g.P.PartialState.Default.is_default g.P.Parser.meaning _ _ _ _ _ _ _ _ here _ _ _ _ _ _ _ z (begun_reads _ _ _ h true _ (g.met.P.Parser.default_valid _ c.default-fresh.ensures)) _ _ _ c.take_turn-answer.ensures.turn c.in-PeekErr-after_refusal.ensures c.loop-at.invariant.refusing.peeked c.take_turn-answer.ensures.passes (every_drop g.P.Parser.meaning (λ a. a.keeps) _ _) (every_drop g.P.Parser.meaning (λ a. a.puts_back) _ _) (every_drop g.P.Parser.meaning (λ a. a.lean) _ _) in
+    let d = turn_meant w _ _ _ _ _ _ _ _ _ _ _ c.take_turn-answer.ensures.turn c.take_turn-answer.ensures.refuses in
     record {
       lawful = All-set g.P.Parser.lawful _ _ _ c.take_turn-answer.ensures.lawful c.loop-at.invariant.lawful;
       same = same_set g.P.Parser.meaning _ _ _ c.index-alternatives-at.result _ c.loop-at.invariant.same within c.take_turn-answer.ensures.same;
       untried = λ k l. drop-set-lt k c.loop-at.alternatives c.loop-at.at _ (omega arith) ∙ c.loop-at.invariant.untried k (omega arith);
       state = q.1;
       passes = passes_more _ _ _ _ _ _ (passes_more _ _ _ _ _ _ c.loop-at.invariant.passes c.in-Ok.ensures.passes) c.take_turn-answer.ensures.passes;
-      goes = goes_next _ _ g.P.Parser.refuses _ _ _ _ _ here _ c.loop-at.invariant.goes _ _ (rw back at c.take_turn-answer.ensures.refuses) _ c.in-PeekErr-after_refusal.ensures;
+      goes = goes_next _ _ g.P.Parser.meaning _ _ _ _ _ here _ _ c.loop-at.invariant.goes _ _ (rw back at d) _ c.in-PeekErr-after_refusal.ensures;
       refusing = q.0;
     }
 
 pub returns-clause-answers : goal.returns-clause-answers
 returns-clause-answers g c =
     let past : length c.args.alternatives.now ≤ c.loop-at.at = search (rules, arith) in
-    refusing_end g.Input.StreamOnce.step g.Input.Error.ParseError.seen g.Input.StreamOnce.steady g.P.PartialState.Default.is_default g.P.Parser.meaning _ _ _ _ _ _ _ _ _ _ (drop_past _ _ past) c.loop-at.invariant.refusing c.loop-at.invariant.state
+    refusing_end g.Input.StreamOnce.step g.Input.Error.ParseError.seen g.Input.Position.Ord.cmp g.Input.StreamOnce.steady g.P.PartialState.Default.is_default g.P.Parser.meaning _ _ _ _ _ _ _ _ _ _ (drop_past _ _ past) c.loop-at.invariant.refusing c.loop-at.invariant.state
 
 pub returns-in-CommitOk-clause-refuses : goal.returns-in-CommitOk-clause-refuses
 returns-in-CommitOk-clause-refuses g c = reasons_ok _ _ _ _
@@ -154,7 +157,8 @@ returns-in-PeekOk-clause-refuses g c = reasons_peek_ok _ _ _ _
 pub returns-in-CommitErr-clause-refuses : goal.returns-in-CommitErr-clause-refuses
 returns-in-CommitErr-clause-refuses g c =
     let here = drop_at _ _ c.index-alternatives-index.result c.requires.within in
-    first_commits _ _ g.P.Parser.refuses _ _ _ _ _ here _ _ c.in-CommitErr.ensures.refuses
+    let d = turn_meant (world g.Input.StreamOnce.step g.Input.Error.ParseError.seen g.Input.StreamOnce.steady g.P.PartialState.Default.is_default) _ _ _ _ _ _ _ _ _ _ _ c.in-CommitErr.ensures.turn c.in-CommitErr.ensures.refuses in
+    first_commits _ _ g.P.Parser.meaning _ (λ x. begun (g.P.Parser.meaning x) (g.M.ParseMode.first c.args.mode) c.args.kept) (λ x. begun_refuses (g.P.Parser.meaning x) (g.M.ParseMode.first c.args.mode) c.args.kept) _ _ _ here _ _ d
 
 pub returns-in-Err-clause-refuses : goal.returns-in-Err-clause-refuses
 returns-in-Err-clause-refuses g c = reasons_fault _ _ _ _ kinds.Reset (c.new_error.ensures.kind ∙ c.in-Err.ensures.to.is.0) tt
@@ -165,7 +169,8 @@ returns-in-CommitOk-after_refusal-clause-refuses g c =
     let here = drop_here _ _ _ c.index-alternatives-at.result c.loop-at.invariant.untried within in
     let n = c.in-Ok.ensures.to.is in
     let back = n.0 _ (g.met.Input.ResetStream.lasts _ _ _ _ c.loop-at.invariant.passes.marks c.checkpoint-start.ensures.stands) in
-    next_reasons _ _ g.P.Parser.refuses _ _ _ _ _ here _ c.loop-at.invariant.goes _ _ (rw back at c.take_turn-answer.ensures.refuses) _ tt c.in-CommitOk-after_refusal.ensures
+    let d = turn_meant (world g.Input.StreamOnce.step g.Input.Error.ParseError.seen g.Input.StreamOnce.steady g.P.PartialState.Default.is_default) _ _ _ _ _ _ _ _ _ _ _ c.take_turn-answer.ensures.turn c.take_turn-answer.ensures.refuses in
+    next_reasons _ _ g.P.Parser.meaning _ _ _ _ _ here _ _ c.loop-at.invariant.goes _ _ (rw back at d) _ tt c.in-CommitOk-after_refusal.ensures
 
 pub returns-in-PeekOk-after_refusal-clause-refuses : goal.returns-in-PeekOk-after_refusal-clause-refuses
 returns-in-PeekOk-after_refusal-clause-refuses g c =
@@ -173,7 +178,8 @@ returns-in-PeekOk-after_refusal-clause-refuses g c =
     let here = drop_here _ _ _ c.index-alternatives-at.result c.loop-at.invariant.untried within in
     let n = c.in-Ok.ensures.to.is in
     let back = n.0 _ (g.met.Input.ResetStream.lasts _ _ _ _ c.loop-at.invariant.passes.marks c.checkpoint-start.ensures.stands) in
-    next_reasons _ _ g.P.Parser.refuses _ _ _ _ _ here _ c.loop-at.invariant.goes _ _ (rw back at c.take_turn-answer.ensures.refuses) _ tt c.in-PeekOk-after_refusal.ensures
+    let d = turn_meant (world g.Input.StreamOnce.step g.Input.Error.ParseError.seen g.Input.StreamOnce.steady g.P.PartialState.Default.is_default) _ _ _ _ _ _ _ _ _ _ _ c.take_turn-answer.ensures.turn c.take_turn-answer.ensures.refuses in
+    next_reasons _ _ g.P.Parser.meaning _ _ _ _ _ here _ _ c.loop-at.invariant.goes _ _ (rw back at d) _ tt c.in-PeekOk-after_refusal.ensures
 
 pub returns-in-CommitErr-after_refusal-clause-refuses : goal.returns-in-CommitErr-after_refusal-clause-refuses
 returns-in-CommitErr-after_refusal-clause-refuses g c =
@@ -181,9 +187,10 @@ returns-in-CommitErr-after_refusal-clause-refuses g c =
     let here = drop_here _ _ _ c.index-alternatives-at.result c.loop-at.invariant.untried within in
     let n = c.in-Ok.ensures.to.is in
     let back = n.0 _ (g.met.Input.ResetStream.lasts _ _ _ _ c.loop-at.invariant.passes.marks c.checkpoint-start.ensures.stands) in
-    next_reasons _ _ g.P.Parser.refuses _ _ _ _ _ here _ c.loop-at.invariant.goes _ _ (rw back at c.take_turn-answer.ensures.refuses) _ tt c.in-CommitErr-after_refusal.ensures
+    let d = turn_meant (world g.Input.StreamOnce.step g.Input.Error.ParseError.seen g.Input.StreamOnce.steady g.P.PartialState.Default.is_default) _ _ _ _ _ _ _ _ _ _ _ c.take_turn-answer.ensures.turn c.take_turn-answer.ensures.refuses in
+    next_reasons _ _ g.P.Parser.meaning _ _ _ _ _ here _ _ c.loop-at.invariant.goes _ _ (rw back at d) _ tt c.in-CommitErr-after_refusal.ensures
 
 pub returns-clause-refuses : goal.returns-clause-refuses
 returns-clause-refuses g c =
     let past : length c.args.alternatives.now ≤ c.loop-at.at = search (rules, arith) in
-    goes_end _ _ g.P.Parser.refuses _ _ _ _ (drop_past _ _ past) _ c.loop-at.invariant.goes
+    goes_end _ _ g.P.Parser.meaning _ _ _ (drop_past _ _ past) _ _ c.loop-at.invariant.goes

@@ -1,5 +1,6 @@
 use Rattle.std.proofs.Common.{inl, inr, refl, ap}
 use Rattle.combine_base.specs.Parser.Answer.{world}
+use Rattle.combine_base.proofs.Refusing.{explained_at_rest}
 use Rattle.combine_base.proofs.Starting.{at_rest}
 use Rattle.combine_base.specs.declared.error.ParseResult.TheVariants.{CommitOk, PeekOk, CommitErr, PeekErr}
 use Rattle.combine_nested.specs.declared.nested.steps.Did.TheVariants as dids
@@ -18,7 +19,7 @@ returns-then-needs_more g c =
       stopped = _;
       answer = CommitErr c.in-CommitErr.error;
       answers = at_rest around _ _ (g.met.N.Parser.laws c.args.from.parser c.requires.ready.lawful) _ c.requires.starts _ c.in-CommitErr.ensures.answers;
-      explained = c.in-CommitErr.ensures.explained;
+      explained = explained_at_rest (g.met.N.Parser.laws c.args.from.parser c.requires.ready.lawful) c.requires.starts c.in-CommitErr.ensures.explained;
       did = refl;
       keeps = inl (c.needs_more.ensures.0 c.if-needs_more.true, record { begun = _; is = refl; took = λ n t. c.has_taken.ensures n _ (g.met.Input.ResetStream.lasts _ _ _ _ call.passes.marks c.checkpoint-since.ensures.stands) t; valid = c.in-CommitErr.ensures.valid });
     }
@@ -35,7 +36,7 @@ returns-in-CommitErr g c =
       stopped = _;
       answer = CommitErr c.in-CommitErr.error;
       answers = at_rest around _ _ (g.met.N.Parser.laws c.args.from.parser c.requires.ready.lawful) _ c.requires.starts _ c.in-CommitErr.ensures.answers;
-      explained = c.in-CommitErr.ensures.explained;
+      explained = explained_at_rest (g.met.N.Parser.laws c.args.from.parser c.requires.ready.lawful) c.requires.starts c.in-CommitErr.ensures.explained;
       did = refl;
       keeps = inr (λ q. let e = c.needs_more.ensures.1 q in let f = c.if-needs_more.false in cc, c.requires.fresh);
     }
@@ -52,7 +53,7 @@ returns-in-PeekErr g c =
       stopped = _;
       answer = PeekErr c.in-PeekErr.refusal;
       answers = at_rest around _ _ (g.met.N.Parser.laws c.args.from.parser c.requires.ready.lawful) _ c.requires.starts _ c.in-PeekErr.ensures.answers;
-      explained = c.in-PeekErr.ensures.explained;
+      explained = explained_at_rest (g.met.N.Parser.laws c.args.from.parser c.requires.ready.lawful) c.requires.starts c.in-PeekErr.ensures.explained;
       did = ap dids.Stops c.refused_after.ensures;
       keeps = inr (λ q. q, c.requires.fresh);
     }
@@ -70,7 +71,7 @@ returns g c =
         stopped = _;
         answer = CommitOk _;
         answers = at_rest around _ _ (g.met.N.Parser.laws c.args.from.parser c.requires.ready.lawful) _ c.requires.starts _ w.in-CommitOk.ensures.answers;
-        explained = w.in-CommitOk.ensures.explained;
+        explained = explained_at_rest (g.met.N.Parser.laws c.args.from.parser c.requires.ready.lawful) c.requires.starts w.in-CommitOk.ensures.explained;
         did = record { took = c.has_taken-took.result; is = λ n t. c.has_taken-took.ensures n _ (g.met.Input.ResetStream.lasts _ _ _ _ call.passes.marks c.checkpoint-since.ensures.stands) t; did = rw (c.position-position.ensures, c.one_of-commits.ensures, w.item-is) at c.finish_step.ensures };
         keeps = inr (λ q. q, c.requires.fresh);
       }
@@ -82,7 +83,7 @@ returns g c =
         stopped = _;
         answer = PeekOk _;
         answers = at_rest around _ _ (g.met.N.Parser.laws c.args.from.parser c.requires.ready.lawful) _ c.requires.starts _ w.in-PeekOk.ensures.answers;
-        explained = w.in-PeekOk.ensures.explained;
+        explained = explained_at_rest (g.met.N.Parser.laws c.args.from.parser c.requires.ready.lawful) c.requires.starts w.in-PeekOk.ensures.explained;
         did = record { took = c.has_taken-took.result; is = λ n t. c.has_taken-took.ensures n _ (g.met.Input.ResetStream.lasts _ _ _ _ call.passes.marks c.checkpoint-since.ensures.stands) t; did = rw (c.position-position.ensures, c.one_of-commits.ensures, w.item-is) at c.finish_step.ensures };
         keeps = inr (λ q. q, c.requires.fresh);
       }

@@ -1,15 +1,17 @@
-use Rattle.std.proofs.Common.{false, sym, subst, refl, ◌≡◌, ◌∙◌, ◌+◌, arith}
+use Rattle.std.proofs.Common.{sym, subst, refl, ◌≡◌, ◌∙◌, ◌+◌, arith}
 use Rattle.std.proofs.lemmas.Bool.{false≢true}
 use Rattle.combine_base.specs.Error.Errors.{Nothing}
-use Rattle.combine_base.specs.Parser.Answer.{world}
+use Rattle.combine_base.specs.Parser.Answer.{Run, World, world}
 use Rattle.combine_base.specs.Stream.View.{Takes}
 use Rattle.combine_base.proofs.Progress.{moves_more, takes_more, takes_open}
+use Rattle.combine_range.specs.declared.distance.Distance.{Distance}
 use Rattle.combine_range.proofs.Kept.{breaks}
 use Rattle.combine_base.proofs.Reasoning.{reasons_ok, reasons_peek_ok}
-use Rattle.combine_range.proofs.Reasons.{reasons_broke, reasons_handed, reasons_keeping, reasons_none, reasons_unpassed}
-use Rattle.combine_range_search.specs.Searches.{Split}
+use Rattle.combine_range.proofs.Reasons.{kept_reasons, reasons_broke, reasons_handed, reasons_keeping, reasons_none, reasons_unpassed}
+use Rattle.combine_range_search.specs.Reasons.{RefusesSearch}
+use Rattle.combine_range_search.specs.Searches.{Split, searching}
 use Rattle.combine_range_search.proofs.Calling.{found_commits, found_hands, found_none, found_peeks, found_says, found_waits, missing_keeps, missing_refuses, missing_says}
-use Rattle.combine_range_search.proofs.Reasons.{from_kept, reasons_absent}
+use Rattle.combine_range_search.proofs.Reasons.{reasons_absent}
 use Rattle.combine_range_search.proofs.search.SearchingParser.parse_mode.Goals as goal
 
 pub returns-then-distance-gt0-clause-answers : goal.returns-then-distance-gt0-clause-answers
@@ -21,19 +23,19 @@ returns-then-distance-gt0-clause-answers g c =
     let p = c.pass_items.ensures.passes in
     let q = c.uncons_range.ensures.passes in
     let stands = g.met.Input.ResetStream.lasts _ _ _ _ q.marks (g.met.Input.ResetStream.lasts _ _ _ _ p.marks c.checkpoint-start.ensures.stands) in
-    found_hands _ _ g.met.Input.RangeStream.filled _ _ _ _ _ e _ _ _ _ o _ z _ _ _ u _ (λ t. c.hand_out.ensures.hands _ (o.is.0 + u.is.0) stands t) c.begin-distance.ensures.left (let a = p.reads in let b = q.reads in omega arith) (let a = p.resets in let b = q.resets in omega arith)
+    found_hands _ _ g.met.Input.RangeStream.filled _ _ _ _ _ _ e _ _ _ _ o _ z _ _ _ u _ (λ t. c.hand_out.ensures.hands _ (o.is.0 + u.is.0) stands t) c.begin-distance.ensures.left (let a = p.reads in let b = q.reads in omega arith) (let a = p.resets in let b = q.resets in omega arith)
 
 pub returns-then-items-gt0-clause-answers : goal.returns-then-items-gt0-clause-answers
 returns-then-items-gt0-clause-answers g c =
     let e = rw c.is_first.ensures at c.begin-distance.ensures.begun in
     let z = c.in-Found.ensures (g.Input.StreamOnce.view c.pass_items.new.input).unread c.range-unread.ensures in
-    found_commits _ _ g.met.Input.RangeStream.filled _ _ _ _ _ e _ _ _ _ c.in_default.ensures.over _ z _ _ _ c.in-Ok.ensures.read c.if-distance-gt0.false c.if-items-gt0.true refl refl c.begin-distance.ensures.left
+    found_commits _ _ g.met.Input.RangeStream.filled _ _ _ _ _ _ e _ _ _ _ c.in_default.ensures.over _ z _ _ _ c.in-Ok.ensures.read c.if-distance-gt0.false c.if-items-gt0.true refl refl c.begin-distance.ensures.left
 
 pub returns-else-items-gt0-clause-answers : goal.returns-else-items-gt0-clause-answers
 returns-else-items-gt0-clause-answers g c =
     let e = rw c.is_first.ensures at c.begin-distance.ensures.begun in
     let z = c.in-Found.ensures (g.Input.StreamOnce.view c.pass_items.new.input).unread c.range-unread.ensures in
-    found_peeks _ _ g.met.Input.RangeStream.filled _ _ _ _ _ e _ _ _ _ c.in_default.ensures.over _ z _ _ _ c.in-Ok.ensures.read c.if-distance-gt0.false c.if-items-gt0.false refl refl c.begin-distance.ensures.left
+    found_peeks _ _ g.met.Input.RangeStream.filled _ _ _ _ _ _ e _ _ _ _ c.in_default.ensures.over _ z _ _ _ c.in-Ok.ensures.read c.if-distance-gt0.false c.if-items-gt0.false refl refl c.begin-distance.ensures.left
 
 pub returns-then-may_grow-clause-answers : goal.returns-then-may_grow-clause-answers
 returns-then-may_grow-clause-answers g c =
@@ -44,20 +46,20 @@ returns-then-may_grow-clause-answers g c =
     let q = c.uncons_range.ensures.passes in
     let stands = g.met.Input.ResetStream.lasts _ _ _ _ q.marks (g.met.Input.ResetStream.lasts _ _ _ _ p.marks c.checkpoint-start.ensures.stands) in
     let m = c.may_grow.ensures.0 c.if-may_grow.true in
-    found_waits _ _ g.met.Input.RangeStream.filled _ _ _ _ _ e _ _ _ _ o _ z _ _ _ c.in-Err-uncons_range.ensures.read _ _ m.0 m.1 (λ t. c.keep_distance.ensures.keeps _ o.is.0 stands t) c.begin-distance.ensures.left (let a = p.reads in let b = q.reads in omega arith) (let a = p.resets in let b = q.resets in omega arith)
+    found_waits _ _ g.met.Input.RangeStream.filled _ _ _ _ _ _ e _ _ _ _ o _ z _ _ _ c.in-Err-uncons_range.ensures.read _ _ m.0 m.1 (λ t. c.keep_distance.ensures.keeps _ o.is.0 stands t) c.begin-distance.ensures.left (let a = p.reads in let b = q.reads in omega arith) (let a = p.resets in let b = q.resets in omega arith)
 
 pub returns-else-may_grow-clause-answers : goal.returns-else-may_grow-clause-answers
 returns-else-may_grow-clause-answers g c =
     let e = rw c.is_first.ensures at c.begin-distance.ensures.begun in
     let z = c.in-Found.ensures (g.Input.StreamOnce.view c.pass_items.new.input).unread c.range-unread.ensures in
-    found_none _ _ g.met.Input.RangeStream.filled _ _ _ _ _ e _ _ _ _ c.in_default.ensures.over _ z _ _ _ c.in-Err-uncons_range.ensures.read _ (λ k o. false≢true (sym c.if-may_grow.false ∙ c.may_grow.ensures.1 (k, o))) refl refl c.begin-distance.ensures.left c.no_range.ensures.answers c.pass_items.ensures.passes.reads
+    found_none _ _ g.met.Input.RangeStream.filled _ _ _ _ _ _ e _ _ _ _ c.in_default.ensures.over _ z _ _ _ c.in-Err-uncons_range.ensures.read _ (λ k o. false≢true (sym c.if-may_grow.false ∙ c.may_grow.ensures.1 (k, o))) refl refl c.begin-distance.ensures.left c.no_range.ensures.answers c.pass_items.ensures.passes.reads
 
 pub returns-then-not-is_partial-clause-answers : goal.returns-then-not-is_partial-clause-answers
 returns-then-not-is_partial-clause-answers g c =
     let e = rw c.is_first.ensures at c.begin-distance.ensures.begun in
     let z = c.in-NotFound.ensures (g.Input.StreamOnce.view c.pass_items.new.input).unread c.range-unread.ensures in
     let m = g.met.Input.RangeStream.measured _ _ c.range-unread.ensures in
-    missing_refuses _ _ g.met.Input.RangeStream.filled _ _ _ _ _ e _ _ _ _ c.in_default.ensures.over _ z c.is_nothing.result ((λ i. let a = c.is_nothing.ensures.0 i in (a.0, sym m ∙ a.1)), (λ a. c.is_nothing.ensures.1 (a.0, m ∙ a.1))) (sym c.is_partial.ensures ∙ c.if-not-is_partial.true) refl refl c.begin-distance.ensures.left _ c.not_found.ensures.refuses
+    missing_refuses _ _ g.met.Input.RangeStream.filled _ _ _ _ _ _ e _ _ _ _ c.in_default.ensures.over _ z c.is_nothing.result ((λ i. let a = c.is_nothing.ensures.0 i in (a.0, sym m ∙ a.1)), (λ a. c.is_nothing.ensures.1 (a.0, m ∙ a.1))) (sym c.is_partial.ensures ∙ c.if-not-is_partial.true) refl refl c.begin-distance.ensures.left _ c.not_found.ensures.refuses
 
 pub returns-in-Ok-pass_up_to-clause-answers : goal.returns-in-Ok-pass_up_to-clause-answers
 returns-in-Ok-pass_up_to-clause-answers g c =
@@ -68,20 +70,29 @@ returns-in-Ok-pass_up_to-clause-answers g c =
     let p = c.pass_items.ensures.passes in
     let q = c.pass_up_to.ensures.passes in
     let stands = g.met.Input.ResetStream.lasts _ _ _ _ q.marks (g.met.Input.ResetStream.lasts _ _ _ _ p.marks c.checkpoint-start.ensures.stands) in
-    missing_keeps _ _ g.met.Input.RangeStream.filled _ _ _ _ _ e _ _ _ _ o _ z _ _ u _ _ (λ t. c.keep_distance-in-Ok-pass_up_to.ensures.keeps _ (o.is.0 + u.count) stands t) c.begin-distance.ensures.left (let a = p.reads in let b = q.reads in omega arith) (let a = p.resets in let b = q.resets in omega arith) (sym c.is_partial.ensures ∙ c.if-not-is_partial.false)
+    missing_keeps _ _ g.met.Input.RangeStream.filled _ _ _ _ _ _ e _ _ _ _ o _ z _ _ u _ _ (λ t. c.keep_distance-in-Ok-pass_up_to.ensures.keeps _ (o.is.0 + u.count) stands t) c.begin-distance.ensures.left (let a = p.reads in let b = q.reads in omega arith) (let a = p.resets in let b = q.resets in omega arith) (sym c.is_partial.ensures ∙ c.if-not-is_partial.false)
 
 pub returns-in-Err-pass_up_to-clause-answers : goal.returns-in-Err-pass_up_to-clause-answers
 returns-in-Err-pass_up_to-clause-answers g c =
     let s = c.in-Err-pass_up_to.ensures.over.is in
     let u = c.in_default.ensures.over.is in
     let p = c.pass_items.ensures.passes in
-    breaks _ _ _ _ _ _ (rw c.is_first.ensures at c.begin-distance.ensures.begun) _ _ (g.Input.StreamOnce.failures c.pass_items.new.input) c.new_error.ensures.kind s.0 p.reads p.resets (moves_more _ _ _ _ _ u.2.taken s.1) c.begin-distance.ensures.left
+    breaks _ _ _ _ _ _ _ (rw c.is_first.ensures at c.begin-distance.ensures.begun) _ _ (g.Input.StreamOnce.failures c.pass_items.new.input) c.new_error.ensures.kind s.0 p.reads p.resets (moves_more _ _ _ _ _ u.2.taken s.1) c.begin-distance.ensures.left
 
 pub returns-in-Err-clause-refuses : goal.returns-in-Err-clause-refuses
 returns-in-Err-clause-refuses g c =
     let e = rw c.is_first.ensures at c.begin-distance.ensures.begun in
     let seen = g.Input.Error.ParseError.seen in
-    reasons_unpassed seen _ _ _ _ _ _ _ _ _ _ _ (λ i x n. from_kept seen _ _ _ _ (g.M.ParseMode.first c.args.mode) c.args.state.now e (g.Input.StreamOnce.view c.args.input.now) false x (Split i refl, n)) _ _ c.in-Err.ensures.over c.not_passed.ensures.answers (rw c.position-position.ensures at c.not_passed.ensures.says)
+    let size = g.Input.RangeStream.size in
+    let spells = g.Input.RangeStream.spells in
+    let step = g.Input.StreamOnce.step in
+    let finds = g.S.Searcher.search c.args.self.now.searcher in
+    let says = RefusesSearch seen step size spells finds in
+    let d = c.begin-distance.result in
+    let old = g.Input.StreamOnce.view c.args.input.now in
+    let new = g.Input.StreamOnce.view c.pass_items.new.input in
+    let said = reasons_unpassed seen (says d old new) old.position _ _ size _ old new _ _ d (λ q i x n. record { unfit = Split i refl; leaves = q; says = n }) _ _ c.in-Err.ensures.over c.not_passed.ensures.answers (rw c.position-position.ensures at c.not_passed.ensures.says) in
+    kept_reasons size (searching size spells finds) Nothing says d (g.M.ParseMode.first c.args.mode) c.args.state.now e old new said
 
 pub returns-then-distance-gt0-clause-refuses : goal.returns-then-distance-gt0-clause-refuses
 returns-then-distance-gt0-clause-refuses g c =
@@ -110,19 +121,43 @@ returns-else-may_grow-clause-refuses g c =
     let e = rw c.is_first.ensures at c.begin-distance.ensures.begun in
     let z = c.in-Found.ensures (g.Input.StreamOnce.view c.pass_items.new.input).unread c.range-unread.ensures in
     let seen = g.Input.Error.ParseError.seen in
-    reasons_none seen _ _ _ _ _ _ _ _ _ _ _
-    (λ u x h. from_kept seen _ _ _ _ (g.M.ParseMode.first c.args.mode) c.args.state.now e (g.Input.StreamOnce.view c.args.input.now) false x (found_says (world g.Input.StreamOnce.step seen g.Input.StreamOnce.steady (λ s. s.items ≡ 0)) _ g.met.Input.RangeStream.filled _ _ Nothing (record { first = g.M.ParseMode.first c.args.mode; state = c.args.state.now; left = c.begin-distance.new.state; old = g.Input.StreamOnce.view c.args.input.now; new = g.Input.StreamOnce.view c.pass_items.new.input; before = g.Input.StreamOnce.failures c.args.input.now; after = g.Input.StreamOnce.failures c.pass_items.new.input }) _ e _ _ _ _ c.in_default.ensures.over _ z seen u x h))
-    _ _ c.in-Err-uncons_range.ensures.read c.no_range.ensures.answers (rw c.position-position.ensures at c.no_range.ensures.says)
+    let size = g.Input.RangeStream.size in
+    let spells = g.Input.RangeStream.spells in
+    let step = g.Input.StreamOnce.step in
+    let finds = g.S.Searcher.search c.args.self.now.searcher in
+    let says = RefusesSearch seen step size spells finds in
+    let d = c.begin-distance.result in
+    let old = g.Input.StreamOnce.view c.args.input.now in
+    let mid = g.Input.StreamOnce.view c.pass_items.new.input in
+    let new = g.Input.StreamOnce.view c.uncons_range.new.self in
+    let run : Run _ _ Distance = record { first = g.M.ParseMode.first c.args.mode; state = c.args.state.now; left = c.begin-distance.new.state; old = old; new = mid; before = g.Input.StreamOnce.failures c.args.input.now; after = g.Input.StreamOnce.failures c.pass_items.new.input } in
+    let around : World _ _ Distance _ = world step seen g.Input.StreamOnce.steady (λ s. s.items ≡ 0) in
+    let said = reasons_none seen (says d old new) old.position _ _ size _ mid new _ _ _
+    (λ q u x h. found_says around size g.met.Input.RangeStream.filled spells finds Nothing says run d e _ _ _ _ c.in_default.ensures.over _ z seen new q u x h)
+    _ _ c.in-Err-uncons_range.ensures.read c.no_range.ensures.answers (rw c.position-position.ensures at c.no_range.ensures.says) in
+    kept_reasons size (searching size spells finds) Nothing says d (g.M.ParseMode.first c.args.mode) c.args.state.now e old new said
 
 pub returns-then-not-is_partial-clause-refuses : goal.returns-then-not-is_partial-clause-refuses
 returns-then-not-is_partial-clause-refuses g c =
     let e = rw c.is_first.ensures at c.begin-distance.ensures.begun in
     let z = c.in-NotFound.ensures (g.Input.StreamOnce.view c.pass_items.new.input).unread c.range-unread.ensures in
     let seen = g.Input.Error.ParseError.seen in
+    let size = g.Input.RangeStream.size in
+    let spells = g.Input.RangeStream.spells in
+    let step = g.Input.StreamOnce.step in
+    let finds = g.S.Searcher.search c.args.self.now.searcher in
+    let says = RefusesSearch seen step size spells finds in
+    let d = c.begin-distance.result in
+    let old = g.Input.StreamOnce.view c.args.input.now in
+    let mid = g.Input.StreamOnce.view c.pass_items.new.input in
+    let new = mid in
     let m = g.met.Input.RangeStream.measured _ _ c.range-unread.ensures in
-    reasons_absent seen _ _ _ _
-    (λ k x b h. from_kept seen _ _ _ _ (g.M.ParseMode.first c.args.mode) c.args.state.now e (g.Input.StreamOnce.view c.args.input.now) k x (missing_says (world g.Input.StreamOnce.step seen g.Input.StreamOnce.steady (λ s. s.items ≡ 0)) _ g.met.Input.RangeStream.filled _ _ Nothing (record { first = g.M.ParseMode.first c.args.mode; state = c.args.state.now; left = c.begin-distance.new.state; old = g.Input.StreamOnce.view c.args.input.now; new = g.Input.StreamOnce.view c.pass_items.new.input; before = g.Input.StreamOnce.failures c.args.input.now; after = g.Input.StreamOnce.failures c.pass_items.new.input }) _ e _ _ _ _ c.in_default.ensures.over _ z c.is_nothing.result ((λ i. let a = c.is_nothing.ensures.0 i in (a.0, sym m ∙ a.1)), (λ a. c.is_nothing.ensures.1 (a.0, m ∙ a.1))) (sym c.is_partial.ensures ∙ c.if-not-is_partial.true) refl refl c.begin-distance.ensures.left seen k x b h))
-    _ c.not_found.ensures.refuses (rw c.position-position.ensures at c.not_found.ensures.says)
+    let run : Run _ _ Distance = record { first = g.M.ParseMode.first c.args.mode; state = c.args.state.now; left = c.begin-distance.new.state; old = old; new = mid; before = g.Input.StreamOnce.failures c.args.input.now; after = g.Input.StreamOnce.failures c.pass_items.new.input } in
+    let around : World _ _ Distance _ = world step seen g.Input.StreamOnce.steady (λ s. s.items ≡ 0) in
+    let said = reasons_absent seen (says d old new) old.position _ _
+    (λ k x b h. missing_says around size g.met.Input.RangeStream.filled spells finds Nothing says run d e _ _ _ _ c.in_default.ensures.over _ z c.is_nothing.result ((λ i. let a = c.is_nothing.ensures.0 i in (a.0, sym m ∙ a.1)), (λ a. c.is_nothing.ensures.1 (a.0, m ∙ a.1))) (sym c.is_partial.ensures ∙ c.if-not-is_partial.true) refl refl c.begin-distance.ensures.left seen k x b h)
+    _ c.not_found.ensures.refuses (rw c.position-position.ensures at c.not_found.ensures.says) in
+    kept_reasons size (searching size spells finds) Nothing says d (g.M.ParseMode.first c.args.mode) c.args.state.now e old new said
 
 pub returns-in-Ok-pass_up_to-clause-refuses : goal.returns-in-Ok-pass_up_to-clause-refuses
 returns-in-Ok-pass_up_to-clause-refuses g c =

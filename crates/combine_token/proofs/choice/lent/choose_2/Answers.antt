@@ -10,25 +10,25 @@ returns-in-Ends g c =
     let l = c.requires.lawful in
     let h = (g.met.A.Parser.laws _ l.0) in
     let k = (g.met.B.Parser.laws _ l.1) in
-    ended_chose g.Input.StreamOnce.step g.Input.Error.ParseError.seen g.Input.StreamOnce.steady g.Input.Position.Ord.cmp (g.A.Parser.refuses c.args.a.now) (g.B.Parser.refuses c.args.b.now) h k _ _ _ _ _ _ _ l.1 _ c.in-Ends.ensures
+    ended_chose g.Input.StreamOnce.step g.Input.Error.ParseError.seen g.Input.StreamOnce.steady g.Input.Position.Ord.cmp h k _ _ _ _ _ _ _ l.1 _ c.in-Ends.ensures
 
 pub then_1-requires-clause-valid : goal.then_1-requires-clause-valid
 then_1-requires-clause-valid g c =
     let l = c.requires.lawful in
     let h = (g.met.A.Parser.laws _ l.0) in
     let k = (g.met.B.Parser.laws _ l.1) in
-    ready g.Input.StreamOnce.step g.Input.Error.ParseError.seen g.Input.StreamOnce.steady g.Input.Position.Ord.cmp (g.A.Parser.refuses c.args.a.now) (g.B.Parser.refuses c.args.b.now) h k _ _ _ _ _ _ _ _ _ c.in-Goes.ensures g.met.B.Parser.default_valid c.requires.valid
+    ready g.Input.StreamOnce.step g.Input.Error.ParseError.seen g.Input.StreamOnce.steady g.Input.Position.Ord.cmp h k _ _ _ _ _ _ _ _ _ c.in-Goes.ensures g.met.B.Parser.default_valid c.requires.valid
 
 pub then_1-requires-clause-refused : goal.then_1-requires-clause-refused
 then_1-requires-clause-refused g c =
     let l = c.requires.lawful in
     let h = (g.met.A.Parser.laws _ l.0) in
     let k = (g.met.B.Parser.laws _ l.1) in
-    is_no_fault g.Input.StreamOnce.step g.Input.Error.ParseError.seen g.Input.StreamOnce.steady g.Input.Position.Ord.cmp (g.A.Parser.refuses c.args.a.now) (g.B.Parser.refuses c.args.b.now) h k _ _ _ _ _ _ _ _ _ c.in-Goes.ensures
+    is_no_fault g.Input.StreamOnce.step g.Input.Error.ParseError.seen g.Input.StreamOnce.steady g.Input.Position.Ord.cmp h k _ _ _ _ _ _ _ _ _ c.in-Goes.ensures
 
 pub returns-in-Goes : goal.returns-in-Goes
 returns-in-Goes g c =
     let l = c.requires.lawful in
     let h = (g.met.A.Parser.laws _ l.0) in
     let k = (g.met.B.Parser.laws _ l.1) in
-    gone_chose g.Input.StreamOnce.step g.Input.Error.ParseError.seen g.Input.StreamOnce.steady g.Input.Position.Ord.cmp (g.A.Parser.refuses c.args.a.now) (g.B.Parser.refuses c.args.b.now) h k _ _ _ _ _ _ _ _ _ c.in-Goes.ensures _ _ _ _ c.then_1.ensures
+    gone_chose g.Input.StreamOnce.step g.Input.Error.ParseError.seen g.Input.StreamOnce.steady g.Input.Position.Ord.cmp h k _ _ _ _ _ _ _ _ _ c.in-Goes.ensures _ _ _ _ c.then_1.ensures

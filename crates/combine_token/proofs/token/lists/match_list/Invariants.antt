@@ -18,7 +18,7 @@ invariant-items g l =
       few : l.matched + (goal.iterator-items g).remaining l.item-iterator < 2 ^ 64;
       arrived : Arrived
           (world g.Input.StreamOnce.step g.Input.Error.ParseError.seen g.Input.StreamOnce.steady (λ (s : TokensState). s.matched ≡ 0))
-          list (g.V.Clone.is_clone l.fn.value) (λ (s : TokensState). s.matched) (g.T.Clone.is_infallible l.fn.list × g.V.Clone.is_infallible l.fn.value) (λ is. is ≡ expecting (option_copied l.fn.expected))
+          g.Input.Error.ParseError.seen list (option_copied l.fn.expected) (g.V.Clone.is_clone l.fn.value) (λ (s : TokensState). s.matched) (g.T.Clone.is_infallible l.fn.list × g.V.Clone.is_infallible l.fn.value) (λ is. is ≡ expecting (option_copied l.fn.expected))
           (g.M.ParseMode.first l.fn.mode) l.fn.state
           l.matched (g.Input.StreamOnce.view l.fn.input) (g.Input.StreamOnce.view l.input) (g.Input.StreamOnce.failures l.fn.input) (g.Input.StreamOnce.failures l.input);
     }

@@ -31,7 +31,9 @@ pub returns-in-Some-clause-refuses : goal.returns-in-Some-clause-refuses
 returns-in-Some-clause-refuses g c = reasons_ok _ _ _ _
 
 pub returns-in-Ok-reset-clause-refuses : goal.returns-in-Ok-reset-clause-refuses
-returns-in-Ok-reset-clause-refuses g c = refused_token _ _ _ _ _ c.in-Ok.ensures.read.is.unread _ (rw (c.from.ensures, ← c.position-position.ensures) c.new_error.ensures)
+returns-in-Ok-reset-clause-refuses g c =
+    let t = g.met.Input.ResetStream.lasts _ _ _ _ c.uncons.ensures.passes.marks c.checkpoint-start.ensures.stands in
+    refused_token _ _ _ _ _ c.in-Ok.ensures.read.is.unread _ (rw (c.from.ensures, ← c.position-position.ensures) c.new_error.ensures) (c.in-Ok-reset.ensures.to.is.0 _ t)
 
 pub returns-in-Err-reset-clause-refuses : goal.returns-in-Err-reset-clause-refuses
 returns-in-Err-reset-clause-refuses g c = reasons_fault _ _ _ _ kinds.Reset (c.new_error-in-Err-reset.ensures.kind ∙ c.in-Err-reset.ensures.to.is.0) tt
@@ -43,4 +45,6 @@ pub returns-in-Some-test-clause-refuses : goal.returns-in-Some-test-clause-refus
 returns-in-Some-test-clause-refuses g c = reasons_peek_ok _ _ _ _
 
 pub returns-in-None-test-clause-refuses : goal.returns-in-None-test-clause-refuses
-returns-in-None-test-clause-refuses g c = refused_end _ _ _ (rw c.in-Err-End.field-0-is at c.in-Err-End.ensures.read).is.unread _ c.no_token.ensures.refuses (rw c.position-position.ensures at c.no_token.ensures.says)
+returns-in-None-test-clause-refuses g c =
+    let r = rw c.in-Err-End.field-0-is at c.in-Err-End.ensures.read in
+    refused_end _ _ _ r.is.unread r.is.same _ c.no_token.ensures.refuses (rw c.position-position.ensures at c.no_token.ensures.says)

@@ -15,8 +15,9 @@ returns-in-A-clause-answers g c =
 
 pub returns-in-A-clause-refuses : goal.returns-in-A-clause-refuses
 returns-in-A-clause-refuses g c =
+    let l = rw c.in-A.is at c.requires.lawful in
     let from = rw (c.into_a.ensures, c.take.ensures.value) at c.start-kept.ensures in
-    rw (c.in-A.is, c.passed_on.ensures) (held_reasons pick_a _ (g.A.Parser.refuses c.in-A.parser) (g.M.ParseMode.first c.args.mode) _ _ from (g.Input.StreamOnce.view c.args.input.now) _ _ _ c.parse_mode-answer.ensures.refuses)
+    rw (c.in-A.is, c.passed_on.ensures) (held_reasons pick_a (g.met.A.Parser.laws _ l) g.Input.Error.ParseError.seen (g.M.ParseMode.first c.args.mode) _ _ from _ _ _ c.parse_mode-answer.ensures.refuses)
 
 pub returns-in-B-clause-same : goal.returns-in-B-clause-same
 returns-in-B-clause-same g c = rw c.in-B.is (held_means_same pick_b _ _ c.parse_mode-answer-in-B.ensures.same)
@@ -29,8 +30,9 @@ returns-in-B-clause-answers g c =
 
 pub returns-in-B-clause-refuses : goal.returns-in-B-clause-refuses
 returns-in-B-clause-refuses g c =
+    let l = rw c.in-B.is at c.requires.lawful in
     let from = rw (c.into_b.ensures, c.take-in-B.ensures.value) at c.start-kept-in-B.ensures in
-    rw (c.in-B.is, c.passed_on-in-B.ensures) (held_reasons pick_b _ (g.B.Parser.refuses c.in-B.parser) (g.M.ParseMode.first c.args.mode) _ _ from (g.Input.StreamOnce.view c.args.input.now) _ _ _ c.parse_mode-answer-in-B.ensures.refuses)
+    rw (c.in-B.is, c.passed_on-in-B.ensures) (held_reasons pick_b (g.met.B.Parser.laws _ l) g.Input.Error.ParseError.seen (g.M.ParseMode.first c.args.mode) _ _ from _ _ _ c.parse_mode-answer-in-B.ensures.refuses)
 
 pub returns-in-C-clause-same : goal.returns-in-C-clause-same
 returns-in-C-clause-same g c = rw c.in-C.is (held_means_same pick_c _ _ c.parse_mode-answer-in-C.ensures.same)
@@ -43,5 +45,6 @@ returns-in-C-clause-answers g c =
 
 pub returns-in-C-clause-refuses : goal.returns-in-C-clause-refuses
 returns-in-C-clause-refuses g c =
+    let l = rw c.in-C.is at c.requires.lawful in
     let from = rw (c.into_c.ensures, c.take-in-C.ensures.value) at c.start-kept-in-C.ensures in
-    rw (c.in-C.is, c.passed_on-in-C.ensures) (held_reasons pick_c _ (g.C.Parser.refuses c.in-C.parser) (g.M.ParseMode.first c.args.mode) _ _ from (g.Input.StreamOnce.view c.args.input.now) _ _ _ c.parse_mode-answer-in-C.ensures.refuses)
+    rw (c.in-C.is, c.passed_on-in-C.ensures) (held_reasons pick_c (g.met.C.Parser.laws _ l) g.Input.Error.ParseError.seen (g.M.ParseMode.first c.args.mode) _ _ from _ _ _ c.parse_mode-answer-in-C.ensures.refuses)

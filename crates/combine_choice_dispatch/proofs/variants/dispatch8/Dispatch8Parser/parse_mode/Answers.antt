@@ -15,8 +15,9 @@ returns-in-A-clause-answers g c =
 
 pub returns-in-A-clause-refuses : goal.returns-in-A-clause-refuses
 returns-in-A-clause-refuses g c =
+    let l = rw c.in-A.is at c.requires.lawful in
     let from = rw (c.into_a.ensures, c.take.ensures.value) at c.start-kept.ensures in
-    rw (c.in-A.is, c.passed_on.ensures) (held_reasons pick_a _ (g.A.Parser.refuses c.in-A.parser) (g.M.ParseMode.first c.args.mode) _ _ from (g.Input.StreamOnce.view c.args.input.now) _ _ _ c.parse_mode-answer.ensures.refuses)
+    rw (c.in-A.is, c.passed_on.ensures) (held_reasons pick_a (g.met.A.Parser.laws _ l) g.Input.Error.ParseError.seen (g.M.ParseMode.first c.args.mode) _ _ from _ _ _ c.parse_mode-answer.ensures.refuses)
 
 pub returns-in-B-clause-same : goal.returns-in-B-clause-same
 returns-in-B-clause-same g c = rw c.in-B.is (held_means_same pick_b _ _ c.parse_mode-answer-in-B.ensures.same)
@@ -29,8 +30,9 @@ returns-in-B-clause-answers g c =
 
 pub returns-in-B-clause-refuses : goal.returns-in-B-clause-refuses
 returns-in-B-clause-refuses g c =
+    let l = rw c.in-B.is at c.requires.lawful in
     let from = rw (c.into_b.ensures, c.take-in-B.ensures.value) at c.start-kept-in-B.ensures in
-    rw (c.in-B.is, c.passed_on-in-B.ensures) (held_reasons pick_b _ (g.B.Parser.refuses c.in-B.parser) (g.M.ParseMode.first c.args.mode) _ _ from (g.Input.StreamOnce.view c.args.input.now) _ _ _ c.parse_mode-answer-in-B.ensures.refuses)
+    rw (c.in-B.is, c.passed_on-in-B.ensures) (held_reasons pick_b (g.met.B.Parser.laws _ l) g.Input.Error.ParseError.seen (g.M.ParseMode.first c.args.mode) _ _ from _ _ _ c.parse_mode-answer-in-B.ensures.refuses)
 
 pub returns-in-C-clause-same : goal.returns-in-C-clause-same
 returns-in-C-clause-same g c = rw c.in-C.is (held_means_same pick_c _ _ c.parse_mode-answer-in-C.ensures.same)
@@ -43,8 +45,9 @@ returns-in-C-clause-answers g c =
 
 pub returns-in-C-clause-refuses : goal.returns-in-C-clause-refuses
 returns-in-C-clause-refuses g c =
+    let l = rw c.in-C.is at c.requires.lawful in
     let from = rw (c.into_c.ensures, c.take-in-C.ensures.value) at c.start-kept-in-C.ensures in
-    rw (c.in-C.is, c.passed_on-in-C.ensures) (held_reasons pick_c _ (g.C.Parser.refuses c.in-C.parser) (g.M.ParseMode.first c.args.mode) _ _ from (g.Input.StreamOnce.view c.args.input.now) _ _ _ c.parse_mode-answer-in-C.ensures.refuses)
+    rw (c.in-C.is, c.passed_on-in-C.ensures) (held_reasons pick_c (g.met.C.Parser.laws _ l) g.Input.Error.ParseError.seen (g.M.ParseMode.first c.args.mode) _ _ from _ _ _ c.parse_mode-answer-in-C.ensures.refuses)
 
 pub returns-in-D-clause-same : goal.returns-in-D-clause-same
 returns-in-D-clause-same g c = rw c.in-D.is (held_means_same pick_d _ _ c.parse_mode-answer-in-D.ensures.same)
@@ -57,8 +60,9 @@ returns-in-D-clause-answers g c =
 
 pub returns-in-D-clause-refuses : goal.returns-in-D-clause-refuses
 returns-in-D-clause-refuses g c =
+    let l = rw c.in-D.is at c.requires.lawful in
     let from = rw (c.into_d.ensures, c.take-in-D.ensures.value) at c.start-kept-in-D.ensures in
-    rw (c.in-D.is, c.passed_on-in-D.ensures) (held_reasons pick_d _ (g.D.Parser.refuses c.in-D.parser) (g.M.ParseMode.first c.args.mode) _ _ from (g.Input.StreamOnce.view c.args.input.now) _ _ _ c.parse_mode-answer-in-D.ensures.refuses)
+    rw (c.in-D.is, c.passed_on-in-D.ensures) (held_reasons pick_d (g.met.D.Parser.laws _ l) g.Input.Error.ParseError.seen (g.M.ParseMode.first c.args.mode) _ _ from _ _ _ c.parse_mode-answer-in-D.ensures.refuses)
 
 pub returns-in-E-clause-same : goal.returns-in-E-clause-same
 returns-in-E-clause-same g c = rw c.in-E.is (held_means_same pick_e _ _ c.parse_mode-answer-in-E.ensures.same)
@@ -71,8 +75,9 @@ returns-in-E-clause-answers g c =
 
 pub returns-in-E-clause-refuses : goal.returns-in-E-clause-refuses
 returns-in-E-clause-refuses g c =
+    let l = rw c.in-E.is at c.requires.lawful in
     let from = rw (c.into_e.ensures, c.take-in-E.ensures.value) at c.start-kept-in-E.ensures in
-    rw (c.in-E.is, c.passed_on-in-E.ensures) (held_reasons pick_e _ (g.E.Parser.refuses c.in-E.parser) (g.M.ParseMode.first c.args.mode) _ _ from (g.Input.StreamOnce.view c.args.input.now) _ _ _ c.parse_mode-answer-in-E.ensures.refuses)
+    rw (c.in-E.is, c.passed_on-in-E.ensures) (held_reasons pick_e (g.met.E.Parser.laws _ l) g.Input.Error.ParseError.seen (g.M.ParseMode.first c.args.mode) _ _ from _ _ _ c.parse_mode-answer-in-E.ensures.refuses)
 
 pub returns-in-F-clause-same : goal.returns-in-F-clause-same
 returns-in-F-clause-same g c = rw c.in-F.is (held_means_same pick_f _ _ c.parse_mode-answer-in-F.ensures.same)
@@ -85,8 +90,9 @@ returns-in-F-clause-answers g c =
 
 pub returns-in-F-clause-refuses : goal.returns-in-F-clause-refuses
 returns-in-F-clause-refuses g c =
+    let l = rw c.in-F.is at c.requires.lawful in
     let from = rw (c.into_f.ensures, c.take-in-F.ensures.value) at c.start-kept-in-F.ensures in
-    rw (c.in-F.is, c.passed_on-in-F.ensures) (held_reasons pick_f _ (g.F.Parser.refuses c.in-F.parser) (g.M.ParseMode.first c.args.mode) _ _ from (g.Input.StreamOnce.view c.args.input.now) _ _ _ c.parse_mode-answer-in-F.ensures.refuses)
+    rw (c.in-F.is, c.passed_on-in-F.ensures) (held_reasons pick_f (g.met.F.Parser.laws _ l) g.Input.Error.ParseError.seen (g.M.ParseMode.first c.args.mode) _ _ from _ _ _ c.parse_mode-answer-in-F.ensures.refuses)
 
 pub returns-in-G-clause-same : goal.returns-in-G-clause-same
 returns-in-G-clause-same g c = rw c.in-G.is (held_means_same pick_g _ _ c.parse_mode-answer-in-G.ensures.same)
@@ -99,8 +105,9 @@ returns-in-G-clause-answers g c =
 
 pub returns-in-G-clause-refuses : goal.returns-in-G-clause-refuses
 returns-in-G-clause-refuses g c =
+    let l = rw c.in-G.is at c.requires.lawful in
     let from = rw (c.into_g.ensures, c.take-in-G.ensures.value) at c.start-kept-in-G.ensures in
-    rw (c.in-G.is, c.passed_on-in-G.ensures) (held_reasons pick_g _ (g.G.Parser.refuses c.in-G.parser) (g.M.ParseMode.first c.args.mode) _ _ from (g.Input.StreamOnce.view c.args.input.now) _ _ _ c.parse_mode-answer-in-G.ensures.refuses)
+    rw (c.in-G.is, c.passed_on-in-G.ensures) (held_reasons pick_g (g.met.G.Parser.laws _ l) g.Input.Error.ParseError.seen (g.M.ParseMode.first c.args.mode) _ _ from _ _ _ c.parse_mode-answer-in-G.ensures.refuses)
 
 pub returns-in-H-clause-same : goal.returns-in-H-clause-same
 returns-in-H-clause-same g c = rw c.in-H.is (held_means_same pick_h _ _ c.parse_mode-answer-in-H.ensures.same)
@@ -113,8 +120,9 @@ returns-in-H-clause-answers g c =
 
 pub returns-in-H-clause-refuses : goal.returns-in-H-clause-refuses
 returns-in-H-clause-refuses g c =
+    let l = rw c.in-H.is at c.requires.lawful in
     let from = rw (c.into_h.ensures, c.take-in-H.ensures.value) at c.start-kept-in-H.ensures in
-    rw (c.in-H.is, c.passed_on-in-H.ensures) (held_reasons pick_h _ (g.H.Parser.refuses c.in-H.parser) (g.M.ParseMode.first c.args.mode) _ _ from (g.Input.StreamOnce.view c.args.input.now) _ _ _ c.parse_mode-answer-in-H.ensures.refuses)
+    rw (c.in-H.is, c.passed_on-in-H.ensures) (held_reasons pick_h (g.met.H.Parser.laws _ l) g.Input.Error.ParseError.seen (g.M.ParseMode.first c.args.mode) _ _ from _ _ _ c.parse_mode-answer-in-H.ensures.refuses)
 
 pub returns-in-A-clause-lawful : goal.returns-in-A-clause-lawful
 returns-in-A-clause-lawful g c = c.parse_mode-answer.ensures.lawful

@@ -15,8 +15,9 @@ returns-in-Left-clause-answers g c =
 
 pub returns-in-Left-clause-refuses : goal.returns-in-Left-clause-refuses
 returns-in-Left-clause-refuses g c =
+    let l = rw c.in-Left.is at c.requires.lawful in
     let from = rw (c.into_left.ensures, c.take.ensures.value) at c.start-kept.ensures in
-    rw (c.in-Left.is, c.passed_on.ensures) (held_reasons pick_left _ (g.L.Parser.refuses c.in-Left.parser) (g.M.ParseMode.first c.args.mode) _ _ from (g.Input.StreamOnce.view c.args.input.now) _ _ _ c.parse_mode-answer.ensures.refuses)
+    rw (c.in-Left.is, c.passed_on.ensures) (held_reasons pick_left (g.met.L.Parser.laws _ l) g.Input.Error.ParseError.seen (g.M.ParseMode.first c.args.mode) _ _ from _ _ _ c.parse_mode-answer.ensures.refuses)
 
 pub returns-in-Right-clause-same : goal.returns-in-Right-clause-same
 returns-in-Right-clause-same g c = rw c.in-Right.is (held_means_same pick_right _ _ c.parse_mode-answer-in-Right.ensures.same)
@@ -29,5 +30,6 @@ returns-in-Right-clause-answers g c =
 
 pub returns-in-Right-clause-refuses : goal.returns-in-Right-clause-refuses
 returns-in-Right-clause-refuses g c =
+    let l = rw c.in-Right.is at c.requires.lawful in
     let from = rw (c.into_right.ensures, c.take-in-Right.ensures.value) at c.start-kept-in-Right.ensures in
-    rw (c.in-Right.is, c.passed_on-in-Right.ensures) (held_reasons pick_right _ (g.R.Parser.refuses c.in-Right.parser) (g.M.ParseMode.first c.args.mode) _ _ from (g.Input.StreamOnce.view c.args.input.now) _ _ _ c.parse_mode-answer-in-Right.ensures.refuses)
+    rw (c.in-Right.is, c.passed_on-in-Right.ensures) (held_reasons pick_right (g.met.R.Parser.laws _ l) g.Input.Error.ParseError.seen (g.M.ParseMode.first c.args.mode) _ _ from _ _ _ c.parse_mode-answer-in-Right.ensures.refuses)

@@ -4,4 +4,4 @@ use Rattle.combine_combinator.proofs.combinator.look.NoPartialParser.add_error.G
 pub returns-clause-same : goal.returns-clause-same
 returns-clause-same g c =
     let same = c.add_error.ensures.same in
-    table_means_same stays _ _ same same.adds
+    table_means_same stays _ _ _ _ same same.adds same.refuses

@@ -1,8 +1,9 @@
 use Rattle.std.proofs.Common.{◌≡◌, ap, refl, sym, ◌∙◌}
 use Rattle.std.proofs.lemmas.Bool.{false≢true}
 use Rattle.combine_base.proofs.Same.{passes_more, same_none}
-use Rattle.combine_combinator.specs.Attempt.{attempt_refuses, attempted_means_same, refusing}
-use Rattle.combine_base.specs.Parser.Reasons.{kept_from}
+use Rattle.combine_combinator.specs.Attempt.{attempted, attempted_means_same, refusing}
+use Rattle.combine_base.specs.Parser.Answer.{world}
+use Rattle.combine_base.specs.Parser.Meaning.{begun_refuses}
 use Rattle.combine_combinator.proofs.Attempts.{comes, try_commit_ok, try_peek_ok, try_peeks_back, try_refuses_back, try_faults, try_lost, try_keeps_distance}
 use Rattle.combine_base.proofs.Reasoning.{reasons_accepted}
 use Rattle.combine_combinator.proofs.Reasons.{attempt_fails, from_committed, from_peeked, kept_fails, reasons_put_back}
@@ -76,7 +77,12 @@ returns-else-not-refuses-clause-answers g c =
 pub returns-in-PeekErr-clause-refuses : goal.returns-in-PeekErr-clause-refuses
 returns-in-PeekErr-clause-refuses g c =
     let b = c.begin-distance.ensures in
-    reasons_put_back _ _ (g.Input.ResetStream.stands c.parse_mode.new.input c.checkpoint-start.result) _ (g.Input.StreamOnce.view c.put_back.new.input) _ (g.Input.StreamOnce.failures c.put_back.new.input) _ _ _ c.put_back.new.state _ (g.Input.StreamOnce.view c.put_back.new.input).is_open (attempt_refuses g.Input.StreamOnce.step (g.P.Parser.refuses c.args.self.now.0) (kept_from (g.M.ParseMode.first c.args.mode) c.args.state.now) (g.Input.StreamOnce.view c.args.input.now)) _ c.put_back.ensures.back (from_peeked _ (g.P.Parser.refuses c.args.self.now.0) _ _ _ _ _ _ (rw c.is_first.ensures at b.begun) (ap (λ s. s.part) b.left) c.in_default.ensures.over.is.0 _ _ _ c.in-PeekErr.ensures.refuses)
+    let m = g.P.Parser.meaning c.args.self.now.0 in
+    let first = g.M.ParseMode.first c.args.mode in
+    let old = g.Input.StreamOnce.view c.args.input.now in
+    let new = g.Input.StreamOnce.view c.put_back.new.input in
+    let stands = g.met.Input.ResetStream.lasts _ _ _ _ c.parse_mode.ensures.passes.marks (g.met.Input.ResetStream.lasts _ _ _ _ c.pass_over.ensures.passes.marks c.checkpoint-start.ensures.stands) in
+    reasons_put_back _ _ (g.Input.ResetStream.stands c.parse_mode.new.input c.checkpoint-start.result) _ new _ (g.Input.StreamOnce.failures c.put_back.new.input) _ _ _ c.put_back.new.state _ new.is_open (begun_refuses (attempted g.Input.StreamOnce.step m) first c.args.state.now old new) _ c.put_back.ensures.back old stands (from_peeked _ m _ first c.args.state.now _ old _ (g.Input.StreamOnce.view c.parse_mode.new.input) new (rw c.is_first.ensures at b.begun) (ap (λ s. s.part) b.left) c.in_default.ensures.over.is.0 (world g.Input.StreamOnce.step g.Input.Error.ParseError.seen g.Input.StreamOnce.steady g.P.PartialState.Default.is_default) _ _ _ _ c.in-PeekErr.ensures.answers c.in-PeekErr.ensures.refuses)
 
 pub returns-then-needs_more-clause-refuses : goal.returns-then-needs_more-clause-refuses
 returns-then-needs_more-clause-refuses g c =
@@ -87,7 +93,12 @@ returns-else-not-refuses-clause-refuses g c =
     let b = c.begin-distance.ensures in
     let k = sym (c.refuses.ensures ∙ ap refusing c.kind.ensures) ∙ c.if-not-refuses.false in
     let e : c.from-refusal.result.error ≡ c.in-CommitErr.error = rw c.from-refusal.ensures refl in
-    reasons_put_back _ _ (g.Input.ResetStream.stands c.parse_mode.new.input c.checkpoint-start.result) _ (g.Input.StreamOnce.view c.put_back-in-CommitErr.new.input) _ (g.Input.StreamOnce.failures c.put_back-in-CommitErr.new.input) _ _ _ c.put_back-in-CommitErr.new.state _ (g.Input.StreamOnce.view c.put_back-in-CommitErr.new.input).is_open (attempt_refuses g.Input.StreamOnce.step (g.P.Parser.refuses c.args.self.now.0) (kept_from (g.M.ParseMode.first c.args.mode) c.args.state.now) (g.Input.StreamOnce.view c.args.input.now)) _ c.put_back-in-CommitErr.ensures.back (from_committed _ (g.P.Parser.refuses c.args.self.now.0) _ _ _ _ _ _ (rw c.is_first.ensures at b.begun) (ap (λ s. s.part) b.left) c.in_default.ensures.over.is.0 _ _ _ c.from-refusal.result e k (λ i. false≢true (sym c.if-needs_more.false ∙ c.needs_more.ensures.1 i)) c.in-CommitErr.ensures.refuses)
+    let m = g.P.Parser.meaning c.args.self.now.0 in
+    let first = g.M.ParseMode.first c.args.mode in
+    let old = g.Input.StreamOnce.view c.args.input.now in
+    let new = g.Input.StreamOnce.view c.put_back-in-CommitErr.new.input in
+    let stands = g.met.Input.ResetStream.lasts _ _ _ _ c.parse_mode.ensures.passes.marks (g.met.Input.ResetStream.lasts _ _ _ _ c.pass_over.ensures.passes.marks c.checkpoint-start.ensures.stands) in
+    reasons_put_back _ _ (g.Input.ResetStream.stands c.parse_mode.new.input c.checkpoint-start.result) _ new _ (g.Input.StreamOnce.failures c.put_back-in-CommitErr.new.input) _ _ _ c.put_back-in-CommitErr.new.state _ new.is_open (begun_refuses (attempted g.Input.StreamOnce.step m) first c.args.state.now old new) _ c.put_back-in-CommitErr.ensures.back old stands (from_committed _ m _ first c.args.state.now _ old _ (g.Input.StreamOnce.view c.parse_mode.new.input) new (rw c.is_first.ensures at b.begun) (ap (λ s. s.part) b.left) c.in_default.ensures.over.is.0 (world g.Input.StreamOnce.step g.Input.Error.ParseError.seen g.Input.StreamOnce.steady g.P.PartialState.Default.is_default) _ _ _ _ c.from-refusal.result e k (λ i. false≢true (sym c.if-needs_more.false ∙ c.needs_more.ensures.1 i)) c.in-CommitErr.ensures.answers c.in-CommitErr.ensures.refuses)
 
 pub returns-in-Err-clause-refuses : goal.returns-in-Err-clause-refuses
 returns-in-Err-clause-refuses g c =

@@ -2,7 +2,7 @@ use Rattle.std.proofs.Common.{sym, true, ◌∙◌}
 use Rattle.std.proofs.lemmas.Bool.{false≢true}
 use Rattle.combine_base.specs.declared.stream.Kind.TheVariants as kinds
 use Rattle.combine_base.proofs.Reasoning.{reasons_fault, reasons_need}
-use Rattle.combine_combinator_function.specs.Functions.{call_of}
+use Rattle.combine_combinator_function.specs.Functions.{NeedsNoMemory, call_of}
 use Rattle.combine_combinator_function.proofs.Calling.{back_open, called_back, called_err, called_ok, called_peek_err, called_peek_ok, called_says, called_says_peeked, called_stuck}
 use Rattle.combine_combinator_function.proofs.function.types.CalledParser.parse_mode.Goals as goal
 
@@ -24,7 +24,7 @@ returns-in-PeekErr-clause-answers g c =
 pub returns-in-PeekErr-clause-refuses : goal.returns-in-PeekErr-clause-refuses
 returns-in-PeekErr-clause-refuses g c =
     let met = rw c.in-PeekErr.is at c.in-Ok.ensures.answers in
-    called_says_peeked _ _ g.Input.StreamOnce.view (g.C.Call.answers (call_of c.args.self.now)) c.args.input.now c.call.new.input _ met
+    called_says_peeked g.Input.StreamOnce.step g.Input.Error.ParseError.seen g.Input.StreamOnce.view (g.C.Call.answers (call_of c.args.self.now)) (g.C.Call.infallible (call_of c.args.self.now) × NeedsNoMemory g.Input.StreamOnce.step g.Input.Error.ParseError.seen.kind g.Input.StreamOnce.view (g.C.Call.answers (call_of c.args.self.now))) _ _ c.args.input.now c.call.new.input _ met
 
 pub returns-else-needs_more-clause-answers : goal.returns-else-needs_more-clause-answers
 returns-else-needs_more-clause-answers g c =
@@ -34,7 +34,7 @@ returns-else-needs_more-clause-answers g c =
 pub returns-else-needs_more-clause-refuses : goal.returns-else-needs_more-clause-refuses
 returns-else-needs_more-clause-refuses g c =
     let met = rw c.in-CommitErr.is at c.in-Ok.ensures.answers in
-    called_says _ _ g.Input.StreamOnce.view (g.C.Call.answers (call_of c.args.self.now)) c.args.input.now c.call.new.input _ met
+    called_says g.Input.StreamOnce.step g.Input.Error.ParseError.seen g.Input.StreamOnce.view (g.C.Call.answers (call_of c.args.self.now)) (g.C.Call.infallible (call_of c.args.self.now) × NeedsNoMemory g.Input.StreamOnce.step g.Input.Error.ParseError.seen.kind g.Input.StreamOnce.view (g.C.Call.answers (call_of c.args.self.now))) _ _ c.args.input.now c.call.new.input _ met
 
 pub returns-in-Ok-reset-clause-answers : goal.returns-in-Ok-reset-clause-answers
 returns-in-Ok-reset-clause-answers g c =

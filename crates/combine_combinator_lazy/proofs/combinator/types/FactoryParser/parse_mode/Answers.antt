@@ -1,9 +1,10 @@
+use Rattle.combine_base.proofs.Refusing.{reasoned_in_mode}
 use Rattle.combine_base.proofs.Same.{passes_more}
 use Rattle.combine_base.proofs.Starting.{in_mode}
 use Rattle.combine_base.specs.Error.Errors.{Nothing}
 use Rattle.combine_base.specs.Parser.Kept.{KeptOf}
 use Rattle.combine_combinator_lazy.specs.Made.{MadeAt, by_factory, factory_maker, made_at_lasts, made_at_of_for, made_is_meaning}
-use Rattle.combine_combinator_lazy.proofs.Making.{begins_in_place, factory_makable, kept_valid, leaves_valid, makable_kept, reasons_made, resumes_made}
+use Rattle.combine_combinator_lazy.proofs.Making.{begins_in_place, factory_makable, kept_valid, leaves_valid, makable_kept, reasons_in_place, resumes_made}
 use Rattle.combine_combinator_lazy.proofs.combinator.types.FactoryParser.parse_mode.Goals as goal
 
 pub resume_made-requires-clause-ready : goal.resume_made-requires-clause-ready
@@ -63,14 +64,25 @@ returns-clause-answers g c =
 pub returns-clause-passes : goal.returns-clause-passes
 returns-clause-passes g c = let run = c.make_and_run.ensures in passes_more _ _ _ _ _ _ run.passes run.called.passes
 
+pub returns-in-Kept-clause-refuses : goal.returns-in-Kept-clause-refuses
+returns-in-Kept-clause-refuses g c =
+    let view = g.Input.StreamOnce.view in
+    let made_at = MadeAt view (λ i n l. g.F.Fn.post (factory_maker c.args.self.now) (i, tt) (n, (l, tt))) in
+    let makable = by_factory view g.Input.StreamOnce.marks g.Input.StreamOnce.failures g.F.Fn g.N.Parser.lawful in
+    let lasts = made_at_lasts view (λ i n l. g.F.Fn.post (factory_maker c.args.self.now) (i, tt) (n, (l, tt))) in
+    let laws = made_is_meaning made_at makable g.N.Parser.meaning Nothing g.N.Parser.lawful lasts g.met.N.Parser.laws c.requires.lawful.2 in
+    reasoned_in_mode laws g.Input.Error.ParseError.seen c.in-Kept.ensures.from c.resume_made.ensures.refuses
+
 pub returns-clause-refuses : goal.returns-clause-refuses
 returns-clause-refuses g c =
     let view = g.Input.StreamOnce.view in
     let made_at = MadeAt view (λ i n l. g.F.Fn.post (factory_maker c.args.self.now) (i, tt) (n, (l, tt))) in
     let makable = by_factory view g.Input.StreamOnce.marks g.Input.StreamOnce.failures g.F.Fn g.N.Parser.lawful in
+    let lasts = made_at_lasts view (λ i n l. g.F.Fn.post (factory_maker c.args.self.now) (i, tt) (n, (l, tt))) in
     let every = c.requires.lawful.2 in
+    let laws = made_is_meaning made_at makable g.N.Parser.meaning Nothing g.N.Parser.lawful lasts g.met.N.Parser.laws every in
     let run = c.make_and_run.ensures in
-    let e = run.view in
     let made = made_at_of_for view (λ i n l. g.F.Fn.post (factory_maker c.args.self.now) (i, tt) (n, (l, tt))) _ _ _ run.made in
-    let kept = makable_kept g.N.Parser g.Input.StreamOnce g.Input.Error.ParseError.seen g.N.PartialState.Default.is_default made_at makable Nothing run.parser (every _ _ made) (factory_makable view g.Input.StreamOnce.marks g.Input.StreamOnce.failures g.F.Fn g.N.Parser.lawful (factory_maker c.args.self.now) c.requires.lawful.0 c.requires.lawful.1 every _ _ made) in
-    rw e at (reasons_made g.N.Parser g.Input.StreamOnce g.Input.Error.ParseError.seen g.N.PartialState.Default.is_default made_at makable Nothing kept run.called _ c.in_default.ensures.from run.is_default (rw e made))
+    let lawful = every _ _ made in
+    let kept = makable_kept g.N.Parser g.Input.StreamOnce g.Input.Error.ParseError.seen g.N.PartialState.Default.is_default made_at makable Nothing run.parser lawful (factory_makable view g.Input.StreamOnce.marks g.Input.StreamOnce.failures g.F.Fn g.N.Parser.lawful (factory_maker c.args.self.now) c.requires.lawful.0 c.requires.lawful.1 every _ _ made) in
+    reasoned_in_mode laws g.Input.Error.ParseError.seen c.in_default.ensures.from (reasons_in_place g.N.Parser g.Input.StreamOnce g.Input.Error.ParseError.seen g.N.PartialState.Default.is_default made_at makable Nothing kept run.called (view c.args.input.now) run.view (g.met.N.Parser.laws _ lawful) run.is_default made)

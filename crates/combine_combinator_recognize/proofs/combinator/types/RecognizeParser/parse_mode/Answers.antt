@@ -2,7 +2,7 @@ use Rattle.std.proofs.Common.{refl}
 use Rattle.combine_base.specs.Parser.Answer.{world}
 use Rattle.combine_base.proofs.Starting.{at_rest, in_mode}
 use Rattle.combine_combinator_recognize.specs.Gathered.{recognized_is_meaning}
-use Rattle.combine_combinator_recognize.proofs.Recognizing.{part_valid, recognize_asks, recognize_peeks}
+use Rattle.combine_combinator_recognize.proofs.Recognizing.{error_reasons, part_valid, recognize_asks, recognize_peeks, refusal_reasons}
 use Rattle.combine_combinator_recognize.proofs.combinator.types.RecognizeParser.parse_mode.Goals as goal
 
 pub returns-in-PeekOk-clause-answers : goal.returns-in-PeekOk-clause-answers
@@ -26,3 +26,9 @@ returns-in-Ok-collect_since-clause-answers g c =
     let stands = g.met.Input.ResetStream.lasts _ _ _ _ c.parse_mode.ensures.passes.marks c.checkpoint-start.ensures.stands in
     let need = c.needs_more.ensures.0 c.if-needs_more.true in
     in_mode _ _ _ (recognized_is_meaning g.F.Append.held g.F.Append.none g.F.Append.more g.F.Append.lean laws) _ _ _ _ from _ _ _ _ _ (recognize_asks w g.F.Append.held g.F.Append.none g.F.Append.more g.F.Append.lean m s _ c.parse_mode.new.state _ _ _ _ c.or_empty-then-needs_more.result c.or_empty-then-needs_more.ensures _ _ c.in-Ok-collect_since.tokens refl _ need a (λ x. c.in-Ok-collect_since.ensures.collects x.count _ stands x.taken))
+
+pub returns-in-CommitErr-clause-refuses : goal.returns-in-CommitErr-clause-refuses
+returns-in-CommitErr-clause-refuses g c = error_reasons g.Input.Error.ParseError.seen g.F.Append.held g.F.Append.none g.F.Append.more g.F.Append.lean (g.met.P.Parser.laws _ c.requires.lawful) c.take_state-collected.ensures.from (g.Input.StreamOnce.view c.args.input.now) (g.Input.StreamOnce.view c.parse_mode.new.input) c.in-CommitErr.ensures.refuses
+
+pub returns-clause-refuses : goal.returns-clause-refuses
+returns-clause-refuses g c = refusal_reasons g.Input.Error.ParseError.seen g.F.Append.held g.F.Append.none g.F.Append.more g.F.Append.lean (g.met.P.Parser.laws _ c.requires.lawful) c.take_state-collected.ensures.from (g.Input.StreamOnce.view c.args.input.now) (g.Input.StreamOnce.view c.parse_mode.new.input) c.in-PeekErr.ensures.refuses

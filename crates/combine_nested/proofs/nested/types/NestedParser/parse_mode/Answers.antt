@@ -25,12 +25,12 @@ steps-init g c =
     let roots = g.R.Makes.makes (root_part c.args.self.now) in
     let answers = g.S.Ask.answers (asked_part c.args.self.now) in
     let some = asked_by_some g.S.Ask.callable g.S.Ask.answers p.lawful in
-    let laws = nesting_is_meaning i.step depth roots answers g.F.Frame.takes g.F.Frame.joins some p.meaning p.lawful g.met.N.Parser.laws c.requires.lawful.2 in
+    let laws = nesting_is_meaning i.step depth roots answers g.F.Frame.takes g.F.Frame.joins some p.meaning p.lawful g.met.N.Parser.laws c.requires.lawful.2 seen in
     elim c.match-take_state.branch [
       | in-Running w ↦
           let from = w.in-Running.ensures.from in
           let v = valid_from (starts_valid (KeptOf p.lawful p.meaning some) p.valid) from c.requires.valid in
-          let runs = runs_first p i seen fresh depth roots answers g.F.Frame.takes g.F.Frame.joins some _ _ w.in-Running.step from (i.view c.args.input.now) (i.failures c.args.input.now) v.0 in
+          let runs = runs_first p i seen fresh depth roots answers g.F.Frame.takes g.F.Frame.joins some w.in-Running.step (i.view c.args.input.now) (i.failures c.args.input.now) v.0 in
           let leads = step_leads p i seen fresh depth roots answers g.F.Frame.takes g.F.Frame.joins some (omega arith) (omega arith) laws (g.met.N.Parser.laws _ v.0.is_lawful) v.1 from runs w.run_step-next.ensures in
           rw (w.input-is, w.state-is, w.next-is) (record { self = refl; passes = w.run_step-next.ensures.passes; leads = leads })
       | in-Start w ↦
@@ -50,7 +50,7 @@ steps-preserved g c =
     let roots = g.R.Makes.makes (root_part c.args.self.now) in
     let answers = g.S.Ask.answers (asked_part c.args.self.now) in
     let some = asked_by_some g.S.Ask.callable g.S.Ask.answers p.lawful in
-    let laws = nesting_is_meaning i.step depth roots answers g.F.Frame.takes g.F.Frame.joins some p.meaning p.lawful g.met.N.Parser.laws c.requires.lawful.2 in
+    let laws = nesting_is_meaning i.step depth roots answers g.F.Frame.takes g.F.Frame.joins some p.meaning p.lawful g.met.N.Parser.laws c.requires.lawful.2 seen in
     let inv = c.steps.invariant in
     let loops = (rw c.in-Goes.is at inv.leads).1 in
     let met = rw inv.self at c.ask.ensures in

@@ -1,4 +1,6 @@
 use Rattle.std.proofs.Common.{None}
+use Rattle.combine_base.proofs.Reasoning.{reasons_err, reasons_peek_err}
+use Rattle.combine_base.proofs.Refusing.{reasoned_accepted, reasoned_peeked}
 use Rattle.combine_base.proofs.Mapped.{mapped_err, mapped_ok, mapped_peek_err, mapped_peek_ok}
 use Rattle.combine_base.specs.Parser.Mapped.{mapped_means_same}
 use Rattle.combine_repeat_turns.specs.BoundedLaws.{turns_means_same}
@@ -7,16 +9,16 @@ use Rattle.combine_repeat_turns.specs.declared.turns.Bounds.TheVariants.{Joined}
 use Rattle.combine_repeat_chain.proofs.repeat.types.RightFoldParser.parse_mode.Goals as goal
 
 pub returns-in-CommitOk-clause-same : goal.returns-in-CommitOk-clause-same
-returns-in-CommitOk-clause-same g c = mapped_means_same _ _ _ (turns_means_same _ (Joined 1 None) never _ _ _ _ _ _ c.take_joined.ensures.same)
+returns-in-CommitOk-clause-same g c = mapped_means_same _ _ _ (turns_means_same _ _ (Joined 1 None) never _ _ _ _ _ _ c.take_joined.ensures.same)
 
 pub returns-in-PeekOk-clause-same : goal.returns-in-PeekOk-clause-same
-returns-in-PeekOk-clause-same g c = mapped_means_same _ _ _ (turns_means_same _ (Joined 1 None) never _ _ _ _ _ _ c.take_joined.ensures.same)
+returns-in-PeekOk-clause-same g c = mapped_means_same _ _ _ (turns_means_same _ _ (Joined 1 None) never _ _ _ _ _ _ c.take_joined.ensures.same)
 
 pub returns-in-CommitErr-clause-same : goal.returns-in-CommitErr-clause-same
-returns-in-CommitErr-clause-same g c = mapped_means_same _ _ _ (turns_means_same _ (Joined 1 None) never _ _ _ _ _ _ c.take_joined.ensures.same)
+returns-in-CommitErr-clause-same g c = mapped_means_same _ _ _ (turns_means_same _ _ (Joined 1 None) never _ _ _ _ _ _ c.take_joined.ensures.same)
 
 pub returns-in-PeekErr-clause-same : goal.returns-in-PeekErr-clause-same
-returns-in-PeekErr-clause-same g c = mapped_means_same _ _ _ (turns_means_same _ (Joined 1 None) never _ _ _ _ _ _ c.take_joined.ensures.same)
+returns-in-PeekErr-clause-same g c = mapped_means_same _ _ _ (turns_means_same _ _ (Joined 1 None) never _ _ _ _ _ _ c.take_joined.ensures.same)
 
 pub returns-in-CommitErr-clause-answers : goal.returns-in-CommitErr-clause-answers
 returns-in-CommitErr-clause-answers g c = mapped_err _ _ _ _ _ c.in-CommitErr.ensures.answers
@@ -47,3 +49,15 @@ fold-requires g c = record { callable = c.in-CommitOk.ensures.sound.value }
 
 pub fold-requires-in-PeekOk : goal.fold-requires-in-PeekOk
 fold-requires-in-PeekOk g c = record { callable = c.in-PeekOk.ensures.sound.value }
+
+pub returns-in-CommitOk-clause-refuses : goal.returns-in-CommitOk-clause-refuses
+returns-in-CommitOk-clause-refuses g c = reasoned_accepted _
+
+pub returns-in-PeekOk-clause-refuses : goal.returns-in-PeekOk-clause-refuses
+returns-in-PeekOk-clause-refuses g c = reasoned_peeked _
+
+pub returns-in-CommitErr-clause-refuses : goal.returns-in-CommitErr-clause-refuses
+returns-in-CommitErr-clause-refuses g c = reasons_err _ _ _ _ c.in-CommitErr.ensures.refuses
+
+pub returns-in-PeekErr-clause-refuses : goal.returns-in-PeekErr-clause-refuses
+returns-in-PeekErr-clause-refuses g c = reasons_peek_err _ _ _ _ c.in-PeekErr.ensures.refuses

@@ -1,5 +1,6 @@
 use Rattle.std.proofs.Common.{refl, arith}
-use Rattle.combine_base.proofs.Reasoning.{reasons_accepted, reasons_fault, reasons_into}
+use Rattle.combine_base.proofs.Reasoning.{reasons_accepted, reasons_fault}
+use Rattle.combine_base.proofs.Refusing.{reasoned_in_mode}
 use Rattle.combine_base.specs.declared.stream.Kind.TheVariants as kinds
 use Rattle.combine_base.proofs.Same.{passes_none, passes_more}
 use Rattle.combine_base.proofs.Starting.{in_mode}
@@ -8,7 +9,6 @@ use Rattle.combine_base.specs.Parser.Kept.{KeptOf}
 use Rattle.combine_repeat_iterate.specs.Iterated.{AskedFor, Gives, Lists, asked_part, by_function, gives_callable, gives_none, gives_one, gives_some, items_part}
 use Rattle.combine_repeat_iterate.specs.declared.repeat.items.IterateState.TheVariants as states
 use Rattle.combine_repeat_iterate.proofs.EachItem.{asked_kept, item_goes, item_leaves, item_passes, item_reasons, item_stops, items_end, no_clone, reaches_first, runs_first, runs_next, valid_from}
-use Rattle.combine_repeat_iterate.proofs.ItemErrors.{refuses_in_mode}
 use Rattle.combine_repeat_iterate.proofs.repeat.types.IterateParser.parse_mode.Given as given
 use Rattle.combine_repeat_iterate.proofs.repeat.types.IterateParser.parse_mode.Goals as goal
 use Rattle.combine_repeat_iterate.proofs.repeat.types.IterateParser.parse_mode.Goals.{in-Running+in-Goes, in-Start+in-Ok}
@@ -40,11 +40,11 @@ returns-in-Stops-clause-answers g c =
     let spared = lean × g.J.Clone.is_infallible (items_part c.args.self.now) in
     let fresh = g.N.PartialState.Default.is_default in
     let seen = g.Input.Error.ParseError.seen in
-    let laws = iterated_is_meaning g.Input.StreamOnce.step answers some g.N.Parser.meaning g.C.Append.held g.C.Append.none g.C.Append.more at lists spared g.N.Parser.lawful g.met.N.Parser.laws c.requires.lawful.2 in
+    let laws = iterated_is_meaning g.Input.StreamOnce.step seen answers some g.N.Parser.meaning g.C.Append.held g.C.Append.none g.C.Append.more at lists spared g.N.Parser.lawful g.met.N.Parser.laws c.requires.lawful.2 in
     let from = c.in-Running.ensures.from in
     let v = valid_from (starts_valid (KeptOf g.N.Parser.lawful g.N.Parser.meaning some) g.N.Parser.valid at) from c.requires.valid in
-    let runs = runs_first g.N.Parser g.Input.StreamOnce seen fresh answers some g.C.Append.held g.C.Append.none g.C.Append.more at lists lean spared _ _ _ from v.2.0 _ _ v.0 v.2.1 in
-    let call = item_stops g.N.Parser g.Input.StreamOnce seen fresh answers some g.C.Append.held g.C.Append.none g.C.Append.more at lists lean spared (gives_one iterator.can_next iterator.remaining iterator.next_gives) _ _ _ _ _ _ _ _ (omega arith) (omega arith) runs (λ x. x.0) _ c.in-Stops.ensures in
+    let runs = runs_first g.N.Parser g.Input.StreamOnce seen fresh answers some g.C.Append.held g.C.Append.none g.C.Append.more at lists lean spared _ v.2.0 _ _ v.0 v.2.1 in
+    let call = item_stops g.N.Parser g.Input.StreamOnce seen fresh answers some g.C.Append.held g.C.Append.none g.C.Append.more at lists lean spared (gives_one iterator.can_next iterator.remaining iterator.next_gives) _ _ _ _ _ _ _ (omega arith) (omega arith) runs (λ x. x.0) _ c.in-Stops.ensures in
     in_mode _ _ _ laws _ _ _ _ from _ _ _ _ _ call
 
 pub returns-in-Stops-clause-refuses : goal.returns-in-Stops-clause-refuses
@@ -60,9 +60,10 @@ returns-in-Stops-clause-refuses g c =
     let seen = g.Input.Error.ParseError.seen in
     let from = c.in-Running.ensures.from in
     let v = valid_from (starts_valid (KeptOf g.N.Parser.lawful g.N.Parser.meaning some) g.N.Parser.valid at) from c.requires.valid in
-    let runs = runs_first g.N.Parser g.Input.StreamOnce seen fresh answers some g.C.Append.held g.C.Append.none g.C.Append.more at lists lean spared _ _ _ from v.2.0 _ _ v.0 v.2.1 in
-    let call = item_reasons g.N.Parser g.Input.StreamOnce seen fresh answers some g.C.Append.held g.C.Append.none g.C.Append.more at lists lean spared (gives_one iterator.can_next iterator.remaining iterator.next_gives) _ _ _ _ _ _ _ _ (omega arith) (omega arith) runs _ c.in-Stops.ensures in
-    reasons_into seen.kind _ _ _ _ (refuses_in_mode g.Input.StreamOnce.step answers g.N.Parser.meaning seen g.N.Parser.refuses at lists _ _ _ from _) call
+    let runs = runs_first g.N.Parser g.Input.StreamOnce seen fresh answers some g.C.Append.held g.C.Append.none g.C.Append.more at lists lean spared _ v.2.0 _ _ v.0 v.2.1 in
+    let call = item_reasons g.N.Parser g.Input.StreamOnce seen fresh answers some g.C.Append.held g.C.Append.none g.C.Append.more at lists lean spared (gives_one iterator.can_next iterator.remaining iterator.next_gives) _ _ _ _ _ _ _ (omega arith) (omega arith) runs _ c.in-Stops.ensures in
+    let laws = iterated_is_meaning g.Input.StreamOnce.step seen answers some g.N.Parser.meaning g.C.Append.held g.C.Append.none g.C.Append.more at lists spared g.N.Parser.lawful g.met.N.Parser.laws c.requires.lawful.2 in
+    reasoned_in_mode laws seen from call
 
 pub returns-in-Err-clause-refuses : goal.returns-in-Err-clause-refuses
 returns-in-Err-clause-refuses g c = reasons_fault _ _ _ _ kinds.Memory c.new_error-error.ensures.kind tt
@@ -78,7 +79,7 @@ returns-in-Err-clause-answers g c =
     let spared = lean × g.J.Clone.is_infallible (items_part c.args.self.now) in
     let fresh = g.N.PartialState.Default.is_default in
     let seen = g.Input.Error.ParseError.seen in
-    let laws = iterated_is_meaning g.Input.StreamOnce.step answers some g.N.Parser.meaning g.C.Append.held g.C.Append.none g.C.Append.more at lists spared g.N.Parser.lawful g.met.N.Parser.laws c.requires.lawful.2 in
+    let laws = iterated_is_meaning g.Input.StreamOnce.step seen answers some g.N.Parser.meaning g.C.Append.held g.C.Append.none g.C.Append.more at lists spared g.N.Parser.lawful g.met.N.Parser.laws c.requires.lawful.2 in
     in_mode _ _ _ laws _ _ _ _ c.in-Start.ensures.from _ _ _ _ _ (no_clone g.N.Parser g.Input.StreamOnce seen fresh answers some g.C.Append.held g.C.Append.none g.C.Append.more at lists lean spared states.Start _ _ _ c.take_state.ensures.left _ c.new_error-error.ensures.kind (λ x. c.in-Err.ensures.cases x.1))
 
 pub items-init : goal.items-init
@@ -96,8 +97,8 @@ items-init g c =
       | in-Running+in-Goes w ↦
           let from = w.in-Running.ensures.from in
           let v = valid_from (starts_valid (KeptOf g.N.Parser.lawful g.N.Parser.meaning some) g.N.Parser.valid at) from c.requires.valid in
-          let runs = runs_first g.N.Parser g.Input.StreamOnce seen fresh answers some g.C.Append.held g.C.Append.none g.C.Append.more at lists lean spared _ _ _ from v.2.0 _ _ v.0 v.2.1 in
-          let goes = item_goes g.N.Parser g.Input.StreamOnce seen fresh answers some g.C.Append.held g.C.Append.none g.C.Append.more at lists lean spared (gives_one iterator.can_next iterator.remaining iterator.next_gives) _ _ _ _ _ _ _ _ (omega arith) (omega arith) runs (g.met.N.Parser.laws _ v.0.is_lawful) v.1 _ w.in-Goes.ensures in
+          let runs = runs_first g.N.Parser g.Input.StreamOnce seen fresh answers some g.C.Append.held g.C.Append.none g.C.Append.more at lists lean spared _ v.2.0 _ _ v.0 v.2.1 in
+          let goes = item_goes g.N.Parser g.Input.StreamOnce seen fresh answers some g.C.Append.held g.C.Append.none g.C.Append.more at lists lean spared (gives_one iterator.can_next iterator.remaining iterator.next_gives) _ _ _ _ _ _ _ (omega arith) (omega arith) runs (g.met.N.Parser.laws _ v.0.is_lawful) v.1 _ w.in-Goes.ensures in
           rw (w.input-is, w.state-is, w.collected-is) (record { self = refl; cleared = goes.0; passes = w.resume_item.ensures.passes; loops = record { z = _; from = from; reaches = goes.1 } })
       | in-Start+in-Ok w ↦
           let listed = c.requires.lawful.3 in
@@ -133,7 +134,7 @@ returns-in_default-clause-answers g c =
     let spared = lean × g.J.Clone.is_infallible (items_part c.args.self.now) in
     let fresh = g.N.PartialState.Default.is_default in
     let seen = g.Input.Error.ParseError.seen in
-    let laws = iterated_is_meaning g.Input.StreamOnce.step answers some g.N.Parser.meaning g.C.Append.held g.C.Append.none g.C.Append.more at lists spared g.N.Parser.lawful g.met.N.Parser.laws c.requires.lawful.2 in
+    let laws = iterated_is_meaning g.Input.StreamOnce.step seen answers some g.N.Parser.meaning g.C.Append.held g.C.Append.none g.C.Append.more at lists spared g.N.Parser.lawful g.met.N.Parser.laws c.requires.lawful.2 in
     let loops = c.items.invariant.loops in
     let none = gives_none _ _ _ _ _ _ loops.reaches.given c.in_default.ensures.steps in
     let call = items_end g.N.Parser g.Input.StreamOnce seen fresh answers some g.C.Append.held g.C.Append.none g.C.Append.more at lists lean spared _ c.items.state _ _ _ _ c.items.collected loops.reaches none c.items.invariant.cleared in
@@ -178,7 +179,7 @@ returns-in-Stops-parse_item-clause-answers g c =
     let spared = lean × g.J.Clone.is_infallible (items_part c.args.self.now) in
     let fresh = g.N.PartialState.Default.is_default in
     let seen = g.Input.Error.ParseError.seen in
-    let laws = iterated_is_meaning g.Input.StreamOnce.step answers some g.N.Parser.meaning g.C.Append.held g.C.Append.none g.C.Append.more at lists spared g.N.Parser.lawful g.met.N.Parser.laws c.requires.lawful.2 in
+    let laws = iterated_is_meaning g.Input.StreamOnce.step seen answers some g.N.Parser.meaning g.C.Append.held g.C.Append.none g.C.Append.more at lists spared g.N.Parser.lawful g.met.N.Parser.laws c.requires.lawful.2 in
     let inv = c.items.invariant in
     let r = inv.loops.reaches in
     let left = gives_some _ _ _ _ _ _ _ r.given c.in-Some.ensures.steps in
@@ -189,7 +190,7 @@ returns-in-Stops-parse_item-clause-answers g c =
     let kept = asked_kept g.N.Parser.meaning _ lawful (record { asked = asked_part c.args.self.now; is_fit = (c.requires.lawful.0, c.requires.lawful.1); all = c.requires.lawful.2; item = c.in-Some.item; answered = met }) in
     let runs = runs_next g.N.Parser g.Input.StreamOnce seen fresh answers some g.C.Append.held g.C.Append.none g.C.Append.more at lists lean spared _ _ _ _ _ _ _ _ r _ left.0 left.1 _ met kept _ c.default.ensures (g.met.N.Parser.laws _ lawful) _ left.2 stays.0 stays.2 in
     let upto = passes_more _ _ _ _ _ _ inv.passes stays.1 in
-    let call = item_stops g.N.Parser g.Input.StreamOnce seen fresh answers some g.C.Append.held g.C.Append.none g.C.Append.more at lists lean spared (gives_one iterator.can_next iterator.remaining iterator.next_gives) _ _ _ _ _ _ _ _ upto.reads upto.resets runs (λ x. x.0) _ c.in-Stops-parse_item.ensures in
+    let call = item_stops g.N.Parser g.Input.StreamOnce seen fresh answers some g.C.Append.held g.C.Append.none g.C.Append.more at lists lean spared (gives_one iterator.can_next iterator.remaining iterator.next_gives) _ _ _ _ _ _ _ upto.reads upto.resets runs (λ x. x.0) _ c.in-Stops-parse_item.ensures in
     in_mode _ _ _ laws _ _ _ _ inv.loops.from _ _ _ _ _ call
 
 pub returns-in-Stops-parse_item-clause-refuses : goal.returns-in-Stops-parse_item-clause-refuses
@@ -213,8 +214,9 @@ returns-in-Stops-parse_item-clause-refuses g c =
     let kept = asked_kept g.N.Parser.meaning _ lawful (record { asked = asked_part c.args.self.now; is_fit = (c.requires.lawful.0, c.requires.lawful.1); all = c.requires.lawful.2; item = c.in-Some.item; answered = met }) in
     let runs = runs_next g.N.Parser g.Input.StreamOnce seen fresh answers some g.C.Append.held g.C.Append.none g.C.Append.more at lists lean spared _ _ _ _ _ _ _ _ r _ left.0 left.1 _ met kept _ c.default.ensures (g.met.N.Parser.laws _ lawful) _ left.2 stays.0 stays.2 in
     let upto = passes_more _ _ _ _ _ _ inv.passes stays.1 in
-    let call = item_reasons g.N.Parser g.Input.StreamOnce seen fresh answers some g.C.Append.held g.C.Append.none g.C.Append.more at lists lean spared (gives_one iterator.can_next iterator.remaining iterator.next_gives) _ _ _ _ _ _ _ _ upto.reads upto.resets runs _ c.in-Stops-parse_item.ensures in
-    reasons_into seen.kind _ _ _ _ (refuses_in_mode g.Input.StreamOnce.step answers g.N.Parser.meaning seen g.N.Parser.refuses at lists _ _ _ inv.loops.from _) call
+    let call = item_reasons g.N.Parser g.Input.StreamOnce seen fresh answers some g.C.Append.held g.C.Append.none g.C.Append.more at lists lean spared (gives_one iterator.can_next iterator.remaining iterator.next_gives) _ _ _ _ _ _ _ upto.reads upto.resets runs _ c.in-Stops-parse_item.ensures in
+    let laws = iterated_is_meaning g.Input.StreamOnce.step seen answers some g.N.Parser.meaning g.C.Append.held g.C.Append.none g.C.Append.more at lists spared g.N.Parser.lawful g.met.N.Parser.laws c.requires.lawful.2 in
+    reasoned_in_mode laws seen inv.loops.from call
 
 pub items-smaller : goal.items-smaller
 items-smaller g c =
@@ -252,5 +254,5 @@ items-preserved g c =
     let kept = asked_kept g.N.Parser.meaning _ lawful (record { asked = asked_part c.args.self.now; is_fit = (c.requires.lawful.0, c.requires.lawful.1); all = c.requires.lawful.2; item = c.in-Some.item; answered = met }) in
     let runs = runs_next g.N.Parser g.Input.StreamOnce seen fresh answers some g.C.Append.held g.C.Append.none g.C.Append.more at lists lean spared _ _ _ _ _ _ _ _ r _ left.0 left.1 _ met kept _ c.default.ensures (g.met.N.Parser.laws _ lawful) _ left.2 stays.0 stays.2 in
     let upto = passes_more _ _ _ _ _ _ inv.passes stays.1 in
-    let goes = item_goes g.N.Parser g.Input.StreamOnce seen fresh answers some g.C.Append.held g.C.Append.none g.C.Append.more at lists lean spared (gives_one iterator.can_next iterator.remaining iterator.next_gives) _ _ _ _ _ _ _ _ upto.reads upto.resets runs (g.met.N.Parser.laws _ lawful) (g.met.N.Parser.default_valid _ c.default.ensures) _ c.in-Goes-parse_item.ensures in
+    let goes = item_goes g.N.Parser g.Input.StreamOnce seen fresh answers some g.C.Append.held g.C.Append.none g.C.Append.more at lists lean spared (gives_one iterator.can_next iterator.remaining iterator.next_gives) _ _ _ _ _ _ _ upto.reads upto.resets runs (g.met.N.Parser.laws _ lawful) (g.met.N.Parser.default_valid _ c.default.ensures) _ c.in-Goes-parse_item.ensures in
     record { self = inv.self; cleared = goes.0; passes = passes_more _ _ _ _ _ _ upto c.parse_item.ensures.passes; loops = record { z = _; from = inv.loops.from; reaches = goes.1 } }

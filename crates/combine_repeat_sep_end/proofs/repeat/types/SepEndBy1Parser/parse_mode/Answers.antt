@@ -5,7 +5,10 @@ use Rattle.combine_repeat_turns.specs.declared.turns.Bounds.TheVariants.{Joined}
 use Rattle.combine_repeat_sep_end.proofs.repeat.types.SepEndBy1Parser.parse_mode.Goals as goal
 
 pub returns-clause-same : goal.returns-clause-same
-returns-clause-same g c = turns_means_same _ (Joined 1 None) is_none _ _ _ _ _ _ c.take_turns.ensures.same
+returns-clause-same g c = turns_means_same _ _ (Joined 1 None) is_none _ _ _ _ _ _ c.take_turns.ensures.same
 
 pub returns-clause-answers : goal.returns-clause-answers
 returns-clause-answers g c = rw (c.none_yet-start.ensures, c.empty.ensures) at c.take_turns.ensures.answers
+
+pub returns-clause-refuses : goal.returns-clause-refuses
+returns-clause-refuses g c = rw (c.none_yet-start.ensures, c.empty.ensures) at c.take_turns.ensures.refuses

@@ -4,7 +4,10 @@ use Rattle.combine_repeat_turns.specs.declared.turns.Bounds.TheVariants.{Counted
 use Rattle.combine_repeat_turns.proofs.repeat.types.CountParser.parse_mode.Goals as goal
 
 pub returns-clause-same : goal.returns-clause-same
-returns-clause-same g c = repeated_means_same _ (Counted 0 (most_of_count c.args.self.now)) _ _ _ c.take_turns.ensures.same.meaning
+returns-clause-same g c = repeated_means_same _ g.Input.Error.ParseError.seen (Counted 0 (most_of_count c.args.self.now)) _ _ _ c.take_turns.ensures.same.meaning
 
 pub returns-clause-answers : goal.returns-clause-answers
 returns-clause-answers g c = rw (c.none_yet-start.ensures, c.empty.ensures) at c.take_turns.ensures.answers
+
+pub returns-clause-refuses : goal.returns-clause-refuses
+returns-clause-refuses g c = rw (c.none_yet-start.ensures, c.empty.ensures) at c.take_turns.ensures.refuses

@@ -1,13 +1,12 @@
 use Rattle.std.proofs.Common.{false, refl, subst, sym, true}
 use Rattle.combine_base.proofs.Giving.{gives_same, good_ok, good_peek_ok}
-use Rattle.combine_base.proofs.Explaining.{reason_peeked}
-use Rattle.combine_base.proofs.Reasoning.{reasons_hand_on, reasons_peeked}
+use Rattle.combine_base.proofs.Refusing.{reasoned_in_mode}
 use Rattle.combine_base.proofs.Starting.{in_mode}
 use Rattle.combine_base.specs.Parser.Given.{gives_as}
 use Rattle.combine_base.specs.Parser.Kept.{KeptOf}
-use Rattle.combine_sequence.specs.Answered.{asked_part, first_part, starts_valid, then_is_meaning, then_means_same}
-use Rattle.combine_sequence.proofs.Keeping.{accepted_kept, by_some, committed_at, leaves_valid, peeked_at, then_resumes, then_stops, then_refuses, then_commits, then_peeks, valid_from}
-use Rattle.combine_sequence.proofs.ThenErrors.{answered_reasons, first_reasons, resumed_reasons}
+use Rattle.combine_sequence.specs.Answered.{asked_part, starts_valid, then_is_meaning, then_means_same}
+use Rattle.combine_sequence.proofs.Keeping.{accepted_kept, at_first, by_some, committed_at, leaves_valid, peeked_at, then_resumes, then_stops, then_refuses, then_commits, then_peeks, valid_from}
+use Rattle.combine_sequence.proofs.ThenErrors.{answered_reasons, first_peeked, first_reasons, resumed_reasons}
 use Rattle.combine_sequence.proofs.sequence.answered.AnsweredParser.parse_mode.Goals as goal
 use Rattle.combine_sequence.proofs.sequence.answered.AnsweredParser.parse_mode.Goals.{in-CommitOk, in-PeekOk}
 
@@ -31,13 +30,13 @@ returns-in-Second-clause-answers g c =
     let from = c.in-Second.ensures.from in
     let v = valid_from (starts_valid (KeptOf g.N.Parser.lawful g.N.Parser.meaning some) g.N.Parser.valid g.met.P.Parser.default_valid) from c.requires.valid in
     let call = then_resumes _ _ _ _ _ g.P.Parser.valid g.K.Asked.keeps _ answers some (g.P.Parser.meaning c.args.self.now.first) refl v.0 c.resume_answered.ensures in
-    in_mode _ _ _ (then_is_meaning _ g.K.Asked.keeps g.V.Join.joined answers some g.N.Parser.lawful laws g.met.N.Parser.laws (gives_as (λ a h. h.1) c.requires.lawful.1)) _ _ _ _ from _ _ _ _ _ call
+    in_mode _ _ _ (then_is_meaning _ g.Input.Error.ParseError.seen g.K.Asked.keeps g.V.Join.joined answers some g.N.Parser.lawful laws g.met.N.Parser.laws (gives_as (λ a h. h.1) c.requires.lawful.1)) _ _ _ _ from _ _ _ _ _ call
 
 pub returns-in-CommitErr-clause-lawful : goal.returns-in-CommitErr-clause-lawful
 returns-in-CommitErr-clause-lawful g c = (c.parse_mode.ensures.lawful, gives_same c.parse_mode.ensures.same c.requires.lawful.1)
 
 pub returns-in-CommitErr-clause-same : goal.returns-in-CommitErr-clause-same
-returns-in-CommitErr-clause-same g c = then_means_same _ g.K.Asked.keeps g.V.Join.joined (g.K.Asked.answers (asked_part c.args.self.now)) (by_some g.P.Parser g.N.Parser g.K.Asked.callable g.K.Asked.answers) g.N.Parser.meaning c.parse_mode.ensures.same
+returns-in-CommitErr-clause-same g c = then_means_same _ g.Input.Error.ParseError.seen g.K.Asked.keeps g.V.Join.joined (g.K.Asked.answers (asked_part c.args.self.now)) (by_some g.P.Parser g.N.Parser g.K.Asked.callable g.K.Asked.answers) g.N.Parser.meaning c.parse_mode.ensures.same
 
 pub returns-in-CommitErr-clause-answers : goal.returns-in-CommitErr-clause-answers
 returns-in-CommitErr-clause-answers g c =
@@ -46,13 +45,13 @@ returns-in-CommitErr-clause-answers g c =
     let laws = g.met.P.Parser.laws _ c.requires.lawful.0 in
     let from = c.in-First.ensures.from in
     let call = then_stops g.N.Parser g.Input.StreamOnce g.Input.Error.ParseError.seen g.N.PartialState.Default.is_default _ g.P.Parser.valid g.K.Asked.keeps g.V.Join.joined answers some _ laws refl from.afresh refl c.in-CommitErr.ensures.answers in
-    in_mode _ _ _ (then_is_meaning _ g.K.Asked.keeps g.V.Join.joined answers some g.N.Parser.lawful laws g.met.N.Parser.laws (gives_as (λ a h. h.1) c.requires.lawful.1)) _ _ _ _ from _ _ _ _ _ call
+    in_mode _ _ _ (then_is_meaning _ g.Input.Error.ParseError.seen g.K.Asked.keeps g.V.Join.joined answers some g.N.Parser.lawful laws g.met.N.Parser.laws (gives_as (λ a h. h.1) c.requires.lawful.1)) _ _ _ _ from _ _ _ _ _ call
 
 pub returns-in-PeekErr-clause-lawful : goal.returns-in-PeekErr-clause-lawful
 returns-in-PeekErr-clause-lawful g c = (c.parse_mode.ensures.lawful, gives_same c.parse_mode.ensures.same c.requires.lawful.1)
 
 pub returns-in-PeekErr-clause-same : goal.returns-in-PeekErr-clause-same
-returns-in-PeekErr-clause-same g c = then_means_same _ g.K.Asked.keeps g.V.Join.joined (g.K.Asked.answers (asked_part c.args.self.now)) (by_some g.P.Parser g.N.Parser g.K.Asked.callable g.K.Asked.answers) g.N.Parser.meaning c.parse_mode.ensures.same
+returns-in-PeekErr-clause-same g c = then_means_same _ g.Input.Error.ParseError.seen g.K.Asked.keeps g.V.Join.joined (g.K.Asked.answers (asked_part c.args.self.now)) (by_some g.P.Parser g.N.Parser g.K.Asked.callable g.K.Asked.answers) g.N.Parser.meaning c.parse_mode.ensures.same
 
 pub returns-in-PeekErr-clause-answers : goal.returns-in-PeekErr-clause-answers
 returns-in-PeekErr-clause-answers g c =
@@ -61,7 +60,7 @@ returns-in-PeekErr-clause-answers g c =
     let laws = g.met.P.Parser.laws _ c.requires.lawful.0 in
     let from = c.in-First.ensures.from in
     let call = then_refuses g.N.Parser g.Input.StreamOnce g.Input.Error.ParseError.seen g.N.PartialState.Default.is_default _ g.P.Parser.valid g.K.Asked.keeps g.V.Join.joined answers some _ laws refl from.afresh c.take_state.ensures.left c.in-PeekErr.ensures.answers in
-    in_mode _ _ _ (then_is_meaning _ g.K.Asked.keeps g.V.Join.joined answers some g.N.Parser.lawful laws g.met.N.Parser.laws (gives_as (λ a h. h.1) c.requires.lawful.1)) _ _ _ _ from _ _ _ _ _ call
+    in_mode _ _ _ (then_is_meaning _ g.Input.Error.ParseError.seen g.K.Asked.keeps g.V.Join.joined answers some g.N.Parser.lawful laws g.met.N.Parser.laws (gives_as (λ a h. h.1) c.requires.lawful.1)) _ _ _ _ from _ _ _ _ _ call
 
 pub ask-value-requires : goal.ask-value-requires
 ask-value-requires g c =
@@ -75,7 +74,7 @@ pub returns-clause-lawful : goal.returns-clause-lawful
 returns-clause-lawful g c = (c.parse_mode.ensures.lawful, gives_same c.parse_mode.ensures.same c.requires.lawful.1)
 
 pub returns-clause-same : goal.returns-clause-same
-returns-clause-same g c = then_means_same _ g.K.Asked.keeps g.V.Join.joined (g.K.Asked.answers (asked_part c.args.self.now)) (by_some g.P.Parser g.N.Parser g.K.Asked.callable g.K.Asked.answers) g.N.Parser.meaning c.parse_mode.ensures.same
+returns-clause-same g c = then_means_same _ g.Input.Error.ParseError.seen g.K.Asked.keeps g.V.Join.joined (g.K.Asked.answers (asked_part c.args.self.now)) (by_some g.P.Parser g.N.Parser g.K.Asked.callable g.K.Asked.answers) g.N.Parser.meaning c.parse_mode.ensures.same
 
 pub parse_answered-requires-clause-ready : goal.parse_answered-requires-clause-ready
 parse_answered-requires-clause-ready g c =
@@ -116,7 +115,7 @@ returns-clause-answers g c =
     let peeked = peeked_at g.N.Parser g.Input.StreamOnce g.Input.Error.ParseError.seen g.N.PartialState.Default.is_default _ g.P.Parser.valid g.K.Asked.keeps g.V.Join.joined answers some _ laws refl from.afresh in
     let passes = c.parse_mode.ensures.passes in
     let asked = rw c.ask-value.ensures.kept at c.parse_answered.ensures in
-    let whole = in_mode _ _ _ (then_is_meaning _ g.K.Asked.keeps g.V.Join.joined answers some g.N.Parser.lawful laws g.met.N.Parser.laws (gives_as (λ a h. h.1) c.requires.lawful.1)) _ _ _ _ from _ _ _ _ _ in
+    let whole = in_mode _ _ _ (then_is_meaning _ g.Input.Error.ParseError.seen g.K.Asked.keeps g.V.Join.joined answers some g.N.Parser.lawful laws g.met.N.Parser.laws (gives_as (λ a h. h.1) c.requires.lawful.1)) _ _ _ _ from _ _ _ _ _ in
     elim c.match-parse_mode.branch [
       | in-CommitOk w ↦
           let answered = rw w.value-is at c.ask-value.ensures.answers in
@@ -129,17 +128,49 @@ returns-clause-answers g c =
     ]
 
 pub returns-in-Second-clause-refuses : goal.returns-in-Second-clause-refuses
-returns-in-Second-clause-refuses g c = resumed_reasons g.N.Parser g.Input.StreamOnce g.Input.Error.ParseError.seen g.N.PartialState.Default.is_default _ g.V.Join.joined (g.K.Asked.answers (asked_part c.args.self.now)) (g.P.Parser.meaning (first_part c.args.self.now)) (g.P.Parser.refuses (first_part c.args.self.now)) c.in-Second.ensures.from c.resume_answered.ensures
+returns-in-Second-clause-refuses g c =
+    let answers = g.K.Asked.answers (asked_part c.args.self.now) in
+    let some = by_some g.P.Parser g.N.Parser g.K.Asked.callable g.K.Asked.answers in
+    let laws = g.met.P.Parser.laws _ c.requires.lawful.0 in
+    let from = c.in-Second.ensures.from in
+    reasoned_in_mode (then_is_meaning _ g.Input.Error.ParseError.seen g.K.Asked.keeps g.V.Join.joined answers some g.N.Parser.lawful laws g.met.N.Parser.laws (gives_as (λ a h. h.1) c.requires.lawful.1)) g.Input.Error.ParseError.seen from (resumed_reasons g.N.Parser g.Input.StreamOnce g.Input.Error.ParseError.seen g.N.PartialState.Default.is_default _ g.K.Asked.keeps g.V.Join.joined answers some (g.P.Parser.meaning c.args.self.now.first) c.resume_answered.ensures)
 
 pub returns-in-CommitErr-clause-refuses : goal.returns-in-CommitErr-clause-refuses
-returns-in-CommitErr-clause-refuses g c = reasons_hand_on _ _ _ _ _ (λ e h. first_reasons g.N.Parser g.Input.StreamOnce g.Input.Error.ParseError.seen g.N.PartialState.Default.is_default _ g.V.Join.joined (g.K.Asked.answers (asked_part c.args.self.now)) (g.P.Parser.meaning (first_part c.args.self.now)) (g.P.Parser.refuses (first_part c.args.self.now)) c.in-First.ensures.from h) c.in-CommitErr.ensures.refuses
+returns-in-CommitErr-clause-refuses g c =
+    let answers = g.K.Asked.answers (asked_part c.args.self.now) in
+    let some = by_some g.P.Parser g.N.Parser g.K.Asked.callable g.K.Asked.answers in
+    let laws = g.met.P.Parser.laws _ c.requires.lawful.0 in
+    let from = c.in-First.ensures.from in
+    reasoned_in_mode (then_is_meaning _ g.Input.Error.ParseError.seen g.K.Asked.keeps g.V.Join.joined answers some g.N.Parser.lawful laws g.met.N.Parser.laws (gives_as (λ a h. h.1) c.requires.lawful.1)) g.Input.Error.ParseError.seen from (first_reasons g.N.Parser g.Input.StreamOnce g.Input.Error.ParseError.seen g.N.PartialState.Default.is_default _ g.K.Asked.keeps g.V.Join.joined answers some (g.P.Parser.meaning c.args.self.now.first) laws from.afresh (at_first g.N.Parser g.Input.StreamOnce g.Input.Error.ParseError.seen g.N.PartialState.Default.is_default _ g.P.Parser.valid g.K.Asked.keeps g.V.Join.joined answers some _ laws refl from.afresh c.in-CommitErr.ensures.answers) c.in-CommitErr.ensures.refuses)
 
 pub returns-in-PeekErr-clause-refuses : goal.returns-in-PeekErr-clause-refuses
-returns-in-PeekErr-clause-refuses g c = reasons_peeked _ _ _ _ (first_reasons g.N.Parser g.Input.StreamOnce g.Input.Error.ParseError.seen g.N.PartialState.Default.is_default _ g.V.Join.joined (g.K.Asked.answers (asked_part c.args.self.now)) (g.P.Parser.meaning (first_part c.args.self.now)) (g.P.Parser.refuses (first_part c.args.self.now)) c.in-First.ensures.from (reason_peeked _ _ _ _ c.in-PeekErr.ensures.refuses))
+returns-in-PeekErr-clause-refuses g c =
+    let answers = g.K.Asked.answers (asked_part c.args.self.now) in
+    let some = by_some g.P.Parser g.N.Parser g.K.Asked.callable g.K.Asked.answers in
+    let laws = g.met.P.Parser.laws _ c.requires.lawful.0 in
+    let from = c.in-First.ensures.from in
+    reasoned_in_mode (then_is_meaning _ g.Input.Error.ParseError.seen g.K.Asked.keeps g.V.Join.joined answers some g.N.Parser.lawful laws g.met.N.Parser.laws (gives_as (λ a h. h.1) c.requires.lawful.1)) g.Input.Error.ParseError.seen from (first_peeked g.N.Parser g.Input.StreamOnce g.Input.Error.ParseError.seen g.N.PartialState.Default.is_default _ g.K.Asked.keeps g.V.Join.joined answers some (g.P.Parser.meaning c.args.self.now.first) laws from.afresh (at_first g.N.Parser g.Input.StreamOnce g.Input.Error.ParseError.seen g.N.PartialState.Default.is_default _ g.P.Parser.valid g.K.Asked.keeps g.V.Join.joined answers some _ laws refl from.afresh c.in-PeekErr.ensures.answers) c.in-PeekErr.ensures.refuses)
 
 pub returns-clause-refuses : goal.returns-clause-refuses
 returns-clause-refuses g c =
+    let answers = g.K.Asked.answers (asked_part c.args.self.now) in
+    let some = by_some g.P.Parser g.N.Parser g.K.Asked.callable g.K.Asked.answers in
+    let laws = g.met.P.Parser.laws _ c.requires.lawful.0 in
+    let from = c.in-First.ensures.from in
+    let kept = KeptOf g.N.Parser.lawful g.N.Parser.meaning some in
+    let v = valid_from (starts_valid kept g.N.Parser.valid g.met.P.Parser.default_valid) from c.requires.valid in
+    let may_keep = accepted_kept g.P.Parser g.N.Parser g.K.Asked.callable g.K.Asked.answers c.args.self.now.first (asked_part c.args.self.now) c.requires.lawful.0 c.requires.lawful.1 _ v (g.Input.StreamOnce.view c.args.input.now) in
+    let asked = rw c.ask-value.ensures.kept at c.parse_answered.ensures in
+    let whole = reasoned_in_mode (then_is_meaning _ g.Input.Error.ParseError.seen g.K.Asked.keeps g.V.Join.joined answers some g.N.Parser.lawful laws g.met.N.Parser.laws (gives_as (λ a h. h.1) c.requires.lawful.1)) g.Input.Error.ParseError.seen from in
     elim c.match-parse_mode.branch [
-      | in-CommitOk w ↦ answered_reasons g.N.Parser g.Input.StreamOnce g.Input.Error.ParseError.seen g.N.PartialState.Default.is_default _ g.V.Join.joined (g.K.Asked.answers (asked_part c.args.self.now)) (g.P.Parser.meaning (first_part c.args.self.now)) (g.P.Parser.refuses (first_part c.args.self.now)) c.in-First.ensures.from w.in-CommitOk.ensures.answers.is (rw w.value-is at c.ask-value.ensures.answers) c.default.ensures (rw w.value-is at c.parse_answered.ensures)
-      | in-PeekOk w ↦ answered_reasons g.N.Parser g.Input.StreamOnce g.Input.Error.ParseError.seen g.N.PartialState.Default.is_default _ g.V.Join.joined (g.K.Asked.answers (asked_part c.args.self.now)) (g.P.Parser.meaning (first_part c.args.self.now)) (g.P.Parser.refuses (first_part c.args.self.now)) c.in-First.ensures.from w.in-PeekOk.ensures.answers.is (rw w.value-is at c.ask-value.ensures.answers) c.default.ensures (rw w.value-is at c.parse_answered.ensures)
+      | in-CommitOk w ↦
+          let accepted = (at_first g.N.Parser g.Input.StreamOnce g.Input.Error.ParseError.seen g.N.PartialState.Default.is_default _ g.P.Parser.valid g.K.Asked.keeps g.V.Join.joined answers some _ laws refl from.afresh w.in-CommitOk.ensures.answers).is in
+          let answered = rw w.value-is at c.ask-value.ensures.answers in
+          let kept = may_keep _ true (accepted.count, accepted.meant) _ answered in
+          whole (answered_reasons g.N.Parser g.Input.StreamOnce g.Input.Error.ParseError.seen g.N.PartialState.Default.is_default _ g.K.Asked.keeps g.V.Join.joined answers some (g.P.Parser.meaning c.args.self.now.first) accepted answered (g.met.N.Parser.laws _ kept.is_lawful) c.default.ensures (rw w.value-is at asked))
+      | in-PeekOk w ↦
+          let accepted = (at_first g.N.Parser g.Input.StreamOnce g.Input.Error.ParseError.seen g.N.PartialState.Default.is_default _ g.P.Parser.valid g.K.Asked.keeps g.V.Join.joined answers some _ laws refl from.afresh w.in-PeekOk.ensures.answers).is in
+          let answered = rw w.value-is at c.ask-value.ensures.answers in
+          let kept = may_keep _ false (accepted.count, accepted.meant) _ answered in
+          whole (answered_reasons g.N.Parser g.Input.StreamOnce g.Input.Error.ParseError.seen g.N.PartialState.Default.is_default _ g.K.Asked.keeps g.V.Join.joined answers some (g.P.Parser.meaning c.args.self.now.first) accepted answered (g.met.N.Parser.laws _ kept.is_lawful) c.default.ensures (rw w.value-is at asked))
     ]
