@@ -5,8 +5,10 @@ pub use Rattle.combine_base.specs.Stream.View
 pub use Rattle.combine_repeat_turns.specs.Bounded
 pub use Rattle.combine_repeat_turns.specs.Counts
 pub use Rattle.combine_repeat_turns.specs.CountLaws
+pub use Rattle.combine_repeat_turns.specs.CountParsers
 pub use Rattle.combine_repeat_turns.specs.CountsCompared
 pub use Rattle.combine_repeat_turns.specs.OneThenTurns
+pub use Rattle.combine_repeat_turns.specs.Repeats
 pub use Rattle.combine_repeat_turns.specs.Turns
 pub mod Repetition
 pub mod Compared

@@ -4,8 +4,7 @@ use Rattle.combine_combinator.specs.Parsers.{no_partial_of, picked_of}
 use Rattle.combine_combinator.specs.declared.combinator.look.NoPartial.{NoPartial}
 use Rattle.combine_combinator.specs.declared.combinator.values.Nothing.{Nothing}
 use Rattle.combine_combinator.specs.declared.combinator.values.Picked.{Picked}
-use Rattle.combine_repeat.specs.Built.{skip_many_of}
-use Rattle.combine_repeat.specs.declared.repeat.types.SkipMany.{SkipMany}
+use Rattle.combine_repeat.specs.Built.{SkipMany, skip_many_of}
 use Rattle.combine_token.specs.Or.{or_parser}
 use Rattle.combine_token.specs.TokenParsers.{token_parser}
 use Rattle.combine_token.specs.declared.choice.types.Or.{Or}

@@ -10,10 +10,10 @@ ghost use Rattle.combine_repeat_sep.specs.Placed.{Ran};
 ghost use Rattle.combine_repeat_sep.specs.Separated.{first_element, first_then, later_kept, later_turn, lead_good, part_of, separated_default, separated_fresh, separated_valid, separator_of, then_element, then_is_turn, then_once, turn_place};
 
 use crate::pair::{PairState, PairStateOf, parse_pair};
-use combine_base::error::{ParseResult, Tracked};
-use combine_base::parser::{FirstMode, ParseMode, Parser};
+use combine_base::error::{ErrorOffset, ParseResult, Tracked};
+use combine_base::parser::{FirstMode, Outputs, ParseMode, Parser};
 use combine_base::stream::{Stream, needs_more};
-use combine_repeat_turns::turns::Turn;
+use combine_repeat_turns::turns::{Turn, Values};
 use std::marker::PhantomData;
 use std::mem;
 
@@ -214,10 +214,12 @@ fn run_later<Input: Stream, P: Parser<Input>, S: Parser<Input>, M: ParseMode>(
     }
 }
 
+impl<Input, P: Outputs<Input>, S: Outputs<Input>, L> Values<Input> for Separated<P, S, L> {
+    type Value = Element<S::Output, P::Output>;
+}
+
 impl<Input: Stream, P: Parser<Input>, S: Parser<Input>, L: Leads<S::Output, P::Output>> Turn<Input>
     for Separated<P, S, L> {
-    type Value = Element<S::Output, P::Output>;
-
     type Running = SeparatedState<S::Output, S::PartialState, P::PartialState>;
 
     ghost lawful = { λ p. GivesOnly S.valid (S.meaning (separator_of p)) L.good × S.lawful (separator_of p) × P.lawful (part_of p) };
@@ -233,6 +235,8 @@ impl<Input: Stream, P: Parser<Input>, S: Parser<Input>, L: Leads<S::Output, P::O
     ghost ending = { λ _. false };
 
     ghost gives = { lead_good L.good };
+
+    ghost parts = { λ p. P.parts (part_of p) };
 
     #[inline(always)]
     fn parse_turn<M: ParseMode>(
@@ -278,6 +282,11 @@ impl<Input: Stream, P: Parser<Input>, S: Parser<Input>, L: Leads<S::Output, P::O
     #[inline(always)]
     fn ends(value: &Self::Value) -> bool {
         false
+    }
+
+    #[inline]
+    fn parser_count(&self) -> ErrorOffset {
+        self.parser.parser_count()
     }
 
     ghost default_valid = { λ s d. separated_default P.PartialState.is_default P.valid (led_valid L.good S.valid P.valid) P.default_valid s d };

@@ -11,15 +11,15 @@ ghost use Rattle.combine_token.specs.Optional.{optional, optional_is_meaning};
 ghost use Rattle.combine_repeat_turns.specs.Sound.{any_sound};
 ghost use Rattle.combine_repeat_turns.specs.Turn.{gives_any};
 
-use combine_base::error::{ParseResult, Tracked};
-use combine_base::parser::{FirstMode, ParseMode, Parser};
+use combine_base::error::{ErrorOffset, ParseResult, Tracked};
+use combine_base::parser::{FirstMode, Outputs, ParseMode, Parser};
 use combine_base::repeat::Append;
 use combine_base::stream::{Stream, needs_more};
 use combine_repeat_sep::pair::{PairState, PairStateOf, parse_pair};
 use combine_repeat_sep::separated::{Lead, SeparatedState, TurnPlace};
-use combine_repeat_turns::turns::{Gather, Turn};
+use combine_repeat_turns::turns::{Gather, Makes, Turn, Values};
 use combine_token::choice::types::Optional;
-use std::alloc::{AllocError, Global};
+use std::alloc::AllocError;
 use std::marker::PhantomData;
 use std::mem;
 
@@ -34,11 +34,11 @@ pub struct Ended<P, S> {
 #[derive(Drop)]
 pub struct EachSome<F>(PhantomData<F>);
 
-impl<A: Drop, F: Append<A>> Gather<Option<A>> for EachSome<F> {
+impl<F: Drop> Makes for EachSome<F> {
     type Into = F;
+}
 
-    type From = Global;
-
+impl<A: Drop, F: Append<A>> Gather<Option<A>> for EachSome<F> {
     ghost Held = { F.Held };
 
     ghost held = { F.held };
@@ -52,18 +52,6 @@ impl<A: Drop, F: Append<A>> Gather<Option<A>> for EachSome<F> {
     ghost sound = { λ _. Unit {0} };
 
     ghost lean = { F.lean };
-
-    #[inline(always)]
-    fn begin(alloc: Global, value: Option<A>) -> Result<F, AllocError> {
-        let mut into = F::empty(alloc);
-        match value {
-            Some(value) => {
-                into.append(value)?;
-                Ok(into)
-            }
-            None => Ok(into),
-        }
-    }
 
     #[inline(always)]
     fn gather(into: F, value: Option<A>) -> Result<F, AllocError> {
@@ -153,9 +141,11 @@ fn run_later<Input: Stream, P: Parser<Input>, S: Parser<Input>, M: ParseMode>(
     }
 }
 
-impl<Input: Stream, P: Parser<Input>, S: Parser<Input>> Turn<Input> for Ended<P, S> {
+impl<Input, P: Outputs<Input>, S> Values<Input> for Ended<P, S> {
     type Value = Option<P::Output>;
+}
 
+impl<Input: Stream, P: Parser<Input>, S: Parser<Input>> Turn<Input> for Ended<P, S> {
     type Running = SeparatedState<S::Output, S::PartialState, P::PartialState>;
 
     ghost lawful = { λ p. S.lawful (closer_of p) × P.lawful (ended_part p) };
@@ -171,6 +161,8 @@ impl<Input: Stream, P: Parser<Input>, S: Parser<Input>> Turn<Input> for Ended<P,
     ghost ending = { is_none };
 
     ghost gives = { λ _. Unit {0} };
+
+    ghost parts = { λ _. 1 };
 
     #[inline(always)]
     fn parse_turn<M: ParseMode>(
@@ -219,6 +211,12 @@ impl<Input: Stream, P: Parser<Input>, S: Parser<Input>> Turn<Input> for Ended<P,
             Some(_) => false,
             None => true,
         }
+    }
+
+    /// It counts as one parser.
+    #[inline]
+    fn parser_count(&self) -> ErrorOffset {
+        ErrorOffset(1)
     }
 
     ghost default_valid = { λ s d. separated_default P.PartialState.is_default P.valid (pair_valid S.valid P.valid) P.default_valid s d };

@@ -5,23 +5,23 @@ use Rattle.combine_repeat_turns.specs.Turns.{Turn, Goes, Stops, Rule, Collecting
 use Rattle.combine_repeat_turns.specs.declared.turns.Bounds.{Bounds}
 use Rattle.combine_repeat_turns.specs.declared.turns.Bounds.TheVariants.{Any, Joined, Counted}
 use Rattle.combine_repeat_turns.specs.declared.turns.Place.{Place}
-use Rattle.combine_repeat_turns.specs.declared.turns.limits.JoinedFrom.{JoinedFrom}
 use Rattle.combine_repeat_turns.specs.declared.turns.limits.JoinedBetween.{JoinedBetween}
 use Rattle.combine_repeat_turns.specs.declared.turns.limits.Between.{Between}
+use Rattle.combine_repeat_turns.specs.declared.turns.limits.UpTo.{UpTo}
 use Rattle.combine_repeat_turns.specs.declared.turns.Turns.{Turns as Kept}
 use Rattle.combine_repeat_turns.specs.declared.turns.TurnsState.{TurnsState}
 use Rattle.combine_repeat_turns.specs.declared.turns.Earlier.{Earlier}
 use Rattle.combine_repeat_turns.specs.declared.turns.Earlier.TheVariants.{Nothing, Turns}
 
 -- what bounds that are types of their own say
-abbrev pub joined_from : JoinedFrom → Bounds
-joined_from b = Joined b.least None
-
 abbrev pub joined_between : JoinedBetween → Bounds
 joined_between b = Joined b.least (Some b.most)
 
 abbrev pub between : Between → Bounds
 between b = Counted b.least b.most
+
+abbrev pub up_to : UpTo → Bounds
+up_to b = Counted 0 b.most
 
 -- how far turns are counted
 abbrev pub limit : Bounds → ℕ

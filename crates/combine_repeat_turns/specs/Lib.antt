@@ -22,5 +22,6 @@ pub mod Plain
 pub mod Counts
 pub mod OneThenTurns
 pub mod CountLaws
+pub mod Repeats
 pub mod CountParsers
 pub mod CountsCompared

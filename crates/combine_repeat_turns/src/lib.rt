@@ -3,4 +3,5 @@
 
 pub mod each;
 pub mod repeat;
+pub mod repetition;
 pub mod turns;

@@ -11,10 +11,11 @@ ghost use Rattle.combine_repeat_turns.specs.CountParsers.{count_min_max_of, coun
 pub mod laws;
 pub mod types;
 
-use crate::each::Plain;
+use crate::each::{Dropped, Each, Plain};
+use crate::repetition::Repeat;
 pub use crate::turns::TurnsState;
+use crate::turns::limits::{Between, UpTo};
 use std::alloc::Global;
-use std::marker::PhantomData;
 use types::{Count, CountMinMax, SkipCount, SkipCountMinMax};
 
 /// Runs at most `max` turns of `parser`, which may take nothing, and collects their values in order; `min` is at most `max`.
@@ -25,13 +26,11 @@ pub fn count_min_max<F, P>(alloc: Global, min: usize, max: usize, parser: P) -> 
     requires { min ≤ max }
     ensures { result ≡ count_min_max_of alloc min max parser }
 {
-    CountMinMax {
-        alloc,
+    let bounds = Between {
         least: min,
         most: max,
-        turn: Plain(parser),
-        collects: PhantomData,
-    }
+    };
+    Repeat::new(Each::from(alloc), Plain(parser), bounds)
 }
 
 /// Runs turns as `count_min_max` does, where `min` is at most `max`, and drops the values; it takes no memory of its own, but for that of an error's message.
@@ -40,11 +39,11 @@ pub fn skip_count_min_max<P>(min: usize, max: usize, parser: P) -> SkipCountMinM
     requires { min ≤ max }
     ensures { result ≡ skip_count_min_max_of min max parser }
 {
-    SkipCountMinMax {
+    let bounds = Between {
         least: min,
         most: max,
-        turn: Plain(parser),
-    }
+    };
+    Repeat::new(Dropped, Plain(parser), bounds)
 }
 
 /// Runs at most so many turns, and none at least, as `count_min_max` does.
@@ -52,12 +51,7 @@ pub fn skip_count_min_max<P>(min: usize, max: usize, parser: P) -> SkipCountMinM
 pub fn count<F, P>(alloc: Global, count: usize, parser: P) -> Count<F, P>
     ensures { result ≡ count_of alloc count parser }
 {
-    Count {
-        alloc,
-        most: count,
-        turn: Plain(parser),
-        collects: PhantomData,
-    }
+    Repeat::new(Each::from(alloc), Plain(parser), UpTo { most: count })
 }
 
 /// Runs turns as `count` does, and drops the values; it takes no memory of its own, but for that of an error's message.
@@ -65,8 +59,5 @@ pub fn count<F, P>(alloc: Global, count: usize, parser: P) -> Count<F, P>
 pub fn skip_count<P>(count: usize, parser: P) -> SkipCount<P>
     ensures { result ≡ skip_count_of count parser }
 {
-    SkipCount {
-        most: count,
-        turn: Plain(parser),
-    }
+    Repeat::new(Dropped, Plain(parser), UpTo { most: count })
 }

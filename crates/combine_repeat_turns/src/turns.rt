@@ -22,7 +22,7 @@ ghost use Rattle.combine_base.specs.declared.error.ParseResult.TheVariants.{Peek
 mod entry;
 pub mod limits;
 
-use combine_base::error::{Info, ParseError, ParseResult, Tracked};
+use combine_base::error::{ErrorOffset, Info, ParseError, ParseResult, Tracked};
 use combine_base::parser::{ParseMode, Parser};
 use combine_base::refusal::refusal_saying;
 use combine_base::sequence::{accepted_after, refused_after};
@@ -32,9 +32,15 @@ use limits::{Bounded, JoinedFrom, is_enough};
 use std::alloc::AllocError;
 use std::mem;
 
+/// What a turn gives over an input. Apart from `Turn`, as what a parser answers is apart from it.
+pub trait Values<Input> {
+    /// What a turn gives.
+    type Value: Drop;
+}
+
 /// What runs in a turn: the first one, or any later one, which may differ.
-pub trait Turn<Input: Stream> {
-    ghost use Rattle.std.specs.Prelude.{◌≡◌, Bool, true};
+pub trait Turn<Input: Stream>: Values<Input> {
+    ghost use Rattle.std.specs.Prelude.{◌≡◌, ℕ, Bool, true};
     ghost use Rattle.combine_base.specs.Parser.Meaning.{Meaning};
     ghost use Rattle.combine_base.specs.Parser.Answer.{Answers, world};
     ghost use Rattle.combine_base.specs.Parser.AnswersCalls.{AnswersCall};
@@ -42,9 +48,6 @@ pub trait Turn<Input: Stream> {
     ghost use Rattle.combine_base.specs.Error.Errors.{Says};
     ghost use Rattle.combine_base.specs.Stream.Calls.{Passes};
     ghost use Rattle.combine_repeat_turns.specs.Turn.{Start, TurnsSame, TurnsOnce, TurnsGive, IsTurn, called};
-
-    /// What a turn gives.
-    type Value: Drop;
 
     /// What is kept of a running turn.
     type Running: Default + Drop;
@@ -66,6 +69,9 @@ pub trait Turn<Input: Stream> {
 
     /// What holds of each value that a turn gives.
     ghost gives: { Self.Value → Type 0 };
+
+    /// How many parsers the first turn counts as.
+    ghost parts: { Self → ℕ };
 
     fn parse_turn<M: ParseMode>(
         &mut self,
@@ -95,6 +101,10 @@ pub trait Turn<Input: Stream> {
     fn ends(value: &Self::Value) -> bool
         ensures { result ≡ ending value.now };
 
+    /// Returns how many parsers the first turn counts as, at most 255.
+    fn parser_count(&self) -> ErrorOffset
+        ensures { result.0 ≡ parts self.now };
+
     ghost default_valid: { (s : Self.Running) → Self.Running.is_default s → valid s };
 
     ghost laws: { (p : Self) → lawful p → IsTurn Self.Running.is_default valid (meaning p) (again p) };
@@ -104,16 +114,16 @@ pub trait Turn<Input: Stream> {
     ghost gives_only: { (p : Self) → lawful p → TurnsGive valid (meaning p) (again p) gives };
 }
 
-/// How what turns give is gathered.
-pub trait Gather<A> {
-    ghost use Rattle.std.specs.Prelude.{◌≡◌, MatchResult};
-    ghost use Rattle.combine_repeat_turns.specs.Sound.{KeepsSound};
-
+/// What a gathering makes. Apart from `Gather`, so that it is read without the values of turns.
+pub trait Makes {
     /// What it is gathered into.
     type Into: Drop;
+}
 
-    /// What an empty gathering, or one of a first value, is made from.
-    type From: Copy;
+/// How what turns give is gathered.
+pub trait Gather<A>: Makes {
+    ghost use Rattle.std.specs.Prelude.{◌≡◌, MatchResult};
+    ghost use Rattle.combine_repeat_turns.specs.Sound.{KeepsSound};
 
     ghost Held: { Type 0 };
 
@@ -134,15 +144,23 @@ pub trait Gather<A> {
     /// Holds where it takes no memory.
     ghost lean: { Type 0 };
 
-    /// What the first value makes.
-    fn begin(from: Self::From, value: A) -> Result<Self::Into, AllocError>
-        ensures { MatchResult result (λ i. more none value (held i)) (λ _. lean → ⊥) };
-
     fn gather(into: Self::Into, value: A) -> Result<Self::Into, AllocError>
         requires { able value }
         ensures { MatchResult result (λ i. more (held into) value (held i)) (λ _. lean → ⊥) };
 
     ghost keeps_sound: { KeepsSound none more able sound };
+}
+
+/// A gathering that the first value begins.
+pub trait Begin<A>: Gather<A> {
+    ghost use Rattle.std.specs.Prelude.{MatchResult};
+
+    /// What it is begun with beside that value.
+    type From: Copy;
+
+    /// Makes what holds the first value.
+    fn begin(from: Self::From, value: A) -> Result<Self::Into, AllocError>
+        ensures { MatchResult result (λ i. Self.more Self.none value (Self.held i)) (λ _. Self.lean → ⊥) };
 }
 
 /// How many turns there are, for contracts: a type of `limits` says which are meant.
@@ -533,7 +551,7 @@ pub enum First<F, E> {
 
 /// The first turn, which is asked for and makes what is gathered.
 #[inline(always)]
-fn first_turn<G: Gather<P::Value>, Input: Stream, P: Turn<Input>, M: ParseMode>(
+fn first_turn<G: Begin<P::Value>, Input: Stream, P: Turn<Input>, M: ParseMode>(
     parser: &mut P,
     from: G::From,
     mode: M,
@@ -663,7 +681,7 @@ pub fn take_turns<G: Gather<P::Value>, Input: Stream, P: Turn<Input>, M: ParseMo
 
 /// One call of turns of which the first makes what is gathered, so that nothing is before it; it is asked for.
 #[inline(always)]
-pub fn take_joined<G: Gather<P::Value>, Input: Stream, P: Turn<Input>, M: ParseMode>(
+pub fn take_joined<G: Begin<P::Value>, Input: Stream, P: Turn<Input>, M: ParseMode>(
     parser: &mut P,
     from: G::From,
     mode: M,
@@ -683,12 +701,12 @@ pub fn take_joined<G: Gather<P::Value>, Input: Stream, P: Turn<Input>, M: ParseM
     ensures answers { AnswersCall Input.StreamOnce Input.Error.seen (fresh_turns P.Running.is_default) (turns_from Input.step Input.Error.seen (Bounds.Joined 1 None) P.ending (gathered G.held G.none G.more G.lean) (none_yet G.none) (P.meaning parser.old) (P.again parser.old)) (M.first mode) state.old state.new input.old input.new result }
     ensures refuses { ReasonedCall Input.Error.seen (turns_from Input.step Input.Error.seen (Bounds.Joined 1 None) P.ending (gathered G.held G.none G.more G.lean) (none_yet G.none) (P.meaning parser.old) (P.again parser.old)) (M.first mode) state.old (Input.view input.old) (Input.view input.new) result }
 {
-    let bounds = JoinedFrom { least: 1 };
+    let bounds = JoinedFrom::<1>;
     let mut turns: Turns<G::Into>;
     let given = state.hand_out(mode.is_first());
     match given {
         Earlier::Turns(kept) => {
-            match one_turn::<G, Input, P, JoinedFrom, Resumed<M>>(
+            match one_turn::<G, Input, P, JoinedFrom<1>, Resumed<M>>(
                 parser,
                 bounds,
                 Resumed { mode },
@@ -710,7 +728,7 @@ pub fn take_joined<G: Gather<P::Value>, Input: Stream, P: Turn<Input>, M: ParseM
         }
     }
     'turns: loop {
-        match one_turn::<G, Input, P, JoinedFrom, Afresh>(
+        match one_turn::<G, Input, P, JoinedFrom<1>, Afresh>(
             parser,
             bounds,
             Afresh { later: true },

@@ -61,7 +61,7 @@ impl<Input: Stream, P: Parser<Input>, S: Parser<Input>, F: Append<P::Output>> Pa
         state: &mut Self::PartialState,
     ) -> ParseResult<F, Input::Error> {
         let start = Turns::none_yet(F::empty(self.alloc));
-        let bounds = JoinedFrom { least: 0 };
+        let bounds = JoinedFrom::<0>;
         take_turns::<EachSome<F>, Input, Ended<P, S>, M, _>(
             &mut self.turn,
             bounds,
@@ -129,7 +129,7 @@ impl<Input: Stream, P: Parser<Input>, S: Parser<Input>, F: Append<P::Output>> Pa
         state: &mut Self::PartialState,
     ) -> ParseResult<F, Input::Error> {
         let start = Turns::none_yet(F::empty(self.alloc));
-        let bounds = JoinedFrom { least: 1 };
+        let bounds = JoinedFrom::<1>;
         take_turns::<EachSome<F>, Input, Ended<P, S>, M, _>(
             &mut self.turn,
             bounds,

@@ -1,9 +1,10 @@
 //! Bounds of turns: a type each, so that what some turns don't need isn't compiled with them.
 ghost use Rattle.std.specs.Prelude.{◌≡◌, ℕ};
 ghost use Rattle.combine_base.specs.Stream.View.{View, Takes};
-ghost use Rattle.combine_repeat_turns.specs.Bounded.{between, enough, goes_joined, joined_between, joined_from, takes_token};
+ghost use Rattle.combine_repeat_turns.specs.Bounded.{between, enough, goes_joined, joined_between, takes_token, up_to};
 
 use crate::turns::{Bounds, Place};
+use combine_base::error::ErrorOffset;
 use combine_base::stream::{Stream, has_taken};
 
 /// How many turns there are.
@@ -15,6 +16,9 @@ pub trait Bounded: Copy {
 
     /// What they are.
     ghost bounds: { Self → Bounds };
+
+    /// How many parsers such turns count as, where one counts as so many.
+    ghost counted: { ℕ → ℕ };
 
     /// How far turns are counted.
     fn limit(self) -> usize
@@ -41,6 +45,15 @@ pub trait Bounded: Copy {
         input: &Input,
     ) -> bool
         ensures { (n : ℕ) (v : View Input.Position Input.Token) → Input.stands input.now since v → Takes Input.step n v (Input.view input.now) → result ≡ goes_at (bounds self) place n committed };
+
+    /// Returns how many parsers such turns count as.
+    fn count(part: ErrorOffset) -> ErrorOffset
+        ensures { result.0 ≡ counted part.0 };
+
+    /// Returns for how many values room is asked for before the first turn: none, unless a type says another number.
+    fn room(self) -> usize {
+        0
+    }
 }
 
 /// Whether no turn is missing.
@@ -60,6 +73,8 @@ impl Bounded for AnyNumber {
     ghost use Rattle.combine_repeat_turns.specs.declared.turns.Bounds.TheVariants.{Any};
 
     ghost bounds = { λ _. Any };
+
+    ghost counted = { λ n. n };
 
     #[inline(always)]
     fn limit(self) -> usize {
@@ -90,6 +105,11 @@ impl Bounded for AnyNumber {
         input: &Input,
     ) -> bool {
         takes_token(place, committed, since, input)
+    }
+
+    #[inline]
+    fn count(part: ErrorOffset) -> ErrorOffset {
+        part
     }
 }
 
@@ -124,16 +144,19 @@ fn goes_joined<Input: Stream>(
 
 /// At least so many. The first is a part of its own: it may take nothing, and its refusal is the answer unless there need be none. Each later one takes a token.
 #[derive(Clone, Copy)]
-pub struct JoinedFrom {
-    pub least: usize,
-}
+pub struct JoinedFrom<const LEAST: usize>;
 
-impl Bounded for JoinedFrom {
-    ghost bounds = { joined_from };
+impl<const LEAST: usize> Bounded for JoinedFrom<LEAST> {
+    ghost use Rattle.std.specs.Prelude.{None};
+    ghost use Rattle.combine_repeat_turns.specs.declared.turns.Bounds.TheVariants.{Joined};
+
+    ghost bounds = { λ _. Joined LEAST None };
+
+    ghost counted = { λ n. n };
 
     #[inline(always)]
     fn limit(self) -> usize {
-        if self.least < 1 { 1 } else { self.least }
+        if LEAST < 1 { 1 } else { LEAST }
     }
 
     #[inline(always)]
@@ -143,7 +166,7 @@ impl Bounded for JoinedFrom {
 
     #[inline(always)]
     fn missing(self, place: Place) -> usize {
-        place.short_of(self.least)
+        place.short_of(LEAST)
     }
 
     #[inline(always)]
@@ -161,6 +184,11 @@ impl Bounded for JoinedFrom {
     ) -> bool {
         goes_joined(place, committed, since, input)
     }
+
+    #[inline]
+    fn count(part: ErrorOffset) -> ErrorOffset {
+        part
+    }
 }
 
 /// As `JoinedFrom`, and at most so many.
@@ -172,6 +200,8 @@ pub struct JoinedBetween {
 
 impl Bounded for JoinedBetween {
     ghost bounds = { joined_between };
+
+    ghost counted = { λ n. 1 };
 
     #[inline(always)]
     fn limit(self) -> usize {
@@ -203,6 +233,11 @@ impl Bounded for JoinedBetween {
     ) -> bool {
         goes_joined(place, committed, since, input)
     }
+
+    #[inline]
+    fn count(_part: ErrorOffset) -> ErrorOffset {
+        ErrorOffset(1)
+    }
 }
 
 /// At least and at most so many; they may take nothing.
@@ -214,6 +249,8 @@ pub struct Between {
 
 impl Bounded for Between {
     ghost bounds = { between };
+
+    ghost counted = { λ n. 1 };
 
     #[inline(always)]
     fn limit(self) -> usize {
@@ -244,5 +281,63 @@ impl Bounded for Between {
         input: &Input,
     ) -> bool {
         true
+    }
+
+    #[inline]
+    fn count(_part: ErrorOffset) -> ErrorOffset {
+        ErrorOffset(1)
+    }
+
+    #[inline(always)]
+    fn room(self) -> usize {
+        self.least
+    }
+}
+
+/// At most so many; they may take nothing.
+#[derive(Clone, Copy)]
+pub struct UpTo {
+    pub most: usize,
+}
+
+impl Bounded for UpTo {
+    ghost bounds = { up_to };
+
+    ghost counted = { λ n. 1 };
+
+    #[inline(always)]
+    fn limit(self) -> usize {
+        self.most
+    }
+
+    #[inline(always)]
+    fn is_full(self, place: Place) -> bool {
+        place.reaches(self.most)
+    }
+
+    #[inline(always)]
+    fn missing(self, place: Place) -> usize {
+        0
+    }
+
+    #[inline(always)]
+    fn owns(self, place: Place) -> bool {
+        false
+    }
+
+    #[inline(always)]
+    fn goes<Input: Stream>(
+        self,
+        place: Place,
+        committed: bool,
+        since: Input::Checkpoint,
+        input: &Input,
+    ) -> bool {
+        true
+    }
+
+    #[inline]
+    fn count(_part: ErrorOffset) -> ErrorOffset {
+        ErrorOffset(1)
     }
 }
