@@ -1,5 +1,5 @@
 -- what separators give, and turns that begin with it
-use Rattle.std.specs.Prelude.{ℕ, Bool, false}
+use Rattle.std.specs.Prelude.{ℕ, ◌≡◌, Bool, true, false, refl}
 use Rattle.std.proofs.Common.{sym, subst}
 use Rattle.combine_base.specs.Error.Errors.{Errors}
 use Rattle.combine_base.specs.Stream.View.{View}
@@ -10,7 +10,7 @@ use Rattle.combine_base.specs.Sequence.Joined.{joined}
 use Rattle.combine_base.specs.Sequence.Readings.{continues, following, sequel}
 use Rattle.combine_repeat_turns.specs.Turn.{TurnsGive}
 use Rattle.combine_repeat_sep.specs.Pair.{led_valid, pair, put_to}
-use Rattle.combine_repeat_sep.specs.Separated.{first_element, first_then, kept_reading, later_turn, lead_good, separated_valid, then_element, turn_place, valid_at}
+use Rattle.combine_repeat_sep.specs.Separated.{first_element, first_then, kept_reading, later_turn, lead_good, owed, separated_valid, then_element, turn_place, valid_at}
 use Rattle.combine_repeat_sep.specs.declared.pair.PairState.{PairState}
 use Rattle.combine_repeat_sep.specs.declared.pair.PairState.TheVariants.{Separator, Part}
 use Rattle.combine_repeat_sep.specs.declared.separated.TurnPlace.{TurnPlace}
@@ -75,6 +75,7 @@ module _ {P T R E O V W U : Type 0} (step : P → T → P) (errors : Errors T R 
       resting (First u) d = first (m.rest u)
       resting (Later z) d = later ((pair step errors s m).rest z) (pair_gives.rest z d)
 
--- where nothing is asked of what a separator gives
-pub any_given : {P T R E O W : Type 0} {valid : W → Type 0} {s : Meaning P T R E O W} → GivesOnly valid s (λ _. Unit {0})
-any_given = record { whole = record { one = λ v a n c w. tt }; rest = λ s k. record { one = λ v a n c w. tt } }
+-- what a separator gives is good: the turns owe it, or nothing is asked
+pub owed_gives : {P T R E O W : Type 0} {valid : W → Type 0} {s : Meaning P T R E O W} {good : O → Type 0} {rest : Type 0} (asks : Bool) → (asks ≡ false → (o : O) → good o) → owed asks (GivesOnly valid s good) rest → GivesOnly valid s good
+owed_gives true unasked l = l.0
+owed_gives false unasked l = record { whole = record { one = λ v a n c w. unasked refl a }; rest = λ s k. record { one = λ v a n c w. unasked refl a } }

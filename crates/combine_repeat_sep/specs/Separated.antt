@@ -1,5 +1,5 @@
 -- a first part, and then turns of another parser
-use Rattle.std.specs.Prelude.{false, ◌↔◌}
+use Rattle.std.specs.Prelude.{◌≡◌, Bool, true, false, ◌↔◌}
 use Rattle.combine_base.specs.Stream.View.{View}
 use Rattle.combine_base.specs.Parser.Outcome.{Outcome}
 use Rattle.combine_base.specs.Parser.Meaning.{Meaning, Reading, Refusing, SameReasons, IsReading, IsMeaning, MeansOne, MeansSame}
@@ -22,16 +22,31 @@ part_of p = p.parser
 abbrev pub separator_of : {X Y K : Type 0} → Separated X Y K → Y
 separator_of p = p.separator
 
+abbrev pub separated_of : {X Y K : Type 0} → X → Y → Separated X Y K
+separated_of parser separator = record { parser = parser; separator = separator; asks = record {} }
+
+-- what turns owe: that the separator gives what is asked of it, if anything is, and what their parts owe
+abbrev pub owed : Bool → Type 0 → Type 0 → Type 0
+owed true gives rest = gives × rest
+owed false gives rest = rest
+
+pub owed_rest : (asks : Bool) {gives rest : Type 0} → owed asks gives rest → rest
+owed_rest true l = l.1
+owed_rest false l = l
+
+pub owes : (asks : Bool) {gives rest : Type 0} → gives → rest → owed asks gives rest
+owes true g l = (g, l)
+owes false g l = l
+
+pub true_is_false : {A : Type 0} → true ≡ false → A
+true_is_false e = absurd (cc)
+
 -- the first element, and a later one with what its separator gave
 abbrev pub first_element : {O V : Type 0} → V → Element O V
 first_element v = First v
 
 abbrev pub then_element : {O V : Type 0} → O × V → Element O V
 then_element t = Then t.0 t.1
-
--- nothing is asked of what a separator gives
-abbrev pub any_lead : {O : Type 0} → O → Type 0
-any_lead o = Unit {0}
 
 -- what the separator of a later element gave is good
 abbrev pub lead_good : {O V : Type 0} → (O → Type 0) → Element O V → Type 0

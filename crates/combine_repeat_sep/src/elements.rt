@@ -2,23 +2,43 @@
 ghost use Rattle.std.specs.Prelude.{◌≡◌};
 ghost use Rattle.combine_repeat_sep.specs.Elements.{each_element, folds};
 ghost use Rattle.combine_repeat_sep.specs.Separated.{lead_good};
+ghost use Rattle.combine_repeat_sep.specs.SeparatedParsers.{each_element_from};
 ghost use Rattle.combine_repeat_turns.specs.Sound.{any_sound};
 
 use crate::separated::{Element, Folds};
+use combine_base::error::ErrorOffset;
 use combine_base::repeat::Append;
+use combine_repeat_turns::repetition::Collect;
 use combine_repeat_turns::turns::{Begin, Gather, Makes};
-use std::alloc::AllocError;
+use std::alloc::{AllocError, Global};
 use std::marker::PhantomData;
 
 /// Each element is appended; what its separator gave is dropped.
 #[derive(Drop)]
-pub struct EachElement<F>(PhantomData<F>);
+#[derive_where(Clone, Copy)]
+pub struct EachElement<F> {
+    alloc: Global,
+    into: PhantomData<F>,
+}
+
+impl<F> EachElement<F> {
+    /// Appends the elements to a collection that has its memory from this allocator.
+    #[inline]
+    pub fn from(alloc: Global) -> EachElement<F>
+        ensures { result ≡ each_element_from alloc }
+    {
+        EachElement {
+            alloc,
+            into: PhantomData,
+        }
+    }
+}
 
 impl<F: Drop> Makes for EachElement<F> {
     type Into = F;
 }
 
-impl<O: Drop, A: Drop, F: Append<A>> Gather<Element<O, A>> for EachElement<F> {
+impl<O: Drop, A, F: Append<A>> Gather<Element<O, A>> for EachElement<F> {
     ghost Held = { F.Held };
 
     ghost held = { F.held };
@@ -49,6 +69,22 @@ impl<O: Drop, A: Drop, F: Append<A>> Gather<Element<O, A>> for EachElement<F> {
     }
 
     ghost keeps_sound = { any_sound };
+}
+
+impl<O: Drop, A, F: Append<A>> Collect<Element<O, A>> for EachElement<F> {
+    ghost counted = { λ n. n };
+
+    #[inline(always)]
+    fn start(&self, begins: bool, values: usize) -> Result<F, AllocError> {
+        Ok(F::empty(self.alloc))
+    }
+
+    #[inline]
+    fn count(part: ErrorOffset) -> ErrorOffset {
+        part
+    }
+
+    ghost takes_any = { λ _. tt };
 }
 
 /// Elements folded from the left, by what the separators gave.

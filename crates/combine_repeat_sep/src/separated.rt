@@ -5,9 +5,9 @@ ghost use Rattle.combine_base.specs.Parser.Given.{GivesOnly};
 ghost use Rattle.combine_base.specs.Parser.Meaning.{MeansSame};
 ghost use Rattle.combine_base.specs.Stream.Calls.{Passes};
 ghost use Rattle.combine_repeat_sep.specs.Pair.{LedBy, led_is_meaning, led_means_one, led_valid, pair, pair_begins, pair_is_meaning, pair_means_one, pair_valid};
-ghost use Rattle.combine_repeat_sep.specs.Leads.{separated_gives};
+ghost use Rattle.combine_repeat_sep.specs.Leads.{owed_gives, separated_gives};
 ghost use Rattle.combine_repeat_sep.specs.Placed.{Ran};
-ghost use Rattle.combine_repeat_sep.specs.Separated.{first_element, first_then, later_kept, later_turn, lead_good, part_of, separated_default, separated_fresh, separated_valid, separator_of, then_element, then_is_turn, then_once, turn_place};
+ghost use Rattle.combine_repeat_sep.specs.Separated.{first_element, first_then, later_kept, later_turn, lead_good, owed, owed_rest, part_of, separated_default, separated_fresh, separated_of, separated_valid, separator_of, then_element, then_is_turn, then_once, true_is_false, turn_place};
 
 use crate::pair::{PairState, PairStateOf, parse_pair};
 use combine_base::error::{ErrorOffset, ParseResult, Tracked};
@@ -113,7 +113,14 @@ impl<V, F: FnOnce(V, V) -> V> Folds<V> for F {
 
 /// What is asked of each value that a separator gives, between values of this type.
 pub trait Leads<O, V> {
+    ghost use Rattle.std.specs.Prelude.{◌≡◌, Bool, false};
+
     ghost good: { O → Type 0 };
+
+    /// Whether anything is asked.
+    ghost asks: { Bool };
+
+    ghost unasked: { asks ≡ false → (o : O) → good o };
 }
 
 /// Nothing is asked of it.
@@ -122,6 +129,10 @@ pub struct Anything;
 
 impl<O, V> Leads<O, V> for Anything {
     ghost good = { λ _. Unit {0} };
+
+    ghost asks = { false };
+
+    ghost unasked = { λ e o. tt };
 }
 
 /// It is a function that can be called on any two operands.
@@ -130,6 +141,10 @@ pub struct Operator;
 
 impl<O: Folds<V> + Drop, V: Drop> Leads<O, V> for Operator {
     ghost good = { λ f. O.callable f };
+
+    ghost asks = { true };
+
+    ghost unasked = { λ e o. true_is_false e };
 }
 
 /// A part, and later a separator and the part, where the separator gives what `L` asks for.
@@ -139,6 +154,20 @@ pub struct Separated<P, S, L> {
     pub parser: P,
     pub separator: S,
     pub asks: PhantomData<L>,
+}
+
+impl<P, S, L> Separated<P, S, L> {
+    /// Returns the turns of these parts.
+    #[inline]
+    pub fn new(parser: P, separator: S) -> Separated<P, S, L>
+        ensures { result ≡ separated_of parser separator }
+    {
+        Separated {
+            parser,
+            separator,
+            asks: PhantomData,
+        }
+    }
 }
 
 /// Runs the first part, from what is kept of it.
@@ -222,7 +251,7 @@ impl<Input: Stream, P: Parser<Input>, S: Parser<Input>, L: Leads<S::Output, P::O
     for Separated<P, S, L> {
     type Running = SeparatedState<S::Output, S::PartialState, P::PartialState>;
 
-    ghost lawful = { λ p. GivesOnly S.valid (S.meaning (separator_of p)) L.good × S.lawful (separator_of p) × P.lawful (part_of p) };
+    ghost lawful = { λ p. owed L.asks (GivesOnly S.valid (S.meaning (separator_of p)) L.good) (S.lawful (separator_of p) × P.lawful (part_of p)) };
 
     ghost determined = { λ p. S.determined (separator_of p) × P.determined (part_of p) };
 
@@ -291,9 +320,9 @@ impl<Input: Stream, P: Parser<Input>, S: Parser<Input>, L: Leads<S::Output, P::O
 
     ghost default_valid = { λ s d. separated_default P.PartialState.is_default P.valid (led_valid L.good S.valid P.valid) P.default_valid s d };
 
-    ghost laws = { λ p l. then_is_turn first_element then_element (P.laws (part_of p) l.2) (led_is_meaning L.good S.valid P.valid (pair_is_meaning Input.step Input.Error.seen (S.laws (separator_of p) l.1) (P.laws (part_of p) l.2))) };
+    ghost laws = { λ p l. then_is_turn first_element then_element (P.laws (part_of p) (owed_rest L.asks l).1) (led_is_meaning L.good S.valid P.valid (pair_is_meaning Input.step Input.Error.seen (S.laws (separator_of p) (owed_rest L.asks l).0) (P.laws (part_of p) (owed_rest L.asks l).1))) };
 
-    ghost once = { λ p l d. then_once first_element then_element (P.single (part_of p) l.2 d.1) (led_means_one L.good S.valid P.valid (pair_means_one Input.step Input.Error.seen (S.single (separator_of p) l.1 d.0) (P.single (part_of p) l.2 d.1))) };
+    ghost once = { λ p l d. then_once first_element then_element (P.single (part_of p) (owed_rest L.asks l).1 d.1) (led_means_one L.good S.valid P.valid (pair_means_one _ Input.Error.seen (S.single (separator_of p) (owed_rest L.asks l).0 d.0) (P.single (part_of p) (owed_rest L.asks l).1 d.1))) };
 
-    ghost gives_only = { λ p l. separated_gives Input.step Input.Error.seen P.valid (P.meaning (part_of p)) l.0 };
+    ghost gives_only = { λ p l. separated_gives Input.step Input.Error.seen P.valid (P.meaning (part_of p)) (owed_gives L.asks L.unasked l) };
 }

@@ -6,7 +6,8 @@ ghost use Rattle.combine_base.specs.Stream.Calls.{Passes};
 ghost use Rattle.combine_repeat_sep.specs.Pair.{pair, pair_begins, pair_is_meaning, pair_valid};
 ghost use Rattle.combine_repeat_sep.specs.Placed.{Ran};
 ghost use Rattle.combine_repeat_sep.specs.Separated.{first_then, later_kept, later_turn, separated_default, separated_valid, then_is_turn};
-ghost use Rattle.combine_repeat_sep_end.specs.Ended.{closer_of, ended_once, ended_part, is_none, last, some_more, some_of, within};
+ghost use Rattle.combine_repeat_sep_end.specs.Ended.{closer_of, ended_of, ended_once, ended_part, is_none, last, some_more, some_of, within};
+ghost use Rattle.combine_repeat_sep_end.specs.SepEndParsers.{each_some_from};
 ghost use Rattle.combine_token.specs.Optional.{optional, optional_is_meaning};
 ghost use Rattle.combine_repeat_turns.specs.Sound.{any_sound};
 ghost use Rattle.combine_repeat_turns.specs.Turn.{gives_any};
@@ -17,22 +18,54 @@ use combine_base::repeat::Append;
 use combine_base::stream::{Stream, needs_more};
 use combine_repeat_sep::pair::{PairState, PairStateOf, parse_pair};
 use combine_repeat_sep::separated::{Lead, SeparatedState, TurnPlace};
+use combine_repeat_turns::repetition::Collect;
 use combine_repeat_turns::turns::{Gather, Makes, Turn, Values};
+use combine_token::choice::optional;
 use combine_token::choice::types::Optional;
-use std::alloc::AllocError;
+use std::alloc::{AllocError, Global};
 use std::marker::PhantomData;
 use std::mem;
 
 /// A part, and later a separator and the part, or a separator alone, which ends the turns.
 #[derive(Clone, Copy, Drop)]
 pub struct Ended<P, S> {
-    pub(crate) part: Optional<P>,
-    pub(crate) separator: S,
+    part: Optional<P>,
+    separator: S,
+}
+
+impl<P, S> Ended<P, S> {
+    /// Returns the turns of these parts.
+    #[inline]
+    pub fn new(parser: P, separator: S) -> Ended<P, S>
+        ensures { result ≡ ended_of parser separator }
+    {
+        Ended {
+            part: optional(parser),
+            separator,
+        }
+    }
 }
 
 /// Each value that there is is appended.
 #[derive(Drop)]
-pub struct EachSome<F>(PhantomData<F>);
+#[derive_where(Clone, Copy)]
+pub struct EachSome<F> {
+    alloc: Global,
+    into: PhantomData<F>,
+}
+
+impl<F> EachSome<F> {
+    /// Appends the values to a collection that has its memory from this allocator.
+    #[inline]
+    pub fn from(alloc: Global) -> EachSome<F>
+        ensures { result ≡ each_some_from alloc }
+    {
+        EachSome {
+            alloc,
+            into: PhantomData,
+        }
+    }
+}
 
 impl<F: Drop> Makes for EachSome<F> {
     type Into = F;
@@ -66,6 +99,22 @@ impl<A: Drop, F: Append<A>> Gather<Option<A>> for EachSome<F> {
     }
 
     ghost keeps_sound = { any_sound };
+}
+
+impl<A: Drop, F: Append<A>> Collect<Option<A>> for EachSome<F> {
+    ghost counted = { λ n. n };
+
+    #[inline(always)]
+    fn start(&self, begins: bool, values: usize) -> Result<F, AllocError> {
+        Ok(F::empty(self.alloc))
+    }
+
+    #[inline]
+    fn count(part: ErrorOffset) -> ErrorOffset {
+        part
+    }
+
+    ghost takes_any = { λ _. tt };
 }
 
 /// Runs the first part, from what is kept of it.

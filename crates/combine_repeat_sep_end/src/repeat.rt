@@ -8,12 +8,13 @@
 ghost use Rattle.std.specs.Prelude.{◌≡◌};
 ghost use Rattle.combine_repeat_sep_end.specs.SepEndParsers.{sep_end_by_of, sep_end_by1_of};
 
+pub mod laws;
 pub mod types;
 
-use crate::ended::Ended;
-use combine_token::choice::optional;
+use crate::ended::{EachSome, Ended};
+use combine_repeat_turns::repetition::Repeat;
+use combine_repeat_turns::turns::limits::JoinedFrom;
 use std::alloc::Global;
-use std::marker::PhantomData;
 use types::{SepEndBy, SepEndBy1};
 
 /// Takes elements as `sep_end_by1` does, or none: where the first is refused peeked, it is put back, and the answer is the empty collection, accepted peeked.
@@ -21,14 +22,11 @@ use types::{SepEndBy, SepEndBy1};
 pub fn sep_end_by<F, P, S>(alloc: Global, parser: P, separator: S) -> SepEndBy<F, P, S>
     ensures { result ≡ sep_end_by_of alloc parser separator }
 {
-    SepEndBy {
-        alloc,
-        turn: Ended {
-            part: optional(parser),
-            separator,
-        },
-        collects: PhantomData,
-    }
+    Repeat::new(
+        EachSome::from(alloc),
+        Ended::new(parser, separator),
+        JoinedFrom,
+    )
 }
 
 /// Takes at least one element, which are `parser`'s, with what `separator` takes between two of them and perhaps behind the last.
@@ -38,12 +36,9 @@ pub fn sep_end_by<F, P, S>(alloc: Global, parser: P, separator: S) -> SepEndBy<F
 pub fn sep_end_by1<F, P, S>(alloc: Global, parser: P, separator: S) -> SepEndBy1<F, P, S>
     ensures { result ≡ sep_end_by1_of alloc parser separator }
 {
-    SepEndBy1 {
-        alloc,
-        turn: Ended {
-            part: optional(parser),
-            separator,
-        },
-        collects: PhantomData,
-    }
+    Repeat::new(
+        EachSome::from(alloc),
+        Ended::new(parser, separator),
+        JoinedFrom,
+    )
 }

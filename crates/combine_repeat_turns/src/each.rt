@@ -103,7 +103,7 @@ impl<F: Drop> Makes for Each<F> {
     type Into = F;
 }
 
-impl<A: Drop, F: Append<A>> Gather<A> for Each<F> {
+impl<A, F: Append<A>> Gather<A> for Each<F> {
     ghost Held = { F.Held };
 
     ghost held = { F.held };
@@ -128,7 +128,7 @@ impl<A: Drop, F: Append<A>> Gather<A> for Each<F> {
     ghost keeps_sound = { any_sound };
 }
 
-impl<A: Drop, F: Append<A>> Collect<A> for Each<F> {
+impl<A, F: Append<A>> Collect<A> for Each<F> {
     ghost counted = { λ n. n };
 
     #[inline(always)]

@@ -86,11 +86,13 @@ impl Bounded for AnyNumber {
         false
     }
 
+    /// No turn is asked for.
     #[inline(always)]
     fn missing(self, place: Place) -> usize {
         0
     }
 
+    /// No turn is a part of its own.
     #[inline(always)]
     fn owns(self, place: Place) -> bool {
         false
@@ -317,7 +319,7 @@ impl Bounded for UpTo {
 
     #[inline(always)]
     fn missing(self, place: Place) -> usize {
-        0
+        place.short_of(0)
     }
 
     #[inline(always)]
