@@ -76,6 +76,6 @@ module _ {P T R E O V W U : Type 0} (step : P → T → P) (errors : Errors T R 
       resting (Later z) d = later ((pair step errors s m).rest z) (pair_gives.rest z d)
 
 -- what a separator gives is good: the turns owe it, or nothing is asked
-pub owed_gives : {P T R E O W : Type 0} {valid : W → Type 0} {s : Meaning P T R E O W} {good : O → Type 0} {rest : Type 0} (asks : Bool) → (asks ≡ false → (o : O) → good o) → owed asks (GivesOnly valid s good) rest → GivesOnly valid s good
-owed_gives true unasked l = l.0
-owed_gives false unasked l = record { whole = record { one = λ v a n c w. unasked refl a }; rest = λ s k. record { one = λ v a n c w. unasked refl a } }
+pub owed_gives : {P T R E O W : Type 0} (asks : Bool) (good : O → Type 0) → (asks ≡ false → (o : O) → good o) → (valid : W → Type 0) (s : Meaning P T R E O W) (rest : Type 0) → owed asks (GivesOnly valid s good) rest → GivesOnly valid s good
+owed_gives true good unasked valid s rest l = l.0
+owed_gives false good unasked valid s rest l = record { whole = record { one = λ v a n c w. unasked refl a }; rest = λ z k. record { one = λ v a n c w. unasked refl a } }

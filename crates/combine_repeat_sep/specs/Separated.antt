@@ -30,9 +30,9 @@ abbrev pub owed : Bool → Type 0 → Type 0 → Type 0
 owed true gives rest = gives × rest
 owed false gives rest = rest
 
-pub owed_rest : (asks : Bool) {gives rest : Type 0} → owed asks gives rest → rest
-owed_rest true l = l.1
-owed_rest false l = l
+pub owed_rest : (asks : Bool) (gives rest : Type 0) → owed asks gives rest → rest
+owed_rest true gives rest l = l.1
+owed_rest false gives rest l = l
 
 pub owes : (asks : Bool) {gives rest : Type 0} → gives → rest → owed asks gives rest
 owes true g l = (g, l)

@@ -4,10 +4,11 @@ ghost use Rattle.combine_base.specs.Parser.Answer.{world};
 ghost use Rattle.combine_base.specs.Parser.Given.{GivesOnly};
 ghost use Rattle.combine_base.specs.Parser.Meaning.{MeansSame};
 ghost use Rattle.combine_base.specs.Stream.Calls.{Passes};
-ghost use Rattle.combine_repeat_sep.specs.Pair.{LedBy, led_is_meaning, led_means_one, led_valid, pair, pair_begins, pair_is_meaning, pair_means_one, pair_valid};
+ghost use Rattle.combine_repeat_sep.specs.Pair.{LedBy, led_valid, pair, pair_begins, pair_valid};
+ghost use Rattle.combine_repeat_sep.specs.JoinedLaws.{separated_is_turn, separated_once};
 ghost use Rattle.combine_repeat_sep.specs.Leads.{owed_gives, separated_gives};
 ghost use Rattle.combine_repeat_sep.specs.Placed.{Ran};
-ghost use Rattle.combine_repeat_sep.specs.Separated.{first_element, first_then, later_kept, later_turn, lead_good, owed, owed_rest, part_of, separated_default, separated_fresh, separated_of, separated_valid, separator_of, then_element, then_is_turn, then_once, true_is_false, turn_place};
+ghost use Rattle.combine_repeat_sep.specs.Separated.{first_element, first_then, later_kept, later_turn, lead_good, owed, part_of, separated_default, separated_fresh, separated_of, separated_valid, separator_of, then_element, true_is_false, turn_place};
 
 use crate::pair::{PairState, PairStateOf, parse_pair};
 use combine_base::error::{ErrorOffset, ParseResult, Tracked};
@@ -320,9 +321,9 @@ impl<Input: Stream, P: Parser<Input>, S: Parser<Input>, L: Leads<S::Output, P::O
 
     ghost default_valid = { λ s d. separated_default P.PartialState.is_default P.valid (led_valid L.good S.valid P.valid) P.default_valid s d };
 
-    ghost laws = { λ p l. then_is_turn first_element then_element (P.laws (part_of p) (owed_rest L.asks l).1) (led_is_meaning L.good S.valid P.valid (pair_is_meaning Input.step Input.Error.seen (S.laws (separator_of p) (owed_rest L.asks l).0) (P.laws (part_of p) (owed_rest L.asks l).1))) };
+    ghost laws = { λ p l. separated_is_turn L.asks L.good Input.step Input.Error.seen (S.laws (separator_of p)) (P.laws (part_of p)) l };
 
-    ghost once = { λ p l d. then_once first_element then_element (P.single (part_of p) (owed_rest L.asks l).1 d.1) (led_means_one L.good S.valid P.valid (pair_means_one _ Input.Error.seen (S.single (separator_of p) (owed_rest L.asks l).0 d.0) (P.single (part_of p) (owed_rest L.asks l).1 d.1))) };
+    ghost once = { λ p l d. separated_once L.asks L.good Input.step Input.Error.seen (S.single (separator_of p)) (P.single (part_of p)) l d };
 
-    ghost gives_only = { λ p l. separated_gives Input.step Input.Error.seen P.valid (P.meaning (part_of p)) (owed_gives L.asks L.unasked l) };
+    ghost gives_only = { λ p l. separated_gives Input.step Input.Error.seen P.valid (P.meaning (part_of p)) (owed_gives L.asks L.good L.unasked S.valid (S.meaning (separator_of p)) (S.lawful (separator_of p) × P.lawful (part_of p)) l) };
 }

@@ -2,6 +2,7 @@ use Rattle.std.proofs.Common.{ap, sym, subst, ◌∙◌}
 use Rattle.combine_base.proofs.Giving.{gives_same}
 use Rattle.combine_repeat_sep.specs.Pair.{pair, pair_begins, pair_is_meaning, pair_means_same, led_valid}
 use Rattle.combine_base.proofs.Same.{same_none}
+use Rattle.combine_base.specs.Parser.Given.{GivesOnly}
 use Rattle.combine_repeat_sep.specs.Separated.{first_element, owed_rest, owes, part_of, separated_default, separated_valid, separator_of, then_element, then_same, turn_place, valid_at}
 use Rattle.combine_repeat_sep.specs.Leads.{owed_gives}
 use Rattle.combine_repeat_sep.proofs.Leading.{begins_led, led_good}
@@ -9,16 +10,25 @@ use Rattle.combine_repeat_sep.proofs.Separating.{ran_valid, first_afresh, first_
 use Rattle.combine_repeat_sep.proofs.separated.SeparatedTurn.parse_turn.Goals as goal
 
 pub returns-then-later-clause-valid : goal.returns-then-later-clause-valid
-returns-then-later-clause-valid g c = ran_valid _ _ _ _ _ (separated_valid g.P.Parser.valid (led_valid g.L.Leads.good g.S.Parser.valid g.P.Parser.valid)) (λ s d. later_valid g.P.Parser.valid (led_valid g.L.Leads.good g.S.Parser.valid g.P.Parser.valid) s (led_good (owed_gives g.L.Leads.asks g.L.Leads.unasked c.requires.lawful) g.P.Parser.valid _ s (begins_led g.L.Leads.good g.P.Parser.valid g.met.S.Parser.default_valid _ c.default-kept.ensures) d.0, d.1)) (separated_default g.P.PartialState.Default.is_default g.P.Parser.valid (led_valid g.L.Leads.good g.S.Parser.valid g.P.Parser.valid) g.met.P.Parser.default_valid _ c.take-given.ensures.after) c.run_later.ensures.ran
+returns-then-later-clause-valid g c =
+    let rest = (g.S.Parser.lawful (separator_of c.args.self.now) × g.P.Parser.lawful (part_of c.args.self.now)) in
+    let given = owed_gives g.L.Leads.asks g.L.Leads.good g.L.Leads.unasked g.S.Parser.valid (g.S.Parser.meaning (separator_of c.args.self.now)) rest c.requires.lawful in
+    ran_valid _ _ _ _ _ (separated_valid g.P.Parser.valid (led_valid g.L.Leads.good g.S.Parser.valid g.P.Parser.valid)) (λ s d. later_valid g.P.Parser.valid (led_valid g.L.Leads.good g.S.Parser.valid g.P.Parser.valid) s (led_good given g.P.Parser.valid _ s (begins_led g.L.Leads.good g.P.Parser.valid g.met.S.Parser.default_valid _ c.default-kept.ensures) d.0, d.1)) (separated_default g.P.PartialState.Default.is_default g.P.Parser.valid (led_valid g.L.Leads.good g.S.Parser.valid g.P.Parser.valid) g.met.P.Parser.default_valid _ c.take-given.ensures.after) c.run_later.ensures.ran
 
 pub returns-then-later-clause-same : goal.returns-then-later-clause-same
 returns-then-later-clause-same g c = then_same _ _ _ _ _ _ c.run_later.ensures.parts.1 c.run_later.ensures.same
 
 pub returns-then-later-clause-answers : goal.returns-then-later-clause-answers
-returns-then-later-clause-answers g c = later_afresh _ (pair_begins g.S.PartialState.Default.is_default) (g.P.Parser.meaning (part_of c.args.self.now)) (pair g.Input.StreamOnce.step g.Input.Error.ParseError.seen (g.S.Parser.meaning (separator_of c.args.self.now)) (g.P.Parser.meaning (part_of c.args.self.now))) first_element then_element _ _ c.take-given.ensures.after _ _ _ _ _ _ _ (pair_is_meaning _ _ (g.met.S.Parser.laws _ (owed_rest g.L.Leads.asks c.requires.lawful).0) (g.met.P.Parser.laws _ (owed_rest g.L.Leads.asks c.requires.lawful).1)) _ _ _ _ c.default-kept.ensures (sym c.is_first.ensures ∙ c.if-is_first.true) c.if-later.true c.run_later.ensures.ran
+returns-then-later-clause-answers g c =
+    let rest = (g.S.Parser.lawful (separator_of c.args.self.now) × g.P.Parser.lawful (part_of c.args.self.now)) in
+    let parts = owed_rest g.L.Leads.asks (GivesOnly g.S.Parser.valid (g.S.Parser.meaning (separator_of c.args.self.now)) g.L.Leads.good) rest c.requires.lawful in
+    later_afresh _ (pair_begins g.S.PartialState.Default.is_default) (g.P.Parser.meaning (part_of c.args.self.now)) (pair g.Input.StreamOnce.step g.Input.Error.ParseError.seen (g.S.Parser.meaning (separator_of c.args.self.now)) (g.P.Parser.meaning (part_of c.args.self.now))) first_element then_element _ _ c.take-given.ensures.after _ _ _ _ _ _ _ (pair_is_meaning _ _ (g.met.S.Parser.laws _ parts.0) (g.met.P.Parser.laws _ parts.1)) _ _ _ _ c.default-kept.ensures (sym c.is_first.ensures ∙ c.if-is_first.true) c.if-later.true c.run_later.ensures.ran
 
 pub returns-then-later-clause-refuses : goal.returns-then-later-clause-refuses
-returns-then-later-clause-refuses g c = later_afresh_reasons _ (pair_begins g.S.PartialState.Default.is_default) (g.P.Parser.meaning (part_of c.args.self.now)) (pair g.Input.StreamOnce.step g.Input.Error.ParseError.seen (g.S.Parser.meaning (separator_of c.args.self.now)) (g.P.Parser.meaning (part_of c.args.self.now))) first_element then_element _ _ c.take-given.ensures.after _ _ _ _ _ _ _ (pair_is_meaning _ _ (g.met.S.Parser.laws _ (owed_rest g.L.Leads.asks c.requires.lawful).0) (g.met.P.Parser.laws _ (owed_rest g.L.Leads.asks c.requires.lawful).1)) _ _ _ _ c.default-kept.ensures (sym c.is_first.ensures ∙ c.if-is_first.true) c.if-later.true c.run_later.ensures.ran
+returns-then-later-clause-refuses g c =
+    let rest = (g.S.Parser.lawful (separator_of c.args.self.now) × g.P.Parser.lawful (part_of c.args.self.now)) in
+    let parts = owed_rest g.L.Leads.asks (GivesOnly g.S.Parser.valid (g.S.Parser.meaning (separator_of c.args.self.now)) g.L.Leads.good) rest c.requires.lawful in
+    later_afresh_reasons _ (pair_begins g.S.PartialState.Default.is_default) (g.P.Parser.meaning (part_of c.args.self.now)) (pair g.Input.StreamOnce.step g.Input.Error.ParseError.seen (g.S.Parser.meaning (separator_of c.args.self.now)) (g.P.Parser.meaning (part_of c.args.self.now))) first_element then_element _ _ c.take-given.ensures.after _ _ _ _ _ _ _ (pair_is_meaning _ _ (g.met.S.Parser.laws _ parts.0) (g.met.P.Parser.laws _ parts.1)) _ _ _ _ c.default-kept.ensures (sym c.is_first.ensures ∙ c.if-is_first.true) c.if-later.true c.run_later.ensures.ran
 
 pub returns-then-is_first-clause-valid : goal.returns-then-is_first-clause-valid
 returns-then-is_first-clause-valid g c = ran_valid _ _ _ _ _ (separated_valid g.P.Parser.valid (led_valid g.L.Leads.good g.S.Parser.valid g.P.Parser.valid)) (λ s v. v) (separated_default g.P.PartialState.Default.is_default g.P.Parser.valid (led_valid g.L.Leads.good g.S.Parser.valid g.P.Parser.valid) g.met.P.Parser.default_valid _ c.take-given.ensures.after) c.run_first.ensures.ran
@@ -45,7 +55,10 @@ pub returns-in-First-clause-refuses : goal.returns-in-First-clause-refuses
 returns-in-First-clause-refuses g c = first_resumed_reasons _ (pair_begins g.S.PartialState.Default.is_default) (g.P.Parser.meaning (part_of c.args.self.now)) (pair g.Input.StreamOnce.step g.Input.Error.ParseError.seen (g.S.Parser.meaning (separator_of c.args.self.now)) (g.P.Parser.meaning (part_of c.args.self.now))) first_element then_element _ _ c.take-given.ensures.after _ _ _ _ _ _ _ _ _ _ (sym c.is_first.ensures ∙ c.if-is_first.false) (rw (sym c.take-given.ensures.value) (sym c.into_place.ensures ∙ c.in-First.is)) c.run_first-in-First.ensures.ran
 
 pub returns-in-Later-clause-valid : goal.returns-in-Later-clause-valid
-returns-in-Later-clause-valid g c = ran_valid _ _ _ _ _ (separated_valid g.P.Parser.valid (led_valid g.L.Leads.good g.S.Parser.valid g.P.Parser.valid)) (λ s d. later_valid g.P.Parser.valid (led_valid g.L.Leads.good g.S.Parser.valid g.P.Parser.valid) s (led_good (owed_gives g.L.Leads.asks g.L.Leads.unasked c.requires.lawful) g.P.Parser.valid _ s (subst (valid_at g.P.Parser.valid (led_valid g.L.Leads.good g.S.Parser.valid g.P.Parser.valid)) (ap turn_place (sym c.take-given.ensures.value) ∙ sym c.into_place.ensures ∙ c.in-Later.is) c.requires.valid) d.0, d.1)) (separated_default g.P.PartialState.Default.is_default g.P.Parser.valid (led_valid g.L.Leads.good g.S.Parser.valid g.P.Parser.valid) g.met.P.Parser.default_valid _ c.take-given.ensures.after) c.run_later-in-Later.ensures.ran
+returns-in-Later-clause-valid g c =
+    let rest = (g.S.Parser.lawful (separator_of c.args.self.now) × g.P.Parser.lawful (part_of c.args.self.now)) in
+    let given = owed_gives g.L.Leads.asks g.L.Leads.good g.L.Leads.unasked g.S.Parser.valid (g.S.Parser.meaning (separator_of c.args.self.now)) rest c.requires.lawful in
+    ran_valid _ _ _ _ _ (separated_valid g.P.Parser.valid (led_valid g.L.Leads.good g.S.Parser.valid g.P.Parser.valid)) (λ s d. later_valid g.P.Parser.valid (led_valid g.L.Leads.good g.S.Parser.valid g.P.Parser.valid) s (led_good given g.P.Parser.valid _ s (subst (valid_at g.P.Parser.valid (led_valid g.L.Leads.good g.S.Parser.valid g.P.Parser.valid)) (ap turn_place (sym c.take-given.ensures.value) ∙ sym c.into_place.ensures ∙ c.in-Later.is) c.requires.valid) d.0, d.1)) (separated_default g.P.PartialState.Default.is_default g.P.Parser.valid (led_valid g.L.Leads.good g.S.Parser.valid g.P.Parser.valid) g.met.P.Parser.default_valid _ c.take-given.ensures.after) c.run_later-in-Later.ensures.ran
 
 pub returns-in-Later-clause-same : goal.returns-in-Later-clause-same
 returns-in-Later-clause-same g c = then_same _ _ _ _ _ _ c.run_later-in-Later.ensures.parts.1 c.run_later-in-Later.ensures.same
@@ -57,10 +70,16 @@ pub returns-in-Later-clause-refuses : goal.returns-in-Later-clause-refuses
 returns-in-Later-clause-refuses g c = later_resumed_reasons _ (pair_begins g.S.PartialState.Default.is_default) (g.P.Parser.meaning (part_of c.args.self.now)) (pair g.Input.StreamOnce.step g.Input.Error.ParseError.seen (g.S.Parser.meaning (separator_of c.args.self.now)) (g.P.Parser.meaning (part_of c.args.self.now))) first_element then_element _ _ c.take-given.ensures.after _ _ _ _ _ _ _ _ _ _ (sym c.is_first.ensures ∙ c.if-is_first.false) (rw (sym c.take-given.ensures.value) (sym c.into_place.ensures ∙ c.in-Later.is)) c.run_later-in-Later.ensures.ran
 
 pub returns-then-later-clause-lawful : goal.returns-then-later-clause-lawful
-returns-then-later-clause-lawful g c = owes g.L.Leads.asks (gives_same c.run_later.ensures.parts.0 (owed_gives g.L.Leads.asks g.L.Leads.unasked c.requires.lawful)) c.run_later.ensures.lawful
+returns-then-later-clause-lawful g c =
+    let rest = (g.S.Parser.lawful (separator_of c.args.self.now) × g.P.Parser.lawful (part_of c.args.self.now)) in
+    let given = owed_gives g.L.Leads.asks g.L.Leads.good g.L.Leads.unasked g.S.Parser.valid (g.S.Parser.meaning (separator_of c.args.self.now)) rest c.requires.lawful in
+    owes g.L.Leads.asks (gives_same c.run_later.ensures.parts.0 given) c.run_later.ensures.lawful
 
 pub returns-in-Later-clause-lawful : goal.returns-in-Later-clause-lawful
-returns-in-Later-clause-lawful g c = owes g.L.Leads.asks (gives_same c.run_later-in-Later.ensures.parts.0 (owed_gives g.L.Leads.asks g.L.Leads.unasked c.requires.lawful)) c.run_later-in-Later.ensures.lawful
+returns-in-Later-clause-lawful g c =
+    let rest = (g.S.Parser.lawful (separator_of c.args.self.now) × g.P.Parser.lawful (part_of c.args.self.now)) in
+    let given = owed_gives g.L.Leads.asks g.L.Leads.good g.L.Leads.unasked g.S.Parser.valid (g.S.Parser.meaning (separator_of c.args.self.now)) rest c.requires.lawful in
+    owes g.L.Leads.asks (gives_same c.run_later-in-Later.ensures.parts.0 given) c.run_later-in-Later.ensures.lawful
 
 pub run_later-requires-clause-valid : goal.run_later-requires-clause-valid
 run_later-requires-clause-valid g c = (begins_led g.L.Leads.good g.P.Parser.valid g.met.S.Parser.default_valid _ c.default-kept.ensures).1
@@ -69,19 +88,39 @@ pub run_later-requires-in-Later-clause-valid : goal.run_later-requires-in-Later-
 run_later-requires-in-Later-clause-valid g c = (subst (valid_at g.P.Parser.valid (led_valid g.L.Leads.good g.S.Parser.valid g.P.Parser.valid)) (ap turn_place (sym c.take-given.ensures.value) ∙ sym c.into_place.ensures ∙ c.in-Later.is) c.requires.valid).1
 
 pub returns-then-is_first-clause-lawful : goal.returns-then-is_first-clause-lawful
-returns-then-is_first-clause-lawful g c = owes g.L.Leads.asks (owed_gives g.L.Leads.asks g.L.Leads.unasked c.requires.lawful) ((owed_rest g.L.Leads.asks c.requires.lawful).0, c.run_first.ensures.lawful)
+returns-then-is_first-clause-lawful g c =
+    let rest = (g.S.Parser.lawful (separator_of c.args.self.now) × g.P.Parser.lawful (part_of c.args.self.now)) in
+    let given = owed_gives g.L.Leads.asks g.L.Leads.good g.L.Leads.unasked g.S.Parser.valid (g.S.Parser.meaning (separator_of c.args.self.now)) rest c.requires.lawful in
+    let parts = owed_rest g.L.Leads.asks (GivesOnly g.S.Parser.valid (g.S.Parser.meaning (separator_of c.args.self.now)) g.L.Leads.good) rest c.requires.lawful in
+    owes g.L.Leads.asks given (parts.0, c.run_first.ensures.lawful)
 
 pub returns-in-First-clause-lawful : goal.returns-in-First-clause-lawful
-returns-in-First-clause-lawful g c = owes g.L.Leads.asks (owed_gives g.L.Leads.asks g.L.Leads.unasked c.requires.lawful) ((owed_rest g.L.Leads.asks c.requires.lawful).0, c.run_first-in-First.ensures.lawful)
+returns-in-First-clause-lawful g c =
+    let rest = (g.S.Parser.lawful (separator_of c.args.self.now) × g.P.Parser.lawful (part_of c.args.self.now)) in
+    let given = owed_gives g.L.Leads.asks g.L.Leads.good g.L.Leads.unasked g.S.Parser.valid (g.S.Parser.meaning (separator_of c.args.self.now)) rest c.requires.lawful in
+    let parts = owed_rest g.L.Leads.asks (GivesOnly g.S.Parser.valid (g.S.Parser.meaning (separator_of c.args.self.now)) g.L.Leads.good) rest c.requires.lawful in
+    owes g.L.Leads.asks given (parts.0, c.run_first-in-First.ensures.lawful)
 
 pub run_later-requires-clause-lawful : goal.run_later-requires-clause-lawful
-run_later-requires-clause-lawful g c = (owed_rest g.L.Leads.asks c.requires.lawful)
+run_later-requires-clause-lawful g c =
+    let rest = (g.S.Parser.lawful (separator_of c.args.self.now) × g.P.Parser.lawful (part_of c.args.self.now)) in
+    let parts = owed_rest g.L.Leads.asks (GivesOnly g.S.Parser.valid (g.S.Parser.meaning (separator_of c.args.self.now)) g.L.Leads.good) rest c.requires.lawful in
+    parts
 
 pub run_later-requires-in-Later-clause-lawful : goal.run_later-requires-in-Later-clause-lawful
-run_later-requires-in-Later-clause-lawful g c = (owed_rest g.L.Leads.asks c.requires.lawful)
+run_later-requires-in-Later-clause-lawful g c =
+    let rest = (g.S.Parser.lawful (separator_of c.args.self.now) × g.P.Parser.lawful (part_of c.args.self.now)) in
+    let parts = owed_rest g.L.Leads.asks (GivesOnly g.S.Parser.valid (g.S.Parser.meaning (separator_of c.args.self.now)) g.L.Leads.good) rest c.requires.lawful in
+    parts
 
 pub run_first-requires-clause-lawful : goal.run_first-requires-clause-lawful
-run_first-requires-clause-lawful g c = (owed_rest g.L.Leads.asks c.requires.lawful).1
+run_first-requires-clause-lawful g c =
+    let rest = (g.S.Parser.lawful (separator_of c.args.self.now) × g.P.Parser.lawful (part_of c.args.self.now)) in
+    let parts = owed_rest g.L.Leads.asks (GivesOnly g.S.Parser.valid (g.S.Parser.meaning (separator_of c.args.self.now)) g.L.Leads.good) rest c.requires.lawful in
+    parts.1
 
 pub run_first-requires-in-First-clause-lawful : goal.run_first-requires-in-First-clause-lawful
-run_first-requires-in-First-clause-lawful g c = (owed_rest g.L.Leads.asks c.requires.lawful).1
+run_first-requires-in-First-clause-lawful g c =
+    let rest = (g.S.Parser.lawful (separator_of c.args.self.now) × g.P.Parser.lawful (part_of c.args.self.now)) in
+    let parts = owed_rest g.L.Leads.asks (GivesOnly g.S.Parser.valid (g.S.Parser.meaning (separator_of c.args.self.now)) g.L.Leads.good) rest c.requires.lawful in
+    parts.1
