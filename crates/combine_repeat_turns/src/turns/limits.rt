@@ -51,6 +51,7 @@ pub trait Bounded: Copy {
         ensures { result.0 ≡ counted part.0 };
 
     /// Returns for how many values room is asked for before the first turn: none, unless a type says another number.
+    #[inline]
     fn room(self) -> usize {
         0
     }
