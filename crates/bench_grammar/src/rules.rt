@@ -235,13 +235,13 @@ impl Rule for Program {
 }
 
 /// The tokens before a name that is bound.
-type Let = AttemptCall<
+pub(crate) type Let = AttemptCall<
     Tuple4Call<TokenCall<b'l'>, TokenCall<b'e'>, TokenCall<b't'>, TokenCall<b' '>>,
 >;
 
 /// The value of a binding.
 #[derive(Drop)]
-struct Bound;
+pub(crate) struct Bound;
 
 impl Change<(u64, u8, u64, u8)> for Bound {
     ghost use Rattle.std.specs.Prelude.{◌≡◌};
@@ -259,7 +259,7 @@ impl Change<(u64, u8, u64, u8)> for Bound {
 
 /// The value of a call.
 #[derive(Drop)]
-struct Called;
+pub(crate) struct Called;
 
 impl Change<(u64, u64, u8)> for Called {
     ghost use Rattle.std.specs.Prelude.{◌≡◌};
