@@ -1,4 +1,4 @@
-//! Calls of `expected`.
+//! `expected`, and its calls.
 ghost use Rattle.std.specs.Prelude.{◌≡◌};
 
 use combine_base::error::ParseError;
@@ -6,52 +6,31 @@ use combine_base::parser::Parser;
 use combine_base::stream::Stream;
 use combine_char::class::Text;
 use combine_error::error::expected;
-use diff_calls::{Call, Visitor};
+use diff_calls::{Unary, UnaryCall, Visitor};
 use std::alloc::Global;
 use std::marker::PhantomData;
 
 /// `expected(C, N::text())`.
+pub(crate) type ExpectedCall<C, N> = UnaryCall<Expected<N>, C>;
+
+/// `expected` with `N::text()`.
 #[derive(Drop)]
-pub(crate) struct ExpectedCall<C, N>(PhantomData<(C, N)>);
+pub(crate) struct Expected<N>(PhantomData<(N,)>);
 
-/// Hands `expected` of its parser on.
-#[derive(Drop)]
-struct ExpectedNext<N, V> {
-    next: V,
-    names: PhantomData<(N,)>,
-}
+impl<A: Drop, N: Text> Unary<A> for Expected<N> {
+    type Output = A;
 
-impl<C: Call, N: Text> Call for ExpectedCall<C, N> {
-    type Output = C::Output;
-
-    ghost reading = { C.reading };
+    ghost reading = { λ P step r. r };
 
     #[inline(always)]
-    fn accept<Input: Stream<Token = u8>, V: Visitor<Input, C::Output>>(
+    fn build<Input: Stream<Token = u8>, P: Parser<Input, Output = A> + Drop, V: Visitor<Input, A>>(
         alloc: Global,
+        part: P,
         visitor: V,
     ) -> V::Answer
     where
         Input::Error: ParseError<u8, Input::Range, Input::Position>,
     {
-        let next = ExpectedNext::<N, V> {
-            next: visitor,
-            names: PhantomData,
-        };
-        C::accept(alloc, next)
-    }
-}
-
-impl<Input: Stream, O: Drop, N: Text, V: Visitor<Input, O>> Visitor<Input, O>
-    for ExpectedNext<N, V> {
-    type Answer = V::Answer;
-
-    ghost ready = { λ s. V.ready s.next };
-
-    ghost answers = { λ s r n. V.answers s.next r n };
-
-    #[inline(always)]
-    fn visit<P: Parser<Input, Output = O> + Drop>(self, parser: P) -> V::Answer {
-        self.next.visit(expected::<P, &'static str, Input::Token, Input::Range>(parser, N::text()))
+        visitor.visit(expected::<P, &'static str, Input::Token, Input::Range>(part, N::text()))
     }
 }

@@ -4,14 +4,18 @@
 ghost use Rattle.std.specs.Prelude.{ℕ};
 ghost use Rattle.combine_base.specs.Parser.Meaning.{Reading};
 
+mod binary;
 mod leaves;
 mod lists;
-mod of_more;
 mod of_one;
 mod of_several;
 mod repeats;
 mod sequences;
+mod ternary;
+mod tuple_4;
+mod unary;
 
+pub use binary::{Binary, BinaryCall};
 use combine_base::error::ParseError;
 use combine_base::parser::Parser;
 use combine_base::stream::Stream;
@@ -19,12 +23,19 @@ pub use leaves::{
     AnyCall, Class, EofCall, Picks, ProduceCall, SatisfyCall, SatisfyMapCall, TokenCall, ValueCall,
 };
 pub use lists::{Compare, Listed, NoneOfCall, OneOfCall, TokensCmpCall};
-pub use of_more::{Tuple3Call, Tuple4Call};
-pub use of_one::{AttemptCall, Change, MapCall, OptionalCall};
-pub use of_several::{OrCall, Tuple1Call, Tuple2Call};
-pub use repeats::{Collect, InVec, Many1Call, ManyCall, SkipMany1Call, SkipManyCall};
-pub use sequences::{BetweenCall, IgnoreCall, PickCall, SkipCall, WithCall};
+pub use of_one::{
+    Attempt, AttemptCall, Change, Map, MapCall, Optional, OptionalCall, Tuple1, Tuple1Call,
+};
+pub use of_several::{Or, OrCall, Tuple2, Tuple2Call, Tuple3, Tuple3Call};
+pub use repeats::{
+    Collect, InVec, Many, Many1, Many1Call, ManyCall, SkipMany, SkipMany1, SkipMany1Call,
+    SkipManyCall,
+};
+pub use sequences::{BetweenCall, IgnoreCall, Keep, PickCall, SkipCall, WithCall};
 use std::alloc::Global;
+pub use ternary::{Ternary, TernaryCall};
+pub use tuple_4::Tuple4Call;
+pub use unary::{Unary, UnaryCall};
 
 /// A call of a constructor, over any stream of bytes.
 pub trait Call {

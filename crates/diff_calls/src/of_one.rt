@@ -1,9 +1,9 @@
-//! Calls of constructors over one parser.
+//! Constructors over one parser, and their calls.
 ghost use Rattle.std.specs.Prelude.{◌≡◌};
 ghost use Rattle.combine_base.specs.Parser.Mapped.{mapped_reading};
-ghost use Rattle.diff_calls.specs.Parsers.{maybe, put_back};
+ghost use Rattle.diff_calls.specs.Parsers.{maybe, put_back, single};
 
-use crate::{Call, Visitor};
+use crate::{Unary, UnaryCall, Visitor};
 use combine_base::error::ParseError;
 use combine_base::parser::Parser;
 use combine_base::stream::Stream;
@@ -13,78 +13,58 @@ use std::alloc::Global;
 use std::marker::PhantomData;
 
 /// `attempt(C)`.
-#[derive(Drop)]
-pub struct AttemptCall<C>(PhantomData<C>);
-
-/// Hands `attempt` of its parser on.
-#[derive(Drop)]
-struct AttemptNext<V>(V);
-
-impl<C: Call> Call for AttemptCall<C> {
-    type Output = C::Output;
-
-    ghost reading = { λ P step. put_back step (C.reading P step) };
-
-    #[inline(always)]
-    fn accept<Input: Stream<Token = u8>, V: Visitor<Input, C::Output>>(
-        alloc: Global,
-        visitor: V,
-    ) -> V::Answer
-    where
-        Input::Error: ParseError<u8, Input::Range, Input::Position>,
-    {
-        C::accept(alloc, AttemptNext(visitor))
-    }
-}
-
-impl<Input: Stream, O: Drop, V: Visitor<Input, O>> Visitor<Input, O> for AttemptNext<V> {
-    type Answer = V::Answer;
-
-    ghost ready = { λ s. V.ready s.0 };
-
-    ghost answers = { λ s r n. V.answers s.0 (put_back Input.step r) n };
-
-    #[inline(always)]
-    fn visit<P: Parser<Input, Output = O> + Drop>(self, parser: P) -> V::Answer {
-        self.0.visit(attempt(parser))
-    }
-}
+pub type AttemptCall<C> = UnaryCall<Attempt, C>;
 
 /// `optional(C)`.
+pub type OptionalCall<C> = UnaryCall<Optional, C>;
+
+/// `map(C, M::change)`.
+pub type MapCall<C, M> = UnaryCall<Map<M>, C>;
+
+/// `(C,)`.
+pub type Tuple1Call<C> = UnaryCall<Tuple1, C>;
+
+/// `attempt`.
 #[derive(Drop)]
-pub struct OptionalCall<C>(PhantomData<C>);
+pub struct Attempt;
 
-/// Hands `optional` of its parser on.
-#[derive(Drop)]
-struct OptionalNext<V>(V);
+impl<A: Drop> Unary<A> for Attempt {
+    type Output = A;
 
-impl<C: Call> Call for OptionalCall<C> {
-    type Output = Option<C::Output>;
-
-    ghost reading = { λ P step. maybe (C.reading P step) };
+    ghost reading = { λ P step r. put_back step r };
 
     #[inline(always)]
-    fn accept<Input: Stream<Token = u8>, V: Visitor<Input, Option<C::Output>>>(
+    fn build<Input: Stream<Token = u8>, P: Parser<Input, Output = A> + Drop, V: Visitor<Input, A>>(
         alloc: Global,
+        part: P,
         visitor: V,
     ) -> V::Answer
     where
         Input::Error: ParseError<u8, Input::Range, Input::Position>,
     {
-        C::accept(alloc, OptionalNext(visitor))
+        visitor.visit(attempt(part))
     }
 }
 
-impl<Input: Stream, O: Drop, V: Visitor<Input, Option<O>>> Visitor<Input, O> for OptionalNext<V> {
-    type Answer = V::Answer;
+/// `optional`.
+#[derive(Drop)]
+pub struct Optional;
 
-    ghost ready = { λ s. V.ready s.0 };
+impl<A: Drop> Unary<A> for Optional {
+    type Output = Option<A>;
 
-    ghost answers = { λ s r n. V.answers s.0 (maybe r) n };
+    ghost reading = { λ P step r. maybe r };
 
     #[inline(always)]
-    fn visit<P: Parser<Input, Output = O> + Drop>(self, parser: P) -> V::Answer {
-        self.0.visit(optional(parser))
+    fn build<
+        Input: Stream<Token = u8>,
+        P: Parser<Input, Output = A> + Drop,
+        V: Visitor<Input, Option<A>>,
+    >(alloc: Global, part: P, visitor: V) -> V::Answer
+    where
+        Input::Error: ParseError<u8, Input::Range, Input::Position>,
+    {
+        visitor.visit(optional(part))
     }
 }
 
@@ -99,53 +79,51 @@ pub trait Change<A: Drop> {
         ensures { makes value result };
 }
 
-/// `map(C, M::change)`.
+/// `map` with `M::change`.
 #[derive(Drop)]
-pub struct MapCall<C, M>(PhantomData<(C, M)>);
+pub struct Map<M>(PhantomData<(M,)>);
 
-/// Hands `map` of its parser on.
-#[derive(Drop)]
-struct MapNext<M, V> {
-    next: V,
-    changes: PhantomData<(M,)>,
-}
-
-impl<C: Call, M: Change<C::Output>> Call for MapCall<C, M> {
+impl<A: Drop, M: Change<A>> Unary<A> for Map<M> {
     type Output = M::Output;
 
-    ghost reading = { λ P step. mapped_reading (C.reading P step) M.makes };
+    ghost reading = { λ P step r. mapped_reading r M.makes };
 
     #[inline(always)]
-    fn accept<Input: Stream<Token = u8>, V: Visitor<Input, M::Output>>(
-        alloc: Global,
-        visitor: V,
-    ) -> V::Answer
+    fn build<
+        Input: Stream<Token = u8>,
+        P: Parser<Input, Output = A> + Drop,
+        V: Visitor<Input, M::Output>,
+    >(alloc: Global, part: P, visitor: V) -> V::Answer
     where
         Input::Error: ParseError<u8, Input::Range, Input::Position>,
     {
-        let next = MapNext::<M, V> {
-            next: visitor,
-            changes: PhantomData,
-        };
-        C::accept(alloc, next)
-    }
-}
-
-impl<Input: Stream, O: Drop, M: Change<O>, V: Visitor<Input, M::Output>> Visitor<Input, O>
-    for MapNext<M, V> {
-    type Answer = V::Answer;
-
-    ghost ready = { λ s. V.ready s.next };
-
-    ghost answers = { λ s r n. V.answers s.next (mapped_reading r M.makes) n };
-
-    #[inline(always)]
-    fn visit<P: Parser<Input, Output = O> + Drop>(self, parser: P) -> V::Answer {
-        self.next.visit(map(
-            parser,
-            |value: O| -> M::Output
+        visitor.visit(map(
+            part,
+            |value: A| -> M::Output
                 ensures { M.makes value result }
             { M::change(value) },
         ))
+    }
+}
+
+/// A tuple of one.
+#[derive(Drop)]
+pub struct Tuple1;
+
+impl<A: Drop> Unary<A> for Tuple1 {
+    type Output = (A,);
+
+    ghost reading = { λ P step r. single r };
+
+    #[inline(always)]
+    fn build<
+        Input: Stream<Token = u8>,
+        P: Parser<Input, Output = A> + Drop,
+        V: Visitor<Input, (A,)>,
+    >(alloc: Global, part: P, visitor: V) -> V::Answer
+    where
+        Input::Error: ParseError<u8, Input::Range, Input::Position>,
+    {
+        visitor.visit((part,))
     }
 }

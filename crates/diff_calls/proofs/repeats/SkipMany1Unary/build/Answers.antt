@@ -1,4 +1,4 @@
-use Rattle.diff_calls.proofs.repeats.SkipMany1NextVisitor.visit.Goals as goal
+use Rattle.diff_calls.proofs.repeats.SkipMany1Unary.build.Goals as goal
 
 pub returns : goal.returns
 returns g c = rw c.skip_many1.ensures at c.visit.ensures

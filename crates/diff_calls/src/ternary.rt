@@ -1,0 +1,169 @@
+//! Calls of constructors over three parsers, which are made in turn and kept.
+ghost use Rattle.std.specs.Prelude.{◌≡◌};
+
+use crate::{Call, Visitor};
+use combine_base::error::ParseError;
+use combine_base::parser::Parser;
+use combine_base::stream::Stream;
+use std::alloc::Global;
+use std::marker::PhantomData;
+
+/// A constructor over three parsers of such values.
+pub trait Ternary<A: Drop, B: Drop, C: Drop> {
+    ghost use Rattle.std.specs.Prelude.{ℕ};
+    ghost use Rattle.combine_base.specs.Parser.Meaning.{Reading};
+
+    /// The values of the parser that it makes.
+    type Output: Drop;
+
+    /// What that parser means from the start, by what its parts mean.
+    ghost reading: { (P : Type 0) → (P → ℕ → P) → Reading P ℕ A → Reading P ℕ B → Reading P ℕ C → Reading P ℕ Self.Output };
+
+    /// Makes the parser over those parts and hands it to that visitor, whose answer it gives.
+    fn build<
+        Input: Stream<Token = u8>,
+        P: Parser<Input, Output = A> + Drop,
+        Q: Parser<Input, Output = B> + Drop,
+        R: Parser<Input, Output = C> + Drop,
+        V: Visitor<Input, Self::Output>,
+    >(first: P, second: Q, third: R, visitor: V) -> V::Answer
+    where
+        Input::Error: ParseError<u8, Input::Range, Input::Position>,
+        requires lawful { P.lawful first × Q.lawful second × R.lawful third }
+        requires ready { V.ready visitor }
+        ensures { V.answers visitor (reading Input.Position Input.step (P.meaning first).whole (Q.meaning second).whole (R.meaning third).whole) result };
+}
+
+/// The constructor `K` over the parsers of `A`, `B` and `C`.
+#[derive(Drop)]
+pub struct TernaryCall<K, A, B, C>(PhantomData<(K, A, B, C)>);
+
+/// Has the parser behind its first made.
+#[derive(Drop)]
+struct TernaryFirst<K, B, C, V> {
+    alloc: Global,
+    next: V,
+    calls: PhantomData<(K, B, C)>,
+}
+
+/// Has the parser behind its second made.
+#[derive(Drop)]
+struct TernarySecond<K, P, C, V> {
+    alloc: Global,
+    first: P,
+    next: V,
+    calls: PhantomData<(K, C)>,
+}
+
+/// Hands on what `K` makes of all three.
+#[derive(Drop)]
+struct TernaryThird<K, P, Q, V> {
+    first: P,
+    second: Q,
+    next: V,
+    constructor: PhantomData<(K,)>,
+}
+
+impl<A: Call, B: Call, C: Call, K: Ternary<A::Output, B::Output, C::Output>> Call
+    for TernaryCall<K, A, B, C> {
+    type Output = K::Output;
+
+    ghost reading = { λ P step. K.reading P step (A.reading P step) (B.reading P step) (C.reading P step) };
+
+    #[inline(always)]
+    fn accept<Input: Stream<Token = u8>, V: Visitor<Input, K::Output>>(
+        alloc: Global,
+        visitor: V,
+    ) -> V::Answer
+    where
+        Input::Error: ParseError<u8, Input::Range, Input::Position>,
+    {
+        let first = TernaryFirst::<K, B, C, V> {
+            alloc,
+            next: visitor,
+            calls: PhantomData,
+        };
+        A::accept(alloc, first)
+    }
+}
+
+impl<
+    Input: Stream<Token = u8>,
+    O: Drop,
+    B: Call,
+    C: Call,
+    K: Ternary<O, B::Output, C::Output>,
+    V: Visitor<Input, K::Output>,
+> Visitor<Input, O> for TernaryFirst<K, B, C, V>
+where
+    Input::Error: ParseError<u8, Input::Range, Input::Position>,
+{
+    type Answer = V::Answer;
+
+    ghost ready = { λ s. V.ready s.next };
+
+    ghost answers = { λ s r n. V.answers s.next (K.reading Input.Position Input.step r (B.reading Input.Position Input.step) (C.reading Input.Position Input.step)) n };
+
+    #[inline(always)]
+    fn visit<P: Parser<Input, Output = O> + Drop>(self, parser: P) -> V::Answer {
+        let second = TernarySecond::<K, P, C, V> {
+            alloc: self.alloc,
+            first: parser,
+            next: self.next,
+            calls: PhantomData,
+        };
+        B::accept(self.alloc, second)
+    }
+}
+
+impl<
+    Input: Stream<Token = u8>,
+    O: Drop,
+    P: Parser<Input> + Drop,
+    C: Call,
+    K: Ternary<P::Output, O, C::Output>,
+    V: Visitor<Input, K::Output>,
+> Visitor<Input, O> for TernarySecond<K, P, C, V>
+where
+    Input::Error: ParseError<u8, Input::Range, Input::Position>,
+{
+    type Answer = V::Answer;
+
+    ghost ready = { λ s. P.lawful s.first × V.ready s.next };
+
+    ghost answers = { λ s r n. V.answers s.next (K.reading Input.Position Input.step (P.meaning s.first).whole r (C.reading Input.Position Input.step)) n };
+
+    #[inline(always)]
+    fn visit<Q: Parser<Input, Output = O> + Drop>(self, parser: Q) -> V::Answer {
+        let third = TernaryThird::<K, P, Q, V> {
+            first: self.first,
+            second: parser,
+            next: self.next,
+            constructor: PhantomData,
+        };
+        C::accept(self.alloc, third)
+    }
+}
+
+impl<
+    Input: Stream<Token = u8>,
+    O: Drop,
+    P: Parser<Input> + Drop,
+    Q: Parser<Input> + Drop,
+    K: Ternary<P::Output, Q::Output, O>,
+    V: Visitor<Input, K::Output>,
+> Visitor<Input, O> for TernaryThird<K, P, Q, V>
+where
+    Input::Error: ParseError<u8, Input::Range, Input::Position>,
+{
+    type Answer = V::Answer;
+
+    ghost ready = { λ s. P.lawful s.first × Q.lawful s.second × V.ready s.next };
+
+    ghost answers = { λ s r n. V.answers s.next (K.reading Input.Position Input.step (P.meaning s.first).whole (Q.meaning s.second).whole r) n };
+
+    #[inline(always)]
+    fn visit<R: Parser<Input, Output = O> + Drop>(self, parser: R) -> V::Answer {
+        K::build(self.first, self.second, parser, self.next)
+    }
+}
