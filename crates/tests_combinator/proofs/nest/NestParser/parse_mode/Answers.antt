@@ -1,4 +1,4 @@
-use Rattle.std.proofs.Common.{sym, true, ◌∙◌}
+use Rattle.std.proofs.Common.{sym, ◌∙◌}
 use Rattle.std.proofs.lemmas.Bool.{false≢true}
 use Rattle.combine_base.specs.Error.Errors.{Nothing}
 use Rattle.combine_token.proofs.Stateless.{stateless_reasons}
