@@ -1,6 +1,5 @@
 //! The ten rules, and programs of them. Each is a type of its own, whose call is made of those of the rules below it, so that each is proved once.
-ghost use Rattle.std.specs.Prelude.{◌≡◌, ℕ, refl};
-ghost use Rattle.combine_base.specs.Parser.Meaning.{Reading};
+ghost use Rattle.std.specs.Prelude.{◌≡◌};
 ghost use Rattle.bench_grammar.specs.Folds.{both};
 ghost use Rattle.bench_grammar.specs.Rules.{binding, command, group, list, literal, name, number, program, sum, term, text};
 
@@ -18,27 +17,15 @@ use diff_calls::{
     TokenCall, Tuple3Call, Tuple4Call, Visitor, WithCall,
 };
 use std::alloc::Global;
-use std::marker::PhantomData;
 
-/// A rule, whose values are numbers.
-pub(crate) trait Rule {
-    type Call: Call<Output = u64>;
-
-    /// What it means.
-    ghost reading: { (P : Type 0) → (P → ℕ → P) → Reading P ℕ ℕ };
-
-    /// Its call means that.
-    ghost means: { (P : Type 0) (step : P → ℕ → P) → Self.Call.reading P step ≡ reading P step };
-}
-
-/// The call of a rule.
+/// Small letters: their tally.
 #[derive(Drop)]
-pub(crate) struct RuleCall<R>(PhantomData<(R,)>);
+pub(crate) struct Name;
 
-impl<R: Rule> Call for RuleCall<R> {
+impl Call for Name {
     type Output = u64;
 
-    ghost reading = { R.reading };
+    ghost reading = { name };
 
     #[inline(always)]
     fn accept<Input: Stream<Token = u8>, V: Visitor<Input, u64>>(
@@ -48,200 +35,280 @@ impl<R: Rule> Call for RuleCall<R> {
     where
         Input::Error: ParseError<u8, Input::Range, Input::Position>,
     {
-        <R::Call as Call>::accept(alloc, visitor)
+        <ExpectedCall<
+            MapCall<Many1Call<InFold<Tally>, InClassCall<Lower>>, Value>,
+            NameText,
+        > as Call>::accept(alloc, visitor)
     }
 }
 
-/// Small letters: their tally.
-pub(crate) struct Name;
-
-impl Rule for Name {
-    type Call = ExpectedCall<
-        MapCall<Many1Call<InFold<Tally>, InClassCall<Lower>>, Value>,
-        NameText,
-    >;
-
-    ghost reading = { name };
-
-    ghost means = { λ P step. refl };
-}
-
 /// Digits: what they spell.
+#[derive(Drop)]
 pub(crate) struct Number;
 
-impl Rule for Number {
-    type Call = ExpectedCall<
-        MapCall<Many1Call<InFold<Decimal>, InClassCall<Digit>>, Value>,
-        NumberText,
-    >;
+impl Call for Number {
+    type Output = u64;
 
     ghost reading = { number };
 
-    ghost means = { λ P step. refl };
+    #[inline(always)]
+    fn accept<Input: Stream<Token = u8>, V: Visitor<Input, u64>>(
+        alloc: Global,
+        visitor: V,
+    ) -> V::Answer
+    where
+        Input::Error: ParseError<u8, Input::Range, Input::Position>,
+    {
+        <ExpectedCall<
+            MapCall<Many1Call<InFold<Decimal>, InClassCall<Digit>>, Value>,
+            NumberText,
+        > as Call>::accept(alloc, visitor)
+    }
 }
 
 /// Bytes between `"`: their tally.
+#[derive(Drop)]
 pub(crate) struct Text;
 
-impl Rule for Text {
-    type Call = BetweenCall<
-        TokenCall<b'"'>,
-        TokenCall<b'"'>,
-        MapCall<ManyCall<InFold<Tally>, SatisfyCall<Unquoted>>, Value>,
-    >;
+impl Call for Text {
+    type Output = u64;
 
     ghost reading = { text };
 
-    ghost means = { λ P step. refl };
+    #[inline(always)]
+    fn accept<Input: Stream<Token = u8>, V: Visitor<Input, u64>>(
+        alloc: Global,
+        visitor: V,
+    ) -> V::Answer
+    where
+        Input::Error: ParseError<u8, Input::Range, Input::Position>,
+    {
+        <BetweenCall<
+            TokenCall<b'"'>,
+            TokenCall<b'"'>,
+            MapCall<ManyCall<InFold<Tally>, SatisfyCall<Unquoted>>, Value>,
+        > as Call>::accept(alloc, visitor)
+    }
 }
 
 /// Numbers with `,` between them, in `[` and `]`: their tally.
+#[derive(Drop)]
 pub(crate) struct List;
 
-impl Rule for List {
-    type Call = BetweenCall<
-        TokenCall<b'['>,
-        TokenCall<b']'>,
-        MapCall<SepByCall<InFold<Tally>, RuleCall<Number>, TokenCall<b','>>, Value>,
-    >;
+impl Call for List {
+    type Output = u64;
 
     ghost reading = { list };
 
-    ghost means = { λ P step. refl };
+    #[inline(always)]
+    fn accept<Input: Stream<Token = u8>, V: Visitor<Input, u64>>(
+        alloc: Global,
+        visitor: V,
+    ) -> V::Answer
+    where
+        Input::Error: ParseError<u8, Input::Range, Input::Position>,
+    {
+        <BetweenCall<
+            TokenCall<b'['>,
+            TokenCall<b']'>,
+            MapCall<SepByCall<InFold<Tally>, Number, TokenCall<b','>>, Value>,
+        > as Call>::accept(alloc, visitor)
+    }
 }
 
 /// A number, a text or a list.
+#[derive(Drop)]
 pub(crate) struct Literal;
 
-impl Rule for Literal {
-    type Call = ChoiceCall<RuleCall<Number>, RuleCall<Text>, RuleCall<List>>;
+impl Call for Literal {
+    type Output = u64;
 
     ghost reading = { literal };
 
-    ghost means = { λ P step. refl };
+    #[inline(always)]
+    fn accept<Input: Stream<Token = u8>, V: Visitor<Input, u64>>(
+        alloc: Global,
+        visitor: V,
+    ) -> V::Answer
+    where
+        Input::Error: ParseError<u8, Input::Range, Input::Position>,
+    {
+        <ChoiceCall<Number, Text, List> as Call>::accept(alloc, visitor)
+    }
 }
 
 /// Literals and names with `+` between them, in `(` and `)`: their sum.
+#[derive(Drop)]
 pub(crate) struct Group;
 
-impl Rule for Group {
-    type Call = BetweenCall<
-        TokenCall<b'('>,
-        TokenCall<b')'>,
-        MapCall<
-            SepBy1Call<
-                InFold<Total>,
-                OrCall<ApartCall<RuleCall<Literal>>, ApartCall<RuleCall<Name>>>,
-                TokenCall<b'+'>,
-            >,
-            Value,
-        >,
-    >;
+impl Call for Group {
+    type Output = u64;
 
     ghost reading = { group };
 
-    ghost means = { λ P step. refl };
+    #[inline(always)]
+    fn accept<Input: Stream<Token = u8>, V: Visitor<Input, u64>>(
+        alloc: Global,
+        visitor: V,
+    ) -> V::Answer
+    where
+        Input::Error: ParseError<u8, Input::Range, Input::Position>,
+    {
+        <BetweenCall<
+            TokenCall<b'('>,
+            TokenCall<b')'>,
+            MapCall<
+                SepBy1Call<
+                    InFold<Total>,
+                    OrCall<ApartCall<Literal>, ApartCall<Name>>,
+                    TokenCall<b'+'>,
+                >,
+                Value,
+            >,
+        > as Call>::accept(alloc, visitor)
+    }
 }
 
 /// Literals, groups and names with `*` between them: their product.
+#[derive(Drop)]
 pub(crate) struct Term;
 
-impl Rule for Term {
-    type Call = MapCall<
-        SepBy1Call<
-            InFold<Product>,
-            ChoiceCall<
-                ApartCall<RuleCall<Literal>>,
-                ApartCall<RuleCall<Group>>,
-                ApartCall<RuleCall<Name>>,
-            >,
-            TokenCall<b'*'>,
-        >,
-        Value,
-    >;
+impl Call for Term {
+    type Output = u64;
 
     ghost reading = { term };
 
-    ghost means = { λ P step. refl };
+    #[inline(always)]
+    fn accept<Input: Stream<Token = u8>, V: Visitor<Input, u64>>(
+        alloc: Global,
+        visitor: V,
+    ) -> V::Answer
+    where
+        Input::Error: ParseError<u8, Input::Range, Input::Position>,
+    {
+        <MapCall<
+            SepBy1Call<
+                InFold<Product>,
+                ChoiceCall<ApartCall<Literal>, ApartCall<Group>, ApartCall<Name>>,
+                TokenCall<b'*'>,
+            >,
+            Value,
+        > as Call>::accept(alloc, visitor)
+    }
 }
 
 /// Terms with `+` between them: their sum.
+#[derive(Drop)]
 pub(crate) struct Sum;
 
-impl Rule for Sum {
-    type Call = MapCall<
-        SepBy1Call<InFold<Total>, ApartCall<RuleCall<Term>>, TokenCall<b'+'>>,
-        Value,
-    >;
+impl Call for Sum {
+    type Output = u64;
 
     ghost reading = { sum };
 
-    ghost means = { λ P step. refl };
+    #[inline(always)]
+    fn accept<Input: Stream<Token = u8>, V: Visitor<Input, u64>>(
+        alloc: Global,
+        visitor: V,
+    ) -> V::Answer
+    where
+        Input::Error: ParseError<u8, Input::Range, Input::Position>,
+    {
+        <MapCall<
+            SepBy1Call<InFold<Total>, ApartCall<Term>, TokenCall<b'+'>>,
+            Value,
+        > as Call>::accept(alloc, visitor)
+    }
 }
 
 /// `let NAME=SUM;`: the tally of both values.
+#[derive(Drop)]
 pub(crate) struct Binding;
 
-impl Rule for Binding {
-    type Call = MapCall<
-        Tuple4Call<
-            WithCall<Let, RuleCall<Name>>,
-            TokenCall<b'='>,
-            ApartCall<RuleCall<Sum>>,
-            TokenCall<b';'>,
-        >,
-        Bound,
-    >;
+impl Call for Binding {
+    type Output = u64;
 
     ghost reading = { binding };
 
-    ghost means = { λ P step. refl };
+    #[inline(always)]
+    fn accept<Input: Stream<Token = u8>, V: Visitor<Input, u64>>(
+        alloc: Global,
+        visitor: V,
+    ) -> V::Answer
+    where
+        Input::Error: ParseError<u8, Input::Range, Input::Position>,
+    {
+        <MapCall<
+            Tuple4Call<WithCall<Let, Name>, TokenCall<b'='>, ApartCall<Sum>, TokenCall<b';'>>,
+            Bound,
+        > as Call>::accept(alloc, visitor)
+    }
 }
 
 /// `NAME(SUM,..);`: the tally of the name's value and of that of the sums.
+#[derive(Drop)]
 pub(crate) struct Command;
 
-impl Rule for Command {
-    type Call = MapCall<
-        Tuple3Call<
-            RuleCall<Name>,
-            BetweenCall<
-                TokenCall<b'('>,
-                TokenCall<b')'>,
-                MapCall<SepByCall<InFold<Tally>, ApartCall<RuleCall<Sum>>, TokenCall<b','>>, Value>,
-            >,
-            TokenCall<b';'>,
-        >,
-        Called,
-    >;
+impl Call for Command {
+    type Output = u64;
 
     ghost reading = { command };
 
-    ghost means = { λ P step. refl };
+    #[inline(always)]
+    fn accept<Input: Stream<Token = u8>, V: Visitor<Input, u64>>(
+        alloc: Global,
+        visitor: V,
+    ) -> V::Answer
+    where
+        Input::Error: ParseError<u8, Input::Range, Input::Position>,
+    {
+        <MapCall<
+            Tuple3Call<
+                Name,
+                BetweenCall<
+                    TokenCall<b'('>,
+                    TokenCall<b')'>,
+                    MapCall<SepByCall<InFold<Tally>, ApartCall<Sum>, TokenCall<b','>>, Value>,
+                >,
+                TokenCall<b';'>,
+            >,
+            Called,
+        > as Call>::accept(alloc, visitor)
+    }
 }
 
 /// All bindings and calls: their tally.
+#[derive(Drop)]
 pub(crate) struct Program;
 
-impl Rule for Program {
-    type Call = MapCall<
-        ManyCall<InFold<Tally>, OrCall<ApartCall<RuleCall<Binding>>, ApartCall<RuleCall<Command>>>>,
-        Value,
-    >;
+impl Call for Program {
+    type Output = u64;
 
     ghost reading = { program };
 
-    ghost means = { λ P step. refl };
+    #[inline(always)]
+    fn accept<Input: Stream<Token = u8>, V: Visitor<Input, u64>>(
+        alloc: Global,
+        visitor: V,
+    ) -> V::Answer
+    where
+        Input::Error: ParseError<u8, Input::Range, Input::Position>,
+    {
+        <MapCall<
+            ManyCall<InFold<Tally>, OrCall<ApartCall<Binding>, ApartCall<Command>>>,
+            Value,
+        > as Call>::accept(alloc, visitor)
+    }
 }
 
 /// The tokens before a name that is bound.
-pub(crate) type Let = AttemptCall<
+type Let = AttemptCall<
     Tuple4Call<TokenCall<b'l'>, TokenCall<b'e'>, TokenCall<b't'>, TokenCall<b' '>>,
 >;
 
 /// The value of a binding.
 #[derive(Drop)]
-pub(crate) struct Bound;
+struct Bound;
 
 impl Change<(u64, u8, u64, u8)> for Bound {
     ghost use Rattle.std.specs.Prelude.{◌≡◌};
@@ -259,7 +326,7 @@ impl Change<(u64, u8, u64, u8)> for Bound {
 
 /// The value of a call.
 #[derive(Drop)]
-pub(crate) struct Called;
+struct Called;
 
 impl Change<(u64, u64, u8)> for Called {
     ghost use Rattle.std.specs.Prelude.{◌≡◌};

@@ -6,7 +6,7 @@ ghost use Rattle.combine_base.specs.declared.stream.slices.Left.{Left};
 ghost use Rattle.bench_grammar.specs.Evaluated.{Evaluates, failure};
 ghost use Rattle.bench_grammar.specs.Rules.{program};
 
-use crate::rules::{Program, RuleCall};
+use crate::rules::Program;
 use combine_base::error::UnexpectedParse;
 use combine_base::parser::Parser;
 use combine_base::stream::Kind;
@@ -26,14 +26,14 @@ pub enum Failure {
 pub fn evaluate(alloc: Global, bytes: &[u8]) -> Result<u64, Failure>
     ensures { Evaluates (program Left one_less) (slice_view bytes.now) result }
 {
-    RuleCall::<Program>::accept(alloc, OverSlice { bytes })
+    Program::accept(alloc, OverSlice { bytes })
 }
 
 /// The same over an `easy::Stream`, whose errors keep what stood there and what was expected.
 pub fn evaluate_easy(alloc: Global, bytes: &[u8]) -> Result<u64, Failure>
     ensures { Evaluates (program Left one_less) (slice_view bytes.now) result }
 {
-    RuleCall::<Program>::accept(alloc, OverEasy { alloc, bytes })
+    Program::accept(alloc, OverEasy { alloc, bytes })
 }
 
 /// Runs the parser that it is handed over a slice.
