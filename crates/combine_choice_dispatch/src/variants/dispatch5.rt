@@ -1,6 +1,6 @@
 //! A parser that is one of five.
 ghost use Rattle.combine_choice_dispatch.specs.Held.{Started, within};
-ghost use Rattle.combine_choice_dispatch.specs.Nested.{nest_5};
+ghost use Rattle.combine_choice_dispatch.specs.Halves.{nest_5};
 ghost use Rattle.combine_choice_dispatch.specs.Variants2.{pick_left, pick_right};
 
 use super::{Either, passed_on};
