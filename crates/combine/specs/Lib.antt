@@ -97,14 +97,9 @@ pub use Rattle.combine_token.specs.Chose
 pub use Rattle.combine_choice.specs.ListChoice
 pub use Rattle.combine_choice.specs.Nested
 pub use Rattle.combine_token.specs.Turned
+pub use Rattle.combine_choice_dispatch.specs.Halves
 pub use Rattle.combine_choice_dispatch.specs.Held
 pub use Rattle.combine_choice_dispatch.specs.Variants2
-pub use Rattle.combine_choice_dispatch.specs.Variants3
-pub use Rattle.combine_choice_dispatch.specs.Variants4
-pub use Rattle.combine_choice_dispatch.specs.Variants5
-pub use Rattle.combine_choice_dispatch.specs.Variants6
-pub use Rattle.combine_choice_dispatch.specs.Variants7
-pub use Rattle.combine_choice_dispatch.specs.Variants8
 pub use Rattle.combine_repeat_sep.specs.ElementThenTurns
 pub use Rattle.combine_range.specs.Beginnings
 pub use Rattle.combine_range.specs.Fairness

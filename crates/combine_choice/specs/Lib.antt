@@ -4,3 +4,4 @@ pub mod Merged
 pub mod Nested
 pub mod OneTurn
 pub mod Parsers
+pub mod SliceCall

@@ -7,7 +7,6 @@ use combine_base::parser::{FirstMode, ParseMode, Parser, PartialMode};
 use combine_base::stream::Stream;
 
 pub mod laws;
-mod lent;
 pub mod slice;
 mod tuples;
 pub mod types;

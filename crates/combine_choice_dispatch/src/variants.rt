@@ -1,6 +1,5 @@
 //! Parsers that are one of several, each of which means the one that it holds.
 ghost use Rattle.std.specs.Prelude.{◌≡◌};
-ghost use Rattle.combine_choice_dispatch.specs.Held.{Started};
 
 pub mod dispatch3;
 pub mod dispatch4;
@@ -18,17 +17,6 @@ pub use dispatch6::Dispatch6;
 pub use dispatch7::Dispatch7;
 pub use dispatch8::Dispatch8;
 pub use either::Either;
-
-/// The kept state, or a default one.
-#[inline(always)]
-fn start<S: Default + Drop>(kept: Option<S>) -> S
-    ensures { Started S.is_default kept result }
-{
-    match kept {
-        Some(kept) => kept,
-        None => S::default(),
-    }
-}
 
 /// The same answer, made anew in each case: so what asks for the case next is compiled behind each variant, and not behind the place where their answers meet.
 #[inline(always)]

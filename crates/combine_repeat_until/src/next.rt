@@ -9,7 +9,7 @@ use combine_base::parser::{Outputs, ParseMode, Parser};
 use combine_base::stream::Stream;
 use combine_combinator::combinator::types::{Pick, Picked};
 use combine_token::choice::OrState;
-use combine_token::choice::lent::choose_2;
+use combine_token::choice::lent::{Alternatives, First};
 use std::marker::PhantomData;
 
 /// The value is kept.
@@ -119,7 +119,8 @@ impl<Input: Stream, A: Drop, P: Parser<Input, Output = A>, E: Parser<Input>> Par
         input: &mut Input,
         state: &mut Self::PartialState,
     ) -> ParseResult<Option<A>, Input::Error> {
-        choose_2(&mut self.end, &mut self.part, mode, input, state)
+        let mut halves = (&mut self.end, &mut self.part);
+        halves.choose::<_, First>(mode, input, state)
     }
 
     /// What the first adds, and then what the second does.

@@ -8,6 +8,7 @@ pub use Rattle.combine_base.specs.Stream.Calls
 pub use Rattle.combine_base.specs.Stream.View
 pub mod Alternatives
 pub mod Among
+pub mod Calls
 pub mod Choice
 pub mod Chose
 pub mod Given

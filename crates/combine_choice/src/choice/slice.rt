@@ -1,15 +1,14 @@
 //! Choices over the alternatives of a slice or an array.
-ghost use Rattle.std.specs.Prelude.{◌≡◌, ◌<◌, length, drop, true, false};
+ghost use Rattle.std.specs.Prelude.{◌≡◌, ◌<◌, length, true};
 ghost use Rattle.std.specs.List.{All};
 ghost use Rattle.combine_base.specs.Error.Errors.{Says};
-ghost use Rattle.combine_base.specs.Parser.Answer.{Answers, world};
 ghost use Rattle.combine_base.specs.Parser.AnswersCalls.{AnswersCall};
-ghost use Rattle.combine_base.specs.Parser.Meaning.{MeansSame, begun, begun_refuses};
-ghost use Rattle.combine_base.specs.Parser.Reasons.{Reasoned, ReasonedCall};
+ghost use Rattle.combine_base.specs.Parser.Meaning.{MeansSame};
+ghost use Rattle.combine_base.specs.Parser.Reasons.{ReasonedCall};
 ghost use Rattle.combine_base.specs.Stream.Calls.{Passes};
-ghost use Rattle.combine_choice.specs.Chosen.{AllSame, choice_of, slice_valid};
-ghost use Rattle.combine_choice.specs.Merged.{tried_refuses};
-ghost use Rattle.combine_choice.specs.OneTurn.{NoAlternative, Resumes, Turn};
+ghost use Rattle.combine_choice.specs.Chosen.{choice_of, slice_valid};
+ghost use Rattle.combine_choice.specs.OneTurn.{NoAlternative, Resumes};
+ghost use Rattle.combine_choice.specs.SliceCall.{ChoseFrom, TurnCall};
 
 use super::{ChoiceOutputs, ChoiceParser};
 use combine_base::error::{ParseResult, Tracked};
@@ -61,9 +60,7 @@ fn take_turn<Input: Stream, P: Parser<Input>, M: ParseMode>(
     ensures valid { slice_valid P.valid state.new }
     ensures same { MeansSame (P.meaning alternative.old) (P.meaning alternative.new) }
     ensures passes { Passes (Input.marks input.old) (Input.marks input.new) (Input.failures input.old) (Input.failures input.new) }
-    ensures turn { Turn (world Input.step Input.Error.seen Input.steady P.PartialState.is_default) (P.meaning alternative.old)
-        SliceState.Peek (λ s. SliceState.At index s)
-        (M.first mode) kept state.new (Input.view input.old) (Input.view input.new) (Input.failures input.old) (Input.failures input.new) result }
+    ensures turn { TurnCall Input.StreamOnce Input.Error.seen P.Parser P.PartialState.is_default index alternative.old (M.first mode) kept state.new input.old input.new result }
     ensures refuses { ReasonedCall Input.Error.seen (P.meaning alternative.old) (M.first mode) kept (Input.view input.old) (Input.view input.new) result }
 {
     let mut kept = kept;
@@ -89,17 +86,7 @@ fn choose<Input: Stream, P: Parser<Input>, M: ParseMode>(
     requires valid { P.valid kept }
     requires fresh { M.first mode ≡ true → P.PartialState.is_default kept }
     requires state { state.old ≡ SliceState.Peek }
-    ensures lawful { All P.lawful alternatives.new }
-    ensures valid { slice_valid P.valid state.new }
-    ensures same { AllSame P.meaning alternatives.old alternatives.new }
-    ensures passes { Passes (Input.marks input.old) (Input.marks input.new) (Input.failures input.old) (Input.failures input.new) }
-    ensures answers { Answers (world Input.step Input.Error.seen Input.steady (λ s. s ≡ SliceState.Peek))
-        (choice_of Input.Error.seen Input.Position.cmp P.meaning alternatives.old)
-        (record { first = false; state = SliceState.At index kept; left = state.new; old = Input.view input.old; new = Input.view input.new; before = Input.failures input.old; after = Input.failures input.new })
-        result }
-    ensures refuses { Reasoned Input.Error.seen.kind (Input.view input.new).is_open
-        (tried_refuses Input.Error.seen Input.Position.cmp P.meaning (λ x. begun (P.meaning x) (M.first mode) kept) (λ x. begun_refuses (P.meaning x) (M.first mode) kept) (drop index alternatives.old) (Input.view input.old) (Input.view input.new))
-        result }
+    ensures { ChoseFrom Input.StreamOnce Input.Error.seen Input.Position.cmp P.Parser index (M.first mode) kept alternatives.old alternatives.new state.new input.old input.new result }
 {
     let start = input.checkpoint();
     let position = input.position();
@@ -140,17 +127,7 @@ fn resume<Input: Stream, P: Parser<Input>, M: ParseMode>(
     requires valid { P.valid kept }
     requires fresh { M.first mode ≡ true → P.PartialState.is_default kept }
     requires state { state.old ≡ SliceState.Peek }
-    ensures lawful { All P.lawful alternatives.new }
-    ensures valid { slice_valid P.valid state.new }
-    ensures same { AllSame P.meaning alternatives.old alternatives.new }
-    ensures passes { Passes (Input.marks input.old) (Input.marks input.new) (Input.failures input.old) (Input.failures input.new) }
-    ensures answers { Answers (world Input.step Input.Error.seen Input.steady (λ s. s ≡ SliceState.Peek))
-        (choice_of Input.Error.seen Input.Position.cmp P.meaning alternatives.old)
-        (record { first = false; state = SliceState.At index kept; left = state.new; old = Input.view input.old; new = Input.view input.new; before = Input.failures input.old; after = Input.failures input.new })
-        result }
-    ensures refuses { Reasoned Input.Error.seen.kind (Input.view input.new).is_open
-        (tried_refuses Input.Error.seen Input.Position.cmp P.meaning (λ x. begun (P.meaning x) (M.first mode) kept) (λ x. begun_refuses (P.meaning x) (M.first mode) kept) (drop index alternatives.old) (Input.view input.old) (Input.view input.new))
-        result }
+    ensures { ChoseFrom Input.StreamOnce Input.Error.seen Input.Position.cmp P.Parser index (M.first mode) kept alternatives.old alternatives.new state.new input.old input.new result }
 {
     choose(alternatives, index, mode, input, kept, state)
 }

@@ -1,14 +1,29 @@
 //! Choices over the parsers of a tuple of 1 to 8.
 
-use super::lent::{
-    State3, State4, State5, State6, State7, State8, choose_3, choose_4, choose_5, choose_6,
-    choose_7, choose_8,
-};
 use super::{ChoiceOutputs, ChoiceParser};
 use combine_base::error::{ParseResult, Tracked};
 use combine_base::parser::{Outputs, ParseMode, Parser};
 use combine_base::stream::Stream;
-use combine_token::choice::lent::{State2, choose_2};
+use combine_token::choice::lent::{Alternatives, First};
+use combine_token::choice::types::Or;
+
+/// Three alternatives as choices of two.
+type Or3<A, B, C> = Or<A, Or<B, C>>;
+
+/// Four alternatives as choices of two.
+type Or4<A, B, C, D> = Or<Or<A, B>, Or<C, D>>;
+
+/// Five alternatives as choices of two.
+type Or5<A, B, C, D, E> = Or<A, Or4<B, C, D, E>>;
+
+/// Six alternatives as choices of two.
+type Or6<A, B, C, D, E, F> = Or<Or<A, B>, Or4<C, D, E, F>>;
+
+/// Seven alternatives as choices of two.
+type Or7<A, B, C, D, E, F, G> = Or<Or3<A, B, C>, Or4<D, E, F, G>>;
+
+/// Eight alternatives as choices of two.
+type Or8<A, B, C, D, E, F, G, H> = Or<Or4<A, B, C, D>, Or4<E, F, G, H>>;
 
 impl<Input, A: Outputs<Input>> ChoiceOutputs<Input> for (A,) {
     type Output = A::Output;
@@ -54,19 +69,18 @@ impl<Input, A: Outputs<Input>, B> ChoiceOutputs<Input> for (A, B) {
 impl<Input: Stream, A: Parser<Input>, B: Parser<Input, Output = A::Output>> ChoiceParser<Input>
     for (A, B) {
     ghost use Rattle.std.specs.Prelude.{◌≡◌};
-    ghost use Rattle.combine_token.specs.Or.{either_of, or_valid};
     ghost use Rattle.combine_token.specs.declared.choice.OrState.TheVariants.{Peek};
-    ghost use Rattle.combine_choice.specs.Nested.{nest_laws, nest_one};
+    ghost use Rattle.combine_choice.specs.Nested.{nest_laws, nest_one, or_2};
 
-    type PartialState = State2<Input, A, B>;
+    type PartialState = <Or<A, B> as Parser<Input>>::PartialState;
 
-    ghost lawful = { λ p. A.lawful p.0 × B.lawful p.1 };
+    ghost lawful = { λ p. ⟦<Or<A, B> as Parser<Input>>⟧.lawful (or_2 p) };
 
-    ghost determined = { λ p. A.determined p.0 × B.determined p.1 };
+    ghost determined = { λ p. ⟦<Or<A, B> as Parser<Input>>⟧.determined (or_2 p) };
 
-    ghost valid = { or_valid A.valid B.valid };
+    ghost valid = { ⟦<Or<A, B> as Parser<Input>>⟧.valid };
 
-    ghost meaning = { λ p. either_of Input.Error.seen Input.Position.cmp (A.meaning p.0) (B.meaning p.1) };
+    ghost meaning = { λ p. ⟦<Or<A, B> as Parser<Input>>⟧.meaning (or_2 p) };
 
     ghost default_valid = { λ s d. rw d tt };
 
@@ -81,7 +95,8 @@ impl<Input: Stream, A: Parser<Input>, B: Parser<Input, Output = A::Output>> Choi
         input: &mut Input,
         state: &mut Self::PartialState,
     ) -> ParseResult<A::Output, Input::Error> {
-        choose_2(&mut self.0, &mut self.1, mode, input, state)
+        let mut halves = (&mut self.0, &mut self.1);
+        halves.choose::<_, First>(mode, input, state)
     }
 
     fn add_error_choice(&mut self, error: &mut Tracked<Input::Error>) {
@@ -101,19 +116,18 @@ impl<
     C: Parser<Input, Output = A::Output>,
 > ChoiceParser<Input> for (A, B, C) {
     ghost use Rattle.std.specs.Prelude.{◌≡◌};
-    ghost use Rattle.combine_token.specs.Or.{either_of, or_valid};
     ghost use Rattle.combine_token.specs.declared.choice.OrState.TheVariants.{Peek};
-    ghost use Rattle.combine_choice.specs.Nested.{nest_laws, nest_one};
+    ghost use Rattle.combine_choice.specs.Nested.{nest_laws, nest_one, or_3};
 
-    type PartialState = State3<Input, A, B, C>;
+    type PartialState = <Or3<A, B, C> as Parser<Input>>::PartialState;
 
-    ghost lawful = { λ p. A.lawful p.0 × (B.lawful p.1 × C.lawful p.2) };
+    ghost lawful = { λ p. ⟦<Or3<A, B, C> as Parser<Input>>⟧.lawful (or_3 p) };
 
-    ghost determined = { λ p. A.determined p.0 × (B.determined p.1 × C.determined p.2) };
+    ghost determined = { λ p. ⟦<Or3<A, B, C> as Parser<Input>>⟧.determined (or_3 p) };
 
-    ghost valid = { or_valid A.valid (or_valid B.valid C.valid) };
+    ghost valid = { ⟦<Or3<A, B, C> as Parser<Input>>⟧.valid };
 
-    ghost meaning = { λ p. either_of Input.Error.seen Input.Position.cmp (A.meaning p.0) (either_of Input.Error.seen Input.Position.cmp (B.meaning p.1) (C.meaning p.2)) };
+    ghost meaning = { λ p. ⟦<Or3<A, B, C> as Parser<Input>>⟧.meaning (or_3 p) };
 
     ghost default_valid = { λ s d. rw d tt };
 
@@ -128,7 +142,8 @@ impl<
         input: &mut Input,
         state: &mut Self::PartialState,
     ) -> ParseResult<A::Output, Input::Error> {
-        choose_3(&mut self.0, &mut self.1, &mut self.2, mode, input, state)
+        let mut halves = (&mut self.0, (&mut self.1, &mut self.2));
+        halves.choose::<_, First>(mode, input, state)
     }
 
     fn add_error_choice(&mut self, error: &mut Tracked<Input::Error>) {
@@ -150,19 +165,18 @@ impl<
     D: Parser<Input, Output = A::Output>,
 > ChoiceParser<Input> for (A, B, C, D) {
     ghost use Rattle.std.specs.Prelude.{◌≡◌};
-    ghost use Rattle.combine_token.specs.Or.{either_of, or_valid};
     ghost use Rattle.combine_token.specs.declared.choice.OrState.TheVariants.{Peek};
-    ghost use Rattle.combine_choice.specs.Nested.{nest_laws, nest_one};
+    ghost use Rattle.combine_choice.specs.Nested.{nest_laws, nest_one, or_4};
 
-    type PartialState = State4<Input, A, B, C, D>;
+    type PartialState = <Or4<A, B, C, D> as Parser<Input>>::PartialState;
 
-    ghost lawful = { λ p. (A.lawful p.0 × B.lawful p.1) × (C.lawful p.2 × D.lawful p.3) };
+    ghost lawful = { λ p. ⟦<Or4<A, B, C, D> as Parser<Input>>⟧.lawful (or_4 p) };
 
-    ghost determined = { λ p. (A.determined p.0 × B.determined p.1) × (C.determined p.2 × D.determined p.3) };
+    ghost determined = { λ p. ⟦<Or4<A, B, C, D> as Parser<Input>>⟧.determined (or_4 p) };
 
-    ghost valid = { or_valid (or_valid A.valid B.valid) (or_valid C.valid D.valid) };
+    ghost valid = { ⟦<Or4<A, B, C, D> as Parser<Input>>⟧.valid };
 
-    ghost meaning = { λ p. either_of Input.Error.seen Input.Position.cmp (either_of Input.Error.seen Input.Position.cmp (A.meaning p.0) (B.meaning p.1)) (either_of Input.Error.seen Input.Position.cmp (C.meaning p.2) (D.meaning p.3)) };
+    ghost meaning = { λ p. ⟦<Or4<A, B, C, D> as Parser<Input>>⟧.meaning (or_4 p) };
 
     ghost default_valid = { λ s d. rw d tt };
 
@@ -177,15 +191,8 @@ impl<
         input: &mut Input,
         state: &mut Self::PartialState,
     ) -> ParseResult<A::Output, Input::Error> {
-        choose_4::<_, _, _, _, _, _, false>(
-            &mut self.0,
-            &mut self.1,
-            &mut self.2,
-            &mut self.3,
-            mode,
-            input,
-            state,
-        )
+        let mut halves = ((&mut self.0, &mut self.1), (&mut self.2, &mut self.3));
+        halves.choose::<_, First>(mode, input, state)
     }
 
     fn add_error_choice(&mut self, error: &mut Tracked<Input::Error>) {
@@ -209,19 +216,18 @@ impl<
     E: Parser<Input, Output = A::Output>,
 > ChoiceParser<Input> for (A, B, C, D, E) {
     ghost use Rattle.std.specs.Prelude.{◌≡◌};
-    ghost use Rattle.combine_token.specs.Or.{either_of, or_valid};
     ghost use Rattle.combine_token.specs.declared.choice.OrState.TheVariants.{Peek};
-    ghost use Rattle.combine_choice.specs.Nested.{nest_laws, nest_one};
+    ghost use Rattle.combine_choice.specs.Nested.{nest_laws, nest_one, or_5};
 
-    type PartialState = State5<Input, A, B, C, D, E>;
+    type PartialState = <Or5<A, B, C, D, E> as Parser<Input>>::PartialState;
 
-    ghost lawful = { λ p. A.lawful p.0 × ((B.lawful p.1 × C.lawful p.2) × (D.lawful p.3 × E.lawful p.4)) };
+    ghost lawful = { λ p. ⟦<Or5<A, B, C, D, E> as Parser<Input>>⟧.lawful (or_5 p) };
 
-    ghost determined = { λ p. A.determined p.0 × ((B.determined p.1 × C.determined p.2) × (D.determined p.3 × E.determined p.4)) };
+    ghost determined = { λ p. ⟦<Or5<A, B, C, D, E> as Parser<Input>>⟧.determined (or_5 p) };
 
-    ghost valid = { or_valid A.valid (or_valid (or_valid B.valid C.valid) (or_valid D.valid E.valid)) };
+    ghost valid = { ⟦<Or5<A, B, C, D, E> as Parser<Input>>⟧.valid };
 
-    ghost meaning = { λ p. either_of Input.Error.seen Input.Position.cmp (A.meaning p.0) (either_of Input.Error.seen Input.Position.cmp (either_of Input.Error.seen Input.Position.cmp (B.meaning p.1) (C.meaning p.2)) (either_of Input.Error.seen Input.Position.cmp (D.meaning p.3) (E.meaning p.4))) };
+    ghost meaning = { λ p. ⟦<Or5<A, B, C, D, E> as Parser<Input>>⟧.meaning (or_5 p) };
 
     ghost default_valid = { λ s d. rw d tt };
 
@@ -236,16 +242,11 @@ impl<
         input: &mut Input,
         state: &mut Self::PartialState,
     ) -> ParseResult<A::Output, Input::Error> {
-        choose_5(
+        let mut halves = (
             &mut self.0,
-            &mut self.1,
-            &mut self.2,
-            &mut self.3,
-            &mut self.4,
-            mode,
-            input,
-            state,
-        )
+            ((&mut self.1, &mut self.2), (&mut self.3, &mut self.4)),
+        );
+        halves.choose::<_, First>(mode, input, state)
     }
 
     fn add_error_choice(&mut self, error: &mut Tracked<Input::Error>) {
@@ -271,19 +272,18 @@ impl<
     F: Parser<Input, Output = A::Output>,
 > ChoiceParser<Input> for (A, B, C, D, E, F) {
     ghost use Rattle.std.specs.Prelude.{◌≡◌};
-    ghost use Rattle.combine_token.specs.Or.{either_of, or_valid};
     ghost use Rattle.combine_token.specs.declared.choice.OrState.TheVariants.{Peek};
-    ghost use Rattle.combine_choice.specs.Nested.{nest_laws, nest_one};
+    ghost use Rattle.combine_choice.specs.Nested.{nest_laws, nest_one, or_6};
 
-    type PartialState = State6<Input, A, B, C, D, E, F>;
+    type PartialState = <Or6<A, B, C, D, E, F> as Parser<Input>>::PartialState;
 
-    ghost lawful = { λ p. (A.lawful p.0 × B.lawful p.1) × ((C.lawful p.2 × D.lawful p.3) × (E.lawful p.4 × F.lawful p.5)) };
+    ghost lawful = { λ p. ⟦<Or6<A, B, C, D, E, F> as Parser<Input>>⟧.lawful (or_6 p) };
 
-    ghost determined = { λ p. (A.determined p.0 × B.determined p.1) × ((C.determined p.2 × D.determined p.3) × (E.determined p.4 × F.determined p.5)) };
+    ghost determined = { λ p. ⟦<Or6<A, B, C, D, E, F> as Parser<Input>>⟧.determined (or_6 p) };
 
-    ghost valid = { or_valid (or_valid A.valid B.valid) (or_valid (or_valid C.valid D.valid) (or_valid E.valid F.valid)) };
+    ghost valid = { ⟦<Or6<A, B, C, D, E, F> as Parser<Input>>⟧.valid };
 
-    ghost meaning = { λ p. either_of Input.Error.seen Input.Position.cmp (either_of Input.Error.seen Input.Position.cmp (A.meaning p.0) (B.meaning p.1)) (either_of Input.Error.seen Input.Position.cmp (either_of Input.Error.seen Input.Position.cmp (C.meaning p.2) (D.meaning p.3)) (either_of Input.Error.seen Input.Position.cmp (E.meaning p.4) (F.meaning p.5))) };
+    ghost meaning = { λ p. ⟦<Or6<A, B, C, D, E, F> as Parser<Input>>⟧.meaning (or_6 p) };
 
     ghost default_valid = { λ s d. rw d tt };
 
@@ -298,17 +298,11 @@ impl<
         input: &mut Input,
         state: &mut Self::PartialState,
     ) -> ParseResult<A::Output, Input::Error> {
-        choose_6(
-            &mut self.0,
-            &mut self.1,
-            &mut self.2,
-            &mut self.3,
-            &mut self.4,
-            &mut self.5,
-            mode,
-            input,
-            state,
-        )
+        let mut halves = (
+            (&mut self.0, &mut self.1),
+            ((&mut self.2, &mut self.3), (&mut self.4, &mut self.5)),
+        );
+        halves.choose::<_, First>(mode, input, state)
     }
 
     fn add_error_choice(&mut self, error: &mut Tracked<Input::Error>) {
@@ -336,25 +330,24 @@ impl<
     G: Parser<Input, Output = A::Output>,
 > ChoiceParser<Input> for (A, B, C, D, E, F, G) {
     ghost use Rattle.std.specs.Prelude.{◌≡◌};
-    ghost use Rattle.combine_token.specs.Or.{either_of, or_valid};
     ghost use Rattle.combine_token.specs.declared.choice.OrState.TheVariants.{Peek};
-    ghost use Rattle.combine_choice.specs.Nested.{nest_laws, nest_one};
+    ghost use Rattle.combine_choice.specs.Nested.{nest_laws, nest_one, nest_one_4, or_7};
 
-    type PartialState = State7<Input, A, B, C, D, E, F, G>;
+    type PartialState = <Or7<A, B, C, D, E, F, G> as Parser<Input>>::PartialState;
 
-    ghost lawful = { λ p. (A.lawful p.0 × (B.lawful p.1 × C.lawful p.2)) × ((D.lawful p.3 × E.lawful p.4) × (F.lawful p.5 × G.lawful p.6)) };
+    ghost lawful = { λ p. ⟦<Or7<A, B, C, D, E, F, G> as Parser<Input>>⟧.lawful (or_7 p) };
 
-    ghost determined = { λ p. (A.determined p.0 × (B.determined p.1 × C.determined p.2)) × ((D.determined p.3 × E.determined p.4) × (F.determined p.5 × G.determined p.6)) };
+    ghost determined = { λ p. ⟦<Or7<A, B, C, D, E, F, G> as Parser<Input>>⟧.determined (or_7 p) };
 
-    ghost valid = { or_valid (or_valid A.valid (or_valid B.valid C.valid)) (or_valid (or_valid D.valid E.valid) (or_valid F.valid G.valid)) };
+    ghost valid = { ⟦<Or7<A, B, C, D, E, F, G> as Parser<Input>>⟧.valid };
 
-    ghost meaning = { λ p. either_of Input.Error.seen Input.Position.cmp (either_of Input.Error.seen Input.Position.cmp (A.meaning p.0) (either_of Input.Error.seen Input.Position.cmp (B.meaning p.1) (C.meaning p.2))) (either_of Input.Error.seen Input.Position.cmp (either_of Input.Error.seen Input.Position.cmp (D.meaning p.3) (E.meaning p.4)) (either_of Input.Error.seen Input.Position.cmp (F.meaning p.5) (G.meaning p.6))) };
+    ghost meaning = { λ p. ⟦<Or7<A, B, C, D, E, F, G> as Parser<Input>>⟧.meaning (or_7 p) };
 
     ghost default_valid = { λ s d. rw d tt };
 
     ghost laws = { λ p l. nest_laws (nest_laws (A.laws p.0 l.0.0) (nest_laws (B.laws p.1 l.0.1.0) (C.laws p.2 l.0.1.1))) (nest_laws (nest_laws (D.laws p.3 l.1.0.0) (E.laws p.4 l.1.0.1)) (nest_laws (F.laws p.5 l.1.1.0) (G.laws p.6 l.1.1.1))) };
 
-    ghost single = { λ p l d. nest_one (nest_one (A.single p.0 l.0.0 d.0.0) (nest_one (B.single p.1 l.0.1.0 d.0.1.0) (C.single p.2 l.0.1.1 d.0.1.1))) (nest_one (nest_one (D.single p.3 l.1.0.0 d.1.0.0) (E.single p.4 l.1.0.1 d.1.0.1)) (nest_one (F.single p.5 l.1.1.0 d.1.1.0) (G.single p.6 l.1.1.1 d.1.1.1))) };
+    ghost single = { λ p l d. nest_one (nest_one (A.single p.0 l.0.0 d.0.0) (nest_one (B.single p.1 l.0.1.0 d.0.1.0) (C.single p.2 l.0.1.1 d.0.1.1))) (nest_one_4 (D.single p.3 l.1.0.0 d.1.0.0) (E.single p.4 l.1.0.1 d.1.0.1) (F.single p.5 l.1.1.0 d.1.1.0) (G.single p.6 l.1.1.1 d.1.1.1)) };
 
     #[inline(always)]
     fn parse_mode_choice<M: ParseMode>(
@@ -363,18 +356,11 @@ impl<
         input: &mut Input,
         state: &mut Self::PartialState,
     ) -> ParseResult<A::Output, Input::Error> {
-        choose_7(
-            &mut self.0,
-            &mut self.1,
-            &mut self.2,
-            &mut self.3,
-            &mut self.4,
-            &mut self.5,
-            &mut self.6,
-            mode,
-            input,
-            state,
-        )
+        let mut halves = (
+            (&mut self.0, (&mut self.1, &mut self.2)),
+            ((&mut self.3, &mut self.4), (&mut self.5, &mut self.6)),
+        );
+        halves.choose::<_, First>(mode, input, state)
     }
 
     fn add_error_choice(&mut self, error: &mut Tracked<Input::Error>) {
@@ -405,25 +391,24 @@ impl<
     H: Parser<Input, Output = A::Output>,
 > ChoiceParser<Input> for (A, B, C, D, E, F, G, H) {
     ghost use Rattle.std.specs.Prelude.{◌≡◌};
-    ghost use Rattle.combine_token.specs.Or.{either_of, or_valid};
     ghost use Rattle.combine_token.specs.declared.choice.OrState.TheVariants.{Peek};
-    ghost use Rattle.combine_choice.specs.Nested.{nest_laws, nest_one};
+    ghost use Rattle.combine_choice.specs.Nested.{nest_laws, nest_one_8, or_8};
 
-    type PartialState = State8<Input, A, B, C, D, E, F, G, H>;
+    type PartialState = <Or8<A, B, C, D, E, F, G, H> as Parser<Input>>::PartialState;
 
-    ghost lawful = { λ p. ((A.lawful p.0 × B.lawful p.1) × (C.lawful p.2 × D.lawful p.3)) × ((E.lawful p.4 × F.lawful p.5) × (G.lawful p.6 × H.lawful p.7)) };
+    ghost lawful = { λ p. ⟦<Or8<A, B, C, D, E, F, G, H> as Parser<Input>>⟧.lawful (or_8 p) };
 
-    ghost determined = { λ p. ((A.determined p.0 × B.determined p.1) × (C.determined p.2 × D.determined p.3)) × ((E.determined p.4 × F.determined p.5) × (G.determined p.6 × H.determined p.7)) };
+    ghost determined = { λ p. ⟦<Or8<A, B, C, D, E, F, G, H> as Parser<Input>>⟧.determined (or_8 p) };
 
-    ghost valid = { or_valid (or_valid (or_valid A.valid B.valid) (or_valid C.valid D.valid)) (or_valid (or_valid E.valid F.valid) (or_valid G.valid H.valid)) };
+    ghost valid = { ⟦<Or8<A, B, C, D, E, F, G, H> as Parser<Input>>⟧.valid };
 
-    ghost meaning = { λ p. either_of Input.Error.seen Input.Position.cmp (either_of Input.Error.seen Input.Position.cmp (either_of Input.Error.seen Input.Position.cmp (A.meaning p.0) (B.meaning p.1)) (either_of Input.Error.seen Input.Position.cmp (C.meaning p.2) (D.meaning p.3))) (either_of Input.Error.seen Input.Position.cmp (either_of Input.Error.seen Input.Position.cmp (E.meaning p.4) (F.meaning p.5)) (either_of Input.Error.seen Input.Position.cmp (G.meaning p.6) (H.meaning p.7))) };
+    ghost meaning = { λ p. ⟦<Or8<A, B, C, D, E, F, G, H> as Parser<Input>>⟧.meaning (or_8 p) };
 
     ghost default_valid = { λ s d. rw d tt };
 
     ghost laws = { λ p l. nest_laws (nest_laws (nest_laws (A.laws p.0 l.0.0.0) (B.laws p.1 l.0.0.1)) (nest_laws (C.laws p.2 l.0.1.0) (D.laws p.3 l.0.1.1))) (nest_laws (nest_laws (E.laws p.4 l.1.0.0) (F.laws p.5 l.1.0.1)) (nest_laws (G.laws p.6 l.1.1.0) (H.laws p.7 l.1.1.1))) };
 
-    ghost single = { λ p l d. nest_one (nest_one (nest_one (A.single p.0 l.0.0.0 d.0.0.0) (B.single p.1 l.0.0.1 d.0.0.1)) (nest_one (C.single p.2 l.0.1.0 d.0.1.0) (D.single p.3 l.0.1.1 d.0.1.1))) (nest_one (nest_one (E.single p.4 l.1.0.0 d.1.0.0) (F.single p.5 l.1.0.1 d.1.0.1)) (nest_one (G.single p.6 l.1.1.0 d.1.1.0) (H.single p.7 l.1.1.1 d.1.1.1))) };
+    ghost single = { λ p l d. nest_one_8 (A.single p.0 l.0.0.0 d.0.0.0) (B.single p.1 l.0.0.1 d.0.0.1) (C.single p.2 l.0.1.0 d.0.1.0) (D.single p.3 l.0.1.1 d.0.1.1) (E.single p.4 l.1.0.0 d.1.0.0) (F.single p.5 l.1.0.1 d.1.0.1) (G.single p.6 l.1.1.0 d.1.1.0) (H.single p.7 l.1.1.1 d.1.1.1) };
 
     #[inline(always)]
     fn parse_mode_choice<M: ParseMode>(
@@ -432,19 +417,11 @@ impl<
         input: &mut Input,
         state: &mut Self::PartialState,
     ) -> ParseResult<A::Output, Input::Error> {
-        choose_8(
-            &mut self.0,
-            &mut self.1,
-            &mut self.2,
-            &mut self.3,
-            &mut self.4,
-            &mut self.5,
-            &mut self.6,
-            &mut self.7,
-            mode,
-            input,
-            state,
-        )
+        let mut halves = (
+            ((&mut self.0, &mut self.1), (&mut self.2, &mut self.3)),
+            ((&mut self.4, &mut self.5), (&mut self.6, &mut self.7)),
+        );
+        halves.choose::<_, First>(mode, input, state)
     }
 
     fn add_error_choice(&mut self, error: &mut Tracked<Input::Error>) {

@@ -1,8 +1,9 @@
 //! A parser that is one of three.
-ghost use Rattle.std.specs.Prelude.{◌≡◌};
-ghost use Rattle.combine_choice_dispatch.specs.Variants3.{each_3, pick_a, pick_b, pick_c};
+ghost use Rattle.combine_choice_dispatch.specs.Held.{Started, within};
+ghost use Rattle.combine_choice_dispatch.specs.Halves.{nest_3};
+ghost use Rattle.combine_choice_dispatch.specs.Variants2.{pick_left, pick_right};
 
-use super::{passed_on, start};
+use super::{Either, passed_on};
 use combine_base::error::{ErrorOffset, ParseResult, Tracked};
 use combine_base::parser::{Outputs, ParseMode, Parser};
 use combine_base::stream::Stream;
@@ -19,41 +20,41 @@ pub enum Dispatch3<A, B, C> {
 }
 
 impl<A: Default, B: Default, C: Default> Default for Dispatch3<A, B, C> {
-    ghost is_default = { each_3 A.is_default B.is_default C.is_default };
+    ghost is_default = { λ s. ⟦<Either<A, Either<B, C>> as Default>⟧.is_default (nest_3 s) };
 
     fn default() -> Self {
         Dispatch3::A(A::default())
     }
 }
 
-impl<A: Drop, B: Drop, C: Drop> Dispatch3<A, B, C> {
+impl<A: Default + Drop, B: Default + Drop, C: Default + Drop> Dispatch3<A, B, C> {
     #[inline(always)]
-    fn into_a(self) -> Option<A>
-        ensures { result ≡ pick_a self }
+    fn start_a(&mut self) -> A
+        ensures { Started A.is_default (pick_left (nest_3 self.old)) result }
     {
         match self {
-            Dispatch3::A(kept) => Some(kept),
-            Dispatch3::B(_) | Dispatch3::C(_) => None,
+            Dispatch3::A(kept) => take(kept),
+            Dispatch3::B(_) | Dispatch3::C(_) => A::default(),
         }
     }
 
     #[inline(always)]
-    fn into_b(self) -> Option<B>
-        ensures { result ≡ pick_b self }
+    fn start_b(&mut self) -> B
+        ensures { Started B.is_default (within pick_left (pick_right (nest_3 self.old))) result }
     {
         match self {
-            Dispatch3::B(kept) => Some(kept),
-            Dispatch3::A(_) | Dispatch3::C(_) => None,
+            Dispatch3::B(kept) => take(kept),
+            Dispatch3::A(_) | Dispatch3::C(_) => B::default(),
         }
     }
 
     #[inline(always)]
-    fn into_c(self) -> Option<C>
-        ensures { result ≡ pick_c self }
+    fn start_c(&mut self) -> C
+        ensures { Started C.is_default (within pick_right (pick_right (nest_3 self.old))) result }
     {
         match self {
-            Dispatch3::C(kept) => Some(kept),
-            Dispatch3::A(_) | Dispatch3::B(_) => None,
+            Dispatch3::C(kept) => take(kept),
+            Dispatch3::A(_) | Dispatch3::B(_) => C::default(),
         }
     }
 }
@@ -68,25 +69,25 @@ impl<
     B: Parser<Input, Output = A::Output>,
     C: Parser<Input, Output = A::Output>,
 > Parser<Input> for Dispatch3<A, B, C> {
-    ghost use Rattle.combine_choice_dispatch.specs.Variants3.{each_3, each_3_into, variant_3, variant_3_is_meaning, variant_3_means_one};
+    ghost use Rattle.combine_choice_dispatch.specs.Held.{nested, nested_is_meaning, nested_means_one};
 
     type PartialState = Dispatch3<A::PartialState, B::PartialState, C::PartialState>;
 
-    ghost lawful = { each_3 A.lawful B.lawful C.lawful };
+    ghost lawful = { λ p. ⟦<Either<A, Either<B, C>> as Parser<Input>>⟧.lawful (nest_3 p) };
 
-    ghost determined = { each_3 A.determined B.determined C.determined };
+    ghost determined = { λ p. ⟦<Either<A, Either<B, C>> as Parser<Input>>⟧.determined (nest_3 p) };
 
-    ghost valid = { each_3 A.valid B.valid C.valid };
+    ghost valid = { λ s. ⟦<Either<A, Either<B, C>> as Parser<Input>>⟧.valid (nest_3 s) };
 
-    ghost meaning = { variant_3 A.meaning B.meaning C.meaning };
+    ghost meaning = { λ p. nested nest_3 (⟦<Either<A, Either<B, C>> as Parser<Input>>⟧.meaning (nest_3 p)) };
 
     ghost parts = { λ p. 1 };
 
-    ghost default_valid = { each_3_into A.PartialState.is_default A.valid B.PartialState.is_default B.valid C.PartialState.is_default C.valid A.default_valid B.default_valid C.default_valid };
+    ghost default_valid = { λ s. ⟦<Either<A, Either<B, C>> as Parser<Input>>⟧.default_valid (nest_3 s) };
 
-    ghost laws = { variant_3_is_meaning A.meaning B.meaning C.meaning A.PartialState.is_default A.valid B.PartialState.is_default B.valid C.PartialState.is_default C.valid A.lawful B.lawful C.lawful A.laws B.laws C.laws };
+    ghost laws = { λ p l. nested_is_meaning nest_3 (⟦<Either<A, Either<B, C>> as Parser<Input>>⟧.laws (nest_3 p) l) };
 
-    ghost single = { variant_3_means_one A.meaning B.meaning C.meaning A.PartialState.is_default A.valid B.PartialState.is_default B.valid C.PartialState.is_default C.valid A.lawful B.lawful C.lawful A.determined B.determined C.determined A.single B.single C.single };
+    ghost single = { λ p l d. nested_means_one nest_3 (⟦<Either<A, Either<B, C>> as Parser<Input>>⟧.single (nest_3 p) l d) };
 
     #[inline(always)]
     fn parse_mode<M: ParseMode>(
@@ -97,19 +98,19 @@ impl<
     ) -> ParseResult<A::Output, Input::Error> {
         match self {
             Dispatch3::A(parser) => {
-                let mut kept = start(take(state).into_a());
+                let mut kept = state.start_a();
                 let answer = parser.parse_mode(mode, input, &mut kept);
                 *state = Dispatch3::A(kept);
                 passed_on(answer)
             }
             Dispatch3::B(parser) => {
-                let mut kept = start(take(state).into_b());
+                let mut kept = state.start_b();
                 let answer = parser.parse_mode(mode, input, &mut kept);
                 *state = Dispatch3::B(kept);
                 passed_on(answer)
             }
             Dispatch3::C(parser) => {
-                let mut kept = start(take(state).into_c());
+                let mut kept = state.start_c();
                 let answer = parser.parse_mode(mode, input, &mut kept);
                 *state = Dispatch3::C(kept);
                 passed_on(answer)

@@ -1,8 +1,9 @@
 //! A parser that is one of four.
-ghost use Rattle.std.specs.Prelude.{◌≡◌};
-ghost use Rattle.combine_choice_dispatch.specs.Variants4.{each_4, pick_a, pick_b, pick_c, pick_d};
+ghost use Rattle.combine_choice_dispatch.specs.Held.{Started, within};
+ghost use Rattle.combine_choice_dispatch.specs.Halves.{nest_4};
+ghost use Rattle.combine_choice_dispatch.specs.Variants2.{pick_left, pick_right};
 
-use super::{passed_on, start};
+use super::{Either, passed_on};
 use combine_base::error::{ErrorOffset, ParseResult, Tracked};
 use combine_base::parser::{Outputs, ParseMode, Parser};
 use combine_base::stream::Stream;
@@ -20,51 +21,56 @@ pub enum Dispatch4<A, B, C, D> {
 }
 
 impl<A: Default, B: Default, C: Default, D: Default> Default for Dispatch4<A, B, C, D> {
-    ghost is_default = { each_4 A.is_default B.is_default C.is_default D.is_default };
+    ghost is_default = { λ s. ⟦<Either<Either<A, B>, Either<C, D>> as Default>⟧.is_default (nest_4 s) };
 
     fn default() -> Self {
         Dispatch4::A(A::default())
     }
 }
 
-impl<A: Drop, B: Drop, C: Drop, D: Drop> Dispatch4<A, B, C, D> {
+impl<A: Default + Drop, B: Default + Drop, C: Default + Drop, D: Default + Drop> Dispatch4<
+    A,
+    B,
+    C,
+    D,
+> {
     #[inline(always)]
-    fn into_a(self) -> Option<A>
-        ensures { result ≡ pick_a self }
+    fn start_a(&mut self) -> A
+        ensures { Started A.is_default (within pick_left (pick_left (nest_4 self.old))) result }
     {
         match self {
-            Dispatch4::A(kept) => Some(kept),
-            Dispatch4::B(_) | Dispatch4::C(_) | Dispatch4::D(_) => None,
+            Dispatch4::A(kept) => take(kept),
+            Dispatch4::B(_) | Dispatch4::C(_) | Dispatch4::D(_) => A::default(),
         }
     }
 
     #[inline(always)]
-    fn into_b(self) -> Option<B>
-        ensures { result ≡ pick_b self }
+    fn start_b(&mut self) -> B
+        ensures { Started B.is_default (within pick_right (pick_left (nest_4 self.old))) result }
     {
         match self {
-            Dispatch4::B(kept) => Some(kept),
-            Dispatch4::A(_) | Dispatch4::C(_) | Dispatch4::D(_) => None,
+            Dispatch4::B(kept) => take(kept),
+            Dispatch4::A(_) | Dispatch4::C(_) | Dispatch4::D(_) => B::default(),
         }
     }
 
     #[inline(always)]
-    fn into_c(self) -> Option<C>
-        ensures { result ≡ pick_c self }
+    fn start_c(&mut self) -> C
+        ensures { Started C.is_default (within pick_left (pick_right (nest_4 self.old))) result }
     {
         match self {
-            Dispatch4::C(kept) => Some(kept),
-            Dispatch4::A(_) | Dispatch4::B(_) | Dispatch4::D(_) => None,
+            Dispatch4::C(kept) => take(kept),
+            Dispatch4::A(_) | Dispatch4::B(_) | Dispatch4::D(_) => C::default(),
         }
     }
 
     #[inline(always)]
-    fn into_d(self) -> Option<D>
-        ensures { result ≡ pick_d self }
+    fn start_d(&mut self) -> D
+        ensures { Started D.is_default (within pick_right (pick_right (nest_4 self.old))) result }
     {
         match self {
-            Dispatch4::D(kept) => Some(kept),
-            Dispatch4::A(_) | Dispatch4::B(_) | Dispatch4::C(_) => None,
+            Dispatch4::D(kept) => take(kept),
+            Dispatch4::A(_) | Dispatch4::B(_) | Dispatch4::C(_) => D::default(),
         }
     }
 }
@@ -80,7 +86,7 @@ impl<
     C: Parser<Input, Output = A::Output>,
     D: Parser<Input, Output = A::Output>,
 > Parser<Input> for Dispatch4<A, B, C, D> {
-    ghost use Rattle.combine_choice_dispatch.specs.Variants4.{each_4, each_4_into, variant_4, variant_4_is_meaning, variant_4_means_one};
+    ghost use Rattle.combine_choice_dispatch.specs.Held.{nested, nested_is_meaning, nested_means_one};
 
     type PartialState = Dispatch4<
         A::PartialState,
@@ -89,21 +95,21 @@ impl<
         D::PartialState,
     >;
 
-    ghost lawful = { each_4 A.lawful B.lawful C.lawful D.lawful };
+    ghost lawful = { λ p. ⟦<Either<Either<A, B>, Either<C, D>> as Parser<Input>>⟧.lawful (nest_4 p) };
 
-    ghost determined = { each_4 A.determined B.determined C.determined D.determined };
+    ghost determined = { λ p. ⟦<Either<Either<A, B>, Either<C, D>> as Parser<Input>>⟧.determined (nest_4 p) };
 
-    ghost valid = { each_4 A.valid B.valid C.valid D.valid };
+    ghost valid = { λ s. ⟦<Either<Either<A, B>, Either<C, D>> as Parser<Input>>⟧.valid (nest_4 s) };
 
-    ghost meaning = { variant_4 A.meaning B.meaning C.meaning D.meaning };
+    ghost meaning = { λ p. nested nest_4 (⟦<Either<Either<A, B>, Either<C, D>> as Parser<Input>>⟧.meaning (nest_4 p)) };
 
     ghost parts = { λ p. 1 };
 
-    ghost default_valid = { each_4_into A.PartialState.is_default A.valid B.PartialState.is_default B.valid C.PartialState.is_default C.valid D.PartialState.is_default D.valid A.default_valid B.default_valid C.default_valid D.default_valid };
+    ghost default_valid = { λ s. ⟦<Either<Either<A, B>, Either<C, D>> as Parser<Input>>⟧.default_valid (nest_4 s) };
 
-    ghost laws = { variant_4_is_meaning A.meaning B.meaning C.meaning D.meaning A.PartialState.is_default A.valid B.PartialState.is_default B.valid C.PartialState.is_default C.valid D.PartialState.is_default D.valid A.lawful B.lawful C.lawful D.lawful A.laws B.laws C.laws D.laws };
+    ghost laws = { λ p l. nested_is_meaning nest_4 (⟦<Either<Either<A, B>, Either<C, D>> as Parser<Input>>⟧.laws (nest_4 p) l) };
 
-    ghost single = { variant_4_means_one A.meaning B.meaning C.meaning D.meaning A.PartialState.is_default A.valid B.PartialState.is_default B.valid C.PartialState.is_default C.valid D.PartialState.is_default D.valid A.lawful B.lawful C.lawful D.lawful A.determined B.determined C.determined D.determined A.single B.single C.single D.single };
+    ghost single = { λ p l d. nested_means_one nest_4 (⟦<Either<Either<A, B>, Either<C, D>> as Parser<Input>>⟧.single (nest_4 p) l d) };
 
     #[inline(always)]
     fn parse_mode<M: ParseMode>(
@@ -114,25 +120,25 @@ impl<
     ) -> ParseResult<A::Output, Input::Error> {
         match self {
             Dispatch4::A(parser) => {
-                let mut kept = start(take(state).into_a());
+                let mut kept = state.start_a();
                 let answer = parser.parse_mode(mode, input, &mut kept);
                 *state = Dispatch4::A(kept);
                 passed_on(answer)
             }
             Dispatch4::B(parser) => {
-                let mut kept = start(take(state).into_b());
+                let mut kept = state.start_b();
                 let answer = parser.parse_mode(mode, input, &mut kept);
                 *state = Dispatch4::B(kept);
                 passed_on(answer)
             }
             Dispatch4::C(parser) => {
-                let mut kept = start(take(state).into_c());
+                let mut kept = state.start_c();
                 let answer = parser.parse_mode(mode, input, &mut kept);
                 *state = Dispatch4::C(kept);
                 passed_on(answer)
             }
             Dispatch4::D(parser) => {
-                let mut kept = start(take(state).into_d());
+                let mut kept = state.start_d();
                 let answer = parser.parse_mode(mode, input, &mut kept);
                 *state = Dispatch4::D(kept);
                 passed_on(answer)

@@ -1,8 +1,9 @@
 //! A parser that is one of five.
-ghost use Rattle.std.specs.Prelude.{◌≡◌};
-ghost use Rattle.combine_choice_dispatch.specs.Variants5.{each_5, pick_a, pick_b, pick_c, pick_d, pick_e};
+ghost use Rattle.combine_choice_dispatch.specs.Held.{Started, within};
+ghost use Rattle.combine_choice_dispatch.specs.Halves.{nest_5};
+ghost use Rattle.combine_choice_dispatch.specs.Variants2.{pick_left, pick_right};
 
-use super::{passed_on, start};
+use super::{Either, passed_on};
 use combine_base::error::{ErrorOffset, ParseResult, Tracked};
 use combine_base::parser::{Outputs, ParseMode, Parser};
 use combine_base::stream::Stream;
@@ -22,61 +23,67 @@ pub enum Dispatch5<A, B, C, D, E> {
 
 impl<A: Default, B: Default, C: Default, D: Default, E: Default> Default
     for Dispatch5<A, B, C, D, E> {
-    ghost is_default = { each_5 A.is_default B.is_default C.is_default D.is_default E.is_default };
+    ghost is_default = { λ s. ⟦<Either<Either<A, B>, Either<C, Either<D, E>>> as Default>⟧.is_default (nest_5 s) };
 
     fn default() -> Self {
         Dispatch5::A(A::default())
     }
 }
 
-impl<A: Drop, B: Drop, C: Drop, D: Drop, E: Drop> Dispatch5<A, B, C, D, E> {
+impl<
+    A: Default + Drop,
+    B: Default + Drop,
+    C: Default + Drop,
+    D: Default + Drop,
+    E: Default + Drop,
+> Dispatch5<A, B, C, D, E> {
     #[inline(always)]
-    fn into_a(self) -> Option<A>
-        ensures { result ≡ pick_a self }
+    fn start_a(&mut self) -> A
+        ensures { Started A.is_default (within pick_left (pick_left (nest_5 self.old))) result }
     {
         match self {
-            Dispatch5::A(kept) => Some(kept),
-            Dispatch5::B(_) | Dispatch5::C(_) | Dispatch5::D(_) | Dispatch5::E(_) => None,
+            Dispatch5::A(kept) => take(kept),
+            Dispatch5::B(_) | Dispatch5::C(_) | Dispatch5::D(_) | Dispatch5::E(_) => A::default(),
         }
     }
 
     #[inline(always)]
-    fn into_b(self) -> Option<B>
-        ensures { result ≡ pick_b self }
+    fn start_b(&mut self) -> B
+        ensures { Started B.is_default (within pick_right (pick_left (nest_5 self.old))) result }
     {
         match self {
-            Dispatch5::B(kept) => Some(kept),
-            Dispatch5::A(_) | Dispatch5::C(_) | Dispatch5::D(_) | Dispatch5::E(_) => None,
+            Dispatch5::B(kept) => take(kept),
+            Dispatch5::A(_) | Dispatch5::C(_) | Dispatch5::D(_) | Dispatch5::E(_) => B::default(),
         }
     }
 
     #[inline(always)]
-    fn into_c(self) -> Option<C>
-        ensures { result ≡ pick_c self }
+    fn start_c(&mut self) -> C
+        ensures { Started C.is_default (within pick_left (pick_right (nest_5 self.old))) result }
     {
         match self {
-            Dispatch5::C(kept) => Some(kept),
-            Dispatch5::A(_) | Dispatch5::B(_) | Dispatch5::D(_) | Dispatch5::E(_) => None,
+            Dispatch5::C(kept) => take(kept),
+            Dispatch5::A(_) | Dispatch5::B(_) | Dispatch5::D(_) | Dispatch5::E(_) => C::default(),
         }
     }
 
     #[inline(always)]
-    fn into_d(self) -> Option<D>
-        ensures { result ≡ pick_d self }
+    fn start_d(&mut self) -> D
+        ensures { Started D.is_default (within pick_left (within pick_right (pick_right (nest_5 self.old)))) result }
     {
         match self {
-            Dispatch5::D(kept) => Some(kept),
-            Dispatch5::A(_) | Dispatch5::B(_) | Dispatch5::C(_) | Dispatch5::E(_) => None,
+            Dispatch5::D(kept) => take(kept),
+            Dispatch5::A(_) | Dispatch5::B(_) | Dispatch5::C(_) | Dispatch5::E(_) => D::default(),
         }
     }
 
     #[inline(always)]
-    fn into_e(self) -> Option<E>
-        ensures { result ≡ pick_e self }
+    fn start_e(&mut self) -> E
+        ensures { Started E.is_default (within pick_right (within pick_right (pick_right (nest_5 self.old)))) result }
     {
         match self {
-            Dispatch5::E(kept) => Some(kept),
-            Dispatch5::A(_) | Dispatch5::B(_) | Dispatch5::C(_) | Dispatch5::D(_) => None,
+            Dispatch5::E(kept) => take(kept),
+            Dispatch5::A(_) | Dispatch5::B(_) | Dispatch5::C(_) | Dispatch5::D(_) => E::default(),
         }
     }
 }
@@ -93,7 +100,7 @@ impl<
     D: Parser<Input, Output = A::Output>,
     E: Parser<Input, Output = A::Output>,
 > Parser<Input> for Dispatch5<A, B, C, D, E> {
-    ghost use Rattle.combine_choice_dispatch.specs.Variants5.{each_5, each_5_into, variant_5, variant_5_is_meaning, variant_5_means_one};
+    ghost use Rattle.combine_choice_dispatch.specs.Held.{nested, nested_is_meaning, nested_means_one};
 
     type PartialState = Dispatch5<
         A::PartialState,
@@ -103,21 +110,21 @@ impl<
         E::PartialState,
     >;
 
-    ghost lawful = { each_5 A.lawful B.lawful C.lawful D.lawful E.lawful };
+    ghost lawful = { λ p. ⟦<Either<Either<A, B>, Either<C, Either<D, E>>> as Parser<Input>>⟧.lawful (nest_5 p) };
 
-    ghost determined = { each_5 A.determined B.determined C.determined D.determined E.determined };
+    ghost determined = { λ p. ⟦<Either<Either<A, B>, Either<C, Either<D, E>>> as Parser<Input>>⟧.determined (nest_5 p) };
 
-    ghost valid = { each_5 A.valid B.valid C.valid D.valid E.valid };
+    ghost valid = { λ s. ⟦<Either<Either<A, B>, Either<C, Either<D, E>>> as Parser<Input>>⟧.valid (nest_5 s) };
 
-    ghost meaning = { variant_5 A.meaning B.meaning C.meaning D.meaning E.meaning };
+    ghost meaning = { λ p. nested nest_5 (⟦<Either<Either<A, B>, Either<C, Either<D, E>>> as Parser<Input>>⟧.meaning (nest_5 p)) };
 
     ghost parts = { λ p. 1 };
 
-    ghost default_valid = { each_5_into A.PartialState.is_default A.valid B.PartialState.is_default B.valid C.PartialState.is_default C.valid D.PartialState.is_default D.valid E.PartialState.is_default E.valid A.default_valid B.default_valid C.default_valid D.default_valid E.default_valid };
+    ghost default_valid = { λ s. ⟦<Either<Either<A, B>, Either<C, Either<D, E>>> as Parser<Input>>⟧.default_valid (nest_5 s) };
 
-    ghost laws = { variant_5_is_meaning A.meaning B.meaning C.meaning D.meaning E.meaning A.PartialState.is_default A.valid B.PartialState.is_default B.valid C.PartialState.is_default C.valid D.PartialState.is_default D.valid E.PartialState.is_default E.valid A.lawful B.lawful C.lawful D.lawful E.lawful A.laws B.laws C.laws D.laws E.laws };
+    ghost laws = { λ p l. nested_is_meaning nest_5 (⟦<Either<Either<A, B>, Either<C, Either<D, E>>> as Parser<Input>>⟧.laws (nest_5 p) l) };
 
-    ghost single = { variant_5_means_one A.meaning B.meaning C.meaning D.meaning E.meaning A.PartialState.is_default A.valid B.PartialState.is_default B.valid C.PartialState.is_default C.valid D.PartialState.is_default D.valid E.PartialState.is_default E.valid A.lawful B.lawful C.lawful D.lawful E.lawful A.determined B.determined C.determined D.determined E.determined A.single B.single C.single D.single E.single };
+    ghost single = { λ p l d. nested_means_one nest_5 (⟦<Either<Either<A, B>, Either<C, Either<D, E>>> as Parser<Input>>⟧.single (nest_5 p) l d) };
 
     #[inline(always)]
     fn parse_mode<M: ParseMode>(
@@ -128,31 +135,31 @@ impl<
     ) -> ParseResult<A::Output, Input::Error> {
         match self {
             Dispatch5::A(parser) => {
-                let mut kept = start(take(state).into_a());
+                let mut kept = state.start_a();
                 let answer = parser.parse_mode(mode, input, &mut kept);
                 *state = Dispatch5::A(kept);
                 passed_on(answer)
             }
             Dispatch5::B(parser) => {
-                let mut kept = start(take(state).into_b());
+                let mut kept = state.start_b();
                 let answer = parser.parse_mode(mode, input, &mut kept);
                 *state = Dispatch5::B(kept);
                 passed_on(answer)
             }
             Dispatch5::C(parser) => {
-                let mut kept = start(take(state).into_c());
+                let mut kept = state.start_c();
                 let answer = parser.parse_mode(mode, input, &mut kept);
                 *state = Dispatch5::C(kept);
                 passed_on(answer)
             }
             Dispatch5::D(parser) => {
-                let mut kept = start(take(state).into_d());
+                let mut kept = state.start_d();
                 let answer = parser.parse_mode(mode, input, &mut kept);
                 *state = Dispatch5::D(kept);
                 passed_on(answer)
             }
             Dispatch5::E(parser) => {
-                let mut kept = start(take(state).into_e());
+                let mut kept = state.start_e();
                 let answer = parser.parse_mode(mode, input, &mut kept);
                 *state = Dispatch5::E(kept);
                 passed_on(answer)

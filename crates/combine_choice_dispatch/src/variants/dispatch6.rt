@@ -1,8 +1,9 @@
 //! A parser that is one of six.
-ghost use Rattle.std.specs.Prelude.{◌≡◌};
-ghost use Rattle.combine_choice_dispatch.specs.Variants6.{each_6, pick_a, pick_b, pick_c, pick_d, pick_e, pick_f};
+ghost use Rattle.combine_choice_dispatch.specs.Held.{Started, within};
+ghost use Rattle.combine_choice_dispatch.specs.Halves.{nest_6};
+ghost use Rattle.combine_choice_dispatch.specs.Variants2.{pick_left, pick_right};
 
-use super::{passed_on, start};
+use super::{Either, passed_on};
 use combine_base::error::{ErrorOffset, ParseResult, Tracked};
 use combine_base::parser::{Outputs, ParseMode, Parser};
 use combine_base::stream::Stream;
@@ -23,95 +24,102 @@ pub enum Dispatch6<A, B, C, D, E, F> {
 
 impl<A: Default, B: Default, C: Default, D: Default, E: Default, F: Default> Default
     for Dispatch6<A, B, C, D, E, F> {
-    ghost is_default = { each_6 A.is_default B.is_default C.is_default D.is_default E.is_default F.is_default };
+    ghost is_default = { λ s. ⟦<Either<Either<A, Either<B, C>>, Either<D, Either<E, F>>> as Default>⟧.is_default (nest_6 s) };
 
     fn default() -> Self {
         Dispatch6::A(A::default())
     }
 }
 
-impl<A: Drop, B: Drop, C: Drop, D: Drop, E: Drop, F: Drop> Dispatch6<A, B, C, D, E, F> {
+impl<
+    A: Default + Drop,
+    B: Default + Drop,
+    C: Default + Drop,
+    D: Default + Drop,
+    E: Default + Drop,
+    F: Default + Drop,
+> Dispatch6<A, B, C, D, E, F> {
     #[inline(always)]
-    fn into_a(self) -> Option<A>
-        ensures { result ≡ pick_a self }
+    fn start_a(&mut self) -> A
+        ensures { Started A.is_default (within pick_left (pick_left (nest_6 self.old))) result }
     {
         match self {
-            Dispatch6::A(kept) => Some(kept),
+            Dispatch6::A(kept) => take(kept),
             Dispatch6::B(_)
             | Dispatch6::C(_)
             | Dispatch6::D(_)
             | Dispatch6::E(_)
-            | Dispatch6::F(_) => None,
+            | Dispatch6::F(_) => A::default(),
         }
     }
 
     #[inline(always)]
-    fn into_b(self) -> Option<B>
-        ensures { result ≡ pick_b self }
+    fn start_b(&mut self) -> B
+        ensures { Started B.is_default (within pick_left (within pick_right (pick_left (nest_6 self.old)))) result }
     {
         match self {
-            Dispatch6::B(kept) => Some(kept),
+            Dispatch6::B(kept) => take(kept),
             Dispatch6::A(_)
             | Dispatch6::C(_)
             | Dispatch6::D(_)
             | Dispatch6::E(_)
-            | Dispatch6::F(_) => None,
+            | Dispatch6::F(_) => B::default(),
         }
     }
 
     #[inline(always)]
-    fn into_c(self) -> Option<C>
-        ensures { result ≡ pick_c self }
+    fn start_c(&mut self) -> C
+        ensures { Started C.is_default (within pick_right (within pick_right (pick_left (nest_6 self.old)))) result }
     {
         match self {
-            Dispatch6::C(kept) => Some(kept),
+            Dispatch6::C(kept) => take(kept),
             Dispatch6::A(_)
             | Dispatch6::B(_)
             | Dispatch6::D(_)
             | Dispatch6::E(_)
-            | Dispatch6::F(_) => None,
+            | Dispatch6::F(_) => C::default(),
         }
     }
 
     #[inline(always)]
-    fn into_d(self) -> Option<D>
-        ensures { result ≡ pick_d self }
+    fn start_d(&mut self) -> D
+        ensures { Started D.is_default (within pick_left (pick_right (nest_6 self.old))) result }
     {
         match self {
-            Dispatch6::D(kept) => Some(kept),
+            Dispatch6::D(kept) => take(kept),
             Dispatch6::A(_)
             | Dispatch6::B(_)
             | Dispatch6::C(_)
             | Dispatch6::E(_)
-            | Dispatch6::F(_) => None,
+            | Dispatch6::F(_) => D::default(),
         }
     }
 
     #[inline(always)]
-    fn into_e(self) -> Option<E>
-        ensures { result ≡ pick_e self }
+    fn start_e(&mut self) -> E
+        ensures { Started E.is_default (within pick_left (within pick_right (pick_right (nest_6 self.old)))) result }
     {
         match self {
-            Dispatch6::E(kept) => Some(kept),
+            Dispatch6::E(kept) => take(kept),
             Dispatch6::A(_)
             | Dispatch6::B(_)
             | Dispatch6::C(_)
             | Dispatch6::D(_)
-            | Dispatch6::F(_) => None,
+            | Dispatch6::F(_) => E::default(),
         }
     }
 
     #[inline(always)]
-    fn into_f(self) -> Option<F>
-        ensures { result ≡ pick_f self }
+    fn start_f(&mut self) -> F
+        ensures { Started F.is_default (within pick_right (within pick_right (pick_right (nest_6 self.old)))) result }
     {
         match self {
-            Dispatch6::F(kept) => Some(kept),
+            Dispatch6::F(kept) => take(kept),
             Dispatch6::A(_)
             | Dispatch6::B(_)
             | Dispatch6::C(_)
             | Dispatch6::D(_)
-            | Dispatch6::E(_) => None,
+            | Dispatch6::E(_) => F::default(),
         }
     }
 }
@@ -129,7 +137,7 @@ impl<
     E: Parser<Input, Output = A::Output>,
     F: Parser<Input, Output = A::Output>,
 > Parser<Input> for Dispatch6<A, B, C, D, E, F> {
-    ghost use Rattle.combine_choice_dispatch.specs.Variants6.{each_6, each_6_into, variant_6, variant_6_is_meaning, variant_6_means_one};
+    ghost use Rattle.combine_choice_dispatch.specs.Held.{nested, nested_is_meaning, nested_means_one};
 
     type PartialState = Dispatch6<
         A::PartialState,
@@ -140,21 +148,21 @@ impl<
         F::PartialState,
     >;
 
-    ghost lawful = { each_6 A.lawful B.lawful C.lawful D.lawful E.lawful F.lawful };
+    ghost lawful = { λ p. ⟦<Either<Either<A, Either<B, C>>, Either<D, Either<E, F>>> as Parser<Input>>⟧.lawful (nest_6 p) };
 
-    ghost determined = { each_6 A.determined B.determined C.determined D.determined E.determined F.determined };
+    ghost determined = { λ p. ⟦<Either<Either<A, Either<B, C>>, Either<D, Either<E, F>>> as Parser<Input>>⟧.determined (nest_6 p) };
 
-    ghost valid = { each_6 A.valid B.valid C.valid D.valid E.valid F.valid };
+    ghost valid = { λ s. ⟦<Either<Either<A, Either<B, C>>, Either<D, Either<E, F>>> as Parser<Input>>⟧.valid (nest_6 s) };
 
-    ghost meaning = { variant_6 A.meaning B.meaning C.meaning D.meaning E.meaning F.meaning };
+    ghost meaning = { λ p. nested nest_6 (⟦<Either<Either<A, Either<B, C>>, Either<D, Either<E, F>>> as Parser<Input>>⟧.meaning (nest_6 p)) };
 
     ghost parts = { λ p. 1 };
 
-    ghost default_valid = { each_6_into A.PartialState.is_default A.valid B.PartialState.is_default B.valid C.PartialState.is_default C.valid D.PartialState.is_default D.valid E.PartialState.is_default E.valid F.PartialState.is_default F.valid A.default_valid B.default_valid C.default_valid D.default_valid E.default_valid F.default_valid };
+    ghost default_valid = { λ s. ⟦<Either<Either<A, Either<B, C>>, Either<D, Either<E, F>>> as Parser<Input>>⟧.default_valid (nest_6 s) };
 
-    ghost laws = { variant_6_is_meaning A.meaning B.meaning C.meaning D.meaning E.meaning F.meaning A.PartialState.is_default A.valid B.PartialState.is_default B.valid C.PartialState.is_default C.valid D.PartialState.is_default D.valid E.PartialState.is_default E.valid F.PartialState.is_default F.valid A.lawful B.lawful C.lawful D.lawful E.lawful F.lawful A.laws B.laws C.laws D.laws E.laws F.laws };
+    ghost laws = { λ p l. nested_is_meaning nest_6 (⟦<Either<Either<A, Either<B, C>>, Either<D, Either<E, F>>> as Parser<Input>>⟧.laws (nest_6 p) l) };
 
-    ghost single = { variant_6_means_one A.meaning B.meaning C.meaning D.meaning E.meaning F.meaning A.PartialState.is_default A.valid B.PartialState.is_default B.valid C.PartialState.is_default C.valid D.PartialState.is_default D.valid E.PartialState.is_default E.valid F.PartialState.is_default F.valid A.lawful B.lawful C.lawful D.lawful E.lawful F.lawful A.determined B.determined C.determined D.determined E.determined F.determined A.single B.single C.single D.single E.single F.single };
+    ghost single = { λ p l d. nested_means_one nest_6 (⟦<Either<Either<A, Either<B, C>>, Either<D, Either<E, F>>> as Parser<Input>>⟧.single (nest_6 p) l d) };
 
     #[inline(always)]
     fn parse_mode<M: ParseMode>(
@@ -165,37 +173,37 @@ impl<
     ) -> ParseResult<A::Output, Input::Error> {
         match self {
             Dispatch6::A(parser) => {
-                let mut kept = start(take(state).into_a());
+                let mut kept = state.start_a();
                 let answer = parser.parse_mode(mode, input, &mut kept);
                 *state = Dispatch6::A(kept);
                 passed_on(answer)
             }
             Dispatch6::B(parser) => {
-                let mut kept = start(take(state).into_b());
+                let mut kept = state.start_b();
                 let answer = parser.parse_mode(mode, input, &mut kept);
                 *state = Dispatch6::B(kept);
                 passed_on(answer)
             }
             Dispatch6::C(parser) => {
-                let mut kept = start(take(state).into_c());
+                let mut kept = state.start_c();
                 let answer = parser.parse_mode(mode, input, &mut kept);
                 *state = Dispatch6::C(kept);
                 passed_on(answer)
             }
             Dispatch6::D(parser) => {
-                let mut kept = start(take(state).into_d());
+                let mut kept = state.start_d();
                 let answer = parser.parse_mode(mode, input, &mut kept);
                 *state = Dispatch6::D(kept);
                 passed_on(answer)
             }
             Dispatch6::E(parser) => {
-                let mut kept = start(take(state).into_e());
+                let mut kept = state.start_e();
                 let answer = parser.parse_mode(mode, input, &mut kept);
                 *state = Dispatch6::E(kept);
                 passed_on(answer)
             }
             Dispatch6::F(parser) => {
-                let mut kept = start(take(state).into_f());
+                let mut kept = state.start_f();
                 let answer = parser.parse_mode(mode, input, &mut kept);
                 *state = Dispatch6::F(kept);
                 passed_on(answer)

@@ -1,8 +1,9 @@
 //! A parser that is one of seven.
-ghost use Rattle.std.specs.Prelude.{◌≡◌};
-ghost use Rattle.combine_choice_dispatch.specs.Variants7.{each_7, pick_a, pick_b, pick_c, pick_d, pick_e, pick_f, pick_g};
+ghost use Rattle.combine_choice_dispatch.specs.Held.{Started, within};
+ghost use Rattle.combine_choice_dispatch.specs.Halves.{nest_7};
+ghost use Rattle.combine_choice_dispatch.specs.Variants2.{pick_left, pick_right};
 
-use super::{passed_on, start};
+use super::{Either, passed_on};
 use combine_base::error::{ErrorOffset, ParseResult, Tracked};
 use combine_base::parser::{Outputs, ParseMode, Parser};
 use combine_base::stream::Stream;
@@ -24,116 +25,124 @@ pub enum Dispatch7<A, B, C, D, E, F, G> {
 
 impl<A: Default, B: Default, C: Default, D: Default, E: Default, F: Default, G: Default> Default
     for Dispatch7<A, B, C, D, E, F, G> {
-    ghost is_default = { each_7 A.is_default B.is_default C.is_default D.is_default E.is_default F.is_default G.is_default };
+    ghost is_default = { λ s. ⟦<Either<Either<A, Either<B, C>>, Either<Either<D, E>, Either<F, G>>> as Default>⟧.is_default (nest_7 s) };
 
     fn default() -> Self {
         Dispatch7::A(A::default())
     }
 }
 
-impl<A: Drop, B: Drop, C: Drop, D: Drop, E: Drop, F: Drop, G: Drop> Dispatch7<A, B, C, D, E, F, G> {
+impl<
+    A: Default + Drop,
+    B: Default + Drop,
+    C: Default + Drop,
+    D: Default + Drop,
+    E: Default + Drop,
+    F: Default + Drop,
+    G: Default + Drop,
+> Dispatch7<A, B, C, D, E, F, G> {
     #[inline(always)]
-    fn into_a(self) -> Option<A>
-        ensures { result ≡ pick_a self }
+    fn start_a(&mut self) -> A
+        ensures { Started A.is_default (within pick_left (pick_left (nest_7 self.old))) result }
     {
         match self {
-            Dispatch7::A(kept) => Some(kept),
+            Dispatch7::A(kept) => take(kept),
             Dispatch7::B(_)
             | Dispatch7::C(_)
             | Dispatch7::D(_)
             | Dispatch7::E(_)
             | Dispatch7::F(_)
-            | Dispatch7::G(_) => None,
+            | Dispatch7::G(_) => A::default(),
         }
     }
 
     #[inline(always)]
-    fn into_b(self) -> Option<B>
-        ensures { result ≡ pick_b self }
+    fn start_b(&mut self) -> B
+        ensures { Started B.is_default (within pick_left (within pick_right (pick_left (nest_7 self.old)))) result }
     {
         match self {
-            Dispatch7::B(kept) => Some(kept),
+            Dispatch7::B(kept) => take(kept),
             Dispatch7::A(_)
             | Dispatch7::C(_)
             | Dispatch7::D(_)
             | Dispatch7::E(_)
             | Dispatch7::F(_)
-            | Dispatch7::G(_) => None,
+            | Dispatch7::G(_) => B::default(),
         }
     }
 
     #[inline(always)]
-    fn into_c(self) -> Option<C>
-        ensures { result ≡ pick_c self }
+    fn start_c(&mut self) -> C
+        ensures { Started C.is_default (within pick_right (within pick_right (pick_left (nest_7 self.old)))) result }
     {
         match self {
-            Dispatch7::C(kept) => Some(kept),
+            Dispatch7::C(kept) => take(kept),
             Dispatch7::A(_)
             | Dispatch7::B(_)
             | Dispatch7::D(_)
             | Dispatch7::E(_)
             | Dispatch7::F(_)
-            | Dispatch7::G(_) => None,
+            | Dispatch7::G(_) => C::default(),
         }
     }
 
     #[inline(always)]
-    fn into_d(self) -> Option<D>
-        ensures { result ≡ pick_d self }
+    fn start_d(&mut self) -> D
+        ensures { Started D.is_default (within pick_left (within pick_left (pick_right (nest_7 self.old)))) result }
     {
         match self {
-            Dispatch7::D(kept) => Some(kept),
+            Dispatch7::D(kept) => take(kept),
             Dispatch7::A(_)
             | Dispatch7::B(_)
             | Dispatch7::C(_)
             | Dispatch7::E(_)
             | Dispatch7::F(_)
-            | Dispatch7::G(_) => None,
+            | Dispatch7::G(_) => D::default(),
         }
     }
 
     #[inline(always)]
-    fn into_e(self) -> Option<E>
-        ensures { result ≡ pick_e self }
+    fn start_e(&mut self) -> E
+        ensures { Started E.is_default (within pick_right (within pick_left (pick_right (nest_7 self.old)))) result }
     {
         match self {
-            Dispatch7::E(kept) => Some(kept),
+            Dispatch7::E(kept) => take(kept),
             Dispatch7::A(_)
             | Dispatch7::B(_)
             | Dispatch7::C(_)
             | Dispatch7::D(_)
             | Dispatch7::F(_)
-            | Dispatch7::G(_) => None,
+            | Dispatch7::G(_) => E::default(),
         }
     }
 
     #[inline(always)]
-    fn into_f(self) -> Option<F>
-        ensures { result ≡ pick_f self }
+    fn start_f(&mut self) -> F
+        ensures { Started F.is_default (within pick_left (within pick_right (pick_right (nest_7 self.old)))) result }
     {
         match self {
-            Dispatch7::F(kept) => Some(kept),
+            Dispatch7::F(kept) => take(kept),
             Dispatch7::A(_)
             | Dispatch7::B(_)
             | Dispatch7::C(_)
             | Dispatch7::D(_)
             | Dispatch7::E(_)
-            | Dispatch7::G(_) => None,
+            | Dispatch7::G(_) => F::default(),
         }
     }
 
     #[inline(always)]
-    fn into_g(self) -> Option<G>
-        ensures { result ≡ pick_g self }
+    fn start_g(&mut self) -> G
+        ensures { Started G.is_default (within pick_right (within pick_right (pick_right (nest_7 self.old)))) result }
     {
         match self {
-            Dispatch7::G(kept) => Some(kept),
+            Dispatch7::G(kept) => take(kept),
             Dispatch7::A(_)
             | Dispatch7::B(_)
             | Dispatch7::C(_)
             | Dispatch7::D(_)
             | Dispatch7::E(_)
-            | Dispatch7::F(_) => None,
+            | Dispatch7::F(_) => G::default(),
         }
     }
 }
@@ -152,7 +161,7 @@ impl<
     F: Parser<Input, Output = A::Output>,
     G: Parser<Input, Output = A::Output>,
 > Parser<Input> for Dispatch7<A, B, C, D, E, F, G> {
-    ghost use Rattle.combine_choice_dispatch.specs.Variants7.{each_7, each_7_into, variant_7, variant_7_is_meaning, variant_7_means_one};
+    ghost use Rattle.combine_choice_dispatch.specs.Held.{nested, nested_is_meaning, nested_means_one};
 
     type PartialState = Dispatch7<
         A::PartialState,
@@ -164,21 +173,21 @@ impl<
         G::PartialState,
     >;
 
-    ghost lawful = { each_7 A.lawful B.lawful C.lawful D.lawful E.lawful F.lawful G.lawful };
+    ghost lawful = { λ p. ⟦<Either<Either<A, Either<B, C>>, Either<Either<D, E>, Either<F, G>>> as Parser<Input>>⟧.lawful (nest_7 p) };
 
-    ghost determined = { each_7 A.determined B.determined C.determined D.determined E.determined F.determined G.determined };
+    ghost determined = { λ p. ⟦<Either<Either<A, Either<B, C>>, Either<Either<D, E>, Either<F, G>>> as Parser<Input>>⟧.determined (nest_7 p) };
 
-    ghost valid = { each_7 A.valid B.valid C.valid D.valid E.valid F.valid G.valid };
+    ghost valid = { λ s. ⟦<Either<Either<A, Either<B, C>>, Either<Either<D, E>, Either<F, G>>> as Parser<Input>>⟧.valid (nest_7 s) };
 
-    ghost meaning = { variant_7 A.meaning B.meaning C.meaning D.meaning E.meaning F.meaning G.meaning };
+    ghost meaning = { λ p. nested nest_7 (⟦<Either<Either<A, Either<B, C>>, Either<Either<D, E>, Either<F, G>>> as Parser<Input>>⟧.meaning (nest_7 p)) };
 
     ghost parts = { λ p. 1 };
 
-    ghost default_valid = { each_7_into A.PartialState.is_default A.valid B.PartialState.is_default B.valid C.PartialState.is_default C.valid D.PartialState.is_default D.valid E.PartialState.is_default E.valid F.PartialState.is_default F.valid G.PartialState.is_default G.valid A.default_valid B.default_valid C.default_valid D.default_valid E.default_valid F.default_valid G.default_valid };
+    ghost default_valid = { λ s. ⟦<Either<Either<A, Either<B, C>>, Either<Either<D, E>, Either<F, G>>> as Parser<Input>>⟧.default_valid (nest_7 s) };
 
-    ghost laws = { variant_7_is_meaning A.meaning B.meaning C.meaning D.meaning E.meaning F.meaning G.meaning A.PartialState.is_default A.valid B.PartialState.is_default B.valid C.PartialState.is_default C.valid D.PartialState.is_default D.valid E.PartialState.is_default E.valid F.PartialState.is_default F.valid G.PartialState.is_default G.valid A.lawful B.lawful C.lawful D.lawful E.lawful F.lawful G.lawful A.laws B.laws C.laws D.laws E.laws F.laws G.laws };
+    ghost laws = { λ p l. nested_is_meaning nest_7 (⟦<Either<Either<A, Either<B, C>>, Either<Either<D, E>, Either<F, G>>> as Parser<Input>>⟧.laws (nest_7 p) l) };
 
-    ghost single = { variant_7_means_one A.meaning B.meaning C.meaning D.meaning E.meaning F.meaning G.meaning A.PartialState.is_default A.valid B.PartialState.is_default B.valid C.PartialState.is_default C.valid D.PartialState.is_default D.valid E.PartialState.is_default E.valid F.PartialState.is_default F.valid G.PartialState.is_default G.valid A.lawful B.lawful C.lawful D.lawful E.lawful F.lawful G.lawful A.determined B.determined C.determined D.determined E.determined F.determined G.determined A.single B.single C.single D.single E.single F.single G.single };
+    ghost single = { λ p l d. nested_means_one nest_7 (⟦<Either<Either<A, Either<B, C>>, Either<Either<D, E>, Either<F, G>>> as Parser<Input>>⟧.single (nest_7 p) l d) };
 
     #[inline(always)]
     fn parse_mode<M: ParseMode>(
@@ -189,43 +198,43 @@ impl<
     ) -> ParseResult<A::Output, Input::Error> {
         match self {
             Dispatch7::A(parser) => {
-                let mut kept = start(take(state).into_a());
+                let mut kept = state.start_a();
                 let answer = parser.parse_mode(mode, input, &mut kept);
                 *state = Dispatch7::A(kept);
                 passed_on(answer)
             }
             Dispatch7::B(parser) => {
-                let mut kept = start(take(state).into_b());
+                let mut kept = state.start_b();
                 let answer = parser.parse_mode(mode, input, &mut kept);
                 *state = Dispatch7::B(kept);
                 passed_on(answer)
             }
             Dispatch7::C(parser) => {
-                let mut kept = start(take(state).into_c());
+                let mut kept = state.start_c();
                 let answer = parser.parse_mode(mode, input, &mut kept);
                 *state = Dispatch7::C(kept);
                 passed_on(answer)
             }
             Dispatch7::D(parser) => {
-                let mut kept = start(take(state).into_d());
+                let mut kept = state.start_d();
                 let answer = parser.parse_mode(mode, input, &mut kept);
                 *state = Dispatch7::D(kept);
                 passed_on(answer)
             }
             Dispatch7::E(parser) => {
-                let mut kept = start(take(state).into_e());
+                let mut kept = state.start_e();
                 let answer = parser.parse_mode(mode, input, &mut kept);
                 *state = Dispatch7::E(kept);
                 passed_on(answer)
             }
             Dispatch7::F(parser) => {
-                let mut kept = start(take(state).into_f());
+                let mut kept = state.start_f();
                 let answer = parser.parse_mode(mode, input, &mut kept);
                 *state = Dispatch7::F(kept);
                 passed_on(answer)
             }
             Dispatch7::G(parser) => {
-                let mut kept = start(take(state).into_g());
+                let mut kept = state.start_g();
                 let answer = parser.parse_mode(mode, input, &mut kept);
                 *state = Dispatch7::G(kept);
                 passed_on(answer)

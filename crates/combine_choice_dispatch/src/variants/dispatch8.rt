@@ -1,8 +1,9 @@
 //! A parser that is one of eight.
-ghost use Rattle.std.specs.Prelude.{◌≡◌};
-ghost use Rattle.combine_choice_dispatch.specs.Variants8.{each_8, pick_a, pick_b, pick_c, pick_d, pick_e, pick_f, pick_g, pick_h};
+ghost use Rattle.combine_choice_dispatch.specs.Held.{Started, within};
+ghost use Rattle.combine_choice_dispatch.specs.Halves.{nest_8};
+ghost use Rattle.combine_choice_dispatch.specs.Variants2.{pick_left, pick_right};
 
-use super::{passed_on, start};
+use super::{Either, passed_on};
 use combine_base::error::{ErrorOffset, ParseResult, Tracked};
 use combine_base::parser::{Outputs, ParseMode, Parser};
 use combine_base::stream::Stream;
@@ -33,148 +34,148 @@ impl<
     G: Default,
     H: Default,
 > Default for Dispatch8<A, B, C, D, E, F, G, H> {
-    ghost is_default = { each_8 A.is_default B.is_default C.is_default D.is_default E.is_default F.is_default G.is_default H.is_default };
+    ghost is_default = { λ s. ⟦<Either<Either<Either<A, B>, Either<C, D>>, Either<Either<E, F>, Either<G, H>>> as Default>⟧.is_default (nest_8 s) };
 
     fn default() -> Self {
         Dispatch8::A(A::default())
     }
 }
 
-impl<A: Drop, B: Drop, C: Drop, D: Drop, E: Drop, F: Drop, G: Drop, H: Drop> Dispatch8<
-    A,
-    B,
-    C,
-    D,
-    E,
-    F,
-    G,
-    H,
-> {
+impl<
+    A: Default + Drop,
+    B: Default + Drop,
+    C: Default + Drop,
+    D: Default + Drop,
+    E: Default + Drop,
+    F: Default + Drop,
+    G: Default + Drop,
+    H: Default + Drop,
+> Dispatch8<A, B, C, D, E, F, G, H> {
     #[inline(always)]
-    fn into_a(self) -> Option<A>
-        ensures { result ≡ pick_a self }
+    fn start_a(&mut self) -> A
+        ensures { Started A.is_default (within pick_left (within pick_left (pick_left (nest_8 self.old)))) result }
     {
         match self {
-            Dispatch8::A(kept) => Some(kept),
+            Dispatch8::A(kept) => take(kept),
             Dispatch8::B(_)
             | Dispatch8::C(_)
             | Dispatch8::D(_)
             | Dispatch8::E(_)
             | Dispatch8::F(_)
             | Dispatch8::G(_)
-            | Dispatch8::H(_) => None,
+            | Dispatch8::H(_) => A::default(),
         }
     }
 
     #[inline(always)]
-    fn into_b(self) -> Option<B>
-        ensures { result ≡ pick_b self }
+    fn start_b(&mut self) -> B
+        ensures { Started B.is_default (within pick_right (within pick_left (pick_left (nest_8 self.old)))) result }
     {
         match self {
-            Dispatch8::B(kept) => Some(kept),
+            Dispatch8::B(kept) => take(kept),
             Dispatch8::A(_)
             | Dispatch8::C(_)
             | Dispatch8::D(_)
             | Dispatch8::E(_)
             | Dispatch8::F(_)
             | Dispatch8::G(_)
-            | Dispatch8::H(_) => None,
+            | Dispatch8::H(_) => B::default(),
         }
     }
 
     #[inline(always)]
-    fn into_c(self) -> Option<C>
-        ensures { result ≡ pick_c self }
+    fn start_c(&mut self) -> C
+        ensures { Started C.is_default (within pick_left (within pick_right (pick_left (nest_8 self.old)))) result }
     {
         match self {
-            Dispatch8::C(kept) => Some(kept),
+            Dispatch8::C(kept) => take(kept),
             Dispatch8::A(_)
             | Dispatch8::B(_)
             | Dispatch8::D(_)
             | Dispatch8::E(_)
             | Dispatch8::F(_)
             | Dispatch8::G(_)
-            | Dispatch8::H(_) => None,
+            | Dispatch8::H(_) => C::default(),
         }
     }
 
     #[inline(always)]
-    fn into_d(self) -> Option<D>
-        ensures { result ≡ pick_d self }
+    fn start_d(&mut self) -> D
+        ensures { Started D.is_default (within pick_right (within pick_right (pick_left (nest_8 self.old)))) result }
     {
         match self {
-            Dispatch8::D(kept) => Some(kept),
+            Dispatch8::D(kept) => take(kept),
             Dispatch8::A(_)
             | Dispatch8::B(_)
             | Dispatch8::C(_)
             | Dispatch8::E(_)
             | Dispatch8::F(_)
             | Dispatch8::G(_)
-            | Dispatch8::H(_) => None,
+            | Dispatch8::H(_) => D::default(),
         }
     }
 
     #[inline(always)]
-    fn into_e(self) -> Option<E>
-        ensures { result ≡ pick_e self }
+    fn start_e(&mut self) -> E
+        ensures { Started E.is_default (within pick_left (within pick_left (pick_right (nest_8 self.old)))) result }
     {
         match self {
-            Dispatch8::E(kept) => Some(kept),
+            Dispatch8::E(kept) => take(kept),
             Dispatch8::A(_)
             | Dispatch8::B(_)
             | Dispatch8::C(_)
             | Dispatch8::D(_)
             | Dispatch8::F(_)
             | Dispatch8::G(_)
-            | Dispatch8::H(_) => None,
+            | Dispatch8::H(_) => E::default(),
         }
     }
 
     #[inline(always)]
-    fn into_f(self) -> Option<F>
-        ensures { result ≡ pick_f self }
+    fn start_f(&mut self) -> F
+        ensures { Started F.is_default (within pick_right (within pick_left (pick_right (nest_8 self.old)))) result }
     {
         match self {
-            Dispatch8::F(kept) => Some(kept),
+            Dispatch8::F(kept) => take(kept),
             Dispatch8::A(_)
             | Dispatch8::B(_)
             | Dispatch8::C(_)
             | Dispatch8::D(_)
             | Dispatch8::E(_)
             | Dispatch8::G(_)
-            | Dispatch8::H(_) => None,
+            | Dispatch8::H(_) => F::default(),
         }
     }
 
     #[inline(always)]
-    fn into_g(self) -> Option<G>
-        ensures { result ≡ pick_g self }
+    fn start_g(&mut self) -> G
+        ensures { Started G.is_default (within pick_left (within pick_right (pick_right (nest_8 self.old)))) result }
     {
         match self {
-            Dispatch8::G(kept) => Some(kept),
+            Dispatch8::G(kept) => take(kept),
             Dispatch8::A(_)
             | Dispatch8::B(_)
             | Dispatch8::C(_)
             | Dispatch8::D(_)
             | Dispatch8::E(_)
             | Dispatch8::F(_)
-            | Dispatch8::H(_) => None,
+            | Dispatch8::H(_) => G::default(),
         }
     }
 
     #[inline(always)]
-    fn into_h(self) -> Option<H>
-        ensures { result ≡ pick_h self }
+    fn start_h(&mut self) -> H
+        ensures { Started H.is_default (within pick_right (within pick_right (pick_right (nest_8 self.old)))) result }
     {
         match self {
-            Dispatch8::H(kept) => Some(kept),
+            Dispatch8::H(kept) => take(kept),
             Dispatch8::A(_)
             | Dispatch8::B(_)
             | Dispatch8::C(_)
             | Dispatch8::D(_)
             | Dispatch8::E(_)
             | Dispatch8::F(_)
-            | Dispatch8::G(_) => None,
+            | Dispatch8::G(_) => H::default(),
         }
     }
 }
@@ -195,7 +196,7 @@ impl<
     G: Parser<Input, Output = A::Output>,
     H: Parser<Input, Output = A::Output>,
 > Parser<Input> for Dispatch8<A, B, C, D, E, F, G, H> {
-    ghost use Rattle.combine_choice_dispatch.specs.Variants8.{each_8, each_8_into, variant_8, variant_8_is_meaning, variant_8_means_one};
+    ghost use Rattle.combine_choice_dispatch.specs.Held.{nested, nested_is_meaning, nested_means_one};
 
     type PartialState = Dispatch8<
         A::PartialState,
@@ -208,21 +209,21 @@ impl<
         H::PartialState,
     >;
 
-    ghost lawful = { each_8 A.lawful B.lawful C.lawful D.lawful E.lawful F.lawful G.lawful H.lawful };
+    ghost lawful = { λ p. ⟦<Either<Either<Either<A, B>, Either<C, D>>, Either<Either<E, F>, Either<G, H>>> as Parser<Input>>⟧.lawful (nest_8 p) };
 
-    ghost determined = { each_8 A.determined B.determined C.determined D.determined E.determined F.determined G.determined H.determined };
+    ghost determined = { λ p. ⟦<Either<Either<Either<A, B>, Either<C, D>>, Either<Either<E, F>, Either<G, H>>> as Parser<Input>>⟧.determined (nest_8 p) };
 
-    ghost valid = { each_8 A.valid B.valid C.valid D.valid E.valid F.valid G.valid H.valid };
+    ghost valid = { λ s. ⟦<Either<Either<Either<A, B>, Either<C, D>>, Either<Either<E, F>, Either<G, H>>> as Parser<Input>>⟧.valid (nest_8 s) };
 
-    ghost meaning = { variant_8 A.meaning B.meaning C.meaning D.meaning E.meaning F.meaning G.meaning H.meaning };
+    ghost meaning = { λ p. nested nest_8 (⟦<Either<Either<Either<A, B>, Either<C, D>>, Either<Either<E, F>, Either<G, H>>> as Parser<Input>>⟧.meaning (nest_8 p)) };
 
     ghost parts = { λ p. 1 };
 
-    ghost default_valid = { each_8_into A.PartialState.is_default A.valid B.PartialState.is_default B.valid C.PartialState.is_default C.valid D.PartialState.is_default D.valid E.PartialState.is_default E.valid F.PartialState.is_default F.valid G.PartialState.is_default G.valid H.PartialState.is_default H.valid A.default_valid B.default_valid C.default_valid D.default_valid E.default_valid F.default_valid G.default_valid H.default_valid };
+    ghost default_valid = { λ s. ⟦<Either<Either<Either<A, B>, Either<C, D>>, Either<Either<E, F>, Either<G, H>>> as Parser<Input>>⟧.default_valid (nest_8 s) };
 
-    ghost laws = { variant_8_is_meaning A.meaning B.meaning C.meaning D.meaning E.meaning F.meaning G.meaning H.meaning A.PartialState.is_default A.valid B.PartialState.is_default B.valid C.PartialState.is_default C.valid D.PartialState.is_default D.valid E.PartialState.is_default E.valid F.PartialState.is_default F.valid G.PartialState.is_default G.valid H.PartialState.is_default H.valid A.lawful B.lawful C.lawful D.lawful E.lawful F.lawful G.lawful H.lawful A.laws B.laws C.laws D.laws E.laws F.laws G.laws H.laws };
+    ghost laws = { λ p l. nested_is_meaning nest_8 (⟦<Either<Either<Either<A, B>, Either<C, D>>, Either<Either<E, F>, Either<G, H>>> as Parser<Input>>⟧.laws (nest_8 p) l) };
 
-    ghost single = { variant_8_means_one A.meaning B.meaning C.meaning D.meaning E.meaning F.meaning G.meaning H.meaning A.PartialState.is_default A.valid B.PartialState.is_default B.valid C.PartialState.is_default C.valid D.PartialState.is_default D.valid E.PartialState.is_default E.valid F.PartialState.is_default F.valid G.PartialState.is_default G.valid H.PartialState.is_default H.valid A.lawful B.lawful C.lawful D.lawful E.lawful F.lawful G.lawful H.lawful A.determined B.determined C.determined D.determined E.determined F.determined G.determined H.determined A.single B.single C.single D.single E.single F.single G.single H.single };
+    ghost single = { λ p l d. nested_means_one nest_8 (⟦<Either<Either<Either<A, B>, Either<C, D>>, Either<Either<E, F>, Either<G, H>>> as Parser<Input>>⟧.single (nest_8 p) l d) };
 
     #[inline(always)]
     fn parse_mode<M: ParseMode>(
@@ -233,49 +234,49 @@ impl<
     ) -> ParseResult<A::Output, Input::Error> {
         match self {
             Dispatch8::A(parser) => {
-                let mut kept = start(take(state).into_a());
+                let mut kept = state.start_a();
                 let answer = parser.parse_mode(mode, input, &mut kept);
                 *state = Dispatch8::A(kept);
                 passed_on(answer)
             }
             Dispatch8::B(parser) => {
-                let mut kept = start(take(state).into_b());
+                let mut kept = state.start_b();
                 let answer = parser.parse_mode(mode, input, &mut kept);
                 *state = Dispatch8::B(kept);
                 passed_on(answer)
             }
             Dispatch8::C(parser) => {
-                let mut kept = start(take(state).into_c());
+                let mut kept = state.start_c();
                 let answer = parser.parse_mode(mode, input, &mut kept);
                 *state = Dispatch8::C(kept);
                 passed_on(answer)
             }
             Dispatch8::D(parser) => {
-                let mut kept = start(take(state).into_d());
+                let mut kept = state.start_d();
                 let answer = parser.parse_mode(mode, input, &mut kept);
                 *state = Dispatch8::D(kept);
                 passed_on(answer)
             }
             Dispatch8::E(parser) => {
-                let mut kept = start(take(state).into_e());
+                let mut kept = state.start_e();
                 let answer = parser.parse_mode(mode, input, &mut kept);
                 *state = Dispatch8::E(kept);
                 passed_on(answer)
             }
             Dispatch8::F(parser) => {
-                let mut kept = start(take(state).into_f());
+                let mut kept = state.start_f();
                 let answer = parser.parse_mode(mode, input, &mut kept);
                 *state = Dispatch8::F(kept);
                 passed_on(answer)
             }
             Dispatch8::G(parser) => {
-                let mut kept = start(take(state).into_g());
+                let mut kept = state.start_g();
                 let answer = parser.parse_mode(mode, input, &mut kept);
                 *state = Dispatch8::G(kept);
                 passed_on(answer)
             }
             Dispatch8::H(parser) => {
-                let mut kept = start(take(state).into_h());
+                let mut kept = state.start_h();
                 let answer = parser.parse_mode(mode, input, &mut kept);
                 *state = Dispatch8::H(kept);
                 passed_on(answer)

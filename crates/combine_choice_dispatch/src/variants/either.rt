@@ -1,8 +1,8 @@
 //! A parser that is one of two.
-ghost use Rattle.std.specs.Prelude.{◌≡◌};
+ghost use Rattle.combine_choice_dispatch.specs.Held.{Started};
 ghost use Rattle.combine_choice_dispatch.specs.Variants2.{each_2, pick_left, pick_right};
 
-use super::{passed_on, start};
+use super::passed_on;
 use combine_base::error::{ErrorOffset, ParseResult, Tracked};
 use combine_base::parser::{Outputs, ParseMode, Parser};
 use combine_base::stream::Stream;
@@ -25,24 +25,24 @@ impl<L: Default, R: Default> Default for Either<L, R> {
     }
 }
 
-impl<L: Drop, R: Drop> Either<L, R> {
+impl<L: Default + Drop, R: Default + Drop> Either<L, R> {
     #[inline(always)]
-    fn into_left(self) -> Option<L>
-        ensures { result ≡ pick_left self }
+    fn start_left(&mut self) -> L
+        ensures { Started L.is_default (pick_left self.old) result }
     {
         match self {
-            Either::Left(kept) => Some(kept),
-            Either::Right(_) => None,
+            Either::Left(kept) => take(kept),
+            Either::Right(_) => L::default(),
         }
     }
 
     #[inline(always)]
-    fn into_right(self) -> Option<R>
-        ensures { result ≡ pick_right self }
+    fn start_right(&mut self) -> R
+        ensures { Started R.is_default (pick_right self.old) result }
     {
         match self {
-            Either::Right(kept) => Some(kept),
-            Either::Left(_) => None,
+            Either::Right(kept) => take(kept),
+            Either::Left(_) => R::default(),
         }
     }
 }
@@ -82,13 +82,13 @@ impl<Input: Stream, L: Parser<Input>, R: Parser<Input, Output = L::Output>> Pars
     ) -> ParseResult<L::Output, Input::Error> {
         match self {
             Either::Left(parser) => {
-                let mut kept = start(take(state).into_left());
+                let mut kept = state.start_left();
                 let answer = parser.parse_mode(mode, input, &mut kept);
                 *state = Either::Left(kept);
                 passed_on(answer)
             }
             Either::Right(parser) => {
-                let mut kept = start(take(state).into_right());
+                let mut kept = state.start_right();
                 let answer = parser.parse_mode(mode, input, &mut kept);
                 *state = Either::Right(kept);
                 passed_on(answer)

@@ -1,13 +1,11 @@
 //! The first part of a choice, and what follows it. Our own: what `or` and the choices over tuples are made of.
 ghost use Rattle.std.specs.Prelude.{◌≡◌, false};
-ghost use Rattle.combine_base.specs.Parser.Answer.{world};
 ghost use Rattle.combine_base.specs.Stream.Calls.{Passes};
-ghost use Rattle.combine_token.specs.Chose.{Chose};
 ghost use Rattle.combine_token.specs.Turned.{GoesOn, RunsOn, Settled, Settles};
 
 use super::{OrState, after_refusal};
 use combine_base::error::{ParseResult, Tracked};
-use combine_base::parser::{ParseMode, Parser};
+use combine_base::parser::ParseMode;
 use combine_base::stream::{Stream, asks_for_more, needs_more};
 use std::mem::replace;
 
@@ -89,19 +87,4 @@ pub fn settle<O, Input: Stream, S: Drop, T: Drop>(
         Some(first) => after_refusal(first, answer),
         None => answer,
     }
-}
-
-/// A call of a parser, as one fact.
-#[inline(always)]
-pub fn call<Input: Stream, P: Parser<Input>, M: ParseMode>(
-    parser: &mut P,
-    mode: M,
-    input: &mut Input,
-    state: &mut P::PartialState,
-) -> ParseResult<P::Output, Input::Error>
-    requires lawful { P.lawful parser.old }
-    requires valid { P.valid state.old }
-    ensures { Chose (world Input.step Input.Error.seen Input.steady P.PartialState.is_default) (P.lawful parser.new) P.valid (P.meaning parser.old) (P.meaning parser.new) (Input.marks input.old) (Input.marks input.new) (record { first = M.first mode; state = state.old; left = state.new; old = Input.view input.old; new = Input.view input.new; before = Input.failures input.old; after = Input.failures input.new }) result }
-{
-    parser.parse_mode(mode, input, state)
 }

@@ -1,33 +1,108 @@
-//! The choice of two parsers that are lent one by one. Our own: `or` and the choices over tuples are made of it.
-ghost use Rattle.std.specs.Prelude.{◌≡◌};
-ghost use Rattle.combine_base.specs.Parser.Answer.{world};
-ghost use Rattle.combine_token.specs.Chose.{Chose, Followed, Tried};
+//! Alternatives that are lent: a parser, or a pair of two halves of a choice. Our own: `or` and the choices over tuples are made of it.
+ghost use Rattle.std.specs.Prelude.{◌≡◌, refl};
+ghost use Rattle.combine_token.specs.Calls.{FollowedCall, TriedCall};
 ghost use Rattle.combine_token.specs.Turned.{NoFault, first_valid};
-ghost use Rattle.combine_token.specs.Or.{either_of, or_valid};
+ghost use Rattle.combine_token.specs.Or.{either_of, or_is_meaning, or_valid};
 
 use super::OrState;
-use super::first::{Turn, begin, call, go_on, settle};
+use super::first::{Turn, begin, go_on, settle};
 use combine_base::error::{ParseResult, Tracked};
 use combine_base::parser::{ParseMode, Parser};
 use combine_base::stream::Stream;
 
-/// The state of a choice of two.
-pub type State2<Input, A, B> = OrState<
-    <A as Parser<Input>>::PartialState,
-    <B as Parser<Input>>::PartialState,
->;
+/// The first half of a choice, or a whole one.
+pub struct First;
 
-/// The first part of a choice, which goes on, or begins, unless the later part is running.
+/// The second half of a choice.
+pub struct Second;
+
+/// Alternatives that are lent: of these the first, in order, that isn't refused peeked gives the answer.
+///
+/// What a call says is that of a parser, and that the same parsers are lent as before: so the lender knows what they became.
+pub trait Alternatives<Input: Stream> {
+    ghost use Rattle.combine_base.specs.Parser.Meaning.{Meaning, IsMeaning};
+    ghost use Rattle.combine_token.specs.Calls.{ChoseCall};
+
+    /// The value of an acceptance.
+    type Output: Drop;
+
+    /// What is kept while more input is needed: the running alternative and its state.
+    type State: Default + Drop;
+
+    /// What a call needs of the alternatives.
+    ghost lawful: { Self → Type 0 };
+
+    /// The states that a call may be given.
+    ghost valid: { Self.State → Type 0 };
+
+    /// What the choice means.
+    ghost meaning: { Self → Meaning Input.Position Input.Token Input.Range Input.Error Self.Output Self.State };
+
+    /// The same parsers are lent.
+    ghost same: { Self → Self → Type 0 };
+
+    /// Chooses, afresh or from the kept state. `H` says which half of a choice this is: of two of the same types each has code of its own, which is called from one place.
+    fn choose<M: ParseMode, H>(
+        &mut self,
+        mode: M,
+        input: &mut Input,
+        state: &mut Self::State,
+    ) -> ParseResult<Self::Output, Input::Error>
+        requires lawful { lawful self.old }
+        requires valid { valid state.old }
+        ensures lent { same self.old self.new }
+        ensures chose { ChoseCall Input.StreamOnce Input.Error.seen Self.State.is_default (lawful self.new) valid (meaning self.old) (meaning self.new) (M.first mode) state.old state.new input.old input.new result };
+
+    ghost default_valid: { (s : Self.State) → Self.State.is_default s → valid s };
+
+    ghost unchanged: { (p : Self) → same p p };
+
+    ghost laws: { (p : Self) → lawful p → IsMeaning Self.State.is_default valid (meaning p) };
+}
+
+/// A parser is an alternative.
+impl<Input: Stream, P: Parser<Input>> Alternatives<Input> for &mut P {
+    type Output = P::Output;
+
+    type State = P::PartialState;
+
+    ghost lawful = { λ p. P.lawful p.now };
+
+    ghost valid = { P.valid };
+
+    ghost meaning = { λ p. P.meaning p.now };
+
+    ghost same = { λ p q. p.ghost_name ≡ q.ghost_name };
+
+    #[inline(always)]
+    fn choose<M: ParseMode, H>(
+        &mut self,
+        mode: M,
+        input: &mut Input,
+        state: &mut P::PartialState,
+    ) -> ParseResult<P::Output, Input::Error> {
+        (**self).parse_mode(mode, input, state)
+    }
+
+    ghost default_valid = { P.default_valid };
+
+    ghost unchanged = { λ p. refl };
+
+    ghost laws = { λ p l. P.laws p.now l };
+}
+
+/// The first half of a choice, which goes on, or begins, unless the second is running.
 #[inline(always)]
-pub fn try_1<Input: Stream, A: Parser<Input>, S: Default + Drop, M: ParseMode>(
-    a: &mut A,
+fn try_first<Input: Stream, L: Alternatives<Input>, S: Default + Drop, M: ParseMode>(
+    half: &mut L,
     mode: M,
     input: &mut Input,
-    state: &mut OrState<A::PartialState, S>,
-) -> Turn<A::Output, S, Input::Error>
-    requires lawful { A.lawful a.old }
-    requires valid { first_valid A.valid state.old }
-    ensures { Tried (world Input.step Input.Error.seen Input.steady A.PartialState.is_default) S.is_default A.valid (A.lawful a.new) (A.meaning a.old) (A.meaning a.new) (Input.marks input.old) (Input.marks input.new) (M.first mode) state.old state.new (Input.view input.old) (Input.view input.new) (Input.failures input.old) (Input.failures input.new) result }
+    state: &mut OrState<L::State, S>,
+) -> Turn<L::Output, S, Input::Error>
+    requires lawful { L.lawful half.old }
+    requires valid { first_valid L.valid state.old }
+    ensures lent { L.same half.old half.new }
+    ensures tried { TriedCall Input.StreamOnce Input.Error.seen L.State.is_default S.is_default L.valid (L.lawful half.new) (L.meaning half.old) (L.meaning half.new) (M.first mode) state.old state.new input.old input.new result }
 {
     let mut kept = match begin(state, mode) {
         Ok(kept) => kept,
@@ -35,50 +110,67 @@ pub fn try_1<Input: Stream, A: Parser<Input>, S: Default + Drop, M: ParseMode>(
     };
     let start = input.checkpoint();
     let position = input.position();
-    let answer = call(a, mode, input, &mut kept);
+    let answer = half.choose::<_, First>(mode, input, &mut kept);
     go_on(start, position, input, kept, answer, state)
 }
 
-/// The later part of a choice, which goes on from that state, after that refusal of the first part.
+/// The second half of a choice, which goes on from that state, after that refusal of the first.
 #[inline(always)]
-pub fn then_1<Input: Stream, A: Parser<Input>, S: Drop, M: ParseMode>(
-    a: &mut A,
+fn run_later<Input: Stream, R: Alternatives<Input>, S: Drop, M: ParseMode>(
+    half: &mut R,
     mode: M,
     input: &mut Input,
     refused: Option<Tracked<Input::Error>>,
-    kept: A::PartialState,
-    state: &mut OrState<S, A::PartialState>,
-) -> ParseResult<A::Output, Input::Error>
-    requires lawful { A.lawful a.old }
-    requires valid { A.valid kept }
+    kept: R::State,
+    state: &mut OrState<S, R::State>,
+) -> ParseResult<R::Output, Input::Error>
+    requires lawful { R.lawful half.old }
+    requires valid { R.valid kept }
     requires refused { NoFault Input.Error.seen.kind refused }
-    ensures { Followed Input.step Input.Error.seen Input.steady Input.Position.cmp A.PartialState.is_default (A.lawful a.new) A.valid (A.meaning a.old) (A.meaning a.new) (Input.marks input.old) (Input.marks input.new) (M.first mode) kept state.old state.new refused (Input.view input.old) (Input.view input.new) (Input.failures input.old) (Input.failures input.new) result }
+    ensures lent { R.same half.old half.new }
+    ensures followed { FollowedCall Input.StreamOnce Input.Error.seen Input.Position.cmp R.State.is_default R.valid (R.lawful half.new) (R.meaning half.old) (R.meaning half.new) (M.first mode) kept state.old state.new refused input.old input.new result }
 {
     let mut kept = kept;
-    let answer = call(a, mode, input, &mut kept);
+    let answer = half.choose::<_, Second>(mode, input, &mut kept);
     settle(input, refused, kept, answer, state)
 }
 
-/// The choice of two, which answers as `or` does. The code of each part stands once in it, so that nothing that resumes needs to be a function of its own over the stream.
-#[inline(always)]
-pub fn choose_2<
+/// Two halves are one choice, which answers as `or` does. The code of each half stands once in it, so that nothing that resumes needs to be a function of its own over the stream.
+impl<
     Input: Stream,
-    A: Parser<Input>,
-    B: Parser<Input, Output = A::Output>,
-    M: ParseMode,
->(
-    a: &mut A,
-    b: &mut B,
-    mode: M,
-    input: &mut Input,
-    state: &mut State2<Input, A, B>,
-) -> ParseResult<A::Output, Input::Error>
-    requires lawful { A.lawful a.old × B.lawful b.old }
-    requires valid { or_valid A.valid B.valid state.old }
-    ensures { Chose (world Input.step Input.Error.seen Input.steady (λ s. s ≡ OrState.Peek)) (A.lawful a.new × B.lawful b.new) (or_valid A.valid B.valid) (either_of Input.Error.seen Input.Position.cmp (A.meaning a.old) (B.meaning b.old)) (either_of Input.Error.seen Input.Position.cmp (A.meaning a.new) (B.meaning b.new)) (Input.marks input.old) (Input.marks input.new) (record { first = M.first mode; state = state.old; left = state.new; old = Input.view input.old; new = Input.view input.new; before = Input.failures input.old; after = Input.failures input.new }) result }
-{
-    match try_1(a, mode, input, state) {
-        Turn::Ends(answer) => answer,
-        Turn::Goes(kept, refused) => { then_1(b, mode, input, refused, kept, state) }
+    L: Alternatives<Input>,
+    R: Alternatives<Input, Output = L::Output>,
+> Alternatives<Input> for (L, R) {
+    type Output = L::Output;
+
+    type State = OrState<L::State, R::State>;
+
+    ghost lawful = { λ p. L.lawful p.0 × R.lawful p.1 };
+
+    ghost valid = { or_valid L.valid R.valid };
+
+    ghost meaning = { λ p. either_of Input.Error.seen Input.Position.cmp (L.meaning p.0) (R.meaning p.1) };
+
+    ghost same = { λ p q. L.same p.0 q.0 × R.same p.1 q.1 };
+
+    #[inline(always)]
+    fn choose<M: ParseMode, H>(
+        &mut self,
+        mode: M,
+        input: &mut Input,
+        state: &mut Self::State,
+    ) -> ParseResult<L::Output, Input::Error> {
+        match try_first(&mut self.0, mode, input, state) {
+            Turn::Ends(answer) => answer,
+            Turn::Goes(kept, refused) => {
+                run_later(&mut self.1, mode, input, refused, kept, state)
+            }
+        }
     }
+
+    ghost default_valid = { λ s d. rw d tt };
+
+    ghost unchanged = { λ p. (L.unchanged p.0, R.unchanged p.1) };
+
+    ghost laws = { λ p l. or_is_meaning Input.Error.seen Input.Position.cmp L.State.is_default L.valid R.State.is_default R.valid _ _ (L.laws p.0 l.0) (R.laws p.1 l.1) };
 }

@@ -4,7 +4,7 @@ ghost use Rattle.combine_token.specs.Optional.{optional, optional_is_meaning, op
 ghost use Rattle.combine_token.specs.Or.{either_of, or_is_meaning, or_means_one, or_valid};
 
 use super::OrState;
-use super::lent::choose_2;
+use super::lent::{Alternatives, First};
 use combine_base::error::{ErrorOffset, ParseResult, Tracked};
 use combine_base::parser::{Outputs, ParseMode, Parser};
 use combine_base::stream::Stream;
@@ -44,7 +44,8 @@ impl<Input: Stream, P: Parser<Input>, Q: Parser<Input, Output = P::Output>> Pars
         input: &mut Input,
         state: &mut Self::PartialState,
     ) -> ParseResult<P::Output, Input::Error> {
-        choose_2(&mut self.0, &mut self.1, mode, input, state)
+        let mut halves = (&mut self.0, &mut self.1);
+        halves.choose::<_, First>(mode, input, state)
     }
 
     /// What the first adds, and then what the second does.

@@ -13,35 +13,48 @@ use Rattle.combine_base.specs.declared.stream.Kind.TheVariants as kinds
 use Rattle.combine_choice.proofs.MergedErrors.{first_commits, goes_end, goes_first, goes_next, next_reasons}
 use Rattle.combine_choice.proofs.choice.slice.choose.Goals as goal
 
-pub returns-in-CommitOk-clause-same : goal.returns-in-CommitOk-clause-same
-returns-in-CommitOk-clause-same g c = same_set g.P.Parser.meaning _ _ _ c.index-alternatives-index.result _ (same_self g.P.Parser.meaning _) c.requires.within c.in-CommitOk.ensures.same
-
-pub returns-in-PeekOk-clause-same : goal.returns-in-PeekOk-clause-same
-returns-in-PeekOk-clause-same g c = same_set g.P.Parser.meaning _ _ _ c.index-alternatives-index.result _ (same_self g.P.Parser.meaning _) c.requires.within c.in-PeekOk.ensures.same
-
-pub returns-in-CommitErr-clause-same : goal.returns-in-CommitErr-clause-same
-returns-in-CommitErr-clause-same g c = same_set g.P.Parser.meaning _ _ _ c.index-alternatives-index.result _ (same_self g.P.Parser.meaning _) c.requires.within c.in-CommitErr.ensures.same
-
-pub returns-in-CommitOk-clause-answers : goal.returns-in-CommitOk-clause-answers
-returns-in-CommitOk-clause-answers g c =
+pub returns-in-CommitOk : goal.returns-in-CommitOk
+returns-in-CommitOk g c =
     let here = drop_at _ _ c.index-alternatives-index.result c.requires.within in
     let h = g.met.P.Parser.laws _ (c.requires.lawful _ c.index-alternatives-index.result c.requires.within) in
     let z = begins_at (world g.Input.StreamOnce.step g.Input.Error.ParseError.seen g.Input.StreamOnce.steady g.P.PartialState.Default.is_default) g.Input.Error.ParseError.seen g.Input.Position.Ord.cmp _ g.P.Parser.meaning _ _ _ _ here h _ _ c.requires.fresh _ _ in
-    turn_settles g.Input.StreamOnce.step g.Input.Error.ParseError.seen g.Input.Position.Ord.cmp g.Input.StreamOnce.steady g.P.PartialState.Default.is_default g.P.Parser.meaning _ _ _ _ _ _ _ _ here _ _ _ _ _ _ _ z _ tt c.in-CommitOk.ensures.turn
+    record {
+      lawful = All-set g.P.Parser.lawful _ _ _ c.in-CommitOk.ensures.lawful c.requires.lawful;
+      valid = c.in-CommitOk.ensures.valid;
+      same = same_set g.P.Parser.meaning _ _ _ c.index-alternatives-index.result _ (same_self g.P.Parser.meaning _) c.requires.within c.in-CommitOk.ensures.same;
+      passes = c.in-CommitOk.ensures.passes;
+      answers = turn_settles g.Input.StreamOnce.step g.Input.Error.ParseError.seen g.Input.Position.Ord.cmp g.Input.StreamOnce.steady g.P.PartialState.Default.is_default g.P.Parser.meaning _ _ _ _ _ _ _ _ here _ _ _ _ _ _ _ z _ tt c.in-CommitOk.ensures.turn;
+      refuses = reasons_ok _ _ _ _;
+    }
 
-pub returns-in-PeekOk-clause-answers : goal.returns-in-PeekOk-clause-answers
-returns-in-PeekOk-clause-answers g c =
+pub returns-in-PeekOk : goal.returns-in-PeekOk
+returns-in-PeekOk g c =
     let here = drop_at _ _ c.index-alternatives-index.result c.requires.within in
     let h = g.met.P.Parser.laws _ (c.requires.lawful _ c.index-alternatives-index.result c.requires.within) in
     let z = begins_at (world g.Input.StreamOnce.step g.Input.Error.ParseError.seen g.Input.StreamOnce.steady g.P.PartialState.Default.is_default) g.Input.Error.ParseError.seen g.Input.Position.Ord.cmp _ g.P.Parser.meaning _ _ _ _ here h _ _ c.requires.fresh _ _ in
-    turn_settles g.Input.StreamOnce.step g.Input.Error.ParseError.seen g.Input.Position.Ord.cmp g.Input.StreamOnce.steady g.P.PartialState.Default.is_default g.P.Parser.meaning _ _ _ _ _ _ _ _ here _ _ _ _ _ _ _ z _ tt c.in-PeekOk.ensures.turn
+    record {
+      lawful = All-set g.P.Parser.lawful _ _ _ c.in-PeekOk.ensures.lawful c.requires.lawful;
+      valid = c.in-PeekOk.ensures.valid;
+      same = same_set g.P.Parser.meaning _ _ _ c.index-alternatives-index.result _ (same_self g.P.Parser.meaning _) c.requires.within c.in-PeekOk.ensures.same;
+      passes = c.in-PeekOk.ensures.passes;
+      answers = turn_settles g.Input.StreamOnce.step g.Input.Error.ParseError.seen g.Input.Position.Ord.cmp g.Input.StreamOnce.steady g.P.PartialState.Default.is_default g.P.Parser.meaning _ _ _ _ _ _ _ _ here _ _ _ _ _ _ _ z _ tt c.in-PeekOk.ensures.turn;
+      refuses = reasons_peek_ok _ _ _ _;
+    }
 
-pub returns-in-CommitErr-clause-answers : goal.returns-in-CommitErr-clause-answers
-returns-in-CommitErr-clause-answers g c =
+pub returns-in-CommitErr : goal.returns-in-CommitErr
+returns-in-CommitErr g c =
     let here = drop_at _ _ c.index-alternatives-index.result c.requires.within in
     let h = g.met.P.Parser.laws _ (c.requires.lawful _ c.index-alternatives-index.result c.requires.within) in
     let z = begins_at (world g.Input.StreamOnce.step g.Input.Error.ParseError.seen g.Input.StreamOnce.steady g.P.PartialState.Default.is_default) g.Input.Error.ParseError.seen g.Input.Position.Ord.cmp _ g.P.Parser.meaning _ _ _ _ here h _ _ c.requires.fresh _ _ in
-    turn_settles g.Input.StreamOnce.step g.Input.Error.ParseError.seen g.Input.Position.Ord.cmp g.Input.StreamOnce.steady g.P.PartialState.Default.is_default g.P.Parser.meaning _ _ _ _ _ _ _ _ here _ _ _ _ _ _ _ z _ tt c.in-CommitErr.ensures.turn
+    let d = turn_meant (world g.Input.StreamOnce.step g.Input.Error.ParseError.seen g.Input.StreamOnce.steady g.P.PartialState.Default.is_default) _ _ _ _ _ _ _ _ _ _ _ c.in-CommitErr.ensures.turn c.in-CommitErr.ensures.refuses in
+    record {
+      lawful = All-set g.P.Parser.lawful _ _ _ c.in-CommitErr.ensures.lawful c.requires.lawful;
+      valid = c.in-CommitErr.ensures.valid;
+      same = same_set g.P.Parser.meaning _ _ _ c.index-alternatives-index.result _ (same_self g.P.Parser.meaning _) c.requires.within c.in-CommitErr.ensures.same;
+      passes = c.in-CommitErr.ensures.passes;
+      answers = turn_settles g.Input.StreamOnce.step g.Input.Error.ParseError.seen g.Input.Position.Ord.cmp g.Input.StreamOnce.steady g.P.PartialState.Default.is_default g.P.Parser.meaning _ _ _ _ _ _ _ _ here _ _ _ _ _ _ _ z _ tt c.in-CommitErr.ensures.turn;
+      refuses = first_commits _ _ g.P.Parser.meaning _ (λ x. begun (g.P.Parser.meaning x) (g.M.ParseMode.first c.args.mode) c.args.kept) (λ x. begun_refuses (g.P.Parser.meaning x) (g.M.ParseMode.first c.args.mode) c.args.kept) _ _ _ here _ _ d;
+    }
 
 pub loop-at-init : goal.loop-at-init
 loop-at-init g c =
@@ -70,33 +83,19 @@ after_refusal-requires-clause-first g c = peeked_no_fault _ _ c.loop-at.invarian
 pub after_refusal-requires-clause-later : goal.after_refusal-requires-clause-later
 after_refusal-requires-clause-later g c = turn_no_fault (world g.Input.StreamOnce.step g.Input.Error.ParseError.seen g.Input.StreamOnce.steady g.P.PartialState.Default.is_default) _ _ _ _ _ _ _ _ _ _ _ c.take_turn-answer.ensures.turn
 
-pub returns-in-Err-clause-answers : goal.returns-in-Err-clause-answers
-returns-in-Err-clause-answers g c =
-    refusing_unreset g.Input.StreamOnce.step g.Input.Error.ParseError.seen g.Input.Position.Ord.cmp g.Input.StreamOnce.steady g.P.PartialState.Default.is_default g.P.Parser.meaning _ _ _ _ _ _ _ _ _ _ _ _ c.loop-at.invariant.refusing _ c.in-Err.ensures.to.is c.loop-at.invariant.state _ c.new_error.ensures.kind
+pub returns-in-Err : goal.returns-in-Err
+returns-in-Err g c =
+    record {
+      lawful = c.loop-at.invariant.lawful;
+      valid = rw c.loop-at.invariant.state tt;
+      same = c.loop-at.invariant.same;
+      passes = passes_more _ _ _ _ _ _ c.loop-at.invariant.passes c.in-Err.ensures.passes;
+      answers = refusing_unreset g.Input.StreamOnce.step g.Input.Error.ParseError.seen g.Input.Position.Ord.cmp g.Input.StreamOnce.steady g.P.PartialState.Default.is_default g.P.Parser.meaning _ _ _ _ _ _ _ _ _ _ _ _ c.loop-at.invariant.refusing _ c.in-Err.ensures.to.is c.loop-at.invariant.state _ c.new_error.ensures.kind;
+      refuses = reasons_fault _ _ _ _ kinds.Reset (c.new_error.ensures.kind ∙ c.in-Err.ensures.to.is.0) tt;
+    }
 
-pub returns-in-CommitOk-after_refusal-clause-same : goal.returns-in-CommitOk-after_refusal-clause-same
-returns-in-CommitOk-after_refusal-clause-same g c =
-    let within : c.loop-at.at < length c.loop-at.alternatives = search (rules, arith) in
-    same_set g.P.Parser.meaning _ _ _ c.index-alternatives-at.result _ c.loop-at.invariant.same within c.take_turn-answer.ensures.same
-
-pub returns-in-CommitOk-after_refusal-clause-answers : goal.returns-in-CommitOk-after_refusal-clause-answers
-returns-in-CommitOk-after_refusal-clause-answers g c =
-    let within : c.loop-at.at < length c.loop-at.alternatives = search (rules, arith) in
-    let w = world g.Input.StreamOnce.step g.Input.Error.ParseError.seen g.Input.StreamOnce.steady g.P.PartialState.Default.is_default in
-    let here = drop_here _ _ _ c.index-alternatives-at.result c.loop-at.invariant.untried within in
-    let h = g.met.P.Parser.laws _ (c.loop-at.invariant.lawful _ c.index-alternatives-at.result within) in
-    let n = c.in-Ok.ensures.to.is in
-    let back = n.0 _ (g.met.Input.ResetStream.lasts _ _ _ _ c.loop-at.invariant.passes.marks c.checkpoint-start.ensures.stands) in
-    let z = refusing_here w g.Input.Error.ParseError.seen g.Input.Position.Ord.cmp g.P.Parser.meaning _ _ _ _ _ _ _ _ here _ _ _ c.loop-at.invariant.refusing _ h _ _ c.default-fresh.ensures _ _ back n.1 c.in-Ok.ensures.passes in
-    later_settles g.Input.StreamOnce.step g.Input.Error.ParseError.seen g.Input.Position.Ord.cmp g.Input.StreamOnce.steady g.P.PartialState.Default.is_default g.P.Parser.meaning _ _ _ _ _ _ _ _ here _ _ _ _ _ _ _ z _ _ _ tt c.take_turn-answer.ensures.turn c.in-CommitOk-after_refusal.ensures
-
-pub returns-in-PeekOk-after_refusal-clause-same : goal.returns-in-PeekOk-after_refusal-clause-same
-returns-in-PeekOk-after_refusal-clause-same g c =
-    let within : c.loop-at.at < length c.loop-at.alternatives = search (rules, arith) in
-    same_set g.P.Parser.meaning _ _ _ c.index-alternatives-at.result _ c.loop-at.invariant.same within c.take_turn-answer.ensures.same
-
-pub returns-in-PeekOk-after_refusal-clause-answers : goal.returns-in-PeekOk-after_refusal-clause-answers
-returns-in-PeekOk-after_refusal-clause-answers g c =
+pub returns-in-CommitOk-after_refusal : goal.returns-in-CommitOk-after_refusal
+returns-in-CommitOk-after_refusal g c =
     let within : c.loop-at.at < length c.loop-at.alternatives = search (rules, arith) in
     let w = world g.Input.StreamOnce.step g.Input.Error.ParseError.seen g.Input.StreamOnce.steady g.P.PartialState.Default.is_default in
     let here = drop_here _ _ _ c.index-alternatives-at.result c.loop-at.invariant.untried within in
@@ -104,15 +103,18 @@ returns-in-PeekOk-after_refusal-clause-answers g c =
     let n = c.in-Ok.ensures.to.is in
     let back = n.0 _ (g.met.Input.ResetStream.lasts _ _ _ _ c.loop-at.invariant.passes.marks c.checkpoint-start.ensures.stands) in
     let z = refusing_here w g.Input.Error.ParseError.seen g.Input.Position.Ord.cmp g.P.Parser.meaning _ _ _ _ _ _ _ _ here _ _ _ c.loop-at.invariant.refusing _ h _ _ c.default-fresh.ensures _ _ back n.1 c.in-Ok.ensures.passes in
-    later_settles g.Input.StreamOnce.step g.Input.Error.ParseError.seen g.Input.Position.Ord.cmp g.Input.StreamOnce.steady g.P.PartialState.Default.is_default g.P.Parser.meaning _ _ _ _ _ _ _ _ here _ _ _ _ _ _ _ z _ _ _ tt c.take_turn-answer.ensures.turn c.in-PeekOk-after_refusal.ensures
+    let d = turn_meant (world g.Input.StreamOnce.step g.Input.Error.ParseError.seen g.Input.StreamOnce.steady g.P.PartialState.Default.is_default) _ _ _ _ _ _ _ _ _ _ _ c.take_turn-answer.ensures.turn c.take_turn-answer.ensures.refuses in
+    record {
+      lawful = All-set g.P.Parser.lawful _ _ _ c.take_turn-answer.ensures.lawful c.loop-at.invariant.lawful;
+      valid = c.take_turn-answer.ensures.valid;
+      same = same_set g.P.Parser.meaning _ _ _ c.index-alternatives-at.result _ c.loop-at.invariant.same within c.take_turn-answer.ensures.same;
+      passes = passes_more _ _ _ _ _ _ (passes_more _ _ _ _ _ _ c.loop-at.invariant.passes c.in-Ok.ensures.passes) c.take_turn-answer.ensures.passes;
+      answers = later_settles g.Input.StreamOnce.step g.Input.Error.ParseError.seen g.Input.Position.Ord.cmp g.Input.StreamOnce.steady g.P.PartialState.Default.is_default g.P.Parser.meaning _ _ _ _ _ _ _ _ here _ _ _ _ _ _ _ z _ _ _ tt c.take_turn-answer.ensures.turn c.in-CommitOk-after_refusal.ensures;
+      refuses = next_reasons _ _ g.P.Parser.meaning _ _ _ _ _ here _ _ c.loop-at.invariant.goes _ _ (rw back at d) _ tt c.in-CommitOk-after_refusal.ensures;
+    }
 
-pub returns-in-CommitErr-after_refusal-clause-same : goal.returns-in-CommitErr-after_refusal-clause-same
-returns-in-CommitErr-after_refusal-clause-same g c =
-    let within : c.loop-at.at < length c.loop-at.alternatives = search (rules, arith) in
-    same_set g.P.Parser.meaning _ _ _ c.index-alternatives-at.result _ c.loop-at.invariant.same within c.take_turn-answer.ensures.same
-
-pub returns-in-CommitErr-after_refusal-clause-answers : goal.returns-in-CommitErr-after_refusal-clause-answers
-returns-in-CommitErr-after_refusal-clause-answers g c =
+pub returns-in-PeekOk-after_refusal : goal.returns-in-PeekOk-after_refusal
+returns-in-PeekOk-after_refusal g c =
     let within : c.loop-at.at < length c.loop-at.alternatives = search (rules, arith) in
     let w = world g.Input.StreamOnce.step g.Input.Error.ParseError.seen g.Input.StreamOnce.steady g.P.PartialState.Default.is_default in
     let here = drop_here _ _ _ c.index-alternatives-at.result c.loop-at.invariant.untried within in
@@ -120,7 +122,34 @@ returns-in-CommitErr-after_refusal-clause-answers g c =
     let n = c.in-Ok.ensures.to.is in
     let back = n.0 _ (g.met.Input.ResetStream.lasts _ _ _ _ c.loop-at.invariant.passes.marks c.checkpoint-start.ensures.stands) in
     let z = refusing_here w g.Input.Error.ParseError.seen g.Input.Position.Ord.cmp g.P.Parser.meaning _ _ _ _ _ _ _ _ here _ _ _ c.loop-at.invariant.refusing _ h _ _ c.default-fresh.ensures _ _ back n.1 c.in-Ok.ensures.passes in
-    later_settles g.Input.StreamOnce.step g.Input.Error.ParseError.seen g.Input.Position.Ord.cmp g.Input.StreamOnce.steady g.P.PartialState.Default.is_default g.P.Parser.meaning _ _ _ _ _ _ _ _ here _ _ _ _ _ _ _ z _ _ _ tt c.take_turn-answer.ensures.turn c.in-CommitErr-after_refusal.ensures
+    let d = turn_meant (world g.Input.StreamOnce.step g.Input.Error.ParseError.seen g.Input.StreamOnce.steady g.P.PartialState.Default.is_default) _ _ _ _ _ _ _ _ _ _ _ c.take_turn-answer.ensures.turn c.take_turn-answer.ensures.refuses in
+    record {
+      lawful = All-set g.P.Parser.lawful _ _ _ c.take_turn-answer.ensures.lawful c.loop-at.invariant.lawful;
+      valid = c.take_turn-answer.ensures.valid;
+      same = same_set g.P.Parser.meaning _ _ _ c.index-alternatives-at.result _ c.loop-at.invariant.same within c.take_turn-answer.ensures.same;
+      passes = passes_more _ _ _ _ _ _ (passes_more _ _ _ _ _ _ c.loop-at.invariant.passes c.in-Ok.ensures.passes) c.take_turn-answer.ensures.passes;
+      answers = later_settles g.Input.StreamOnce.step g.Input.Error.ParseError.seen g.Input.Position.Ord.cmp g.Input.StreamOnce.steady g.P.PartialState.Default.is_default g.P.Parser.meaning _ _ _ _ _ _ _ _ here _ _ _ _ _ _ _ z _ _ _ tt c.take_turn-answer.ensures.turn c.in-PeekOk-after_refusal.ensures;
+      refuses = next_reasons _ _ g.P.Parser.meaning _ _ _ _ _ here _ _ c.loop-at.invariant.goes _ _ (rw back at d) _ tt c.in-PeekOk-after_refusal.ensures;
+    }
+
+pub returns-in-CommitErr-after_refusal : goal.returns-in-CommitErr-after_refusal
+returns-in-CommitErr-after_refusal g c =
+    let within : c.loop-at.at < length c.loop-at.alternatives = search (rules, arith) in
+    let w = world g.Input.StreamOnce.step g.Input.Error.ParseError.seen g.Input.StreamOnce.steady g.P.PartialState.Default.is_default in
+    let here = drop_here _ _ _ c.index-alternatives-at.result c.loop-at.invariant.untried within in
+    let h = g.met.P.Parser.laws _ (c.loop-at.invariant.lawful _ c.index-alternatives-at.result within) in
+    let n = c.in-Ok.ensures.to.is in
+    let back = n.0 _ (g.met.Input.ResetStream.lasts _ _ _ _ c.loop-at.invariant.passes.marks c.checkpoint-start.ensures.stands) in
+    let z = refusing_here w g.Input.Error.ParseError.seen g.Input.Position.Ord.cmp g.P.Parser.meaning _ _ _ _ _ _ _ _ here _ _ _ c.loop-at.invariant.refusing _ h _ _ c.default-fresh.ensures _ _ back n.1 c.in-Ok.ensures.passes in
+    let d = turn_meant (world g.Input.StreamOnce.step g.Input.Error.ParseError.seen g.Input.StreamOnce.steady g.P.PartialState.Default.is_default) _ _ _ _ _ _ _ _ _ _ _ c.take_turn-answer.ensures.turn c.take_turn-answer.ensures.refuses in
+    record {
+      lawful = All-set g.P.Parser.lawful _ _ _ c.take_turn-answer.ensures.lawful c.loop-at.invariant.lawful;
+      valid = c.take_turn-answer.ensures.valid;
+      same = same_set g.P.Parser.meaning _ _ _ c.index-alternatives-at.result _ c.loop-at.invariant.same within c.take_turn-answer.ensures.same;
+      passes = passes_more _ _ _ _ _ _ (passes_more _ _ _ _ _ _ c.loop-at.invariant.passes c.in-Ok.ensures.passes) c.take_turn-answer.ensures.passes;
+      answers = later_settles g.Input.StreamOnce.step g.Input.Error.ParseError.seen g.Input.Position.Ord.cmp g.Input.StreamOnce.steady g.P.PartialState.Default.is_default g.P.Parser.meaning _ _ _ _ _ _ _ _ here _ _ _ _ _ _ _ z _ _ _ tt c.take_turn-answer.ensures.turn c.in-CommitErr-after_refusal.ensures;
+      refuses = next_reasons _ _ g.P.Parser.meaning _ _ _ _ _ here _ _ c.loop-at.invariant.goes _ _ (rw back at d) _ tt c.in-CommitErr-after_refusal.ensures;
+    }
 
 pub loop-at-preserved : goal.loop-at-preserved
 loop-at-preserved g c =
@@ -143,54 +172,14 @@ loop-at-preserved g c =
       refusing = q.0;
     }
 
-pub returns-clause-answers : goal.returns-clause-answers
-returns-clause-answers g c =
+pub returns : goal.returns
+returns g c =
     let past : length c.args.alternatives.now ≤ c.loop-at.at = search (rules, arith) in
-    refusing_end g.Input.StreamOnce.step g.Input.Error.ParseError.seen g.Input.Position.Ord.cmp g.Input.StreamOnce.steady g.P.PartialState.Default.is_default g.P.Parser.meaning _ _ _ _ _ _ _ _ _ _ (drop_past _ _ past) c.loop-at.invariant.refusing c.loop-at.invariant.state
-
-pub returns-in-CommitOk-clause-refuses : goal.returns-in-CommitOk-clause-refuses
-returns-in-CommitOk-clause-refuses g c = reasons_ok _ _ _ _
-
-pub returns-in-PeekOk-clause-refuses : goal.returns-in-PeekOk-clause-refuses
-returns-in-PeekOk-clause-refuses g c = reasons_peek_ok _ _ _ _
-
-pub returns-in-CommitErr-clause-refuses : goal.returns-in-CommitErr-clause-refuses
-returns-in-CommitErr-clause-refuses g c =
-    let here = drop_at _ _ c.index-alternatives-index.result c.requires.within in
-    let d = turn_meant (world g.Input.StreamOnce.step g.Input.Error.ParseError.seen g.Input.StreamOnce.steady g.P.PartialState.Default.is_default) _ _ _ _ _ _ _ _ _ _ _ c.in-CommitErr.ensures.turn c.in-CommitErr.ensures.refuses in
-    first_commits _ _ g.P.Parser.meaning _ (λ x. begun (g.P.Parser.meaning x) (g.M.ParseMode.first c.args.mode) c.args.kept) (λ x. begun_refuses (g.P.Parser.meaning x) (g.M.ParseMode.first c.args.mode) c.args.kept) _ _ _ here _ _ d
-
-pub returns-in-Err-clause-refuses : goal.returns-in-Err-clause-refuses
-returns-in-Err-clause-refuses g c = reasons_fault _ _ _ _ kinds.Reset (c.new_error.ensures.kind ∙ c.in-Err.ensures.to.is.0) tt
-
-pub returns-in-CommitOk-after_refusal-clause-refuses : goal.returns-in-CommitOk-after_refusal-clause-refuses
-returns-in-CommitOk-after_refusal-clause-refuses g c =
-    let within : c.loop-at.at < length c.loop-at.alternatives = search (rules, arith) in
-    let here = drop_here _ _ _ c.index-alternatives-at.result c.loop-at.invariant.untried within in
-    let n = c.in-Ok.ensures.to.is in
-    let back = n.0 _ (g.met.Input.ResetStream.lasts _ _ _ _ c.loop-at.invariant.passes.marks c.checkpoint-start.ensures.stands) in
-    let d = turn_meant (world g.Input.StreamOnce.step g.Input.Error.ParseError.seen g.Input.StreamOnce.steady g.P.PartialState.Default.is_default) _ _ _ _ _ _ _ _ _ _ _ c.take_turn-answer.ensures.turn c.take_turn-answer.ensures.refuses in
-    next_reasons _ _ g.P.Parser.meaning _ _ _ _ _ here _ _ c.loop-at.invariant.goes _ _ (rw back at d) _ tt c.in-CommitOk-after_refusal.ensures
-
-pub returns-in-PeekOk-after_refusal-clause-refuses : goal.returns-in-PeekOk-after_refusal-clause-refuses
-returns-in-PeekOk-after_refusal-clause-refuses g c =
-    let within : c.loop-at.at < length c.loop-at.alternatives = search (rules, arith) in
-    let here = drop_here _ _ _ c.index-alternatives-at.result c.loop-at.invariant.untried within in
-    let n = c.in-Ok.ensures.to.is in
-    let back = n.0 _ (g.met.Input.ResetStream.lasts _ _ _ _ c.loop-at.invariant.passes.marks c.checkpoint-start.ensures.stands) in
-    let d = turn_meant (world g.Input.StreamOnce.step g.Input.Error.ParseError.seen g.Input.StreamOnce.steady g.P.PartialState.Default.is_default) _ _ _ _ _ _ _ _ _ _ _ c.take_turn-answer.ensures.turn c.take_turn-answer.ensures.refuses in
-    next_reasons _ _ g.P.Parser.meaning _ _ _ _ _ here _ _ c.loop-at.invariant.goes _ _ (rw back at d) _ tt c.in-PeekOk-after_refusal.ensures
-
-pub returns-in-CommitErr-after_refusal-clause-refuses : goal.returns-in-CommitErr-after_refusal-clause-refuses
-returns-in-CommitErr-after_refusal-clause-refuses g c =
-    let within : c.loop-at.at < length c.loop-at.alternatives = search (rules, arith) in
-    let here = drop_here _ _ _ c.index-alternatives-at.result c.loop-at.invariant.untried within in
-    let n = c.in-Ok.ensures.to.is in
-    let back = n.0 _ (g.met.Input.ResetStream.lasts _ _ _ _ c.loop-at.invariant.passes.marks c.checkpoint-start.ensures.stands) in
-    let d = turn_meant (world g.Input.StreamOnce.step g.Input.Error.ParseError.seen g.Input.StreamOnce.steady g.P.PartialState.Default.is_default) _ _ _ _ _ _ _ _ _ _ _ c.take_turn-answer.ensures.turn c.take_turn-answer.ensures.refuses in
-    next_reasons _ _ g.P.Parser.meaning _ _ _ _ _ here _ _ c.loop-at.invariant.goes _ _ (rw back at d) _ tt c.in-CommitErr-after_refusal.ensures
-
-pub returns-clause-refuses : goal.returns-clause-refuses
-returns-clause-refuses g c =
-    let past : length c.args.alternatives.now ≤ c.loop-at.at = search (rules, arith) in
-    goes_end _ _ g.P.Parser.meaning _ _ _ (drop_past _ _ past) _ _ c.loop-at.invariant.goes
+    record {
+      lawful = c.loop-at.invariant.lawful;
+      valid = rw c.loop-at.invariant.state tt;
+      same = c.loop-at.invariant.same;
+      passes = c.loop-at.invariant.passes;
+      answers = refusing_end g.Input.StreamOnce.step g.Input.Error.ParseError.seen g.Input.Position.Ord.cmp g.Input.StreamOnce.steady g.P.PartialState.Default.is_default g.P.Parser.meaning _ _ _ _ _ _ _ _ _ _ (drop_past _ _ past) c.loop-at.invariant.refusing c.loop-at.invariant.state;
+      refuses = goes_end _ _ g.P.Parser.meaning _ _ _ (drop_past _ _ past) _ _ c.loop-at.invariant.goes;
+    }

@@ -16,6 +16,24 @@ returns-in-At-clause-same g c = chosen_same g.Input.Error.ParseError.seen g.Inpu
 pub returns-in-Peek-clause-same : goal.returns-in-Peek-clause-same
 returns-in-Peek-clause-same g c = chosen_same g.Input.Error.ParseError.seen g.Input.Position.Ord.cmp g.P.Parser.meaning _ _ c.choose.ensures.same
 
+pub returns-in-At-clause-lawful : goal.returns-in-At-clause-lawful
+returns-in-At-clause-lawful g c = c.resume.ensures.lawful
+
+pub returns-in-At-clause-valid : goal.returns-in-At-clause-valid
+returns-in-At-clause-valid g c = c.resume.ensures.valid
+
+pub returns-in-At-clause-passes : goal.returns-in-At-clause-passes
+returns-in-At-clause-passes g c = c.resume.ensures.passes
+
+pub returns-in-Peek-clause-lawful : goal.returns-in-Peek-clause-lawful
+returns-in-Peek-clause-lawful g c = c.choose.ensures.lawful
+
+pub returns-in-Peek-clause-valid : goal.returns-in-Peek-clause-valid
+returns-in-Peek-clause-valid g c = c.choose.ensures.valid
+
+pub returns-in-Peek-clause-passes : goal.returns-in-Peek-clause-passes
+returns-in-Peek-clause-passes g c = c.choose.ensures.passes
+
 pub returns-in-At-clause-answers : goal.returns-in-At-clause-answers
 returns-in-At-clause-answers g c =
     let w = world g.Input.StreamOnce.step g.Input.Error.ParseError.seen g.Input.StreamOnce.steady (λ s. s ≡ Peek) in
