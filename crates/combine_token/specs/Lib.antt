@@ -8,8 +8,8 @@ pub use Rattle.combine_base.specs.Stream.Calls
 pub use Rattle.combine_base.specs.Stream.View
 pub mod Alternatives
 pub mod Among
-pub mod Calls
 pub mod Choice
+pub mod ChoiceCalls
 pub mod Chose
 pub mod Given
 pub mod Iterated
