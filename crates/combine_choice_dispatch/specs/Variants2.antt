@@ -33,16 +33,17 @@ module _ {P T R Error V X0 X1 S0 S1 : Type 0} (m0 : X0 → Meaning P T R Error V
   variant_2 (Left x) = held pick_left (m0 x)
   variant_2 (Right x) = held pick_right (m1 x)
 
-  module _ (f0 g0 : S0 → Type 0) (f1 g1 : S1 → Type 0) (l0 : X0 → Type 0) (l1 : X1 → Type 0) where
-    pub variant_2_is_meaning : ((x : X0) → l0 x → IsMeaning f0 g0 (m0 x)) → ((x : X1) → l1 x → IsMeaning f1 g1 (m1 x)) → (p : Either X0 X1) → each_2 l0 l1 p → IsMeaning (each_2 f0 f1) (each_2 g0 g1) (variant_2 p)
-    variant_2_is_meaning h0 h1 (Left x) l = held_is_meaning pick_left f0 g0 (each_2 f0 f1) (each_2 g0 g1) (each_2_left f0 f1) (each_2_left g0 g1) (m0 x) (h0 x l)
-    variant_2_is_meaning h0 h1 (Right x) l = held_is_meaning pick_right f1 g1 (each_2 f0 f1) (each_2 g0 g1) (each_2_right f0 f1) (each_2_right g0 g1) (m1 x) (h1 x l)
+-- the laws of such a parser, by those of the two
+module _ {P T R Error V X0 X1 S0 S1 : Type 0} {m0 : X0 → Meaning P T R Error V S0} {m1 : X1 → Meaning P T R Error V S1} {g0 : S0 → Type 0} {g1 : S1 → Type 0} {l0 : X0 → Type 0} {l1 : X1 → Type 0} where
+  pub variant_2_is_meaning : {f0 : S0 → Type 0} {f1 : S1 → Type 0} → ((x : X0) → l0 x → IsMeaning f0 g0 (m0 x)) → ((x : X1) → l1 x → IsMeaning f1 g1 (m1 x)) → (p : Either X0 X1) → each_2 l0 l1 p → IsMeaning (each_2 f0 f1) (each_2 g0 g1) (variant_2 m0 m1 p)
+  variant_2_is_meaning {f0 = f0} {f1 = f1} h0 h1 (Left x) l = held_is_meaning pick_left f0 g0 (each_2 f0 f1) (each_2 g0 g1) (each_2_left f0 f1) (each_2_left g0 g1) (m0 x) (h0 x l)
+  variant_2_is_meaning {f0 = f0} {f1 = f1} h0 h1 (Right x) l = held_is_meaning pick_right f1 g1 (each_2 f0 f1) (each_2 g0 g1) (each_2_right f0 f1) (each_2_right g0 g1) (m1 x) (h1 x l)
 
-    pub variant_2_means_one : (d0 : X0 → Type 0) (d1 : X1 → Type 0) → ((x : X0) → l0 x → d0 x → MeansOne g0 (m0 x)) → ((x : X1) → l1 x → d1 x → MeansOne g1 (m1 x)) → (p : Either X0 X1) → each_2 l0 l1 p → each_2 d0 d1 p → MeansOne (each_2 g0 g1) (variant_2 p)
-    variant_2_means_one d0 d1 h0 h1 (Left x) l d = held_means_one pick_left f0 g0 (each_2 f0 f1) (each_2 g0 g1) (each_2_left f0 f1) (each_2_left g0 g1) (m0 x) (h0 x l d)
-    variant_2_means_one d0 d1 h0 h1 (Right x) l d = held_means_one pick_right f1 g1 (each_2 f0 f1) (each_2 g0 g1) (each_2_right f0 f1) (each_2_right g0 g1) (m1 x) (h1 x l d)
+  pub variant_2_means_one : {d0 : X0 → Type 0} {d1 : X1 → Type 0} → ((x : X0) → l0 x → d0 x → MeansOne g0 (m0 x)) → ((x : X1) → l1 x → d1 x → MeansOne g1 (m1 x)) → (p : Either X0 X1) → each_2 l0 l1 p → each_2 d0 d1 p → MeansOne (each_2 g0 g1) (variant_2 m0 m1 p)
+  variant_2_means_one h0 h1 (Left x) l d = held_means_one pick_left g0 g0 (each_2 g0 g1) (each_2 g0 g1) (each_2_left g0 g1) (each_2_left g0 g1) (m0 x) (h0 x l d)
+  variant_2_means_one h0 h1 (Right x) l d = held_means_one pick_right g1 g1 (each_2 g0 g1) (each_2 g0 g1) (each_2_right g0 g1) (each_2_right g0 g1) (m1 x) (h1 x l d)
 
 -- what each value of a variant has each has
-pub each_2_into : {S0 S1 : Type 0} (f0 g0 : S0 → Type 0) (f1 g1 : S1 → Type 0) → ((s : S0) → f0 s → g0 s) → ((s : S1) → f1 s → g1 s) → (s : Either S0 S1) → each_2 f0 f1 s → each_2 g0 g1 s
-each_2_into f0 g0 f1 g1 h0 h1 (Left s) h = h0 s h
-each_2_into f0 g0 f1 g1 h0 h1 (Right s) h = h1 s h
+pub each_2_into : {S0 S1 : Type 0} {f0 g0 : S0 → Type 0} {f1 g1 : S1 → Type 0} → ((s : S0) → f0 s → g0 s) → ((s : S1) → f1 s → g1 s) → (s : Either S0 S1) → each_2 f0 f1 s → each_2 g0 g1 s
+each_2_into h0 h1 (Left s) h = h0 s h
+each_2_into h0 h1 (Right s) h = h1 s h

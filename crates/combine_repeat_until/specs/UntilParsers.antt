@@ -6,6 +6,7 @@ use Rattle.combine_base.specs.Parser.Meaning.{Meaning}
 use Rattle.combine_combinator.specs.Parsers.{picked_of, picked_part}
 use Rattle.combine_combinator.specs.declared.combinator.values.Nothing.{Nothing}
 use Rattle.combine_combinator.specs.declared.combinator.values.Picked.{Picked}
+use Rattle.combine_token.specs.Or.{or_parser}
 use Rattle.combine_token.specs.TokenParsers.{any_parser}
 use Rattle.combine_token.specs.declared.choice.OrState.{OrState}
 use Rattle.combine_token.specs.declared.token.types.Any.{Any}
@@ -20,13 +21,13 @@ use Rattle.combine_repeat_until.specs.declared.repeat.types.Skips.{Skips}
 use Rattle.combine_repeat_until.specs.declared.until.UntilState.{UntilState}
 
 abbrev pub next_of : {A X Y : Type 0} → X → Y → Next A X Y
-next_of part end = record { end = picked_of end; part = picked_of part }
+next_of part end = record { either = or_parser (picked_of end) (picked_of part) }
 
 abbrev pub next_end : {A X Y : Type 0} → Next A X Y → Y
-next_end p = picked_part p.end
+next_end p = picked_part p.either.0
 
 abbrev pub next_part : {A X Y : Type 0} → Next A X Y → X
-next_part p = picked_part p.part
+next_part p = picked_part p.either.1
 
 abbrev pub mute_of : {Y : Type 0} → Y → Mute Y
 mute_of part = record { part = part }

@@ -8,8 +8,8 @@ use combine_base::error::{ErrorOffset, ParseResult, Tracked};
 use combine_base::parser::{Outputs, ParseMode, Parser};
 use combine_base::stream::Stream;
 use combine_combinator::combinator::types::{Pick, Picked};
-use combine_token::choice::OrState;
-use combine_token::choice::lent::{Alternatives, First};
+use combine_token::choice::types::Or;
+use combine_token::choice::{OrState, or};
 use std::marker::PhantomData;
 
 /// The value is kept.
@@ -65,8 +65,7 @@ impl<A: Drop, B: Drop> Pick<B> for Absent<A> {
 #[derive(Drop)]
 #[derive_where(Clone, Copy; P, E)]
 pub struct Next<A, P, E> {
-    pub(crate) end: Picked<E, Absent<A>, Option<A>>,
-    pub(crate) part: Picked<P, Present, Option<A>>,
+    pub(crate) either: Or<Picked<E, Absent<A>, Option<A>>, Picked<P, Present, Option<A>>>,
 }
 
 impl<A, P, E> Next<A, P, E> {
@@ -76,8 +75,7 @@ impl<A, P, E> Next<A, P, E> {
         ensures { result ≡ next_of part end }
     {
         Next {
-            end: Picked::new(end),
-            part: Picked::new(part),
+            either: or(Picked::new(end), Picked::new(part)),
         }
     }
 }
@@ -119,14 +117,12 @@ impl<Input: Stream, A: Drop, P: Parser<Input, Output = A>, E: Parser<Input>> Par
         input: &mut Input,
         state: &mut Self::PartialState,
     ) -> ParseResult<Option<A>, Input::Error> {
-        let mut halves = (&mut self.end, &mut self.part);
-        halves.choose::<_, First>(mode, input, state)
+        self.either.parse_mode(mode, input, state)
     }
 
     /// What the first adds, and then what the second does.
     fn add_error(&mut self, error: &mut Tracked<Input::Error>) {
-        self.end.add_error(error);
-        self.part.add_error(error);
+        self.either.add_error(error);
     }
 
     /// It counts as one parser.

@@ -70,6 +70,7 @@ impl<
     C: Parser<Input, Output = A::Output>,
 > Parser<Input> for Dispatch3<A, B, C> {
     ghost use Rattle.combine_choice_dispatch.specs.Held.{nested, nested_is_meaning, nested_means_one};
+    ghost use Rattle.combine_choice_dispatch.specs.Variants2.{each_2_into, variant_2_is_meaning, variant_2_means_one};
 
     type PartialState = Dispatch3<A::PartialState, B::PartialState, C::PartialState>;
 
@@ -83,11 +84,11 @@ impl<
 
     ghost parts = { λ p. 1 };
 
-    ghost default_valid = { λ s. ⟦<Either<A, Either<B, C>> as Parser<Input>>⟧.default_valid (nest_3 s) };
+    ghost default_valid = { λ s. each_2_into A.default_valid (each_2_into B.default_valid C.default_valid) (nest_3 s) };
 
-    ghost laws = { λ p l. nested_is_meaning nest_3 (⟦<Either<A, Either<B, C>> as Parser<Input>>⟧.laws (nest_3 p) l) };
+    ghost laws = { λ p l. nested_is_meaning nest_3 (variant_2_is_meaning A.laws (variant_2_is_meaning B.laws C.laws) (nest_3 p) l) };
 
-    ghost single = { λ p l d. nested_means_one nest_3 (⟦<Either<A, Either<B, C>> as Parser<Input>>⟧.single (nest_3 p) l d) };
+    ghost single = { λ p l d. nested_means_one nest_3 (variant_2_means_one A.single (variant_2_means_one B.single C.single) (nest_3 p) l d) };
 
     #[inline(always)]
     fn parse_mode<M: ParseMode>(

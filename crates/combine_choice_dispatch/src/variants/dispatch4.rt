@@ -87,6 +87,7 @@ impl<
     D: Parser<Input, Output = A::Output>,
 > Parser<Input> for Dispatch4<A, B, C, D> {
     ghost use Rattle.combine_choice_dispatch.specs.Held.{nested, nested_is_meaning, nested_means_one};
+    ghost use Rattle.combine_choice_dispatch.specs.Variants2.{each_2_into, variant_2_is_meaning, variant_2_means_one};
 
     type PartialState = Dispatch4<
         A::PartialState,
@@ -105,11 +106,11 @@ impl<
 
     ghost parts = { λ p. 1 };
 
-    ghost default_valid = { λ s. ⟦<Either<Either<A, B>, Either<C, D>> as Parser<Input>>⟧.default_valid (nest_4 s) };
+    ghost default_valid = { λ s. each_2_into (each_2_into A.default_valid B.default_valid) (each_2_into C.default_valid D.default_valid) (nest_4 s) };
 
-    ghost laws = { λ p l. nested_is_meaning nest_4 (⟦<Either<Either<A, B>, Either<C, D>> as Parser<Input>>⟧.laws (nest_4 p) l) };
+    ghost laws = { λ p l. nested_is_meaning nest_4 (variant_2_is_meaning (variant_2_is_meaning A.laws B.laws) (variant_2_is_meaning C.laws D.laws) (nest_4 p) l) };
 
-    ghost single = { λ p l d. nested_means_one nest_4 (⟦<Either<Either<A, B>, Either<C, D>> as Parser<Input>>⟧.single (nest_4 p) l d) };
+    ghost single = { λ p l d. nested_means_one nest_4 (variant_2_means_one (variant_2_means_one A.single B.single) (variant_2_means_one C.single D.single) (nest_4 p) l d) };
 
     #[inline(always)]
     fn parse_mode<M: ParseMode>(

@@ -101,6 +101,7 @@ impl<
     E: Parser<Input, Output = A::Output>,
 > Parser<Input> for Dispatch5<A, B, C, D, E> {
     ghost use Rattle.combine_choice_dispatch.specs.Held.{nested, nested_is_meaning, nested_means_one};
+    ghost use Rattle.combine_choice_dispatch.specs.Variants2.{each_2_into, variant_2_is_meaning, variant_2_means_one};
 
     type PartialState = Dispatch5<
         A::PartialState,
@@ -120,11 +121,11 @@ impl<
 
     ghost parts = { λ p. 1 };
 
-    ghost default_valid = { λ s. ⟦<Either<Either<A, B>, Either<C, Either<D, E>>> as Parser<Input>>⟧.default_valid (nest_5 s) };
+    ghost default_valid = { λ s. each_2_into (each_2_into A.default_valid B.default_valid) (each_2_into C.default_valid (each_2_into D.default_valid E.default_valid)) (nest_5 s) };
 
-    ghost laws = { λ p l. nested_is_meaning nest_5 (⟦<Either<Either<A, B>, Either<C, Either<D, E>>> as Parser<Input>>⟧.laws (nest_5 p) l) };
+    ghost laws = { λ p l. nested_is_meaning nest_5 (variant_2_is_meaning (variant_2_is_meaning A.laws B.laws) (variant_2_is_meaning C.laws (variant_2_is_meaning D.laws E.laws)) (nest_5 p) l) };
 
-    ghost single = { λ p l d. nested_means_one nest_5 (⟦<Either<Either<A, B>, Either<C, Either<D, E>>> as Parser<Input>>⟧.single (nest_5 p) l d) };
+    ghost single = { λ p l d. nested_means_one nest_5 (variant_2_means_one (variant_2_means_one A.single B.single) (variant_2_means_one C.single (variant_2_means_one D.single E.single)) (nest_5 p) l d) };
 
     #[inline(always)]
     fn parse_mode<M: ParseMode>(

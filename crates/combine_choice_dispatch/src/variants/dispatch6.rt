@@ -138,6 +138,7 @@ impl<
     F: Parser<Input, Output = A::Output>,
 > Parser<Input> for Dispatch6<A, B, C, D, E, F> {
     ghost use Rattle.combine_choice_dispatch.specs.Held.{nested, nested_is_meaning, nested_means_one};
+    ghost use Rattle.combine_choice_dispatch.specs.Variants2.{each_2_into, variant_2_is_meaning, variant_2_means_one};
 
     type PartialState = Dispatch6<
         A::PartialState,
@@ -158,11 +159,11 @@ impl<
 
     ghost parts = { λ p. 1 };
 
-    ghost default_valid = { λ s. ⟦<Either<Either<A, Either<B, C>>, Either<D, Either<E, F>>> as Parser<Input>>⟧.default_valid (nest_6 s) };
+    ghost default_valid = { λ s. each_2_into (each_2_into A.default_valid (each_2_into B.default_valid C.default_valid)) (each_2_into D.default_valid (each_2_into E.default_valid F.default_valid)) (nest_6 s) };
 
-    ghost laws = { λ p l. nested_is_meaning nest_6 (⟦<Either<Either<A, Either<B, C>>, Either<D, Either<E, F>>> as Parser<Input>>⟧.laws (nest_6 p) l) };
+    ghost laws = { λ p l. nested_is_meaning nest_6 (variant_2_is_meaning (variant_2_is_meaning A.laws (variant_2_is_meaning B.laws C.laws)) (variant_2_is_meaning D.laws (variant_2_is_meaning E.laws F.laws)) (nest_6 p) l) };
 
-    ghost single = { λ p l d. nested_means_one nest_6 (⟦<Either<Either<A, Either<B, C>>, Either<D, Either<E, F>>> as Parser<Input>>⟧.single (nest_6 p) l d) };
+    ghost single = { λ p l d. nested_means_one nest_6 (variant_2_means_one (variant_2_means_one A.single (variant_2_means_one B.single C.single)) (variant_2_means_one D.single (variant_2_means_one E.single F.single)) (nest_6 p) l d) };
 
     #[inline(always)]
     fn parse_mode<M: ParseMode>(

@@ -162,6 +162,7 @@ impl<
     G: Parser<Input, Output = A::Output>,
 > Parser<Input> for Dispatch7<A, B, C, D, E, F, G> {
     ghost use Rattle.combine_choice_dispatch.specs.Held.{nested, nested_is_meaning, nested_means_one};
+    ghost use Rattle.combine_choice_dispatch.specs.Variants2.{each_2_into, variant_2_is_meaning, variant_2_means_one};
 
     type PartialState = Dispatch7<
         A::PartialState,
@@ -183,11 +184,11 @@ impl<
 
     ghost parts = { λ p. 1 };
 
-    ghost default_valid = { λ s. ⟦<Either<Either<A, Either<B, C>>, Either<Either<D, E>, Either<F, G>>> as Parser<Input>>⟧.default_valid (nest_7 s) };
+    ghost default_valid = { λ s. each_2_into (each_2_into A.default_valid (each_2_into B.default_valid C.default_valid)) (each_2_into (each_2_into D.default_valid E.default_valid) (each_2_into F.default_valid G.default_valid)) (nest_7 s) };
 
-    ghost laws = { λ p l. nested_is_meaning nest_7 (⟦<Either<Either<A, Either<B, C>>, Either<Either<D, E>, Either<F, G>>> as Parser<Input>>⟧.laws (nest_7 p) l) };
+    ghost laws = { λ p l. nested_is_meaning nest_7 (variant_2_is_meaning (variant_2_is_meaning A.laws (variant_2_is_meaning B.laws C.laws)) (variant_2_is_meaning (variant_2_is_meaning D.laws E.laws) (variant_2_is_meaning F.laws G.laws)) (nest_7 p) l) };
 
-    ghost single = { λ p l d. nested_means_one nest_7 (⟦<Either<Either<A, Either<B, C>>, Either<Either<D, E>, Either<F, G>>> as Parser<Input>>⟧.single (nest_7 p) l d) };
+    ghost single = { λ p l d. nested_means_one nest_7 (variant_2_means_one (variant_2_means_one A.single (variant_2_means_one B.single C.single)) (variant_2_means_one (variant_2_means_one D.single E.single) (variant_2_means_one F.single G.single)) (nest_7 p) l d) };
 
     #[inline(always)]
     fn parse_mode<M: ParseMode>(

@@ -197,6 +197,7 @@ impl<
     H: Parser<Input, Output = A::Output>,
 > Parser<Input> for Dispatch8<A, B, C, D, E, F, G, H> {
     ghost use Rattle.combine_choice_dispatch.specs.Held.{nested, nested_is_meaning, nested_means_one};
+    ghost use Rattle.combine_choice_dispatch.specs.Variants2.{each_2_into, variant_2_is_meaning, variant_2_means_one};
 
     type PartialState = Dispatch8<
         A::PartialState,
@@ -219,11 +220,11 @@ impl<
 
     ghost parts = { λ p. 1 };
 
-    ghost default_valid = { λ s. ⟦<Either<Either<Either<A, B>, Either<C, D>>, Either<Either<E, F>, Either<G, H>>> as Parser<Input>>⟧.default_valid (nest_8 s) };
+    ghost default_valid = { λ s. each_2_into (each_2_into (each_2_into A.default_valid B.default_valid) (each_2_into C.default_valid D.default_valid)) (each_2_into (each_2_into E.default_valid F.default_valid) (each_2_into G.default_valid H.default_valid)) (nest_8 s) };
 
-    ghost laws = { λ p l. nested_is_meaning nest_8 (⟦<Either<Either<Either<A, B>, Either<C, D>>, Either<Either<E, F>, Either<G, H>>> as Parser<Input>>⟧.laws (nest_8 p) l) };
+    ghost laws = { λ p l. nested_is_meaning nest_8 (variant_2_is_meaning (variant_2_is_meaning (variant_2_is_meaning A.laws B.laws) (variant_2_is_meaning C.laws D.laws)) (variant_2_is_meaning (variant_2_is_meaning E.laws F.laws) (variant_2_is_meaning G.laws H.laws)) (nest_8 p) l) };
 
-    ghost single = { λ p l d. nested_means_one nest_8 (⟦<Either<Either<Either<A, B>, Either<C, D>>, Either<Either<E, F>, Either<G, H>>> as Parser<Input>>⟧.single (nest_8 p) l d) };
+    ghost single = { λ p l d. nested_means_one nest_8 (variant_2_means_one (variant_2_means_one (variant_2_means_one A.single B.single) (variant_2_means_one C.single D.single)) (variant_2_means_one (variant_2_means_one E.single F.single) (variant_2_means_one G.single H.single)) (nest_8 p) l d) };
 
     #[inline(always)]
     fn parse_mode<M: ParseMode>(

@@ -67,11 +67,11 @@ impl<Input: Stream, L: Parser<Input>, R: Parser<Input, Output = L::Output>> Pars
 
     ghost parts = { λ p. 1 };
 
-    ghost default_valid = { each_2_into L.PartialState.is_default L.valid R.PartialState.is_default R.valid L.default_valid R.default_valid };
+    ghost default_valid = { each_2_into L.default_valid R.default_valid };
 
-    ghost laws = { variant_2_is_meaning L.meaning R.meaning L.PartialState.is_default L.valid R.PartialState.is_default R.valid L.lawful R.lawful L.laws R.laws };
+    ghost laws = { variant_2_is_meaning L.laws R.laws };
 
-    ghost single = { variant_2_means_one L.meaning R.meaning L.PartialState.is_default L.valid R.PartialState.is_default R.valid L.lawful R.lawful L.determined R.determined L.single R.single };
+    ghost single = { variant_2_means_one L.single R.single };
 
     #[inline(always)]
     fn parse_mode<M: ParseMode>(
