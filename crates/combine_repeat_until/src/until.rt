@@ -1,7 +1,7 @@
 //! Blocks of a parser up to the first place where it says that they end: the loop, and what is kept of it.
 ghost use Rattle.std.specs.Prelude.{◌≡◌, ◌||◌, ◌&&◌, ℕ, nat_lt, not, false, true, MatchResult};
 ghost use Rattle.combine_base.specs.Parser.Answer.{world};
-ghost use Rattle.combine_base.specs.Parser.AnswersCalls.{AnswersCall};
+ghost use Rattle.combine_base.specs.Parser.AnswersCalls.{AnswersCall, run_between};
 ghost use Rattle.combine_base.specs.Parser.Meaning.{MeansSame};
 ghost use Rattle.combine_base.specs.Parser.Reasons.{ReasonedCall};
 ghost use Rattle.combine_base.specs.Sequence.Parts.{accepted_as};
@@ -258,7 +258,7 @@ fn one_turn<
     ensures same { MeansSame (N.meaning parser.old) (N.meaning parser.new) }
     ensures passes { Passes (Input.marks input.old) (Input.marks input.new) (Input.failures input.old) (Input.failures input.new) }
     ensures turned { OneTurn (world Input.step Input.Error.seen Input.steady N.PartialState.is_default) (N.meaning parser.old) (some_appended F.held F.none F.more F.lean)
-        (record { first = M.first mode; state = running.old; left = running.new; old = Input.view input.old; new = Input.view input.new; before = Input.failures input.old; after = Input.failures input.new })
+        (run_between Input.StreamOnce (M.first mode) running.old running.new input.old input.new)
         (Input.stands input.old place) blocks result }
     ensures refuses { RefusesTurn Input.Error.seen (N.meaning parser.old) (M.first mode) running.old blocks.begun (Input.view input.old) (Input.view input.new) result }
 {
