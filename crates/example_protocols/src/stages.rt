@@ -1,164 +1,68 @@
-//! The head of a request over a slice, part by part: a plain function for each part parses it, and hands on what is left.
+//! The head of a request over a slice, part by part: a function for each part parses it, and hands on what is left.
 
 use combine::error::UnexpectedParse;
 use combine::parser::Parser;
-use combine::parser::byte::{alpha_num, digit, letter, upper};
-use combine::parser::repeat::{many1, skip_many};
+use combine::parser::choice::optional;
+use combine::parser::combinator::{attempt, map};
+use combine::parser::repeat::{many, many1, sep_by};
 use combine::parser::sequence::{skip, with};
 use combine::parser::token::{satisfy, token};
-use combine::stream::Kind;
 use std::alloc::{AllocError, Global};
 
 /// What a part of the input is, and what is left of it.
 type Part<'a, T> = Result<(T, &'a [u8]), UnexpectedParse>;
 
-/// A word, and what it is set to.
-type Parameter = (Vec<u8>, Vec<u8>);
-
-/// A field: its name, its value, and the parameters of that.
-#[derive(Drop)]
-pub struct Field {
-    pub name: Vec<u8>,
-    pub value: Vec<u8>,
-    pub parameters: Vec<Parameter>,
-}
+/// A name and its values.
+type Field = (Vec<u8>, Vec<Vec<u8>>);
 
 /// The head of a request.
-#[derive(Drop)]
+#[derive(Debug, PartialEq, Drop)]
 pub struct Head {
     pub method: Vec<u8>,
-    pub path: Vec<u8>,
-    pub query: Option<Vec<u8>>,
+    pub target: Vec<u8>,
     pub version: Option<(u8, u8)>,
     pub fields: Vec<Field>,
 }
 
-/// Parses a method and a blank.
-fn method(alloc: Global, input: &[u8]) -> Part<'_, Vec<u8>> {
-    let letters = many1::<Vec<_>, _>(alloc, upper());
-    skip(letters, token(b' ')).parse(input)
+/// Parses a method, a blank and a target.
+fn request(alloc: Global, input: &[u8]) -> Part<'_, (Vec<u8>, Vec<u8>)> {
+    let method = many1::<Vec<_>, _>(alloc, satisfy(|byte: u8| byte.is_ascii_uppercase()));
+    let target = many1::<Vec<_>, _>(alloc, satisfy(|byte: u8| byte.is_ascii_graphic()));
+    (method, with(token(b' '), target)).parse(input)
 }
 
-/// Parses what stands before a query, a version or the end of the line.
-fn path(alloc: Global, input: &[u8]) -> Part<'_, Vec<u8>> {
-    let in_path = |byte: u8| byte.is_ascii_graphic() && byte != b'?';
-    many1::<Vec<_>, _>(alloc, satisfy(in_path)).parse(input)
+/// Parses the digits of a version, if there is one, and the end of the line.
+fn version(input: &[u8]) -> Part<'_, Option<(u8, u8)>> {
+    let digits = (
+        token(b' '),
+        satisfy(|byte: u8| byte.is_ascii_digit()),
+        token(b'.'),
+        satisfy(|byte: u8| byte.is_ascii_digit()),
+    );
+    let version = map(
+        digits,
+        |(_, major, _, minor): (u8, u8, u8, u8)| (major, minor),
+    );
+    skip(optional(version), token(b'\n')).parse(input)
 }
 
-/// Parses a query behind its mark.
-fn query(alloc: Global, input: &[u8]) -> Part<'_, Vec<u8>> {
-    let marks = many1::<Vec<_>, _>(alloc, satisfy(|byte: u8| byte.is_ascii_graphic()));
-    with(token(b'?'), marks).parse(input)
-}
-
-/// Parses a blank and the two digits of a version.
-fn version(input: &[u8]) -> Part<'_, (u8, u8)> {
-    let ((_, major, _, minor), rest) = (token(b' '), digit(), token(b'.'), digit()).parse(input)?;
-    Ok(((major, minor), rest))
-}
-
-/// Parses the end of a line.
-fn end_of_line(input: &[u8]) -> Part<'_, u8> {
-    token(b'\n').parse(input)
-}
-
-/// Parses the name of a field and its colon.
-fn name(alloc: Global, input: &[u8]) -> Part<'_, Vec<u8>> {
-    let letters = many1::<Vec<_>, _>(alloc, letter());
-    skip(letters, token(b':')).parse(input)
-}
-
-/// Parses blanks and the value of a field.
-fn value(alloc: Global, input: &[u8]) -> Part<'_, Vec<u8>> {
-    let word = many1::<Vec<_>, _>(alloc, alpha_num());
-    with(skip_many(token(b' ')), word).parse(input)
-}
-
-/// Parses the word of a parameter behind its semicolon.
-fn word(alloc: Global, input: &[u8]) -> Part<'_, Vec<u8>> {
-    let letters = many1::<Vec<_>, _>(alloc, letter());
-    with(token(b';'), letters).parse(input)
-}
-
-/// Parses what a parameter is set to, behind its sign.
-fn setting(alloc: Global, input: &[u8]) -> Part<'_, Vec<u8>> {
-    let word = many1::<Vec<_>, _>(alloc, alpha_num());
-    with(token(b'='), word).parse(input)
-}
-
-/// Parses the parameters of a value, if it has any.
-fn parameters(alloc: Global, input: &[u8]) -> Part<'_, Vec<Parameter>> {
-    let mut parameters = Vec::new(alloc);
-    let mut rest = input;
-    for _ in 0..input.len() {
-        if rest.first() != Some(&b';') {
-            break;
-        }
-        let (word, behind) = word(alloc, rest)?;
-        let (setting, behind) = setting(alloc, behind)?;
-        if parameters.push((word, setting)).is_err() {
-            return Err(UnexpectedParse(Kind::Memory));
-        }
-        rest = behind;
-    }
-    Ok((parameters, rest))
-}
-
-/// Parses a field and the end of its line.
-fn field_line(alloc: Global, input: &[u8]) -> Part<'_, Field> {
-    let (name, rest) = name(alloc, input)?;
-    let (value, rest) = value(alloc, rest)?;
-    let (parameters, rest) = parameters(alloc, rest)?;
-    let (_, rest) = end_of_line(rest)?;
-    let field = Field {
-        name,
-        value,
-        parameters,
-    };
-    Ok((field, rest))
-}
-
-/// Parses fields, and the empty line behind them.
+/// Parses lines of fields, and an empty one.
 fn fields(alloc: Global, input: &[u8]) -> Part<'_, Vec<Field>> {
-    let mut fields = Vec::new(alloc);
-    let mut rest = input;
-    for _ in 0..input.len() {
-        if let Some((b'\n', behind)) = rest.split_first() {
-            return Ok((fields, behind));
-        }
-        let (next, behind) = field_line(alloc, rest)?;
-        if fields.push(next).is_err() {
-            return Err(UnexpectedParse(Kind::Memory));
-        }
-        rest = behind;
-    }
-    Err(UnexpectedParse(Kind::End))
+    let name = many1::<Vec<_>, _>(alloc, satisfy(|byte: u8| byte.is_ascii_alphabetic()));
+    let value = many1::<Vec<_>, _>(alloc, satisfy(|byte: u8| byte.is_ascii_alphanumeric()));
+    let values = sep_by::<Vec<_>, _, _>(alloc, value, token(b','));
+    let field = skip((name, with(token(b':'), values)), token(b'\n'));
+    skip(many::<Vec<_>, _>(alloc, attempt(field)), token(b'\n')).parse(input)
 }
 
-/// Parses a head of thirty-three constructors.
+/// Parses a head of thirty-one constructors.
 pub fn read_head(alloc: Global, input: &[u8]) -> Part<'_, Head> {
-    let (method, rest) = method(alloc, input)?;
-    let (path, rest) = path(alloc, rest)?;
-    let (query, rest) = match rest.first() {
-        Some(b'?') => {
-            let (query, rest) = query(alloc, rest)?;
-            (Some(query), rest)
-        }
-        _ => (None, rest),
-    };
-    let (version, rest) = match rest.first() {
-        Some(b' ') => {
-            let (version, rest) = version(rest)?;
-            (Some(version), rest)
-        }
-        _ => (None, rest),
-    };
-    let (_, rest) = end_of_line(rest)?;
+    let ((method, target), rest) = request(alloc, input)?;
+    let (version, rest) = version(rest)?;
     let (fields, rest) = fields(alloc, rest)?;
     let head = Head {
         method,
-        path,
-        query,
+        target,
         version,
         fields,
     };
@@ -168,59 +72,33 @@ pub fn read_head(alloc: Global, input: &[u8]) -> Part<'_, Head> {
 #[test]
 fn a_head(rt: HostRuntime) -> Result<(), AllocError> {
     let alloc = rt.alloc();
-    let input = b"GET /a?b 1.1\ntype: text;level=1\nhost:c\n\nbody";
-    let Ok((head, rest)) = read_head(alloc, input) else {
+    let Ok((head, rest)) = read_head(alloc, b"GET /a 1.1\nhost:a,b\n\nbody") else {
         panic!(rt; "the head is accepted");
     };
     assert_eq!(rt; head.method.as_slice(), b"GET".as_slice());
-    assert_eq!(rt; head.path.as_slice(), b"/a".as_slice());
-    let Some(query) = head.query else {
-        panic!(rt; "there is a query");
-    };
-    assert_eq!(rt; query.as_slice(), b"b".as_slice());
+    assert_eq!(rt; head.target.as_slice(), b"/a".as_slice());
     assert_eq!(rt; head.version, Some((b'1', b'1')));
-    let [kind, host] = head.fields.as_slice() else {
-        panic!(rt; "there are two fields");
+    let [(name, values)] = head.fields.as_slice() else {
+        panic!(rt; "there is one field");
     };
-    assert_eq!(rt; kind.name.as_slice(), b"type".as_slice());
-    assert_eq!(rt; kind.value.as_slice(), b"text".as_slice());
-    let [(word, value)] = kind.parameters.as_slice() else {
-        panic!(rt; "there is one parameter");
+    assert_eq!(rt; name.as_slice(), b"host".as_slice());
+    let [first, second] = values.as_slice() else {
+        panic!(rt; "there are two values");
     };
-    assert_eq!(rt; word.as_slice(), b"level".as_slice());
-    assert_eq!(rt; value.as_slice(), b"1".as_slice());
-    assert_eq!(rt; host.name.as_slice(), b"host".as_slice());
-    assert_eq!(rt; host.value.as_slice(), b"c".as_slice());
-    assert_eq!(rt; host.parameters.len(), 0);
+    assert_eq!(rt; first.as_slice(), b"a".as_slice());
+    assert_eq!(rt; second.as_slice(), b"b".as_slice());
     assert_eq!(rt; rest, b"body".as_slice());
     Ok(())
 }
 
 #[test]
-fn a_head_without_fields(rt: HostRuntime) {
-    let Ok((head, rest)) = read_head(rt.alloc(), b"GET /\n\n") else {
-        panic!(rt; "the head is accepted");
-    };
-    assert!(rt; head.query.is_none());
-    assert_eq!(rt; head.version, None);
-    assert_eq!(rt; head.fields.len(), 0);
-    assert_eq!(rt; rest.len(), 0);
-}
-
-#[test]
 fn what_is_no_head(rt: HostRuntime) {
-    for (input, kind) in [
-        (&b"get /a\n\n"[..], Kind::Refused),
-        (b"GET /a 1\n\n", Kind::Refused),
-        (b"GET /a?\n\n", Kind::Refused),
-        (b"GET /a\nhost\n\n", Kind::Refused),
-        (b"GET /a\nhost:c;\n\n", Kind::Refused),
-        (b"GET /a\nhost:c", Kind::End),
-        (b"GET /a\n", Kind::End),
+    for input in [
+        &b"get /a\n\n"[..],
+        b"GET /a 1\n\n",
+        b"GET /a\nhost\n\n",
+        b"GET /a\n",
     ] {
-        assert_eq!(rt;
-            read_head(rt.alloc(), input).err(),
-            Some(UnexpectedParse(kind))
-        );
+        assert!(rt; read_head(rt.alloc(), input).is_err());
     }
 }
