@@ -1,5 +1,5 @@
 //! The protocol of parsers, and the calls that run one.
-ghost use Rattle.std.specs.Prelude.{◌≡◌, ℕ, ◌+◌, ◌<◌, ◌≤◌, List, [], ◌∷◌, ◌++◌, Bool, true, false, IsTrue, MatchResult, length, drop};
+ghost use Rattle.std.specs.Prelude.{◌≡◌, ℕ, ◌+◌, ◌<◌, ◌≤◌, List, [], ◌∷◌, ◌++◌, Bool, true, false, IsTrue, length, drop};
 
 use crate::error::{ErrorOffset, ParseResult, Tracked};
 use crate::refusal::{add_unexpected_token, peeked, token_at};
@@ -77,9 +77,10 @@ pub trait Parser<Input: Stream>: Outputs<Input> {
     ghost use Rattle.std.specs.Prelude.{◌≡◌, ℕ, true, false, Bool, Option, Some, None};
     ghost use Rattle.combine_base.specs.Stream.View.{View};
     ghost use Rattle.combine_base.specs.Parser.Meaning.{Meaning, IsMeaning, IsSingle, MeansOne, MeansSame, begun_refuses};
-    ghost use Rattle.combine_base.specs.Parser.Answer.{Answers, world};
+    ghost use Rattle.combine_base.specs.Parser.Answer.{world};
+    ghost use Rattle.combine_base.specs.Parser.AnswersCalls.{AnswersCall, ParsesCall, ResultsCall};
     ghost use Rattle.combine_base.specs.Error.Errors.{Says};
-    ghost use Rattle.combine_base.specs.Parser.Drivers.{Explains, Explained, Starts, Results, StartResults};
+    ghost use Rattle.combine_base.specs.Parser.Drivers.{Explains, Explained, Starts};
     ghost use Rattle.combine_base.specs.Parser.Reasons.{Reasoned, ReasonedCall};
     ghost use Rattle.combine_base.specs.Stream.Calls.{Passes};
     ghost use Rattle.combine_base.specs.declared.stream.Failures.{Failures};
@@ -117,10 +118,7 @@ pub trait Parser<Input: Stream>: Outputs<Input> {
         ensures valid { valid state.new }
         ensures same { MeansSame (meaning self.old) (meaning self.new) }
         ensures passes { Passes (Input.marks input.old) (Input.marks input.new) (Input.failures input.old) (Input.failures input.new) }
-        ensures answers { Answers (world Input.step Input.Error.seen Input.steady Self.PartialState.is_default)
-            (meaning self.old)
-            (record { first = M.first mode; state = state.old; left = state.new; old = Input.view input.old; new = Input.view input.new; before = Input.failures input.old; after = Input.failures input.new })
-            result }
+        ensures answers { AnswersCall Input.StreamOnce Input.Error.seen Self.PartialState.is_default (meaning self.old) (M.first mode) state.old state.new input.old input.new result }
         ensures refuses { ReasonedCall Input.Error.seen (meaning self.old) (M.first mode) state.old (Input.view input.old) (Input.view input.new) result };
 
     /// Says what was expected where the parser began, to an error of its own or of a parser round it. An item that finds no memory makes it an error of kind `Memory`.
@@ -171,10 +169,7 @@ pub trait Parser<Input: Stream>: Outputs<Input> {
         ensures valid { valid state.new }
         ensures same { MeansSame (meaning self.old) (meaning self.new) }
         ensures passes { Passes (Input.marks input.old) (Input.marks input.new) (Input.failures input.old) (Input.failures input.new) }
-        ensures answers { Answers (world Input.step Input.Error.seen Input.steady Self.PartialState.is_default)
-            (meaning self.old)
-            (record { first = M.first mode; state = state.old; left = state.new; old = Input.view input.old; new = Input.view input.new; before = Input.failures input.old; after = Input.failures input.new })
-            result }
+        ensures answers { AnswersCall Input.StreamOnce Input.Error.seen Self.PartialState.is_default (meaning self.old) (M.first mode) state.old state.new input.old input.new result }
         ensures explained { Explained Input.Error.seen (meaning self.old) (begun_refuses (meaning self.old) (M.first mode) state.old) (Input.view input.old) (Input.view input.new) result }
     {
         let start = input.checkpoint();
@@ -203,10 +198,7 @@ pub trait Parser<Input: Stream>: Outputs<Input> {
         ensures valid { valid state.new }
         ensures same { MeansSame (meaning self.old) (meaning self.new) }
         ensures passes { Passes (Input.marks input.old) (Input.marks input.new) (Input.failures input.old) (Input.failures input.new) }
-        ensures answers { Answers (world Input.step Input.Error.seen Input.steady Self.PartialState.is_default)
-            (meaning self.old)
-            (record { first = true; state = state.old; left = state.new; old = Input.view input.old; new = Input.view input.new; before = Input.failures input.old; after = Input.failures input.new })
-            result }
+        ensures answers { AnswersCall Input.StreamOnce Input.Error.seen Self.PartialState.is_default (meaning self.old) true state.old state.new input.old input.new result }
         ensures refuses { ReasonedCall Input.Error.seen (meaning self.old) true state.old (Input.view input.old) (Input.view input.new) result }
     {
         self.parse_mode(FirstMode, input, state)
@@ -224,10 +216,7 @@ pub trait Parser<Input: Stream>: Outputs<Input> {
         ensures valid { valid state.new }
         ensures same { MeansSame (meaning self.old) (meaning self.new) }
         ensures passes { Passes (Input.marks input.old) (Input.marks input.new) (Input.failures input.old) (Input.failures input.new) }
-        ensures answers { Answers (world Input.step Input.Error.seen Input.steady Self.PartialState.is_default)
-            (meaning self.old)
-            (record { first = false; state = state.old; left = state.new; old = Input.view input.old; new = Input.view input.new; before = Input.failures input.old; after = Input.failures input.new })
-            result }
+        ensures answers { AnswersCall Input.StreamOnce Input.Error.seen Self.PartialState.is_default (meaning self.old) false state.old state.new input.old input.new result }
         ensures refuses { ReasonedCall Input.Error.seen (meaning self.old) false state.old (Input.view input.old) (Input.view input.new) result }
     {
         self.parse_mode(PartialMode::default(), input, state)
@@ -273,10 +262,7 @@ pub trait Parser<Input: Stream>: Outputs<Input> {
         ensures valid { valid state.new }
         ensures same { MeansSame (meaning self.old) (meaning self.new) }
         ensures passes { Passes (Input.marks input.old) (Input.marks input.new) (Input.failures input.old) (Input.failures input.new) }
-        ensures results { Results (world Input.step Input.Error.seen Input.steady Self.PartialState.is_default)
-            (meaning self.old) Input.Error.seen ((meaning self.old).refuses_from state.old)
-            (record { first = false; state = state.old; left = state.new; old = Input.view input.old; new = Input.view input.new; before = Input.failures input.old; after = Input.failures input.new })
-            result }
+        ensures results { ResultsCall Input.StreamOnce Input.Error.seen Self.PartialState.is_default (meaning self.old) state.old state.new input.old input.new result }
     {
         self.parse_explained(PartialMode::default(), input, state)
             .without_commit()
@@ -290,9 +276,7 @@ pub trait Parser<Input: Stream>: Outputs<Input> {
         ensures lawful { lawful self.new }
         ensures same { MeansSame (meaning self.old) (meaning self.new) }
         ensures single { determined self.old → IsSingle (meaning self.old).whole }
-        ensures results { MatchResult result
-            (λ p. StartResults (world Input.step Input.Error.seen Input.steady Self.PartialState.is_default) (meaning self.old) Input.Error.seen (Input.view input) (Input.view p.1) (Input.failures input) (Input.failures p.1) (Ok p.0))
-            (λ e. (left : Input) × StartResults (world Input.step Input.Error.seen Input.steady Self.PartialState.is_default) (meaning self.old) Input.Error.seen (Input.view input) (Input.view left) (Input.failures input) (Input.failures left) (Err e)) }
+        ensures results { ParsesCall Input.StreamOnce Input.Error.seen Self.PartialState.is_default (meaning self.old) input result }
     {
         let mut input = input;
         let mut state = Self::PartialState::default();

@@ -1,12 +1,9 @@
 //! The bytes of a list, matched one by one. Our own, of which `bytes` and `bytes_cmp` are made.
 ghost use Rattle.std.specs.Prelude.{◌≡◌, ◌<◌, ◌^◌, None, length};
 ghost use Rattle.std.specs.Slice.Iter.{iter_rest};
-ghost use Rattle.combine_base.specs.Error.Errors.{Nothing};
-ghost use Rattle.combine_base.specs.Parser.AnswersCalls.{AnswersCall};
-ghost use Rattle.combine_base.specs.Parser.Reasons.{Reasoned};
 ghost use Rattle.combine_base.specs.Stream.Calls.{Passes};
+ghost use Rattle.combine_token.specs.ListCalls.{AnswersListCall, ReasonedListCall};
 ghost use Rattle.combine_token.specs.Listed.{listed};
-ghost use Rattle.combine_token.specs.Reasons.{RefusesList, begins_at};
 ghost use Rattle.combine_token.specs.TokenListLaws.{token_list, token_list_is_meaning, token_list_means_one};
 ghost use Rattle.combine_token.specs.TokenParsers.{matched_before};
 ghost use Rattle.combine_char.specs.TextParsers.{bytes_of, fits_of_bytes, in_bytes_parser};
@@ -133,10 +130,8 @@ where
     F: Fits<u8, Input::Token>,
     requires { F.ready fits.now }
     ensures passes { Passes (Input.marks input.old) (Input.marks input.new) (Input.failures input.old) (Input.failures input.new) }
-    ensures answers { AnswersCall Input.StreamOnce Input.Error.seen (λ s. matched_before s ≡ 0) (token_list Input.Error.seen (listed (F.compares fits.now) bytes.now) None (λ v. v ≡ bytes.entry) matched_before (Unit {0}) (Nothing {R = Input.Range})) (M.first mode) state.old state.new input.old input.new result }
-    ensures refuses { Reasoned Input.Error.seen.kind (Input.view input.new).is_open
-        (RefusesList Input.Error.seen (listed (F.compares fits.now) bytes.now) None (begins_at matched_before (M.first mode) state.old) (Input.view input.old) (Input.view input.new))
-        result }
+    ensures answers { AnswersListCall Input.StreamOnce Input.Error.seen (listed (F.compares fits.now) bytes.now) None (λ v. v ≡ bytes.entry) (Unit {0}) (M.first mode) state.old state.new input.old input.new result }
+    ensures refuses { ReasonedListCall Input.StreamOnce Input.Error.seen (listed (F.compares fits.now) bytes.now) None (M.first mode) state.old input.old input.new result }
 {
     let items = listed_items(bytes);
     match_list(

@@ -2,13 +2,11 @@
 ghost use Rattle.std.specs.Prelude.{◌≡◌, ◌<◌, ◌^◌, None, length};
 ghost use Rattle.std.specs.Str.{IsUtf8, chars};
 ghost use Rattle.std.specs.Str.Iter.{chars_rest};
-ghost use Rattle.combine_base.specs.Error.Errors.{Nothing, Only};
+ghost use Rattle.combine_base.specs.Error.Errors.{Only};
 ghost use Rattle.combine_base.specs.Error.Items.{Expected, Fixed};
-ghost use Rattle.combine_base.specs.Parser.AnswersCalls.{AnswersCall};
-ghost use Rattle.combine_base.specs.Parser.Reasons.{Reasoned};
 ghost use Rattle.combine_base.specs.Stream.Calls.{Passes};
+ghost use Rattle.combine_token.specs.ListCalls.{AnswersListCall, ReasonedListCall};
 ghost use Rattle.combine_token.specs.Listed.{listed};
-ghost use Rattle.combine_token.specs.Reasons.{RefusesList, begins_at};
 ghost use Rattle.combine_token.specs.TokenListLaws.{token_list, token_list_is_meaning, token_list_means_one};
 ghost use Rattle.combine_token.specs.TokenParsers.{matched_before};
 ghost use Rattle.combine_char.specs.TextParsers.{fits_of_text, in_text_parser, text_of};
@@ -102,10 +100,8 @@ where
     F: Fits<char, Input::Token>,
     requires { F.ready fits.now }
     ensures passes { Passes (Input.marks input.old) (Input.marks input.new) (Input.failures input.old) (Input.failures input.new) }
-    ensures answers { AnswersCall Input.StreamOnce Input.Error.seen (λ s. matched_before s ≡ 0) (token_list Input.Error.seen (listed (F.compares fits.now) (chars text.now)) None (λ v. v ≡ text.entry) matched_before (Unit {0}) (Nothing {R = Input.Range})) (M.first mode) state.old state.new input.old input.new result }
-    ensures refuses { Reasoned Input.Error.seen.kind (Input.view input.new).is_open
-        (RefusesList Input.Error.seen (listed (F.compares fits.now) (chars text.now)) None (begins_at matched_before (M.first mode) state.old) (Input.view input.old) (Input.view input.new))
-        result }
+    ensures answers { AnswersListCall Input.StreamOnce Input.Error.seen (listed (F.compares fits.now) (chars text.now)) None (λ v. v ≡ text.entry) (Unit {0}) (M.first mode) state.old state.new input.old input.new result }
+    ensures refuses { ReasonedListCall Input.StreamOnce Input.Error.seen (listed (F.compares fits.now) (chars text.now)) None (M.first mode) state.old input.old input.new result }
 {
     let items = characters(text);
     match_list(

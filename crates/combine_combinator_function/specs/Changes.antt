@@ -65,6 +65,11 @@ pub record Denied {P T A : Type 0} (denies : A → Type 0) (r : Reading P T A) (
 pub record DecidesOne {P T A B : Type 0} (step : P → T → P) (r : Reading P T A) (gives : P → A → B → Type 0) (denies : A → Type 0) : Type 0 where
   pub one : (v : View P T) (a a' : A) (n m : ℕ) (k c : Bool) → r v (Accepted a n k) → r v (Accepted a' m c) → (b : B) → gives (advanced step n v).position a b → denies a' → ⊥
 
+-- the same from the start, and from each valid state
+pub record ChangesOne {P T R E A B S : Type 0} (step : P → T → P) (valid : S → Type 0) (m : Meaning P T R E A S) (gives : P → A → B → Type 0) (denies : A → Type 0) : Type 0 where
+  pub whole : DecidesOne step m.whole gives denies
+  pub rest : (s : S) → valid s → DecidesOne step (m.rest s) gives denies
+
 module _ {P T A B : Type 0} (step : P → T → P) (gives : P → A → B → Type 0) (denies : A → Type 0) where
   -- a value that is accepted is changed, or refused with the same kind
   abbrev pub changed_reading : Reading P T A → Reading P T B
@@ -138,10 +143,10 @@ module _ {P T A B : Type 0} (step : P → T → P) (gives : P → A → B → Ty
       reasons = λ s d. refused_same step says (m.rest s) m.whole (refusals_from m s) (refusals m) (λ v o. h.start s v o d) (refusals_begin h s d);
     }
 
-    pub changed_means_one : {valid : S → Type 0} {m : Meaning P T R E A S} → MeansOne valid m → DecidesOne step m.whole gives denies → ((s : S) → valid s → DecidesOne step (m.rest s) gives denies) → MeansOne valid (changed says spared m)
-    changed_means_one {valid} {m} h d e = record {
-      whole = record { one = changed_one m.whole h.whole d };
-      rest = λ s k. record { one = changed_one (m.rest s) (h.rest s k) (e s k) };
+    pub changed_means_one : {valid : S → Type 0} {m : Meaning P T R E A S} → MeansOne valid m → ChangesOne step valid m gives denies → MeansOne valid (changed says spared m)
+    changed_means_one {valid} {m} h d = record {
+      whole = record { one = changed_one m.whole h.whole d.whole };
+      rest = λ s k. record { one = changed_one (m.rest s) (h.rest s k) (d.rest s k) };
     }
 
   pub changed_means_same : {R E S : Type 0} (says : P → A → E → Type 0) {spared spared' : Type 0} {m m' : Meaning P T R E A S} → spared ↔ spared' → MeansSame m m' → MeansSame (changed says spared m) (changed says spared' m')

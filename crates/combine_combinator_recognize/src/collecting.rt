@@ -1,7 +1,7 @@
 //! Tokens that were taken, read again and collected.
-ghost use Rattle.std.specs.Prelude.{◌≡◌, ℕ};
+ghost use Rattle.std.specs.Prelude.{◌≡◌};
 ghost use Rattle.combine_base.specs.Stream.Calls.{Passes};
-ghost use Rattle.combine_base.specs.Stream.View.{View, Takes};
+ghost use Rattle.combine_base.specs.Stream.View.{Takes};
 ghost use Rattle.combine_combinator_recognize.specs.Gathered.{Collects};
 
 use combine_base::repeat::Append;
@@ -17,7 +17,7 @@ fn collect_to<Input: Stream, F: Append<Input::Token>>(
     into: F,
 ) -> Result<F, Kind>
     ensures passes { Passes (Input.marks input.old) (Input.marks input.new) (Input.failures input.old) (Input.failures input.new) }
-    ensures collects { (n : ℕ) (v : View Input.Position Input.Token) → Takes Input.step n (Input.view input.old) v → end ≡ v.position → Collects Input.steady Input.step F.held F.more F.lean into (Input.view input.old) (Input.view input.new) (Input.failures input.old) (Input.failures input.new) n result }
+    ensures collects { (n : _) (v : _) → Takes Input.step n (Input.view input.old) v → end ≡ v.position → Collects Input.steady Input.step F.held F.more F.lean into (Input.view input.old) (Input.view input.new) (Input.failures input.old) (Input.failures input.new) n result }
 {
     let mut into = into;
     'tokens: while input.position().cmp(&end).is_lt() {
@@ -39,7 +39,7 @@ pub fn collect_since<Input: Stream, F: Append<Input::Token>>(
     into: F,
 ) -> Result<F, Kind>
     ensures passes { Passes (Input.marks input.old) (Input.marks input.new) (Input.failures input.old) (Input.failures input.new) }
-    ensures collects { (n : ℕ) (v : View Input.Position Input.Token) → Input.stands input.old start v → Takes Input.step n v (Input.view input.old) → Collects Input.steady Input.step F.held F.more F.lean into v (Input.view input.new) (Input.failures input.old) (Input.failures input.new) n result }
+    ensures collects { (n : _) (v : _) → Input.stands input.old start v → Takes Input.step n v (Input.view input.old) → Collects Input.steady Input.step F.held F.more F.lean into v (Input.view input.new) (Input.failures input.old) (Input.failures input.new) n result }
 {
     let end = input.position();
     input.reset(start)?;

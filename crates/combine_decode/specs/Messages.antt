@@ -1,5 +1,5 @@
 -- messages, one after another, and how a decoder stands
-use Rattle.std.specs.Prelude.{ℕ, ◌<◌, ◌≤◌, ◌≡◌, ◌↔◌, List, [], ◌∷◌, ◌++◌, Bool, true, length, drop}
+use Rattle.std.specs.Prelude.{ℕ, ◌<◌, ◌≤◌, ◌≡◌, ◌↔◌, List, [], ◌∷◌, ◌++◌, Bool, true, length, drop, MatchResult, Result}
 use Rattle.combine_base.specs.Stream.View.{View}
 use Rattle.combine_base.specs.Parser.Outcome.{Outcome, Accepted, Refused, Undecided}
 use Rattle.combine_base.specs.Parser.Meaning.{Meaning, Reading}
@@ -8,6 +8,8 @@ use Rattle.combine_base.specs.declared.error.UnexpectedParse.{UnexpectedParse}
 use Rattle.combine_base.specs.declared.parser.answer.Answer.{Answer}
 use Rattle.combine_base.specs.declared.parser.answer.Answer.TheVariants as answers
 use Rattle.combine_base.specs.declared.parser.session.Stage.TheVariants as stages
+use Rattle.combine_base.specs.declared.stream.Kind.{Kind}
+use Rattle.combine_base.specs.declared.stream.Kind.TheVariants as kinds
 use Rattle.combine_decode.specs.declared.decode.Batch.{Batch}
 use Rattle.combine_decode.specs.declared.decode.BatchEnd.{BatchEnd}
 use Rattle.combine_decode.specs.declared.decode.BatchEnd.TheVariants as ends
@@ -72,3 +74,7 @@ module _ {T V : Type 0} (message : Reading ℕ T V) where
       pub stop : stops (on_open behind) b.end
       pub goes_on : b.end ≡ ends.More → After behind c
       pub boundary : (at ≡ true) ↔ (length behind ≡ 0)
+
+    -- the answer of a call that gives them, unless their list finds no memory
+    abbrev pub Drains : (l : List T) (old new : Course P T S) (at : Bool) → Result (Batch V) Kind → Type 0
+    Drains l old new at result = MatchResult result (λ b. Gives l new at b × (new.limit ≡ old.limit)) (λ k. k ≡ kinds.Memory)

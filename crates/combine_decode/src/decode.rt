@@ -1,7 +1,7 @@
 //! A decoder of messages, one after another.
 ghost use Rattle.std.specs.Prelude.{◌≡◌, ◌↔◌, [], true, length, None, MatchResult};
 ghost use Rattle.combine_decode.specs.Frames.{frame_of};
-ghost use Rattle.combine_decode.specs.Messages.{After, Gives, IsMade, Told, made};
+ghost use Rattle.combine_decode.specs.Messages.{After, Drains, IsMade, Told, made};
 ghost use Rattle.combine_base.specs.declared.stream.Kind.TheVariants as kinds;
 
 mod framing;
@@ -262,7 +262,7 @@ fn drain<F: Fn() -> P, P: Parser<fed::Stream<T>> + Drop, T: Copy + 'static>(
     requires callable { F.IsAlwaysCallable maker.now }
     requires lawful { IsMade (F.post maker.now) P.lawful }
     requires is_open { session.old.seen.is_open ≡ true }
-    ensures { (tokens : _) → Told (made P.meaning (F.post maker.now)) P.meaning tokens session.old first → ((boundary.old ≡ true) ↔ (length tokens ≡ 0)) → MatchResult result (λ b. Gives (made P.meaning (F.post maker.now)) P.meaning tokens session.new boundary.new b × (session.new.limit ≡ session.old.limit)) (λ k. k ≡ kinds.Memory) }
+    ensures { (tokens : _) → Told (made P.meaning (F.post maker.now)) P.meaning tokens session.old first → ((boundary.old ≡ true) ↔ (length tokens ≡ 0)) → Drains (made P.meaning (F.post maker.now)) P.meaning tokens session.old session.new boundary.new result }
 {
     let mut messages = Vec::new(alloc);
     let mut answer = first;

@@ -1,4 +1,5 @@
 pub use Rattle.combine_base.specs.Parser.Meaning
+pub mod BeginningMeaning
 pub mod Beginnings
 pub mod Exactly
 pub mod Fairness

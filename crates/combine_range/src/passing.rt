@@ -1,6 +1,6 @@
 //! Distances in items, which range parsers keep.
-ghost use Rattle.std.specs.Prelude.{◌≡◌, ◌↔◌, ℕ, [], true, if◌then◌else◌};
-ghost use Rattle.combine_base.specs.Stream.View.{View, Takes};
+ghost use Rattle.std.specs.Prelude.{◌≡◌, ◌↔◌, [], true, if◌then◌else◌};
+ghost use Rattle.combine_base.specs.Stream.View.{Takes};
 ghost use Rattle.combine_base.specs.Stream.Calls.{Passes};
 ghost use Rattle.combine_stream.specs.Ranges.{UnconsRange};
 ghost use Rattle.combine_range.specs.Kept.{Hands, HandsOut, KeepsDistance, NotPassed};
@@ -86,8 +86,7 @@ pub fn keep_distance<O, Input: RangeStream>(
 where
     Input::Range: Range,
     ensures passes { Passes (Input.marks input.old) (Input.marks input.new) (Input.failures input.old) (Input.failures input.new) }
-    ensures keeps { (old : View Input.Position Input.Token) (n : ℕ) → Input.stands input.old start old → Takes Input.step n old (Input.view input.old) →
-        KeepsDistance Input.steady Input.step Input.size old (Input.view input.new) (Input.failures input.old) (Input.failures input.new) n Input.Error.seen.kind state.old state.new result }
+    ensures keeps { (v : _) (n : _) → Input.stands input.old start v → Takes Input.step n v (Input.view input.old) → KeepsDistance Input.steady Input.step Input.size v (Input.view input.new) (Input.failures input.old) (Input.failures input.new) n Input.Error.seen.kind state.old state.new result }
 {
     let read = input.distance(&start);
     match input.reset(start) {
@@ -149,8 +148,8 @@ pub fn range_since<Input: RangeStream>(
 where
     Input::Range: Range,
     ensures passes { Passes (Input.marks input.old) (Input.marks input.new) (Input.failures input.old) (Input.failures input.new) }
-    ensures hands { (old : View Input.Position Input.Token) (n : ℕ) → Input.stands input.old start old → Takes Input.step n old (Input.view input.old) →
-        Hands Input.steady Input.step Input.spells old (Input.view input.new) (Input.failures input.old) (Input.failures input.new) n result }
+    ensures hands { (v : _) (n : _) → Input.stands input.old start v → Takes Input.step n v (Input.view input.old) →
+        Hands Input.steady Input.step Input.spells v (Input.view input.new) (Input.failures input.old) (Input.failures input.new) n result }
 {
     let n = input.distance(&start);
     if let Err(kind) = input.reset(start) {
@@ -169,8 +168,7 @@ pub fn hand_out<Input: RangeStream>(
 where
     Input::Range: Range,
     ensures passes { Passes (Input.marks input.old) (Input.marks input.new) (Input.failures input.old) (Input.failures input.new) }
-    ensures hands { (old : View Input.Position Input.Token) (n : ℕ) → Input.stands input.old start old → Takes Input.step n old (Input.view input.old) →
-        HandsOut Input.steady Input.step Input.spells old (Input.view input.new) (Input.failures input.old) (Input.failures input.new) n Input.Error.seen.kind result }
+    ensures hands { (v : _) (n : _) → Input.stands input.old start v → Takes Input.step n v (Input.view input.old) → HandsOut Input.steady Input.step Input.spells v (Input.view input.new) (Input.failures input.old) (Input.failures input.new) n Input.Error.seen.kind result }
 {
     match range_since(start, input) {
         Ok(range) => {

@@ -1,9 +1,6 @@
 //! What `take_fn` of a function whose answers stay means, stated by functions that do nothing.
-ghost use Rattle.std.specs.Prelude.{◌≡◌, List};
-ghost use Rattle.combine_base.specs.Parser.Outcome.{Outcome};
-ghost use Rattle.combine_base.specs.Stream.View.{View};
+ghost use Rattle.std.specs.Prelude.{◌≡◌};
 ghost use Rattle.combine_range.specs.Kept.{items_of};
-ghost use Rattle.combine_range.specs.declared.distance.Distance.{Distance};
 ghost use Rattle.combine_range_search.specs.Options.{answers_as};
 ghost use Rattle.combine_range_search.specs.Searchers.{take_fn_of};
 ghost use Rattle.combine_range_search.specs.Searches.{searching};
@@ -22,7 +19,7 @@ pub fn stable_has_one_outcome<Input: RangeStream, T: Into<TakeRange>, F: Fn(Inpu
 )
 where
     Input::Range: Range,
-    ensures { (f : List Input.Token → TakeRange) → Stable Input.size Input.spells (answers_as (F.post searcher.now) T.converts) f → ⟦<TakeFn<F, Input> as Parser<Input>>⟧.determined (take_fn_of searcher.now) }
+    ensures { (f : _) → Stable Input.size Input.spells (answers_as (F.post searcher.now) T.converts) f → ⟦<TakeFn<F, Input> as Parser<Input>>⟧.determined (take_fn_of searcher.now) }
 {}
 
 /// It means what the function answers of all that is unread, or of all that is behind the distance that is kept.
@@ -33,6 +30,5 @@ pub fn stable_means_what_it_answers<
 >(searcher: &F)
 where
     Input::Range: Range,
-    ensures { (f : List Input.Token → TakeRange) → Stable Input.size Input.spells (answers_as (F.post searcher.now) T.converts) f → (d : Distance) (v : View Input.Position Input.Token) (o : Outcome Input.Range) →
-        (⟦<TakeFn<F, Input> as Parser<Input>>⟧.meaning (take_fn_of searcher.now)).rest d v o → searching Input.size Input.spells (answered_by f) (items_of d) v o }
+    ensures { (f : _) → Stable Input.size Input.spells (answers_as (F.post searcher.now) T.converts) f → (d : _) (v : _) (o : _) → (⟦<TakeFn<F, Input> as Parser<Input>>⟧.meaning (take_fn_of searcher.now)).rest d v o → searching Input.size Input.spells (answered_by f) (items_of d) v o }
 {}

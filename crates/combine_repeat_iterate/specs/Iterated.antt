@@ -3,9 +3,13 @@ use denote.Ref.{Bor, MutBor}
 use Rattle.std.specs.Prelude.{◌≡◌, List, [], ◌∷◌, Option, Some, None, refl}
 use Rattle.std.specs.Fn.{Shared, always_fn}
 use Rattle.std.specs.Iterator.{Count, IsFinite}
+use Rattle.std.specs.declared.clone.Clone as clone
+use Rattle.std.specs.declared.iter.IntoIterator as into_iterator
+use Rattle.std.specs.declared.iter.Iterator as iterator
 use Rattle.combine_base.specs.Stream.View.{View}
 use Rattle.combine_base.specs.Stream.Calls.{Passes}
 use Rattle.combine_base.specs.declared.stream.Failures.{Failures}
+use Rattle.combine_base.specs.declared.stream.StreamOnce as stream
 use Rattle.combine_repeat_iterate.specs.declared.repeat.types.Iterate.{Iterate}
 use Rattle.std.specs.declared.alloc.Global.{Global}
 
@@ -44,6 +48,18 @@ module _ {It I : Type 0} (can_next : It → Type 0) (remaining : It → Count) (
   pub record Lists {J : Type 0} (clones : J → J → Type 0) (makes : J → It → Type 0) (list : J) (xs : List I) : Type 0 where
     pub each : (clone : J) (it : It) → clones list clone → makes clone it → Gives it xs
 
+-- the same by what iterates and copies
+abbrev pub gives_all : {It I : Type 0} → iterator.Ghosts It I → It → List I → Type 0
+gives_all n = Gives n.can_next n.remaining n.next_gives
+
+module _ {It I J : Type 0} (copies : clone.Ghosts J) (iterates : into_iterator.Ghosts J I It) (n : iterator.Ghosts It I) (list : J) where
+  abbrev pub lists : List I → Type 0
+  lists = Lists n.can_next n.remaining n.next_gives copies.is_clone iterates.into_iter_gives list
+
+  -- it has one list of items
+  abbrev pub ListsOne : Type 0
+  ListsOne = (xs ys : List I) → lists xs → lists ys → xs ≡ ys
+
 module _ {I N Input : Type 0} (post : Bor I → MutBor Input → N → MutBor Input → Type 0) where
   -- the function may answer this parser for the item
   pub record AskedFor (x : I) (n : N) : Type 0 where
@@ -65,10 +81,18 @@ pub record AskedBySome {F I N : Type 0} (fit : F → Type 0) (answers : F → I 
   pub item : I
   pub answered : answers asked item n
 
+-- what a function of this type may answer
+abbrev pub asks : {F I N Input : Type 0} → Shared F (Bor I × (MutBor Input × Unit {0})) (N × (MutBor Input × Unit {0})) → F → I → N → Type 0
+asks g f = AskedFor (λ a i n l. g.post f (a, (i, tt)) (n, (l, tt)))
+
 module _ {F I N Input P T C V : Type 0} (view : Input → View P T) (marks : Input → C → V → Type 0) (failures : Input → Failures) (g : Shared F (Bor I × (MutBor Input × Unit {0})) (N × (MutBor Input × Unit {0}))) where
   -- asked for by a function of this type that may always be called and leaves the stream in place
   abbrev pub by_function : (N → Type 0) → N → Type 0
-  by_function lawful = AskedBySome (λ f. always_fn g f × InPlace (λ a i n l. g.post f (a, (i, tt)) (n, (l, tt))) view marks failures) (λ f. AskedFor (λ a i n l. g.post f (a, (i, tt)) (n, (l, tt)))) lawful
+  by_function lawful = AskedBySome (λ f. always_fn g f × InPlace (λ a i n l. g.post f (a, (i, tt)) (n, (l, tt))) view marks failures) (asks g) lawful
+
+-- the same by the stream
+abbrev pub any_of : {F I N Input T R P E : Type 0} → stream.Ghosts Input T R P E → Shared F (Bor I × (MutBor Input × Unit {0})) (N × (MutBor Input × Unit {0})) → (N → Type 0) → N → Type 0
+any_of i g = by_function i.view i.marks i.failures g
 
 module _ {It I : Type 0} (can_next : It → Type 0) (remaining : It → Count) (steps : It → Option I → It → Type 0) where
   same_steps : (it : It) (r s : Option I) (f g : It → Type 0) → GivesThen can_next remaining steps it r f → GivesThen can_next remaining steps it s g → r ≡ s

@@ -23,6 +23,7 @@ pub use Rattle.combine_repeat_turns.specs.TurnRefusals
 pub use Rattle.combine_repeat_turns.specs.TurnsMeaning
 pub use Rattle.combine_repeat_turns.specs.Turns
 pub mod Placed
+pub mod RanCalls
 pub mod Pair
 pub mod Separated
 pub mod Leads

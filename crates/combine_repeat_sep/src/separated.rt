@@ -1,12 +1,11 @@
 //! What runs in each turn: a part, and later a separator and the part.
 ghost use Rattle.std.specs.Prelude.{◌≡◌, false, true};
-ghost use Rattle.combine_base.specs.Parser.Answer.{world};
 ghost use Rattle.combine_base.specs.Parser.Given.{GivesOnly};
 ghost use Rattle.combine_base.specs.Parser.Meaning.{MeansSame};
 ghost use Rattle.combine_base.specs.Stream.Calls.{Passes};
 ghost use Rattle.combine_repeat_sep.specs.Pair.{LedBy, led_is_meaning, led_means_one, led_valid, pair, pair_begins, pair_is_meaning, pair_means_one, pair_valid};
 ghost use Rattle.combine_repeat_sep.specs.Leads.{separated_gives};
-ghost use Rattle.combine_repeat_sep.specs.Placed.{Ran};
+ghost use Rattle.combine_repeat_sep.specs.RanCalls.{RanCall, RanLaterCall};
 ghost use Rattle.combine_repeat_sep.specs.Separated.{first_element, first_then, later_kept, later_turn, lead_good, part_of, separated_default, separated_fresh, separated_valid, separator_of, then_element, then_is_turn, then_once, turn_place};
 
 use crate::pair::{PairState, PairStateOf, parse_pair};
@@ -155,8 +154,7 @@ fn run_first<Input: Stream, P: Parser<Input>, O: Drop, W: Drop, M: ParseMode>(
     ensures lawful { P.lawful parser.new }
     ensures same { MeansSame (P.meaning parser.old) (P.meaning parser.new) }
     ensures passes { Passes (Input.marks input.old) (Input.marks input.new) (Input.failures input.old) (Input.failures input.new) }
-    ensures ran { Ran (world Input.step Input.Error.seen Input.steady P.PartialState.is_default) (P.meaning parser.old) P.valid first_element (λ s. SeparatedState.Part Lead.Nothing s)
-        (M.first mode) kept state.old state.new (Input.view input.old) (Input.view input.new) (Input.failures input.old) (Input.failures input.new) result }
+    ensures ran { RanCall Input.StreamOnce Input.Error.seen P.PartialState.is_default (P.meaning parser.old) P.valid first_element (λ s. SeparatedState.Part Lead.Nothing s) (M.first mode) kept state.old state.new input.old input.new result }
 {
     let mut kept = kept;
     match parser.parse_mode(mode, input, &mut kept) {
@@ -190,8 +188,7 @@ fn run_later<Input: Stream, P: Parser<Input>, S: Parser<Input>, M: ParseMode>(
     ensures parts { MeansSame (S.meaning separator.old) (S.meaning separator.new) × MeansSame (P.meaning parser.old) (P.meaning parser.new) }
     ensures same { MeansSame (pair Input.step Input.Error.seen (S.meaning separator.old) (P.meaning parser.old)) (pair Input.step Input.Error.seen (S.meaning separator.new) (P.meaning parser.new)) }
     ensures passes { Passes (Input.marks input.old) (Input.marks input.new) (Input.failures input.old) (Input.failures input.new) }
-    ensures ran { Ran (world Input.step Input.Error.seen Input.steady (pair_begins S.PartialState.is_default)) (pair Input.step Input.Error.seen (S.meaning separator.old) (P.meaning parser.old)) (λ z. LedBy (S.meaning separator.old) kept z × pair_valid S.valid P.valid z) then_element later_kept
-        false kept state.old state.new (Input.view input.old) (Input.view input.new) (Input.failures input.old) (Input.failures input.new) result }
+    ensures ran { RanLaterCall Input.StreamOnce Input.Error.seen S.PartialState.is_default (S.meaning separator.old) (P.meaning parser.old) (λ z. LedBy (S.meaning separator.old) kept z × pair_valid S.valid P.valid z) then_element kept state.old state.new input.old input.new result }
 {
     let mut left = PairState::default();
     match parse_pair(separator, parser, mode, input, kept, &mut left) {

@@ -1,11 +1,10 @@
 //! What runs in each turn: a part, and later a separator and the part, or a separator alone, which ends the turns.
 ghost use Rattle.std.specs.Prelude.{◌≡◌, false, true};
-ghost use Rattle.combine_base.specs.Parser.Answer.{world};
 ghost use Rattle.combine_base.specs.Parser.Meaning.{MeansSame};
 ghost use Rattle.combine_base.specs.Stream.Calls.{Passes};
 ghost use Rattle.combine_repeat_sep.specs.Pair.{pair, pair_begins, pair_is_meaning, pair_valid};
-ghost use Rattle.combine_repeat_sep.specs.Placed.{Ran};
-ghost use Rattle.combine_repeat_sep.specs.Separated.{first_then, later_kept, later_turn, separated_default, separated_valid, then_is_turn};
+ghost use Rattle.combine_repeat_sep.specs.RanCalls.{RanCall, RanLaterCall};
+ghost use Rattle.combine_repeat_sep.specs.Separated.{first_then, later_turn, separated_default, separated_valid, then_is_turn};
 ghost use Rattle.combine_repeat_sep_end.specs.Ended.{closer_of, ended_once, ended_part, is_none, last, some_more, some_of, within};
 ghost use Rattle.combine_token.specs.Optional.{optional, optional_is_meaning};
 ghost use Rattle.combine_repeat_turns.specs.Sound.{any_sound};
@@ -94,8 +93,7 @@ fn run_first<Input: Stream, P: Parser<Input>, O: Drop, W: Drop, M: ParseMode>(
     ensures lawful { P.lawful parser.new }
     ensures same { MeansSame (P.meaning parser.old) (P.meaning parser.new) }
     ensures passes { Passes (Input.marks input.old) (Input.marks input.new) (Input.failures input.old) (Input.failures input.new) }
-    ensures ran { Ran (world Input.step Input.Error.seen Input.steady P.PartialState.is_default) (P.meaning parser.old) P.valid some_of (λ s. SeparatedState.Part Lead.Nothing s)
-        (M.first mode) kept state.old state.new (Input.view input.old) (Input.view input.new) (Input.failures input.old) (Input.failures input.new) result }
+    ensures ran { RanCall Input.StreamOnce Input.Error.seen P.PartialState.is_default (P.meaning parser.old) P.valid some_of (λ s. SeparatedState.Part Lead.Nothing s) (M.first mode) kept state.old state.new input.old input.new result }
 {
     let mut kept = kept;
     match parser.parse_mode(mode, input, &mut kept) {
@@ -129,8 +127,7 @@ fn run_later<Input: Stream, P: Parser<Input>, S: Parser<Input>, M: ParseMode>(
     ensures parts { MeansSame (S.meaning separator.old) (S.meaning separator.new) × MeansSame (P.meaning (within part.old)) (P.meaning (within part.new)) }
     ensures same { MeansSame (pair Input.step Input.Error.seen (S.meaning separator.old) (optional (P.meaning (within part.old)))) (pair Input.step Input.Error.seen (S.meaning separator.new) (optional (P.meaning (within part.new)))) }
     ensures passes { Passes (Input.marks input.old) (Input.marks input.new) (Input.failures input.old) (Input.failures input.new) }
-    ensures ran { Ran (world Input.step Input.Error.seen Input.steady (pair_begins S.PartialState.is_default)) (pair Input.step Input.Error.seen (S.meaning separator.old) (optional (P.meaning (within part.old)))) (pair_valid S.valid P.valid) last later_kept
-        false kept state.old state.new (Input.view input.old) (Input.view input.new) (Input.failures input.old) (Input.failures input.new) result }
+    ensures ran { RanLaterCall Input.StreamOnce Input.Error.seen S.PartialState.is_default (S.meaning separator.old) (optional (P.meaning (within part.old))) (pair_valid S.valid P.valid) last kept state.old state.new input.old input.new result }
 {
     let mut left = PairState::default();
     match parse_pair(separator, part, mode, input, kept, &mut left) {

@@ -18,6 +18,7 @@ pub mod TurnRefusals
 pub mod TurnsMeaning
 pub mod BoundedLaws
 pub mod FirstTurn
+pub mod TurnCalls
 pub mod Plain
 pub mod Counts
 pub mod OneThenTurns

@@ -1,7 +1,6 @@
 //! The loop that all repetitions run, and what it keeps.
 ghost use Rattle.std.specs.Prelude.{◌≡◌, ◌-◌, ◌||◌, ℕ, Bool, false, true, nat_lt, not, MatchResult, if◌then◌else◌};
 ghost use Rattle.combine_base.specs.Stream.View.{View, Takes};
-ghost use Rattle.combine_base.specs.Parser.Answer.{Answers, Run, world};
 ghost use Rattle.combine_base.specs.Parser.AnswersCalls.{AnswersCall};
 ghost use Rattle.combine_base.specs.Parser.Reasons.{ReasonedCall};
 ghost use Rattle.combine_base.specs.Stream.Calls.{Passes};
@@ -10,14 +9,14 @@ ghost use Rattle.combine_base.specs.Error.Items.{Count, Message};
 ghost use Rattle.combine_base.specs.Refusals.{Saying, Told};
 ghost use Rattle.combine_base.specs.Sequence.Parts.{accepted_as, refused_as};
 ghost use Rattle.std.specs.Prelude.{None};
-ghost use Rattle.combine_repeat_turns.specs.FirstTurn.{FirstTurn};
-ghost use Rattle.combine_repeat_turns.specs.OneTurn.{IsGathered, OneTurn, Ran, halted, stopped_answer, stopped_state, then_left};
+ghost use Rattle.combine_repeat_turns.specs.OneTurn.{IsGathered, stopped_answer, stopped_state};
 ghost use Rattle.combine_repeat_turns.specs.Sound.{LeavesSound, kept_sound};
 ghost use Rattle.combine_repeat_turns.specs.TurnRefusals.{FirstRefuses, JudgesRefusal, StepRefuses};
 ghost use Rattle.combine_repeat_turns.specs.Turn.{TurnsSame, called, started};
+ghost use Rattle.combine_repeat_turns.specs.TurnCalls.{FirstTurnCall, HaltsCall, OneTurnCall, TurnsCall};
 ghost use Rattle.combine_repeat_turns.specs.TurnsMeaning.{turns_from};
 ghost use Rattle.combine_repeat_turns.specs.Bounded.{gathered, cut_at, counted, fresh_turns, kept_or, none_yet, running_turn, so_far};
-ghost use Rattle.combine_base.specs.declared.error.ParseResult.TheVariants.{PeekErr};
+ghost use Rattle.combine_repeat_turns.specs.declared.turns.Bounds.TheVariants.{Joined};
 
 mod entry;
 pub mod limits;
@@ -36,7 +35,6 @@ use std::mem;
 pub trait Turn<Input: Stream> {
     ghost use Rattle.std.specs.Prelude.{◌≡◌, Bool, true};
     ghost use Rattle.combine_base.specs.Parser.Meaning.{Meaning};
-    ghost use Rattle.combine_base.specs.Parser.Answer.{Answers, world};
     ghost use Rattle.combine_base.specs.Parser.AnswersCalls.{AnswersCall};
     ghost use Rattle.combine_base.specs.Parser.Reasons.{ReasonedCall};
     ghost use Rattle.combine_base.specs.Error.Errors.{Says};
@@ -443,11 +441,7 @@ fn judge_refusal<G: Gather<P::Value>, Input: Stream, P: Turn<Input>, B: Bounded>
     input: &mut Input,
 ) -> Stop<G::Into, Input::Error>
     ensures passes { Passes (Input.marks input.old) (Input.marks input.new) (Input.failures input.old) (Input.failures input.new) }
-    ensures halted { (p : P) (later : Bool)
-        (r : Run Input.Position Input.Token P.Running) → Ran (Input.stands input.old since) (Input.view input.old) (Input.failures input.old) r →
-        Answers (world Input.step Input.Error.seen Input.steady P.Running.is_default) (called (P.meaning p) (P.again p) later) r (PeekErr refusal) →
-        halted (world Input.step Input.Error.seen Input.steady P.Running.is_default) (B.bounds bounds) P.ending (gathered G.held G.none G.more G.lean) (called (P.meaning p) (P.again p) later)
-        (then_left r (Input.view input.new) (Input.failures input.new)) turns result }
+    ensures halted { (p : P) (later : Bool) → HaltsCall Input.StreamOnce Input.Error.seen P.Running.is_default (B.bounds bounds) P.ending (gathered G.held G.none G.more G.lean) (called (P.meaning p) (P.again p) later) (Input.stands input.old since) input.old input.new refusal turns result }
     ensures refuses { (p : P) (later : Bool) → JudgesRefusal Input.step Input.Error.seen (B.bounds bounds) P.ending (called (P.meaning p) (P.again p) later) turns position refusal.error (Input.view input.old) (Input.view input.new) result }
 {
     if is_enough(bounds, turns.place) {
@@ -484,10 +478,7 @@ fn one_turn<G: Gather<P::Value>, Input: Stream, P: Turn<Input>, B: Bounded, C: E
     ensures valid { P.valid running.new }
     ensures same { TurnsSame (P.meaning parser.old) (P.again parser.old) (P.meaning parser.new) (P.again parser.new) }
     ensures passes { Passes (Input.marks input.old) (Input.marks input.new) (Input.failures input.old) (Input.failures input.new) }
-    ensures turned { OneTurn (world Input.step Input.Error.seen Input.steady P.Running.is_default)
-        (B.bounds bounds) P.ending (gathered G.held G.none G.more G.lean) (called (P.meaning parser.old) (P.again parser.old) (C.later entry))
-        (record { first = C.first entry; state = running.old; left = running.new; old = Input.view input.old; new = Input.view input.new; before = Input.failures input.old; after = Input.failures input.new })
-        turns result }
+    ensures turned { OneTurnCall Input.StreamOnce Input.Error.seen P.Running.is_default (B.bounds bounds) P.ending (gathered G.held G.none G.more G.lean) (called (P.meaning parser.old) (P.again parser.old) (C.later entry)) (C.first entry) running.old running.new input.old input.new turns result }
     ensures refuses { StepRefuses Input.step Input.Error.seen (B.bounds bounds) P.ending (started (called (P.meaning parser.old) (P.again parser.old) (C.later entry)) (C.first entry) running.old) (Input.view input.old) (Input.view input.new) turns result }
 {
     let since = input.checkpoint();
@@ -547,10 +538,7 @@ fn first_turn<G: Gather<P::Value>, Input: Stream, P: Turn<Input>, M: ParseMode>(
     ensures valid { P.valid running.new }
     ensures same { TurnsSame (P.meaning parser.old) (P.again parser.old) (P.meaning parser.new) (P.again parser.new) }
     ensures passes { Passes (Input.marks input.old) (Input.marks input.new) (Input.failures input.old) (Input.failures input.new) }
-    ensures turned { FirstTurn (world Input.step Input.Error.seen Input.steady P.Running.is_default)
-        (gathered G.held G.none G.more G.lean) G.none (called (P.meaning parser.old) (P.again parser.old) false)
-        (record { first = M.first mode; state = running.old; left = running.new; old = Input.view input.old; new = Input.view input.new; before = Input.failures input.old; after = Input.failures input.new })
-        result }
+    ensures turned { FirstTurnCall Input.StreamOnce Input.Error.seen P.Running.is_default (gathered G.held G.none G.more G.lean) G.none (called (P.meaning parser.old) (P.again parser.old) false) (M.first mode) running.old running.new input.old input.new result }
     ensures refuses { FirstRefuses Input.Error.seen (started (called (P.meaning parser.old) (P.again parser.old) false) (M.first mode) running.old) (Input.view input.old) (Input.view input.new) result }
 {
     let position = input.position();
@@ -615,7 +603,7 @@ pub fn take_turns<G: Gather<P::Value>, Input: Stream, P: Turn<Input>, M: ParseMo
     ensures valid { P.valid (running_turn state.new) }
     ensures same { TurnsSame (P.meaning parser.old) (P.again parser.old) (P.meaning parser.new) (P.again parser.new) }
     ensures passes { Passes (Input.marks input.old) (Input.marks input.new) (Input.failures input.old) (Input.failures input.new) }
-    ensures answers { AnswersCall Input.StreamOnce Input.Error.seen (fresh_turns P.Running.is_default) (turns_from Input.step Input.Error.seen (B.bounds bounds) P.ending (gathered G.held G.none G.more G.lean) (so_far G.held start) (P.meaning parser.old) (P.again parser.old)) (M.first mode) state.old state.new input.old input.new result }
+    ensures answers { TurnsCall Input.StreamOnce Input.Error.seen P.Running.is_default (B.bounds bounds) P.ending (gathered G.held G.none G.more G.lean) (so_far G.held start) (P.meaning parser.old) (P.again parser.old) (M.first mode) state.old state.new input.old input.new result }
     ensures refuses { ReasonedCall Input.Error.seen (turns_from Input.step Input.Error.seen (B.bounds bounds) P.ending (gathered G.held G.none G.more G.lean) (so_far G.held start) (P.meaning parser.old) (P.again parser.old)) (M.first mode) state.old (Input.view input.old) (Input.view input.new) result }
 {
     let mut turns = state.begin(mode.is_first(), start);
@@ -680,8 +668,8 @@ pub fn take_joined<G: Gather<P::Value>, Input: Stream, P: Turn<Input>, M: ParseM
     ensures sound { LeavesSound (λ i. G.sound (G.held i)) state.new result }
     ensures same { TurnsSame (P.meaning parser.old) (P.again parser.old) (P.meaning parser.new) (P.again parser.new) }
     ensures passes { Passes (Input.marks input.old) (Input.marks input.new) (Input.failures input.old) (Input.failures input.new) }
-    ensures answers { AnswersCall Input.StreamOnce Input.Error.seen (fresh_turns P.Running.is_default) (turns_from Input.step Input.Error.seen (Bounds.Joined 1 None) P.ending (gathered G.held G.none G.more G.lean) (none_yet G.none) (P.meaning parser.old) (P.again parser.old)) (M.first mode) state.old state.new input.old input.new result }
-    ensures refuses { ReasonedCall Input.Error.seen (turns_from Input.step Input.Error.seen (Bounds.Joined 1 None) P.ending (gathered G.held G.none G.more G.lean) (none_yet G.none) (P.meaning parser.old) (P.again parser.old)) (M.first mode) state.old (Input.view input.old) (Input.view input.new) result }
+    ensures answers { TurnsCall Input.StreamOnce Input.Error.seen P.Running.is_default (Joined 1 None) P.ending (gathered G.held G.none G.more G.lean) (none_yet G.none) (P.meaning parser.old) (P.again parser.old) (M.first mode) state.old state.new input.old input.new result }
+    ensures refuses { ReasonedCall Input.Error.seen (turns_from Input.step Input.Error.seen (Joined 1 None) P.ending (gathered G.held G.none G.more G.lean) (none_yet G.none) (P.meaning parser.old) (P.again parser.old)) (M.first mode) state.old (Input.view input.old) (Input.view input.new) result }
 {
     let bounds = JoinedFrom { least: 1 };
     let mut turns: Turns<G::Into>;

@@ -17,6 +17,7 @@ pub mod Until
 pub mod UntilMeaning
 pub mod UntilLaws
 pub mod UntilTurn
+pub mod UntilCalls
 pub mod UntilErrors
 pub mod Mute
 pub mod Next

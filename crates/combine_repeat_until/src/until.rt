@@ -1,6 +1,5 @@
 //! Blocks of a parser up to the first place where it says that they end: the loop, and what is kept of it.
 ghost use Rattle.std.specs.Prelude.{◌≡◌, ◌||◌, ◌&&◌, ℕ, nat_lt, not, false, true, MatchResult};
-ghost use Rattle.combine_base.specs.Parser.Answer.{world};
 ghost use Rattle.combine_base.specs.Parser.AnswersCalls.{AnswersCall};
 ghost use Rattle.combine_base.specs.Parser.Meaning.{MeansSame};
 ghost use Rattle.combine_base.specs.Parser.Reasons.{ReasonedCall};
@@ -10,7 +9,8 @@ ghost use Rattle.combine_base.specs.Stream.View.{Takes, View};
 ghost use Rattle.combine_combinator.specs.Attempt.{losing};
 ghost use Rattle.combine_repeat_until.specs.Until.{blocks_so_far, some_appended, until_fresh, until_valid};
 ghost use Rattle.combine_repeat_until.specs.UntilMeaning.{until};
-ghost use Rattle.combine_repeat_until.specs.UntilTurn.{ComesTo, HandsOut, Keeps, KeepsRunning, OneTurn, RefusesTurn, Settled};
+ghost use Rattle.combine_repeat_until.specs.UntilCalls.{OneTurnCall};
+ghost use Rattle.combine_repeat_until.specs.UntilTurn.{ComesTo, HandsOut, Keeps, KeepsRunning, RefusesTurn, Settled};
 
 use combine_base::distance::{measure, pass_over};
 use combine_base::error::{ParseResult, Tracked};
@@ -257,9 +257,7 @@ fn one_turn<
     ensures valid { N.valid running.new }
     ensures same { MeansSame (N.meaning parser.old) (N.meaning parser.new) }
     ensures passes { Passes (Input.marks input.old) (Input.marks input.new) (Input.failures input.old) (Input.failures input.new) }
-    ensures turned { OneTurn (world Input.step Input.Error.seen Input.steady N.PartialState.is_default) (N.meaning parser.old) (some_appended F.held F.none F.more F.lean)
-        (record { first = M.first mode; state = running.old; left = running.new; old = Input.view input.old; new = Input.view input.new; before = Input.failures input.old; after = Input.failures input.new })
-        (Input.stands input.old place) blocks result }
+    ensures turned { OneTurnCall Input.StreamOnce Input.Error.seen N.PartialState.is_default (N.meaning parser.old) (some_appended F.held F.none F.more F.lean) (M.first mode) running.old running.new input.old input.new (Input.stands input.old place) blocks result }
     ensures refuses { RefusesTurn Input.Error.seen (N.meaning parser.old) (M.first mode) running.old blocks.begun (Input.view input.old) (Input.view input.new) result }
 {
     let position = input.position();

@@ -167,6 +167,11 @@ module _ {P T R E A V B C N U : Type 0} (errors : Errors T R P E) (keep : A → 
 pub record AnswersOne {P T A B N : Type 0} (r : Reading P T A) (answers : A → N → Type 0) (means : N → Reading P T B) : Type 0 where
   pub one : (v : View P T) (a a' : A) (n : ℕ) (c : Bool) → r v (Accepted a n c) → r v (Accepted a' n c) → (p p' : N) → answers a p → answers a' p' → (u : View P T) (o o' : Outcome B) → means p u o → means p' u o' → shape o ≡ shape o'
 
+-- the same from the start, and from each valid state
+pub record AsksOne {P T R E A B S N : Type 0} (valid : S → Type 0) (m : Meaning P T R E A S) (answers : A → N → Type 0) (means : N → Reading P T B) : Type 0 where
+  pub whole : AnswersOne m.whole answers means
+  pub rest : (s : S) → valid s → AnswersOne (m.rest s) answers means
+
 module _ {P T R E A V B C N U : Type 0} (step : P → T → P) (errors : Errors T R P E) (keep : A → V) (join : V → B → C) (answers : A → N → Type 0) (some : N → Type 0) where
   follows_one : (r : Reading P T A) (means : N → Meaning P T R E B U) → AnswersOne r answers (λ n. (means n).whole) → FollowsOne step (λ a. join (keep a)) r (answered errors keep join answers means some).whole
   follows_one r means h = record { one = λ v a a' n c w w' u o o' x x'. h.one v a a' n c w w' x.0 x'.0 x.1 x'.1 u o o' x.2 x'.2 }
@@ -184,10 +189,10 @@ module _ {P T R E A V B C N S U : Type 0} (step : P → T → P) (errors : Error
     then_is_meaning {fresh} {last_fresh} h k g =
         sequence_is_meaning step step_of m (answered errors keep join answers means some) fresh valid (valid_last (KeptOf lawful means some) last_valid) h (answered_is_second errors keep join answers means some lawful k g)
 
-    pub then_means_one : MeansOne valid m → ((n : N) → some n → MeansOne last_valid (means n)) → AnswersOne m.whole answers (λ n. (means n).whole) → ((s : S) → valid s → AnswersOne (m.rest s) answers (λ n. (means n).whole)) → MeansOne (valid_step valid (KeptOf lawful means some) last_valid) (then m means)
-    then_means_one h k whole rest =
+    pub then_means_one : MeansOne valid m → ((n : N) → some n → MeansOne last_valid (means n)) → AsksOne valid m answers (λ n. (means n).whole) → MeansOne (valid_step valid (KeptOf lawful means some) last_valid) (then m means)
+    then_means_one h k one =
         sequence_means_one step step_of m (answered errors keep join answers means some) valid (valid_last (KeptOf lawful means some) last_valid) h (record {
-          whole = follows_one step errors keep join answers some m.whole means whole;
-          rest = λ s d. follows_one step errors keep join answers some (m.rest s) means (rest s d);
+          whole = follows_one step errors keep join answers some m.whole means one.whole;
+          rest = λ s d. follows_one step errors keep join answers some (m.rest s) means (one.rest s d);
           last = λ l d. following_is_single l.committed (join l.value) ((means l.parser).rest l.state) ((means_one_as d.0.same (k d.0.parser d.0.is_given)).rest l.state d.1);
         })

@@ -3,6 +3,7 @@ use Rattle.std.specs.Prelude.{ℕ, ◌+◌, ◌<◌, ◌≤◌, ◌≡◌, List,
 use Rattle.combine_base.specs.Stream.View.{View, advanced}
 use Rattle.combine_base.specs.Parser.Outcome.{Outcome, Accepted, Refused, Undecided, shape}
 use Rattle.combine_base.specs.Parser.Meaning.{Meaning, IsSingle}
+use Rattle.combine_base.specs.Error.Errors.{Errors}
 use Rattle.combine_base.specs.Parser.Answer.{Answers}
 use Rattle.combine_base.specs.Parser.Judged.{answer_to}
 use Rattle.combine_base.specs.declared.stream.Kind.{Kind}
@@ -11,6 +12,7 @@ use Rattle.combine_base.specs.declared.stream.Failures.{Failures}
 use Rattle.combine_base.specs.declared.error.ParseResult.{ParseResult}
 use Rattle.combine_base.specs.declared.parser.answer.Answer.{Answer}
 use Rattle.combine_base.specs.declared.parser.answer.Answer.TheVariants as answers
+use Rattle.combine_base.specs.declared.stream.StreamOnce as stream
 
 -- cuts don't fall, and each is a place
 pub record Fit (is_place : ℕ → Type 0) (cuts : List ℕ) : Type 0 where
@@ -66,3 +68,7 @@ pub record ParsesWindow {P T R Value State E : Type 0} (frugal steady : Type 0) 
   pub answers : Answers (record { step = step; kind = kind; frugal = frugal; steady = steady; fresh = fresh }) m
       (record { first = false; state = state; left = left; old = window_at step start whole from to more; new = new; before = failures; after = failures })
       parsed
+
+-- the same by the stream that a window is
+abbrev pub WindowCall : {Input P T R Value State E : Type 0} (i : stream.Ghosts Input T R P E) (seen : Errors T R P E) (fresh : State → Type 0) (start : P) (m : Meaning P T R E Value State) (state left : State) (whole : List T) (from to : ℕ) (more : Bool) (taken : ℕ) → Result (Answer Value E) Kind → Type 0
+WindowCall i seen = ParsesWindow seen.frugal i.steady i.step seen.kind

@@ -3,7 +3,7 @@
 
 ghost use Rattle.std.specs.Prelude.{◌≡◌, ◌↔◌, ℕ, ◌<◌, ◌≤◌, get_or, length, true};
 ghost use Rattle.combine_base.specs.Parser.Meaning.{IsSingle, MeansSame};
-ghost use Rattle.combine_stream_cuts.specs.Cuts.{Fit, ParsesWindow, RunsCuts};
+ghost use Rattle.combine_stream_cuts.specs.Cuts.{Fit, RunsCuts, WindowCall};
 
 use combine_base::error::{ParseError, ParseResult};
 use combine_base::parser::{Answer, Parser, PartialMode, judge};
@@ -64,7 +64,7 @@ fn parse_window<S: Windowed, P: Parser<MaybePartialStream<S::Placed>>>(
     ensures place { S.places whole result.0.place }
     ensures index { S.index whole result.0.place ≡ result.0.taken }
     ensures position { (⟦<MaybePartialStream<S::Placed> as StreamOnce>⟧.view result.0.stream).position ≡ S.DefaultPositioned.behind whole result.0.taken }
-    ensures parses { ParsesWindow S.Placed.Error.seen.frugal S.Placed.steady S.Placed.step S.Placed.Error.seen.kind P.PartialState.is_default (S.DefaultPositioned.whole whole).position (P.meaning parser.old) state.old state.new (S.DefaultPositioned.whole whole).unread run.taken (S.index whole to) is_open result.0.taken result.1 }
+    ensures parses { WindowCall S.Placed.StreamOnce S.Placed.Error.seen P.PartialState.is_default (S.DefaultPositioned.whole whole).position (P.meaning parser.old) state.old state.new (S.DefaultPositioned.whole whole).unread run.taken (S.index whole to) is_open result.0.taken result.1 }
 {
     let Run {
         mut stream,

@@ -14,6 +14,7 @@ pub mod Chose
 pub mod Given
 pub mod Iterated
 pub mod ListAnswers
+pub mod ListCalls
 pub mod Listed
 pub mod OneToken
 pub mod Optional

@@ -19,5 +19,3 @@ mod record;
 mod replies;
 #[cfg(test)]
 mod resp;
-#[cfg(test)]
-mod stages;

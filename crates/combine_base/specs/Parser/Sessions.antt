@@ -199,3 +199,9 @@ module _ {Parser Token Range Error Value State : Type 0} (meaning : Parser → M
 
       pub record BeginsAgain : Type 0 where
         pub is : anew_by_stage old.stage
+
+-- what a parse of the unread tokens answers, whatever was seen before the piece that is their end
+abbrev pub ParsesUnread : {Parser Token Range Error Value State : Type 0} (meaning : Parser → Meaning ℕ Token Range Error Value State) (valid : State → Type 0) (parser parser' : Parser) (state state' : State) (stream stream' : Stream Token) → ParseResult Value UnexpectedParse → Type 0
+ParsesUnread {Token = Token} meaning valid parser parser' state state' stream stream' result =
+    (seen : View ℕ Token) (piece : List Token) (more : Bool) (stage : Stage) (limit : Option ℕ) → fed_view stream ≡ extended piece more seen →
+    Parses meaning valid (record { parser = parser; state = state; seen = seen; stage = stage; limit = limit }) (course_of parser' state' stream' (stage_after (answered (fed_view stream') result)) limit) piece more (answered (fed_view stream') result)

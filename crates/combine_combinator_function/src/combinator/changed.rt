@@ -1,7 +1,7 @@
 //! A parser whose value is changed, or refused.
 ghost use Rattle.std.specs.Prelude.{◌≡◌};
 ghost use Rattle.combine_base.specs.Parser.Given.{GivesOnly};
-ghost use Rattle.combine_combinator_function.specs.Changes.{DecidesOne, changed, changed_is_meaning, changed_means_one, spares};
+ghost use Rattle.combine_combinator_function.specs.Changes.{ChangesOne, changed, changed_is_meaning, changed_means_one, spares};
 ghost use Rattle.combine_combinator_function.specs.Parsers.{changed_of, changed_part, change_part};
 
 use combine_base::error::{ErrorOffset, ParseResult, Tracked};
@@ -89,7 +89,7 @@ impl<Input: Stream, P: Parser<Input>, B: Drop, C: Change<Input, P::Output, Outpu
 
     ghost lawful = { λ p. P.lawful (changed_part p) × GivesOnly P.valid (P.meaning (changed_part p)) (C.callable (change_part p)) };
 
-    ghost determined = { λ p. P.determined (changed_part p) × DecidesOne Input.step (P.meaning (changed_part p)).whole (C.gives (change_part p)) (C.denies (change_part p)) × ((s : P.PartialState) → P.valid s → DecidesOne Input.step ((P.meaning (changed_part p)).rest s) (C.gives (change_part p)) (C.denies (change_part p))) };
+    ghost determined = { λ p. P.determined (changed_part p) × ChangesOne Input.step P.valid (P.meaning (changed_part p)) (C.gives (change_part p)) (C.denies (change_part p)) };
 
     ghost valid = { P.valid };
 
@@ -101,7 +101,7 @@ impl<Input: Stream, P: Parser<Input>, B: Drop, C: Change<Input, P::Output, Outpu
 
     ghost laws = { λ p l. changed_is_meaning Input.step (C.gives (change_part p)) (C.denies (change_part p)) (C.says (change_part p)) (GivesOnly P.valid (P.meaning (changed_part p)) (spares (C.starves (change_part p)))) (P.laws (changed_part p) l.0) };
 
-    ghost single = { λ p l d. changed_means_one Input.step (C.gives (change_part p)) (C.denies (change_part p)) (C.says (change_part p)) (GivesOnly P.valid (P.meaning (changed_part p)) (spares (C.starves (change_part p)))) (P.single (changed_part p) l.0 d.0) d.1 d.2 };
+    ghost single = { λ p l d. changed_means_one Input.step (C.gives (change_part p)) (C.denies (change_part p)) (C.says (change_part p)) (GivesOnly P.valid (P.meaning (changed_part p)) (spares (C.starves (change_part p)))) (P.single (changed_part p) l.0 d.0) d.1 };
 
     #[inline(always)]
     fn parse_mode<M: ParseMode>(

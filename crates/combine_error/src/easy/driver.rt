@@ -1,8 +1,6 @@
 //! The driver whose errors keep items.
-ghost use Rattle.std.specs.Prelude.{◌≡◌, Ok, Err, MatchResult};
 ghost use Rattle.combine_base.specs.Parser.Meaning.{IsSingle, MeansSame};
-ghost use Rattle.combine_base.specs.Parser.Answer.{world};
-ghost use Rattle.combine_base.specs.Parser.Drivers.{StartResults};
+ghost use Rattle.combine_base.specs.Parser.AnswersCalls.{ParsesCall};
 ghost use Rattle.combine_error.specs.Easy.{listed};
 
 use crate::easy::{Errors, Stream as EasyStream};
@@ -28,9 +26,7 @@ where
         ensures lawful { Self.lawful self.new }
         ensures same { MeansSame (Self.meaning self.old) (Self.meaning self.new) }
         ensures single { Self.determined self.old → IsSingle (Self.meaning self.old).whole }
-        ensures results { MatchResult result
-            (λ p. StartResults (world S.step (listed S.Token.eq S.Range.eq) S.steady Self.PartialState.is_default) (Self.meaning self.old) (listed S.Token.eq S.Range.eq) (S.view input) (S.view p.1) (S.failures input) (S.failures p.1) (Ok p.0))
-            (λ e. (left : S) × StartResults (world S.step (listed S.Token.eq S.Range.eq) S.steady Self.PartialState.is_default) (Self.meaning self.old) (listed S.Token.eq S.Range.eq) (S.view input) (S.view left) (S.failures input) (S.failures left) (Err e)) }
+        ensures results { ParsesCall S.StreamOnce (listed S.Token.eq S.Range.eq) Self.PartialState.is_default (Self.meaning self.old) input result }
     {
         match self.parse(EasyStream::new(alloc, input)) {
             Ok((value, left)) => Ok((value, left.into_inner())),

@@ -1,13 +1,12 @@
 //! Longest beginnings under a test.
 ghost use Rattle.std.specs.Prelude.{◌≡◌, true, false};
-ghost use Rattle.combine_base.specs.Parser.Answer.{Answers, world};
-ghost use Rattle.combine_base.specs.Error.Errors.{Nothing};
+ghost use Rattle.combine_base.specs.Parser.AnswersCalls.{AnswersCall};
 ghost use Rattle.combine_base.specs.Parser.Reasons.{ReasonedCall};
 ghost use Rattle.combine_base.specs.Stream.Calls.{Passes};
 ghost use Rattle.combine_stream.specs.RangeFacts.{IsPredicate};
-ghost use Rattle.combine_range.specs.Kept.{kept, kept_is_meaning, kept_means_one};
-ghost use Rattle.combine_range.specs.Beginnings.{beginning, beginning_is_reading, beginning_is_single};
-ghost use Rattle.combine_range.specs.Reasons.{RefusesKept, refuses_beginning};
+ghost use Rattle.combine_range.specs.Kept.{kept_is_meaning, kept_means_one};
+ghost use Rattle.combine_range.specs.Beginnings.{beginning_is_reading, beginning_is_single};
+ghost use Rattle.combine_range.specs.BeginningMeaning.{takes_beginning};
 
 use crate::distance::Distance;
 use crate::passing::{
@@ -47,13 +46,8 @@ where
     Input::Range: Range,
     requires { (t : Input.Token) → F.callable test.now t }
     ensures passes { Passes (Input.marks input.old) (Input.marks input.new) (Input.failures input.old) (Input.failures input.new) }
-    ensures answers { Answers (world Input.step Input.Error.seen Input.steady ⟦<Distance as Default>⟧.is_default)
-        (kept {R = Input.Range} Input.size (beginning Input.size Input.spells (F.answers test.now) some) Nothing (RefusesKept Input.Error.seen Input.size (refuses_beginning Input.Error.seen (F.answers test.now) some)))
-        (record { first = first; state = state.old; left = state.new; old = Input.view input.old; new = Input.view input.new; before = Input.failures input.old; after = Input.failures input.new })
-        result }
-    ensures refuses { ReasonedCall Input.Error.seen
-        (kept {R = Input.Range} Input.size (beginning Input.size Input.spells (F.answers test.now) some) Nothing (RefusesKept Input.Error.seen Input.size (refuses_beginning Input.Error.seen (F.answers test.now) some)))
-        first state.old (Input.view input.old) (Input.view input.new) result }
+    ensures answers { AnswersCall Input.StreamOnce Input.Error.seen ⟦<Distance as Default>⟧.is_default (takes_beginning Input.Error.seen Input.size Input.spells (F.answers test.now) some) first state.old state.new input.old input.new result }
+    ensures refuses { ReasonedCall Input.Error.seen (takes_beginning Input.Error.seen Input.size Input.spells (F.answers test.now) some) first state.old (Input.view input.old) (Input.view input.new) result }
 {
     let start = input.checkpoint();
     let position = input.position();
@@ -97,7 +91,7 @@ where
 
     ghost valid = { λ s. Unit {0} };
 
-    ghost meaning = { λ p. kept Input.size (beginning Input.size Input.spells (F.answers p.predicate) false) Nothing (RefusesKept Input.Error.seen Input.size (refuses_beginning Input.Error.seen (F.answers p.predicate) false)) };
+    ghost meaning = { λ p. takes_beginning Input.Error.seen Input.size Input.spells (F.answers p.predicate) false };
 
     ghost parts = { λ p. 1 };
 
@@ -142,7 +136,7 @@ where
 
     ghost valid = { λ s. Unit {0} };
 
-    ghost meaning = { λ p. kept Input.size (beginning Input.size Input.spells (F.answers p.predicate) true) Nothing (RefusesKept Input.Error.seen Input.size (refuses_beginning Input.Error.seen (F.answers p.predicate) true)) };
+    ghost meaning = { λ p. takes_beginning Input.Error.seen Input.size Input.spells (F.answers p.predicate) true };
 
     ghost parts = { λ p. 1 };
 

@@ -4,9 +4,9 @@ ghost use Rattle.combine_base.specs.Parser.Given.{GivesOnly};
 ghost use Rattle.combine_base.specs.Parser.Mapped.{mapped_is_meaning, mapped_means_one};
 ghost use Rattle.combine_repeat_sep.specs.Pair.{fewer_is_meaning, fewer_means_one, led_valid};
 ghost use Rattle.combine_repeat_chain.specs.ChainParsers.{right_operator, right_part};
-ghost use Rattle.combine_repeat_chain.specs.Chains.{nothing_good, each_operand, gives_right, kept_good, operands, right_fold};
+ghost use Rattle.combine_repeat_chain.specs.Chains.{nothing_good, each_operand, kept_good, operands, right_fold};
 ghost use Rattle.combine_repeat_sep.specs.JoinedLaws.{joined_is_meaning, joined_means_one};
-ghost use Rattle.combine_repeat_sep.specs.Separated.{separated_default, separated_fresh, separated_valid};
+ghost use Rattle.combine_repeat_sep.specs.Separated.{separated_default, separated_valid};
 ghost use Rattle.combine_repeat_turns.specs.Bounded.{begun_valid, running_turn};
 
 use crate::operands::{EachOperand, Operands};
@@ -68,11 +68,11 @@ where
 
     ghost parts = { λ _. 1 };
 
-    ghost default_valid = { λ s d. (begun_valid (separated_fresh P.PartialState.is_default) (separated_valid P.valid (led_valid (λ f. S.Output.callable f) S.valid P.valid)) (separated_default P.PartialState.is_default P.valid (led_valid (λ f. S.Output.callable f) S.valid P.valid) P.default_valid) s d, nothing_good (λ f. S.Output.callable f) s d.0) };
+    ghost default_valid = { λ s d. (begun_valid _ _ (separated_default _ _ _ P.default_valid) s d, nothing_good (λ f. S.Output.callable f) s d.0) };
 
-    ghost laws = { λ p l. mapped_is_meaning _ _ (operands Input.step Input.Error.seen (P.meaning (right_part p)) (S.meaning (right_operator p))) (gives_right (λ f x y r. S.Output.answers f x y r)) (fewer_is_meaning (λ s d. d.0) (joined_is_meaning Input.step Input.Error.seen (Joined 1 None) each_operand (λ f. S.Output.callable f) P.PartialState.is_default P.valid S.PartialState.is_default S.valid (P.meaning (right_part p)) (S.meaning (right_operator p)) (P.laws (right_part p) l.2) (S.laws (right_operator p) l.1))) };
+    ghost laws = { λ p l. mapped_is_meaning _ _ _ _ (fewer_is_meaning (λ s d. d.0) (joined_is_meaning Input.step Input.Error.seen (Joined 1 None) each_operand (λ f. S.Output.callable f) _ _ _ _ _ _ (P.laws (right_part p) l.2) (S.laws (right_operator p) l.1))) };
 
-    ghost single = { λ p l d. mapped_means_one _ (operands Input.step Input.Error.seen (P.meaning (right_part p)) (S.meaning (right_operator p))) (gives_right (λ f x y r. S.Output.answers f x y r)) (fewer_means_one (λ s d. d.0) (joined_means_one Input.step Input.Error.seen (Joined 1 None) each_operand (λ f. S.Output.callable f) P.valid S.valid (P.meaning (right_part p)) (S.meaning (right_operator p)) (P.single (right_part p) l.2 d.1) (S.single (right_operator p) l.1 d.0))) };
+    ghost single = { λ p l d. mapped_means_one _ _ _ (fewer_means_one (λ s d. d.0) (joined_means_one Input.step Input.Error.seen (Joined 1 None) each_operand (λ f. S.Output.callable f) _ _ _ _ (P.single (right_part p) l.2 d.1) (S.single (right_operator p) l.1 d.0))) };
 
     #[inline(always)]
     fn parse_mode<M: ParseMode>(

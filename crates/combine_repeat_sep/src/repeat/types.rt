@@ -53,9 +53,9 @@ impl<Input: Stream, P: Parser<Input>, S: Parser<Input>, F: Append<P::Output>> Pa
 
     ghost default_valid = { begun_valid (separated_fresh P.PartialState.is_default) (separated_valid P.valid (led_valid any_lead S.valid P.valid)) (separated_default P.PartialState.is_default P.valid (led_valid any_lead S.valid P.valid) P.default_valid) };
 
-    ghost laws = { λ p l. joined_is_meaning Input.step Input.Error.seen (Joined (least_of p) (Some (most_of p))) (elements (appended F.held F.none F.more F.lean)) any_lead P.PartialState.is_default P.valid S.PartialState.is_default S.valid (P.meaning (counted_part p)) (S.meaning (counted_separator p)) (P.laws (counted_part p) l.1) (S.laws (counted_separator p) l.0) };
+    ghost laws = { λ p l. joined_is_meaning Input.step Input.Error.seen (Joined (least_of p) (Some (most_of p))) (elements (appended F.held F.none F.more F.lean)) any_lead _ _ _ _ _ _ (P.laws (counted_part p) l.1) (S.laws (counted_separator p) l.0) };
 
-    ghost single = { λ p l d. joined_means_one Input.step Input.Error.seen (Joined (least_of p) (Some (most_of p))) (elements (appended F.held F.none F.more F.lean)) any_lead P.valid S.valid (P.meaning (counted_part p)) (S.meaning (counted_separator p)) (P.single (counted_part p) l.1 d.1) (S.single (counted_separator p) l.0 d.0) };
+    ghost single = { λ p l d. joined_means_one Input.step Input.Error.seen (Joined (least_of p) (Some (most_of p))) (elements (appended F.held F.none F.more F.lean)) any_lead _ _ _ _ (P.single (counted_part p) l.1 d.1) (S.single (counted_separator p) l.0 d.0) };
 
     #[inline(always)]
     fn parse_mode<M: ParseMode>(
@@ -124,9 +124,9 @@ impl<Input: Stream, P: Parser<Input>, S: Parser<Input>, F: Append<P::Output>> Pa
 
     ghost default_valid = { begun_valid (separated_fresh P.PartialState.is_default) (separated_valid P.valid (led_valid any_lead S.valid P.valid)) (separated_default P.PartialState.is_default P.valid (led_valid any_lead S.valid P.valid) P.default_valid) };
 
-    ghost laws = { λ p l. joined_is_meaning Input.step Input.Error.seen (Joined 0 None) (elements (appended F.held F.none F.more F.lean)) any_lead P.PartialState.is_default P.valid S.PartialState.is_default S.valid (P.meaning (separated_part p)) (S.meaning (separated_separator p)) (P.laws (separated_part p) l.1) (S.laws (separated_separator p) l.0) };
+    ghost laws = { λ p l. joined_is_meaning Input.step Input.Error.seen (Joined 0 None) (elements (appended F.held F.none F.more F.lean)) any_lead _ _ _ _ _ _ (P.laws (separated_part p) l.1) (S.laws (separated_separator p) l.0) };
 
-    ghost single = { λ p l d. joined_means_one Input.step Input.Error.seen (Joined 0 None) (elements (appended F.held F.none F.more F.lean)) any_lead P.valid S.valid (P.meaning (separated_part p)) (S.meaning (separated_separator p)) (P.single (separated_part p) l.1 d.1) (S.single (separated_separator p) l.0 d.0) };
+    ghost single = { λ p l d. joined_means_one Input.step Input.Error.seen (Joined 0 None) (elements (appended F.held F.none F.more F.lean)) any_lead _ _ _ _ (P.single (separated_part p) l.1 d.1) (S.single (separated_separator p) l.0 d.0) };
 
     #[inline(always)]
     fn parse_mode<M: ParseMode>(
@@ -192,9 +192,9 @@ impl<Input: Stream, P: Parser<Input>, S: Parser<Input>, F: Append<P::Output>> Pa
 
     ghost default_valid = { begun_valid (separated_fresh P.PartialState.is_default) (separated_valid P.valid (led_valid any_lead S.valid P.valid)) (separated_default P.PartialState.is_default P.valid (led_valid any_lead S.valid P.valid) P.default_valid) };
 
-    ghost laws = { λ p l. joined_is_meaning Input.step Input.Error.seen (Joined 1 None) (elements (appended F.held F.none F.more F.lean)) any_lead P.PartialState.is_default P.valid S.PartialState.is_default S.valid (P.meaning (separated1_part p)) (S.meaning (separated1_separator p)) (P.laws (separated1_part p) l.1) (S.laws (separated1_separator p) l.0) };
+    ghost laws = { λ p l. joined_is_meaning Input.step Input.Error.seen (Joined 1 None) (elements (appended F.held F.none F.more F.lean)) any_lead _ _ _ _ _ _ (P.laws (separated1_part p) l.1) (S.laws (separated1_separator p) l.0) };
 
-    ghost single = { λ p l d. joined_means_one Input.step Input.Error.seen (Joined 1 None) (elements (appended F.held F.none F.more F.lean)) any_lead P.valid S.valid (P.meaning (separated1_part p)) (S.meaning (separated1_separator p)) (P.single (separated1_part p) l.1 d.1) (S.single (separated1_separator p) l.0 d.0) };
+    ghost single = { λ p l d. joined_means_one Input.step Input.Error.seen (Joined 1 None) (elements (appended F.held F.none F.more F.lean)) any_lead _ _ _ _ (P.single (separated1_part p) l.1 d.1) (S.single (separated1_separator p) l.0 d.0) };
 
     #[inline(always)]
     fn parse_mode<M: ParseMode>(
@@ -260,9 +260,9 @@ where
 
     ghost default_valid = { begun_valid (separated_fresh P.PartialState.is_default) (separated_valid P.valid (led_valid (λ f. S.Output.callable f) S.valid P.valid)) (separated_default P.PartialState.is_default P.valid (led_valid (λ f. S.Output.callable f) S.valid P.valid) P.default_valid) };
 
-    ghost laws = { λ p l. joined_is_meaning Input.step Input.Error.seen (Joined 1 None) (folded (λ f x y r. S.Output.answers f x y r)) (λ f. S.Output.callable f) P.PartialState.is_default P.valid S.PartialState.is_default S.valid (P.meaning (chained_part p)) (S.meaning (chained_operator p)) (P.laws (chained_part p) l.2) (S.laws (chained_operator p) l.1) };
+    ghost laws = { λ p l. joined_is_meaning Input.step Input.Error.seen (Joined 1 None) (folded (λ f x y r. S.Output.answers f x y r)) (λ f. S.Output.callable f) _ _ _ _ _ _ (P.laws (chained_part p) l.2) (S.laws (chained_operator p) l.1) };
 
-    ghost single = { λ p l d. joined_means_one Input.step Input.Error.seen (Joined 1 None) (folded (λ f x y r. S.Output.answers f x y r)) (λ f. S.Output.callable f) P.valid S.valid (P.meaning (chained_part p)) (S.meaning (chained_operator p)) (P.single (chained_part p) l.2 d.1) (S.single (chained_operator p) l.1 d.0) };
+    ghost single = { λ p l d. joined_means_one Input.step Input.Error.seen (Joined 1 None) (folded (λ f x y r. S.Output.answers f x y r)) (λ f. S.Output.callable f) _ _ _ _ (P.single (chained_part p) l.2 d.1) (S.single (chained_operator p) l.1 d.0) };
 
     #[inline(always)]
     fn parse_mode<M: ParseMode>(

@@ -49,7 +49,7 @@ impl<Input: Stream, P: Parser<Input>, S: Parser<Input>, F: Append<P::Output>> Pa
 
     ghost default_valid = { begun_valid (separated_fresh P.PartialState.is_default) (separated_valid P.valid (pair_valid S.valid P.valid)) (separated_default P.PartialState.is_default P.valid (pair_valid S.valid P.valid) P.default_valid) };
 
-    ghost laws = { λ p l. sep_end_is_meaning Input.step Input.Error.seen (Joined 0 None) (appended F.held F.none F.more F.lean) P.PartialState.is_default P.valid S.PartialState.is_default S.valid (P.meaning (ended_by_part p)) (S.meaning (ended_by_separator p)) (P.laws (ended_by_part p) l.1) (S.laws (ended_by_separator p) l.0) };
+    ghost laws = { λ p l. sep_end_is_meaning Input.step Input.Error.seen (Joined 0 None) (appended F.held F.none F.more F.lean) _ _ _ _ _ _ (P.laws (ended_by_part p) l.1) (S.laws (ended_by_separator p) l.0) };
 
     ghost single = { λ p l d. sep_end_means_one Input.step Input.Error.seen (Joined 0 None) (appended F.held F.none F.more F.lean) P.valid S.valid (P.meaning (ended_by_part p)) (S.meaning (ended_by_separator p)) (P.single (ended_by_part p) l.1 d.1) (S.single (ended_by_separator p) l.0 d.0) };
 
@@ -117,7 +117,7 @@ impl<Input: Stream, P: Parser<Input>, S: Parser<Input>, F: Append<P::Output>> Pa
 
     ghost default_valid = { begun_valid (separated_fresh P.PartialState.is_default) (separated_valid P.valid (pair_valid S.valid P.valid)) (separated_default P.PartialState.is_default P.valid (pair_valid S.valid P.valid) P.default_valid) };
 
-    ghost laws = { λ p l. sep_end_is_meaning Input.step Input.Error.seen (Joined 1 None) (appended F.held F.none F.more F.lean) P.PartialState.is_default P.valid S.PartialState.is_default S.valid (P.meaning (ended_by1_part p)) (S.meaning (ended_by1_separator p)) (P.laws (ended_by1_part p) l.1) (S.laws (ended_by1_separator p) l.0) };
+    ghost laws = { λ p l. sep_end_is_meaning Input.step Input.Error.seen (Joined 1 None) (appended F.held F.none F.more F.lean) _ _ _ _ _ _ (P.laws (ended_by1_part p) l.1) (S.laws (ended_by1_separator p) l.0) };
 
     ghost single = { λ p l d. sep_end_means_one Input.step Input.Error.seen (Joined 1 None) (appended F.held F.none F.more F.lean) P.valid S.valid (P.meaning (ended_by1_part p)) (S.meaning (ended_by1_separator p)) (P.single (ended_by1_part p) l.1 d.1) (S.single (ended_by1_separator p) l.0 d.0) };
 

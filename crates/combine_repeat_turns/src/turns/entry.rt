@@ -9,7 +9,7 @@ use combine_base::stream::{Stream, needs_more};
 /// How a turn is called.
 pub trait Entry {
     ghost use Rattle.std.specs.Prelude.{◌≡◌, Bool, true};
-    ghost use Rattle.combine_base.specs.Parser.Answer.{Answers, world};
+    ghost use Rattle.combine_base.specs.Parser.AnswersCalls.{AnswersCall};
     ghost use Rattle.combine_base.specs.Parser.Reasons.{ReasonedCall};
     ghost use Rattle.combine_base.specs.Stream.Calls.{Passes};
     ghost use Rattle.combine_repeat_turns.specs.Turn.{TurnsSame, called};
@@ -34,10 +34,7 @@ pub trait Entry {
         ensures valid { P.valid state.new }
         ensures same { TurnsSame (P.meaning parser.old) (P.again parser.old) (P.meaning parser.new) (P.again parser.new) }
         ensures passes { Passes (Input.marks input.old) (Input.marks input.new) (Input.failures input.old) (Input.failures input.new) }
-        ensures answers { Answers (world Input.step Input.Error.seen Input.steady P.Running.is_default)
-            (called (P.meaning parser.old) (P.again parser.old) (later self))
-            (record { first = first self; state = state.old; left = state.new; old = Input.view input.old; new = Input.view input.new; before = Input.failures input.old; after = Input.failures input.new })
-            result }
+        ensures answers { AnswersCall Input.StreamOnce Input.Error.seen P.Running.is_default (called (P.meaning parser.old) (P.again parser.old) (later self)) (first self) state.old state.new input.old input.new result }
         ensures refuses { ReasonedCall Input.Error.seen (called (P.meaning parser.old) (P.again parser.old) (later self)) (first self) state.old (Input.view input.old) (Input.view input.new) result };
 }
 

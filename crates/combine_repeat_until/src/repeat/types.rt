@@ -1,6 +1,6 @@
 //! The parsers that the functions of this module answer.
 ghost use Rattle.combine_token.specs.Or.{or_valid};
-ghost use Rattle.combine_repeat_until.specs.Next.{next, next_is_meaning, next_once};
+ghost use Rattle.combine_repeat_until.specs.Next.{next_is_meaning, next_once};
 ghost use Rattle.combine_repeat_until.specs.Until.{some_appended, some_dropped, until_valid};
 ghost use Rattle.combine_repeat_until.specs.UntilLaws.{until_is_meaning, until_means_one};
 ghost use Rattle.combine_repeat_until.specs.UntilParsers.{blocks_end, blocks_part, repeat_until, skipped_end, skipped_part};
@@ -59,9 +59,9 @@ impl<Input: Stream, A: Drop, P: Parser<Input, Output = A>, E: Parser<Input>, F: 
 
     ghost default_valid = { λ s d. rw d tt };
 
-    ghost laws = { λ p l. until_is_meaning Input.step Input.Error.seen (some_appended F.held F.none F.more F.lean) _ (or_valid E.valid P.valid) (next Input.Error.seen Input.Position.cmp (E.meaning (blocks_end p)) (P.meaning (blocks_part p))) (next_is_meaning Input.Error.seen Input.Position.cmp (E.meaning (blocks_end p)) (P.meaning (blocks_part p)) (E.laws (blocks_end p) l.0) (P.laws (blocks_part p) l.1)) };
+    ghost laws = { λ p l. until_is_meaning Input.step Input.Error.seen (some_appended F.held F.none F.more F.lean) _ _ _ (next_is_meaning Input.Error.seen Input.Position.cmp _ _ (E.laws (blocks_end p) l.0) (P.laws (blocks_part p) l.1)) };
 
-    ghost single = { λ p l d. until_means_one Input.step Input.Error.seen (some_appended F.held F.none F.more F.lean) (or_valid E.valid P.valid) (next Input.Error.seen Input.Position.cmp (E.meaning (blocks_end p)) (P.meaning (blocks_part p))) (next_once Input.Error.seen Input.Position.cmp E.PartialState.is_default E.valid P.PartialState.is_default P.valid (E.meaning (blocks_end p)) (P.meaning (blocks_part p)) (E.single (blocks_end p) l.0 d.0) (P.single (blocks_part p) l.1 d.1)) };
+    ghost single = { λ p l d. until_means_one Input.step Input.Error.seen (some_appended F.held F.none F.more F.lean) _ _ (next_once Input.Error.seen Input.Position.cmp E.PartialState.is_default _ P.PartialState.is_default _ _ _ (E.single (blocks_end p) l.0 d.0) (P.single (blocks_part p) l.1 d.1)) };
 
     #[inline(always)]
     fn parse_mode<M: ParseMode>(
@@ -114,9 +114,9 @@ impl<Input: Stream, A: Drop, P: Parser<Input, Output = A>, E: Parser<Input>> Par
 
     ghost default_valid = { λ s d. rw d tt };
 
-    ghost laws = { λ p l. until_is_meaning Input.step Input.Error.seen some_dropped _ (or_valid E.valid P.valid) (next Input.Error.seen Input.Position.cmp (E.meaning (skipped_end p)) (P.meaning (skipped_part p))) (next_is_meaning Input.Error.seen Input.Position.cmp (E.meaning (skipped_end p)) (P.meaning (skipped_part p)) (E.laws (skipped_end p) l.0) (P.laws (skipped_part p) l.1)) };
+    ghost laws = { λ p l. until_is_meaning Input.step Input.Error.seen some_dropped _ _ _ (next_is_meaning Input.Error.seen Input.Position.cmp _ _ (E.laws (skipped_end p) l.0) (P.laws (skipped_part p) l.1)) };
 
-    ghost single = { λ p l d. until_means_one Input.step Input.Error.seen some_dropped (or_valid E.valid P.valid) (next Input.Error.seen Input.Position.cmp (E.meaning (skipped_end p)) (P.meaning (skipped_part p))) (next_once Input.Error.seen Input.Position.cmp E.PartialState.is_default E.valid P.PartialState.is_default P.valid (E.meaning (skipped_end p)) (P.meaning (skipped_part p)) (E.single (skipped_end p) l.0 d.0) (P.single (skipped_part p) l.1 d.1)) };
+    ghost single = { λ p l d. until_means_one Input.step Input.Error.seen some_dropped _ _ (next_once Input.Error.seen Input.Position.cmp E.PartialState.is_default _ P.PartialState.is_default _ _ _ (E.single (skipped_end p) l.0 d.0) (P.single (skipped_part p) l.1 d.1)) };
 
     #[inline(always)]
     fn parse_mode<M: ParseMode>(

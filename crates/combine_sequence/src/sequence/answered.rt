@@ -2,7 +2,7 @@
 ghost use Rattle.std.specs.Prelude.{◌≡◌, true};
 ghost use Rattle.combine_base.specs.Parser.Given.{GivesOnly, gives_as};
 ghost use Rattle.combine_base.specs.Parser.Kept.{KeptOf};
-ghost use Rattle.combine_sequence.specs.Answered.{AnsweredBySome, AnswersOne, answered_of, asked_part, asks_lawful, first_part, some_lawful, starts_first, starts_valid, then, then_is_meaning, then_means_one, valid_step};
+ghost use Rattle.combine_sequence.specs.Answered.{AnsweredBySome, AsksOne, answered_of, asked_part, asks_lawful, first_part, some_lawful, starts_first, starts_valid, then, then_is_meaning, then_means_one, valid_step};
 ghost use Rattle.combine_sequence.specs.Thens.{CalledAnswered};
 
 pub(super) mod asked;
@@ -66,7 +66,7 @@ impl<
 
     ghost lawful = { λ p. P.lawful (first_part p) × GivesOnly P.valid (P.meaning (first_part p)) (asks_lawful K.callable K.answers N.lawful (asked_part p)) };
 
-    ghost determined = { λ p. P.determined (first_part p) × ((n : N) → AnsweredBySome K.callable K.answers N.lawful P.lawful P.valid P.meaning n → N.determined n) × AnswersOne (P.meaning (first_part p)).whole (K.answers (asked_part p)) (λ n. (N.meaning n).whole) × ((s : P.PartialState) → P.valid s → AnswersOne ((P.meaning (first_part p)).rest s) (K.answers (asked_part p)) (λ n. (N.meaning n).whole)) };
+    ghost determined = { λ p. P.determined (first_part p) × ((n : N) → AnsweredBySome K.callable K.answers N.lawful P.lawful P.valid P.meaning n → N.determined n) × AsksOne P.valid (P.meaning (first_part p)) (K.answers (asked_part p)) (λ n. (N.meaning n).whole) };
 
     ghost valid = { valid_step P.valid (KeptOf N.lawful N.meaning (AnsweredBySome K.callable K.answers N.lawful P.lawful P.valid P.meaning)) N.valid };
 
@@ -78,7 +78,7 @@ impl<
 
     ghost laws = { λ p l. then_is_meaning Input.step Input.Error.seen K.keeps V.joined (K.answers (asked_part p)) (AnsweredBySome K.callable K.answers N.lawful P.lawful P.valid P.meaning) N.lawful (P.laws (first_part p) l.0) N.laws (gives_as (λ a h. h.1) l.1) };
 
-    ghost single = { λ p l d. then_means_one Input.step Input.Error.seen K.keeps V.joined (K.answers (asked_part p)) (AnsweredBySome K.callable K.answers N.lawful P.lawful P.valid P.meaning) N.lawful (P.single (first_part p) l.0 d.0) (λ n i. N.single n (some_lawful K.callable K.answers N.lawful P.lawful P.valid P.meaning n i) (d.1 n i)) d.2 d.3 };
+    ghost single = { λ p l d. then_means_one Input.step Input.Error.seen K.keeps V.joined _ _ N.lawful (P.single (first_part p) l.0 d.0) (λ n i. N.single n (some_lawful K.callable K.answers N.lawful P.lawful P.valid P.meaning n i) (d.1 n i)) d.2 };
 
     #[inline(always)]
     fn parse_mode<M: ParseMode>(

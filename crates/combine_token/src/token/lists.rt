@@ -1,14 +1,9 @@
 //! Lists of tokens, matched one by one.
 ghost use Rattle.std.specs.Prelude.{◌≡◌};
-ghost use Rattle.std.specs.Option.{option_copied};
-ghost use Rattle.combine_base.specs.Parser.AnswersCalls.{AnswersCall};
 ghost use Rattle.combine_base.specs.Stream.Calls.{Passes};
-ghost use Rattle.combine_token.specs.Iterated.{IsIterated, iterated};
-ghost use Rattle.combine_base.specs.Parser.Reasons.{Reasoned};
-ghost use Rattle.combine_token.specs.ListAnswers.{expecting};
-ghost use Rattle.combine_token.specs.Reasons.{RefusesList, begins_at};
-ghost use Rattle.combine_token.specs.TokenListLaws.{token_list};
-ghost use Rattle.combine_token.specs.TokenParsers.{matched_before, tokens_cmp_of, tokens_of};
+ghost use Rattle.combine_token.specs.Iterated.{IsIterated};
+ghost use Rattle.combine_token.specs.ListCalls.{MatchesCall, MismatchesCall};
+ghost use Rattle.combine_token.specs.TokenParsers.{tokens_cmp_of, tokens_of};
 
 mod answers;
 pub mod types;
@@ -83,10 +78,8 @@ where
     requires callable { C.IsAlwaysCallable cmp.now }
     requires list { IsIterated T.is_clone T.into_iter_gives T.IntoIter.next_gives list.now T.IntoIter.can_next T.IntoIter.remaining }
     ensures passes { Passes (Input.marks input.old) (Input.marks input.new) (Input.failures input.old) (Input.failures input.new) }
-    ensures answers { AnswersCall Input.StreamOnce Input.Error.seen (λ s. matched_before s ≡ 0) (token_list Input.Error.seen (iterated T.is_clone T.into_iter_gives T.IntoIter.next_gives list.now (λ x t b. C.post cmp.now x t b)) (option_copied expected.entry) (V.is_clone value.now) matched_before (T.is_infallible list.now × V.is_infallible value.now) (λ is. is ≡ expecting (option_copied expected.entry))) (M.first mode) state.old state.new input.old input.new result }
-    ensures refuses { Reasoned Input.Error.seen.kind (Input.view input.new).is_open
-        (RefusesList Input.Error.seen (iterated T.is_clone T.into_iter_gives T.IntoIter.next_gives list.now (λ x t b. C.post cmp.now x t b)) (option_copied expected.entry) (begins_at matched_before (M.first mode) state.old) (Input.view input.old) (Input.view input.new))
-        result }
+    ensures answers { MatchesCall Input.StreamOnce Input.Error.seen T.Clone T.IntoIterator T.IntoIter.Iterator list.now C.Fn cmp.now V.Clone value.now expected.entry (M.first mode) state.old state.new input.old input.new result }
+    ensures refuses { MismatchesCall Input.StreamOnce Input.Error.seen T.Clone T.IntoIterator T.IntoIter.Iterator list.now C.Fn cmp.now expected.entry (M.first mode) state.old input.old input.new result }
 {
     let mut matched = state.begin(!mode.is_first());
     let start = input.checkpoint();

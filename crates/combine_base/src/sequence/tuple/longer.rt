@@ -1,9 +1,8 @@
 //! Tuples of five to eight as parsers: each is a tuple of references to the parts before its last one, and then that one.
 ghost use Rattle.std.specs.Prelude.{◌≡◌, ◌+◌, min, true};
-ghost use Rattle.combine_base.specs.Sequence.Followed.{Follows};
+ghost use Rattle.combine_base.specs.Sequence.Followed.{FollowsFour, FollowsOne, FollowsThree, FollowsTwo};
 ghost use Rattle.combine_base.specs.Sequence.Longer.{begins_valid_5, begins_valid_6, begins_valid_7, begins_valid_8, tuple_5, tuple_5_is_meaning, tuple_5_means_one, tuple_6, tuple_6_is_meaning, tuple_6_means_one, tuple_7, tuple_7_is_meaning, tuple_7_means_one, tuple_8, tuple_8_is_meaning, tuple_8_means_one, valid_5, valid_6, valid_7, valid_8};
 ghost use Rattle.combine_base.specs.Sequence.Places.{begins, valid_in};
-ghost use Rattle.combine_base.specs.Sequence.Tuples.{followed};
 
 mod front;
 
@@ -41,7 +40,7 @@ fn parse_one_after<
     requires fresh { begins S.place Q.fresh state.old }
     ensures lent { Q.same before.old before.new }
     ensures lawful { Q.lawful before.new × E.lawful e.new }
-    ensures follows { Follows S.place T.pushed Input.StreamOnce Input.Error.seen Q.fresh Q.valid E.Parser (Q.meaning before.old) (Q.meaning before.new) e.old e.new input.old input.new from state.new result }
+    ensures follows { FollowsOne Input.StreamOnce Input.Error.seen Q.Front before.old before.new S.place T.pushed E.Parser e.old e.new input.old input.new from state.new result }
 {
     match from.into_place() {
         SequencePlace::Before(at) => {
@@ -80,7 +79,7 @@ fn parse_two_after<
     requires fresh { begins S.place (begins N.place Q.fresh) state.old }
     ensures lent { Q.same before.old before.new }
     ensures lawful { Q.lawful before.new × E.lawful e.new × F.lawful f.new }
-    ensures follows { Follows S.place V.pushed Input.StreamOnce Input.Error.seen (begins N.place Q.fresh) (valid_in N.place Q.valid E.valid) F.Parser (followed Input.step Input.Error.seen N.place T.pushed (Q.meaning before.old) (E.meaning e.old)) (followed Input.step Input.Error.seen N.place T.pushed (Q.meaning before.new) (E.meaning e.new)) f.old f.new input.old input.new from state.new result }
+    ensures follows { FollowsTwo Input.StreamOnce Input.Error.seen Q.Front before.old before.new N.place T.pushed E.Parser e.old e.new S.place V.pushed F.Parser f.old f.new input.old input.new from state.new result }
 {
     match from.into_place() {
         SequencePlace::Before(at) => {
@@ -123,7 +122,7 @@ fn parse_three_after<
     requires fresh { begins S.place (begins N.place (begins L.place Q.fresh)) state.old }
     ensures lent { Q.same before.old before.new }
     ensures lawful { Q.lawful before.new × E.lawful e.new × F.lawful f.new × G.lawful g.new }
-    ensures follows { Follows S.place W.pushed Input.StreamOnce Input.Error.seen (begins N.place (begins L.place Q.fresh)) (valid_in N.place (valid_in L.place Q.valid E.valid) F.valid) G.Parser (followed Input.step Input.Error.seen N.place V.pushed (followed Input.step Input.Error.seen L.place T.pushed (Q.meaning before.old) (E.meaning e.old)) (F.meaning f.old)) (followed Input.step Input.Error.seen N.place V.pushed (followed Input.step Input.Error.seen L.place T.pushed (Q.meaning before.new) (E.meaning e.new)) (F.meaning f.new)) g.old g.new input.old input.new from state.new result }
+    ensures follows { FollowsThree Input.StreamOnce Input.Error.seen Q.Front before.old before.new L.place T.pushed E.Parser e.old e.new N.place V.pushed F.Parser f.old f.new S.place W.pushed G.Parser g.old g.new input.old input.new from state.new result }
 {
     match from.into_place() {
         SequencePlace::Before(at) => {
@@ -172,7 +171,7 @@ fn parse_four_after<
     requires fresh { begins S.place (begins N.place (begins L.place (begins K.place Q.fresh))) state.old }
     ensures lent { Q.same before.old before.new }
     ensures lawful { Q.lawful before.new × E.lawful e.new × F.lawful f.new × G.lawful g.new × H.lawful h.new }
-    ensures follows { Follows S.place Y.pushed Input.StreamOnce Input.Error.seen (begins N.place (begins L.place (begins K.place Q.fresh))) (valid_in N.place (valid_in L.place (valid_in K.place Q.valid E.valid) F.valid) G.valid) H.Parser (followed Input.step Input.Error.seen N.place W.pushed (followed Input.step Input.Error.seen L.place V.pushed (followed Input.step Input.Error.seen K.place T.pushed (Q.meaning before.old) (E.meaning e.old)) (F.meaning f.old)) (G.meaning g.old)) (followed Input.step Input.Error.seen N.place W.pushed (followed Input.step Input.Error.seen L.place V.pushed (followed Input.step Input.Error.seen K.place T.pushed (Q.meaning before.new) (E.meaning e.new)) (F.meaning f.new)) (G.meaning g.new)) h.old h.new input.old input.new from state.new result }
+    ensures follows { FollowsFour Input.StreamOnce Input.Error.seen Q.Front before.old before.new K.place T.pushed E.Parser e.old e.new L.place V.pushed F.Parser f.old f.new N.place W.pushed G.Parser g.old g.new S.place Y.pushed H.Parser h.old h.new input.old input.new from state.new result }
 {
     match from.into_place() {
         SequencePlace::Before(at) => {

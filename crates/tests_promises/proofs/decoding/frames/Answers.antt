@@ -16,7 +16,7 @@ pub messages_are_one-requires-clause-determined : goal.messages_are_one-requires
 messages_are_one-requires-clause-determined c κs = record {
   every = λ p i.
       let e : p ≡ frame_of c.args.alloc = search of_calls in
-      rw e (tt, λ n h. tt, one_for_number 2 big_endian (λ n. count_min_max_of c.args.alloc n n any_parser) (λ n. counted_is_single _ _ n), λ s k. one_for_number 2 big_endian (λ n. count_min_max_of c.args.alloc n n any_parser) (λ n. counted_is_single _ _ n));
+      rw e (tt, λ n h. tt, record { whole = one_for_number 2 big_endian (λ n. count_min_max_of c.args.alloc n n any_parser) (λ n. counted_is_single _ _ n); rest = λ s k. one_for_number 2 big_endian (λ n. count_min_max_of c.args.alloc n n any_parser) (λ n. counted_is_single _ _ n) });
 }
 
 pub messages_are_one-requires-clause-shared : goal.messages_are_one-requires-clause-shared
@@ -34,7 +34,7 @@ pub cuts_agree-requires-clause-determined : goal.cuts_agree-requires-clause-dete
 cuts_agree-requires-clause-determined c κs = record {
   every = λ p i.
       let e : p ≡ frame_of c.args.alloc = search of_calls in
-      rw e (tt, λ n h. tt, one_for_number 2 big_endian (λ n. count_min_max_of c.args.alloc n n any_parser) (λ n. counted_is_single _ _ n), λ s k. one_for_number 2 big_endian (λ n. count_min_max_of c.args.alloc n n any_parser) (λ n. counted_is_single _ _ n));
+      rw e (tt, λ n h. tt, record { whole = one_for_number 2 big_endian (λ n. count_min_max_of c.args.alloc n n any_parser) (λ n. counted_is_single _ _ n); rest = λ s k. one_for_number 2 big_endian (λ n. count_min_max_of c.args.alloc n n any_parser) (λ n. counted_is_single _ _ n) });
 }
 
 pub cuts_agree-requires-clause-shared : goal.cuts_agree-requires-clause-shared
