@@ -10,4 +10,4 @@ pub use Rattle.combine_repeat_turns.specs.OneThenTurns
 pub use Rattle.combine_repeat_turns.specs.Turns
 pub mod Repetition
 pub mod Compared
-pub mod Built
+pub mod ManyParsers

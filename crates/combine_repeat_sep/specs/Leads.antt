@@ -1,9 +1,9 @@
 -- what separators give, and turns that begin with it
-use Rattle.std.specs.Prelude.{ℕ, Bool, false}
+use Rattle.std.specs.Prelude.{ℕ, ◌≡◌, Bool, true, false, refl}
 use Rattle.std.proofs.Common.{sym, subst}
 use Rattle.combine_base.specs.Error.Errors.{Errors}
 use Rattle.combine_base.specs.Stream.View.{View}
-use Rattle.combine_base.specs.Parser.Given.{GivesOnly, ReadsOnly}
+use Rattle.combine_base.specs.Parser.Given.{GivesOnly, ReadsOnly, given_by_all}
 use Rattle.combine_base.specs.Parser.Meaning.{Meaning, Reading}
 use Rattle.combine_base.specs.Parser.Outcome.{Outcome, Accepted, Refused, Undecided}
 use Rattle.combine_base.specs.Sequence.Joined.{joined}
@@ -75,6 +75,19 @@ module _ {P T R E O V W U : Type 0} (step : P → T → P) (errors : Errors T R 
       resting (First u) d = first (m.rest u)
       resting (Later z) d = later ((pair step errors s m).rest z) (pair_gives.rest z d)
 
--- where nothing is asked of what a separator gives
-pub any_given : {P T R E O W : Type 0} {valid : W → Type 0} {s : Meaning P T R E O W} → GivesOnly valid s (λ _. Unit {0})
-any_given = record { whole = record { one = λ v a n c w. tt }; rest = λ s k. record { one = λ v a n c w. tt } }
+-- a fact that is asked for, or nothing
+abbrev pub asked : Bool → Type 0 → Type 0
+asked true fact = fact
+asked false fact = Unit {0}
+
+pub asked_as : {fact other : Type 0} (b : Bool) → (fact → other) → asked b fact → asked b other
+asked_as true f x = f x
+asked_as false f x = tt
+
+-- where nothing is asked, each value is good
+pub asked_given : {P T R E O W : Type 0} {valid : W → Type 0} {s : Meaning P T R E O W} {good : O → Type 0} (b : Bool) → (b ≡ false → (o : O) → good o) → asked b (GivesOnly valid s good) → GivesOnly valid s good
+asked_given true h x = x
+asked_given false h x = given_by_all (h refl)
+
+pub never_both : true ≡ false → ⊥
+never_both e = cc

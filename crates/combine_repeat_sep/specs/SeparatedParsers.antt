@@ -1,49 +1,38 @@
 -- the parsers that the constructors build, and their parts
 use Rattle.std.specs.Prelude.{ℕ}
 use Rattle.std.specs.declared.alloc.Global.{Global}
-use Rattle.combine_repeat_sep.specs.declared.repeat.types.SepCountMinMax.{SepCountMinMax}
-use Rattle.combine_repeat_sep.specs.declared.repeat.types.SepBy.{SepBy}
-use Rattle.combine_repeat_sep.specs.declared.repeat.types.SepBy1.{SepBy1}
+use Rattle.combine_repeat_turns.specs.Built.{bounds_of, each_of, repeat_of, turn_of}
+use Rattle.combine_repeat_turns.specs.declared.repeat.types.Repeat.{Repeat}
+use Rattle.combine_repeat_turns.specs.declared.turns.limits.JoinedBetween.{JoinedBetween}
+use Rattle.combine_repeat_turns.specs.declared.turns.limits.JoinedFrom.{JoinedFrom}
+use Rattle.combine_repeat_sep.specs.Separated.{part_of, separator_of}
+use Rattle.combine_repeat_sep.specs.declared.elements.EachElement.{EachElement}
+use Rattle.combine_repeat_sep.specs.declared.separated.Anything.{Anything}
+use Rattle.combine_repeat_sep.specs.declared.separated.Separated.{Separated}
 use Rattle.combine_repeat_sep.specs.declared.repeat.types.Chainl1.{Chainl1}
 
-abbrev pub sep_count_min_max_of : {F P S : Type 0} → Global → ℕ → ℕ → P → S → SepCountMinMax F P S
-sep_count_min_max_of alloc least most parser separator = record { alloc = alloc; least = least; most = most; turn = record { parser = parser; separator = separator; asks = record {} }; collects = record {} }
+-- a part, and later a separator and the part
+abbrev pub separated_of : {P S L : Type 0} → P → S → Separated P S L
+separated_of parser separator = record { parser = parser; separator = separator; asks = record {} }
 
-abbrev pub sep_by_of : {F P S : Type 0} → Global → P → S → SepBy F P S
-sep_by_of alloc parser separator = record { alloc = alloc; turn = record { parser = parser; separator = separator; asks = record {} }; collects = record {} }
+-- each element appended
+abbrev pub each_element_of : {F : Type 0} → Global → EachElement F
+each_element_of alloc = record { 0 = each_of alloc }
 
-abbrev pub sep_by1_of : {F P S : Type 0} → Global → P → S → SepBy1 F P S
-sep_by1_of alloc parser separator = record { alloc = alloc; turn = record { parser = parser; separator = separator; asks = record {} }; collects = record {} }
+abbrev pub sep_count_min_max_of : {F P S : Type 0} → Global → ℕ → ℕ → P → S → Repeat (EachElement F) (Separated P S Anything) JoinedBetween
+sep_count_min_max_of alloc least most parser separator = repeat_of (each_element_of alloc) (separated_of parser separator) (record { least = least; most = most })
+
+abbrev pub sep_by_of : {F P S : Type 0} → Global → P → S → Repeat (EachElement F) (Separated P S Anything) (JoinedFrom 0)
+sep_by_of alloc parser separator = repeat_of (each_element_of alloc) (separated_of parser separator) (record {})
+
+abbrev pub sep_by1_of : {F P S : Type 0} → Global → P → S → Repeat (EachElement F) (Separated P S Anything) (JoinedFrom 1)
+sep_by1_of alloc parser separator = repeat_of (each_element_of alloc) (separated_of parser separator) (record {})
 
 abbrev pub chainl1_of : {P S : Type 0} → P → S → Chainl1 P S
-chainl1_of parser operator = record { 0 = record { parser = parser; separator = operator; asks = record {} } }
-
-abbrev pub least_of : {F P S : Type 0} → SepCountMinMax F P S → ℕ
-least_of p = p.least
-
-abbrev pub most_of : {F P S : Type 0} → SepCountMinMax F P S → ℕ
-most_of p = p.most
-
-abbrev pub counted_part : {F P S : Type 0} → SepCountMinMax F P S → P
-counted_part p = p.turn.parser
-
-abbrev pub counted_separator : {F P S : Type 0} → SepCountMinMax F P S → S
-counted_separator p = p.turn.separator
-
-abbrev pub separated_part : {F P S : Type 0} → SepBy F P S → P
-separated_part p = p.turn.parser
-
-abbrev pub separated_separator : {F P S : Type 0} → SepBy F P S → S
-separated_separator p = p.turn.separator
-
-abbrev pub separated1_part : {F P S : Type 0} → SepBy1 F P S → P
-separated1_part p = p.turn.parser
-
-abbrev pub separated1_separator : {F P S : Type 0} → SepBy1 F P S → S
-separated1_separator p = p.turn.separator
+chainl1_of parser operator = record { 0 = separated_of parser operator }
 
 abbrev pub chained_part : {P S : Type 0} → Chainl1 P S → P
-chained_part p = p.0.parser
+chained_part p = part_of p.0
 
 abbrev pub chained_operator : {P S : Type 0} → Chainl1 P S → S
-chained_operator p = p.0.separator
+chained_operator p = separator_of p.0

@@ -1,24 +1,26 @@
 //! How elements are gathered: each appended, or folded from the left.
-ghost use Rattle.std.specs.Prelude.{◌≡◌};
+ghost use Rattle.std.specs.Prelude.{◌≡◌, true};
 ghost use Rattle.combine_repeat_sep.specs.Elements.{each_element, folds};
 ghost use Rattle.combine_repeat_sep.specs.Separated.{lead_good};
 ghost use Rattle.combine_repeat_turns.specs.Sound.{any_sound};
 
 use crate::separated::{Element, Folds};
 use combine_base::repeat::Append;
-use combine_repeat_turns::turns::Gather;
-use std::alloc::{AllocError, Global};
+use combine_repeat_turns::each::Each;
+use combine_repeat_turns::turns::{Collect, Gather, Gathers, Reduce};
+use std::alloc::AllocError;
 use std::marker::PhantomData;
 
 /// Each element is appended; what its separator gave is dropped.
 #[derive(Drop)]
-pub struct EachElement<F>(PhantomData<F>);
+#[derive_where(Clone, Copy)]
+pub struct EachElement<F>(pub Each<F>);
+
+impl<F: Drop> Gathers for EachElement<F> {
+    type Into = F;
+}
 
 impl<O: Drop, A: Drop, F: Append<A>> Gather<Element<O, A>> for EachElement<F> {
-    type Into = F;
-
-    type From = Global;
-
     ghost Held = { F.Held };
 
     ghost held = { F.held };
@@ -32,21 +34,6 @@ impl<O: Drop, A: Drop, F: Append<A>> Gather<Element<O, A>> for EachElement<F> {
     ghost sound = { λ _. Unit {0} };
 
     ghost lean = { F.lean };
-
-    #[inline(always)]
-    fn begin(alloc: Global, value: Element<O, A>) -> Result<F, AllocError> {
-        let mut into = F::empty(alloc);
-        match value {
-            Element::First(value) => {
-                into.append(value)?;
-                Ok(into)
-            }
-            Element::Then(_separator, value) => {
-                into.append(value)?;
-                Ok(into)
-            }
-        }
-    }
 
     #[inline(always)]
     fn gather(into: F, value: Element<O, A>) -> Result<F, AllocError> {
@@ -66,16 +53,32 @@ impl<O: Drop, A: Drop, F: Append<A>> Gather<Element<O, A>> for EachElement<F> {
     ghost keeps_sound = { any_sound };
 }
 
+impl<O: Drop, A: Drop, F: Append<A>> Collect<Element<O, A>> for EachElement<F> {
+    ghost keeps = { true };
+
+    #[inline(always)]
+    fn empty(&self, room: usize) -> Result<F, AllocError> {
+        self.0.empty(room)
+    }
+
+    #[inline(always)]
+    fn keeps(&self) -> bool {
+        true
+    }
+
+    ghost takes_any = { λ a. tt };
+}
+
 /// Elements folded from the left, by what the separators gave.
 #[derive(Drop)]
 pub struct Folded<V>(PhantomData<V>);
 
+impl<V: Drop> Gathers for Folded<V> {
+    type Into = V;
+}
+
 impl<V: Drop, O: Folds<V> + Drop> Gather<Element<O, V>> for Folded<V> {
     ghost use Rattle.std.specs.Prelude.{None, Option, Some};
-
-    type Into = V;
-
-    type From = ();
 
     ghost Held = { Option V };
 
@@ -92,14 +95,6 @@ impl<V: Drop, O: Folds<V> + Drop> Gather<Element<O, V>> for Folded<V> {
     ghost lean = { Unit {0} };
 
     #[inline(always)]
-    fn begin(from: (), value: Element<O, V>) -> Result<V, AllocError> {
-        match value {
-            Element::First(only) => Ok(only),
-            Element::Then(_operator, only) => Ok(only),
-        }
-    }
-
-    #[inline(always)]
     fn gather(into: V, value: Element<O, V>) -> Result<V, AllocError> {
         match value {
             Element::First(right) => Ok(right),
@@ -108,4 +103,16 @@ impl<V: Drop, O: Folds<V> + Drop> Gather<Element<O, V>> for Folded<V> {
     }
 
     ghost keeps_sound = { any_sound };
+}
+
+impl<V: Drop, O: Folds<V> + Drop> Reduce<Element<O, V>> for Folded<V> {
+    type From = ();
+
+    #[inline(always)]
+    fn begin(from: (), value: Element<O, V>) -> Result<V, AllocError> {
+        match value {
+            Element::First(only) => Ok(only),
+            Element::Then(_operator, only) => Ok(only),
+        }
+    }
 }

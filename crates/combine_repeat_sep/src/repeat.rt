@@ -6,15 +6,31 @@
 //!
 //! Faults are as for `many`. On need of more the state keeps what is collected, how many elements there were, whether one committed, and the turn that runs. What is added to an error is as for the parser of the elements. Which error a refusal has is exact, as for `many`: a separator and the element behind it refuse as a tuple of two does, and `sep_count_min_max` says how many elements are missing.
 ghost use Rattle.std.specs.Prelude.{◌≡◌, ◌≤◌};
-ghost use Rattle.combine_repeat_sep.specs.SeparatedParsers.{chainl1_of, sep_by_of, sep_by1_of, sep_count_min_max_of};
+ghost use Rattle.combine_repeat_sep.specs.SeparatedParsers.{chainl1_of, sep_by_of, sep_by1_of, sep_count_min_max_of, separated_of};
 
 pub mod laws;
 pub mod types;
 
+use crate::elements::EachElement;
 use crate::separated::Separated;
+use combine_repeat_turns::each::Each;
+use combine_repeat_turns::repeat::types::Repeat;
+use combine_repeat_turns::turns::limits::{JoinedBetween, JoinedFrom};
 use std::alloc::Global;
 use std::marker::PhantomData;
 use types::{Chainl1, SepBy, SepBy1, SepCountMinMax};
+
+/// A part, and later a separator and the part.
+#[inline(always)]
+fn separated<P, S, L>(parser: P, separator: S) -> Separated<P, S, L>
+    ensures { result ≡ separated_of parser separator }
+{
+    Separated {
+        parser,
+        separator,
+        asks: PhantomData,
+    }
+}
 
 /// Takes at least `min` and at most `max` elements, which are `parser`'s, with what `separator` takes between two of them; `min` is at most `max`.
 ///
@@ -30,17 +46,11 @@ pub fn sep_count_min_max<F, P, S>(
     requires { min ≤ max }
     ensures { result ≡ sep_count_min_max_of alloc min max parser separator }
 {
-    SepCountMinMax {
-        alloc,
+    let bounds = JoinedBetween {
         least: min,
         most: max,
-        turn: Separated {
-            parser,
-            separator,
-            asks: PhantomData,
-        },
-        collects: PhantomData,
-    }
+    };
+    Repeat::new(EachElement(Each::new(alloc)), separated(parser, separator), bounds)
 }
 
 /// Takes any number of elements, as `sep_count_min_max` does.
@@ -48,15 +58,7 @@ pub fn sep_count_min_max<F, P, S>(
 pub fn sep_by<F, P, S>(alloc: Global, parser: P, separator: S) -> SepBy<F, P, S>
     ensures { result ≡ sep_by_of alloc parser separator }
 {
-    SepBy {
-        alloc,
-        turn: Separated {
-            parser,
-            separator,
-            asks: PhantomData,
-        },
-        collects: PhantomData,
-    }
+    Repeat::new(EachElement(Each::new(alloc)), separated(parser, separator), JoinedFrom::<0>)
 }
 
 /// Takes at least one element, and any number, as `sep_count_min_max` does.
@@ -64,15 +66,7 @@ pub fn sep_by<F, P, S>(alloc: Global, parser: P, separator: S) -> SepBy<F, P, S>
 pub fn sep_by1<F, P, S>(alloc: Global, parser: P, separator: S) -> SepBy1<F, P, S>
     ensures { result ≡ sep_by1_of alloc parser separator }
 {
-    SepBy1 {
-        alloc,
-        turn: Separated {
-            parser,
-            separator,
-            asks: PhantomData,
-        },
-        collects: PhantomData,
-    }
+    Repeat::new(EachElement(Each::new(alloc)), separated(parser, separator), JoinedFrom::<1>)
 }
 
 /// Parses as `parser`, and then by turns as `operator` and `parser`: folds the values from the left, by the functions that `operator` gives.
@@ -82,9 +76,5 @@ pub fn sep_by1<F, P, S>(alloc: Global, parser: P, separator: S) -> SepBy1<F, P, 
 pub fn chainl1<P, S>(parser: P, operator: S) -> Chainl1<P, S>
     ensures { result ≡ chainl1_of parser operator }
 {
-    Chainl1(Separated {
-        parser,
-        separator: operator,
-        asks: PhantomData,
-    })
+    Chainl1(separated(parser, operator))
 }

@@ -4,13 +4,13 @@ ghost use Rattle.combine_base.specs.Parser.Given.{GivesOnly};
 ghost use Rattle.combine_base.specs.Parser.Meaning.{MeansSame};
 ghost use Rattle.combine_base.specs.Stream.Calls.{Passes};
 ghost use Rattle.combine_repeat_sep.specs.Pair.{LedBy, led_is_meaning, led_means_one, led_valid, pair, pair_begins, pair_is_meaning, pair_means_one, pair_valid};
-ghost use Rattle.combine_repeat_sep.specs.Leads.{separated_gives};
+ghost use Rattle.combine_repeat_sep.specs.Leads.{asked, asked_given, never_both, separated_gives};
 ghost use Rattle.combine_repeat_sep.specs.RanCalls.{RanCall, RanLaterCall};
 ghost use Rattle.combine_repeat_sep.specs.Separated.{first_element, first_then, later_kept, later_turn, lead_good, part_of, separated_default, separated_fresh, separated_valid, separator_of, then_element, then_is_turn, then_once, turn_place};
 
 use crate::pair::{PairState, PairStateOf, parse_pair};
-use combine_base::error::{ParseResult, Tracked};
-use combine_base::parser::{FirstMode, ParseMode, Parser};
+use combine_base::error::{ErrorOffset, ParseResult, Tracked};
+use combine_base::parser::{FirstMode, Outputs, ParseMode, Parser};
 use combine_base::stream::{Stream, needs_more};
 use combine_repeat_turns::turns::Turn;
 use std::marker::PhantomData;
@@ -112,7 +112,14 @@ impl<V, F: FnOnce(V, V) -> V> Folds<V> for F {
 
 /// What is asked of each value that a separator gives, between values of this type.
 pub trait Leads<O, V> {
+    ghost use Rattle.std.specs.Prelude.{◌≡◌, Bool, false};
+
     ghost good: { O → Type 0 };
+
+    /// Whether anything is asked of it.
+    ghost asks: { Bool };
+
+    ghost any_good: { asks ≡ false → (o : O) → good o };
 }
 
 /// Nothing is asked of it.
@@ -121,6 +128,10 @@ pub struct Anything;
 
 impl<O, V> Leads<O, V> for Anything {
     ghost good = { λ _. Unit {0} };
+
+    ghost asks = { false };
+
+    ghost any_good = { λ _ _. tt };
 }
 
 /// It is a function that can be called on any two operands.
@@ -129,6 +140,10 @@ pub struct Operator;
 
 impl<O: Folds<V> + Drop, V: Drop> Leads<O, V> for Operator {
     ghost good = { λ f. O.callable f };
+
+    ghost asks = { true };
+
+    ghost any_good = { λ e. absurd (never_both e) };
 }
 
 /// A part, and later a separator and the part, where the separator gives what `L` asks for.
@@ -211,13 +226,15 @@ fn run_later<Input: Stream, P: Parser<Input>, S: Parser<Input>, M: ParseMode>(
     }
 }
 
+impl<Input, P: Outputs<Input>, S: Outputs<Input>, L> Outputs<Input> for Separated<P, S, L> {
+    type Output = Element<S::Output, P::Output>;
+}
+
 impl<Input: Stream, P: Parser<Input>, S: Parser<Input>, L: Leads<S::Output, P::Output>> Turn<Input>
     for Separated<P, S, L> {
-    type Value = Element<S::Output, P::Output>;
-
     type Running = SeparatedState<S::Output, S::PartialState, P::PartialState>;
 
-    ghost lawful = { λ p. GivesOnly S.valid (S.meaning (separator_of p)) L.good × S.lawful (separator_of p) × P.lawful (part_of p) };
+    ghost lawful = { λ p. asked L.asks (GivesOnly S.valid (S.meaning (separator_of p)) L.good) × S.lawful (separator_of p) × P.lawful (part_of p) };
 
     ghost determined = { λ p. S.determined (separator_of p) × P.determined (part_of p) };
 
@@ -231,6 +248,8 @@ impl<Input: Stream, P: Parser<Input>, S: Parser<Input>, L: Leads<S::Output, P::O
 
     ghost gives = { lead_good L.good };
 
+    ghost parts = { λ p. P.parts (part_of p) };
+
     #[inline(always)]
     fn parse_turn<M: ParseMode>(
         &mut self,
@@ -238,7 +257,7 @@ impl<Input: Stream, P: Parser<Input>, S: Parser<Input>, L: Leads<S::Output, P::O
         mode: M,
         input: &mut Input,
         state: &mut Self::Running,
-    ) -> ParseResult<Self::Value, Input::Error> {
+    ) -> ParseResult<Self::Output, Input::Error> {
         let given = mem::take(state);
         if mode.is_first() {
             if later {
@@ -272,8 +291,13 @@ impl<Input: Stream, P: Parser<Input>, S: Parser<Input>, L: Leads<S::Output, P::O
         self.parser.add_error(error);
     }
 
+    #[inline]
+    fn parser_count(&self) -> ErrorOffset {
+        self.parser.parser_count()
+    }
+
     #[inline(always)]
-    fn ends(value: &Self::Value) -> bool {
+    fn ends(value: &Self::Output) -> bool {
         false
     }
 
@@ -283,5 +307,5 @@ impl<Input: Stream, P: Parser<Input>, S: Parser<Input>, L: Leads<S::Output, P::O
 
     ghost once = { λ p l d. then_once first_element then_element (P.single (part_of p) l.2 d.1) (led_means_one L.good S.valid P.valid (pair_means_one Input.step Input.Error.seen (S.single (separator_of p) l.1 d.0) (P.single (part_of p) l.2 d.1))) };
 
-    ghost gives_only = { λ p l. separated_gives Input.step Input.Error.seen P.valid (P.meaning (part_of p)) l.0 };
+    ghost gives_only = { λ p l. separated_gives Input.step Input.Error.seen P.valid (P.meaning (part_of p)) (asked_given L.asks L.any_good l.0) };
 }

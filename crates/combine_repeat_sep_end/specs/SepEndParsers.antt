@@ -1,23 +1,18 @@
--- the parsers that the constructors build, and their parts
+-- the parsers that the constructors build
 use Rattle.std.specs.declared.alloc.Global.{Global}
-use Rattle.combine_repeat_sep_end.specs.Ended.{closer_of, ended_of, ended_part}
-use Rattle.combine_repeat_sep_end.specs.declared.repeat.types.SepEndBy.{SepEndBy}
-use Rattle.combine_repeat_sep_end.specs.declared.repeat.types.SepEndBy1.{SepEndBy1}
+use Rattle.combine_repeat_turns.specs.Built.{each_of, repeat_of}
+use Rattle.combine_repeat_turns.specs.declared.repeat.types.Repeat.{Repeat}
+use Rattle.combine_repeat_turns.specs.declared.turns.limits.JoinedFrom.{JoinedFrom}
+use Rattle.combine_repeat_sep_end.specs.Ended.{ended_of}
+use Rattle.combine_repeat_sep_end.specs.declared.ended.EachSome.{EachSome}
+use Rattle.combine_repeat_sep_end.specs.declared.ended.Ended.{Ended}
 
-abbrev pub sep_end_by_of : {F P S : Type 0} → Global → P → S → SepEndBy F P S
-sep_end_by_of alloc parser separator = record { alloc = alloc; turn = ended_of parser separator; collects = record {} }
+-- each value that there is appended
+abbrev pub each_some_of : {F : Type 0} → Global → EachSome F
+each_some_of alloc = record { 0 = each_of alloc }
 
-abbrev pub sep_end_by1_of : {F P S : Type 0} → Global → P → S → SepEndBy1 F P S
-sep_end_by1_of alloc parser separator = record { alloc = alloc; turn = ended_of parser separator; collects = record {} }
+abbrev pub sep_end_by_of : {F P S : Type 0} → Global → P → S → Repeat (EachSome F) (Ended P S) (JoinedFrom 0)
+sep_end_by_of alloc parser separator = repeat_of (each_some_of alloc) (ended_of parser separator) (record {})
 
-abbrev pub ended_by_part : {F P S : Type 0} → SepEndBy F P S → P
-ended_by_part p = ended_part p.turn
-
-abbrev pub ended_by_separator : {F P S : Type 0} → SepEndBy F P S → S
-ended_by_separator p = closer_of p.turn
-
-abbrev pub ended_by1_part : {F P S : Type 0} → SepEndBy1 F P S → P
-ended_by1_part p = ended_part p.turn
-
-abbrev pub ended_by1_separator : {F P S : Type 0} → SepEndBy1 F P S → S
-ended_by1_separator p = closer_of p.turn
+abbrev pub sep_end_by1_of : {F P S : Type 0} → Global → P → S → Repeat (EachSome F) (Ended P S) (JoinedFrom 1)
+sep_end_by1_of alloc parser separator = repeat_of (each_some_of alloc) (ended_of parser separator) (record {})

@@ -10,16 +10,16 @@ ghost use Rattle.combine_token.specs.Optional.{optional, optional_is_meaning};
 ghost use Rattle.combine_repeat_turns.specs.Sound.{any_sound};
 ghost use Rattle.combine_repeat_turns.specs.Turn.{gives_any};
 
-use combine_base::error::{ParseResult, Tracked};
-use combine_base::parser::{FirstMode, ParseMode, Parser};
+use combine_base::error::{ErrorOffset, ParseResult, Tracked};
+use combine_base::parser::{FirstMode, Outputs, ParseMode, Parser};
 use combine_base::repeat::Append;
 use combine_base::stream::{Stream, needs_more};
 use combine_repeat_sep::pair::{PairState, PairStateOf, parse_pair};
 use combine_repeat_sep::separated::{Lead, SeparatedState, TurnPlace};
-use combine_repeat_turns::turns::{Gather, Turn};
+use combine_repeat_turns::each::Each;
+use combine_repeat_turns::turns::{Collect, Gather, Gathers, Turn};
 use combine_token::choice::types::Optional;
-use std::alloc::{AllocError, Global};
-use std::marker::PhantomData;
+use std::alloc::AllocError;
 use std::mem;
 
 /// A part, and later a separator and the part, or a separator alone, which ends the turns.
@@ -31,13 +31,14 @@ pub struct Ended<P, S> {
 
 /// Each value that there is is appended.
 #[derive(Drop)]
-pub struct EachSome<F>(PhantomData<F>);
+#[derive_where(Clone, Copy)]
+pub struct EachSome<F>(pub(crate) Each<F>);
+
+impl<F: Drop> Gathers for EachSome<F> {
+    type Into = F;
+}
 
 impl<A: Drop, F: Append<A>> Gather<Option<A>> for EachSome<F> {
-    type Into = F;
-
-    type From = Global;
-
     ghost Held = { F.Held };
 
     ghost held = { F.held };
@@ -53,18 +54,6 @@ impl<A: Drop, F: Append<A>> Gather<Option<A>> for EachSome<F> {
     ghost lean = { F.lean };
 
     #[inline(always)]
-    fn begin(alloc: Global, value: Option<A>) -> Result<F, AllocError> {
-        let mut into = F::empty(alloc);
-        match value {
-            Some(value) => {
-                into.append(value)?;
-                Ok(into)
-            }
-            None => Ok(into),
-        }
-    }
-
-    #[inline(always)]
     fn gather(into: F, value: Option<A>) -> Result<F, AllocError> {
         let mut into = into;
         match value {
@@ -77,6 +66,22 @@ impl<A: Drop, F: Append<A>> Gather<Option<A>> for EachSome<F> {
     }
 
     ghost keeps_sound = { any_sound };
+}
+
+impl<A: Drop, F: Append<A>> Collect<Option<A>> for EachSome<F> {
+    ghost keeps = { true };
+
+    #[inline(always)]
+    fn empty(&self, room: usize) -> Result<F, AllocError> {
+        self.0.empty(room)
+    }
+
+    #[inline(always)]
+    fn keeps(&self) -> bool {
+        true
+    }
+
+    ghost takes_any = { λ a. tt };
 }
 
 /// Runs the first part, from what is kept of it.
@@ -150,9 +155,11 @@ fn run_later<Input: Stream, P: Parser<Input>, S: Parser<Input>, M: ParseMode>(
     }
 }
 
-impl<Input: Stream, P: Parser<Input>, S: Parser<Input>> Turn<Input> for Ended<P, S> {
-    type Value = Option<P::Output>;
+impl<Input, P: Outputs<Input>, S> Outputs<Input> for Ended<P, S> {
+    type Output = Option<P::Output>;
+}
 
+impl<Input: Stream, P: Parser<Input>, S: Parser<Input>> Turn<Input> for Ended<P, S> {
     type Running = SeparatedState<S::Output, S::PartialState, P::PartialState>;
 
     ghost lawful = { λ p. S.lawful (closer_of p) × P.lawful (ended_part p) };
@@ -169,6 +176,8 @@ impl<Input: Stream, P: Parser<Input>, S: Parser<Input>> Turn<Input> for Ended<P,
 
     ghost gives = { λ _. Unit {0} };
 
+    ghost parts = { λ _. 1 };
+
     #[inline(always)]
     fn parse_turn<M: ParseMode>(
         &mut self,
@@ -176,7 +185,7 @@ impl<Input: Stream, P: Parser<Input>, S: Parser<Input>> Turn<Input> for Ended<P,
         mode: M,
         input: &mut Input,
         state: &mut Self::Running,
-    ) -> ParseResult<Self::Value, Input::Error> {
+    ) -> ParseResult<Self::Output, Input::Error> {
         let given = mem::take(state);
         if mode.is_first() {
             if later {
@@ -210,8 +219,13 @@ impl<Input: Stream, P: Parser<Input>, S: Parser<Input>> Turn<Input> for Ended<P,
         self.part.0.add_error(error);
     }
 
+    #[inline]
+    fn parser_count(&self) -> ErrorOffset {
+        ErrorOffset(1)
+    }
+
     #[inline(always)]
-    fn ends(value: &Self::Value) -> bool {
+    fn ends(value: &Self::Output) -> bool {
         match value {
             Some(_) => false,
             None => true,

@@ -6,29 +6,36 @@
 //!
 //! Faults are as for `many`. On need of more the state keeps what is collected, whether an element was parsed, whether one committed, and the turn that runs. What is added to an error is as for the parser of the elements. Which error a refusal has is exact, as for `sep_by`: behind a separator a peeked refusal of the element is none.
 ghost use Rattle.std.specs.Prelude.{◌≡◌};
+ghost use Rattle.combine_repeat_sep_end.specs.Ended.{ended_of};
 ghost use Rattle.combine_repeat_sep_end.specs.SepEndParsers.{sep_end_by_of, sep_end_by1_of};
 
 pub mod types;
 
-use crate::ended::Ended;
+use crate::ended::{EachSome, Ended};
+use combine_repeat_turns::each::Each;
+use combine_repeat_turns::repeat::types::Repeat;
+use combine_repeat_turns::turns::limits::JoinedFrom;
 use combine_token::choice::optional;
 use std::alloc::Global;
-use std::marker::PhantomData;
 use types::{SepEndBy, SepEndBy1};
+
+/// A part, and later a separator and the part, or a separator alone.
+#[inline(always)]
+fn ended<P, S>(parser: P, separator: S) -> Ended<P, S>
+    ensures { result ≡ ended_of parser separator }
+{
+    Ended {
+        part: optional(parser),
+        separator,
+    }
+}
 
 /// Takes elements as `sep_end_by1` does, or none: where the first is refused peeked, it is put back, and the answer is the empty collection, accepted peeked.
 #[inline]
 pub fn sep_end_by<F, P, S>(alloc: Global, parser: P, separator: S) -> SepEndBy<F, P, S>
     ensures { result ≡ sep_end_by_of alloc parser separator }
 {
-    SepEndBy {
-        alloc,
-        turn: Ended {
-            part: optional(parser),
-            separator,
-        },
-        collects: PhantomData,
-    }
+    Repeat::new(EachSome(Each::new(alloc)), ended(parser, separator), JoinedFrom::<0>)
 }
 
 /// Takes at least one element, which are `parser`'s, with what `separator` takes between two of them and perhaps behind the last.
@@ -38,12 +45,5 @@ pub fn sep_end_by<F, P, S>(alloc: Global, parser: P, separator: S) -> SepEndBy<F
 pub fn sep_end_by1<F, P, S>(alloc: Global, parser: P, separator: S) -> SepEndBy1<F, P, S>
     ensures { result ≡ sep_end_by1_of alloc parser separator }
 {
-    SepEndBy1 {
-        alloc,
-        turn: Ended {
-            part: optional(parser),
-            separator,
-        },
-        collects: PhantomData,
-    }
+    Repeat::new(EachSome(Each::new(alloc)), ended(parser, separator), JoinedFrom::<1>)
 }

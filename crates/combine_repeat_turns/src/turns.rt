@@ -21,8 +21,8 @@ ghost use Rattle.combine_repeat_turns.specs.declared.turns.Bounds.TheVariants.{J
 mod entry;
 pub mod limits;
 
-use combine_base::error::{Info, ParseError, ParseResult, Tracked};
-use combine_base::parser::{ParseMode, Parser};
+use combine_base::error::{ErrorOffset, Info, ParseError, ParseResult, Tracked};
+use combine_base::parser::{Outputs, ParseMode, Parser};
 use combine_base::refusal::refusal_saying;
 use combine_base::sequence::{accepted_after, refused_after};
 use combine_base::stream::{Kind, Stream, has_taken, needs_more};
@@ -32,17 +32,14 @@ use std::alloc::AllocError;
 use std::mem;
 
 /// What runs in a turn: the first one, or any later one, which may differ.
-pub trait Turn<Input: Stream> {
-    ghost use Rattle.std.specs.Prelude.{◌≡◌, Bool, true};
+pub trait Turn<Input: Stream>: Outputs<Input> {
+    ghost use Rattle.std.specs.Prelude.{◌≡◌, ℕ, Bool, true};
     ghost use Rattle.combine_base.specs.Parser.Meaning.{Meaning};
     ghost use Rattle.combine_base.specs.Parser.AnswersCalls.{AnswersCall};
     ghost use Rattle.combine_base.specs.Parser.Reasons.{ReasonedCall};
     ghost use Rattle.combine_base.specs.Error.Errors.{Says};
     ghost use Rattle.combine_base.specs.Stream.Calls.{Passes};
     ghost use Rattle.combine_repeat_turns.specs.Turn.{Start, TurnsSame, TurnsOnce, TurnsGive, IsTurn, called};
-
-    /// What a turn gives.
-    type Value: Drop;
 
     /// What is kept of a running turn.
     type Running: Default + Drop;
@@ -54,16 +51,19 @@ pub trait Turn<Input: Stream> {
     ghost valid: { Self.Running → Type 0 };
 
     /// The first turn from its start, and any from a kept state.
-    ghost meaning: { Self → Meaning Input.Position Input.Token Input.Range Input.Error Self.Value Self.Running };
+    ghost meaning: { Self → Meaning Input.Position Input.Token Input.Range Input.Error Self.Output Self.Running };
 
     /// A later turn from its start: its outcomes, and the errors of its refusals.
-    ghost again: { Self → Start Input.Position Input.Token Input.Error Self.Value };
+    ghost again: { Self → Start Input.Position Input.Token Input.Error Self.Output };
 
     /// The values that end the turns.
-    ghost ending: { Self.Value → Bool };
+    ghost ending: { Self.Output → Bool };
 
     /// What holds of each value that a turn gives.
-    ghost gives: { Self.Value → Type 0 };
+    ghost gives: { Self.Output → Type 0 };
+
+    /// How many parsers it is counted as.
+    ghost parts: { Self → ℕ };
 
     fn parse_turn<M: ParseMode>(
         &mut self,
@@ -71,7 +71,7 @@ pub trait Turn<Input: Stream> {
         mode: M,
         input: &mut Input,
         state: &mut Self::Running,
-    ) -> ParseResult<Self::Value, Input::Error>
+    ) -> ParseResult<Self::Output, Input::Error>
         requires lawful { lawful self.old }
         requires valid { valid state.old }
         requires fresh { M.first mode ≡ true → Self.Running.is_default state.old }
@@ -89,8 +89,12 @@ pub trait Turn<Input: Stream> {
         ensures same { TurnsSame (meaning self.old) (again self.old) (meaning self.new) (again self.new) }
         ensures says { Says Input.Error.seen (meaning self.old).lean (meaning self.old).adds error.old.error error.new.error };
 
+    /// How many parsers it is counted as.
+    fn parser_count(&self) -> ErrorOffset
+        ensures { result.0 ≡ parts self.now };
+
     /// Whether this value ends the turns.
-    fn ends(value: &Self::Value) -> bool
+    fn ends(value: &Self::Output) -> bool
         ensures { result ≡ ending value.now };
 
     ghost default_valid: { (s : Self.Running) → Self.Running.is_default s → valid s };
@@ -102,16 +106,16 @@ pub trait Turn<Input: Stream> {
     ghost gives_only: { (p : Self) → lawful p → TurnsGive valid (meaning p) (again p) gives };
 }
 
-/// How what turns give is gathered.
-pub trait Gather<A> {
-    ghost use Rattle.std.specs.Prelude.{◌≡◌, MatchResult};
-    ghost use Rattle.combine_repeat_turns.specs.Sound.{KeepsSound};
-
+/// What turns are gathered into, apart from how: a type of its own, as [`Outputs`] is.
+pub trait Gathers {
     /// What it is gathered into.
     type Into: Drop;
+}
 
-    /// What an empty gathering, or one of a first value, is made from.
-    type From: Copy;
+/// How what turns give is gathered.
+pub trait Gather<A>: Gathers {
+    ghost use Rattle.std.specs.Prelude.{◌≡◌, MatchResult};
+    ghost use Rattle.combine_repeat_turns.specs.Sound.{KeepsSound};
 
     ghost Held: { Type 0 };
 
@@ -132,15 +136,42 @@ pub trait Gather<A> {
     /// Holds where it takes no memory.
     ghost lean: { Type 0 };
 
-    /// What the first value makes.
-    fn begin(from: Self::From, value: A) -> Result<Self::Into, AllocError>
-        ensures { MatchResult result (λ i. more none value (held i)) (λ _. lean → ⊥) };
-
     fn gather(into: Self::Into, value: A) -> Result<Self::Into, AllocError>
         requires { able value }
         ensures { MatchResult result (λ i. more (held into) value (held i)) (λ _. lean → ⊥) };
 
     ghost keeps_sound: { KeepsSound none more able sound };
+}
+
+/// How values are gathered from none on.
+pub trait Collect<A>: Gather<A> {
+    ghost use Rattle.std.specs.Prelude.{◌≡◌, MatchResult, Bool};
+
+    /// Whether what is gathered shows the values.
+    ghost keeps: { Bool };
+
+    /// An empty gathering, with room for so many values.
+    fn empty(&self, room: usize) -> Result<Self::Into, AllocError>
+        ensures { MatchResult result (λ i. Self.held i ≡ Self.none) (λ _. Self.lean → ⊥) };
+
+    /// Whether what is gathered shows the values.
+    fn keeps(&self) -> bool
+        ensures { result ≡ keeps };
+
+    /// It takes each value.
+    ghost takes_any: { (a : A) → Self.able a };
+}
+
+/// How values are gathered from a first one on, which makes what they are gathered into.
+pub trait Reduce<A>: Gather<A> {
+    ghost use Rattle.std.specs.Prelude.{MatchResult};
+
+    /// What that is made from.
+    type From: Copy;
+
+    /// What the first value makes.
+    fn begin(from: Self::From, value: A) -> Result<Self::Into, AllocError>
+        ensures { MatchResult result (λ i. Self.more Self.none value (Self.held i)) (λ _. Self.lean → ⊥) };
 }
 
 /// How many turns there are, for contracts: a type of `limits` says which are meant.
@@ -380,7 +411,7 @@ fn parse_turn<Input: Stream, P: Turn<Input>, M: ParseMode>(
     mode: M,
     input: &mut Input,
     state: &mut P::Running,
-) -> ParseResult<P::Value, Input::Error>
+) -> ParseResult<P::Output, Input::Error>
     requires lawful { P.lawful parser.old }
     requires valid { P.valid state.old }
     requires fresh { M.first mode ≡ true → P.Running.is_default state.old }
@@ -432,7 +463,7 @@ fn gather_turn<A, G: Gather<A>>(
 
 /// What a turn does that is refused peeked, the stream having stood at that checkpoint and position where it began.
 #[inline(always)]
-fn judge_refusal<G: Gather<P::Value>, Input: Stream, P: Turn<Input>, B: Bounded>(
+fn judge_refusal<G: Gather<P::Output>, Input: Stream, P: Turn<Input>, B: Bounded>(
     bounds: B,
     turns: Turns<G::Into>,
     since: Input::Checkpoint,
@@ -462,7 +493,7 @@ fn judge_refusal<G: Gather<P::Value>, Input: Stream, P: Turn<Input>, B: Bounded>
 
 /// Runs one turn, called so, and gathers its value where it is a block.
 #[inline(always)]
-fn one_turn<G: Gather<P::Value>, Input: Stream, P: Turn<Input>, B: Bounded, C: Entry>(
+fn one_turn<G: Gather<P::Output>, Input: Stream, P: Turn<Input>, B: Bounded, C: Entry>(
     parser: &mut P,
     bounds: B,
     entry: C,
@@ -470,7 +501,7 @@ fn one_turn<G: Gather<P::Value>, Input: Stream, P: Turn<Input>, B: Bounded, C: E
     input: &mut Input,
     running: &mut P::Running,
 ) -> Step<G::Into, Input::Error>
-    requires able { (a : P.Value) → P.gives a → G.able a }
+    requires able { (a : P.Output) → P.gives a → G.able a }
     requires lawful { P.lawful parser.old }
     requires valid { P.valid running.old }
     requires fresh { C.first entry ≡ true → P.Running.is_default running.old }
@@ -505,7 +536,7 @@ fn one_turn<G: Gather<P::Value>, Input: Stream, P: Turn<Input>, B: Bounded, C: E
         let error = refusal_saying(input, position, "repetition takes nothing");
         return Step::Stops(Stop::Failed(error));
     }
-    match gather_turn::<P::Value, G>(turns.joined(committed), value, bounds.limit()) {
+    match gather_turn::<P::Output, G>(turns.joined(committed), value, bounds.limit()) {
         Ok(turns) => Step::Goes(turns),
         Err(_refused) => Step::Stops(Stop::Failed(input.new_error(Kind::Memory, position))),
     }
@@ -524,7 +555,7 @@ pub enum First<F, E> {
 
 /// The first turn, which is asked for and makes what is gathered.
 #[inline(always)]
-fn first_turn<G: Gather<P::Value>, Input: Stream, P: Turn<Input>, M: ParseMode>(
+fn first_turn<G: Reduce<P::Output>, Input: Stream, P: Turn<Input>, M: ParseMode>(
     parser: &mut P,
     from: G::From,
     mode: M,
@@ -588,7 +619,7 @@ fn stopped<F: Drop, S: Drop, E: Drop>(
 
 /// One call of turns, which begin so where nothing is kept.
 #[inline(always)]
-pub fn take_turns<G: Gather<P::Value>, Input: Stream, P: Turn<Input>, M: ParseMode, B: Bounded>(
+pub fn take_turns<G: Gather<P::Output>, Input: Stream, P: Turn<Input>, M: ParseMode, B: Bounded>(
     parser: &mut P,
     bounds: B,
     start: Turns<G::Into>,
@@ -596,7 +627,7 @@ pub fn take_turns<G: Gather<P::Value>, Input: Stream, P: Turn<Input>, M: ParseMo
     input: &mut Input,
     state: &mut TurnsState<G::Into, P::Running>,
 ) -> ParseResult<G::Into, Input::Error>
-    requires able { (a : P.Value) → P.gives a → G.able a }
+    requires able { (a : P.Output) → P.gives a → G.able a }
     requires lawful { P.lawful parser.old }
     requires valid { P.valid (running_turn state.old) }
     ensures lawful { P.lawful parser.new }
@@ -651,16 +682,16 @@ pub fn take_turns<G: Gather<P::Value>, Input: Stream, P: Turn<Input>, M: ParseMo
 
 /// One call of turns of which the first makes what is gathered, so that nothing is before it; it is asked for.
 #[inline(always)]
-pub fn take_joined<G: Gather<P::Value>, Input: Stream, P: Turn<Input>, M: ParseMode>(
+pub fn take_joined<G: Reduce<P::Output>, Input: Stream, P: Turn<Input>, M: ParseMode>(
     parser: &mut P,
     from: G::From,
     mode: M,
     input: &mut Input,
     state: &mut TurnsState<G::Into, P::Running>,
 ) -> ParseResult<G::Into, Input::Error>
-    requires able { (a : P.Value) → P.gives a → G.able a }
+    requires able { (a : P.Output) → P.gives a → G.able a }
     requires sound { kept_sound (λ i. G.sound (G.held i)) state.old }
-    requires never { (a : P.Value) → P.ending a ≡ false }
+    requires never { (a : P.Output) → P.ending a ≡ false }
     requires lawful { P.lawful parser.old }
     requires valid { P.valid (running_turn state.old) }
     ensures lawful { P.lawful parser.new }
@@ -671,12 +702,12 @@ pub fn take_joined<G: Gather<P::Value>, Input: Stream, P: Turn<Input>, M: ParseM
     ensures answers { TurnsCall Input.StreamOnce Input.Error.seen P.Running.is_default (Joined 1 None) P.ending (gathered G.held G.none G.more G.lean) (none_yet G.none) (P.meaning parser.old) (P.again parser.old) (M.first mode) state.old state.new input.old input.new result }
     ensures refuses { ReasonedCall Input.Error.seen (turns_from Input.step Input.Error.seen (Joined 1 None) P.ending (gathered G.held G.none G.more G.lean) (none_yet G.none) (P.meaning parser.old) (P.again parser.old)) (M.first mode) state.old (Input.view input.old) (Input.view input.new) result }
 {
-    let bounds = JoinedFrom { least: 1 };
+    let bounds = JoinedFrom::<1>;
     let mut turns: Turns<G::Into>;
     let given = state.hand_out(mode.is_first());
     match given {
         Earlier::Turns(kept) => {
-            match one_turn::<G, Input, P, JoinedFrom, Resumed<M>>(
+            match one_turn::<G, Input, P, JoinedFrom<1>, Resumed<M>>(
                 parser,
                 bounds,
                 Resumed { mode },
@@ -698,7 +729,7 @@ pub fn take_joined<G: Gather<P::Value>, Input: Stream, P: Turn<Input>, M: ParseM
         }
     }
     'turns: loop {
-        match one_turn::<G, Input, P, JoinedFrom, Afresh>(
+        match one_turn::<G, Input, P, JoinedFrom<1>, Afresh>(
             parser,
             bounds,
             Afresh { later: true },

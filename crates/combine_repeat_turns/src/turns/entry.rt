@@ -26,7 +26,7 @@ pub trait Entry {
         parser: &mut P,
         input: &mut Input,
         state: &mut P::Running,
-    ) -> ParseResult<P::Value, Input::Error>
+    ) -> ParseResult<P::Output, Input::Error>
         requires lawful { P.lawful parser.old }
         requires valid { P.valid state.old }
         requires fresh { first self ≡ true → P.Running.is_default state.old }
@@ -55,7 +55,7 @@ impl Entry for Afresh {
         parser: &mut P,
         input: &mut Input,
         state: &mut P::Running,
-    ) -> ParseResult<P::Value, Input::Error> {
+    ) -> ParseResult<P::Output, Input::Error> {
         let Afresh { later } = self;
         let mut own = P::Running::default();
         let answer = parser.parse_turn(later, FirstMode, input, &mut own);
@@ -84,7 +84,7 @@ impl<M: ParseMode> Entry for Resumed<M> {
         parser: &mut P,
         input: &mut Input,
         state: &mut P::Running,
-    ) -> ParseResult<P::Value, Input::Error> {
+    ) -> ParseResult<P::Output, Input::Error> {
         let Resumed { mode } = self;
         parser.parse_turn(false, mode, input, state)
     }

@@ -5,10 +5,11 @@ use Rattle.combine_base.proofs.Same.{same_none}
 use Rattle.combine_repeat_sep.specs.Separated.{first_element, part_of, separated_default, separated_valid, separator_of, then_element, then_same, turn_place, valid_at}
 use Rattle.combine_repeat_sep.proofs.Leading.{begins_led, led_good}
 use Rattle.combine_repeat_sep.proofs.Separating.{ran_valid, first_afresh, first_afresh_reasons, first_resumed, first_resumed_reasons, later_afresh, later_afresh_reasons, later_resumed, later_resumed_reasons, later_valid}
+use Rattle.combine_repeat_sep.specs.Leads.{asked_as, asked_given}
 use Rattle.combine_repeat_sep.proofs.separated.SeparatedTurn.parse_turn.Goals as goal
 
 pub returns-then-later-clause-valid : goal.returns-then-later-clause-valid
-returns-then-later-clause-valid g c = ran_valid _ _ _ _ _ (separated_valid g.P.Parser.valid (led_valid g.L.Leads.good g.S.Parser.valid g.P.Parser.valid)) (λ s d. later_valid g.P.Parser.valid (led_valid g.L.Leads.good g.S.Parser.valid g.P.Parser.valid) s (led_good c.requires.lawful.0 g.P.Parser.valid _ s (begins_led g.L.Leads.good g.P.Parser.valid g.met.S.Parser.default_valid _ c.default-kept.ensures) d.0, d.1)) (separated_default g.P.PartialState.Default.is_default g.P.Parser.valid (led_valid g.L.Leads.good g.S.Parser.valid g.P.Parser.valid) g.met.P.Parser.default_valid _ c.take-given.ensures.after) c.run_later.ensures.ran
+returns-then-later-clause-valid g c = ran_valid _ _ _ _ _ (separated_valid g.P.Parser.valid (led_valid g.L.Leads.good g.S.Parser.valid g.P.Parser.valid)) (λ s d. later_valid g.P.Parser.valid (led_valid g.L.Leads.good g.S.Parser.valid g.P.Parser.valid) s (led_good (asked_given g.L.Leads.asks g.L.Leads.any_good c.requires.lawful.0) g.P.Parser.valid _ s (begins_led g.L.Leads.good g.P.Parser.valid g.met.S.Parser.default_valid _ c.default-kept.ensures) d.0, d.1)) (separated_default g.P.PartialState.Default.is_default g.P.Parser.valid (led_valid g.L.Leads.good g.S.Parser.valid g.P.Parser.valid) g.met.P.Parser.default_valid _ c.take-given.ensures.after) c.run_later.ensures.ran
 
 pub returns-then-later-clause-same : goal.returns-then-later-clause-same
 returns-then-later-clause-same g c = then_same _ _ _ _ _ _ c.run_later.ensures.parts.1 c.run_later.ensures.same
@@ -44,7 +45,7 @@ pub returns-in-First-clause-refuses : goal.returns-in-First-clause-refuses
 returns-in-First-clause-refuses g c = first_resumed_reasons _ (pair_begins g.S.PartialState.Default.is_default) (g.P.Parser.meaning (part_of c.args.self.now)) (pair g.Input.StreamOnce.step g.Input.Error.ParseError.seen (g.S.Parser.meaning (separator_of c.args.self.now)) (g.P.Parser.meaning (part_of c.args.self.now))) first_element then_element _ _ c.take-given.ensures.after _ _ _ _ _ _ _ _ _ _ (sym c.is_first.ensures ∙ c.if-is_first.false) (rw (sym c.take-given.ensures.value) (sym c.into_place.ensures ∙ c.in-First.is)) c.run_first-in-First.ensures.ran
 
 pub returns-in-Later-clause-valid : goal.returns-in-Later-clause-valid
-returns-in-Later-clause-valid g c = ran_valid _ _ _ _ _ (separated_valid g.P.Parser.valid (led_valid g.L.Leads.good g.S.Parser.valid g.P.Parser.valid)) (λ s d. later_valid g.P.Parser.valid (led_valid g.L.Leads.good g.S.Parser.valid g.P.Parser.valid) s (led_good c.requires.lawful.0 g.P.Parser.valid _ s (subst (valid_at g.P.Parser.valid (led_valid g.L.Leads.good g.S.Parser.valid g.P.Parser.valid)) (ap turn_place (sym c.take-given.ensures.value) ∙ sym c.into_place.ensures ∙ c.in-Later.is) c.requires.valid) d.0, d.1)) (separated_default g.P.PartialState.Default.is_default g.P.Parser.valid (led_valid g.L.Leads.good g.S.Parser.valid g.P.Parser.valid) g.met.P.Parser.default_valid _ c.take-given.ensures.after) c.run_later-in-Later.ensures.ran
+returns-in-Later-clause-valid g c = ran_valid _ _ _ _ _ (separated_valid g.P.Parser.valid (led_valid g.L.Leads.good g.S.Parser.valid g.P.Parser.valid)) (λ s d. later_valid g.P.Parser.valid (led_valid g.L.Leads.good g.S.Parser.valid g.P.Parser.valid) s (led_good (asked_given g.L.Leads.asks g.L.Leads.any_good c.requires.lawful.0) g.P.Parser.valid _ s (subst (valid_at g.P.Parser.valid (led_valid g.L.Leads.good g.S.Parser.valid g.P.Parser.valid)) (ap turn_place (sym c.take-given.ensures.value) ∙ sym c.into_place.ensures ∙ c.in-Later.is) c.requires.valid) d.0, d.1)) (separated_default g.P.PartialState.Default.is_default g.P.Parser.valid (led_valid g.L.Leads.good g.S.Parser.valid g.P.Parser.valid) g.met.P.Parser.default_valid _ c.take-given.ensures.after) c.run_later-in-Later.ensures.ran
 
 pub returns-in-Later-clause-same : goal.returns-in-Later-clause-same
 returns-in-Later-clause-same g c = then_same _ _ _ _ _ _ c.run_later-in-Later.ensures.parts.1 c.run_later-in-Later.ensures.same
@@ -56,10 +57,10 @@ pub returns-in-Later-clause-refuses : goal.returns-in-Later-clause-refuses
 returns-in-Later-clause-refuses g c = later_resumed_reasons _ (pair_begins g.S.PartialState.Default.is_default) (g.P.Parser.meaning (part_of c.args.self.now)) (pair g.Input.StreamOnce.step g.Input.Error.ParseError.seen (g.S.Parser.meaning (separator_of c.args.self.now)) (g.P.Parser.meaning (part_of c.args.self.now))) first_element then_element _ _ c.take-given.ensures.after _ _ _ _ _ _ _ _ _ _ (sym c.is_first.ensures ∙ c.if-is_first.false) (rw (sym c.take-given.ensures.value) (sym c.into_place.ensures ∙ c.in-Later.is)) c.run_later-in-Later.ensures.ran
 
 pub returns-then-later-clause-lawful : goal.returns-then-later-clause-lawful
-returns-then-later-clause-lawful g c = (gives_same c.run_later.ensures.parts.0 c.requires.lawful.0, c.run_later.ensures.lawful.0, c.run_later.ensures.lawful.1)
+returns-then-later-clause-lawful g c = (asked_as g.L.Leads.asks (gives_same c.run_later.ensures.parts.0) c.requires.lawful.0, c.run_later.ensures.lawful.0, c.run_later.ensures.lawful.1)
 
 pub returns-in-Later-clause-lawful : goal.returns-in-Later-clause-lawful
-returns-in-Later-clause-lawful g c = (gives_same c.run_later-in-Later.ensures.parts.0 c.requires.lawful.0, c.run_later-in-Later.ensures.lawful.0, c.run_later-in-Later.ensures.lawful.1)
+returns-in-Later-clause-lawful g c = (asked_as g.L.Leads.asks (gives_same c.run_later-in-Later.ensures.parts.0) c.requires.lawful.0, c.run_later-in-Later.ensures.lawful.0, c.run_later-in-Later.ensures.lawful.1)
 
 pub run_later-requires-clause-valid : goal.run_later-requires-clause-valid
 run_later-requires-clause-valid g c = (begins_led g.L.Leads.good g.P.Parser.valid g.met.S.Parser.default_valid _ c.default-kept.ensures).1

@@ -1,0 +1,6 @@
+use Rattle.combine_repeat_turns.specs.BoundedLaws.{turns_means_same}
+use Rattle.combine_repeat_turns.specs.Built.{bounds_of}
+use Rattle.combine_repeat_turns.proofs.repeat.types.RepeatParser.parse_mode.Goals as goal
+
+pub returns-clause-same : goal.returns-clause-same
+returns-clause-same g c = turns_means_same _ _ (g.B.Bounded.bounds (bounds_of c.args.self.now)) _ _ _ _ _ _ _ c.take_turns.ensures.same
