@@ -86,7 +86,7 @@ pub use Rattle.combine_repeat_turns.specs.CountsCompared
 pub use Rattle.combine_repeat_turns.specs.FirstTurn
 pub use Rattle.combine_repeat_turns.specs.OneThenTurns
 pub use Rattle.combine_repeat_turns.specs.OneTurn
-pub use Rattle.combine_repeat_turns.specs.Built
+pub use Rattle.combine_repeat_turns.specs.RepeatParsers
 pub use Rattle.combine_repeat_turns.specs.Turn
 pub use Rattle.combine_repeat_turns.specs.TurnLaws
 pub use Rattle.combine_repeat_turns.specs.TurnRefusals

@@ -15,7 +15,7 @@ pub use Rattle.combine_base.specs.Sequence.Tuples
 pub use Rattle.combine_base.specs.Stream.Calls
 pub use Rattle.combine_base.specs.Stream.View
 pub use Rattle.combine_repeat_turns.specs.Bounded
-pub use Rattle.combine_repeat_turns.specs.Built
+pub use Rattle.combine_repeat_turns.specs.RepeatParsers
 pub use Rattle.combine_repeat_turns.specs.Counts
 pub use Rattle.combine_repeat_turns.specs.OneThenTurns
 pub use Rattle.combine_repeat_turns.specs.Sound

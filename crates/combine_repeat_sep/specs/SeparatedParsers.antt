@@ -1,7 +1,7 @@
 -- the parsers that the constructors build, and their parts
 use Rattle.std.specs.Prelude.{ℕ}
 use Rattle.std.specs.declared.alloc.Global.{Global}
-use Rattle.combine_repeat_turns.specs.Built.{bounds_of, each_of, repeat_of, turn_of}
+use Rattle.combine_repeat_turns.specs.RepeatParsers.{bounds_of, each_of, repeat_of, turn_of}
 use Rattle.combine_repeat_turns.specs.declared.repeat.types.Repeat.{Repeat}
 use Rattle.combine_repeat_turns.specs.declared.turns.limits.JoinedBetween.{JoinedBetween}
 use Rattle.combine_repeat_turns.specs.declared.turns.limits.JoinedFrom.{JoinedFrom}

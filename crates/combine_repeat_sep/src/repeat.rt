@@ -50,7 +50,11 @@ pub fn sep_count_min_max<F, P, S>(
         least: min,
         most: max,
     };
-    Repeat::new(EachElement(Each::new(alloc)), separated(parser, separator), bounds)
+    Repeat::new(
+        EachElement(Each::new(alloc)),
+        separated(parser, separator),
+        bounds,
+    )
 }
 
 /// Takes any number of elements, as `sep_count_min_max` does.
@@ -58,7 +62,11 @@ pub fn sep_count_min_max<F, P, S>(
 pub fn sep_by<F, P, S>(alloc: Global, parser: P, separator: S) -> SepBy<F, P, S>
     ensures { result ≡ sep_by_of alloc parser separator }
 {
-    Repeat::new(EachElement(Each::new(alloc)), separated(parser, separator), JoinedFrom::<0>)
+    Repeat::new(
+        EachElement(Each::new(alloc)),
+        separated(parser, separator),
+        JoinedFrom::<0>,
+    )
 }
 
 /// Takes at least one element, and any number, as `sep_count_min_max` does.
@@ -66,7 +74,11 @@ pub fn sep_by<F, P, S>(alloc: Global, parser: P, separator: S) -> SepBy<F, P, S>
 pub fn sep_by1<F, P, S>(alloc: Global, parser: P, separator: S) -> SepBy1<F, P, S>
     ensures { result ≡ sep_by1_of alloc parser separator }
 {
-    Repeat::new(EachElement(Each::new(alloc)), separated(parser, separator), JoinedFrom::<1>)
+    Repeat::new(
+        EachElement(Each::new(alloc)),
+        separated(parser, separator),
+        JoinedFrom::<1>,
+    )
 }
 
 /// Parses as `parser`, and then by turns as `operator` and `parser`: folds the values from the left, by the functions that `operator` gives.

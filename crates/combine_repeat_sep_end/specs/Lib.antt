@@ -12,6 +12,7 @@ pub use Rattle.combine_base.specs.Stream.Calls
 pub use Rattle.combine_base.specs.Stream.View
 pub use Rattle.combine_repeat_turns.specs.Bounded
 pub use Rattle.combine_repeat_turns.specs.Counts
+pub use Rattle.combine_repeat_turns.specs.RepeatParsers
 pub use Rattle.combine_repeat_turns.specs.Sound
 pub use Rattle.combine_repeat_turns.specs.Turn
 pub use Rattle.combine_repeat_turns.specs.TurnRefusals

@@ -1,6 +1,6 @@
 -- the parsers that the constructors build
 use Rattle.std.specs.declared.alloc.Global.{Global}
-use Rattle.combine_repeat_turns.specs.Built.{each_of, repeat_of}
+use Rattle.combine_repeat_turns.specs.RepeatParsers.{each_of, repeat_of}
 use Rattle.combine_repeat_turns.specs.declared.repeat.types.Repeat.{Repeat}
 use Rattle.combine_repeat_turns.specs.declared.turns.limits.JoinedFrom.{JoinedFrom}
 use Rattle.combine_repeat_sep_end.specs.Ended.{ended_of}

@@ -9,6 +9,7 @@ ghost use Rattle.std.specs.Prelude.{◌≡◌};
 ghost use Rattle.combine_repeat_sep_end.specs.Ended.{ended_of};
 ghost use Rattle.combine_repeat_sep_end.specs.SepEndParsers.{sep_end_by_of, sep_end_by1_of};
 
+pub mod laws;
 pub mod types;
 
 use crate::ended::{EachSome, Ended};
@@ -35,7 +36,11 @@ fn ended<P, S>(parser: P, separator: S) -> Ended<P, S>
 pub fn sep_end_by<F, P, S>(alloc: Global, parser: P, separator: S) -> SepEndBy<F, P, S>
     ensures { result ≡ sep_end_by_of alloc parser separator }
 {
-    Repeat::new(EachSome(Each::new(alloc)), ended(parser, separator), JoinedFrom::<0>)
+    Repeat::new(
+        EachSome(Each::new(alloc)),
+        ended(parser, separator),
+        JoinedFrom::<0>,
+    )
 }
 
 /// Takes at least one element, which are `parser`'s, with what `separator` takes between two of them and perhaps behind the last.
@@ -45,5 +50,9 @@ pub fn sep_end_by<F, P, S>(alloc: Global, parser: P, separator: S) -> SepEndBy<F
 pub fn sep_end_by1<F, P, S>(alloc: Global, parser: P, separator: S) -> SepEndBy1<F, P, S>
     ensures { result ≡ sep_end_by1_of alloc parser separator }
 {
-    Repeat::new(EachSome(Each::new(alloc)), ended(parser, separator), JoinedFrom::<1>)
+    Repeat::new(
+        EachSome(Each::new(alloc)),
+        ended(parser, separator),
+        JoinedFrom::<1>,
+    )
 }

@@ -19,7 +19,7 @@ pub mod TurnsMeaning
 pub mod BoundedLaws
 pub mod FirstTurn
 pub mod TurnCalls
-pub mod Built
+pub mod RepeatParsers
 pub mod Counts
 pub mod OneThenTurns
 pub mod CountLaws

@@ -12,7 +12,7 @@ use Rattle.combine_decode.specs.declared.decode.BatchEnd.{BatchEnd}
 use Rattle.combine_decode.specs.declared.decode.BatchEnd.TheVariants as ends
 use Rattle.combine_token.specs.TokenParsers.{any_parser}
 use Rattle.combine_token.specs.declared.token.types.Any.{Any}
-use Rattle.combine_repeat_turns.specs.Built.{count_min_max_of, least_of, most_of}
+use Rattle.combine_repeat_turns.specs.RepeatParsers.{count_min_max_of, least_of, most_of}
 use Rattle.combine_repeat_turns.specs.Counts.{appended, count_min_max}
 use Rattle.combine_repeat_turns.specs.declared.each.Each.{Each}
 use Rattle.combine_repeat_turns.specs.declared.each.Plain.{Plain}

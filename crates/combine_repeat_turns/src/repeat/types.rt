@@ -2,7 +2,7 @@
 ghost use Rattle.std.specs.Prelude.{◌≡◌, ◌&&◌, if◌then◌else◌};
 ghost use Rattle.combine_repeat_turns.specs.Bounded.{begun_valid, gathered, is_unbounded, none_yet, running_turn};
 ghost use Rattle.combine_repeat_turns.specs.BoundedLaws.{turns_is_meaning, turns_means_one};
-ghost use Rattle.combine_repeat_turns.specs.Built.{bounds_of, repeat_of, turn_of};
+ghost use Rattle.combine_repeat_turns.specs.RepeatParsers.{bounds_of, repeat_of, turn_of};
 ghost use Rattle.combine_repeat_turns.specs.TurnsMeaning.{turns_from};
 
 use crate::each::{Dropped, Each, Plain};
@@ -90,7 +90,11 @@ impl<Input: Stream, T: Turn<Input>, G: Collect<T::Output>, B: Bounded> Parser<In
         input: &mut Input,
         state: &mut Self::PartialState,
     ) -> ParseResult<G::Into, Input::Error> {
-        let room = if mode.is_first() { self.bounds.room() } else { 0 };
+        let room = if mode.is_first() {
+            self.bounds.room()
+        } else {
+            0
+        };
         let Ok(empty) = self.gather.empty(room) else {
             return without_room(input, state);
         };

@@ -6,7 +6,7 @@ use Rattle.combine_decode.proofs.decode.laws.frame_is_a_length_and_its_bytes.Goa
 use Rattle.combine_token.specs.OneToken.{of_function, one_token, satisfied}
 use Rattle.combine_token.specs.TokenParsers.{any_parser}
 use Rattle.combine_repeat_turns.specs.Bounded.{bounded, none_yet}
-use Rattle.combine_repeat_turns.specs.Built.{count_min_max_of, least_of, most_of}
+use Rattle.combine_repeat_turns.specs.RepeatParsers.{count_min_max_of, least_of, most_of}
 use Rattle.combine_repeat_turns.specs.Counts.{appended, never}
 use Rattle.combine_repeat_turns.specs.Turns.{Turned}
 use Rattle.combine_repeat_turns.specs.declared.turns.Bounds.TheVariants.{Counted}

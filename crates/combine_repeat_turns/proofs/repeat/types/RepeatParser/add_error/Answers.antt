@@ -1,5 +1,5 @@
 use Rattle.combine_repeat_turns.specs.BoundedLaws.{turns_means_same}
-use Rattle.combine_repeat_turns.specs.Built.{bounds_of}
+use Rattle.combine_repeat_turns.specs.RepeatParsers.{bounds_of}
 use Rattle.combine_repeat_turns.proofs.repeat.types.RepeatParser.add_error.Goals as goal
 
 pub returns-clause-same : goal.returns-clause-same
