@@ -20,7 +20,7 @@ impl<F: Drop> Gathers for EachElement<F> {
     type Into = F;
 }
 
-impl<O: Drop, A: Drop, F: Append<A>> Gather<Element<O, A>> for EachElement<F> {
+impl<O: Drop, A, F: Append<A>> Gather<Element<O, A>> for EachElement<F> {
     ghost Held = { F.Held };
 
     ghost held = { F.held };
@@ -53,7 +53,7 @@ impl<O: Drop, A: Drop, F: Append<A>> Gather<Element<O, A>> for EachElement<F> {
     ghost keeps_sound = { any_sound };
 }
 
-impl<O: Drop, A: Drop, F: Append<A>> Collect<Element<O, A>> for EachElement<F> {
+impl<O: Drop, A, F: Append<A>> Collect<Element<O, A>> for EachElement<F> {
     ghost keeps = { true };
 
     #[inline(always)]

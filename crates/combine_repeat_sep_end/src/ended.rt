@@ -38,7 +38,7 @@ impl<F: Drop> Gathers for EachSome<F> {
     type Into = F;
 }
 
-impl<A: Drop, F: Append<A>> Gather<Option<A>> for EachSome<F> {
+impl<A, F: Append<A>> Gather<Option<A>> for EachSome<F> {
     ghost Held = { F.Held };
 
     ghost held = { F.held };
@@ -68,7 +68,7 @@ impl<A: Drop, F: Append<A>> Gather<Option<A>> for EachSome<F> {
     ghost keeps_sound = { any_sound };
 }
 
-impl<A: Drop, F: Append<A>> Collect<Option<A>> for EachSome<F> {
+impl<A, F: Append<A>> Collect<Option<A>> for EachSome<F> {
     ghost keeps = { true };
 
     #[inline(always)]

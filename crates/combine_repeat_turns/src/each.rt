@@ -98,7 +98,7 @@ impl<F: Drop> Gathers for Each<F> {
     type Into = F;
 }
 
-impl<A: Drop, F: Append<A>> Gather<A> for Each<F> {
+impl<A, F: Append<A>> Gather<A> for Each<F> {
     ghost Held = { F.Held };
 
     ghost held = { F.held };
@@ -123,7 +123,7 @@ impl<A: Drop, F: Append<A>> Gather<A> for Each<F> {
     ghost keeps_sound = { any_sound };
 }
 
-impl<A: Drop, F: Append<A>> Collect<A> for Each<F> {
+impl<A, F: Append<A>> Collect<A> for Each<F> {
     ghost keeps = { true };
 
     #[inline(always)]
