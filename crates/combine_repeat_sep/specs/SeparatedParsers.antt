@@ -1,7 +1,7 @@
 -- the parsers that the constructors build, and their parts
 use Rattle.std.specs.Prelude.{ℕ}
 use Rattle.std.specs.declared.alloc.Global.{Global}
-use Rattle.combine_repeat_turns.specs.RepeatParsers.{bounds_of, each_of, repeat_of, turn_of}
+use Rattle.combine_repeat_turns.specs.RepeatParsers.{each_of, repeat_of, turn_of}
 use Rattle.combine_repeat_turns.specs.declared.repeat.types.Repeat.{Repeat}
 use Rattle.combine_repeat_turns.specs.declared.turns.limits.JoinedBetween.{JoinedBetween}
 use Rattle.combine_repeat_turns.specs.declared.turns.limits.JoinedFrom.{JoinedFrom}
@@ -14,6 +14,12 @@ use Rattle.combine_repeat_sep.specs.declared.repeat.types.Chainl1.{Chainl1}
 -- a part, and later a separator and the part
 abbrev pub separated_of : {P S L : Type 0} → P → S → Separated P S L
 separated_of parser separator = record { parser = parser; separator = separator; asks = record {} }
+
+abbrev pub separated_part : {G P S L B : Type 0} → Repeat G (Separated P S L) B → P
+separated_part p = part_of (turn_of p)
+
+abbrev pub separated_separator : {G P S L B : Type 0} → Repeat G (Separated P S L) B → S
+separated_separator p = separator_of (turn_of p)
 
 -- each element appended
 abbrev pub each_element_of : {F : Type 0} → Global → EachElement F

@@ -3,9 +3,9 @@ ghost use Rattle.std.specs.Prelude.{Some};
 ghost use Rattle.combine_base.specs.Parser.Meaning.{MeansSame};
 ghost use Rattle.combine_repeat_sep.specs.ElementThenTurns.{SepBy1IsOneThenTurns};
 ghost use Rattle.combine_repeat_sep.specs.Elements.{sep_by, sep_by1, sep_count_min_max};
-ghost use Rattle.combine_repeat_sep.specs.Separated.{part_of, separator_of};
+ghost use Rattle.combine_repeat_sep.specs.SeparatedParsers.{separated_part, separated_separator};
 ghost use Rattle.combine_repeat_turns.specs.Counts.{appended};
-ghost use Rattle.combine_repeat_turns.specs.RepeatParsers.{bounds_of, turn_of};
+ghost use Rattle.combine_repeat_turns.specs.RepeatParsers.{bounds_of};
 
 use crate::repeat::types::{SepBy, SepBy1, SepCountMinMax};
 use combine_base::parser::Parser;
@@ -28,7 +28,7 @@ pub fn sep_count_min_max_is_turns<F, Input: Stream, P: Parser<Input>, S: Parser<
 )
 where
     F: Append<P::Output>,
-    ensures { MeansSame (⟦<SepCountMinMax<F, P, S> as Parser<Input>>⟧.meaning parser.now) (sep_count_min_max Input.step Input.Error.seen (appended F.held F.none F.more F.lean) (bounds_of parser.now).least (Some (bounds_of parser.now).most) (P.meaning (part_of (turn_of parser.now))) (S.meaning (separator_of (turn_of parser.now)))) }
+    ensures { MeansSame (⟦<SepCountMinMax<F, P, S> as Parser<Input>>⟧.meaning parser.now) (sep_count_min_max Input.step Input.Error.seen (appended F.held F.none F.more F.lean) (bounds_of parser.now).least (Some (bounds_of parser.now).most) (P.meaning (separated_part parser.now)) (S.meaning (separated_separator parser.now))) }
 {}
 
 /// The parser of `sep_by` means any number of elements.
@@ -37,7 +37,7 @@ pub fn sep_by_is_turns<F, Input: Stream, P: Parser<Input>, S: Parser<Input>>(
 )
 where
     F: Append<P::Output>,
-    ensures { MeansSame (⟦<SepBy<F, P, S> as Parser<Input>>⟧.meaning parser.now) (sep_by Input.step Input.Error.seen (appended F.held F.none F.more F.lean) (P.meaning (part_of (turn_of parser.now))) (S.meaning (separator_of (turn_of parser.now)))) }
+    ensures { MeansSame (⟦<SepBy<F, P, S> as Parser<Input>>⟧.meaning parser.now) (sep_by Input.step Input.Error.seen (appended F.held F.none F.more F.lean) (P.meaning (separated_part parser.now)) (S.meaning (separated_separator parser.now))) }
 {}
 
 /// The parser of `sep_by1` means at least one element.
@@ -46,5 +46,5 @@ pub fn sep_by1_is_turns<F, Input: Stream, P: Parser<Input>, S: Parser<Input>>(
 )
 where
     F: Append<P::Output>,
-    ensures { MeansSame (⟦<SepBy1<F, P, S> as Parser<Input>>⟧.meaning parser.now) (sep_by1 Input.step Input.Error.seen (appended F.held F.none F.more F.lean) (P.meaning (part_of (turn_of parser.now))) (S.meaning (separator_of (turn_of parser.now)))) }
+    ensures { MeansSame (⟦<SepBy1<F, P, S> as Parser<Input>>⟧.meaning parser.now) (sep_by1 Input.step Input.Error.seen (appended F.held F.none F.more F.lean) (P.meaning (separated_part parser.now)) (S.meaning (separated_separator parser.now))) }
 {}
