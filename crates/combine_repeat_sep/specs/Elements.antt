@@ -11,6 +11,7 @@ use Rattle.combine_repeat_sep.specs.Separated.{first_element, first_then, later_
 use Rattle.combine_repeat_turns.specs.declared.turns.Bounds.{Bounds}
 use Rattle.combine_repeat_turns.specs.declared.turns.Bounds.TheVariants.{Joined}
 use Rattle.combine_repeat_turns.specs.declared.turns.TurnsState.{TurnsState}
+use Rattle.combine_repeat_turns.specs.declared.turns.limits.JoinedBetween.{JoinedBetween}
 use Rattle.combine_repeat_sep.specs.declared.separated.Element.{Element}
 use Rattle.combine_repeat_sep.specs.declared.separated.Element.TheVariants.{First, Then}
 use Rattle.combine_repeat_sep.specs.declared.separated.SeparatedState.{SeparatedState}
@@ -43,6 +44,10 @@ module _ {P T R E O A V U W : Type 0} (step : P → T → P) (errors : Errors T 
   -- at least so many elements, and at most so many if there is such a number
   abbrev pub sep_count_min_max : ℕ → Option ℕ → Meaning P T R E A U → Meaning P T R E O W → Meaning P T R E V (TurnsState V (SeparatedState O W U))
   sep_count_min_max least most = joined step errors (Joined least most) (elements c)
+
+  -- as many as the bounds of its parser say
+  abbrev pub sep_between : JoinedBetween → Meaning P T R E A U → Meaning P T R E O W → Meaning P T R E V (TurnsState V (SeparatedState O W U))
+  sep_between bounds = sep_count_min_max bounds.least (Some bounds.most)
 
   abbrev pub sep_by : Meaning P T R E A U → Meaning P T R E O W → Meaning P T R E V (TurnsState V (SeparatedState O W U))
   sep_by = sep_count_min_max 0 None

@@ -1,8 +1,7 @@
 //! What separated repetitions mean, and what in the words of others. The functions do nothing: their contracts are the laws.
-ghost use Rattle.std.specs.Prelude.{Some};
 ghost use Rattle.combine_base.specs.Parser.Meaning.{MeansSame};
 ghost use Rattle.combine_repeat_sep.specs.ElementThenTurns.{SepBy1IsOneThenTurns};
-ghost use Rattle.combine_repeat_sep.specs.Elements.{sep_by, sep_by1, sep_count_min_max};
+ghost use Rattle.combine_repeat_sep.specs.Elements.{sep_between, sep_by, sep_by1};
 ghost use Rattle.combine_repeat_sep.specs.SeparatedParsers.{separated_part, separated_separator};
 ghost use Rattle.combine_repeat_turns.specs.Counts.{appended};
 ghost use Rattle.combine_repeat_turns.specs.RepeatParsers.{bounds_of};
@@ -28,7 +27,7 @@ pub fn sep_count_min_max_is_turns<F, Input: Stream, P: Parser<Input>, S: Parser<
 )
 where
     F: Append<P::Output>,
-    ensures { MeansSame (⟦<SepCountMinMax<F, P, S> as Parser<Input>>⟧.meaning parser.now) (sep_count_min_max Input.step Input.Error.seen (appended F.held F.none F.more F.lean) (bounds_of parser.now).least (Some (bounds_of parser.now).most) (P.meaning (separated_part parser.now)) (S.meaning (separated_separator parser.now))) }
+    ensures { MeansSame (⟦<SepCountMinMax<F, P, S> as Parser<Input>>⟧.meaning parser.now) (sep_between Input.step Input.Error.seen (appended F.held F.none F.more F.lean) (bounds_of parser.now) (P.meaning (separated_part parser.now)) (S.meaning (separated_separator parser.now))) }
 {}
 
 /// The parser of `sep_by` means any number of elements.
