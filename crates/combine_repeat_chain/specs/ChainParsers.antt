@@ -5,7 +5,6 @@ use Rattle.combine_combinator.specs.declared.combinator.look.NoPartial.{NoPartia
 use Rattle.combine_combinator.specs.declared.combinator.values.Nothing.{Nothing}
 use Rattle.combine_combinator.specs.declared.combinator.values.Picked.{Picked}
 use Rattle.combine_repeat.specs.ManyParsers.{skip_many_of}
-use Rattle.combine_repeat_sep.specs.SeparatedParsers.{separated_of}
 use Rattle.combine_repeat_turns.specs.declared.each.Dropped.{Dropped}
 use Rattle.combine_repeat_turns.specs.declared.repeat.types.Repeat.{Repeat}
 use Rattle.combine_repeat_turns.specs.declared.turns.limits.AnyNumber.{AnyNumber}
@@ -16,7 +15,7 @@ use Rattle.combine_token.specs.declared.token.types.Token.{Token}
 use Rattle.combine_repeat_chain.specs.declared.repeat.types.RightFold.{RightFold}
 
 abbrev pub right_fold_of : {P S : Type 0} → Global → P → S → RightFold P S
-right_fold_of alloc parser operator = record { alloc = alloc; turn = separated_of parser operator }
+right_fold_of alloc parser operator = record { alloc = alloc; turn = record { parser = parser; separator = operator; asks = record {} } }
 
 abbrev pub chainr1_of : {P S : Type 0} → Global → P → S → NoPartial (RightFold P S)
 chainr1_of alloc parser operator = no_partial_of (right_fold_of alloc parser operator)
