@@ -33,7 +33,7 @@ pub use Rattle.combine_combinator.specs.Attempt
 pub use Rattle.combine_combinator.specs.Laws
 pub use Rattle.combine_combinator.specs.Parsers
 pub use Rattle.combine_combinator.specs.Picks
-pub use Rattle.combine_repeat.specs.Built
+pub use Rattle.combine_repeat.specs.ManyParsers
 pub use Rattle.combine_repeat.specs.Compared
 pub use Rattle.combine_repeat.specs.Repetition
 pub use Rattle.combine_repeat_chain.specs.ChainParsers
@@ -81,13 +81,12 @@ pub use Rattle.combine_repeat_sep.specs.JoinedLaws
 pub use Rattle.combine_repeat_sep.specs.Placed
 pub use Rattle.combine_repeat_turns.specs.BoundedLaws
 pub use Rattle.combine_repeat_turns.specs.CountLaws
-pub use Rattle.combine_repeat_turns.specs.CountParsers
 pub use Rattle.combine_repeat_turns.specs.Counts
 pub use Rattle.combine_repeat_turns.specs.CountsCompared
 pub use Rattle.combine_repeat_turns.specs.FirstTurn
 pub use Rattle.combine_repeat_turns.specs.OneThenTurns
 pub use Rattle.combine_repeat_turns.specs.OneTurn
-pub use Rattle.combine_repeat_turns.specs.Plain
+pub use Rattle.combine_repeat_turns.specs.RepeatParsers
 pub use Rattle.combine_repeat_turns.specs.Turn
 pub use Rattle.combine_repeat_turns.specs.TurnLaws
 pub use Rattle.combine_repeat_turns.specs.TurnRefusals

@@ -2,7 +2,7 @@
 //!
 //! Each takes one character of its class: accepted committed, with that character as the value. Another one is put back and refused peeked, as is the end of an ended list; the text of the class is said to be expected.
 ghost use Rattle.std.specs.Prelude.{◌≡◌};
-ghost use Rattle.combine_repeat.specs.Built.{skip_many_of};
+ghost use Rattle.combine_repeat.specs.ManyParsers.{skip_many_of};
 ghost use Rattle.combine_char.specs.TextParsers.{by, equal, in_class_parser, in_text_parser, named_parser, whole_pair_parser};
 ghost use Rattle.combine_token.specs.TokenParsers.{token_parser};
 

@@ -4,10 +4,11 @@ pub use Rattle.combine_base.specs.Parser.Outcome
 pub use Rattle.combine_base.specs.Stream.View
 pub use Rattle.combine_repeat_turns.specs.Bounded
 pub use Rattle.combine_repeat_turns.specs.Counts
+pub use Rattle.combine_repeat_turns.specs.RepeatParsers
 pub use Rattle.combine_repeat_turns.specs.CountLaws
 pub use Rattle.combine_repeat_turns.specs.CountsCompared
 pub use Rattle.combine_repeat_turns.specs.OneThenTurns
 pub use Rattle.combine_repeat_turns.specs.Turns
 pub mod Repetition
 pub mod Compared
-pub mod Built
+pub mod ManyParsers

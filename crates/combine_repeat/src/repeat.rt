@@ -8,16 +8,17 @@
 //!
 //! Which error a refusal has is exact: that of a turn that is refused committed, that of a first turn that is asked for, as it is, or the message of a turn that takes nothing, at the place where it was begun or resumed. A turn's own error is one that the parser refuses with.
 ghost use Rattle.std.specs.Prelude.{◌≡◌};
-ghost use Rattle.combine_repeat.specs.Built.{many_of, many1_of, skip_many_of, skip_many1_of};
+ghost use Rattle.combine_repeat.specs.ManyParsers.{many_of, many1_of, skip_many_of, skip_many1_of};
 
 pub mod laws;
 pub mod types;
 
 pub use combine_base::repeat::{Append, Sink};
-use combine_repeat_turns::each::Plain;
+use combine_repeat_turns::each::{Dropped, Each};
+use combine_repeat_turns::repeat::types::Repeat;
 pub use combine_repeat_turns::turns::TurnsState;
+use combine_repeat_turns::turns::limits::{AnyNumber, JoinedFrom};
 use std::alloc::Global;
-use std::marker::PhantomData;
 use types::{Many, Many1, SkipMany, SkipMany1};
 
 /// Runs turns of `parser` until it is refused peeked, and collects their values in order.
@@ -27,11 +28,7 @@ use types::{Many, Many1, SkipMany, SkipMany1};
 pub fn many<F, P>(alloc: Global, parser: P) -> Many<F, P>
     ensures { result ≡ many_of alloc parser }
 {
-    Many {
-        alloc,
-        turn: Plain(parser),
-        collects: PhantomData,
-    }
+    Repeat::new(Each::new(alloc), parser, AnyNumber)
 }
 
 /// Runs `parser` once, and then turns of it until it is refused peeked, and collects all values in order.
@@ -41,11 +38,7 @@ pub fn many<F, P>(alloc: Global, parser: P) -> Many<F, P>
 pub fn many1<F, P>(alloc: Global, parser: P) -> Many1<F, P>
     ensures { result ≡ many1_of alloc parser }
 {
-    Many1 {
-        alloc,
-        turn: Plain(parser),
-        collects: PhantomData,
-    }
+    Repeat::new(Each::new(alloc), parser, JoinedFrom::<1>)
 }
 
 /// Runs turns as `many` does, and drops the values; it takes no memory of its own, but for that of an error's message.
@@ -53,7 +46,7 @@ pub fn many1<F, P>(alloc: Global, parser: P) -> Many1<F, P>
 pub fn skip_many<P>(parser: P) -> SkipMany<P>
     ensures { result ≡ skip_many_of parser }
 {
-    SkipMany(Plain(parser))
+    Repeat::new(Dropped, parser, AnyNumber)
 }
 
 /// Runs turns as `many1` does, and drops the values; it takes no memory of its own, but for that of an error's message.
@@ -61,5 +54,5 @@ pub fn skip_many<P>(parser: P) -> SkipMany<P>
 pub fn skip_many1<P>(parser: P) -> SkipMany1<P>
     ensures { result ≡ skip_many1_of parser }
 {
-    SkipMany1(Plain(parser))
+    Repeat::new(Dropped, parser, JoinedFrom::<1>)
 }

@@ -7,7 +7,7 @@ pub use Rattle.combine_base.specs.Parser.Outcome
 pub use Rattle.combine_base.specs.Sequence.Places
 pub use Rattle.combine_combinator.specs.Parsers
 pub use Rattle.combine_combinator.specs.Tables
-pub use Rattle.combine_repeat.specs.Built
+pub use Rattle.combine_repeat.specs.ManyParsers
 pub use Rattle.combine_repeat_sep.specs.Elements
 pub use Rattle.combine_repeat_sep.specs.JoinedLaws
 pub use Rattle.combine_repeat_sep.specs.Separated

@@ -5,7 +5,7 @@ ghost use Rattle.combine_repeat_chain.specs.declared.operands.Left.{Left};
 ghost use Rattle.combine_repeat_sep.specs.Separated.{lead_good};
 
 use combine_repeat_sep::separated::{Element, Folds};
-use combine_repeat_turns::turns::Gather;
+use combine_repeat_turns::turns::{Gather, Gathers, Reduce};
 use std::alloc::{AllocError, Global};
 use std::marker::PhantomData;
 
@@ -43,14 +43,14 @@ impl<O: Folds<V> + Drop, V: Drop> Operands<O, V> {
 
 /// Operands are kept one after another.
 #[derive(Drop)]
-pub struct EachOperand<V>(PhantomData<V>);
+pub struct EachOperand<O, V>(PhantomData<(O, V)>);
 
-impl<V: Drop, O: Folds<V> + Drop> Gather<Element<O, V>> for EachOperand<V> {
-    ghost use Rattle.std.specs.Prelude.{None, Option, Some};
-
+impl<O: Drop, V: Drop> Gathers for EachOperand<O, V> {
     type Into = Operands<O, V>;
+}
 
-    type From = Global;
+impl<V: Drop, O: Folds<V> + Drop> Gather<Element<O, V>> for EachOperand<O, V> {
+    ghost use Rattle.std.specs.Prelude.{None, Option, Some};
 
     ghost Held = { Option (List (Left O V) × V) };
 
@@ -65,20 +65,6 @@ impl<V: Drop, O: Folds<V> + Drop> Gather<Element<O, V>> for EachOperand<V> {
     ghost sound = { held_good (λ f. O.callable f) };
 
     ghost lean = { ⊥ };
-
-    #[inline(always)]
-    fn begin(alloc: Global, value: Element<O, V>) -> Result<Operands<O, V>, AllocError> {
-        match value {
-            Element::First(last) => Ok(Operands {
-                before: Vec::new(alloc),
-                last,
-            }),
-            Element::Then(_operator, last) => Ok(Operands {
-                before: Vec::new(alloc),
-                last,
-            }),
-        }
-    }
 
     #[inline(always)]
     fn gather(into: Operands<O, V>, value: Element<O, V>) -> Result<Operands<O, V>, AllocError> {
@@ -99,4 +85,22 @@ impl<V: Drop, O: Folds<V> + Drop> Gather<Element<O, V>> for EachOperand<V> {
     }
 
     ghost keeps_sound = { keeps_good (λ f. O.callable f) };
+}
+
+impl<V: Drop, O: Folds<V> + Drop> Reduce<Element<O, V>> for EachOperand<O, V> {
+    type From = Global;
+
+    #[inline(always)]
+    fn begin(alloc: Global, value: Element<O, V>) -> Result<Operands<O, V>, AllocError> {
+        match value {
+            Element::First(last) => Ok(Operands {
+                before: Vec::new(alloc),
+                last,
+            }),
+            Element::Then(_operator, last) => Ok(Operands {
+                before: Vec::new(alloc),
+                last,
+            }),
+        }
+    }
 }

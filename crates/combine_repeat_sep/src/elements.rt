@@ -6,19 +6,19 @@ ghost use Rattle.combine_repeat_turns.specs.Sound.{any_sound};
 
 use crate::separated::{Element, Folds};
 use combine_base::repeat::Append;
-use combine_repeat_turns::turns::Gather;
-use std::alloc::{AllocError, Global};
+use combine_repeat_turns::turns::{Gather, Gathers, Reduce};
+use std::alloc::AllocError;
 use std::marker::PhantomData;
 
 /// Each element is appended; what its separator gave is dropped.
 #[derive(Drop)]
 pub struct EachElement<F>(PhantomData<F>);
 
-impl<O: Drop, A: Drop, F: Append<A>> Gather<Element<O, A>> for EachElement<F> {
+impl<F: Drop> Gathers for EachElement<F> {
     type Into = F;
+}
 
-    type From = Global;
-
+impl<O: Drop, A, F: Append<A>> Gather<Element<O, A>> for EachElement<F> {
     ghost Held = { F.Held };
 
     ghost held = { F.held };
@@ -32,21 +32,6 @@ impl<O: Drop, A: Drop, F: Append<A>> Gather<Element<O, A>> for EachElement<F> {
     ghost sound = { λ _. Unit {0} };
 
     ghost lean = { F.lean };
-
-    #[inline(always)]
-    fn begin(alloc: Global, value: Element<O, A>) -> Result<F, AllocError> {
-        let mut into = F::empty(alloc);
-        match value {
-            Element::First(value) => {
-                into.append(value)?;
-                Ok(into)
-            }
-            Element::Then(_separator, value) => {
-                into.append(value)?;
-                Ok(into)
-            }
-        }
-    }
 
     #[inline(always)]
     fn gather(into: F, value: Element<O, A>) -> Result<F, AllocError> {
@@ -70,12 +55,12 @@ impl<O: Drop, A: Drop, F: Append<A>> Gather<Element<O, A>> for EachElement<F> {
 #[derive(Drop)]
 pub struct Folded<V>(PhantomData<V>);
 
+impl<V: Drop> Gathers for Folded<V> {
+    type Into = V;
+}
+
 impl<V: Drop, O: Folds<V> + Drop> Gather<Element<O, V>> for Folded<V> {
     ghost use Rattle.std.specs.Prelude.{None, Option, Some};
-
-    type Into = V;
-
-    type From = ();
 
     ghost Held = { Option V };
 
@@ -92,14 +77,6 @@ impl<V: Drop, O: Folds<V> + Drop> Gather<Element<O, V>> for Folded<V> {
     ghost lean = { Unit {0} };
 
     #[inline(always)]
-    fn begin(from: (), value: Element<O, V>) -> Result<V, AllocError> {
-        match value {
-            Element::First(only) => Ok(only),
-            Element::Then(_operator, only) => Ok(only),
-        }
-    }
-
-    #[inline(always)]
     fn gather(into: V, value: Element<O, V>) -> Result<V, AllocError> {
         match value {
             Element::First(right) => Ok(right),
@@ -108,4 +85,16 @@ impl<V: Drop, O: Folds<V> + Drop> Gather<Element<O, V>> for Folded<V> {
     }
 
     ghost keeps_sound = { any_sound };
+}
+
+impl<V: Drop, O: Folds<V> + Drop> Reduce<Element<O, V>> for Folded<V> {
+    type From = ();
+
+    #[inline(always)]
+    fn begin(from: (), value: Element<O, V>) -> Result<V, AllocError> {
+        match value {
+            Element::First(only) => Ok(only),
+            Element::Then(_operator, only) => Ok(only),
+        }
+    }
 }

@@ -12,9 +12,10 @@ pub mod laws;
 pub mod types;
 
 use crate::separated::Separated;
+use combine_repeat_turns::turns::limits::{JoinedBetween, JoinedFrom};
 use std::alloc::Global;
 use std::marker::PhantomData;
-use types::{Chainl1, SepBy, SepBy1, SepCountMinMax};
+use types::{Chainl1, RepeatSeparated, SepBy, SepBy1, SepCountMinMax};
 
 /// Takes at least `min` and at most `max` elements, which are `parser`'s, with what `separator` takes between two of them; `min` is at most `max`.
 ///
@@ -30,17 +31,11 @@ pub fn sep_count_min_max<F, P, S>(
     requires { min ≤ max }
     ensures { result ≡ sep_count_min_max_of alloc min max parser separator }
 {
-    SepCountMinMax {
-        alloc,
+    let bounds = JoinedBetween {
         least: min,
         most: max,
-        turn: Separated {
-            parser,
-            separator,
-            asks: PhantomData,
-        },
-        collects: PhantomData,
-    }
+    };
+    RepeatSeparated::new(alloc, bounds, parser, separator)
 }
 
 /// Takes any number of elements, as `sep_count_min_max` does.
@@ -48,15 +43,7 @@ pub fn sep_count_min_max<F, P, S>(
 pub fn sep_by<F, P, S>(alloc: Global, parser: P, separator: S) -> SepBy<F, P, S>
     ensures { result ≡ sep_by_of alloc parser separator }
 {
-    SepBy {
-        alloc,
-        turn: Separated {
-            parser,
-            separator,
-            asks: PhantomData,
-        },
-        collects: PhantomData,
-    }
+    RepeatSeparated::new(alloc, JoinedFrom::<0>, parser, separator)
 }
 
 /// Takes at least one element, and any number, as `sep_count_min_max` does.
@@ -64,15 +51,7 @@ pub fn sep_by<F, P, S>(alloc: Global, parser: P, separator: S) -> SepBy<F, P, S>
 pub fn sep_by1<F, P, S>(alloc: Global, parser: P, separator: S) -> SepBy1<F, P, S>
     ensures { result ≡ sep_by1_of alloc parser separator }
 {
-    SepBy1 {
-        alloc,
-        turn: Separated {
-            parser,
-            separator,
-            asks: PhantomData,
-        },
-        collects: PhantomData,
-    }
+    RepeatSeparated::new(alloc, JoinedFrom::<1>, parser, separator)
 }
 
 /// Parses as `parser`, and then by turns as `operator` and `parser`: folds the values from the left, by the functions that `operator` gives.

@@ -16,9 +16,9 @@ use combine_base::repeat::Append;
 use combine_base::stream::{Stream, needs_more};
 use combine_repeat_sep::pair::{PairState, PairStateOf, parse_pair};
 use combine_repeat_sep::separated::{Lead, SeparatedState, TurnPlace};
-use combine_repeat_turns::turns::{Gather, Turn};
+use combine_repeat_turns::turns::{Gather, Gathers, Turn};
 use combine_token::choice::types::Optional;
-use std::alloc::{AllocError, Global};
+use std::alloc::AllocError;
 use std::marker::PhantomData;
 use std::mem;
 
@@ -33,11 +33,11 @@ pub struct Ended<P, S> {
 #[derive(Drop)]
 pub struct EachSome<F>(PhantomData<F>);
 
-impl<A: Drop, F: Append<A>> Gather<Option<A>> for EachSome<F> {
+impl<F: Drop> Gathers for EachSome<F> {
     type Into = F;
+}
 
-    type From = Global;
-
+impl<A, F: Append<A>> Gather<Option<A>> for EachSome<F> {
     ghost Held = { F.Held };
 
     ghost held = { F.held };
@@ -51,18 +51,6 @@ impl<A: Drop, F: Append<A>> Gather<Option<A>> for EachSome<F> {
     ghost sound = { λ _. Unit {0} };
 
     ghost lean = { F.lean };
-
-    #[inline(always)]
-    fn begin(alloc: Global, value: Option<A>) -> Result<F, AllocError> {
-        let mut into = F::empty(alloc);
-        match value {
-            Some(value) => {
-                into.append(value)?;
-                Ok(into)
-            }
-            None => Ok(into),
-        }
-    }
 
     #[inline(always)]
     fn gather(into: F, value: Option<A>) -> Result<F, AllocError> {

@@ -8,27 +8,19 @@
 ghost use Rattle.std.specs.Prelude.{◌≡◌};
 ghost use Rattle.combine_repeat_sep_end.specs.SepEndParsers.{sep_end_by_of, sep_end_by1_of};
 
+pub mod laws;
 pub mod types;
 
-use crate::ended::Ended;
-use combine_token::choice::optional;
+use combine_repeat_turns::turns::limits::JoinedFrom;
 use std::alloc::Global;
-use std::marker::PhantomData;
-use types::{SepEndBy, SepEndBy1};
+use types::{RepeatEnded, SepEndBy, SepEndBy1};
 
 /// Takes elements as `sep_end_by1` does, or none: where the first is refused peeked, it is put back, and the answer is the empty collection, accepted peeked.
 #[inline]
 pub fn sep_end_by<F, P, S>(alloc: Global, parser: P, separator: S) -> SepEndBy<F, P, S>
     ensures { result ≡ sep_end_by_of alloc parser separator }
 {
-    SepEndBy {
-        alloc,
-        turn: Ended {
-            part: optional(parser),
-            separator,
-        },
-        collects: PhantomData,
-    }
+    RepeatEnded::new(alloc, JoinedFrom::<0>, parser, separator)
 }
 
 /// Takes at least one element, which are `parser`'s, with what `separator` takes between two of them and perhaps behind the last.
@@ -38,12 +30,5 @@ pub fn sep_end_by<F, P, S>(alloc: Global, parser: P, separator: S) -> SepEndBy<F
 pub fn sep_end_by1<F, P, S>(alloc: Global, parser: P, separator: S) -> SepEndBy1<F, P, S>
     ensures { result ≡ sep_end_by1_of alloc parser separator }
 {
-    SepEndBy1 {
-        alloc,
-        turn: Ended {
-            part: optional(parser),
-            separator,
-        },
-        collects: PhantomData,
-    }
+    RepeatEnded::new(alloc, JoinedFrom::<1>, parser, separator)
 }

@@ -5,7 +5,6 @@ use Rattle.combine_repeat_turns.specs.Turns.{Turn, Goes, Stops, Rule, Collecting
 use Rattle.combine_repeat_turns.specs.declared.turns.Bounds.{Bounds}
 use Rattle.combine_repeat_turns.specs.declared.turns.Bounds.TheVariants.{Any, Joined, Counted}
 use Rattle.combine_repeat_turns.specs.declared.turns.Place.{Place}
-use Rattle.combine_repeat_turns.specs.declared.turns.limits.JoinedFrom.{JoinedFrom}
 use Rattle.combine_repeat_turns.specs.declared.turns.limits.JoinedBetween.{JoinedBetween}
 use Rattle.combine_repeat_turns.specs.declared.turns.limits.Between.{Between}
 use Rattle.combine_repeat_turns.specs.declared.turns.Turns.{Turns as Kept}
@@ -14,9 +13,6 @@ use Rattle.combine_repeat_turns.specs.declared.turns.Earlier.{Earlier}
 use Rattle.combine_repeat_turns.specs.declared.turns.Earlier.TheVariants.{Nothing, Turns}
 
 -- what bounds that are types of their own say
-abbrev pub joined_from : JoinedFrom → Bounds
-joined_from b = Joined b.least None
-
 abbrev pub joined_between : JoinedBetween → Bounds
 joined_between b = Joined b.least (Some b.most)
 
@@ -29,6 +25,13 @@ limit Any = 0
 limit (Joined least None) = if nat_lt least 1 then 1 else least
 limit (Joined least (Some most)) = most
 limit (Counted least most) = most
+
+-- there may be any number of turns
+abbrev pub is_unbounded : Bounds → Bool
+is_unbounded Any = true
+is_unbounded (Joined least None) = true
+is_unbounded (Joined least (Some most)) = false
+is_unbounded (Counted least most) = false
 
 -- one more, up to a limit
 abbrev pub counted : ℕ → ℕ → ℕ

@@ -19,9 +19,8 @@ pub mod TurnsMeaning
 pub mod BoundedLaws
 pub mod FirstTurn
 pub mod TurnCalls
-pub mod Plain
 pub mod Counts
 pub mod OneThenTurns
 pub mod CountLaws
-pub mod CountParsers
+pub mod RepeatParsers
 pub mod CountsCompared

@@ -1,10 +1,10 @@
 //! The same parser in each turn, and each value appended or dropped.
-ghost use Rattle.std.specs.Prelude.{◌≡◌, false};
+ghost use Rattle.std.specs.Prelude.{◌≡◌, false, true};
 ghost use Rattle.combine_repeat_turns.specs.Sound.{any_sound};
 ghost use Rattle.combine_repeat_turns.specs.Turn.{from_start, gives_any, plain_is_turn, plain_once};
-ghost use Rattle.combine_repeat_turns.specs.Plain.{plain_parser};
+ghost use Rattle.combine_repeat_turns.specs.RepeatParsers.{each_of, plain_parser};
 
-use crate::turns::{Gather, Turn};
+use crate::turns::{Collect, Gather, Gathers, Turn};
 use combine_base::error::{ParseResult, Tracked};
 use combine_base::parser::{ParseMode, Parser};
 use combine_base::repeat::Append;
@@ -64,15 +64,32 @@ impl<Input: Stream, P: Parser<Input>> Turn<Input> for Plain<P> {
     ghost gives_only = { λ p l. gives_any };
 }
 
-/// Each value is appended.
+/// Each value is appended to an `F`, for which an allocator is kept.
 #[derive(Drop)]
-pub struct Each<F>(PhantomData<F>);
+#[derive_where(Clone, Copy)]
+pub struct Each<F> {
+    alloc: Global,
+    collects: PhantomData<F>,
+}
 
-impl<A: Drop, F: Append<A>> Gather<A> for Each<F> {
+impl<F> Each<F> {
+    /// Returns how values are appended to what that allocator finds memory for.
+    #[inline(always)]
+    pub fn new(alloc: Global) -> Each<F>
+        ensures { result ≡ each_of alloc }
+    {
+        Each {
+            alloc,
+            collects: PhantomData,
+        }
+    }
+}
+
+impl<F: Drop> Gathers for Each<F> {
     type Into = F;
+}
 
-    type From = Global;
-
+impl<A, F: Append<A>> Gather<A> for Each<F> {
     ghost Held = { F.Held };
 
     ghost held = { F.held };
@@ -88,13 +105,6 @@ impl<A: Drop, F: Append<A>> Gather<A> for Each<F> {
     ghost lean = { F.lean };
 
     #[inline(always)]
-    fn begin(alloc: Global, value: A) -> Result<F, AllocError> {
-        let mut into = F::empty(alloc);
-        into.append(value)?;
-        Ok(into)
-    }
-
-    #[inline(always)]
     fn gather(into: F, value: A) -> Result<F, AllocError> {
         let mut into = into;
         into.append(value)?;
@@ -104,15 +114,34 @@ impl<A: Drop, F: Append<A>> Gather<A> for Each<F> {
     ghost keeps_sound = { any_sound };
 }
 
+impl<A, F: Append<A>> Collect<A> for Each<F> {
+    ghost keeps = { true };
+
+    #[inline(always)]
+    fn empty(&self, room: usize) -> Result<F, AllocError> {
+        if 0 < room {
+            return F::with_capacity(self.alloc, room);
+        }
+        Ok(F::empty(self.alloc))
+    }
+
+    #[inline(always)]
+    fn keeps(&self) -> bool {
+        true
+    }
+
+    ghost takes_any = { λ a. tt };
+}
+
 /// No value is kept.
-#[derive(Drop)]
+#[derive(Clone, Copy, Drop)]
 pub struct Dropped;
 
-impl<A: Drop> Gather<A> for Dropped {
+impl Gathers for Dropped {
     type Into = ();
+}
 
-    type From = ();
-
+impl<A: Drop> Gather<A> for Dropped {
     ghost Held = { Unit {0} };
 
     ghost held = { λ _. tt };
@@ -128,14 +157,25 @@ impl<A: Drop> Gather<A> for Dropped {
     ghost lean = { Unit {0} };
 
     #[inline(always)]
-    fn begin(from: (), value: A) -> Result<(), AllocError> {
-        Ok(())
-    }
-
-    #[inline(always)]
     fn gather(into: (), value: A) -> Result<(), AllocError> {
         Ok(())
     }
 
     ghost keeps_sound = { any_sound };
+}
+
+impl<A: Drop> Collect<A> for Dropped {
+    ghost keeps = { false };
+
+    #[inline(always)]
+    fn empty(&self, room: usize) -> Result<(), AllocError> {
+        Ok(())
+    }
+
+    #[inline(always)]
+    fn keeps(&self) -> bool {
+        false
+    }
+
+    ghost takes_any = { λ a. tt };
 }

@@ -6,16 +6,16 @@
 //!
 //! Which error a refusal has is exact: that of a turn that is refused committed, or one that says how many turns are missing, at the place where the last turn was begun or resumed. A turn's own error is one that the parser refuses with.
 ghost use Rattle.std.specs.Prelude.{◌≡◌, ◌≤◌};
-ghost use Rattle.combine_repeat_turns.specs.CountParsers.{count_min_max_of, count_of, skip_count_min_max_of, skip_count_of};
+ghost use Rattle.combine_repeat_turns.specs.RepeatParsers.{count_min_max_of, skip_count_min_max_of};
 
 pub mod laws;
 pub mod types;
 
-use crate::each::Plain;
+use crate::each::{Dropped, Each};
 pub use crate::turns::TurnsState;
+use crate::turns::limits::Between;
 use std::alloc::Global;
-use std::marker::PhantomData;
-use types::{Count, CountMinMax, SkipCount, SkipCountMinMax};
+use types::{Count, CountMinMax, Repeat, SkipCount, SkipCountMinMax};
 
 /// Runs at most `max` turns of `parser`, which may take nothing, and collects their values in order; `min` is at most `max`.
 ///
@@ -25,13 +25,11 @@ pub fn count_min_max<F, P>(alloc: Global, min: usize, max: usize, parser: P) -> 
     requires { min ≤ max }
     ensures { result ≡ count_min_max_of alloc min max parser }
 {
-    CountMinMax {
-        alloc,
+    let bounds = Between {
         least: min,
         most: max,
-        turn: Plain(parser),
-        collects: PhantomData,
-    }
+    };
+    Repeat::new(Each::new(alloc), parser, bounds)
 }
 
 /// Runs turns as `count_min_max` does, where `min` is at most `max`, and drops the values; it takes no memory of its own, but for that of an error's message.
@@ -40,33 +38,25 @@ pub fn skip_count_min_max<P>(min: usize, max: usize, parser: P) -> SkipCountMinM
     requires { min ≤ max }
     ensures { result ≡ skip_count_min_max_of min max parser }
 {
-    SkipCountMinMax {
+    let bounds = Between {
         least: min,
         most: max,
-        turn: Plain(parser),
-    }
+    };
+    Repeat::new(Dropped, parser, bounds)
 }
 
 /// Runs at most so many turns, and none at least, as `count_min_max` does.
 #[inline]
 pub fn count<F, P>(alloc: Global, count: usize, parser: P) -> Count<F, P>
-    ensures { result ≡ count_of alloc count parser }
+    ensures { result ≡ count_min_max_of alloc 0 count parser }
 {
-    Count {
-        alloc,
-        most: count,
-        turn: Plain(parser),
-        collects: PhantomData,
-    }
+    count_min_max(alloc, 0, count, parser)
 }
 
 /// Runs turns as `count` does, and drops the values; it takes no memory of its own, but for that of an error's message.
 #[inline]
 pub fn skip_count<P>(count: usize, parser: P) -> SkipCount<P>
-    ensures { result ≡ skip_count_of count parser }
+    ensures { result ≡ skip_count_min_max_of 0 count parser }
 {
-    SkipCount {
-        most: count,
-        turn: Plain(parser),
-    }
+    skip_count_min_max(0, count, parser)
 }

@@ -102,16 +102,16 @@ pub trait Turn<Input: Stream> {
     ghost gives_only: { (p : Self) → lawful p → TurnsGive valid (meaning p) (again p) gives };
 }
 
-/// How what turns give is gathered.
-pub trait Gather<A> {
-    ghost use Rattle.std.specs.Prelude.{◌≡◌, MatchResult};
-    ghost use Rattle.combine_repeat_turns.specs.Sound.{KeepsSound};
-
+/// What turns are gathered into, apart from how: a trait of its own, as [`Outputs`](combine_base::parser::Outputs) is.
+pub trait Gathers {
     /// What it is gathered into.
     type Into: Drop;
+}
 
-    /// What an empty gathering, or one of a first value, is made from.
-    type From: Copy;
+/// How what turns give is gathered.
+pub trait Gather<A>: Gathers {
+    ghost use Rattle.std.specs.Prelude.{◌≡◌, MatchResult};
+    ghost use Rattle.combine_repeat_turns.specs.Sound.{KeepsSound};
 
     ghost Held: { Type 0 };
 
@@ -132,15 +132,42 @@ pub trait Gather<A> {
     /// Holds where it takes no memory.
     ghost lean: { Type 0 };
 
-    /// What the first value makes.
-    fn begin(from: Self::From, value: A) -> Result<Self::Into, AllocError>
-        ensures { MatchResult result (λ i. more none value (held i)) (λ _. lean → ⊥) };
-
     fn gather(into: Self::Into, value: A) -> Result<Self::Into, AllocError>
         requires { able value }
         ensures { MatchResult result (λ i. more (held into) value (held i)) (λ _. lean → ⊥) };
 
     ghost keeps_sound: { KeepsSound none more able sound };
+}
+
+/// How values are gathered from none on.
+pub trait Collect<A>: Gather<A> {
+    ghost use Rattle.std.specs.Prelude.{◌≡◌, MatchResult, Bool};
+
+    /// Whether what is gathered shows the values.
+    ghost keeps: { Bool };
+
+    /// An empty gathering, with room for so many values.
+    fn empty(&self, room: usize) -> Result<Self::Into, AllocError>
+        ensures { MatchResult result (λ i. Self.held i ≡ Self.none) (λ _. Self.lean → ⊥) };
+
+    /// Whether what is gathered shows the values.
+    fn keeps(&self) -> bool
+        ensures { result ≡ keeps };
+
+    /// It takes each value.
+    ghost takes_any: { (a : A) → Self.able a };
+}
+
+/// How values are gathered from a first one on, which makes what they are gathered into.
+pub trait Reduce<A>: Gather<A> {
+    ghost use Rattle.std.specs.Prelude.{MatchResult};
+
+    /// What that is made from.
+    type From: Copy;
+
+    /// What the first value makes.
+    fn begin(from: Self::From, value: A) -> Result<Self::Into, AllocError>
+        ensures { MatchResult result (λ i. Self.more Self.none value (Self.held i)) (λ _. Self.lean → ⊥) };
 }
 
 /// How many turns there are, for contracts: a type of `limits` says which are meant.
@@ -524,7 +551,7 @@ pub enum First<F, E> {
 
 /// The first turn, which is asked for and makes what is gathered.
 #[inline(always)]
-fn first_turn<G: Gather<P::Value>, Input: Stream, P: Turn<Input>, M: ParseMode>(
+fn first_turn<G: Reduce<P::Value>, Input: Stream, P: Turn<Input>, M: ParseMode>(
     parser: &mut P,
     from: G::From,
     mode: M,
@@ -651,7 +678,7 @@ pub fn take_turns<G: Gather<P::Value>, Input: Stream, P: Turn<Input>, M: ParseMo
 
 /// One call of turns of which the first makes what is gathered, so that nothing is before it; it is asked for.
 #[inline(always)]
-pub fn take_joined<G: Gather<P::Value>, Input: Stream, P: Turn<Input>, M: ParseMode>(
+pub fn take_joined<G: Reduce<P::Value>, Input: Stream, P: Turn<Input>, M: ParseMode>(
     parser: &mut P,
     from: G::From,
     mode: M,
@@ -671,12 +698,12 @@ pub fn take_joined<G: Gather<P::Value>, Input: Stream, P: Turn<Input>, M: ParseM
     ensures answers { TurnsCall Input.StreamOnce Input.Error.seen P.Running.is_default (Joined 1 None) P.ending (gathered G.held G.none G.more G.lean) (none_yet G.none) (P.meaning parser.old) (P.again parser.old) (M.first mode) state.old state.new input.old input.new result }
     ensures refuses { ReasonedCall Input.Error.seen (turns_from Input.step Input.Error.seen (Joined 1 None) P.ending (gathered G.held G.none G.more G.lean) (none_yet G.none) (P.meaning parser.old) (P.again parser.old)) (M.first mode) state.old (Input.view input.old) (Input.view input.new) result }
 {
-    let bounds = JoinedFrom { least: 1 };
+    let bounds = JoinedFrom::<1>;
     let mut turns: Turns<G::Into>;
     let given = state.hand_out(mode.is_first());
     match given {
         Earlier::Turns(kept) => {
-            match one_turn::<G, Input, P, JoinedFrom, Resumed<M>>(
+            match one_turn::<G, Input, P, JoinedFrom<1>, Resumed<M>>(
                 parser,
                 bounds,
                 Resumed { mode },
@@ -698,7 +725,7 @@ pub fn take_joined<G: Gather<P::Value>, Input: Stream, P: Turn<Input>, M: ParseM
         }
     }
     'turns: loop {
-        match one_turn::<G, Input, P, JoinedFrom, Afresh>(
+        match one_turn::<G, Input, P, JoinedFrom<1>, Afresh>(
             parser,
             bounds,
             Afresh { later: true },

@@ -12,9 +12,11 @@ use Rattle.combine_decode.specs.declared.decode.BatchEnd.{BatchEnd}
 use Rattle.combine_decode.specs.declared.decode.BatchEnd.TheVariants as ends
 use Rattle.combine_token.specs.TokenParsers.{any_parser}
 use Rattle.combine_token.specs.declared.token.types.Any.{Any}
-use Rattle.combine_repeat_turns.specs.CountParsers.{count_min_max_of, least_of_count_min_max, most_of_count_min_max}
+use Rattle.combine_repeat_turns.specs.RepeatParsers.{count_min_max_of, least_of, most_of}
 use Rattle.combine_repeat_turns.specs.Counts.{appended, count_min_max}
-use Rattle.combine_repeat_turns.specs.declared.repeat.types.CountMinMax.{CountMinMax}
+use Rattle.combine_repeat_turns.specs.declared.each.Each.{Each}
+use Rattle.combine_repeat_turns.specs.declared.repeat.types.Repeat.{Repeat}
+use Rattle.combine_repeat_turns.specs.declared.turns.limits.Between.{Between}
 use Rattle.feedline_core.specs.Decoding.{DecodesInput, PrintsMessages}
 use Rattle.feedline_core.specs.Frames.{bytes, frame, length_before}
 use Rattle.feedline_core.specs.Messages.{byte_where, step}
@@ -51,10 +53,10 @@ decodes_as r q has input old new (Err why) h = record { is = h.is }
 -- as many bytes as the length says, by the parser that is answered for it
 module _ (Input : Type 0) (alloc : Global) where
   abbrev answered : ℕ → Reading ℕ ℕ (Vec ℕ)
-  answered n v o = (p : CountMinMax (Vec ℕ) (Any Input)) × (p ≡ count_min_max_of alloc n n any_parser) × (count_min_max step no_items (appended (λ v. v.items) [] (λ bs b. bs ++ b ∷ []) ⊥) (least_of_count_min_max p) (most_of_count_min_max p) (byte_where (λ b. true))).whole v o
+  answered n v o = (p : Repeat (Each (Vec ℕ)) (Any Input) Between) × (p ≡ count_min_max_of alloc n n any_parser) × (count_min_max step no_items (appended (λ v. v.items) [] (λ bs b. bs ++ b ∷ []) ⊥) (least_of p) (most_of p) (byte_where (λ b. true))).whole v o
 
   answers_bytes : (n : ℕ) (v : View ℕ ℕ) (o : Outcome (Vec ℕ)) → answered n v o → bytes n v o
-  answers_bytes n v o w = subst (λ p. (count_min_max step no_items (appended (λ v. v.items) [] (λ bs b. bs ++ b ∷ []) ⊥) (least_of_count_min_max p) (most_of_count_min_max p) (byte_where (λ b. true))).whole v o) w.1 w.2
+  answers_bytes n v o w = subst (λ p. (count_min_max step no_items (appended (λ v. v.items) [] (λ bs b. bs ++ b ∷ []) ⊥) (least_of p) (most_of p) (byte_where (λ b. true))).whole v o) w.1 w.2
 
   then_bytes : (v : View ℕ ℕ) (p : Outcome ℕ) (o : Outcome (Vec ℕ)) → continues step (λ n message. message) answered v p o → continues step (λ n message. message) bytes v p o
   then_bytes v (Accepted n k c) o u = (u.0, answers_bytes n (advanced step k v) u.0 u.1, u.2)

@@ -1,7 +1,11 @@
-//! What the repetitions mean beside one another. The functions do nothing: their contracts are the laws.
+//! What the repetitions mean, and what beside one another. The functions do nothing: their contracts are the laws.
 ghost use Rattle.combine_repeat.specs.Compared.{Many1OrSkip, ManyOrSkip, OnceThenTurns};
+ghost use Rattle.combine_base.specs.Parser.Meaning.{MeansSame};
+ghost use Rattle.combine_repeat.specs.Repetition.{many, many1, skip_many, skip_many1};
+ghost use Rattle.combine_repeat_turns.specs.RepeatParsers.{repeated_by};
 ghost use Rattle.combine_repeat_turns.specs.Counts.{appended};
 
+use crate::repeat::types::{Many, Many1, SkipMany, SkipMany1};
 use combine_base::parser::Parser;
 use combine_base::repeat::Append;
 use combine_base::stream::Stream;
@@ -25,4 +29,28 @@ pub fn skip_many1_is_many1_dropped<F, Input: Stream, P: Parser<Input>>(parser: &
 where
     F: Append<P::Output>,
     ensures { Many1OrSkip Input.step Input.Error.seen (appended F.held F.none F.more F.lean) (P.meaning parser.now) }
+{}
+
+/// The parser of `many` means turns, of which there need be none.
+pub fn many_is_turns<F, Input: Stream, P: Parser<Input>>(parser: &Many<F, P>)
+where
+    F: Append<P::Output>,
+    ensures { MeansSame (⟦<Many<F, P> as Parser<Input>>⟧.meaning parser.now) (many Input.step Input.Error.seen (appended F.held F.none F.more F.lean) (P.meaning (repeated_by parser.now))) }
+{}
+
+/// The parser of `many1` means turns, of which the first is asked for.
+pub fn many1_is_turns<F, Input: Stream, P: Parser<Input>>(parser: &Many1<F, P>)
+where
+    F: Append<P::Output>,
+    ensures { MeansSame (⟦<Many1<F, P> as Parser<Input>>⟧.meaning parser.now) (many1 Input.step Input.Error.seen (appended F.held F.none F.more F.lean) (P.meaning (repeated_by parser.now))) }
+{}
+
+/// The parser of `skip_many` means the turns of `many`, their values dropped.
+pub fn skip_many_is_turns<Input: Stream, P: Parser<Input>>(parser: &SkipMany<P>)
+    ensures { MeansSame (⟦<SkipMany<P> as Parser<Input>>⟧.meaning parser.now) (skip_many Input.step Input.Error.seen (P.meaning (repeated_by parser.now))) }
+{}
+
+/// The parser of `skip_many1` means the turns of `many1`, their values dropped.
+pub fn skip_many1_is_turns<Input: Stream, P: Parser<Input>>(parser: &SkipMany1<P>)
+    ensures { MeansSame (⟦<SkipMany1<P> as Parser<Input>>⟧.meaning parser.now) (skip_many1 Input.step Input.Error.seen (P.meaning (repeated_by parser.now))) }
 {}

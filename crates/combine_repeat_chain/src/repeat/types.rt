@@ -82,7 +82,7 @@ where
         state: &mut Self::PartialState,
     ) -> ParseResult<P::Output, Input::Error> {
         let alloc = self.alloc;
-        match take_joined::<EachOperand<P::Output>, Input, Separated<P, S, Operator>, M>(
+        match take_joined::<EachOperand<S::Output, P::Output>, Input, Separated<P, S, Operator>, M>(
             &mut self.turn,
             alloc,
             mode,

@@ -1,7 +1,7 @@
 //! Bounds of turns: a type each, so that what some turns don't need isn't compiled with them.
 ghost use Rattle.std.specs.Prelude.{◌≡◌, ℕ};
 ghost use Rattle.combine_base.specs.Stream.View.{View, Takes};
-ghost use Rattle.combine_repeat_turns.specs.Bounded.{between, enough, goes_joined, joined_between, joined_from, takes_token};
+ghost use Rattle.combine_repeat_turns.specs.Bounded.{between, enough, goes_joined, joined_between, takes_token};
 
 use crate::turns::{Bounds, Place};
 use combine_base::stream::{Stream, has_taken};
@@ -10,7 +10,7 @@ use combine_base::stream::{Stream, has_taken};
 pub trait Bounded: Copy {
     ghost use Rattle.std.specs.Prelude.{◌≡◌, ℕ};
     ghost use Rattle.combine_base.specs.Stream.View.{View, Takes};
-    ghost use Rattle.combine_repeat_turns.specs.Bounded.{full_at, goes_at, limit, missing, owns};
+    ghost use Rattle.combine_repeat_turns.specs.Bounded.{full_at, goes_at, is_unbounded, limit, missing, owns};
     ghost use Rattle.combine_repeat_turns.specs.declared.turns.Bounds.{Bounds};
 
     /// What they are.
@@ -19,6 +19,13 @@ pub trait Bounded: Copy {
     /// How far turns are counted.
     fn limit(self) -> usize
         ensures { result ≡ limit (bounds self) };
+
+    /// Whether there may be any number of turns.
+    fn is_unbounded(self) -> bool
+        ensures { result ≡ is_unbounded (bounds self) };
+
+    /// For how many values a collection asks for room when the turns begin.
+    fn room(self) -> usize;
 
     /// Whether there are as many turns as there may be.
     fn is_full(self, place: Place) -> bool
@@ -63,6 +70,16 @@ impl Bounded for AnyNumber {
 
     #[inline(always)]
     fn limit(self) -> usize {
+        0
+    }
+
+    #[inline(always)]
+    fn is_unbounded(self) -> bool {
+        true
+    }
+
+    #[inline(always)]
+    fn room(self) -> usize {
         0
     }
 
@@ -124,16 +141,27 @@ fn goes_joined<Input: Stream>(
 
 /// At least so many. The first is a part of its own: it may take nothing, and its refusal is the answer unless there need be none. Each later one takes a token.
 #[derive(Clone, Copy)]
-pub struct JoinedFrom {
-    pub least: usize,
-}
+pub struct JoinedFrom<const LEAST: usize>;
 
-impl Bounded for JoinedFrom {
-    ghost bounds = { joined_from };
+impl<const LEAST: usize> Bounded for JoinedFrom<LEAST> {
+    ghost use Rattle.std.specs.Prelude.{None};
+    ghost use Rattle.combine_repeat_turns.specs.declared.turns.Bounds.TheVariants.{Joined};
+
+    ghost bounds = { λ _. Joined LEAST None };
 
     #[inline(always)]
     fn limit(self) -> usize {
-        if self.least < 1 { 1 } else { self.least }
+        if LEAST < 1 { 1 } else { LEAST }
+    }
+
+    #[inline(always)]
+    fn is_unbounded(self) -> bool {
+        true
+    }
+
+    #[inline(always)]
+    fn room(self) -> usize {
+        0
     }
 
     #[inline(always)]
@@ -143,7 +171,7 @@ impl Bounded for JoinedFrom {
 
     #[inline(always)]
     fn missing(self, place: Place) -> usize {
-        place.short_of(self.least)
+        place.short_of(LEAST)
     }
 
     #[inline(always)]
@@ -176,6 +204,16 @@ impl Bounded for JoinedBetween {
     #[inline(always)]
     fn limit(self) -> usize {
         self.most
+    }
+
+    #[inline(always)]
+    fn is_unbounded(self) -> bool {
+        false
+    }
+
+    #[inline(always)]
+    fn room(self) -> usize {
+        0
     }
 
     #[inline(always)]
@@ -218,6 +256,17 @@ impl Bounded for Between {
     #[inline(always)]
     fn limit(self) -> usize {
         self.most
+    }
+
+    #[inline(always)]
+    fn is_unbounded(self) -> bool {
+        false
+    }
+
+    /// As many as there must be, and at most 1,024, since how many there must be may be a number that was read.
+    #[inline(always)]
+    fn room(self) -> usize {
+        self.least.min(1024)
     }
 
     #[inline(always)]

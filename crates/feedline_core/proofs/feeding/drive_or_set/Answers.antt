@@ -1,5 +1,5 @@
 use Rattle.std.proofs.Common.{ap, ◌∙◌}
-use Rattle.combine_repeat.specs.Built.{many1_of}
+use Rattle.combine_repeat.specs.ManyParsers.{many1_of}
 use Rattle.feedline_core.proofs.feeding.drive_or_set.Goals as goal
 
 pub returns : goal.returns

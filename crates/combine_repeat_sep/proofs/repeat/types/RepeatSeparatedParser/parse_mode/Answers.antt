@@ -1,0 +1,17 @@
+use Rattle.combine_repeat_sep.specs.SeparatedParsers.{bounds_of}
+use Rattle.combine_repeat_turns.specs.BoundedLaws.{turns_means_same}
+use Rattle.combine_repeat_turns.specs.Counts.{never}
+use Rattle.combine_repeat_sep.specs.Leads.{any_given}
+use Rattle.combine_repeat_sep.proofs.repeat.types.RepeatSeparatedParser.parse_mode.Goals as goal
+
+pub returns-clause-same : goal.returns-clause-same
+returns-clause-same g c = turns_means_same _ _ (g.B.Bounded.bounds (bounds_of c.args.self.now)) never _ _ _ _ _ _ c.take_turns.ensures.same
+
+pub returns-clause-answers : goal.returns-clause-answers
+returns-clause-answers g c = rw (c.none_yet-start.ensures, c.empty.ensures) at c.take_turns.ensures.answers
+
+pub take_turns-requires-clause-lawful : goal.take_turns-requires-clause-lawful
+take_turns-requires-clause-lawful g c = (any_given, c.requires.lawful.0, c.requires.lawful.1)
+
+pub returns-clause-refuses : goal.returns-clause-refuses
+returns-clause-refuses g c = rw (c.none_yet-start.ensures, c.empty.ensures) at c.take_turns.ensures.refuses

@@ -1,0 +1,42 @@
+-- the parsers of repetitions of one parser, and their parts
+use Rattle.std.specs.Prelude.{ℕ}
+use Rattle.std.specs.declared.alloc.Global.{Global}
+use Rattle.combine_repeat_turns.specs.declared.each.Dropped.{Dropped}
+use Rattle.combine_repeat_turns.specs.declared.each.Each.{Each}
+use Rattle.combine_repeat_turns.specs.declared.each.Plain.{Plain}
+use Rattle.combine_repeat_turns.specs.declared.repeat.types.Repeat.{Repeat}
+use Rattle.combine_repeat_turns.specs.declared.turns.limits.Between.{Between}
+
+-- the same parser in each turn
+abbrev pub plain_parser : {P : Type 0} → Plain P → P
+plain_parser p = p.0
+
+-- the parser of turns, which parser it repeats, and how often
+abbrev pub repeat_of : {G P B : Type 0} → G → P → B → Repeat G P B
+repeat_of gather parser bounds = record { gather = gather; turn = record { 0 = parser }; bounds = bounds }
+
+abbrev pub repeated_by : {G P B : Type 0} → Repeat G P B → P
+repeated_by p = p.turn.0
+
+abbrev pub bounds_of : {G P B : Type 0} → Repeat G P B → B
+bounds_of p = p.bounds
+
+-- each value appended
+abbrev pub each_of : {F : Type 0} → Global → Each F
+each_of alloc = record { alloc = alloc; collects = record {} }
+
+abbrev pub between_of : ℕ → ℕ → Between
+between_of least most = record { least = least; most = most }
+
+-- what the constructors of counted repetitions build
+abbrev pub count_min_max_of : {F P : Type 0} → Global → ℕ → ℕ → P → Repeat (Each F) P Between
+count_min_max_of alloc least most parser = repeat_of (each_of alloc) parser (between_of least most)
+
+abbrev pub skip_count_min_max_of : {P : Type 0} → ℕ → ℕ → P → Repeat Dropped P Between
+skip_count_min_max_of least most parser = repeat_of (record {}) parser (between_of least most)
+
+abbrev pub least_of : {G P : Type 0} → Repeat G P Between → ℕ
+least_of p = (bounds_of p).least
+
+abbrev pub most_of : {G P : Type 0} → Repeat G P Between → ℕ
+most_of p = (bounds_of p).most
