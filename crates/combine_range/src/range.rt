@@ -2,7 +2,7 @@
 //!
 //! They run over every stream that hands out ranges. On need of more each puts the stream back to where it began.
 ghost use Rattle.std.specs.Prelude.{◌≡◌};
-ghost use Rattle.combine_range.specs.RangeParsers.{range_of, recognize_of, recognize_with_value_of, take_of, take_until_range_of, take_while_of, take_while1_of};
+ghost use Rattle.combine_range.specs.RangeParsers.{range_of, recognize_of, recognize_with_value_of, take_of, take_until_range_of, take_beginning_of};
 
 mod beginnings;
 mod lengths;
@@ -12,7 +12,9 @@ mod until;
 
 pub use recognized::RecognizeState;
 use std::marker::PhantomData;
-use types::{Range, Recognize, RecognizeWithValue, Take, TakeUntilRange, TakeWhile, TakeWhile1};
+use types::{
+    Range, Recognize, RecognizeWithValue, Take, TakeBeginning, TakeUntilRange, TakeWhile, TakeWhile1,
+};
 
 /// Parses as many first items as the range has, if they are that range: accepted committed, also where the range is empty. If they are others: refused peeked, with the items put back. The value is the range that was read.
 ///
@@ -45,9 +47,9 @@ pub fn take<Input>(count: usize) -> Take<Input>
 /// Where it is all of an open piece more is asked for; the next call doesn't begin again, but passes over the items read so far and goes on. It is never refused, but from a kept distance that ends inside a token of other input. Faults: `Lost` where the input is shorter than what an earlier call read; `Read` and `Reset` where the stream failed. The crate takes an `FnMut`.
 #[inline]
 pub fn take_while<Input, F>(predicate: F) -> TakeWhile<Input, F>
-    ensures { result ≡ take_while_of predicate }
+    ensures { result ≡ take_beginning_of predicate }
 {
-    TakeWhile {
+    TakeBeginning {
         predicate,
         reads: PhantomData,
     }
@@ -58,9 +60,9 @@ pub fn take_while<Input, F>(predicate: F) -> TakeWhile<Input, F>
 /// The error stands where the beginning would. Where nothing is left of ended input, it is of kind `End` and says so; one that finds no memory for that is the fault `Memory`. At a token it says nothing.
 #[inline]
 pub fn take_while1<Input, F>(predicate: F) -> TakeWhile1<Input, F>
-    ensures { result ≡ take_while1_of predicate }
+    ensures { result ≡ take_beginning_of predicate }
 {
-    TakeWhile1 {
+    TakeBeginning {
         predicate,
         reads: PhantomData,
     }
