@@ -1,4 +1,4 @@
-//! The parser that `in_class` answers.
+//! The parser that `in_class` returns.
 ghost use Rattle.std.specs.Prelude.{◌≡◌};
 ghost use Rattle.combine_base.specs.Error.Errors.{Only};
 ghost use Rattle.combine_base.specs.Error.Items.{Expected, Fixed};

@@ -1,4 +1,4 @@
-//! A message behind its length, and the parser that is answered for a length.
+//! A message after its length, and the parser for a length.
 ghost use Rattle.std.specs.Prelude.{◌≡◌};
 ghost use Rattle.combine_decode.specs.Frames.{framing_of};
 ghost use Rattle.combine_sequence.specs.Answered.{forget};

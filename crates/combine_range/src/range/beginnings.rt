@@ -33,7 +33,7 @@ pub struct TakeWhile1<Input, F> {
     pub(super) reads: PhantomData<Input>,
 }
 
-// One call. An empty beginning is refused where `some` is true.
+// Makes one call. An empty beginning is refused where `some` is true.
 #[inline(always)]
 fn take_beginning<Input: RangeStream, F: Maps<Input::Token, bool>>(
     test: &F,
