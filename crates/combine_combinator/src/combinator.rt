@@ -41,9 +41,9 @@ pub fn map<P, F, B>(p: P, f: F) -> Map<P, F, B>
 ///
 /// Faults stay committed. They are those of `p`, and three of the parser's own:
 ///
-/// - `Reset`, if the stream can't be put back
-/// - `Read`, if the distance can't be read again
-/// - `Lost`, if the input is shorter than a kept distance
+/// - `Reset` if the stream can't be put back.
+/// - `Read` if the distance can't be read again.
+/// - `Lost` if the input is shorter than a kept distance.
 ///
 /// # Partial input
 ///
