@@ -22,6 +22,16 @@ use types::{Factory, Lazy};
 /// # Differences from combine
 ///
 /// `maker` is an `Fn`, where the crate takes an `FnMut`, and asks it again on resumption.
+///
+/// # Examples
+///
+/// ```
+/// fn pair(input: &[u8]) -> Result<((u8, u8), &[u8]), UnexpectedParse> {
+///     lazy(|| (token(b'a'), token(b'b'))).parse(input)
+/// }
+/// ```
+///
+/// On `b"abc"` it returns `((b'a', b'b'), b"c")`.
 #[inline]
 pub fn lazy<F>(maker: F) -> Lazy<F>
     ensures { result ≡ lazy_of maker }
@@ -45,6 +55,22 @@ pub fn lazy<F>(maker: F) -> Lazy<F>
 ///
 /// - `maker` is an `Fn`, where the crate takes an `FnMut`.
 /// - The crate keeps the parser in itself, and adds to an error what its last parser adds.
+///
+/// # Examples
+///
+/// ```
+/// fn an_a<Input>(_input: &mut Input) -> Token<Input, u8>
+///     ensures { _input.new ≡ _input.old }
+/// {
+///     token(b'a')
+/// }
+///
+/// fn placed_a(input: &[u8]) -> Result<(u8, &[u8]), UnexpectedParse> {
+///     factory(an_a).parse(input)
+/// }
+/// ```
+///
+/// On `b"ab"` it returns `(b'a', b"b")`.
 #[inline]
 pub fn factory<F>(maker: F) -> Factory<F>
     ensures { result ≡ factory_of maker }

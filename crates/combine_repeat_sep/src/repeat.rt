@@ -23,7 +23,7 @@ use types::{Chainl1, RepeatSeparated, SepBy, SepBy1, SepCountMinMax};
 
 /// Takes at least `min` and at most `max` elements, which are `parser`'s, with what `separator` takes between two of them. Our own.
 ///
-/// `min` is at most `max`. With `max` 0 it is accepted, and nothing runs. After `max` elements it is accepted, and no further turn runs. A peeked refusal of a later turn is put back, and after at least `min` elements the result is accepted. With `min` 0 a peeked refusal of the first element is put back too, and accepted, peeked. Else an acceptance is committed exactly if a turn was.
+/// `min` has to be at most `max`. With `max` 0 it is accepted, and nothing runs. After `max` elements it is accepted, and no further turn runs. A peeked refusal of a later turn is put back, and after at least `min` elements the result is accepted. With `min` 0 a peeked refusal of the first element is put back too, and accepted, peeked. Else an acceptance is committed exactly if a turn was.
 ///
 /// # Errors
 ///
@@ -56,7 +56,7 @@ pub fn sep_count_min_max<F, P, S>(
 
 /// Takes any number of elements, with what `separator` takes between two of them, and collects their values.
 ///
-/// It is `sep_count_min_max` without a bound, and refuses and goes on as that does.
+/// It is `sep_count_min_max` with `min` 0 and no upper bound, and refuses and goes on as that does.
 ///
 /// # Differences from combine
 ///

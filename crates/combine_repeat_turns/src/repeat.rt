@@ -23,7 +23,7 @@ use types::{Count, CountMinMax, Repeat, SkipCount, SkipCountMinMax};
 
 /// Runs at least `min` and at most `max` turns of `parser`, and collects their values in order.
 ///
-/// `min` is at most `max`, and a turn may take nothing. After `max` turns it is accepted, and no further turn runs. A peeked refusal ends the turns; after at least `min` it is put back, and the result is accepted. An acceptance is committed exactly if a turn was.
+/// `min` has to be at most `max`. A turn may take nothing. After `max` turns it is accepted, and no further turn runs. A peeked refusal ends the turns; after at least `min` it is put back, and the result is accepted. An acceptance is committed exactly if a turn was.
 ///
 /// # Errors
 ///
@@ -65,7 +65,7 @@ pub fn count_min_max<F, P>(alloc: Global, min: usize, max: usize, parser: P) -> 
 
 /// Runs turns as `count_min_max` does, and drops the values.
 ///
-/// `min` is at most `max`. It takes no memory of its own, but for that of an error's message.
+/// `min` has to be at most `max`. It takes no memory of its own, but for that of an error's message.
 #[inline]
 pub fn skip_count_min_max<P>(min: usize, max: usize, parser: P) -> SkipCountMinMax<P>
     requires { min ≤ max }

@@ -13,7 +13,7 @@ use combine_token::token::types::Any;
 use std::alloc::Global;
 use std::marker::PhantomData;
 
-/// Is asked for the parser of so many bytes, which are collected. Our own.
+/// The function from a length to the parser of so many bytes, which are collected. Our own.
 #[derive(Drop)]
 #[derive_where(Clone, Copy)]
 pub struct Framing<Input> {
@@ -22,7 +22,7 @@ pub struct Framing<Input> {
 }
 
 impl<Input> Framing<Input> {
-    /// Collects bytes with this allocator.
+    /// Returns the function, which collects bytes with this allocator.
     pub(super) fn new(alloc: Global) -> Self
         ensures { result ≡ framing_of alloc }
     {
