@@ -26,7 +26,9 @@ use combine_sequence::sequence::types::{Skip, Then, ThenPartial, ThenRef, With};
 use combine_token::choice;
 use combine_token::choice::types::Or;
 
-/// The method forms of the constructors, which every parser has. Each means the constructor of the same name.
+/// The method forms of the constructors, which every parser has.
+///
+/// Each means the constructor of the same name.
 ///
 /// In the crate they are methods of `Parser` itself.
 pub trait ParserExt<Input: Stream>: Parser<Input> {

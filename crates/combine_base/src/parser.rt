@@ -97,7 +97,9 @@ pub trait Parser<Input: Stream>: Outputs<Input> {
     /// What a call needs of a caller's functions and types.
     ghost lawful: { Self → Type 0 };
 
-    /// What a caller's functions owe so that there is one outcome, by its shape. No call needs it.
+    /// What a caller's functions owe so that there is one outcome, by its shape.
+    ///
+    /// No call needs it.
     ///
     /// Those on whose value an outcome depends, as that of `then`, answer from what their arguments hold.
     ghost determined: { Self → Type 0 };
@@ -266,7 +268,7 @@ pub trait Parser<Input: Stream>: Outputs<Input> {
         self.parse_mode(FirstMode, input, &mut state)
     }
 
-    /// Parses from the start.
+    /// Parses from the start, and explains a peeked refusal.
     ///
     /// # Errors
     ///

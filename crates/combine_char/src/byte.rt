@@ -150,7 +150,9 @@ pub fn spaces<Input>() -> Spaces<Input>
     naming(skip_many(space()))
 }
 
-/// Takes the bytes of the list, one after another. Its value is the list.
+/// Takes the bytes of the list, one after another.
+///
+/// Its value is the list.
 ///
 /// An empty list is accepted peeked.
 ///

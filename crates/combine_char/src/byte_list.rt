@@ -46,7 +46,9 @@ impl ShowsBytes for () {
     fn of_bytes(bytes: &'static [u8]) -> Self {}
 }
 
-/// The parser of the bytes of a list, one after another. Its value is the list.
+/// The parser of the bytes of a list, one after another.
+///
+/// Its value is the list.
 ///
 /// The error of a committed mismatch says which token stands there, at the position where the call began.
 ///

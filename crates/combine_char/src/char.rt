@@ -150,7 +150,9 @@ pub fn spaces<Input>() -> Spaces<Input>
     naming(skip_many(space()))
 }
 
-/// Takes the characters of the text, one after another. Its value is the text.
+/// Takes the characters of the text, one after another.
+///
+/// Its value is the text.
 ///
 /// An empty text is accepted peeked.
 ///

@@ -20,7 +20,9 @@ use combine_token::token::{TokensState, match_list};
 use std::marker::PhantomData;
 use std::str::Chars;
 
-/// The parser of the characters of a text, one after another. Its value is the text.
+/// The parser of the characters of a text, one after another.
+///
+/// Its value is the text.
 ///
 /// The error of a committed mismatch says which token stands there, at the position where the call began.
 ///

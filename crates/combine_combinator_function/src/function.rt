@@ -7,7 +7,9 @@ pub mod types;
 use std::marker::PhantomData;
 use types::{Called, EnvParser, FnParser, Plain, WithEnv};
 
-/// Parses as the function, which is given the stream. Nothing is added to errors.
+/// Parses as the function, which is given the stream.
+///
+/// Nothing is added to errors.
 ///
 /// # What the function owes
 ///

@@ -69,6 +69,16 @@ pub enum Phase {
 /// A decoder of messages that stand one after another in tokens which are fed piece by piece.
 ///
 /// It keeps what is unread, and what its parser has collected, however long a message grows. Against a peer that never ends one, bound what the parser collects, as `count_min_max` does, or loop over a `Session` with a limit.
+///
+/// # Examples
+///
+/// ```
+/// let mut decoder = Decoder::new(alloc, || frame(alloc));
+/// let batch = decoder.feed(piece)?;
+/// for message in batch.messages {
+///     // ..
+/// }
+/// ```
 #[derive(Drop)]
 pub struct Decoder<F: Fn() -> P, P: Parser<fed::Stream<T>>, T: Copy + 'static> {
     alloc: Global,

@@ -27,7 +27,9 @@ pub trait SpannedError<T, R, P: Ord + Copy>: ParseError<T, R, P> {
     /// The error at a span.
     type Spanned: DetailedError<T, R, Span<P>>;
 
-    /// Makes the same error, at that span. The kind and the items stay.
+    /// Makes the same error, at that span.
+    ///
+    /// The kind and the items stay.
     fn at_span(self, span: Span<P>) -> Self::Spanned
         ensures { AtSpan Self.seen Self.Spanned.seen span self result };
 }

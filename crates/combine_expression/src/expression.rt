@@ -56,7 +56,9 @@ pub trait Operator: Drop {
         ensures { MatchResult result (joins self left right) (λ _. refuses_operands self left right) };
 }
 
-/// What a step of an expression reads. An operator stands with its level.
+/// What a step of an expression reads.
+///
+/// An operator stands with its level.
 #[derive(Drop)]
 pub enum Item<O, V> {
     /// An operand.

@@ -14,7 +14,9 @@ pub use recognized::RecognizeState;
 use std::marker::PhantomData;
 use types::{Range, Recognize, RecognizeWithValue, Take, TakeUntilRange, TakeWhile, TakeWhile1};
 
-/// Takes as many first items as the range has, if they are that range. The value is the range that was read.
+/// Takes as many first items as the range has, if they are that range.
+///
+/// The value is the range that was read.
 ///
 /// The acceptance is committed, also where the range is empty. The length is judged first: too few items of an open piece are need of more, also where they differ already.
 ///

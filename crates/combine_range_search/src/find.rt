@@ -137,7 +137,9 @@ fn begins(bytes: &[u8], needle: &[u8]) -> bool
     front == needle
 }
 
-/// Returns the first place of a needle. An empty one stands at 0.
+/// Returns the first place of a needle.
+///
+/// An empty one stands at 0.
 #[inline]
 pub fn find_bytes(bytes: &[u8], needle: &[u8]) -> Option<usize>
     ensures { Finds (these_bytes needle.now) bytes.now result }

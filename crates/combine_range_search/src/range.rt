@@ -37,6 +37,23 @@ use types::TakeFn;
 /// - The function is an `Fn`, where the crate takes an `FnMut`.
 /// - The error stands in the crate at the end of what was read.
 /// - The distance that is kept is in the crate that of the last call alone.
+///
+/// # Examples
+///
+/// ```
+/// fn third(bytes: &[u8]) -> Option<usize> {
+///     if bytes.len() < 3 {
+///         return None;
+///     }
+///     Some(2)
+/// }
+///
+/// fn before_third(input: &[u8]) -> Result<(&[u8], &[u8]), UnexpectedParse> {
+///     take_fn(third).parse(input)
+/// }
+/// ```
+///
+/// On `b"abcd"` it returns `(b"ab", b"cd")`.
 #[inline]
 pub fn take_fn<F, Input>(searcher: F) -> TakeFn<F, Input>
     ensures { result ≡ take_fn_of searcher }

@@ -64,7 +64,9 @@ where
     ghost one: { (s : Self) → settled s → IsOneSearch (search s) };
 }
 
-/// What stands before the place that a search finds. The state is the distance that need not be searched again.
+/// What stands before the place that a search finds.
+///
+/// The state is the distance that need not be searched again.
 #[derive(Drop)]
 #[derive_where(Clone; S)]
 pub struct Searching<Input, S> {

@@ -125,7 +125,9 @@ pub struct Iter<'a, Input: Stream, P: Parser<Input>, M> {
 }
 
 impl<'a, Input: Stream, P: Parser<Input>, M: ParseMode> Iter<'a, Input, P, M> {
-    /// Makes an iterator whose first turn begins afresh or goes on from the state, as the mode says. It takes no memory.
+    /// Makes an iterator whose first turn begins afresh or goes on from the state, as the mode says.
+    ///
+    /// It takes no memory.
     ///
     /// The parser is lawful, and the state one that it keeps.
     pub fn new(

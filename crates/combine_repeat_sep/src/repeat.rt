@@ -36,6 +36,17 @@ use types::{Chainl1, RepeatSeparated, SepBy, SepBy1, SepCountMinMax};
 /// # Partial input
 ///
 /// On need of more the state keeps what is collected, how many elements there were, whether one committed, and the turn that runs.
+///
+/// # Examples
+///
+/// ```
+/// fn digits(alloc: Global, input: &[u8]) -> Result<(Vec<u8>, &[u8]), UnexpectedParse> {
+///     let digit = satisfy(|byte: u8| byte.is_ascii_digit());
+///     sep_count_min_max::<Vec<u8>, _, _>(alloc, 2, 3, digit, token(b',')).parse(input)
+/// }
+/// ```
+///
+/// On `b"1,2,3,4"` it returns `(b"123", b",4")`; `b"1;"` is refused committed.
 #[inline]
 pub fn sep_count_min_max<F, P, S>(
     alloc: Global,

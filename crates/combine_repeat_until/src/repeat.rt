@@ -40,6 +40,17 @@ use types::{BlocksUntil, Mute, RepeatUntil, SkipRepeatUntil, SkipUntil, Skips, T
 /// # Differences from combine
 ///
 /// The crate puts back the tokens of `end` alone, and loses the kind of a refusal over a cut. It adds nothing to an error.
+///
+/// # Examples
+///
+/// ```
+/// fn letters(alloc: Global, input: &[u8]) -> Result<(Vec<u8>, &[u8]), UnexpectedParse> {
+///     let letter = satisfy(|byte: u8| byte.is_ascii_lowercase());
+///     repeat_until::<Vec<u8>, _, _, _>(alloc, letter, token(b';')).parse(input)
+/// }
+/// ```
+///
+/// On `b"ab;"` it returns `(b"ab", b";")`.
 #[inline]
 pub fn repeat_until<F, A, P, E>(alloc: Global, parser: P, end: E) -> RepeatUntil<F, A, P, E>
     ensures { result ≡ repeat_until_of alloc parser end }

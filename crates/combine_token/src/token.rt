@@ -120,7 +120,9 @@ pub fn satisfy_map<Input, F, B>(predicate: F) -> SatisfyMap<Input, F, B>
     }
 }
 
-/// Takes a token that equals this one. The value is the token that was taken.
+/// Takes a token that equals this one.
+///
+/// The value is the token that was taken.
 ///
 /// The acceptance is committed.
 ///

@@ -19,7 +19,9 @@ pub fn messages_go_on<F: Fn() -> P, P: Parser<fed::Stream<T>>, T: Copy + 'static
     ensures { GoOn (made P.meaning (F.post maker.now)) }
 {}
 
-/// The law that tokens have one division into messages, and one end, where the maker's parsers share one meaning that has one outcome. A message's value is any that the meaning allows.
+/// The law that tokens have one division into messages, and one end, where the maker's parsers share one meaning that has one outcome.
+///
+/// A message's value is any that the meaning allows.
 pub fn messages_are_one<F: Fn() -> P, P: Parser<fed::Stream<T>>, T: Copy + 'static>(maker: &F)
     requires lawful { IsMade (F.post maker.now) P.lawful }
     requires determined { IsMade (F.post maker.now) P.determined }

@@ -8,13 +8,17 @@ use combine_base::parser::Parser;
 use combine_base::stream::Stream;
 use std::alloc::Global;
 
-/// Parses with errors that keep items. Every parser over an `easy::Stream` has it.
+/// Parses with errors that keep items.
+///
+/// Every parser over an `easy::Stream` has it.
 pub trait EasyParser<S: Stream>: Parser<EasyStream<S>>
 where
     S::Token: PartialEq,
     S::Range: PartialEq,
 {
-    /// Parses from the start, and returns the value and the input that is left. It is `parse` over an `easy::Stream`.
+    /// Parses from the start, and returns the value and the input that is left.
+    ///
+    /// It is `parse` over an `easy::Stream`.
     ///
     /// The items of errors take their memory from `alloc`.
     ///

@@ -123,7 +123,9 @@ fn call_item<Input: Stream, N: Parser<Input>, M: ParseMode>(
     parser.parse_mode(mode, input, state)
 }
 
-/// Runs an item's parser from its state. Need of more is kept in `state`, which is a default one.
+/// Runs an item's parser from its state.
+///
+/// Need of more is kept in `state`, which is a default one.
 #[inline(always)]
 pub(super) fn parse_item<
     Input: Stream,

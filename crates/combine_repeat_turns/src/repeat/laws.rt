@@ -9,7 +9,9 @@ use combine_base::parser::Parser;
 use combine_base::repeat::Append;
 use combine_base::stream::Stream;
 
-/// The law that `skip_count_min_max(min, max, p)` has the count and kind of `count_min_max(min, max, p)`. With `min` 0 that is said of `skip_count` and `count`.
+/// The law that `skip_count_min_max(min, max, p)` has the count and kind of `count_min_max(min, max, p)`.
+///
+/// With `min` 0 that is said of `skip_count` and `count`.
 pub fn skip_count_min_max_is_count_min_max_dropped<F, Input: Stream, P: Parser<Input>>(
     min: usize,
     max: usize,

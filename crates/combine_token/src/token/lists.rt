@@ -15,7 +15,9 @@ use combine_base::stream::{Kind, Stream, StreamOnce, ends_open};
 use std::marker::PhantomData;
 use types::{Tokens, TokensCmp, TokensState};
 
-/// Takes the tokens of a list, one after another. Its value is a clone of the list.
+/// Takes the tokens of a list, one after another.
+///
+/// Its value is a clone of the list.
 ///
 /// `cmp` is given each item of the list with the token at its place, and says whether the token fits. `expected` is what errors say was expected. An iterator of each clone of the list has to give equally many items, fewer than 2^64. An empty list is accepted peeked.
 ///

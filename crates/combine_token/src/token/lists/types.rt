@@ -130,6 +130,7 @@ where
 }
 
 /// The parser of [`tokens_cmp`](crate::token::tokens_cmp).
+///
 /// Its errors at a committed mismatch say which token stands there, at the position where the call began. What was expected is never said.
 ///
 /// On need of more nothing is left unread: the state keeps how many tokens were matched.

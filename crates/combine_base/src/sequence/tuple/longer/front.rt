@@ -43,7 +43,9 @@ pub(super) trait Front<Input: Stream> {
     fn begin() -> Self::State
         ensures { fresh result };
 
-    /// Runs the parts, from what is kept of them. Need of more is kept in `state`, and every other result leaves one that begins the parts, as it was.
+    /// Runs the parts, from what is kept of them.
+    ///
+    /// Need of more is kept in `state`, and every other result leaves one that begins the parts, as it was.
     fn run<M: ParseMode>(
         &mut self,
         mode: M,
