@@ -204,6 +204,21 @@ pub trait ParserExt<Input: Stream>: Parser<Input> {
     /// Gives the values of this parser, one after another, on a stream that is lent, with a state that is lent.
     ///
     /// The first turn begins afresh. The parser is lawful, and the state one that it keeps.
+    ///
+    /// # Examples
+    ///
+    /// ```
+    /// fn leading_digits(alloc: Global, input: &mut fed::Stream<u8>) -> Result<Vec<u8>, AllocError> {
+    ///     let mut state = Default::default();
+    ///     let mut digits = Vec::new(alloc);
+    ///     for digit in satisfy(is_digit).iter(input, &mut state) {
+    ///         digits.push(digit)?;
+    ///     }
+    ///     Ok(digits)
+    /// }
+    /// ```
+    ///
+    /// Of a stream that was fed `b"12a"` it takes `b"12"`.
     final fn iter<'a>(
         self,
         input: &'a mut Input,

@@ -31,19 +31,22 @@ use types::{AndThen, FlatMap, FromStr, MapInput};
 /// # Examples
 ///
 /// ```
-/// fn no_x(byte: u8) -> Result<u8, UnexpectedParse> {
-///     if byte == b'x' {
-///         return Err(UnexpectedParse(Kind::Refused));
+/// fn digit_of(byte: u8) -> Result<u8, UnexpectedParse>
+///     ensures { IfErr result (λ e. e.0 ≡ Kind.Refused) }
+/// {
+///     if byte.is_ascii_digit() {
+///         Ok(byte - b'0')
+///     } else {
+///         Err(UnexpectedParse(Kind::Refused))
 ///     }
-///     Ok(byte)
 /// }
 ///
-/// fn other(input: &[u8]) -> Result<(u8, &[u8]), UnexpectedParse> {
-///     and_then(any(), no_x).parse(input)
+/// fn digit(input: &[u8]) -> Result<(u8, &[u8]), UnexpectedParse> {
+///     and_then(any(), digit_of).parse(input)
 /// }
 /// ```
 ///
-/// On `b"ab"` it returns `(b'a', b"b")`; `b"x"` is refused committed.
+/// On `b"7;"` it returns `(7, b";")`; `b"x"` is refused committed.
 #[inline]
 pub fn and_then<P, F, B>(p: P, f: F) -> AndThen<P, F, B>
     ensures { result ≡ and_then_of p f }
@@ -62,6 +65,16 @@ pub fn and_then<P, F, B>(p: P, f: F) -> AndThen<P, F, B>
 /// # Differences from combine
 ///
 /// `f` is an `Fn`, where the crate takes an `FnMut`.
+///
+/// # Examples
+///
+/// With `digit_of` as for [`and_then`]:
+///
+/// ```
+/// fn digit(input: &[u8]) -> Result<(u8, &[u8]), UnexpectedParse> {
+///     flat_map(any(), digit_of).parse(input)
+/// }
+/// ```
 #[inline]
 pub fn flat_map<P, F, B>(p: P, f: F) -> FlatMap<P, F, B>
     ensures { result ≡ flat_map_of p f }

@@ -13,6 +13,14 @@ use types::Spanned;
 /// # Errors
 ///
 /// An error whose span begins and ends at one position is made to stand at the span from where this call began to where it left the stream. A span that an inner `spanned` has set stays. What an error says stays, and so does its kind. An error that keeps no position is left as it is.
+///
+/// # Examples
+///
+/// ```
+/// fn placed(input: &[u8]) -> Result<(u8, span::Stream<&[u8]>), UnexpectedParse> {
+///     spanned(token(b'a')).parse(span::Stream(input))
+/// }
+/// ```
 #[inline]
 pub fn spanned<P>(parser: P) -> Spanned<P>
     ensures { result ≡ spanned_of parser }

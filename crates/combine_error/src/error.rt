@@ -71,6 +71,19 @@ where
 /// # Differences from combine
 ///
 /// The crate clears faults and need of more too.
+///
+/// # Examples
+///
+/// ```
+/// fn hushed<'a>(
+///     alloc: Global,
+///     text: &'a str,
+/// ) -> Result<(char, &'a str), Errors<char, &'a str, Left>> {
+///     silent(token('a')).easy_parse(alloc, text)
+/// }
+/// ```
+///
+/// Of `"b"` the error says ``Unexpected `b` `` alone.
 #[inline]
 pub fn silent<P>(parser: P) -> Silent<P>
     ensures { result ≡ silent_of parser }

@@ -401,7 +401,7 @@ pub enum Stop<F, E> {
     Refused(Turns<F>, Tracked<E>),
     /// The turn needs more.
     More(Turns<F>, E),
-    /// The turn is refused committed, or met a fault.
+    /// The turn is refused committed, takes nothing, or met a fault.
     Failed(E),
 }
 

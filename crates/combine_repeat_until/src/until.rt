@@ -183,7 +183,7 @@ pub enum Stop<F, E> {
     Refused(Tracked<E>),
     /// The running part needs more.
     More(Blocks<F>, E),
-    /// A block is refused committed, or met a fault.
+    /// The running part is refused committed, or met a fault; or a block takes nothing.
     Failed(E),
 }
 

@@ -119,6 +119,20 @@ pub fn then<P, F, B>(parser: P, f: F) -> Then<P, F, B>
 /// # Differences from combine
 ///
 /// The crate's hands its function the value as it stands in the state, and asks it again for each piece.
+///
+/// # Examples
+///
+/// ```
+/// fn next_byte(input: &[u8]) -> Result<(u8, &[u8]), UnexpectedParse> {
+///     let next = |byte: &mut u8| {
+///         *byte = byte.wrapping_add(1);
+///         token(*byte)
+///     };
+///     then_partial(any(), next).parse(input)
+/// }
+/// ```
+///
+/// On `b"abc"` it returns `(b'b', b"c")`.
 #[inline]
 pub fn then_partial<P, F, B>(parser: P, f: F) -> ThenPartial<P, F, B>
     ensures { result ≡ then_partial_of parser f }
@@ -129,6 +143,20 @@ pub fn then_partial<P, F, B>(parser: P, f: F) -> ThenPartial<P, F, B>
 /// Parses as `then` does, where the function takes a reference to the value.
 ///
 /// The value of both is the pair of both values.
+///
+/// # Examples
+///
+/// ```
+/// fn digit_twice(
+///     alloc: Global,
+///     pieces: &[&[u8]],
+/// ) -> Result<Answer<(u8, u8), UnexpectedParse>, SessionError> {
+///     let twice = then_ref(digit(), |digit: &u8| token(*digit));
+///     parse_pieces(alloc, twice, pieces)
+/// }
+/// ```
+///
+/// Of the pieces `b"1"` and `b"1;"` it accepts `(b'1', b'1')`, with 2 tokens taken.
 #[inline]
 pub fn then_ref<P, F, B>(parser: P, f: F) -> ThenRef<P, F, B>
     ensures { result ≡ then_ref_of parser f }
@@ -145,6 +173,17 @@ pub fn then_ref<P, F, B>(parser: P, f: F) -> ThenRef<P, F, B>
 /// # Differences from combine
 ///
 /// Without names the crate's takes up to fifteen parts.
+///
+/// # Examples
+///
+/// ```
+/// let mut header = struct_parser!(Header {
+///     name: take_while1(is_token_byte),
+///     _: (token(b':'), take_while(is_blank)),
+///     value: recognize(skip_many(word)),
+///     _: (take_while(is_blank), crlf()),
+/// });
+/// ```
 #[macro_export]
 macro_rules! struct_parser {
     ($name:ident { $($parts:tt)* }) => {

@@ -211,6 +211,16 @@ pub fn value<Input, T>(value: T) -> Value<Input, T>
 /// # Differences from combine
 ///
 /// The function is an `Fn`, where the crate takes an `FnMut`.
+///
+/// # Examples
+///
+/// ```
+/// fn seven(input: &[u8]) -> Result<(u8, &[u8]), UnexpectedParse> {
+///     produce(|| 7_u8).parse(input)
+/// }
+/// ```
+///
+/// On `b"a"` it returns `(7, b"a")`.
 #[inline]
 pub fn produce<Input, F, B>(f: F) -> Produce<Input, F, B>
     ensures { result ≡ produce_parser f }
