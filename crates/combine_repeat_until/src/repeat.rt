@@ -98,11 +98,11 @@ pub fn repeat_skip_until<A, P, E>(parser: P, end: E) -> SkipRepeatUntil<A, P, E>
 ///
 /// ```
 /// fn comment(alloc: Global, input: &[u8]) -> Result<(Vec<u8>, &[u8]), UnexpectedParse> {
-///     take_until::<Vec<u8>, _, _, _>(alloc, attempt((token(b'*'), token(b'/')))).parse(input)
+///     take_until::<Vec<u8>, _, _, _>(alloc, attempt((token(b'-'), token(b'>')))).parse(input)
 /// }
 /// ```
 ///
-/// On `b"a*b*/"` it returns `(b"a*b", b"*/")`.
+/// On `b"a-b->"` it returns `(b"a-b", b"->")`.
 #[inline]
 pub fn take_until<F, Input, T, E>(alloc: Global, end: E) -> TakeUntil<F, Input, T, E>
     ensures { result ≡ take_until_of alloc end }
