@@ -67,7 +67,7 @@ impl<'a, Input: Stream, O: Drop> Visitor<Input, O> for Explain<'a, Input::Error>
     }
 }
 
-/// Lets the parser that it is handed go, whose laws are then known.
+/// Drops the parser; its contract is that the parser's laws hold.
 #[derive(Drop)]
 struct Laws;
 

@@ -1,4 +1,4 @@
-//! `skip_many` of words, which are `skip_many1` of letters with a `;` behind them.
+//! `skip_many` of words, which are `skip_many1` of letters with a `;` after them.
 ghost use Rattle.bench_measures.specs.Measures.{Measures, many_in_many, taken};
 
 use crate::classes::Letter;

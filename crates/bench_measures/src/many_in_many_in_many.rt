@@ -1,4 +1,4 @@
-//! `skip_many` of groups with a `;` behind them, which are `skip_many1` of words, which are `skip_many1` of letters with a `,` behind them.
+//! `skip_many` of groups with a `;` after them, which are `skip_many1` of words, which are `skip_many1` of letters with a `,` after them.
 ghost use Rattle.bench_measures.specs.Measures.{Measures, many_in_many_in_many, taken};
 
 use crate::classes::Letter;

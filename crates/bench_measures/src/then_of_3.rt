@@ -15,10 +15,10 @@ use combine_token::token::any;
 use combine_token::token::types::Any;
 use std::alloc::Global;
 
-/// The parsers behind tags.
+/// The parsers after tags.
 type Tagged<Input> = Dispatch3<Lower<Input>, Digit<Input>, Any<Input>>;
 
-/// The parser behind that tag: of a small letter behind an `a`, of a digit behind a `1`, of any byte behind another.
+/// The parser after that tag: of a small letter after an `a`, of a digit after a `1`, of any byte after another.
 #[inline(always)]
 fn tagged<Input>(tag: u8) -> Tagged<Input>
     ensures { result ≡ behind tag }
@@ -30,7 +30,7 @@ fn tagged<Input>(tag: u8) -> Tagged<Input>
     }
 }
 
-/// How many bytes tags and what stands behind them take, by that run.
+/// How many bytes tags and what stands after them take, by that run.
 #[inline(always)]
 fn skip_tagged<Input: Stream<Token = u8>, R: Run<Input> + Drop>(run: R) -> u64
 where
@@ -45,7 +45,7 @@ where
     count_taken(run, skip_many(one))
 }
 
-/// Skips tags and what stands behind them; answers how many bytes it took.
+/// Skips tags and what stands after them; answers how many bytes it took.
 #[unsafe(no_mangle)]
 pub extern "C" fn combine_bench_then_of_3(alloc: Global, bytes: &[u8], piece: usize) -> u64 {
     if piece == 0 {

@@ -16,16 +16,18 @@ use std::marker::PhantomData;
 pub trait Number: Drop {
     ghost use Rattle.std.specs.Prelude.{ℕ, ◌≤◌, ◌<◌, ◌^◌};
 
-    /// In how many bytes they stand.
+    /// How many bytes they stand in.
     ghost width: { ℕ };
 
     /// What a sum of bytes stands for.
     ghost of_sum: { ℕ → Self };
 
+    /// Returns how many bytes they stand in.
     fn width() -> u8
         ensures value { result ≡ width }
         ensures few { result ≤ 8 };
 
+    /// Returns what a sum of bytes stands for.
     fn from_sum(sum: u64) -> Self
         requires { sum < 256 ^ width }
         ensures { result ≡ Self.of_sum sum };
@@ -127,7 +129,9 @@ impl Number for i64 {
     }
 }
 
-/// The parser of a number of type `N` whose bytes stand in the order `O`. It keeps no state: on need of more the stream is put back, and the next call begins again.
+/// The parser of a number of type `N` whose bytes stand in the order `O`.
+///
+/// It keeps no state: on need of more the stream is put back, and the next call begins again.
 #[derive(Drop)]
 #[derive_where(Clone, Copy; O, N)]
 pub struct WholeNumber<Input, O, N> {
@@ -138,7 +142,13 @@ pub struct WholeNumber<Input, O, N> {
 
 /// Takes as many bytes as the number has: accepted committed, with the number that stands in them.
 ///
-/// Too few bytes of ended input are put back and refused peeked, with an error that stands where the parser began; at the end of an open piece they are put back, and more is asked for. Nothing is said to be expected.
+/// # Errors
+///
+/// Too few bytes of ended input are put back and refused peeked, with an error that stands where the parser began. Nothing is said to be expected.
+///
+/// # Partial input
+///
+/// Too few bytes of an open piece are put back, and more is asked for.
 #[inline]
 pub fn whole_number<Input, O, N>() -> WholeNumber<Input, O, N>
     ensures { result ≡ number_parser }
@@ -150,7 +160,7 @@ pub fn whole_number<Input, O, N>() -> WholeNumber<Input, O, N>
     }
 }
 
-/// What is answered where the bytes ended too early: the stream is put back to where they began.
+/// Returns the result where the bytes ended too early, with the stream put back to where they began.
 #[cold]
 fn too_few<V, Input: Stream>(
     start: Input::Checkpoint,

@@ -17,7 +17,7 @@ use combine_token::token::{TokensState, match_list};
 use std::marker::PhantomData;
 use std::slice::Iter;
 
-/// The ranges of a stream of bytes, by which errors show a list of bytes.
+/// What errors show a list of bytes by: the ranges of a stream of bytes.
 pub trait ShowsBytes: Copy {
     ghost use Rattle.std.specs.Prelude.{ℕ, List};
 
@@ -46,9 +46,13 @@ impl ShowsBytes for () {
     fn of_bytes(bytes: &'static [u8]) -> Self {}
 }
 
-/// The parser of the bytes of a list, one after another; its value is the list.
+/// The parser of the bytes of a list, one after another.
 ///
-/// The error of a committed mismatch says which token stands there, at the position where the call began. On need of more nothing is left unread: the state keeps how many bytes were matched.
+/// Its value is the list.
+///
+/// The error of a committed mismatch says which token stands there, at the position where the call began.
+///
+/// On need of more nothing is left unread: the state keeps how many bytes were matched.
 #[derive(Drop)]
 pub struct InBytes<Input, F> {
     bytes: &'static [u8],
@@ -56,7 +60,7 @@ pub struct InBytes<Input, F> {
     reads: PhantomData<Input>,
 }
 
-/// The bytes of a list, each compared with the token at its place.
+/// Takes the bytes of a list, each compared with the token at its place.
 #[inline]
 pub fn in_bytes<Input, F>(bytes: &'static [u8], fits: F) -> InBytes<Input, F>
     ensures { result ≡ in_bytes_parser bytes.entry fits }
@@ -117,7 +121,7 @@ where
     ghost single = { λ p l d. token_list_means_one Input.Error.seen _ _ _ _ _ _ (λ _. Unit {0}) (λ _. Unit {0}) (listed_ends_once _ _) (listed_compares_once _ _ (F.once (fits_of_bytes p) d)) };
 }
 
-/// One call of a parser of the bytes of a list.
+/// Makes one call of a parser of the bytes of a list.
 #[inline(always)]
 fn match_bytes<F, Input: Stream, M: ParseMode>(
     bytes: &'static [u8],
@@ -148,7 +152,7 @@ where
     )
 }
 
-/// An iterator of the bytes of a list, which are fewer than 2^64.
+/// Returns an iterator of the bytes of a list, which are fewer than 2^64.
 #[inline(always)]
 fn listed_items(bytes: &'static [u8]) -> Iter<'static, u8>
     ensures rest { iter_rest result ≡ bytes.now }

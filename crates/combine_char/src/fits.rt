@@ -9,13 +9,13 @@ pub trait Fits<A, T> {
     /// Holds where it may be called.
     ghost ready: { Self → Type 0 };
 
-    /// What it may answer.
+    /// What it may return.
     ghost compares: { Self → A → T → Bool → Type 0 };
 
     /// What it owes so that a token isn't found both to fit and not to.
     ghost determined: { Self → Type 0 };
 
-    /// Whether the token fits the item.
+    /// Returns whether the token fits the item.
     fn fits(&self, item: A, token: T) -> bool
         requires { ready self.now }
         ensures { compares self.now item token result };

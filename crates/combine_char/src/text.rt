@@ -20,9 +20,13 @@ use combine_token::token::{TokensState, match_list};
 use std::marker::PhantomData;
 use std::str::Chars;
 
-/// The parser of the characters of a text, one after another; its value is the text.
+/// The parser of the characters of a text, one after another.
 ///
-/// The error of a committed mismatch says which token stands there, at the position where the call began. On need of more nothing is left unread: the state keeps how many characters were matched.
+/// Its value is the text.
+///
+/// The error of a committed mismatch says which token stands there, at the position where the call began.
+///
+/// On need of more nothing is left unread: the state keeps how many characters were matched.
 #[derive(Drop)]
 pub struct InText<Input, F> {
     text: &'static str,
@@ -30,7 +34,7 @@ pub struct InText<Input, F> {
     reads: PhantomData<Input>,
 }
 
-/// The characters of a text, each compared with the token at its place.
+/// Takes the characters of a text, each compared with the token at its place.
 #[inline]
 pub fn in_text<Input, F>(text: &'static str, fits: F) -> InText<Input, F>
     ensures { result ≡ in_text_parser text.entry fits }
@@ -87,7 +91,7 @@ impl<Input: Stream, F: Fits<char, Input::Token>> Parser<Input> for InText<Input,
     ghost single = { λ p l d. token_list_means_one Input.Error.seen _ _ _ _ _ _ (λ _. Unit {0}) (λ _. Unit {0}) (listed_ends_once _ _) (listed_compares_once _ _ (F.once (fits_of_text p) d)) };
 }
 
-/// One call of a parser of the characters of a text.
+/// Makes one call of a parser of the characters of a text.
 #[inline(always)]
 fn match_text<F, Input: Stream, M: ParseMode>(
     text: &'static str,
@@ -118,7 +122,7 @@ where
     )
 }
 
-/// The characters of a text, which are fewer than 2^64.
+/// Returns the characters of a text, which are fewer than 2^64.
 #[inline(always)]
 fn characters(text: &'static str) -> Chars<'static>
     ensures rest { chars_rest result ≡ text.now }

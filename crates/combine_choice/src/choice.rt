@@ -1,4 +1,4 @@
-//! Choices: the first alternative that isn't refused peeked gives the answer.
+//! Choices: the first alternative that isn't refused peeked gives the result.
 ghost use Rattle.std.specs.Prelude.{◌≡◌};
 ghost use Rattle.combine_choice.specs.Parsers.{choice_parser};
 
@@ -15,15 +15,25 @@ pub use combine_token::choice::{OrState, optional, or, or_is_associative};
 pub use slice::{Slice, SliceState};
 use types::Choice;
 
-/// What a choice of these alternatives answers over a stream, as [`Outputs`](combine_base::parser::Outputs) has it for a parser.
+/// The value that a choice of these alternatives gives over a stream, as [`Outputs`](combine_base::parser::Outputs) has it for a parser.
 pub trait ChoiceOutputs<Input> {
     /// The value of an acceptance.
     type Output: Drop;
 }
 
-/// Alternatives of which the first, in order, that isn't refused peeked gives the answer; if all are refused peeked so is the choice, and their errors are merged in order.
+/// Alternatives of which the first, in order, that isn't refused peeked gives the result.
 ///
-/// A committed refusal of an alternative ends the choice, and so does a fault. On need of more the running alternative is kept; where it is then refused peeked, the later ones are still tried, which the crate's choice doesn't do.
+/// # Errors
+///
+/// If all are refused peeked so is the choice, and their errors are merged in order. A committed refusal of an alternative ends the choice, and so does a fault.
+///
+/// # Partial input
+///
+/// On need of more the running alternative is kept. If it is then refused peeked, the later ones are still tried.
+///
+/// # Differences from combine
+///
+/// The crate's choice stays with the alternative that took tokens before the cut.
 pub trait ChoiceParser<Input: Stream>: ChoiceOutputs<Input> {
     ghost use Rattle.std.specs.Prelude.{true, false};
     ghost use Rattle.combine_base.specs.Parser.Meaning.{Meaning, IsMeaning, MeansOne, MeansSame};
@@ -47,7 +57,7 @@ pub trait ChoiceParser<Input: Stream>: ChoiceOutputs<Input> {
     /// Which outcomes the choice has on a view, from the start and from a state, and which errors its refusals have.
     ghost meaning: { Self → Meaning Input.Position Input.Token Input.Range Input.Error Self.Output Self.PartialState };
 
-    /// Chooses, afresh or from the kept state. It answers as `parse_mode` of a parser does.
+    /// Chooses, afresh or from the kept state, as `parse_mode` of a parser parses.
     fn parse_mode_choice<M: ParseMode>(
         &mut self,
         mode: M,
@@ -151,9 +161,34 @@ impl<'a, Input: Stream, P: ChoiceParser<Input>> ChoiceParser<Input> for &'a mut 
     }
 }
 
-/// Chooses among alternatives that stand in a tuple of 1 to 8 parsers, an array, or a `Slice`: answers as the first that isn't refused peeked. Where all are refused peeked so is the choice, and their errors are merged in order.
+/// Parses as the first of several alternatives that isn't refused peeked.
 ///
-/// Each alternative begins where the choice did, with a state of its own. A committed refusal ends the choice, and so does a fault. On need of more the running alternative is kept; where it is then refused peeked, the later ones are still tried, which the crate's choice doesn't do. Of an empty array or slice the choice is refused peeked, with the message `parser choice is empty`, also where more input may come. Two faults are the choice's own: `Reset`, where the stream can't be put back, and `Memory`, where an item of an error finds none.
+/// The alternatives stand in a tuple of 1 to 8 parsers, an array, or a [`Slice`]. Each begins where the choice did, with a state of its own.
+///
+/// # Errors
+///
+/// - If all are refused peeked so is the choice, and their errors are merged in order.
+/// - A committed refusal ends the choice, and so does a fault.
+/// - A choice of an empty array or slice is refused peeked, with the message `parser choice is empty`, also where more input may come.
+/// - Two faults are the choice's own: `Reset`, if the stream can't be put back, and `Memory`, if an item of an error finds none.
+///
+/// # Partial input
+///
+/// On need of more the running alternative is kept. If it is then refused peeked, the later ones are still tried.
+///
+/// # Differences from combine
+///
+/// The crate's choice stays with the alternative that took tokens before the cut. In it the alternatives of an array or a slice share one state. A tuple has up to twenty-five alternatives there, and an array up to 32.
+///
+/// # Examples
+///
+/// ```
+/// fn word(input: &str) -> Result<(&'static str, &str), UnexpectedParse> {
+///     choice([string("one"), string("two"), string("three")]).parse(input)
+/// }
+/// ```
+///
+/// `"one"` is accepted. `"three"` is refused committed, since `two` took its first letter; `attempt` round each helps.
 #[inline]
 pub fn choice<P>(alternatives: P) -> Choice<P>
     ensures { result ≡ choice_parser alternatives }

@@ -9,9 +9,11 @@ use combine_base::error::ParseResult;
 use combine_base::parser::{FirstMode, Parser};
 use combine_base::stream::Stream;
 
-/// Parses from the start as the parser that the maker of a `factory` answers for this very stream. The `factory` is lawful: its maker may always be called, and what it answers is lawful.
+/// Parses from the start as the parser that the maker of a `factory` returns for this very stream.
 ///
-/// What `factory` means on a view allows for each stream that stands so, and for open beginnings of it; where the makers' parsers differ, that is more than one outcome. This says which is answered. Every call of a `factory` that begins afresh runs the same code.
+/// The `factory` is lawful: its maker may always be called, and what it returns is lawful.
+///
+/// What `factory` means on a view allows for each stream that stands so, and for open beginnings of it. If the makers' parsers differ, that is more than one outcome. This says which comes. Every call of a `factory` that begins afresh runs the same code.
 #[inline]
 pub fn make_and_parse<Input: Stream, N: Parser<Input> + Drop, F: Fn(&mut Input) -> N>(
     factory: &Factory<F>,

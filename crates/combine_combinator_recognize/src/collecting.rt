@@ -9,7 +9,9 @@ use combine_base::stream::{Kind, Stream};
 
 /// Takes the tokens up to that position, and appends them.
 ///
-/// `Read` where a read failed, and `Memory` where the collection could not grow; some tokens are then taken.
+/// # Errors
+///
+/// `Read` if a read fails, and `Memory` if the collection can't grow. Some tokens are then taken.
 #[inline]
 fn collect_to<Input: Stream, F: Append<Input::Token>>(
     input: &mut Input,
@@ -31,7 +33,9 @@ fn collect_to<Input: Stream, F: Append<Input::Token>>(
 
 /// Puts the stream back to the checkpoint, and takes the tokens from there to where it was once more: they are appended.
 ///
-/// `Reset` where it could not be put back, `Read` where a read failed, and `Memory` where the collection could not grow.
+/// # Errors
+///
+/// `Reset` if the stream can't be put back, `Read` if a read fails, and `Memory` if the collection can't grow.
 #[inline]
 pub fn collect_since<Input: Stream, F: Append<Input::Token>>(
     input: &mut Input,

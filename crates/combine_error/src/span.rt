@@ -9,7 +9,9 @@ use combine_base::maps::Maps;
 use combine_base::stream::{self, Failures, Kind, Positioned, ResetStream, StreamOnce};
 use combine_stream::range::{Range, RangeStream};
 
-/// A part of the input, from a position to another. The order is that of `start`, and then that of `end`.
+/// A part of the input, from a position to another.
+///
+/// The order is that of `start`, and then that of `end`.
 #[derive(Clone, Copy, Debug, PartialEq, Eq, PartialOrd, Ord)]
 pub struct Span<P> {
     /// Where it begins.
@@ -18,12 +20,16 @@ pub struct Span<P> {
     pub end: P,
 }
 
-/// The errors that can stand at a span. In the crate they are those that turn into an error at any other position.
+/// The errors that can stand at a span.
+///
+/// In the crate they are those that turn into an error at any other position.
 pub trait SpannedError<T, R, P: Ord + Copy>: ParseError<T, R, P> {
     /// The error at a span.
     type Spanned: DetailedError<T, R, Span<P>>;
 
-    /// Makes the same error, at that span. The kind and the items stay.
+    /// Makes the same error, at that span.
+    ///
+    /// The kind and the items stay.
     fn at_span(self, span: Span<P>) -> Self::Spanned
         ensures { AtSpan Self.seen Self.Spanned.seen span self result };
 }
@@ -60,7 +66,9 @@ impl<T: Copy + PartialEq, R: Copy + PartialEq, P: Ord + Copy> SpannedError<T, R,
     }
 }
 
-/// The stream, whose position is the span that begins and ends where the stream stands. Its errors are those of the stream, at spans.
+/// A stream whose position is the span that begins and ends where the stream inside stands.
+///
+/// Its errors are those of the stream inside, at spans.
 #[derive(Drop)]
 pub struct Stream<S>(pub S);
 

@@ -1,4 +1,4 @@
-//! Parsers that answer parts of the input as they stand there.
+//! Parsers that give parts of the input as they stand there.
 #![tactic(auto)]
 
 pub mod distance;

@@ -42,7 +42,7 @@ where
     }
 }
 
-/// The answer where the kept distance was not passed over: a fault, or a peeked refusal where it ends inside a token, with an error that is made there.
+/// Returns the result where the kept distance was not passed over: a fault, or a peeked refusal where it ends inside a token, with an error that is made there.
 #[cold]
 pub fn not_passed<O, Input: Stream>(
     input: &Input,
@@ -65,7 +65,7 @@ pub fn not_passed<O, Input: Stream>(
     }
 }
 
-/// Whether all is taken of an open stream.
+/// Returns whether all is taken of an open stream.
 #[inline(always)]
 pub fn may_go_on<Input: RangeStream>(input: &Input) -> bool
 where
@@ -75,7 +75,9 @@ where
     input.range().len() == 0 && input.is_partial()
 }
 
-/// Need of more: puts the stream back, and keeps the distance from there. `Reset` where the stream could not be put back.
+/// Puts the stream back on need of more, and keeps the distance from there.
+///
+/// If the stream can't be put back, that is the fault `Reset`.
 #[inline(always)]
 pub fn keep_distance<O, Input: RangeStream>(
     start: Input::Checkpoint,
@@ -98,7 +100,9 @@ where
     }
 }
 
-/// A peeked refusal at what is unread, which says that the input ended where nothing is; `Memory` where that found none.
+/// Refuses peeked at what is unread, with an error that says that the input ended where nothing is.
+///
+/// One that finds no memory for that is the fault `Memory`.
 #[cold]
 pub fn refused_here<O, Input: RangeStream>(
     input: &Input,
@@ -116,7 +120,9 @@ where
     ParseResult::PeekErr(Tracked::from(input.new_error(Kind::Refused, position)))
 }
 
-/// What a parser answers where no range of some length could be taken: too few items are need of more on an open stream; they are refused peeked on an ended one, as is an end inside a token. A failed read is a fault, and so is an error that finds no memory to say that the input ended.
+/// Returns a parser's result where no range of some length could be taken.
+///
+/// Too few items are need of more on an open stream. They are refused peeked on an ended one, as is an end inside a token. A failed read is a fault, and so is an error that finds no memory to say that the input ended.
 #[cold]
 pub fn no_range<O, Input: Stream>(
     input: &Input,
@@ -139,7 +145,7 @@ pub fn no_range<O, Input: Stream>(
     }
 }
 
-/// The tokens since a checkpoint as a range.
+/// Returns the tokens since a checkpoint as a range.
 #[inline(always)]
 pub fn range_since<Input: RangeStream>(
     start: Input::Checkpoint,
@@ -158,7 +164,9 @@ where
     input.uncons_range(n)
 }
 
-/// Accepts the range of the tokens since a checkpoint: committed, or peeked where there are none. `Reset` or `Read` where they could not be read again.
+/// Accepts the range of the tokens since a checkpoint: committed, or peeked where there are none.
+///
+/// If they can't be read again, that is the fault `Reset` or `Read`.
 #[inline(always)]
 pub fn hand_out<Input: RangeStream>(
     start: Input::Checkpoint,

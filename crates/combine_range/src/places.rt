@@ -7,7 +7,9 @@ ghost use Rattle.combine_range.specs.Wanted.{given};
 use combine_base::stream::{Kind, ResetStream, StreamOnce};
 use combine_stream::range::{Range, RangeStream};
 
-/// Whether the unread tokens begin with a range, if enough items are left to say. The stream stays in place, unless a read or a reset fails.
+/// Returns whether the unread tokens begin with a range, if enough items are left to say.
+///
+/// The stream stays in place, unless a read or a reset fails.
 #[inline(always)]
 pub fn begins_with<Input: RangeStream>(
     input: &mut Input,

@@ -121,11 +121,11 @@ pub trait Pattern {
     /// So many bytes, and a test of them.
     ghost wanted: { Self → Wanted (List ℕ) };
 
-    /// The first place where they stand.
+    /// Returns the first place where they stand.
     fn find(&self, bytes: &[u8]) -> Option<usize>
         ensures { Finds (wanted self.now) bytes.now result };
 
-    /// How many bytes they are.
+    /// Returns how many bytes they are.
     fn len(&self) -> usize
         ensures { result ≡ (wanted self.now).items };
 }

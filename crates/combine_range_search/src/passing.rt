@@ -1,4 +1,4 @@
-//! What is answered where a search finds no place.
+//! What a parser returns where a search finds no place.
 ghost use Rattle.std.specs.Prelude.{◌≡◌, ◌↔◌, false, true};
 ghost use Rattle.combine_base.specs.Stream.Calls.{Passes};
 ghost use Rattle.combine_range_search.specs.Reasons.{SaysAbsent};
@@ -9,7 +9,11 @@ use combine_base::refusal::no_token;
 use combine_base::stream::{Kind, Stream, StreamOnce};
 use combine_stream::range::{Range, RangeStream};
 
-/// Passes over as many tokens as begin within the first `most` items and end there. `Read` where the stream failed.
+/// Passes over as many tokens as begin within the first `most` items and end there.
+///
+/// # Errors
+///
+/// `Read` if the stream failed.
 pub fn pass_up_to<Input: RangeStream>(input: &mut Input, most: usize) -> Result<(), Kind>
 where
     Input::Range: Range,
@@ -30,7 +34,7 @@ where
     }
 }
 
-/// Whether a range was too short, and more may come.
+/// Returns whether a range was too short, and more may come.
 #[inline]
 pub fn may_grow<Input: Stream>(input: &Input, why: Kind) -> bool
     ensures { (result ≡ true) ↔ ((why ≡ Kind.End) × ((Input.view input.now).is_open ≡ true)) }
@@ -41,7 +45,9 @@ pub fn may_grow<Input: Stream>(input: &Input, why: Kind) -> bool
     input.is_partial()
 }
 
-/// The refusal where no place is found in ended input: peeked where the input is empty, and else committed. Its error says that the input ended; `Memory` where that found none.
+/// Refuses where no place is found in ended input: peeked where the input is empty, and else committed.
+///
+/// The error says that the input ended. One that finds no memory for that is the fault `Memory`.
 #[cold]
 pub fn not_found<O, Input: Stream>(
     input: &Input,
@@ -63,7 +69,7 @@ pub fn not_found<O, Input: Stream>(
     }
 }
 
-/// Whether nothing is unread, at a distance or behind it.
+/// Returns whether nothing is unread, at a distance or after it.
 #[inline]
 pub fn is_nothing<R: Range>(distance: usize, unread: &R) -> bool
     ensures { (result ≡ true) ↔ ((distance ≡ 0) × (R.count unread.now ≡ 0)) }

@@ -14,7 +14,7 @@ use combine_range::passing::{begin, hand_out, keep_distance, no_range, not_passe
 use combine_stream::range::{Range, RangeStream};
 use std::marker::PhantomData;
 
-/// What a search answers, in items from where it began.
+/// What a search finds, in items from where it began.
 #[derive(Debug, Drop, PartialEq)]
 pub enum TakeRange {
     /// The place.
@@ -28,7 +28,7 @@ impl From<Option<usize>> for TakeRange {
 
     ghost from_gives = { λ place answer. answer ≡ place_of place };
 
-    /// `None` says nothing of what need not be searched again.
+    /// Turns `None` into what says nothing of what need not be searched again.
     #[inline]
     fn from(place: Option<usize>) -> TakeRange {
         match place {
@@ -64,7 +64,9 @@ where
     ghost one: { (s : Self) → settled s → IsOneSearch (search s) };
 }
 
-/// What stands before the place that a search finds. The state is the distance that need not be searched again.
+/// What stands before the place that a search finds.
+///
+/// The state is the distance that need not be searched again.
 #[derive(Drop)]
 #[derive_where(Clone; S)]
 pub struct Searching<Input, S> {

@@ -9,14 +9,14 @@ use combine_repeat_turns::turns::{Gather, Gathers, Reduce};
 use std::alloc::{AllocError, Global};
 use std::marker::PhantomData;
 
-/// An operand, and the operator behind it.
+/// An operand, and the operator after it.
 #[derive(Drop)]
 pub struct Left<O, V> {
     operand: V,
     operator: O,
 }
 
-/// The operands that have an operator behind them, in order, and the last operand.
+/// The operands that have an operator after them, in order, and the last operand.
 #[derive(Drop)]
 pub struct Operands<O, V> {
     before: Vec<Left<O, V>>,
@@ -24,7 +24,7 @@ pub struct Operands<O, V> {
 }
 
 impl<O: Folds<V> + Drop, V: Drop> Operands<O, V> {
-    /// The operands folded from the right.
+    /// Folds the operands from the right.
     pub(crate) fn fold(self) -> V
         requires callable { all_good (λ f. O.callable f) (kept_operands self).0 }
         ensures { folded_right (λ f x y r. O.answers f x y r) (kept_operands self).0 (kept_operands self).1 result }

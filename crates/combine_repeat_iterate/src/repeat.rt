@@ -20,11 +20,37 @@ use std::alloc::Global;
 use std::marker::PhantomData;
 use types::Iterate;
 
-/// Runs for each item of a list, in order, the parser that `f` answers for it, and collects the values in order.
+/// Runs for each item of a list, in order, the parser that `f` returns for it, and collects the values in order.
 ///
-/// An iterator of a clone of the list gives the items; a clone that finds no memory is the fault `Memory`. `f` is asked once for each item, where its turn comes, and leaves the stream in place: on need of more the state keeps the parser that it answered, the values so far and the items that are left. No items are accepted peeked, and so are items whose parsers are all accepted peeked. A refusal of a parser is the answer; a peeked one behind the first item is put back to where that parser began, and says what stands there and what that parser expects; it is committed if an earlier item was. Every parser that `f` may answer has to be lawful.
+/// An iterator of a clone of the list gives the items. `f` is called once for each item, where its turn comes, and leaves the stream in place. Every parser that `f` may return has to be lawful. The result is accepted without commitment if there are no items, or if no item's parser committed.
+///
+/// # Errors
+///
+/// - A refusal of an item's parser is the result. A peeked one after the first item is put back to where that parser began, and says what stands there and what that parser expects; it is committed if an earlier item was.
+/// - A clone of the list that finds no memory is the fault `Memory`.
+///
+/// # Partial input
+///
+/// On need of more the state keeps the parser that `f` returned for the running item, the values so far and the items that are left.
+///
+/// # Differences from combine
 ///
 /// In the crate `f` is an `FnMut`, which is asked again for the running item on resumption.
+///
+/// # Examples
+///
+/// ```
+/// fn letters_in_order(
+///     alloc: Global,
+///     end: u8,
+///     pieces: &[&[u8]],
+/// ) -> Result<Answer<Vec<u8>, UnexpectedParse>, SessionError> {
+///     let letter = |letter: &u8, _input: &mut fed::Stream<u8>| token(*letter);
+///     parse_pieces(alloc, iterate::<Vec<u8>, _, _>(alloc, b'a'..end, letter), pieces)
+/// }
+/// ```
+///
+/// With `end` `b'd'`, and the pieces `b"a"` and `b"bcx"`, it accepts `b"abc"`, with 3 tokens taken.
 #[inline]
 pub fn iterate<C, J, F>(alloc: Global, items: J, f: F) -> Iterate<C, J, F>
     ensures { result ≡ iterate_of alloc items f }
@@ -37,9 +63,10 @@ pub fn iterate<C, J, F>(alloc: Global, items: J, f: F) -> Iterate<C, J, F>
     }
 }
 
-/// Whether another turn runs, and how the turns ended.
+/// Returns whether another turn runs, and how the turns ended.
 #[derive(Drop)]
 enum Stage<E> {
+    /// Another turn runs.
     Running,
     /// A turn was refused peeked, and put back.
     Over,
@@ -59,7 +86,7 @@ impl<E> Stage<E> {
         }
     }
 
-    /// The turns as an answer with that value, of which one gave a value or none.
+    /// Returns the turns as a result with that value, of which one gave a value or none.
     fn answer<V: Drop>(self, given: bool, value: V) -> ParseResult<V, E>
         ensures { result ≡ answer_of self given value }
     {
@@ -73,22 +100,36 @@ impl<E> Stage<E> {
 
 /// The values of a parser that is run turn after turn on a stream that is lent, with a state that is lent.
 ///
-/// It gives each turn's value, until a turn is refused, needs more, meets a fault or takes nothing; from then on it gives `None`. A peeked refusal is put back. A turn that takes nothing is refused committed, `repetition takes nothing`; of the first turn of a call that resumes nothing is asked but that it is committed, since it may have taken its tokens from an earlier piece.
+/// It gives each turn's value, until a turn is refused, needs more, meets a fault or takes nothing. From then on it gives `None`.
 ///
-/// On need of more the state that was lent keeps the turn that runs, and the tokens of the values that were given are taken: an iterator that resumes from that state goes on. In the crate the state is the iterator's own, `next` parses again after the end, and a parser that takes nothing gives values without end.
+/// # Errors
+///
+/// A peeked refusal is put back. A turn that takes nothing is refused committed, `repetition takes nothing`. Of the first turn of a call that resumes nothing is asked but that it is committed, since it may have taken its tokens from an earlier piece.
+///
+/// # Partial input
+///
+/// On need of more the state that was lent keeps the turn that runs, and the tokens of the values that were given are taken. An iterator that resumes from that state goes on.
+///
+/// # Differences from combine
+///
+/// In the crate the state is the iterator's own, `next` parses again after the end, and a parser that takes nothing gives values without end.
 #[derive(Drop)]
 pub struct Iter<'a, Input: Stream, P: Parser<Input>, M> {
     parser: P,
     mode: M,
     input: &'a mut Input,
     state: &'a mut P::PartialState,
-    /// Whether a value was given; each is of a committed turn.
+    /// Set if a value was given; each is of a committed turn.
     given: bool,
     stage: Stage<Input::Error>,
 }
 
 impl<'a, Input: Stream, P: Parser<Input>, M: ParseMode> Iter<'a, Input, P, M> {
-    /// Makes an iterator whose first turn begins afresh or goes on from the state, as the mode says. It takes no memory. The parser is lawful, and the state one that it keeps.
+    /// Makes an iterator whose first turn begins afresh or goes on from the state, as the mode says.
+    ///
+    /// It takes no memory.
+    ///
+    /// The parser is lawful, and the state one that it keeps.
     pub fn new(
         parser: P,
         mode: M,
@@ -111,7 +152,13 @@ impl<'a, Input: Stream, P: Parser<Input>, M: ParseMode> Iter<'a, Input, P, M> {
         }
     }
 
-    /// Answers with the value as the turns do: accepted, committed exactly if a value was given, where they go on or ended at a peeked refusal. Else the error at which they ended, committed.
+    /// Returns the value as the turns would accept it, if they go on or ended at a peeked refusal.
+    ///
+    /// It is committed exactly if a value was given.
+    ///
+    /// # Errors
+    ///
+    /// The error at which the turns ended, committed.
     pub fn into_result<O: Drop>(self, value: O) -> StdParseResult<O, Input>
     where
         P: Drop,
@@ -168,10 +215,11 @@ enum Turn<A, E> {
     Gives(A),
     /// It was refused peeked, and put back.
     Over,
+    /// It was refused committed, needs more, takes nothing or met a fault.
     Fails(E),
 }
 
-/// One turn.
+/// Runs one turn.
 #[inline(always)]
 fn one_turn<Input: Stream, P: Parser<Input>, M: ParseMode>(
     parser: &mut P,
@@ -202,7 +250,9 @@ fn one_turn<Input: Stream, P: Parser<Input>, M: ParseMode>(
     Turn::Gives(value)
 }
 
-/// Whether a turn is a block that is accepted so, this call's part of it begun at that checkpoint: it has to take a token, unless it resumes.
+/// Returns whether an accepted turn counts, which has to take a token, unless it resumes.
+///
+/// `since` is where its part in this call began, `committed` how it was accepted.
 #[inline(always)]
 fn is_block<Input: Stream>(
     first: bool,

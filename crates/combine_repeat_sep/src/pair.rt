@@ -1,4 +1,4 @@
-//! A separator and the part behind it.
+//! A separator and the part after it.
 //!
 //! They run as a tuple of two does, from a state of their own, whose parts a turn can take apart.
 ghost use Rattle.std.specs.Prelude.{◌≡◌, true};
@@ -12,10 +12,12 @@ use combine_base::parser::{Calls, Outputs, ParseMode, Parser};
 use combine_base::sequence::{accepted_after, refused_after};
 use combine_base::stream::{Stream, needs_more};
 
-/// What is kept of a separator and a part while one of them runs: the state of the separator, or what it gave, whether that was committed, and the state of the part.
+/// What is kept of a separator and a part while one of them runs.
 #[derive(Drop)]
 pub enum PairState<O, W, U> {
+    /// The separator runs, from that state.
     Separator(W),
+    /// The part runs, from that state: the separator gave that value, and was committed or not.
     Part(O, bool, U),
 }
 
@@ -35,7 +37,9 @@ pub type PairStateOf<Input, S, P> = PairState<
     <P as Parser<Input>>::PartialState,
 >;
 
-/// Runs a separator and a part, from what is kept of them. `state` is a default one, and keeps what goes on where more is needed.
+/// Runs a separator and a part, from what is kept of them.
+///
+/// `state` is a default one, and keeps what goes on where more is needed.
 #[inline(always)]
 pub fn parse_pair<Input: Stream, S: Parser<Input>, P: Parser<Input>, M: ParseMode>(
     separator: &mut S,
@@ -66,7 +70,9 @@ pub fn parse_pair<Input: Stream, S: Parser<Input>, P: Parser<Input>, M: ParseMod
     }
 }
 
-/// Goes on with the part, from its start, where the separator has accepted. `kept` is the state that it left.
+/// Goes on with the part, from its start, where the separator has accepted.
+///
+/// `kept` is the state that it left.
 #[inline(always)]
 fn parse_rest<Input: Stream, O: Drop, W: Drop, P: Parser<Input>, M: ParseMode>(
     answer: ParseResult<O, Input::Error>,
@@ -96,7 +102,9 @@ fn parse_rest<Input: Stream, O: Drop, W: Drop, P: Parser<Input>, M: ParseMode>(
     parse_part(value, committed, kept, part, mode, input, state)
 }
 
-/// Runs the part, from what is kept of it, where the separator gave a value. A peeked refusal is put back to where the part began, and explained by it. Need of more is kept in `state`, which every other answer leaves as it was.
+/// Runs the part, from what is kept of it, where the separator gave a value.
+///
+/// A peeked refusal is put back to where the part began, and explained by it. Need of more is kept in `state`, which every other result leaves as it was.
 #[inline(always)]
 fn parse_part<Input: Stream, O: Drop, W: Drop, P: Parser<Input>, M: ParseMode>(
     value: O,
@@ -126,7 +134,7 @@ fn parse_part<Input: Stream, O: Drop, W: Drop, P: Parser<Input>, M: ParseMode>(
     }
 }
 
-/// As `parse_part`, for a call that resumes: apart from the code of calls that begin afresh, which holds each part once.
+/// Runs the part as `parse_part` does, in a call that resumes: apart from the code of calls that begin afresh, which holds each part once.
 fn resume_part<Input: Stream, O: Drop, W: Drop, P: Parser<Input>, M: ParseMode>(
     value: O,
     committed: bool,

@@ -16,17 +16,21 @@ use combine_repeat_turns::turns::Turn;
 use std::marker::PhantomData;
 use std::mem;
 
-/// What a turn gives: the first element, or what a separator gave and the element after it.
+/// The value of a turn.
 #[derive(Drop)]
 pub enum Element<O, V> {
+    /// The first element.
     First(V),
+    /// What a separator gave, and the element after it.
     Then(O, V),
 }
 
-/// What stands before a part: nothing before the first, and before a later one what its separator gave, and whether that was committed.
+/// What stands before a part.
 #[derive(Drop)]
 pub enum Lead<O> {
+    /// Nothing stands before the first part.
     Nothing,
+    /// What the separator before a later part gave, and whether that was committed.
     Separator(O, bool),
 }
 
@@ -35,14 +39,18 @@ pub enum Lead<O> {
 /// It holds the state of a part in one place, so that parts within parts make it grow by as much at each level.
 #[derive(Drop)]
 pub enum SeparatedState<O, W, U> {
+    /// A later separator runs, from that state.
     Separator(W),
+    /// A part runs, from that state, with what stands before it.
     Part(Lead<O>, U),
 }
 
 /// Which turn runs: the first part, or a later separator and part.
 #[derive(Drop)]
 pub enum TurnPlace<U, Z> {
+    /// The first part, with its state.
     First(U),
+    /// A later separator and part, with what is kept of them.
     Later(Z),
 }
 
@@ -86,14 +94,17 @@ impl<O, W, U> SeparatedState<O, W, U> {
     }
 }
 
-/// A function that makes one operand of two. Our own, so that what shows its bound stands in a declaration of its own, as with `Maps` of `combine_combinator`.
+/// A function that makes one operand of two. Our own.
+///
+/// It stands apart so that what shows its bound stands in a declaration of its own, as with `Maps` of `combine_base`.
 pub trait Folds<V> {
     /// The functions that can be called on any two operands.
     ghost callable: { Self → Type 0 };
 
-    /// What it may answer.
+    /// What it may return.
     ghost answers: { Self → V → V → V → Type 0 };
 
+    /// Makes one operand of two.
     fn fold_two(self, left: V, right: V) -> V
         requires { callable self }
         ensures { answers self left right result };
@@ -135,8 +146,11 @@ impl<O: Folds<V> + Drop, V: Drop> Leads<O, V> for Operator {
 #[derive(Drop)]
 #[derive_where(Clone, Copy; P, S)]
 pub struct Separated<P, S, L> {
+    /// The parser of a part.
     pub parser: P,
+    /// The parser of a separator.
     pub separator: S,
+    /// What is asked of each value that the separator gives.
     pub asks: PhantomData<L>,
 }
 

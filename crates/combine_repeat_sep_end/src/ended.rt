@@ -29,7 +29,7 @@ pub struct Ended<P, S> {
     pub(crate) separator: S,
 }
 
-/// Each value that there is is appended.
+/// Each value that is there is appended.
 #[derive(Drop)]
 pub struct EachSome<F>(PhantomData<F>);
 

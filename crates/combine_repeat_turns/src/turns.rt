@@ -65,6 +65,7 @@ pub trait Turn<Input: Stream> {
     /// What holds of each value that a turn gives.
     ghost gives: { Self.Value → Type 0 };
 
+    /// Parses the first turn, or goes on with any from the kept state.
     fn parse_turn<M: ParseMode>(
         &mut self,
         later: bool,
@@ -82,14 +83,14 @@ pub trait Turn<Input: Stream> {
         ensures answers { AnswersCall Input.StreamOnce Input.Error.seen Self.Running.is_default (called (meaning self.old) (again self.old) later) (M.first mode) state.old state.new input.old input.new result }
         ensures refuses { ReasonedCall Input.Error.seen (called (meaning self.old) (again self.old) later) (M.first mode) state.old (Input.view input.old) (Input.view input.new) result };
 
-    /// What the first turn adds.
+    /// Adds what the first turn adds.
     fn add_error(&mut self, error: &mut Tracked<Input::Error>)
         requires { lawful self.old }
         ensures lawful { lawful self.new }
         ensures same { TurnsSame (meaning self.old) (again self.old) (meaning self.new) (again self.new) }
         ensures says { Says Input.Error.seen (meaning self.old).lean (meaning self.old).adds error.old.error error.new.error };
 
-    /// Whether this value ends the turns.
+    /// Returns whether this value ends the turns.
     fn ends(value: &Self::Value) -> bool
         ensures { result ≡ ending value.now };
 
@@ -132,6 +133,7 @@ pub trait Gather<A>: Gathers {
     /// Holds where it takes no memory.
     ghost lean: { Type 0 };
 
+    /// Adds a value to what is gathered.
     fn gather(into: Self::Into, value: A) -> Result<Self::Into, AllocError>
         requires { able value }
         ensures { MatchResult result (λ i. more (held into) value (held i)) (λ _. lean → ⊥) };
@@ -146,11 +148,11 @@ pub trait Collect<A>: Gather<A> {
     /// Whether what is gathered shows the values.
     ghost keeps: { Bool };
 
-    /// An empty gathering, with room for so many values.
+    /// Returns an empty gathering, with room for so many values.
     fn empty(&self, room: usize) -> Result<Self::Into, AllocError>
         ensures { MatchResult result (λ i. Self.held i ≡ Self.none) (λ _. Self.lean → ⊥) };
 
-    /// Whether what is gathered shows the values.
+    /// Returns whether what is gathered shows the values.
     fn keeps(&self) -> bool
         ensures { result ≡ keeps };
 
@@ -165,7 +167,7 @@ pub trait Reduce<A>: Gather<A> {
     /// What that is made from.
     type From: Copy;
 
-    /// What the first value makes.
+    /// Makes what is gathered of the first value.
     fn begin(from: Self::From, value: A) -> Result<Self::Into, AllocError>
         ensures { MatchResult result (λ i. Self.more Self.none value (Self.held i)) (λ _. Self.lean → ⊥) };
 }
@@ -181,7 +183,7 @@ pub enum Bounds {
     Counted { least: usize, most: usize },
 }
 
-/// Which turn runs: how many were before, as far as that matters, and whether it took a token in an earlier piece.
+/// The running turn: its index, counted up to the limit of the bounds, and whether it already took a token in an earlier piece.
 #[derive(Clone, Copy)]
 pub struct Place {
     number: usize,
@@ -189,7 +191,7 @@ pub struct Place {
 }
 
 impl Place {
-    /// The first turn.
+    /// Returns the place of the first turn.
     #[inline(always)]
     pub fn first() -> Place
         ensures { result ≡ record { number = 0; begun = false } }
@@ -200,7 +202,7 @@ impl Place {
         }
     }
 
-    /// Whether so many turns were before it.
+    /// Returns whether so many turns were before it.
     #[inline(always)]
     fn reaches(self, most: usize) -> bool
         ensures { result ≡ not (nat_lt self.number most) }
@@ -208,7 +210,7 @@ impl Place {
         !(self.number < most)
     }
 
-    /// How many turns are missing before it, if there must be so many.
+    /// Returns how many turns are missing before it, if there must be so many.
     #[inline(always)]
     fn short_of(self, least: usize) -> usize
         ensures { result ≡ least - self.number }
@@ -216,7 +218,7 @@ impl Place {
         least.saturating_sub(self.number)
     }
 
-    /// The next turn.
+    /// Returns the place of the next turn.
     #[inline(always)]
     fn next(self, limit: usize) -> Place
         ensures { result ≡ record { number = counted limit self.number; begun = false } }
@@ -233,7 +235,7 @@ impl Place {
         }
     }
 
-    /// The place of the same turn in the next piece.
+    /// Returns the place of the same turn in the next piece.
     #[inline(always)]
     fn cut<Input: Stream>(self, since: Input::Checkpoint, input: &Input) -> Place
         ensures { (n : ℕ) (v : View Input.Position Input.Token) → Input.stands input.now since v → Takes Input.step n v (Input.view input.now) → result ≡ cut_at self n }
@@ -254,7 +256,7 @@ pub struct Turns<F> {
 }
 
 impl<F> Turns<F> {
-    /// The first turn runs, or would if there is one.
+    /// Returns the turns where none is over yet: the first one runs, or would if there is one.
     #[inline]
     pub fn none_yet(into: F) -> Turns<F>
         ensures { result ≡ record { into = into; committed = false; place = record { number = 0; begun = false } } }
@@ -266,7 +268,7 @@ impl<F> Turns<F> {
         }
     }
 
-    /// With one more turn, which is committed or not.
+    /// Returns the turns with one more, which is committed or not.
     #[inline(always)]
     fn joined(self, committed: bool) -> Turns<F>
         ensures { result ≡ record { into = self.into; committed = self.committed || committed; place = self.place } }
@@ -283,7 +285,7 @@ impl<F> Turns<F> {
         }
     }
 
-    /// The same turns in the next piece.
+    /// Returns the same turns in the next piece.
     #[inline(always)]
     fn cut<Input: Stream>(self, since: Input::Checkpoint, input: &Input) -> Turns<F>
         ensures { (n : ℕ) (v : View Input.Position Input.Token) → Input.stands input.now since v → Takes Input.step n v (Input.view input.now) → result ≡ record { into = self.into; committed = self.committed; place = cut_at self.place n } }
@@ -300,7 +302,7 @@ impl<F> Turns<F> {
         }
     }
 
-    /// The turns end, accepted.
+    /// Accepts what is gathered: the turns end.
     #[inline(always)]
     fn end<E>(self) -> ParseResult<F, E>
         ensures { result ≡ accepted_as self.committed self.into }
@@ -313,7 +315,7 @@ impl<F> Turns<F> {
         accepted_after(committed, into)
     }
 
-    /// A turn that is missing is refused peeked, which is committed if a turn before it was.
+    /// Refuses where a turn that is missing is refused peeked: committed if a turn before it was.
     #[inline(always)]
     fn refused<E: Drop>(self, refusal: Tracked<E>) -> ParseResult<F, E>
     where
@@ -329,6 +331,7 @@ impl<F> Turns<F> {
 pub enum Earlier<F> {
     /// No turn is over, and nothing is gathered.
     Nothing,
+    /// These turns are over.
     Turns(Turns<F>),
 }
 
@@ -367,7 +370,7 @@ impl<F: Drop, S: Default + Drop> TurnsState<F, S> {
         earlier
     }
 
-    /// The turns that are kept, if the call resumes and there are any; else those of the start.
+    /// Returns the turns that are kept, if the call resumes and there are any; else those of the start.
     #[inline(always)]
     fn begin(&mut self, first: bool, start: Turns<F>) -> Turns<F>
         ensures turns { result ≡ (if first then start else kept_or start self.old.earlier) }
@@ -386,6 +389,7 @@ impl<F: Drop, S: Default + Drop> TurnsState<F, S> {
 pub enum Step<F, E> {
     /// It is a block, and the next one runs.
     Goes(Turns<F>),
+    /// The turns stop.
     Stops(Stop<F, E>),
 }
 
@@ -397,10 +401,11 @@ pub enum Stop<F, E> {
     Refused(Turns<F>, Tracked<E>),
     /// The turn needs more.
     More(Turns<F>, E),
+    /// The turn is refused committed, takes nothing, or met a fault.
     Failed(E),
 }
 
-/// The first turn, which begins afresh or resumes.
+/// Parses the first turn, which begins afresh or resumes.
 #[inline(always)]
 fn parse_turn<Input: Stream, P: Turn<Input>, M: ParseMode>(
     parser: &mut P,
@@ -424,7 +429,7 @@ fn parse_turn<Input: Stream, P: Turn<Input>, M: ParseMode>(
     parser.parse_turn(false, mode, input, state)
 }
 
-/// A refusal that says how many turns are missing.
+/// Makes the error of a refusal that says how many turns are missing.
 #[inline]
 fn too_few<Input: Stream>(input: &Input, position: Input::Position, missing: usize) -> Input::Error
     ensures told { Told Input.Error.seen.kind Input.Error.seen.frugal result }
@@ -435,7 +440,7 @@ fn too_few<Input: Stream>(input: &Input, position: Input::Position, missing: usi
     error
 }
 
-/// What the turn gave is gathered, and the next one runs.
+/// Gathers what the turn gave, and goes on to the next one.
 #[inline(always)]
 fn gather_turn<A, G: Gather<A>>(
     turns: Turns<G::Into>,
@@ -457,7 +462,7 @@ fn gather_turn<A, G: Gather<A>>(
     })
 }
 
-/// What a turn does that is refused peeked, the stream having stood at that checkpoint and position where it began.
+/// Judges a turn that is refused peeked, the stream having stood at that checkpoint and position where it began.
 #[inline(always)]
 fn judge_refusal<G: Gather<P::Value>, Input: Stream, P: Turn<Input>, B: Bounded>(
     bounds: B,
@@ -546,10 +551,11 @@ pub enum First<F, E> {
     Refused(Tracked<E>),
     /// It needs more.
     More(E),
+    /// It is refused committed, or met a fault.
     Failed(E),
 }
 
-/// The first turn, which is asked for and makes what is gathered.
+/// Runs the first turn, which is asked for and makes what is gathered.
 #[inline(always)]
 fn first_turn<G: Reduce<P::Value>, Input: Stream, P: Turn<Input>, M: ParseMode>(
     parser: &mut P,
@@ -593,7 +599,7 @@ fn first_turn<G: Reduce<P::Value>, Input: Stream, P: Turn<Input>, M: ParseMode>(
     }
 }
 
-/// What turns answer that stop so; on need of more they are kept.
+/// Returns the result of turns that stopped for this reason. If they need more, they are kept in `state`.
 #[inline(always)]
 fn stopped<F: Drop, S: Drop, E: Drop>(
     why: Stop<F, E>,
@@ -613,7 +619,7 @@ fn stopped<F: Drop, S: Drop, E: Drop>(
     }
 }
 
-/// One call of turns, which begin so where nothing is kept.
+/// Makes one call of turns, which go on from what is kept, or else begin from `start`.
 #[inline(always)]
 pub fn take_turns<G: Gather<P::Value>, Input: Stream, P: Turn<Input>, M: ParseMode, B: Bounded>(
     parser: &mut P,
@@ -676,7 +682,7 @@ pub fn take_turns<G: Gather<P::Value>, Input: Stream, P: Turn<Input>, M: ParseMo
     }
 }
 
-/// One call of turns of which the first makes what is gathered, so that nothing is before it; it is asked for.
+/// Makes one call of turns as `take_turns` does, but the first value makes what is gathered, as for `chainl1`. At least one turn is asked for.
 #[inline(always)]
 pub fn take_joined<G: Reduce<P::Value>, Input: Stream, P: Turn<Input>, M: ParseMode>(
     parser: &mut P,

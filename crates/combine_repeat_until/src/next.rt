@@ -69,7 +69,7 @@ pub struct Next<A, P, E> {
 }
 
 impl<A, P, E> Next<A, P, E> {
-    /// The parser of these two.
+    /// Returns the parser of these two.
     #[inline]
     pub(crate) fn new(part: P, end: E) -> Self
         ensures { result ≡ next_of part end }
@@ -120,12 +120,12 @@ impl<Input: Stream, A: Drop, P: Parser<Input, Output = A>, E: Parser<Input>> Par
         self.either.parse_mode(mode, input, state)
     }
 
-    /// What the first adds, and then what the second does.
+    /// Adds what the first adds, and then what the second does.
     fn add_error(&mut self, error: &mut Tracked<Input::Error>) {
         self.either.add_error(error);
     }
 
-    /// It counts as one parser.
+    /// Counts as one parser.
     fn parser_count(&self) -> ErrorOffset {
         ErrorOffset(1)
     }

@@ -42,7 +42,7 @@ impl<F> Blocks<F> {
         }
     }
 
-    /// Committed if that is, or they were.
+    /// Returns the blocks, committed if that is, or they were.
     #[inline(always)]
     fn joined(self, committed: bool) -> Blocks<F>
         ensures { result ≡ record { into = self.into; committed = self.committed || committed; begun = self.begun } }
@@ -59,7 +59,7 @@ impl<F> Blocks<F> {
         }
     }
 
-    /// The same blocks in the next piece.
+    /// Returns the same blocks in the next piece.
     #[inline(always)]
     fn cut<Input: Stream>(self, since: Input::Checkpoint, input: &Input) -> Blocks<F>
         ensures { (n : ℕ) (v : View Input.Position Input.Token) → Input.stands input.now since v → Takes Input.step n v (Input.view input.now) → result ≡ record { into = self.into; committed = self.committed; begun = self.begun || nat_lt 0 n } }
@@ -76,7 +76,7 @@ impl<F> Blocks<F> {
         }
     }
 
-    /// With one more value.
+    /// Returns the blocks with one more value.
     #[inline(always)]
     fn add<A>(self, value: A) -> Result<Blocks<F>, AllocError>
     where
@@ -96,7 +96,7 @@ impl<F> Blocks<F> {
         })
     }
 
-    /// What is collected, accepted.
+    /// Accepts what is collected.
     #[inline(always)]
     fn end<E>(self) -> ParseResult<F, E>
         ensures { result ≡ accepted_as self.committed self.into }
@@ -110,7 +110,9 @@ impl<F> Blocks<F> {
     }
 }
 
-/// What is kept while more input is needed: how many tokens stand before the place where the running part began, how many it has read beyond, the blocks, and its state.
+/// What is kept while more input is needed.
+///
+/// That is how many tokens stand before the place where the running part began, how many it has read beyond, the blocks, and its state.
 #[derive(Drop)]
 pub struct Kept<F, S> {
     before: u64,
@@ -120,7 +122,7 @@ pub struct Kept<F, S> {
 }
 
 impl<F, S: Default> Kept<F, S> {
-    /// Nothing is read yet.
+    /// Returns what is kept where nothing is read yet.
     #[inline(always)]
     fn nothing(into: F) -> Kept<F, S>
         ensures place { (result.before ≡ 0) × (result.beyond ≡ 0) }
@@ -181,6 +183,7 @@ pub enum Stop<F, E> {
     Refused(Tracked<E>),
     /// The running part needs more.
     More(Blocks<F>, E),
+    /// The running part is refused committed, or met a fault; or a block takes nothing.
     Failed(E),
 }
 
@@ -188,10 +191,11 @@ pub enum Stop<F, E> {
 pub enum Step<F, E> {
     /// It is a block, and the next one runs.
     Goes(Blocks<F>),
+    /// The blocks stop.
     Stops(Stop<F, E>),
 }
 
-/// The kind of a failure to pass over the kept distance.
+/// Returns the kind of a failure to pass over the kept distance.
 #[inline]
 fn lost(kind: Kind) -> Kind
     ensures { result ≡ losing kind }
@@ -202,7 +206,7 @@ fn lost(kind: Kind) -> Kind
     }
 }
 
-/// Passes over the tokens before the place where the running part began, and over those that it has read: the checkpoint of that place.
+/// Passes over the tokens before the place where the running part began, and over those that it has read, and returns the checkpoint of that place.
 #[inline(always)]
 fn pass_to<Input: Stream>(
     input: &mut Input,
@@ -222,7 +226,7 @@ fn pass_to<Input: Stream>(
     Ok(place)
 }
 
-/// Whether a turn that is accepted so is a block, this piece's part of it begun at that checkpoint.
+/// Returns whether an accepted turn is a block: `since` is where its part in this piece began, `committed` how it was accepted.
 #[inline(always)]
 fn is_block<Input: Stream>(
     begun: bool,
@@ -235,7 +239,7 @@ fn is_block<Input: Stream>(
     committed && has_taken(begun, since, input)
 }
 
-/// One turn, which began at that place: where its parser says that the blocks end, the stream is put back to it.
+/// Runs one turn, which began at that place; if its parser says that the blocks end, the stream is put back to it.
 #[inline(always)]
 fn one_turn<
     A: Drop,
@@ -293,7 +297,7 @@ fn one_turn<
     }
 }
 
-/// Puts the stream back to the start on need of more, and keeps the distances from there to the place where the running part began, and from it to where the stream was.
+/// Puts the stream back to the start on need of more, and keeps the distances: from there to the place where the running part began, and from it to where the stream was.
 fn keep<F, Input: Stream, S>(
     blocks: Blocks<F>,
     need: Input::Error,
@@ -328,7 +332,7 @@ where
     ParseResult::CommitErr(need)
 }
 
-/// What blocks answer that stop so.
+/// Returns the result of blocks that stopped for this reason.
 #[inline(always)]
 fn settle<F, Input: Stream, S>(
     why: Stop<F, Input::Error>,
@@ -356,7 +360,7 @@ where
     }
 }
 
-/// Blocks of `parser` up to the first place where it says that they end: collected, from `empty` on, with the stream put back to that place.
+/// Collects blocks of `parser` up to the first place where it says that they end, from `empty` on, with the stream put back to that place.
 #[inline(always)]
 pub fn take_blocks<
     A: Drop,

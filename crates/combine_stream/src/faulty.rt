@@ -62,7 +62,7 @@ enum Due {
 }
 
 impl Due {
-    // The call with that number, from 1; none for 0.
+    // Returns the call with that number, from 1; none for 0.
     fn at(number: u64) -> Due
         ensures { result ≡ due_at number }
     {
@@ -73,7 +73,7 @@ impl Due {
         }
     }
 
-    // Counts a call, and says whether it is the one that fails.
+    // Counts a call, and returns whether it is the one that fails.
     fn count(&mut self) -> bool
         ensures is { result ≡ fails_next self.old }
         ensures counted { self.new ≡ one_call self.old }
@@ -93,7 +93,7 @@ impl Due {
         }
     }
 
-    // How often a call has failed so far.
+    // Returns how often a call has failed so far.
     fn failed(&self) -> u64
         ensures { result ≡ failed self.now }
     {
@@ -105,9 +105,13 @@ impl Due {
     }
 }
 
-/// The stream, of which one read fails, or one reset, or one of each: once, by its number. For tests.
+/// A stream of which one read fails, or one reset, or one of each: once, by its number. For tests.
 ///
-/// A failed read answers `Read`, and a failed reset `Reset`; it is counted, and changes nothing else. `uncons`, `uncons_range` and `uncons_while` are one read each. The calls before one that is to fail are counted down, so that no count grows without end.
+/// `uncons`, `uncons_range` and `uncons_while` are one read each. The calls before one that is to fail are counted down, so that no count grows without end.
+///
+/// # Errors
+///
+/// A failed read is `Read`, and a failed reset `Reset`; it is counted, and changes nothing else.
 #[derive(Drop)]
 pub struct Faulty<S> {
     inner: S,

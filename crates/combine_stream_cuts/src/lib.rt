@@ -11,7 +11,9 @@ use combine_base::stream::{Kind, Positioned, StreamOnce};
 use combine_stream::MaybePartialStream;
 use combine_stream::position::{DefaultPositioned, Stream, Windowed};
 
-/// Returns whether the cuts don't fall, and each is a place of the input: none passes the end, and none is inside a character.
+/// Returns whether the cuts don't fall, and each is a place of the input.
+///
+/// No cut then passes the end, and none is inside a character.
 pub fn cuts_fit<S: Windowed>(whole: S, cuts: &[usize]) -> bool
     ensures { (result ≡ true) ↔ Fit (S.places whole) cuts.now }
 {
@@ -36,13 +38,15 @@ struct Run<S> {
     taken: usize,
 }
 
-// What is parsed of a window.
+// The result of parsing a window.
 type Parsed<T, S> = Result<
     Answer<T, <<S as DefaultPositioned>::Placed as StreamOnce>::Error>,
     Kind,
 >;
 
-// One call of a parser on the window from the first unread token to a place. The run is given and handed back by value, so that the stream is a local while the parser reads.
+// Makes one call of a parser on the window from the first unread token to a place.
+//
+// The run is given and handed back by value, so that the stream is a local while the parser reads.
 fn parse_window<S: Windowed, P: Parser<MaybePartialStream<S::Placed>>>(
     parser: &mut P,
     state: &mut P::PartialState,
@@ -88,9 +92,33 @@ fn parse_window<S: Windowed, P: Parser<MaybePartialStream<S::Placed>>>(
     )
 }
 
-/// Parses a whole input window by window: each goes from the first unread token to the next cut and is open, and the last goes to the end, ended. The cuts have to fit, as `cuts_fit` says. It stops at the first decision; the number says how many windows asked for more. No window begins again: the state and the position go on.
+/// Parses a whole input window by window, and returns how many windows asked for more, and the first decision.
 ///
-/// The answer is that of the whole input, and more is asked for exactly where what stands before the cut is undecided. The one fault is `Memory`.
+/// Each window goes from the first unread token to the next cut and is open, and the last goes to the end, ended. No window begins again: the state and the position go on. The result is that of the whole input. The cuts have to fit, as [`cuts_fit`] says.
+///
+/// # Errors
+///
+/// The one fault is `Memory`.
+///
+/// # Partial input
+///
+/// More is asked for exactly where what stands before the cut is undecided.
+///
+/// # Examples
+///
+/// ```
+/// fn letter_a(whole: &str, cuts: &[usize]) -> Option<(usize, bool)> {
+///     if !cuts_fit(whole, cuts) {
+///         return None;
+///     }
+///     match parse_cuts(&mut token('a'), whole, cuts) {
+///         Ok((asked, answer)) => Some((asked, matches!(answer, Answer::Accepted { .. }))),
+///         Err(_) => None,
+///     }
+/// }
+/// ```
+///
+/// Of `"a"` and the cuts `[0]` it is `Some((1, true))`: the first window is empty, and asks for more.
 pub fn parse_cuts<S: Windowed, P: Parser<MaybePartialStream<S::Placed>>>(
     parser: &mut P,
     whole: S,

@@ -59,7 +59,7 @@ impl expression::Operator for Operator {
 
     ghost refuses_operands = { IsRefused };
 
-    /// Returns what the operator makes of 0 and the number behind it.
+    /// Returns what the operator makes of 0 and the number after it.
     fn change(self, operand: i64) -> Result<i64, &'static str> {
         self.join(0, operand)
     }
@@ -93,7 +93,7 @@ fn prefix(character: char) -> Item<Operator, i64> {
     }
 }
 
-/// What stands behind an operand: an operator or `)`.
+/// What stands after an operand: an operator or `)`.
 fn suffix(character: char) -> Item<Operator, i64> {
     match character {
         '+' => Item::Infix(0, Operator::Plus),

@@ -53,7 +53,7 @@ fn in_path(byte: u8) -> bool
     byte.is_ascii_graphic() && byte != b'?'
 }
 
-/// Parses a query behind its mark.
+/// Parses a query after its mark.
 fn query(alloc: Global, input: &[u8]) -> Part<'_, Vec<u8>>
     ensures { Parses query input.now result }
 {
@@ -97,7 +97,7 @@ fn value(alloc: Global, input: &[u8]) -> Part<'_, Vec<u8>>
     with(skip_many(token(b' ')), word).parse(input)
 }
 
-/// Parses the word of a parameter behind its semicolon.
+/// Parses the word of a parameter after its semicolon.
 fn word(alloc: Global, input: &[u8]) -> Part<'_, Vec<u8>>
     ensures { Parses word input.now result }
 {

@@ -112,7 +112,7 @@ impl Text {
         self.bytes.extend_from_slice(utf8.as_bytes())
     }
 
-    /// The text with what an escape says behind it.
+    /// The text with what an escape says after it.
     #[cold]
     #[inline(never)]
     fn with(self, unit: u32) -> (Text, Result<(), AllocError>) {

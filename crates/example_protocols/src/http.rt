@@ -56,7 +56,7 @@ impl<'c, S: Windowed> Runs<MaybePartialStream<S::Placed>> for Windows<'c, S> {
     }
 }
 
-/// The head that a slice begins with, and what is behind it.
+/// The head that a slice begins with, and what is after it.
 pub fn request_head<'a>(
     alloc: Global,
     input: &'a [u8],

@@ -69,7 +69,7 @@ fn read_unlimited(alloc: Global, frames: bool, words: &[&str]) -> Result<Args, F
     })
 }
 
-/// Reads a limit, and the sizes behind it.
+/// Reads a limit, and the sizes after it.
 fn read_limited(alloc: Global, digits: &[u8], words: &[&str]) -> Result<Args, Fault>
     ensures { MatchResult result
         (λ args. limited (size_of digits.now) (sizes_of (map (λ w. w.now) words.now)) ≡ Some (args.frames, args.limit, args.sizes.items))

@@ -22,11 +22,11 @@ pub fn char_letter(input: &str) -> ParsedText<'_, char> {
 const BYTES: &[u8] =
     b"\x00\x08\x09\x0A\x0B\x0C\x0D\x0E\x1F\x20\x21\x2F\x30\x37\x38\x39\x3A\x40\x41\x46\x47\x5A\x5B\x60\x61\x66\x67\x7A\x7B\x7F\x80\xFF";
 
-/// Characters, as those bytes, and those of white space past ASCII; behind them a small letter, a capital one, one that is neither, a digit, a number in letters, another number and a sign.
+/// Characters, as those bytes, and those of white space past ASCII; after them a small letter, a capital one, one that is neither, a digit, a number in letters, another number and a sign.
 const CHARS: &str =
     "\0\u{8}\u{9}\u{A}\u{B}\u{C}\u{D}\u{E}\u{1F} !/0789:@AFGZ[`afgz{\u{84}\u{85}\u{86}\u{9F}\u{A0}\u{A1}\u{167F}\u{1680}\u{1681}\u{1FFF}\u{2000}\u{200A}\u{200B}\u{2027}\u{2028}\u{2029}\u{202A}\u{202E}\u{202F}\u{2030}\u{205E}\u{205F}\u{2060}\u{2FFF}\u{3000}\u{3001}\u{E9}\u{C9}\u{5D0}\u{663}\u{3007}\u{BD}\u{D7}";
 
-/// Whether a value is the byte, with nothing behind it, or else a refusal.
+/// Whether a value is the byte, with nothing after it, or else a refusal.
 fn is_taken(byte: u8, parsed: Parsed<'_, u8>) -> Option<bool> {
     match parsed {
         Ok((value, [])) if value == byte => Some(true),
@@ -35,7 +35,7 @@ fn is_taken(byte: u8, parsed: Parsed<'_, u8>) -> Option<bool> {
     }
 }
 
-/// Whether a value is the character, with nothing behind it, or else a refusal.
+/// Whether a value is the character, with nothing after it, or else a refusal.
 fn is_char_taken(char: char, parsed: ParsedText<'_, char>) -> Option<bool> {
     match parsed {
         Ok((value, "")) if value == char => Some(true),

@@ -44,7 +44,7 @@ fn an_ab_in_pieces(alloc: Global, pieces: &[&[u8]]) -> InPieces<(u8, u8)> {
     parse_pieces(alloc, parser(ab), pieces)
 }
 
-/// How many bytes are unread where the parser asks for more behind this piece.
+/// How many bytes are unread where the parser asks for more after this piece.
 fn unread_behind<P: Parser<fed::Stream<u8>> + Drop>(
     alloc: Global,
     parser: P,
@@ -92,7 +92,7 @@ fn accepted<T>(value: T, taken: u64) -> InPieces<T> {
     })
 }
 
-/// At a cut the function is put back, and called again behind it.
+/// At a cut the function is put back, and called again after it.
 #[test]
 fn of_pieces(rt: HostRuntime) {
     let cuts: [&[&[u8]]; 2] = [&[b"", b"ab"], &[b"", b"a", b"", b"b"]];

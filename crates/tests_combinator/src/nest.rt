@@ -59,7 +59,7 @@ where
     .parse_stream(input)
 }
 
-/// What stands behind an opening bracket, if there was one.
+/// What stands after an opening bracket, if there was one.
 #[cycle(brackets)]
 fn inside<Input: Stream<Token = u8>>(
     depth: u32,
@@ -244,7 +244,7 @@ mod tests {
         assert_eq!(rt; nested(rt.alloc(), 0, &[b"("]), refused(Kind::Refused));
     }
 
-    /// What is read before a cut is unread behind it.
+    /// What is read before a cut is unread after it.
     #[test]
     fn put_back_at_a_cut(rt: HostRuntime) {
         let mut session = Session::new(rt.alloc(), Nest(2));

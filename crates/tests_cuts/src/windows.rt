@@ -100,7 +100,7 @@ where
     (found, parser.into_notes())
 }
 
-/// As `over`, with a length of two bytes and so many bytes behind it.
+/// As `over`, with a length of two bytes and so many bytes after it.
 pub fn frame<'a>(whole: &'a [u8], cuts: &[usize]) -> Option<(usize, Found<&'a [u8]>)> {
     let mut parser = length_prefix(be_u16());
     over(&mut parser, whole, cuts)

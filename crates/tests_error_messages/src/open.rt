@@ -78,7 +78,7 @@ where
     }
 }
 
-/// Whether the answer on an `a`, behind which more may come, is such an error.
+/// Whether the answer on an `a`, after which more may come, is such an error.
 fn stops_at_an_a<Input: Open, P: Parser<Input> + Drop>(
     alloc: Global,
     parser: P,
@@ -111,7 +111,7 @@ where
     ])
 }
 
-/// Need of more, and want of memory that says what was expected, each within `message` and within `silent`.
+/// Need of more, and a fault of kind `Memory` that says what was expected, each within `message` and within `silent`.
 fn left_as_they_are<Input: Open>(alloc: Global) -> Result<[[bool; 2]; 2], AllocError>
 where
     Input::Error: ParseError<char, Input::Range, Input::Position>,

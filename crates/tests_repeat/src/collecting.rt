@@ -195,7 +195,7 @@ impl Collects for Or {
     }
 }
 
-/// The answers are those of ample memory where there is room for three values, and want of memory where there is less: whichever growth is refused, and however the input is cut.
+/// The answers are those of ample memory where there is room for three values, and that none is left where there is less: whichever growth is refused, and however the input is cut.
 fn over_every_cut<C: Collects>(
     rt: &impl Abort,
     alloc: Global,

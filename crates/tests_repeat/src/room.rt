@@ -56,7 +56,7 @@ impl<const N: usize> Counted for Room<N> {
     }
 }
 
-/// What a session answers to these pieces, and then the end. Behind a fault every call must answer `Failed`; where one doesn't, this is `Closed`.
+/// What a session answers to these pieces, and then the end. After a fault every call must answer `Failed`; where one doesn't, this is `Closed`.
 pub fn in_session<P: Parser<fed::Stream<u8>> + Drop>(
     alloc: Global,
     parser: P,

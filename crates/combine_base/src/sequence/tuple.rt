@@ -15,13 +15,16 @@ use crate::stream::Stream;
 
 mod longer;
 
+/// The kept state of a tuple of one parser over a stream.
 pub type State1<Input, A> = PartialState1<SequenceState<(), <A as Parser<Input>>::PartialState>>;
 
+/// The kept state of a tuple of two parsers over a stream.
 pub type State2<Input, A, B> = PartialState2<
     SequenceState<(), <A as Parser<Input>>::PartialState>,
     SequenceState<(<A as Outputs<Input>>::Output,), <B as Parser<Input>>::PartialState>,
 >;
 
+/// The kept state of a tuple of three parsers over a stream.
 type State3<Input, A, B, C> = PartialState3<
     SequenceState<(), <A as Parser<Input>>::PartialState>,
     SequenceState<(<A as Outputs<Input>>::Output,), <B as Parser<Input>>::PartialState>,
@@ -31,6 +34,7 @@ type State3<Input, A, B, C> = PartialState3<
     >,
 >;
 
+/// The kept state of a tuple of four parsers over a stream.
 type State4<Input, A, B, C, D> = PartialState4<
     SequenceState<(), <A as Parser<Input>>::PartialState>,
     SequenceState<(<A as Outputs<Input>>::Output,), <B as Parser<Input>>::PartialState>,
@@ -48,14 +52,16 @@ type State4<Input, A, B, C, D> = PartialState4<
     >,
 >;
 
-/// How many parsers two are, at most 255.
+/// Returns how many parsers two are, at most 255.
 fn add_counts(before: ErrorOffset, last: ErrorOffset) -> ErrorOffset
     ensures { result.0 ≡ min (before.0 + last.0) 255 }
 {
     ErrorOffset(before.0.saturating_add(last.0))
 }
 
-/// Runs one part, from what is kept of it. `state` is a default one, and keeps what goes on where more is needed.
+/// Runs one part, from what is kept of it.
+///
+/// `state` is a default one, and keeps what goes on where more is needed.
 #[inline(always)]
 pub fn parse_1<Input: Stream, A: Parser<Input>, M: ParseMode>(
     a: &mut A,
@@ -90,7 +96,9 @@ pub fn parse_1<Input: Stream, A: Parser<Input>, M: ParseMode>(
     }
 }
 
-/// Runs two parts, from what is kept of them. `state` is a default one, and keeps what goes on where more is needed.
+/// Runs two parts, from what is kept of them.
+///
+/// `state` is a default one, and keeps what goes on where more is needed.
 #[inline(always)]
 pub fn parse_2<Input: Stream, A: Parser<Input>, B: Parser<Input>, M: ParseMode>(
     a: &mut A,
@@ -116,7 +124,9 @@ pub fn parse_2<Input: Stream, A: Parser<Input>, B: Parser<Input>, M: ParseMode>(
     }
 }
 
-/// Runs three parts, from what is kept of them. `state` is a default one, and keeps what goes on where more is needed.
+/// Runs three parts, from what is kept of them.
+///
+/// `state` is a default one, and keeps what goes on where more is needed.
 #[inline(always)]
 fn parse_3<Input: Stream, A: Parser<Input>, B: Parser<Input>, C: Parser<Input>, M: ParseMode>(
     a: &mut A,
@@ -142,7 +152,9 @@ fn parse_3<Input: Stream, A: Parser<Input>, B: Parser<Input>, C: Parser<Input>, 
     }
 }
 
-/// Runs four parts, from what is kept of them. `state` is a default one, and keeps what goes on where more is needed.
+/// Runs four parts, from what is kept of them.
+///
+/// `state` is a default one, and keeps what goes on where more is needed.
 #[inline(always)]
 fn parse_4<
     Input: Stream,

@@ -1,4 +1,4 @@
-//! The parsers that the functions of `byte` answer.
+//! The parsers that the functions of `byte` return.
 
 use crate::byte::classes;
 use crate::byte_list::InBytes;

@@ -1,4 +1,4 @@
-//! The parsers that the functions of `char` answer.
+//! The parsers that the functions of `char` return.
 
 use crate::char::classes;
 use crate::class::types::InClass;

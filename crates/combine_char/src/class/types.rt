@@ -1,4 +1,4 @@
-//! The parser that `in_class` answers.
+//! The parser that `in_class` returns.
 ghost use Rattle.std.specs.Prelude.{◌≡◌};
 ghost use Rattle.combine_base.specs.Error.Errors.{Only};
 ghost use Rattle.combine_base.specs.Error.Items.{Expected, Fixed};
@@ -11,7 +11,9 @@ use combine_base::stream::{Stream, StreamOnce};
 use combine_token::token::reading::token_if;
 use std::marker::PhantomData;
 
-/// The parser of a token of that class. It keeps no state.
+/// The parser of a token of that class.
+///
+/// It keeps no state.
 #[derive(Drop)]
 #[derive_where(Clone, Copy; C)]
 pub struct InClass<Input, C> {

@@ -39,11 +39,15 @@ impl<S> Default for SliceState<S> {
     }
 }
 
-/// The alternatives of a slice. In the crate the slice itself is a choice.
+/// The alternatives of a slice, for a choice.
+///
+/// In the crate the slice itself is a choice.
 #[derive(Drop)]
 pub struct Slice<'a, P>(pub &'a mut [P]);
 
-/// The alternative at an index goes on, or begins. On need of more it is kept in `state`.
+/// Runs the alternative at an index, which goes on, or begins.
+///
+/// On need of more it is kept in `state`.
 #[inline(always)]
 fn take_turn<Input: Stream, P: Parser<Input>, M: ParseMode>(
     alternative: &mut P,
@@ -71,7 +75,7 @@ fn take_turn<Input: Stream, P: Parser<Input>, M: ParseMode>(
     answer
 }
 
-/// The alternatives from that index on, the first of them from that state, the later ones afresh.
+/// Runs the alternatives from that index on, the first of them from that state, the later ones afresh.
 #[inline(always)]
 fn choose<Input: Stream, P: Parser<Input>, M: ParseMode>(
     alternatives: &mut [P],
@@ -113,7 +117,7 @@ fn choose<Input: Stream, P: Parser<Input>, M: ParseMode>(
     ParseResult::PeekErr(refused)
 }
 
-/// As `choose`, for a call that resumes: apart from the code of calls that begin afresh, which holds the loop once.
+/// Runs the alternatives as `choose` does, in a call that resumes: apart from the code of calls that begin afresh, which holds the loop once.
 fn resume<Input: Stream, P: Parser<Input>, M: ParseMode>(
     alternatives: &mut [P],
     index: usize,
@@ -132,7 +136,7 @@ fn resume<Input: Stream, P: Parser<Input>, M: ParseMode>(
     choose(alternatives, index, mode, input, kept, state)
 }
 
-/// The answer of a choice among no alternatives.
+/// Refuses a choice among no alternatives.
 fn no_alternative<O, Input: Stream>(input: &Input) -> ParseResult<O, Input::Error>
     ensures { NoAlternative Input.Error.seen (Input.view input.now).position result }
 {
@@ -140,7 +144,9 @@ fn no_alternative<O, Input: Stream>(input: &Input) -> ParseResult<O, Input::Erro
     peeked(Tracked::from(error))
 }
 
-/// The alternative of so many that a call goes on with, and its state: `Peek` where the call begins afresh, also where no alternative has that index.
+/// Returns the alternative of so many that a call goes on with, and its state.
+///
+/// That is `Peek` where the call begins afresh, also where no alternative has that index.
 #[inline(always)]
 fn running<S: Drop, M: ParseMode>(kept: SliceState<S>, count: usize, mode: M) -> SliceState<S>
     ensures { Resumes (M.first mode) kept count result }
@@ -159,7 +165,7 @@ fn running<S: Drop, M: ParseMode>(kept: SliceState<S>, count: usize, mode: M) ->
     }
 }
 
-/// The choice of the alternatives of a slice.
+/// Chooses among the alternatives of a slice.
 #[inline(always)]
 fn parse_slice<Input: Stream, P: Parser<Input>, M: ParseMode>(
     alternatives: &mut [P],
@@ -198,7 +204,7 @@ fn parse_slice<Input: Stream, P: Parser<Input>, M: ParseMode>(
     }
 }
 
-/// What the alternatives add to an error, in order.
+/// Adds to an error what the alternatives add, in order.
 fn add_errors<Input: Stream, P: Parser<Input>>(
     alternatives: &mut [P],
     error: &mut Tracked<Input::Error>,

@@ -9,9 +9,9 @@ use combine_base::parser::{Outputs, ParseMode, Parser};
 use combine_base::stream::Stream;
 use std::mem::take;
 
-/// One of five parsers, which means the one that it holds; or the state of one of them. In the crate `dispatch!` makes such an enum.
+/// One of five parsers, which means the one that it holds; or the state of one of them.
 ///
-/// A kept state of another variant than the parser holds is the beginning.
+/// A kept state of another variant than the parser holds is the beginning. In the crate `dispatch!` makes such an enum.
 #[derive(Drop)]
 pub enum Dispatch5<A, B, C, D, E> {
     A(A),
@@ -168,7 +168,7 @@ impl<
         }
     }
 
-    /// What the parser inside adds.
+    /// Adds what the parser inside adds.
     fn add_error(&mut self, error: &mut Tracked<Input::Error>) {
         match self {
             Dispatch5::A(parser) => parser.add_error(error),

@@ -11,6 +11,15 @@ use std::mem::take;
 /// One of two parsers, which means the one that it holds; or the state of one of them.
 ///
 /// A kept state of another variant than the parser holds is the beginning.
+///
+/// # Examples
+///
+/// ```
+/// match kind {
+///     1 => Either::Left(map(be_u32(), |number: u32| Payload::Number(number))),
+///     _ => Either::Right(map(be_u16(), |number: u16| Payload::Short(number))),
+/// }
+/// ```
 #[derive(Drop)]
 pub enum Either<L, R> {
     Left(L),
@@ -96,7 +105,7 @@ impl<Input: Stream, L: Parser<Input>, R: Parser<Input, Output = L::Output>> Pars
         }
     }
 
-    /// What the parser inside adds.
+    /// Adds what the parser inside adds.
     fn add_error(&mut self, error: &mut Tracked<Input::Error>) {
         match self {
             Either::Left(parser) => parser.add_error(error),

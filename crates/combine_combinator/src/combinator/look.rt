@@ -11,19 +11,19 @@ use combine_base::error::{ErrorOffset, ParseError, ParseResult, Tracked};
 use combine_base::parser::{Outputs, ParseMode, Parser};
 use combine_base::stream::{Kind, Positioned, ResetStream, Stream, StreamOnce, needs_more};
 
-/// The value of its part, peeked, and nothing is taken.
+/// The parser of [`look_ahead`](crate::combinator::look_ahead).
 #[derive(Clone, Copy, Drop)]
 pub struct LookAhead<P>(pub(super) P);
 
-/// Accepts, peeked, where its part refuses, and takes nothing.
+/// The parser of [`not_followed_by`](crate::combinator::not_followed_by).
 #[derive(Clone, Copy, Drop)]
 pub struct NotFollowedBy<P>(pub(super) P);
 
-/// As its part, which begins again after need of more.
+/// The parser of [`no_partial`](crate::combinator::no_partial).
 #[derive(Clone, Copy, Drop)]
 pub struct NoPartial<P>(pub(super) P);
 
-/// Puts the stream back, and answers so, or the fault that it could not be put back.
+/// Puts the stream back, and returns that result, or the fault that it could not be put back.
 #[inline]
 fn put_back<O: Drop, Input: Stream>(
     input: &mut Input,
@@ -89,13 +89,13 @@ impl<Input: Stream, P: Parser<Input>> Parser<Input> for LookAhead<P> {
         }
     }
 
-    /// What its part adds.
+    /// Adds what its part adds.
     #[inline]
     fn add_error(&mut self, error: &mut Tracked<Input::Error>) {
         self.0.add_error(error);
     }
 
-    /// As for its part.
+    /// Counts as its part does.
     #[inline]
     fn parser_count(&self) -> ErrorOffset {
         self.0.parser_count()
@@ -172,7 +172,7 @@ impl<Input: Stream, P: Parser<Input>> Parser<Input> for NotFollowedBy<P> {
     #[inline]
     fn add_error(&mut self, error: &mut Tracked<Input::Error>) {}
 
-    /// As for its part.
+    /// Counts as its part does.
     #[inline]
     fn parser_count(&self) -> ErrorOffset {
         self.0.parser_count()
@@ -224,13 +224,13 @@ impl<Input: Stream, P: Parser<Input>> Parser<Input> for NoPartial<P> {
         }
     }
 
-    /// What its part adds.
+    /// Adds what its part adds.
     #[inline]
     fn add_error(&mut self, error: &mut Tracked<Input::Error>) {
         self.0.add_error(error);
     }
 
-    /// As for its part.
+    /// Counts as its part does.
     #[inline]
     fn parser_count(&self) -> ErrorOffset {
         self.0.parser_count()

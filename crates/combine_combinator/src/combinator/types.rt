@@ -1,4 +1,4 @@
-//! The parsers that the functions of `combinator` answer.
+//! The parsers that the functions of `combinator` return.
 ghost use Rattle.std.specs.Prelude.{◌≡◌};
 ghost use Rattle.combine_combinator.specs.Attempt.{HasValid, attempted, attempted_is_meaning, attempted_means_one, losing, refusing};
 ghost use Rattle.combine_combinator.specs.Parsers.{attempt_part, map_function, map_of, map_part};
@@ -18,7 +18,7 @@ use combine_base::sequence::accepted_after;
 use combine_base::stream::{Kind, Positioned, ResetStream, Stream, StreamOnce, needs_more};
 use std::marker::PhantomData;
 
-/// As its part, the value changed by its function into a `B`; the state is that of the part.
+/// The parser of [`map`](crate::combinator::map), whose function makes a `B`; the state is that of its part.
 #[derive(Drop)]
 #[derive_where(Clone, Copy; P, F)]
 pub struct Map<P, F, B> {
@@ -28,7 +28,7 @@ pub struct Map<P, F, B> {
 }
 
 impl<P, F, B> Map<P, F, B> {
-    /// The parser of this part and this function.
+    /// Returns the parser of this part and this function.
     #[inline]
     pub(super) fn new(part: P, function: F) -> Self
         ensures { result ≡ map_of part function }
@@ -80,20 +80,20 @@ impl<Input: Stream, P: Parser<Input>, B: Drop, F: Maps<P::Output, B>> Parser<Inp
         }
     }
 
-    /// What the parser adds whose value is changed.
+    /// Adds what the parser adds whose value is changed.
     #[inline]
     fn add_error(&mut self, error: &mut Tracked<Input::Error>) {
         self.part.add_error(error);
     }
 
-    /// As for the parser whose value is changed.
+    /// Counts as the parser whose value is changed does.
     #[inline]
     fn parser_count(&self) -> ErrorOffset {
         self.part.parser_count()
     }
 }
 
-/// As its part, but every refusal is peeked and put back; the state is a `TryState`.
+/// The parser of [`attempt`](crate::combinator::attempt); its state is a `TryState`.
 #[derive(Clone, Copy, Drop)]
 pub struct Try<P>(pub(super) P);
 
@@ -152,20 +152,20 @@ impl<Input: Stream, P: Parser<Input>> Parser<Input> for Try<P> {
         }
     }
 
-    /// What the parser adds whose refusals are put back.
+    /// Adds what the parser adds whose refusals are put back.
     #[inline]
     fn add_error(&mut self, error: &mut Tracked<Input::Error>) {
         self.0.add_error(error);
     }
 
-    /// As for the parser whose refusals are put back.
+    /// Counts as the parser whose refusals are put back does.
     #[inline]
     fn parser_count(&self) -> ErrorOffset {
         self.0.parser_count()
     }
 }
 
-/// The kind of a failure to pass over the kept distance.
+/// Returns the kind of a failure to pass over the kept distance.
 #[inline]
 fn lost(kind: Kind) -> Kind
     ensures { result ≡ losing kind }
@@ -176,7 +176,7 @@ fn lost(kind: Kind) -> Kind
     }
 }
 
-/// Whether an error of that kind, where it isn't need of more, is a refusal.
+/// Returns whether an error of that kind, where it isn't need of more, is a refusal.
 #[inline]
 pub(super) fn refuses(kind: Kind) -> bool
     ensures { result ≡ refusing kind }
@@ -184,7 +184,7 @@ pub(super) fn refuses(kind: Kind) -> bool
     matches!(kind, Kind::Refused | Kind::End)
 }
 
-/// Puts the stream back to where the part began, refused peeked.
+/// Refuses peeked, with the stream put back to where the part began.
 #[inline(always)]
 fn put_back<O, Input: Stream, S: Default + Drop>(
     input: &mut Input,
@@ -222,7 +222,7 @@ fn keep_distance<O, Input: Stream, S: Default + Drop>(
     }
 }
 
-/// A fault at that position, which leaves a default state.
+/// Returns a fault at that position, and leaves a default state.
 #[cold]
 fn fault<O, Input: Stream, S: Default + Drop>(
     input: &Input,

@@ -10,7 +10,9 @@ use combine_base::refusal::peeked;
 use combine_base::stream::{Positioned, Stream, StreamOnce};
 use std::marker::PhantomData;
 
-/// How a value is changed, or refused. Our own: the crate writes each of its parsers by itself.
+/// How a value is changed, or refused. Our own.
+///
+/// The crate writes each of its parsers by itself.
 pub trait Change<Input: Stream, A> {
     ghost use Rattle.std.specs.Prelude.{◌≡◌, ℕ};
     ghost use Rattle.combine_base.specs.Stream.Calls.{Passes};
@@ -37,7 +39,9 @@ pub trait Change<Input: Stream, A> {
     /// As how many parsers a parser counts whose value is changed so, where its part counts so many.
     ghost counted: { ℕ → ℕ };
 
-    /// The value changed, or the error of a refusal or of a fault; the stream is left in place. The parser began at that position.
+    /// Returns the value changed, or the error of a refusal or of a fault; the stream is left in place.
+    ///
+    /// The parser began at that position.
     fn change(
         &self,
         value: A,
@@ -50,7 +54,7 @@ pub trait Change<Input: Stream, A> {
         ensures failures { Input.failures input.new ≡ Input.failures input.old }
         ensures changes { Changes Input.Error.seen (gives self.now (Input.view input.old).position value) (denies self.now value) (starves self.now value) (says self.now began value) result };
 
-    /// As how many parsers a parser counts, of whose part that is the count.
+    /// Returns as how many parsers a parser counts, of whose part that is the count.
     fn count(part: ErrorOffset) -> ErrorOffset
         ensures { result.0 ≡ counted part.0 };
 }
@@ -65,7 +69,7 @@ pub struct Changed<P, C, B> {
 }
 
 impl<P, C, B> Changed<P, C, B> {
-    /// The parser of this part and this change.
+    /// Returns the parser of this part and this change.
     #[inline]
     pub fn new(part: P, change: C) -> Self
         ensures { result ≡ changed_of part change }
@@ -125,7 +129,7 @@ impl<Input: Stream, P: Parser<Input>, B: Drop, C: Change<Input, P::Output, Outpu
         }
     }
 
-    /// What the parser adds whose value is changed.
+    /// Adds what the parser adds whose value is changed.
     #[inline]
     fn add_error(&mut self, error: &mut Tracked<Input::Error>) {
         self.part.add_error(error);

@@ -11,7 +11,7 @@ use combine_base::stream::{Kind, Stream, StreamOnce};
 use std::marker::PhantomData;
 use std::str::FromStr;
 
-/// A function that answers a value, or the error of the stream that the value is refused with.
+/// A function that returns a value, or the error of the stream that the value is refused with.
 #[derive(Clone, Copy, Drop)]
 pub struct Answering<F>(pub(super) F);
 
@@ -41,14 +41,14 @@ impl<Input: Stream, A, B: Drop, F: Fn(A) -> Result<B, Input::Error>> Change<Inpu
         (self.0)(value)
     }
 
-    /// As the part.
+    /// Counts as the part does.
     #[inline]
     fn count(part: ErrorOffset) -> ErrorOffset {
         part
     }
 }
 
-/// A function that answers a value, or what the error says that the value is refused with.
+/// A function that returns a value, or what the error says that the value is refused with.
 #[derive(Clone, Copy, Drop)]
 pub struct Trying<F>(pub(super) F);
 
@@ -96,7 +96,7 @@ where
         }
     }
 
-    /// As the part.
+    /// Counts as the part does.
     #[inline]
     fn count(part: ErrorOffset) -> ErrorOffset {
         part
@@ -132,7 +132,7 @@ impl<Input: Stream, A, B: Drop, F: Fn(A, &mut Input) -> B> Change<Input, A> for 
         Ok((self.0)(value, input))
     }
 
-    /// As the part.
+    /// Counts as the part does.
     #[inline]
     fn count(part: ErrorOffset) -> ErrorOffset {
         part
@@ -184,7 +184,7 @@ where
         }
     }
 
-    /// As one parser.
+    /// Counts as one parser.
     #[inline]
     fn count(_part: ErrorOffset) -> ErrorOffset {
         ErrorOffset(1)

@@ -1,4 +1,4 @@
-//! The parsers that the functions of `combinator` answer.
+//! The parsers that the functions of `combinator` return.
 
 pub use super::changed::Changed;
 pub use super::changes::{Answering, Read, Seeing, Trying};

@@ -1,4 +1,4 @@
-//! The parser that the functions of `error` answer.
+//! The parser that the functions of `error` return.
 ghost use Rattle.std.specs.Prelude.{◌≡◌, MatchResult};
 ghost use Rattle.combine_base.specs.Error.Errors.{Only};
 ghost use Rattle.combine_base.specs.Error.Items.{Unexpected as SaysUnexpected, shown};
@@ -11,7 +11,9 @@ use combine_base::stream::{Kind, Positioned, Stream, StreamOnce};
 use std::alloc::AllocError;
 use std::marker::PhantomData;
 
-/// The parser of [`unexpected`](crate::error::unexpected) and of [`unexpected_any`](crate::error::unexpected_any), whose value would be a `V`. `I` is an `Info`, in the crate what is turned into one.
+/// The parser of [`unexpected`](crate::error::unexpected) and of [`unexpected_any`](crate::error::unexpected_any), whose value would be a `V`.
+///
+/// `I` is an `Info`, in the crate what is turned into one.
 #[derive(Drop)]
 pub struct Unexpected<Input, V, I> {
     pub(super) info: I,
@@ -33,7 +35,7 @@ impl<Input, V, A: Copy, R: Copy> Clone for Unexpected<Input, V, Info<A, R>> {
     }
 }
 
-/// An info that speaks of the same; a text of its own is cloned, which takes memory.
+/// Returns an info that speaks of the same; a text of its own is cloned, which takes memory.
 fn copied<T: Copy, R: Copy>(info: &Info<T, R>) -> Result<Info<T, R>, AllocError>
     ensures { MatchResult result (λ i. shown i ≡ shown info.now) (λ _. NoText info.now → ⊥) }
 {

@@ -1,4 +1,4 @@
-//! The parsers that the functions of `function` answer.
+//! The parsers that the functions of `function` return.
 ghost use Rattle.std.specs.Prelude.{◌≡◌, IfOk, IfErr};
 ghost use Rattle.combine_base.specs.Error.Results.{from_standard};
 ghost use Rattle.combine_base.specs.Parser.Meaning.{IsSingle};
@@ -19,13 +19,13 @@ pub trait Call<Input: Stream> {
 
     ghost callable: { Self → Type 0 };
 
-    /// What a call may answer for a stream, which it then leaves so.
+    /// What a call may return for a stream, which it then leaves so.
     ghost answers: { Self → Input → ParseResult Self.Value Input.Error → Input → Type 0 };
 
     /// No call finds no memory for what the function is given.
     ghost infallible: { Self → Type 0 };
 
-    /// Calls it; or what it is to be given found no memory, and the stream is as it was.
+    /// Calls it, or returns that what it is to be given found no memory, and the stream is as it was.
     fn call(&self, input: &mut Input) -> Result<ParseResult<Self::Value, Input::Error>, NoMemory>
         requires { callable self.now }
         ensures answers { IfOk result (λ answer. answers self.now input.old answer input.new) }
@@ -82,7 +82,9 @@ impl<Input: Stream, O: Drop, E: Clone, F: Fn(E, &mut Input) -> StdParseResult<O,
     }
 }
 
-/// The parser that calls a function. It keeps no state: on need of more the stream is put back, and the next call begins again.
+/// The parser that calls a function.
+///
+/// It keeps no state: on need of more the stream is put back, and the next call begins again.
 #[derive(Drop)]
 #[derive_where(Clone, Copy; C)]
 pub struct Called<Input, C> {

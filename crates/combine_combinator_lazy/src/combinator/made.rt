@@ -35,7 +35,9 @@ impl<N, U> Default for MadeState<N, U> {
     }
 }
 
-/// Runs a parser that was made, from its state. Need of more is kept in `state`, which is a default one.
+/// Runs a parser that was made, from its state.
+///
+/// Need of more is kept in `state`, which is a default one.
 #[inline(always)]
 pub fn run_made<Input: Stream, N: Parser<Input> + Drop, M: ParseMode>(
     mode: M,
@@ -69,7 +71,7 @@ pub fn run_made<Input: Stream, N: Parser<Input> + Drop, M: ParseMode>(
     }
 }
 
-/// As `run_made`, for a call that resumes: apart from the code of calls that begin afresh.
+/// Runs the parser as `run_made` does, in a call that resumes: apart from the code of calls that begin afresh.
 #[inline(never)]
 pub fn resume_made<Input: Stream, N: Parser<Input> + Drop, M: ParseMode>(
     mode: M,
@@ -98,7 +100,9 @@ fn ask<Input: Stream, N, F: Fn(&mut Input) -> N>(maker: &F, input: &mut Input) -
     maker(input)
 }
 
-/// Asks a maker that leaves the stream in place, and runs the parser that it answers from its beginning. Need of more is kept in `state`.
+/// Asks a maker that leaves the stream in place, and runs the parser that it returns from its beginning.
+///
+/// Need of more is kept in `state`.
 #[inline(always)]
 pub fn make_and_run<Input: Stream, N: Parser<Input> + Drop, F: Fn(&mut Input) -> N, M: ParseMode>(
     maker: &F,

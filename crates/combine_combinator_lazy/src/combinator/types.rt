@@ -1,4 +1,4 @@
-//! The parsers that the functions of this module answer.
+//! The parsers that the functions of this module return.
 ghost use Rattle.std.specs.Prelude.{◌≡◌};
 ghost use Rattle.combine_base.specs.Error.Errors.{Nothing};
 ghost use Rattle.combine_base.specs.Parser.Kept.{KeptOf};
@@ -12,7 +12,9 @@ use combine_base::parser::{Outputs, ParseMode, Parser};
 use combine_base::sequence::take_state;
 use combine_base::stream::Stream;
 
-/// A function that makes a parser. Our own: by it the value of a [`Lazy`] is known without its maker's signature, of which an impl of `Outputs` can say nothing.
+/// A function that makes a parser. Our own.
+///
+/// By it the value of a [`Lazy`] is known without its maker's signature, of which an impl of `Outputs` can say nothing.
 pub trait Makes {
     ghost use Rattle.std.specs.Prelude.{◌≡◌};
 
@@ -24,6 +26,7 @@ pub trait Makes {
     /// Which parsers it may make.
     ghost makes: { Self → Self.Made → Type 0 };
 
+    /// Makes a parser.
     fn make(&self) -> Self::Made
         requires { callable self.now }
         ensures { makes self.now result };
@@ -49,6 +52,7 @@ pub trait MakesAt<Input> {
 
     ghost callable: { Self → Type 0 };
 
+    /// Makes a parser for that stream.
     fn make_at(&self, input: &mut Input) -> Self::Made
         requires { callable self.now };
 }
@@ -112,14 +116,14 @@ impl<Input: Stream, N: Parser<Input> + Drop, F: Fn() -> N> Parser<Input> for Laz
         run_made(mode, input, made, state)
     }
 
-    /// What a parser of the maker adds.
+    /// Adds what a parser of the maker adds.
     #[inline]
     fn add_error(&mut self, error: &mut Tracked<Input::Error>) {
         let mut parser = (self.0)();
         parser.add_error(error);
     }
 
-    /// One, whatever the parser counts that the maker answers.
+    /// Counts as one parser, whatever the parser of the maker counts.
     #[inline]
     fn parser_count(&self) -> ErrorOffset {
         ErrorOffset(1)
@@ -169,11 +173,11 @@ impl<Input: Stream, N: Parser<Input> + Drop, F: Fn(&mut Input) -> N> Parser<Inpu
         make_and_run(&self.0, mode, input, state)
     }
 
-    /// Nothing.
+    /// Adds nothing.
     #[inline]
     fn add_error(&mut self, error: &mut Tracked<Input::Error>) {}
 
-    /// One, whatever the parser counts that the maker answers.
+    /// Counts as one parser, whatever the parser of the maker counts.
     #[inline]
     fn parser_count(&self) -> ErrorOffset {
         ErrorOffset(1)

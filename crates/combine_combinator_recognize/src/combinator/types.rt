@@ -1,4 +1,4 @@
-//! The parser that `recognize` answers.
+//! The parser that `recognize` returns.
 ghost use Rattle.std.specs.Prelude.{◌≡◌};
 ghost use Rattle.combine_combinator_recognize.specs.Gathered.{HasValid, IsFresh, collected_by, parser_of, recognized, recognized_is_meaning, recognized_means_one};
 
@@ -16,11 +16,12 @@ use std::marker::PhantomData;
 pub enum Collected<F> {
     /// There is no collection yet.
     Nothing,
+    /// These tokens were taken.
     Tokens(F),
 }
 
 impl<F: Drop> Collected<F> {
-    // What the tokens of the next call are appended to.
+    // Returns what the tokens of the next call are appended to.
     #[inline(always)]
     fn or_empty<T>(self, alloc: Global) -> F
     where
@@ -125,13 +126,13 @@ impl<Input: Stream, P: Parser<Input>, F: Append<Input::Token>> Parser<Input> for
         }
     }
 
-    /// What the parser adds whose tokens are collected.
+    /// Adds what the parser adds whose tokens are collected.
     #[inline]
     fn add_error(&mut self, error: &mut Tracked<Input::Error>) {
         self.parser.add_error(error);
     }
 
-    /// One, whatever the parser counts.
+    /// Counts as one parser, whatever the parser counts.
     #[inline]
     fn parser_count(&self) -> ErrorOffset {
         ErrorOffset(1)

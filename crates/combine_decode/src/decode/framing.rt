@@ -1,4 +1,4 @@
-//! A message behind its length, and the parser that is answered for a length.
+//! A message after its length, and the parser for a length.
 ghost use Rattle.std.specs.Prelude.{◌≡◌};
 ghost use Rattle.combine_decode.specs.Frames.{framing_of};
 ghost use Rattle.combine_sequence.specs.Answered.{forget};
@@ -13,7 +13,7 @@ use combine_token::token::types::Any;
 use std::alloc::Global;
 use std::marker::PhantomData;
 
-/// Is asked for the parser of so many bytes, which are collected. Our own.
+/// The function from a length to the parser of so many bytes, which are collected. Our own.
 #[derive(Drop)]
 #[derive_where(Clone, Copy)]
 pub struct Framing<Input> {
@@ -22,7 +22,7 @@ pub struct Framing<Input> {
 }
 
 impl<Input> Framing<Input> {
-    /// Collects bytes with this allocator.
+    /// Returns the function, which collects bytes with this allocator.
     pub(super) fn new(alloc: Global) -> Self
         ensures { result ≡ framing_of alloc }
     {

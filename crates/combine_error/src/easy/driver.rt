@@ -8,15 +8,40 @@ use combine_base::parser::Parser;
 use combine_base::stream::Stream;
 use std::alloc::Global;
 
-/// Parses with errors that keep items. Every parser over an `easy::Stream` has it.
+/// Parses with errors that keep items.
+///
+/// Every parser over an `easy::Stream` has it.
 pub trait EasyParser<S: Stream>: Parser<EasyStream<S>>
 where
     S::Token: PartialEq,
     S::Range: PartialEq,
 {
-    /// Parses from the start: returns the value and the input that is left, or the error, which says what stood there and what was expected. As `parse` over an `easy::Stream`.
+    /// Parses from the start, and returns the value and the input that is left.
     ///
-    /// The items of errors take their memory from `alloc`; one that finds none makes it an error of kind `Memory`.
+    /// It is `parse` over an `easy::Stream`.
+    ///
+    /// The items of errors take their memory from `alloc`.
+    ///
+    /// # Errors
+    ///
+    /// The error says what stood there and what was expected. An item that finds no memory makes it an error of kind `Memory`.
+    ///
+    /// # Differences from combine
+    ///
+    /// It takes an allocator.
+    ///
+    /// # Examples
+    ///
+    /// ```
+    /// fn sum(
+    ///     alloc: Global,
+    ///     text: &'static str,
+    /// ) -> Result<((char, char, char), &'static str), Errors<char, &'static str, Left>> {
+    ///     (digit(), char('+'), digit()).easy_parse(alloc, text)
+    /// }
+    /// ```
+    ///
+    /// Of `"1+?"` the error says ``Unexpected `?` `` and `Expected digit`.
     final fn easy_parse(
         &mut self,
         alloc: Global,

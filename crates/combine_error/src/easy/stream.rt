@@ -9,9 +9,13 @@ use combine_stream::position;
 use combine_stream::range::{Range, RangeStream};
 use std::alloc::Global;
 
-/// The stream, whose parsers are refused with errors that keep items.
+/// A stream whose parsers are refused with errors that keep items.
 ///
-/// An error as the stream makes it has no items and takes no memory. In the crate it is `Stream(pub S)`; this one keeps an allocator, from which items that are added take their memory.
+/// An error as the stream makes it has no items and takes no memory.
+///
+/// # Differences from combine
+///
+/// In the crate it is `Stream(pub S)`. This one keeps an allocator, from which items that are added take their memory.
 #[derive(Drop)]
 pub struct Stream<S> {
     inner: S,

@@ -14,14 +14,18 @@ use combine_base::parser::{Outputs, ParseMode, Parser};
 use combine_base::stream::{Kind, Stream, StreamOnce};
 use std::alloc::AllocError;
 
-/// The parser of [`message`](crate::error::message). `I` is an `Info`, in the crate what is turned into one.
+/// The parser of [`message`](crate::error::message).
+///
+/// `I` is an `Info`, in the crate what is turned into one.
 #[derive(Drop)]
 pub struct Message<P, I> {
     pub(super) parser: P,
     pub(super) info: I,
 }
 
-/// The parser of [`expected`](crate::error::expected). `I` is an `Info`, in the crate what is turned into one.
+/// The parser of [`expected`](crate::error::expected).
+///
+/// `I` is an `Info`, in the crate what is turned into one.
 #[derive(Drop)]
 pub struct Expected<P, I> {
     pub(super) parser: P,
@@ -58,7 +62,7 @@ impl<P: Clone, A: Copy, R: Copy> Clone for Expected<P, Info<A, R>> {
     }
 }
 
-// Whether a committed error is a refusal: no need of more, and no fault.
+// Returns whether a committed error is a refusal: no need of more, and no fault.
 #[inline]
 fn is_refusal<Input: Stream>(input: &Input, error: &Input::Error) -> bool
     ensures { (result ≡ true) ↔ IsRefusal (Input.view input.now).is_open (Input.Error.seen.kind error.now) }
@@ -70,7 +74,7 @@ fn is_refusal<Input: Stream>(input: &Input, error: &Input::Error) -> bool
     }
 }
 
-// Has a committed refusal say this too.
+// Makes a committed refusal say this too.
 fn tell<O: Drop, Input: Stream>(
     input: &Input,
     info: &Info<Input::Token, Input::Range>,
@@ -93,7 +97,7 @@ fn tell<O: Drop, Input: Stream>(
     }
 }
 
-// Has a refusal no longer say what was expected.
+// Makes a refusal no longer say what was expected.
 fn hush<O: Drop, Input: Stream>(
     input: &Input,
     answer: ParseResult<O, Input::Error>,
@@ -154,13 +158,13 @@ impl<Input: Stream, P: Parser<Input>> Parser<Input>
         tell(input, &self.info, answer)
     }
 
-    /// What the parser adds, and then the message.
+    /// Adds what the parser adds, and then the message.
     fn add_error(&mut self, error: &mut Tracked<Input::Error>) {
         self.parser.add_error(error);
         error.error.add_message(&self.info);
     }
 
-    /// As for the parser.
+    /// Counts as the parser does.
     fn parser_count(&self) -> ErrorOffset {
         self.parser.parser_count()
     }
@@ -203,7 +207,7 @@ impl<Input: Stream, P: Parser<Input>> Parser<Input> for Silent<P> {
     /// Adds nothing.
     fn add_error(&mut self, error: &mut Tracked<Input::Error>) {}
 
-    /// As for the parser.
+    /// Counts as the parser does.
     fn parser_count(&self) -> ErrorOffset {
         self.0.parser_count()
     }
@@ -243,7 +247,7 @@ impl<Input: Stream, P: Parser<Input>> Parser<Input>
         self.parser.parse_mode(mode, input, state)
     }
 
-    /// What the parser adds but what it says was expected, and then that this was.
+    /// Adds what the parser adds but what it says was expected, and then that this was.
     fn add_error(&mut self, error: &mut Tracked<Input::Error>) {
         let kept = error.error.count_items();
         self.parser.add_error(error);
@@ -251,7 +255,7 @@ impl<Input: Stream, P: Parser<Input>> Parser<Input>
         error.error.add_expected(&self.info);
     }
 
-    /// As for the parser.
+    /// Counts as the parser does.
     fn parser_count(&self) -> ErrorOffset {
         self.parser.parser_count()
     }

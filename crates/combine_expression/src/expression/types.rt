@@ -14,7 +14,7 @@ use std::marker::PhantomData;
 /// The parser of [`expression`](crate::expression::expression).
 pub type Expression<O, V, A, B, C, const N: usize> = Nested<Outermost<O, V, N>, Steps<A, B, C>>;
 
-/// The steps of an expression: what stands where an operand is awaited, and behind one, in brackets and outside of them.
+/// The steps of an expression: what stands where an operand is awaited, and after one, in brackets and outside of them.
 pub type Steps<A, B, C> = IfElse<Awaits, A, IfElse<InBrackets, B, C>>;
 
 /// An expression that isn't over, or the part of one that is in brackets.
@@ -36,7 +36,7 @@ impl<O: Drop, V: Drop, const N: usize> Part<O, V, N> {
         }
     }
 
-    /// What comes of a part to which that became.
+    /// Returns what comes of a part that became that.
     fn stay(
         alloc: Global,
         in_brackets: bool,
@@ -56,7 +56,7 @@ impl<O: Drop, V: Drop, const N: usize> Part<O, V, N> {
         }
     }
 
-    /// What comes of a part that was closed so.
+    /// Returns what comes of a part that was closed so.
     fn close(became: Result<V, Fault>) -> Result<Next<Part<O, V, N>, V>, AllocError>
         ensures { MatchResult result (closed_as became) (λ _. Unit {0}) }
     {

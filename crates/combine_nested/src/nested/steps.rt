@@ -52,22 +52,24 @@ impl<F, N, U> Default for NestedState<F, N, U> {
 pub(super) enum Did<F, V, E> {
     /// The next step comes, over these frames, and whether a step was committed.
     Goes(Frames<F>, bool),
-    /// This is the answer.
+    /// This is the result.
     Stops(ParseResult<V, E>),
 }
 
 /// What became of the frames.
 #[derive(Drop)]
 pub(super) enum Settled<F, V> {
+    /// The frames that are open.
     Open(Frames<F>),
     /// The outermost is closed.
     Closed(V),
     /// A frame refuses.
     Denied(&'static str),
+    /// A frame too many was opened.
     TooDeep,
 }
 
-/// What becomes of the frames round one of which that came: the value of each that is closed is given to the one round it.
+/// Settles the frames round one of which that came: the value of each that is closed is given to the one round it.
 pub(super) fn settle<F: Frame>(
     depth: usize,
     outer: Vec<F>,
@@ -98,7 +100,7 @@ pub(super) fn settle<F: Frame>(
     }
 }
 
-/// An item that the innermost frame takes.
+/// Lets the innermost frame take an item.
 fn take_item<F: Frame>(
     depth: usize,
     frames: Frames<F>,
@@ -117,7 +119,7 @@ fn one_of(first: bool, second: bool) -> bool
     first || second
 }
 
-/// What a frame's refusal answers: committed where a step was.
+/// Refuses as a frame does: committed where a step was.
 fn denied<V, Input: Stream>(
     input: &Input,
     position: Input::Position,
@@ -133,7 +135,7 @@ fn denied<V, Input: Stream>(
     peeked(Tracked::from(error))
 }
 
-/// What a step did whose parser was accepted with that item.
+/// Returns what a step did whose parser was accepted with that item.
 fn finish_step<Input: Stream, F: Frame>(
     input: &Input,
     position: Input::Position,
@@ -164,7 +166,9 @@ fn finish_step<Input: Stream, F: Frame>(
     }
 }
 
-/// Runs a step's parser from its state. Need of more is kept in `state`, which is a default one.
+/// Runs a step's parser from its state.
+///
+/// Need of more is kept in `state`, which is a default one.
 pub(super) fn run_step<
     Input: Stream,
     F: Frame,

@@ -1,4 +1,4 @@
-//! The parser that `nested` answers, and its state.
+//! The parser of `nested`, and its state.
 ghost use Rattle.std.specs.Prelude.{◌≡◌};
 ghost use Rattle.combine_base.specs.Parser.Kept.{KeptOf};
 ghost use Rattle.combine_nested.specs.Asks.{asked_by_some, asked_so};
@@ -89,11 +89,11 @@ impl<
         }
     }
 
-    /// Nothing.
+    /// Adds nothing.
     #[inline]
     fn add_error(&mut self, error: &mut Tracked<Input::Error>) {}
 
-    /// One, however many steps there are.
+    /// Counts as one parser, however many steps there are.
     #[inline]
     fn parser_count(&self) -> ErrorOffset {
         ErrorOffset(1)

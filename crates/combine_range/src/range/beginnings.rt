@@ -32,7 +32,7 @@ pub type TakeWhile<Input, F> = TakeBeginning<Input, F, false>;
 /// The parser of [`take_while1`](crate::range::take_while1).
 pub type TakeWhile1<Input, F> = TakeBeginning<Input, F, true>;
 
-// One call. An empty beginning is refused where `some` is true.
+// Makes one call. An empty beginning is refused where `some` is true.
 #[inline(always)]
 fn take_beginning<Input: RangeStream, F: Maps<Input::Token, bool>>(
     test: &F,

@@ -21,7 +21,9 @@ pub struct Take<Input> {
     pub(super) reads: PhantomData<Input>,
 }
 
-/// The parser of [`range`](crate::range::range), with the stream's ranges as `R`. The crate's has no such parameter.
+/// The parser of [`range`](crate::range::range), with the stream's ranges as `R`.
+///
+/// The crate's has no such parameter.
 #[derive(Drop)]
 pub struct Range<Input, R> {
     pub(super) wanted: R,

@@ -43,7 +43,7 @@ impl<S> RecognizeState<S> {
     }
 }
 
-// The answer, with a value beside its own.
+// Returns the result with a value beside its own.
 #[inline(always)]
 fn with_value<R, V: Drop, E>(answer: ParseResult<R, E>, value: V) -> ParseResult<(R, V), E>
     ensures { result ≡ beside value answer }
@@ -119,7 +119,7 @@ where
         }
     }
 
-    /// What the parser adds whose tokens are taken.
+    /// Adds what the parser adds whose tokens are taken.
     #[inline]
     fn add_error(&mut self, error: &mut Tracked<Input::Error>) {
         self.0.add_error(error);
@@ -176,7 +176,7 @@ where
         }
     }
 
-    /// What the parser adds whose tokens are taken.
+    /// Adds what the parser adds whose tokens are taken.
     #[inline]
     fn add_error(&mut self, error: &mut Tracked<Input::Error>) {
         Parser::<Input>::add_error(&mut self.0, error);

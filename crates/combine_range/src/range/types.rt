@@ -1,4 +1,4 @@
-//! The parsers that the functions of `range` answer.
+//! The parsers that the functions of `range` return.
 
 pub use super::beginnings::{TakeBeginning, TakeWhile, TakeWhile1};
 pub use super::lengths::{Range, Take};

@@ -16,7 +16,9 @@ use combine_base::stream::{Kind, Positioned, ResetStream, StreamOnce};
 use combine_stream::range::{Range, RangeStream};
 use std::marker::PhantomData;
 
-/// The parser of [`take_until_range`](crate::range::take_until_range), with the stream's ranges as `R`; its state is the distance that was searched. The crate's has no parameter `R`.
+/// The parser of [`take_until_range`](crate::range::take_until_range), with the stream's ranges as `R`; its state is the distance that was searched.
+///
+/// The crate's has no parameter `R`.
 #[derive(Drop)]
 pub struct TakeUntilRange<Input, R> {
     pub(super) wanted: R,

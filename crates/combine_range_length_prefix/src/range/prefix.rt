@@ -1,4 +1,4 @@
-//! The two parts: a value as a length, and the parser that is answered for a length.
+//! The two parts: a value as a length, and the parser for a length.
 ghost use Rattle.std.specs.Prelude.{◌≡◌, Ok};
 ghost use Rattle.combine_combinator_function.specs.Changes.{MadeSaying};
 ghost use Rattle.combine_range_length_prefix.specs.Prefixes.{FitsNone, out_of_range};
@@ -52,14 +52,14 @@ where
         }
     }
 
-    /// As the part.
+    /// Counts as the part does.
     #[inline]
     fn count(part: ErrorOffset) -> ErrorOffset {
         part
     }
 }
 
-/// Is asked for the parser of so many items. Our own.
+/// The function from a length to the parser of so many items. Our own.
 #[derive(Drop)]
 #[derive_where(Clone, Copy)]
 pub struct Taking<Input>(pub(super) PhantomData<Input>);

@@ -1,4 +1,4 @@
-//! The parsers that the functions of `byte` answer. Their state is the distance that need not be searched again.
+//! The parsers that the functions of `byte` return. Their state is the distance that need not be searched again.
 
 use crate::bytes::{ByteOf, InBytes, Needle};
 use crate::find::{One, Three, Two};

@@ -1,4 +1,4 @@
-//! The parsers that the functions of `range` answer.
+//! The parsers that the functions of `range` return.
 
 use crate::search::{Asked, Searching};
 

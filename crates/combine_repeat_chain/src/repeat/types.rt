@@ -1,4 +1,4 @@
-//! The parsers that the functions of this module answer.
+//! The parsers that the functions of this module return.
 ghost use Rattle.std.specs.Prelude.{◌≡◌};
 ghost use Rattle.combine_base.specs.Parser.Given.{GivesOnly};
 ghost use Rattle.combine_base.specs.Parser.Mapped.{mapped_is_meaning, mapped_means_one};
@@ -35,7 +35,7 @@ pub type EscapedState<Input, P, T, Q> = TurnsState<
     OrState<<P as Parser<Input>>::PartialState, State2<Input, Token<Input, T>, Q>>,
 >;
 
-/// As `chainr1`, but it keeps its operands on need of more. Our own.
+/// Parses as `chainr1`, but keeps its operands on need of more. Our own.
 #[derive(Clone, Copy, Drop)]
 pub struct RightFold<P, S> {
     pub(super) alloc: Global,
@@ -96,13 +96,13 @@ where
         }
     }
 
-    /// What the parser of the operands adds.
+    /// Adds what the parser of the operands adds.
     #[inline]
     fn add_error(&mut self, error: &mut Tracked<Input::Error>) {
         self.turn.parser.add_error(error);
     }
 
-    /// It counts as one parser.
+    /// Counts as one parser.
     #[inline]
     fn parser_count(&self) -> ErrorOffset {
         ErrorOffset(1)

@@ -25,7 +25,7 @@ pub struct Collected<C, I> {
 }
 
 impl<C, I> Collected<C, I> {
-    /// No item is over.
+    /// Returns what is kept where no item is over.
     #[inline]
     pub(super) fn none_yet(values: C, items: I) -> Collected<C, I>
         ensures { result ≡ record { values = values; is_begun = false; committed = false; items = items } }
@@ -69,11 +69,11 @@ impl<C, I, N, U> Default for IterateState<C, I, N, U> {
 pub(super) enum Item<C, I, E> {
     /// It was accepted, and the next item's turn comes.
     Goes(Collected<C, I>),
-    /// That is the answer.
+    /// That is the result.
     Stops(ParseResult<C, E>),
 }
 
-/// One more item is over, with that value.
+/// Adds the value of one more item.
 #[inline(always)]
 fn store<B, C: Append<B>, I: Drop>(
     before: Collected<C, I>,
@@ -97,7 +97,9 @@ fn store<B, C: Append<B>, I: Drop>(
     })
 }
 
-/// Calls an item's parser. A peeked refusal behind the first item is put back to where it began, and explained by it; the first item's is left as it is.
+/// Calls an item's parser.
+///
+/// A peeked refusal after the first item is put back to where it began, and explained by it; the first item's is left as it is.
 #[inline(always)]
 fn call_item<Input: Stream, N: Parser<Input>, M: ParseMode>(
     is_begun: bool,
@@ -121,7 +123,9 @@ fn call_item<Input: Stream, N: Parser<Input>, M: ParseMode>(
     parser.parse_mode(mode, input, state)
 }
 
-/// Runs an item's parser from its state. Need of more is kept in `state`, which is a default one.
+/// Runs an item's parser from its state.
+///
+/// Need of more is kept in `state`, which is a default one.
 #[inline(always)]
 pub(super) fn parse_item<
     Input: Stream,
@@ -172,7 +176,7 @@ pub(super) fn parse_item<
     }
 }
 
-/// As `parse_item`, for a call that resumes: apart from the code of calls that begin afresh.
+/// Runs an item's parser as `parse_item` does, in a call that resumes: apart from the code of calls that begin afresh.
 #[inline(never)]
 pub(super) fn resume_item<
     Input: Stream,

@@ -1,4 +1,4 @@
-//! The parser that `iterate` answers, and its state.
+//! The parser of `iterate`, and its state.
 ghost use Rattle.combine_base.specs.Parser.Kept.{KeptOf};
 ghost use Rattle.combine_repeat_iterate.specs.Iterated.{InPlace, ListsOne, any_of, asks, asked_part, gives_all, gives_one, items_part, lists};
 ghost use Rattle.combine_repeat_iterate.specs.Items.{AnswersOne, iterated, iterated_is_meaning, iterated_means_one, starts_valid, valid_item};
@@ -96,11 +96,11 @@ where
         }
     }
 
-    /// Nothing is added.
+    /// Adds nothing.
     #[inline]
     fn add_error(&mut self, error: &mut Tracked<Input::Error>) {}
 
-    /// One, however many items there are.
+    /// Counts as one parser, however many items there are.
     #[inline]
     fn parser_count(&self) -> ErrorOffset {
         ErrorOffset(1)

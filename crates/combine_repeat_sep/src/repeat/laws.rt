@@ -11,7 +11,7 @@ use combine_base::parser::Parser;
 use combine_base::repeat::Append;
 use combine_base::stream::Stream;
 
-/// `sep_by1(p, s)` is an element, and then turns of the separator and an element under the rule of `many`: each takes a token, and a peeked refusal ends them.
+/// The law that `sep_by1(p, s)` is an element, and then turns of the separator and an element under the rule of `many`: each takes a token, and a peeked refusal ends them.
 pub fn sep_by1_is_one_then_turns<F, Input: Stream, P: Parser<Input>, S: Parser<Input>>(
     parser: &P,
     separator: &S,
@@ -21,7 +21,7 @@ where
     ensures { SepBy1IsOneThenTurns Input.step Input.Error.seen (appended F.held F.none F.more F.lean) (P.meaning parser.now) (S.meaning separator.now) }
 {}
 
-/// The parser of `sep_count_min_max` means at least and at most so many elements, with separators between them.
+/// The law that the parser of `sep_count_min_max` means at least and at most so many elements, with separators between them.
 pub fn sep_count_min_max_is_turns<F, Input: Stream, P: Parser<Input>, S: Parser<Input>>(
     parser: &SepCountMinMax<F, P, S>,
 )
@@ -30,7 +30,7 @@ where
     ensures { MeansSame (⟦<SepCountMinMax<F, P, S> as Parser<Input>>⟧.meaning parser.now) (sep_count_min_max Input.step Input.Error.seen (appended F.held F.none F.more F.lean) (least_of parser.now) (Some (most_of parser.now)) (P.meaning (separated_part parser.now)) (S.meaning (separated_separator parser.now))) }
 {}
 
-/// The parser of `sep_by` means any number of elements.
+/// The law that the parser of `sep_by` means any number of elements.
 pub fn sep_by_is_turns<F, Input: Stream, P: Parser<Input>, S: Parser<Input>>(
     parser: &SepBy<F, P, S>,
 )
@@ -39,7 +39,7 @@ where
     ensures { MeansSame (⟦<SepBy<F, P, S> as Parser<Input>>⟧.meaning parser.now) (sep_by Input.step Input.Error.seen (appended F.held F.none F.more F.lean) (P.meaning (separated_part parser.now)) (S.meaning (separated_separator parser.now))) }
 {}
 
-/// The parser of `sep_by1` means at least one element.
+/// The law that the parser of `sep_by1` means at least one element.
 pub fn sep_by1_is_turns<F, Input: Stream, P: Parser<Input>, S: Parser<Input>>(
     parser: &SepBy1<F, P, S>,
 )

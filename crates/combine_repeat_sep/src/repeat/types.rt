@@ -20,7 +20,9 @@ use combine_repeat_turns::turns::{Turns, TurnsState, take_joined, take_turns};
 use std::alloc::Global;
 use std::marker::PhantomData;
 
-/// Elements with a separator between two of them, so many as `B` says, collected. The types of the separated repetitions are its aliases.
+/// Elements with a separator between two of them, so many as `B` says, collected.
+///
+/// The types of the separated repetitions are its aliases.
 #[derive(Drop)]
 #[derive_where(Clone, Copy; P, S, B)]
 pub struct RepeatSeparated<F, P, S, B> {
@@ -106,13 +108,13 @@ impl<Input: Stream, P: Parser<Input>, S: Parser<Input>, F: Append<P::Output>, B:
         )
     }
 
-    /// What the parser of the elements adds.
+    /// Adds what the parser of the elements adds.
     #[inline]
     fn add_error(&mut self, error: &mut Tracked<Input::Error>) {
         self.turn.parser.add_error(error);
     }
 
-    /// As for the parser of the elements; where their number is bounded it counts as one parser.
+    /// Counts as the parser of the elements does; where their number is bounded it counts as one parser.
     #[inline]
     fn parser_count(&self) -> ErrorOffset {
         if self.bounds.is_unbounded() {
@@ -122,7 +124,7 @@ impl<Input: Stream, P: Parser<Input>, S: Parser<Input>, F: Append<P::Output>, B:
     }
 }
 
-/// What `chainl1` answers.
+/// The parser of [`chainl1`](crate::repeat::chainl1).
 #[derive(Clone, Copy, Drop)]
 pub struct Chainl1<P, S>(pub(super) Separated<P, S, Operator>);
 
@@ -174,13 +176,13 @@ where
         )
     }
 
-    /// What the parser of the operands adds.
+    /// Adds what the parser of the operands adds.
     #[inline]
     fn add_error(&mut self, error: &mut Tracked<Input::Error>) {
         self.0.parser.add_error(error);
     }
 
-    /// It counts as one parser.
+    /// Counts as one parser.
     #[inline]
     fn parser_count(&self) -> ErrorOffset {
         ErrorOffset(1)

@@ -9,7 +9,7 @@ use combine_base::parser::Parser;
 use combine_base::repeat::Append;
 use combine_base::stream::Stream;
 
-/// The parser of `sep_end_by` means any number of elements, and a separator that may stand behind the last.
+/// The law that the parser of `sep_end_by` means any number of elements, and a separator that may stand after the last.
 pub fn sep_end_by_is_turns<F, Input: Stream, P: Parser<Input>, S: Parser<Input>>(
     parser: &SepEndBy<F, P, S>,
 )
@@ -18,7 +18,7 @@ where
     ensures { MeansSame (⟦<SepEndBy<F, P, S> as Parser<Input>>⟧.meaning parser.now) (sep_end_by Input.step Input.Error.seen (appended F.held F.none F.more F.lean) (P.meaning (ended_by_part parser.now)) (S.meaning (ended_by_separator parser.now))) }
 {}
 
-/// The parser of `sep_end_by1` means at least one element, and a separator that may stand behind the last.
+/// The law that the parser of `sep_end_by1` means at least one element, and a separator that may stand after the last.
 pub fn sep_end_by1_is_turns<F, Input: Stream, P: Parser<Input>, S: Parser<Input>>(
     parser: &SepEndBy1<F, P, S>,
 )

@@ -19,7 +19,7 @@ use combine_token::choice::optional;
 use std::alloc::Global;
 use std::marker::PhantomData;
 
-/// Elements with a separator between two of them and perhaps behind the last, so many as `B` says, collected.
+/// Elements with a separator between two of them and perhaps after the last, so many as `B` says, collected.
 #[derive(Drop)]
 #[derive_where(Clone, Copy; P, S, B)]
 pub struct RepeatEnded<F, P, S, B> {
@@ -96,13 +96,13 @@ impl<Input: Stream, P: Parser<Input>, S: Parser<Input>, F: Append<P::Output>, B:
         )
     }
 
-    /// What the parser of the elements adds.
+    /// Adds what the parser of the elements adds.
     #[inline]
     fn add_error(&mut self, error: &mut Tracked<Input::Error>) {
         self.turn.part.0.add_error(error);
     }
 
-    /// It counts as one parser.
+    /// Counts as one parser.
     #[inline]
     fn parser_count(&self) -> ErrorOffset {
         ErrorOffset(1)

@@ -12,7 +12,9 @@ use combine_base::error::{ErrorOffset, ParseResult, Tracked};
 use combine_base::parser::{Outputs, ParseMode, Parser};
 use combine_base::stream::{Kind, Positioned, Stream, StreamOnce};
 
-/// Turns of a parser, so many as `B` says, whose values `G` gathers. The types of the repetitions of one parser are its aliases.
+/// Turns of a parser, so many as `B` says, whose values `G` gathers.
+///
+/// The types of the repetitions of one parser are its aliases.
 #[derive(Clone, Copy, Drop)]
 pub struct Repeat<G, P, B> {
     gather: G,
@@ -46,7 +48,7 @@ pub type Count<F, P> = Repeat<Each<F>, P, Between>;
 /// The parser of [`skip_count`](crate::repeat::skip_count).
 pub type SkipCount<P> = Repeat<Dropped, P, Between>;
 
-/// Answers that no memory was found before anything was read, and leaves a default state.
+/// Returns that no memory was found before anything was read, and leaves a default state.
 #[cold]
 fn without_room<O, Input: Stream, S: Default + Drop>(
     input: &Input,
@@ -109,13 +111,13 @@ impl<Input: Stream, P: Parser<Input>, G: Collect<P::Output>, B: Bounded> Parser<
         )
     }
 
-    /// What the parser of a turn adds.
+    /// Adds what the parser of a turn adds.
     #[inline]
     fn add_error(&mut self, error: &mut Tracked<Input::Error>) {
         self.turn.0.add_error(error);
     }
 
-    /// As for the parser of a turn; where the number of turns is bounded, or their values are dropped, it counts as one parser.
+    /// Counts as the parser of a turn does; where the number of turns is bounded, or their values are dropped, it counts as one parser.
     #[inline]
     fn parser_count(&self) -> ErrorOffset {
         if self.bounds.is_unbounded() && self.gather.keeps() {

@@ -38,7 +38,9 @@ pub trait Entry {
         ensures refuses { ReasonedCall Input.Error.seen (called (P.meaning parser.old) (P.again parser.old) (later self)) (first self) state.old (Input.view input.old) (Input.view input.new) result };
 }
 
-/// A turn that begins afresh: a first-mode call, so that the mode is known where it is compiled, with a state of its own, which is stored on need of more alone.
+/// A turn that begins afresh, with a state of its own, which is stored on need of more alone.
+///
+/// It is a first-mode call, so that the mode is known where it is compiled.
 pub struct Afresh {
     /// Whether it is a later turn than the first.
     pub later: bool,
@@ -70,6 +72,7 @@ impl Entry for Afresh {
 
 /// The first turn that runs in a call, which may resume.
 pub struct Resumed<M> {
+    /// How the call begins.
     pub mode: M,
 }
 

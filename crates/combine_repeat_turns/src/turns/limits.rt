@@ -16,30 +16,30 @@ pub trait Bounded: Copy {
     /// What they are.
     ghost bounds: { Self → Bounds };
 
-    /// How far turns are counted.
+    /// Returns how far turns are counted.
     fn limit(self) -> usize
         ensures { result ≡ limit (bounds self) };
 
-    /// Whether there may be any number of turns.
+    /// Returns whether there may be any number of turns.
     fn is_unbounded(self) -> bool
         ensures { result ≡ is_unbounded (bounds self) };
 
-    /// For how many values a collection asks for room when the turns begin.
+    /// Returns for how many values a collection asks for room when the turns begin.
     fn room(self) -> usize;
 
-    /// Whether there are as many turns as there may be.
+    /// Returns whether there are as many turns as there may be.
     fn is_full(self, place: Place) -> bool
         ensures { result ≡ full_at (bounds self) place };
 
-    /// How many turns are still missing.
+    /// Returns how many turns are still missing.
     fn missing(self, place: Place) -> usize
         ensures { result ≡ missing (bounds self) place };
 
-    /// Whether a refusal of this turn is its own answer.
+    /// Returns whether a refusal of this turn is its own result.
     fn owns(self, place: Place) -> bool
         ensures { result ≡ owns (bounds self) place };
 
-    /// Whether a turn is a block that is accepted so, this piece's part of it begun at that checkpoint.
+    /// Returns whether an accepted turn counts: `since` is where its part in this piece began, `committed` how it was accepted.
     fn goes<Input: Stream>(
         self,
         place: Place,
@@ -50,7 +50,7 @@ pub trait Bounded: Copy {
         ensures { (n : ℕ) (v : View Input.Position Input.Token) → Input.stands input.now since v → Takes Input.step n v (Input.view input.now) → result ≡ goes_at (bounds self) place n committed };
 }
 
-/// Whether no turn is missing.
+/// Returns whether no turn is missing.
 #[inline(always)]
 pub fn is_enough<B: Bounded>(bounds: B, place: Place) -> bool
     ensures { result ≡ enough (B.bounds bounds) place }
@@ -110,7 +110,7 @@ impl Bounded for AnyNumber {
     }
 }
 
-/// Whether a turn is committed and took a token, now or before a cut.
+/// Returns whether a turn is committed and took a token, now or before a cut.
 #[inline(always)]
 fn takes_token<Input: Stream>(
     place: Place,
@@ -123,7 +123,7 @@ fn takes_token<Input: Stream>(
     committed && has_taken(place.begun, since, input)
 }
 
-/// The same, but for a first turn that is a part of its own and may take nothing.
+/// Returns the same as `takes_token`, but for a first turn that is a part of its own and may take nothing.
 #[inline(always)]
 fn goes_joined<Input: Stream>(
     place: Place,
@@ -139,7 +139,9 @@ fn goes_joined<Input: Stream>(
     takes_token(place, committed, since, input)
 }
 
-/// At least so many. The first is a part of its own: it may take nothing, and its refusal is the answer unless there need be none. Each later one takes a token.
+/// At least so many turns, of which the first is a part of its own.
+///
+/// That one may take nothing, and its refusal is the result unless there need be none. Each later one takes a token.
 #[derive(Clone, Copy)]
 pub struct JoinedFrom<const LEAST: usize>;
 
@@ -194,7 +196,9 @@ impl<const LEAST: usize> Bounded for JoinedFrom<LEAST> {
 /// As `JoinedFrom`, and at most so many.
 #[derive(Clone, Copy)]
 pub struct JoinedBetween {
+    /// How many there are at least.
     pub least: usize,
+    /// How many there are at most.
     pub most: usize,
 }
 
@@ -246,7 +250,9 @@ impl Bounded for JoinedBetween {
 /// At least and at most so many; they may take nothing.
 #[derive(Clone, Copy)]
 pub struct Between {
+    /// How many there are at least.
     pub least: usize,
+    /// How many there are at most.
     pub most: usize,
 }
 
@@ -263,7 +269,7 @@ impl Bounded for Between {
         false
     }
 
-    /// As many as there must be, and at most 1,024, since how many there must be may be a number that was read.
+    /// Returns as many as there must be, and at most 1,024, since how many there must be may be a number that was read.
     #[inline(always)]
     fn room(self) -> usize {
         self.least.min(1024)

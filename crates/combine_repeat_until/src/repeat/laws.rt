@@ -6,7 +6,9 @@ use combine_base::parser::Parser;
 use combine_base::repeat::Append;
 use combine_base::stream::Stream;
 
-/// `repeat_skip_until(p, end)` has the count and kind of `repeat_until(p, end)`; with `any` for `p` that is said of `skip_until` and `take_until`.
+/// The law that `repeat_skip_until(p, end)` has the count and kind of `repeat_until(p, end)`.
+///
+/// With `any` for `p` that is said of `skip_until` and `take_until`.
 pub fn repeat_skip_until_is_repeat_until_dropped<
     F,
     Input: Stream,

@@ -1,4 +1,4 @@
-//! The parsers that the functions of this module answer.
+//! The parsers that the functions of this module return.
 ghost use Rattle.combine_token.specs.Or.{or_valid};
 ghost use Rattle.combine_repeat_until.specs.Next.{next_is_meaning, next_once};
 ghost use Rattle.combine_repeat_until.specs.Until.{some_appended, some_dropped, until_valid};
@@ -29,7 +29,9 @@ pub type TakeUntil<F, Input, T, E> = BlocksUntil<F, T, Any<Input>, E>;
 /// The parser of [`skip_until`](crate::repeat::skip_until).
 pub type SkipUntil<Input, T, E> = Ignore<Skips<T, Any<Input>, E>>;
 
-/// Blocks of a parser up to a place, their values collected; `A` is the value of a block. Our own: the crate has a parser each for `repeat_until` and `take_until`.
+/// Blocks of a parser up to a place, their values collected. Our own.
+///
+/// `A` is the value of a block. The crate has a parser each for `repeat_until` and `take_until`.
 #[derive(Drop)]
 #[derive_where(Clone, Copy; P, E)]
 pub struct BlocksUntil<F, A, P, E> {
@@ -74,13 +76,13 @@ impl<Input: Stream, A: Drop, P: Parser<Input, Output = A>, E: Parser<Input>, F: 
         take_blocks::<A, F, Input, Next<A, P, E>, M>(&mut self.turn, empty, mode, input, state)
     }
 
-    /// What `end` adds, and then what the parser of a block does.
+    /// Adds what `end` adds, and then what the parser of a block does.
     #[inline]
     fn add_error(&mut self, error: &mut Tracked<Input::Error>) {
         self.turn.add_error(error);
     }
 
-    /// It counts as one parser.
+    /// Counts as one parser.
     #[inline]
     fn parser_count(&self) -> ErrorOffset {
         ErrorOffset(1)
@@ -128,13 +130,13 @@ impl<Input: Stream, A: Drop, P: Parser<Input, Output = A>, E: Parser<Input>> Par
         take_blocks::<A, Sink, Input, Next<A, P, E>, M>(&mut self.turn, Sink, mode, input, state)
     }
 
-    /// What `end` adds, and then what the parser of a block does.
+    /// Adds what `end` adds, and then what the parser of a block does.
     #[inline]
     fn add_error(&mut self, error: &mut Tracked<Input::Error>) {
         self.turn.add_error(error);
     }
 
-    /// It counts as one parser.
+    /// Counts as one parser.
     #[inline]
     fn parser_count(&self) -> ErrorOffset {
         ErrorOffset(1)

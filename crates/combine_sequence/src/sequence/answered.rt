@@ -1,4 +1,4 @@
-//! A parser, and then one that a function of its value answers.
+//! A parser, and then one that a function of its value returns.
 ghost use Rattle.std.specs.Prelude.{◌≡◌, true};
 ghost use Rattle.combine_base.specs.Parser.Given.{GivesOnly, gives_as};
 ghost use Rattle.combine_base.specs.Parser.Kept.{KeptOf};
@@ -16,9 +16,9 @@ use combine_base::stream::{Stream, needs_more};
 use state::{AnsweredState, Answering};
 use std::marker::PhantomData;
 
-/// A parser, and then the one that a function answers for its value.
+/// A parser, and then the one that a function returns for its value.
 ///
-/// The state keeps the answered parser, which is not asked for again.
+/// The state keeps that parser, which is not asked for again.
 #[derive(Drop)]
 #[derive_where(Clone, Copy; P, K)]
 pub struct Answered<P, K, B> {
@@ -28,7 +28,7 @@ pub struct Answered<P, K, B> {
 }
 
 impl<P, K, B> Answered<P, K, B> {
-    /// Makes the parser that is this one, and then one that is asked for so.
+    /// Returns the parser that is this one, and then one that is asked for so.
     #[inline]
     pub fn new(first: P, asked: K) -> Self
         ensures { result ≡ answered_of first asked }
@@ -110,20 +110,22 @@ impl<
         parse_answered(FirstMode, input, next, state)
     }
 
-    /// What the first parser adds.
+    /// Adds what the first parser adds.
     #[inline]
     fn add_error(&mut self, error: &mut Tracked<Input::Error>) {
         self.first.add_error(error);
     }
 
-    /// One, whatever the two parsers count.
+    /// Counts as one parser, whatever the two parsers count.
     #[inline]
     fn parser_count(&self) -> ErrorOffset {
         ErrorOffset(1)
     }
 }
 
-/// Runs an answered parser, from what is kept of it. A peeked refusal is put back to where it began, and explained by it. Need of more is kept in `state`, which is a default one.
+/// Runs the parser that was asked for, from what is kept of it.
+///
+/// A peeked refusal is put back to where it began, and explained by it. Need of more is kept in `state`, which is a default one.
 #[inline(always)]
 fn parse_answered<
     Input: Stream,
@@ -167,7 +169,7 @@ fn parse_answered<
     }
 }
 
-/// As `parse_answered`, for a call that resumes: apart from the code of calls that begin afresh.
+/// Runs the parser as `parse_answered` does, in a call that resumes: apart from the code of calls that begin afresh.
 #[inline(never)]
 fn resume_answered<
     Input: Stream,

@@ -1,4 +1,4 @@
-//! The parsers that the functions of `sequence` answer.
+//! The parsers that the functions of `sequence` return.
 
 pub use super::answered::asked::{Asked, ByMut, ByRef, ByValue, Join};
 pub use super::answered::state::{AnsweredState, Answering};

@@ -9,7 +9,9 @@ use combine_base::maps::Maps;
 use combine_base::stream::{Failures, Kind, Positioned, ResetStream, Stream, StreamOnce};
 use std::alloc::AllocError;
 
-/// A slice whose position is counted, by an index from 0. It is ended.
+/// A slice whose position is counted, by an index from 0.
+///
+/// It is ended.
 pub struct SliceStream<'a, T> {
     tokens: &'a [T],
     at: usize,
@@ -32,7 +34,7 @@ impl<'a, T> Copy for SliceStream<'a, T> {}
 impl<'a, T: Copy> SliceStream<'a, T> {
     ghost use Rattle.combine_stream.specs.Indices.{indexed_view};
 
-    // The unread tokens.
+    // Returns the unread tokens.
     #[inline(always)]
     fn unread(&self) -> &'a [T]
         ensures { result.now ≡ (indexed_view self.now).unread }

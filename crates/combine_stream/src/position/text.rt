@@ -18,7 +18,11 @@ use combine_base::stream::{
 };
 use std::fmt;
 
-/// A line and a column, both counted from 1. A line feed begins a line, at column 1; every other character is a column more. A later position is greater.
+/// A line and a column, both counted from 1.
+///
+/// A line feed begins a line, at column 1; every other character is a column more. A later position is greater.
+///
+/// # Differences from combine
 ///
 /// In the crate they are `i32`.
 #[derive(Clone, Copy, Debug, PartialEq, Eq, PartialOrd, Ord)]
@@ -30,7 +34,7 @@ pub struct SourcePosition {
 }
 
 impl Default for SourcePosition {
-    /// Line 1, column 1.
+    /// Returns line 1, column 1.
     #[inline]
     fn default() -> SourcePosition
         ensures { result ≡ first_place }
@@ -39,7 +43,7 @@ impl Default for SourcePosition {
     }
 }
 
-/// `line: 1, column: 2`, in the crate's words.
+/// Writes `line: 1, column: 2`, in the crate's words.
 impl fmt::Display for SourcePosition {
     fn fmt<W: fmt::Write>(&self, f: &mut fmt::Formatter<W>) -> fmt::Result {
         let line = self.line;
@@ -49,7 +53,7 @@ impl fmt::Display for SourcePosition {
 }
 
 impl SourcePosition {
-    // The position after a character.
+    // Returns the position after a character.
     #[inline(always)]
     fn after(self, character: char) -> SourcePosition
         requires { Fits self 1 }
@@ -64,7 +68,7 @@ impl SourcePosition {
         }
     }
 
-    // Where the next line begins: a call, so that the loop over the characters of a line stays small.
+    // Returns where the next line begins: a call, so that the loop over the characters of a line stays small.
     #[cold]
     #[inline(never)]
     fn next_line(self) -> SourcePosition
@@ -78,7 +82,9 @@ impl SourcePosition {
     }
 }
 
-/// A text whose position is counted, by lines and columns. It is ended.
+/// A text whose position is counted, by lines and columns.
+///
+/// It is ended.
 #[derive(Clone, Copy)]
 pub struct TextStream<'a> {
     rest: &'a str,
@@ -285,7 +291,7 @@ impl<'a> RangeStream for TextStream<'a> {
 
 // The steps below are functions of their own since a `&str` parameter is known to be text.
 
-// The first character, and what is left behind it.
+// Returns the first character, and what is left after it.
 #[inline(always)]
 fn step_on<'a>(rest: &'a str, place: SourcePosition) -> Option<(char, TextStream<'a>)>
     requires { Fits place (length rest.now) }
@@ -303,7 +309,7 @@ fn step_on<'a>(rest: &'a str, place: SourcePosition) -> Option<(char, TextStream
     }
 }
 
-// The same place, whose characters are fewer than 2^64.
+// Returns the same place, whose characters are fewer than 2^64.
 #[inline(always)]
 fn here<'a>(rest: &'a str, place: SourcePosition) -> TextStream<'a>
     requires { Fits place (length rest.now) }
@@ -314,7 +320,7 @@ fn here<'a>(rest: &'a str, place: SourcePosition) -> TextStream<'a>
     TextStream { rest, place }
 }
 
-// The place after a text.
+// Returns the place after a text.
 fn place_after(place: SourcePosition, text: &str) -> SourcePosition
     requires { Fits place (length text.now) }
     ensures place { result ≡ after_all next_place place (chars text.now) }
@@ -333,7 +339,7 @@ fn place_after(place: SourcePosition, text: &str) -> SourcePosition
     }
 }
 
-// A place in a text.
+// Makes a place in a text.
 #[inline(always)]
 fn put<'a>(rest: &'a str, place: SourcePosition) -> TextStream<'a>
     requires { Fits place (length rest.now) }
@@ -343,7 +349,7 @@ fn put<'a>(rest: &'a str, place: SourcePosition) -> TextStream<'a>
     TextStream { rest, place }
 }
 
-// The first n bytes, and what is left behind them.
+// Returns the first n bytes, and what is left after them.
 #[inline(always)]
 fn take_range<'a>(
     rest: &'a str,
@@ -359,7 +365,7 @@ fn take_range<'a>(
     }
 }
 
-// Whether what is left of a text is another part of it.
+// Returns whether what is left of a text is another part of it.
 #[inline(always)]
 fn is_apart(from: &str, to: &str) -> bool
     ensures { (k : ℕ) → k ≤ length (chars from.now) → chars to.now ≡ drop k (chars from.now) → result ≡ nat_lt 0 k }
@@ -374,7 +380,7 @@ fn bytes_between(from: &str, to: &str) -> usize
     from.len().saturating_sub(to.len())
 }
 
-// Whether a text may be cut at a place.
+// Returns whether a text may be cut at a place.
 #[inline]
 fn may_cut(text: &str, place: usize) -> bool
     ensures { (result ≡ true) ↔ (IsUtf8 text.now × IsCharBoundary text.now place) }
@@ -382,7 +388,7 @@ fn may_cut(text: &str, place: usize) -> bool
     text.is_char_boundary(place)
 }
 
-// The first place of a text.
+// Returns the first place of a text.
 #[inline]
 fn text_start(text: &str) -> usize
     ensures place { IsUtf8 text.now × IsCharBoundary text.now result }
@@ -391,7 +397,7 @@ fn text_start(text: &str) -> usize
     0
 }
 
-// The last place of a text.
+// Returns the last place of a text.
 #[inline]
 fn text_end(text: &str) -> usize
     ensures place { IsUtf8 text.now × IsCharBoundary text.now result }
@@ -400,7 +406,7 @@ fn text_end(text: &str) -> usize
     text.len()
 }
 
-// What stands between two places of a text, at the position of the first.
+// Returns what stands between two places of a text, at the position of the first.
 #[inline]
 fn part_of<'a>(text: &'a str, from: usize, to: usize, place: SourcePosition) -> TextStream<'a>
     requires from { IsCharBoundary text.now from }
@@ -416,7 +422,7 @@ fn part_of<'a>(text: &'a str, from: usize, to: usize, place: SourcePosition) -> 
     TextStream { rest, place }
 }
 
-// The place of what is unread of a part that ends at a place.
+// Returns the place of what is unread of a part that ends at a place.
 #[inline]
 fn place_within(text: &str, to: usize, rest: &str) -> usize
     requires { IsCharBoundary text.now to }
@@ -425,7 +431,7 @@ fn place_within(text: &str, to: usize, rest: &str) -> usize
     to.saturating_sub(rest.len())
 }
 
-// How many characters of a text stand before a place, where so many stand before an earlier one.
+// Returns how many characters of a text stand before a place, where so many stand before an earlier one.
 #[inline]
 fn count_on(text: &str, to: usize, from: usize, before: usize) -> usize
     requires from { IsCharBoundary text.now from }
@@ -439,7 +445,7 @@ fn count_on(text: &str, to: usize, from: usize, before: usize) -> usize
     before + count_characters(between)
 }
 
-// How many characters a text has.
+// Returns how many characters a text has.
 fn count_characters(text: &str) -> usize
     ensures { result ≡ length (chars text.now) }
 {

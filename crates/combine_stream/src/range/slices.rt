@@ -70,10 +70,10 @@ impl<'a, T: Copy> RangeStream for &'a [T] {
     }
 }
 
-// So many tokens are looked through between two looks at the length.
+// This many tokens are looked through between two looks at the length.
 const BLOCK: usize = 8;
 
-// How many tokens the longest beginning under a test has.
+// Returns how many tokens the longest beginning under a test has.
 #[inline(always)]
 pub(crate) fn count_while<T: Copy, F: Maps<T, bool>>(tokens: &[T], f: &F) -> usize
     requires { (t : T) → F.callable f.now t }
@@ -96,7 +96,7 @@ pub(crate) fn count_while<T: Copy, F: Maps<T, bool>>(tokens: &[T], f: &F) -> usi
     }
 }
 
-// The same, token by token.
+// Returns the same as `count_while`, token by token.
 #[inline(always)]
 fn count_each<T: Copy, F: Maps<T, bool>>(tokens: &[T], f: &F) -> usize
     requires { (t : T) → F.callable f.now t }

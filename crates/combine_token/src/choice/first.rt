@@ -12,7 +12,7 @@ use std::mem::replace;
 /// What comes of the first part of a choice.
 #[derive(Drop)]
 pub enum Turn<V, S, E> {
-    /// The choice ends with this answer.
+    /// The choice ends with this result.
     Ends(ParseResult<V, E>),
     /// The later part goes on from that state, or begins after that refusal of the first.
     Goes(S, Option<Tracked<E>>),
@@ -38,7 +38,9 @@ pub fn begin<S: Default + Drop, T: Drop, M: ParseMode>(
     }
 }
 
-/// After the first part's answer: a peeked refusal is put back, and the later part goes on; another answer ends the choice, and on need of more the first part's state is kept.
+/// Goes on after the first part's result.
+///
+/// A peeked refusal is put back, and the later part goes on. Any other result ends the choice, and on need of more the first part's state is kept.
 #[inline(always)]
 pub fn go_on<O, Input: Stream, S: Drop, T: Default + Drop>(
     start: Input::Checkpoint,
@@ -68,7 +70,9 @@ pub fn go_on<O, Input: Stream, S: Drop, T: Default + Drop>(
     }
 }
 
-/// The answer of the later part, after that refusal of the first. On need of more its state is kept.
+/// Returns the choice's result of that of the later part, after that refusal of the first.
+///
+/// On need of more the later part's state is kept.
 #[inline(always)]
 pub fn settle<O, Input: Stream, S: Drop, T: Drop>(
     input: &Input,

@@ -16,9 +16,9 @@ pub struct First;
 /// The second half of a choice.
 pub struct Second;
 
-/// Alternatives that are lent: of these the first, in order, that isn't refused peeked gives the answer.
+/// Alternatives that are lent, of which the first, in order, that isn't refused peeked gives the result.
 ///
-/// What a call says is that of a parser, and that the same parsers are lent as before: so the lender knows what they became.
+/// What a call promises is that of a parser, and that the same parsers are lent as before: so the lender knows what they became.
 pub trait Alternatives<Input: Stream> {
     ghost use Rattle.combine_base.specs.Parser.Meaning.{Meaning, IsMeaning};
     ghost use Rattle.combine_token.specs.ChoiceCalls.{ChoseCall};
@@ -41,7 +41,9 @@ pub trait Alternatives<Input: Stream> {
     /// The same parsers are lent.
     ghost same: { Self → Self → Type 0 };
 
-    /// Chooses, afresh or from the kept state. `H` says which half of a choice this is: of two of the same types each has code of its own, which is called from one place.
+    /// Chooses, afresh or from the kept state.
+    ///
+    /// `H` says which half of a choice this is: of two of the same types each has code of its own, which is called from one place.
     fn choose<M: ParseMode, H>(
         &mut self,
         mode: M,
@@ -91,7 +93,7 @@ impl<Input: Stream, P: Parser<Input>> Alternatives<Input> for &mut P {
     ghost laws = { λ p l. P.laws p.now l };
 }
 
-/// The first half of a choice, which goes on, or begins, unless the second is running.
+/// Runs the first half of a choice, which goes on, or begins, unless the second is running.
 #[inline(always)]
 fn try_first<Input: Stream, L: Alternatives<Input>, S: Default + Drop, M: ParseMode>(
     half: &mut L,
@@ -114,7 +116,7 @@ fn try_first<Input: Stream, L: Alternatives<Input>, S: Default + Drop, M: ParseM
     go_on(start, position, input, kept, answer, state)
 }
 
-/// The second half of a choice, which goes on from that state, after that refusal of the first.
+/// Runs the second half of a choice, which goes on from that state, after that refusal of the first.
 #[inline(always)]
 fn run_later<Input: Stream, R: Alternatives<Input>, S: Drop, M: ParseMode>(
     half: &mut R,
@@ -135,7 +137,9 @@ fn run_later<Input: Stream, R: Alternatives<Input>, S: Drop, M: ParseMode>(
     settle(input, refused, kept, answer, state)
 }
 
-/// Two halves are one choice, which answers as `or` does. The code of each half stands once in it, so that nothing that resumes needs to be a function of its own over the stream.
+/// Two halves are one choice, which chooses as `or` does.
+///
+/// The code of each half stands once in it, so that nothing that resumes needs to be a function of its own over the stream.
 impl<
     Input: Stream,
     L: Alternatives<Input>,

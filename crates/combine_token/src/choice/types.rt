@@ -1,4 +1,4 @@
-//! The parsers that the functions of `choice` answer.
+//! The parsers that the functions of `choice` return.
 ghost use Rattle.std.specs.Prelude.{◌≡◌};
 ghost use Rattle.combine_token.specs.Optional.{optional, optional_is_meaning, optional_means_one};
 ghost use Rattle.combine_token.specs.Or.{either_of, or_is_meaning, or_means_one, or_valid};
@@ -9,7 +9,7 @@ use combine_base::error::{ErrorOffset, ParseResult, Tracked};
 use combine_base::parser::{Outputs, ParseMode, Parser};
 use combine_base::stream::Stream;
 
-/// The choice of two parsers, as `or` makes it.
+/// The parser of [`or`](crate::choice::or).
 #[derive(Clone, Copy, Drop)]
 pub struct Or<P, Q>(pub(super) P, pub(super) Q);
 
@@ -48,19 +48,19 @@ impl<Input: Stream, P: Parser<Input>, Q: Parser<Input, Output = P::Output>> Pars
         halves.choose::<_, First>(mode, input, state)
     }
 
-    /// What the first adds, and then what the second does.
+    /// Adds what the first adds, and then what the second does.
     fn add_error(&mut self, error: &mut Tracked<Input::Error>) {
         self.0.add_error(error);
         self.1.add_error(error);
     }
 
-    /// A choice counts as one parser.
+    /// Counts as one parser.
     fn parser_count(&self) -> ErrorOffset {
         ErrorOffset(1)
     }
 }
 
-/// A parser or no value, as `optional` makes it.
+/// The parser of [`optional`](crate::choice::optional).
 #[derive(Clone, Copy, Drop)]
 pub struct Optional<P>(pub P);
 
@@ -107,12 +107,12 @@ impl<Input: Stream, P: Parser<Input>> Parser<Input> for Optional<P> {
         }
     }
 
-    /// What the parser adds.
+    /// Adds what the parser adds.
     fn add_error(&mut self, error: &mut Tracked<Input::Error>) {
         self.0.add_error(error)
     }
 
-    /// As for the parser.
+    /// Counts as the parser does.
     fn parser_count(&self) -> ErrorOffset {
         self.0.parser_count()
     }

@@ -15,16 +15,24 @@ use combine_base::stream::{Kind, Stream, StreamOnce, ends_open};
 use std::marker::PhantomData;
 use types::{Tokens, TokensCmp, TokensState};
 
-/// Takes the tokens of a list, one after another; its value is a clone of the list.
+/// Takes the tokens of a list, one after another.
 ///
-/// `cmp` is given each item of the list with the token at its place, and says whether the token fits.
-/// `expected` is what errors say was expected.
-/// A token that doesn't fit, or the end of ended input, refuses: peeked where no token was matched before it, else committed. The end of an open piece asks for more. An empty list is accepted peeked.
-/// A clone of the list that finds no memory is the fault `Memory`.
+/// Its value is a clone of the list.
 ///
-/// An iterator of each clone of the list gives equally many items, fewer than 2^64.
+/// `cmp` is given each item of the list with the token at its place, and says whether the token fits. `expected` is what errors say was expected. An iterator of each clone of the list has to give equally many items, fewer than 2^64. An empty list is accepted peeked.
 ///
-/// Unlike the crate's, `cmp` is an `Fn`, and `expected` is owned and turned into an `Info` here.
+/// # Errors
+///
+/// - A token that doesn't fit, or the end of ended input, refuses: peeked if no token was matched before it, else committed.
+/// - A clone of the list that finds no memory is the fault `Memory`.
+///
+/// # Partial input
+///
+/// The end of an open piece is need of more. Nothing is left unread: the state keeps how many tokens were matched.
+///
+/// # Differences from combine
+///
+/// `cmp` is an `Fn`, and `expected` is owned and turned into an `Info` here.
 pub fn tokens<C, E, T, Input: StreamOnce>(
     cmp: C,
     expected: E,
@@ -42,9 +50,13 @@ where
     }
 }
 
-/// Takes the tokens of a list as `tokens` does, but the error of a committed mismatch says only which token stands there, and nothing is said to be expected.
+/// Takes the tokens of a list as `tokens` does, but says nothing of what was expected.
 ///
-/// Unlike the crate's, `cmp` is an `Fn`.
+/// The error of a committed mismatch says only which token stands there.
+///
+/// # Differences from combine
+///
+/// `cmp` is an `Fn`.
 pub fn tokens_cmp<C, T, Input>(tokens: T, cmp: C) -> TokensCmp<C, T, Input>
     ensures { result ≡ tokens_cmp_of tokens cmp }
 {
@@ -55,11 +67,13 @@ pub fn tokens_cmp<C, T, Input>(tokens: T, cmp: C) -> TokensCmp<C, T, Input>
     }
 }
 
-/// Makes one call of a parser of a list of tokens, whose value is a clone of `value` (our own: the crate has no such call).
+/// Makes one call of a parser of a list of tokens, whose value is a clone of `value`. Our own.
 ///
-/// `expected` is what the error of a committed mismatch says was expected, if it says so. A clone of the list or of the value that finds no memory is the fault `Memory`.
+/// `expected` is what the error of a committed mismatch says was expected, if it says so. `cmp` may always be called. An iterator of each clone of the list has to give equally many items, fewer than 2^64.
 ///
-/// `cmp` may always be called. An iterator of each clone of the list gives equally many items, fewer than 2^64.
+/// # Errors
+///
+/// A mismatch is refused as by [`tokens`]. A clone of the list or of the value that finds no memory is the fault `Memory`.
 #[inline(always)]
 pub fn match_list<'a, C, T, V, Input: Stream, M: ParseMode>(
     cmp: &C,

@@ -10,11 +10,19 @@ use combine_base::error::{ParseResult, Tracked};
 use combine_base::refusal::no_token;
 use combine_base::stream::{Kind, Stream};
 
-/// Reads what comes first, a token (`Some`) or the end of an ended list (`None`), under a test (our own: the crate has no such call).
+/// Reads what comes first, a token (`Some`) or the end of ended input (`None`), under a test. Our own.
 ///
-/// A token that the test answers a value for is taken, and accepted committed with that value; such an end is accepted peeked. What the test answers `None` for is refused peeked, a token being put back. The end of an open list is need of more, and nothing is taken then.
+/// A token that the test gives a value for is taken, and accepted committed with that value. Such an end is accepted peeked.
 ///
-/// A failed read or reset is the fault `Read` or `Reset`. Where an error keeps items, one that finds no memory for "end of input" is the fault `Memory`.
+/// # Errors
+///
+/// - What the test gives `None` for is refused peeked, a token being put back.
+/// - A failed read or reset is the fault `Read` or `Reset`.
+/// - If an error keeps items, one that finds no memory for "end of input" is the fault `Memory`.
+///
+/// # Partial input
+///
+/// The end of open input is need of more, and nothing is taken then.
 #[inline(always)]
 pub fn one_token<B, Input: Stream, F: FnOnce(Option<Input::Token>) -> Option<B>>(
     test: F,
@@ -52,7 +60,9 @@ pub fn one_token<B, Input: Stream, F: FnOnce(Option<Input::Token>) -> Option<B>>
     }
 }
 
-/// Reads a token that the function answers a value for, as `one_token` does (our own). Another token, and the end of an ended list, is refused peeked.
+/// Reads a token that the function gives a value for, as `one_token` does. Our own.
+///
+/// Another token, and the end of ended input, is refused peeked.
 #[inline(always)]
 pub fn token_map<B, Input: Stream, F: FnOnce(Input::Token) -> Option<B>>(
     function: F,
@@ -78,7 +88,7 @@ pub fn token_map<B, Input: Stream, F: FnOnce(Input::Token) -> Option<B>>(
     )
 }
 
-/// Reads a token that the predicate holds of, as `token_map` does (our own).
+/// Reads a token that the predicate holds of, as `token_map` does. Our own.
 #[inline(always)]
 pub fn token_if<Input: Stream, F: FnOnce(Input::Token) -> bool>(
     predicate: F,

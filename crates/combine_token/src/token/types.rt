@@ -1,4 +1,4 @@
-//! The parsers that the functions of `token` answer.
+//! The parsers that the functions of `token` return.
 ghost use Rattle.std.specs.Prelude.{◌≡◌, codes, true};
 ghost use Rattle.combine_base.specs.Error.Errors.{Nothing, Only};
 ghost use Rattle.combine_base.specs.Error.Items.{Expected, Fixed, OfToken};
@@ -38,7 +38,9 @@ pub struct SatisfyMap<Input, F, B> {
     pub(super) gives: PhantomData<B>,
 }
 
-/// The parser of [`token`](crate::token::token), with the stream's tokens as `T`. The crate's has no such parameter; a type that holds an associated type could be neither `Copy` nor used over a borrowed slice.
+/// The parser of [`token`](crate::token::token), with the stream's tokens as `T`.
+///
+/// The crate's has no such parameter. A type that holds an associated type could be neither `Copy` nor used over a borrowed slice.
 #[derive(Drop)]
 #[derive_where(Clone, Copy; T)]
 pub struct Token<Input, T> {

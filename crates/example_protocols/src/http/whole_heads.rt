@@ -26,7 +26,7 @@ pub(super) fn hello_headers() -> [Header<&'static [u8]>; 3] {
     ]
 }
 
-/// Each row has an input, its method, target and version, and what is behind the head.
+/// Each row has an input, its method, target and version, and what is after the head.
 #[test]
 fn request_lines(rt: HostRuntime) {
     let rows: [(&[u8], &[u8], &[u8], &[u8], &[u8]); 6] = [

@@ -1,4 +1,4 @@
-//! The parsers that the functions of `range` answer.
+//! The parsers that the functions of `range` return.
 
 pub use combine_range::range::types::{
     Range, Recognize, RecognizeWithValue, Take, TakeBeginning, TakeUntilRange, TakeWhile,

@@ -17,7 +17,9 @@ use crate::sequence::{
 use crate::stream::Stream;
 use front::Front;
 
-/// Runs parts that were lent, and one more, from what is kept of them. Need of more is kept in `state`, which begins them, and which every other answer leaves as it was.
+/// Runs parts that were lent, and one more, from what is kept of them.
+///
+/// Need of more is kept in `state`, which begins them, and which every other result leaves as it was.
 #[inline(always)]
 fn parse_one_after<
     Input: Stream,
@@ -52,7 +54,9 @@ fn parse_one_after<
     }
 }
 
-/// Runs parts that were lent, and two more, from what is kept of them. Need of more is kept in `state`, which begins them, and which every other answer leaves as it was.
+/// Runs parts that were lent, and two more, from what is kept of them.
+///
+/// Need of more is kept in `state`, which begins them, and which every other result leaves as it was.
 #[inline(always)]
 fn parse_two_after<
     Input: Stream,
@@ -91,7 +95,9 @@ fn parse_two_after<
     }
 }
 
-/// Runs parts that were lent, and three more, from what is kept of them. Need of more is kept in `state`, which begins them, and which every other answer leaves as it was.
+/// Runs parts that were lent, and three more, from what is kept of them.
+///
+/// Need of more is kept in `state`, which begins them, and which every other result leaves as it was.
 #[inline(always)]
 fn parse_three_after<
     Input: Stream,
@@ -136,7 +142,9 @@ fn parse_three_after<
     }
 }
 
-/// Runs parts that were lent, and four more, from what is kept of them. Need of more is kept in `state`, which begins them, and which every other answer leaves as it was.
+/// Runs parts that were lent, and four more, from what is kept of them.
+///
+/// Need of more is kept in `state`, which begins them, and which every other result leaves as it was.
 #[inline(always)]
 fn parse_four_after<
     Input: Stream,

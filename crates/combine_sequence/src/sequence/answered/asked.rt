@@ -1,11 +1,11 @@
 //! Functions that are asked for a parser, by what they take.
 ghost use Rattle.std.specs.Prelude.{◌≡◌};
 
-/// A function that answers a parser for a value, by what it takes of the value. Our own.
+/// A function that returns a parser for a value, by what it takes of the value. Our own.
 pub trait Asked<A> {
     ghost use Rattle.std.specs.Prelude.{◌≡◌};
 
-    /// The parser that it answers.
+    /// The parser that it returns.
     type Parser;
 
     /// What is kept of the value.
@@ -14,12 +14,12 @@ pub trait Asked<A> {
     /// The values that it may be asked for.
     ghost callable: { Self → A → Type 0 };
 
-    /// Which parsers it may answer for a value.
+    /// Which parsers it may return for a value.
     ghost answers: { Self → A → Self.Parser → Type 0 };
 
     ghost keeps: { A → Self.Kept };
 
-    /// Answers what is kept of the value, and the parser.
+    /// Returns what is kept of the value, and the parser.
     fn ask(&self, value: A) -> (Self::Kept, Self::Parser)
         requires { callable self.now value }
         ensures kept { result.0 ≡ keeps value }
@@ -44,7 +44,7 @@ impl<A, N, F: Fn(A) -> N> Asked<A> for ByValue<F> {
     ghost keeps = { forget };
 
     #[inline(always)]
-    /// What is kept of the value, and the parser.
+    /// Returns that nothing is kept of the value, and the parser.
     fn ask(&self, value: A) -> ((), N) {
         ((), (self.0)(value))
     }
@@ -68,7 +68,7 @@ impl<A: Drop, N, F: Fn(&mut A) -> N> Asked<A> for ByMut<F> {
     ghost keeps = { forget };
 
     #[inline(always)]
-    /// What is kept of the value, and the parser.
+    /// Returns that nothing is kept of the value, and the parser.
     fn ask(&self, value: A) -> ((), N) {
         let mut value = value;
         ((), (self.0)(&mut value))
@@ -94,14 +94,14 @@ impl<A, N, F: Fn(&A) -> N> Asked<A> for ByRef<F> {
     ghost keeps = { keep_first };
 
     #[inline(always)]
-    /// What is kept of the value, and the parser.
+    /// Returns the value, which is kept, and the parser.
     fn ask(&self, value: A) -> ((A,), N) {
         let parser = (self.0)(&value);
         ((value,), parser)
     }
 }
 
-/// What is kept of a first value, to which the second is put. Our own.
+/// What is kept of a first value, which the second is put to. Our own.
 pub trait Join<B> {
     ghost use Rattle.std.specs.Prelude.{◌≡◌};
 

@@ -1,6 +1,8 @@
 //! What `then` and its kin keep while more input is needed.
 
-/// What is kept while an answered parser runs: what is kept of the value that it was answered for, the parser, whether something was committed to before, and its own state.
+/// What is kept while the parser that was asked for runs.
+///
+/// That is what is kept of the value that it was asked for with, the parser, whether something was committed to before, and its own state.
 #[derive(Drop)]
 pub struct Answering<V, N, U> {
     pub(super) value: V,
@@ -9,12 +11,12 @@ pub struct Answering<V, N, U> {
     pub(super) state: U,
 }
 
-/// The kept state of `then` and its kin: that of the first parser, or what is kept of the answered one.
+/// The kept state of `then` and its kin: that of the first parser, or what is kept of the second.
 #[derive(Drop)]
 pub enum AnsweredState<S, V, N, U> {
     /// The first parser runs.
     First(S),
-    /// The answered parser runs.
+    /// The parser that was asked for runs.
     Second(Answering<V, N, U>),
 }
 

@@ -1,4 +1,4 @@
-//! The parsers that `one_of` and `none_of` answer.
+//! The parsers that `one_of` and `none_of` return.
 ghost use Rattle.std.specs.Prelude.{◌≡◌, not};
 ghost use Rattle.std.specs.Iterator.{IsFinite};
 ghost use Rattle.combine_base.specs.Error.Errors.{Nothing};

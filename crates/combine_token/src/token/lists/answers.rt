@@ -1,4 +1,4 @@
-//! How the items of a list are passed over, and how its match is answered.
+//! How the items of a list are passed over, and what a match of it comes to.
 ghost use Rattle.std.specs.Prelude.{◌≡◌, ◌↔◌, ◌+◌, ◌<◌, ◌≤◌, MatchResult, true};
 ghost use Rattle.std.specs.Iterator.{IsFinite, size};
 ghost use Rattle.std.specs.Option.{option_copied};
@@ -14,7 +14,7 @@ use combine_base::refusal::{add_unexpected_token, no_token};
 use combine_base::sequence::{accepted_after, refused_after};
 use combine_base::stream::{Kind, Stream};
 
-/// Takes the first `n` items, or answers how many there were, if there were fewer.
+/// Takes the first `n` items, or returns how many there were, if there were fewer.
 #[inline]
 pub(super) fn pass_over<I: Iterator>(items: &mut I, n: usize) -> Result<(), usize>
 where
@@ -32,7 +32,7 @@ where
     Ok(())
 }
 
-/// An acceptance with a clone of the value.
+/// Accepts with a clone of the value.
 #[inline]
 pub(super) fn accepted<V: Clone, Input: Stream>(
     value: &V,
@@ -48,7 +48,7 @@ pub(super) fn accepted<V: Clone, Input: Stream>(
     }
 }
 
-/// The error of a refusal at a token that doesn't fit.
+/// Makes the error of a refusal at a token that doesn't fit.
 pub(super) fn mismatch<Input: Stream>(
     token: Input::Token,
     expected: Option<&Info<Input::Token, Input::Range>>,
@@ -65,7 +65,7 @@ pub(super) fn mismatch<Input: Stream>(
     error
 }
 
-/// A peeked refusal, with the stream put back to where the call began.
+/// Refuses peeked, with the stream put back to where the call began.
 pub(super) fn put_back<O, Input: Stream>(
     start: Input::Checkpoint,
     position: Input::Position,
@@ -81,7 +81,7 @@ pub(super) fn put_back<O, Input: Stream>(
     ParseResult::PeekErr(Tracked::from(input.new_error(Kind::Refused, position)))
 }
 
-/// What is answered where a read gave no token: at the end of ended input a refusal.
+/// Returns the result where a read gave no token: at the end of ended input a refusal.
 pub(super) fn no_more<O, Input: Stream>(
     committed: bool,
     why: Kind,

@@ -14,10 +14,12 @@ use combine_base::stream::Stream;
 use std::alloc::AllocError;
 use std::marker::PhantomData;
 
-/// The parser that `tokens` makes.
+/// The parser of [`tokens`](crate::token::tokens).
 ///
 /// Its errors at a committed mismatch say which token stands there and what was expected, at the position where the call began.
+///
 /// On need of more nothing is left unread: the state keeps how many tokens were matched.
+///
 /// `E` is an `Info`, in the crate what is turned into one.
 #[derive(Drop)]
 pub struct Tokens<C, E, T, Input> {
@@ -42,7 +44,7 @@ impl<C: Clone, A: Copy, R: Copy, T: Clone, Input> Clone for Tokens<C, Info<A, R>
     }
 }
 
-/// An equal info; the clone of a text takes memory.
+/// Returns an equal info; the clone of a text takes memory.
 fn copied<T: Copy, R: Copy>(info: &Info<T, R>) -> Result<Info<T, R>, AllocError>
     ensures { MatchResult result (λ i. shown i ≡ shown info.now) (λ _. NoText info.now → ⊥) }
 {
@@ -127,9 +129,10 @@ where
     }
 }
 
-/// The parser that `tokens_cmp` makes.
+/// The parser of [`tokens_cmp`](crate::token::tokens_cmp).
 ///
-/// Its errors at a committed mismatch say which token stands there, at the position where the call began; what was expected is never said.
+/// Its errors at a committed mismatch say which token stands there, at the position where the call began. What was expected is never said.
+///
 /// On need of more nothing is left unread: the state keeps how many tokens were matched.
 #[derive(Drop)]
 #[derive_where(Clone; C, T)]

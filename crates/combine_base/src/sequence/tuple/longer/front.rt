@@ -9,7 +9,7 @@ use crate::sequence::PartialState4;
 use crate::sequence::tuple::{State4, parse_4};
 use crate::stream::Stream;
 
-/// Parts that were lent, which are run before another one.
+/// Parts that were lent, and that run before another one.
 pub(super) trait Front<Input: Stream> {
     ghost use Rattle.std.specs.Prelude.{◌≡◌, false, true};
     ghost use Rattle.combine_base.specs.Parser.Meaning.{Meaning, IsMeaning, MeansSame};
@@ -18,27 +18,34 @@ pub(super) trait Front<Input: Stream> {
     ghost use Rattle.combine_base.specs.Sequence.Parts.{run_from};
     ghost use Rattle.combine_base.specs.Stream.Calls.{Passes};
 
+    /// The values of the parts.
     type Output: Drop;
 
+    /// What is kept of the parts.
     type State: Drop;
 
+    /// What a call needs of the parts.
     ghost lawful: { Self → Type 0 };
 
+    /// The states that a call may be given.
     ghost valid: { Self.State → Type 0 };
 
     /// The states that begin the parts.
     ghost fresh: { Self.State → Type 0 };
 
+    /// What the parts mean.
     ghost meaning: { Self → Meaning Input.Position Input.Token Input.Range Input.Error Self.Output Self.State };
 
     /// The same parts are lent.
     ghost same: { Self → Self → Type 0 };
 
-    /// A state that begins the parts.
+    /// Returns a state that begins the parts.
     fn begin() -> Self::State
         ensures { fresh result };
 
-    /// Runs the parts, from what is kept of them. Need of more is kept in `state`, and every other answer leaves one that begins the parts, as it was.
+    /// Runs the parts, from what is kept of them.
+    ///
+    /// Need of more is kept in `state`, and every other result leaves one that begins the parts, as it was.
     fn run<M: ParseMode>(
         &mut self,
         mode: M,
