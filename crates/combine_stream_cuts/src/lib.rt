@@ -6,7 +6,7 @@ ghost use Rattle.combine_base.specs.Parser.Meaning.{IsSingle, MeansSame};
 ghost use Rattle.combine_stream_cuts.specs.Cuts.{Fit, RunsCuts, WindowCall};
 
 use combine_base::error::{ParseError, ParseResult};
-use combine_base::parser::{Answer, Parser, PartialMode, judge};
+use combine_base::parser::{Answer, Parser, judge};
 use combine_base::stream::{Kind, Positioned, StreamOnce};
 use combine_stream::MaybePartialStream;
 use combine_stream::position::{DefaultPositioned, Stream, Windowed};
@@ -78,7 +78,7 @@ fn parse_window<S: Windowed, P: Parser<MaybePartialStream<S::Placed>>>(
     let position = stream.position();
     stream.0 = whole.window(from, to, position);
     stream.1 = is_open;
-    let parsed = parser.parse_mode(PartialMode { first: false }, &mut stream, state);
+    let parsed = parser.parse_partial(&mut stream, state);
     let place = whole.place_before(to, &stream.0);
     let taken = whole.count_to(place, from, before);
     let answer = judge(&stream, parsed, taken as u64);
