@@ -5,20 +5,20 @@ use Rattle.combine_base.specs.Error.Errors.{Added, Errors, Says, Unstored}
 use Rattle.combine_base.specs.Error.Items.{Item}
 use Rattle.combine_base.specs.Parser.Answer.{Answers, Asks, Run, World, ends, world}
 use Rattle.combine_base.specs.Parser.Drivers.{Starts, afresh}
-use Rattle.combine_base.specs.Parser.Judged.{NeedsMore}
+use Rattle.combine_base.specs.Parser.DriverAnswers.{NeedsMore}
 use Rattle.combine_base.specs.Parser.Meaning.{Meaning, Reading}
 use Rattle.combine_base.specs.Stream.Calls.{ResetTo}
 use Rattle.combine_base.specs.Stream.View.{View}
-use Rattle.combine_base.proofs.Calls.{need_of_more, same_mark, unreset}
-use Rattle.combine_base.proofs.Inside.{Inside, Keeps, inside_asks, inside_commits, inside_fails, inside_peeks, inside_refuses}
-use Rattle.combine_base.proofs.Progress.{progress_none, takes_more}
-use Rattle.combine_base.proofs.Starting.{need_or_not, progress_here}
+use Rattle.combine_base.proofs.Errors.CallErrors.{need_of_more, same_mark, unreset}
+use Rattle.combine_base.proofs.Parsers.InnerCalls.{Inside, Keeps, inside_asks, inside_commits, inside_fails, inside_peeks, inside_refuses}
+use Rattle.combine_base.proofs.Parsers.Progress.{progress_none, takes_more}
+use Rattle.combine_base.proofs.Parsers.CallStarts.{need_or_not, progress_here}
 use Rattle.combine_base.specs.declared.error.ParseResult.{ParseResult}
 use Rattle.combine_base.specs.declared.error.ParseResult.TheVariants.{CommitOk, PeekOk, CommitErr, PeekErr}
 use Rattle.combine_base.specs.declared.stream.Failures.{Failures}
 use Rattle.combine_base.specs.declared.stream.Kind.{Kind}
 use Rattle.combine_base.specs.declared.stream.Kind.TheVariants as kinds
-use Rattle.combine_token.proofs.Stateless.{asks, into_begun}
+use Rattle.combine_token.proofs.Tokens.Stateless.{asks, into_begun}
 use Rattle.bench_grammar.specs.Apart.{Anything, RunsOnce, any_error, apart, once, once_world}
 
 -- whatever items were added

@@ -1,9 +1,9 @@
 -- what the ten rules mean
 use Rattle.std.specs.Prelude.{ℕ, ◌≡◌, ◌==◌, not}
-use Rattle.combine_base.specs.Parser.Mapped.{mapped_reading}
+use Rattle.combine_base.specs.Parser.ValueMap.{mapped_reading}
 use Rattle.combine_base.specs.Parser.Meaning.{Reading}
-use Rattle.diff_calls.specs.Parsers.{one_where, byte, either, put_back, collecting, collecting1, pair, triple, quadruple}
-use Rattle.combine_repeat_turns.specs.Counts.{appended}
+use Rattle.diff_calls.specs.CallMeanings.{one_where, byte, either, put_back, collecting, collecting1, pair, triple, quadruple}
+use Rattle.combine_repeat_turns.specs.Repeat.Repeated.{appended}
 use Rattle.combine_char.specs.Bytes.{digit, lower}
 use Rattle.bench_grammar.specs.Calls.{separated, separated1}
 use Rattle.bench_grammar.specs.Folds.{with_digit, with_item, plus, times, both}

@@ -1,6 +1,6 @@
 //! `choice`, and its calls.
 ghost use Rattle.std.specs.Prelude.{◌≡◌};
-ghost use Rattle.diff_calls.specs.Parsers.{either};
+ghost use Rattle.diff_calls.specs.CallMeanings.{either};
 
 use combine_base::error::ParseError;
 use combine_base::parser::Parser;

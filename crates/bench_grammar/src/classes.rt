@@ -1,6 +1,6 @@
 //! Single bytes, and texts of rules.
 ghost use Rattle.std.specs.Prelude.{ℕ, ◌≡◌, ◌==◌, codes, not};
-ghost use Rattle.diff_calls.specs.Parsers.{one_where};
+ghost use Rattle.diff_calls.specs.CallMeanings.{one_where};
 
 use combine_base::error::ParseError;
 use combine_base::stream::Stream;

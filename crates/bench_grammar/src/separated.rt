@@ -1,6 +1,6 @@
 //! Elements with separators, and their calls.
 ghost use Rattle.std.specs.Prelude.{◌≡◌};
-ghost use Rattle.combine_repeat_turns.specs.Counts.{appended};
+ghost use Rattle.combine_repeat_turns.specs.Repeat.Repeated.{appended};
 ghost use Rattle.bench_grammar.specs.Calls.{separated, separated1};
 
 use combine_base::error::ParseError;

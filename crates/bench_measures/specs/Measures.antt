@@ -3,14 +3,14 @@ use Rattle.std.specs.Prelude.{ℕ, ◌+◌, ◌≡◌, ◌⊎◌, ◌||◌, List
 use Rattle.std.specs.Char.{is_ascii_digit, is_ascii_lowercase}
 use Rattle.std.specs.Global.{Vec}
 use Rattle.combine_base.specs.Error.NoItems.{no_items}
-use Rattle.combine_base.specs.Parser.Mapped.{mapped_reading}
+use Rattle.combine_base.specs.Parser.ValueMap.{mapped_reading}
 use Rattle.combine_base.specs.Parser.Meaning.{Reading}
 use Rattle.combine_base.specs.Sequence.Longer.{tuple_8}
 use Rattle.combine_base.specs.Stream.Slices.{slice_view, one_less}
 use Rattle.combine_base.specs.declared.stream.slices.Left.{Left}
-use Rattle.combine_repeat_turns.specs.Counts.{appended}
-use Rattle.bench_measures.specs.Given.{Answers}
-use Rattle.diff_calls.specs.Parsers.{known, one_where, byte, either, put_back, skipping, skipping1, collecting, collecting1, pair, triple, quadruple}
+use Rattle.combine_repeat_turns.specs.Repeat.Repeated.{appended}
+use Rattle.bench_measures.specs.ParserRuns.{Answers}
+use Rattle.diff_calls.specs.CallMeanings.{known, one_where, byte, either, put_back, skipping, skipping1, collecting, collecting1, pair, triple, quadruple}
 use Rattle.bench_measures.specs.Tally.{with_message}
 use Rattle.bench_measures.specs.declared.messages_collect.Message.{Message}
 use Rattle.bench_measures.specs.declared.messages_collect.Tally.{Tally}

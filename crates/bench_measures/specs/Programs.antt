@@ -2,9 +2,9 @@
 use Rattle.std.specs.Prelude.{ℕ, ◌≡◌, List, Result, Ok, Err}
 use Rattle.combine_base.specs.Stream.Slices.{slice_view, one_less}
 use Rattle.combine_base.specs.declared.stream.slices.Left.{Left}
-use Rattle.bench_measures.specs.Given.{code}
+use Rattle.bench_measures.specs.ParserRuns.{code}
 use Rattle.bench_measures.specs.declared.run.Failure.TheVariants as failures
-use Rattle.bench_grammar.specs.Evaluated.{Evaluates}
+use Rattle.bench_grammar.specs.ProgramValues.{Evaluates}
 use Rattle.bench_grammar.specs.Rules.{program}
 use Rattle.bench_grammar.specs.declared.run.Failure.{Failure}
 use Rattle.bench_grammar.specs.declared.run.Failure.TheVariants as no_value

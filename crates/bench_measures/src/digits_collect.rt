@@ -13,7 +13,7 @@ use std::alloc::Global;
 struct DigitCall;
 
 impl Call for DigitCall {
-    ghost use Rattle.diff_calls.specs.Parsers.{one_where};
+    ghost use Rattle.diff_calls.specs.CallMeanings.{one_where};
     ghost use Rattle.combine_char.specs.Bytes.{digit};
 
     type Output = u8;

@@ -1,7 +1,7 @@
 //! Eight keywords: what the measures of choices share.
-ghost use Rattle.bench_measures.specs.Given.{Answers};
+ghost use Rattle.bench_measures.specs.ParserRuns.{Answers};
 ghost use Rattle.bench_measures.specs.Measures.{taken};
-ghost use Rattle.diff_calls.specs.Parsers.{skipping};
+ghost use Rattle.diff_calls.specs.CallMeanings.{skipping};
 
 use crate::measure::count_taken;
 use crate::run::Run;

@@ -1,7 +1,7 @@
 //! What an export answers: the number of what its parser gives.
 ghost use Rattle.std.specs.Prelude.{◌≡◌, ℕ};
 ghost use Rattle.combine_base.specs.Parser.Meaning.{Reading};
-ghost use Rattle.bench_measures.specs.Given.{Answers, number};
+ghost use Rattle.bench_measures.specs.ParserRuns.{Answers, number};
 ghost use Rattle.bench_measures.specs.Measures.{Measures, how_many, taken};
 
 use crate::run::{Given, Pieces, Run, Whole};

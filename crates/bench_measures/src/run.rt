@@ -1,7 +1,7 @@
 //! Runs a parser over bytes, whole or in pieces.
 ghost use Rattle.std.specs.Prelude.{◌≡◌, ◌<◌, ◌++◌, ℕ, false, length};
 ghost use Rattle.combine_base.specs.Stream.View.{View};
-ghost use Rattle.bench_measures.specs.Given.{Gives, given, is_within, failure, code};
+ghost use Rattle.bench_measures.specs.ParserRuns.{Gives, given, is_within, failure, code};
 
 use combine_base::error::UnexpectedParse;
 use combine_base::parser::{Answer, Parser, Session};

@@ -1,6 +1,6 @@
 //! `skip_many` of a byte and one of three parsers, by that byte.
 ghost use Rattle.std.specs.Prelude.{◌≡◌};
-ghost use Rattle.bench_measures.specs.Tagged.{behind};
+ghost use Rattle.bench_measures.specs.TaggedParsers.{behind};
 
 use crate::measure::count_taken;
 use crate::run::{Pieces, Run, Whole};

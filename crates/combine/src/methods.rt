@@ -1,12 +1,12 @@
 //! The method forms of the constructors.
 ghost use Rattle.std.specs.Prelude.{◌≡◌};
-ghost use Rattle.combine_token.specs.Or.{or_parser};
-ghost use Rattle.combine_repeat_iterate.specs.Nexts.{Begins, may_go_on};
-ghost use Rattle.combine_combinator.specs.Parsers.{map_of, picked_of};
-ghost use Rattle.combine_combinator_function.specs.Parsers.{and_then_of, flat_map_of, map_input_of};
-ghost use Rattle.combine_error.specs.Shaped.{expected_of, message_of, silent_of};
-ghost use Rattle.combine_combinator_spanned.specs.Spanned.{spanned_of};
-ghost use Rattle.combine_sequence.specs.Answered.{then_of, then_partial_of, then_ref_of};
+ghost use Rattle.combine_token.specs.Choice.Or.{or_parser};
+ghost use Rattle.combine_repeat_iterate.specs.IteratorValues.{Begins, may_go_on};
+ghost use Rattle.combine_combinator.specs.CombinatorParsers.{map_of, picked_of};
+ghost use Rattle.combine_combinator_function.specs.ChangeParsers.{and_then_of, flat_map_of, map_input_of};
+ghost use Rattle.combine_error.specs.ErrorParsers.{expected_of, message_of, silent_of};
+ghost use Rattle.combine_combinator_spanned.specs.SpannedErrors.{spanned_of};
+ghost use Rattle.combine_sequence.specs.Then.{then_of, then_partial_of, then_ref_of};
 
 use combine_base::error::Info;
 use combine_base::parser::{Calls, FirstMode, ParseMode, Parser};

@@ -8,7 +8,7 @@
 ghost use Rattle.std.specs.Prelude.{◌≡◌};
 ghost use Rattle.combine_repeat.specs.ManyParsers.{skip_many_of};
 ghost use Rattle.combine_char.specs.TextParsers.{by, equal, in_bytes_parser, in_class_parser, named_parser, whole_pair_parser};
-ghost use Rattle.combine_token.specs.TokenParsers.{token_parser};
+ghost use Rattle.combine_token.specs.Token.TokenParsers.{token_parser};
 
 pub mod classes;
 pub mod types;

@@ -2,12 +2,12 @@
 ghost use Rattle.std.specs.Prelude.{◌≡◌, ◌<◌, ◌^◌, None, length};
 ghost use Rattle.std.specs.Slice.Iter.{iter_rest};
 ghost use Rattle.combine_base.specs.Stream.Calls.{Passes};
-ghost use Rattle.combine_token.specs.ListCalls.{AnswersListCall, ReasonedListCall};
-ghost use Rattle.combine_token.specs.Listed.{listed};
-ghost use Rattle.combine_token.specs.TokenListLaws.{token_list, token_list_is_meaning, token_list_means_one};
-ghost use Rattle.combine_token.specs.TokenParsers.{matched_before};
+ghost use Rattle.combine_token.specs.Token.Lists.ListCalls.{AnswersListCall, ReasonedListCall};
+ghost use Rattle.combine_token.specs.Token.Lists.KnownLists.{listed};
+ghost use Rattle.combine_token.specs.Token.Lists.ListMeaning.{token_list, token_list_is_meaning, token_list_means_one};
+ghost use Rattle.combine_token.specs.Token.TokenParsers.{matched_before};
 ghost use Rattle.combine_char.specs.TextParsers.{bytes_of, fits_of_bytes, in_bytes_parser};
-ghost use Rattle.combine_char.specs.Spelled.{SaysRange, listed_compares_once, listed_ends_once};
+ghost use Rattle.combine_char.specs.SpelledLists.{SaysRange, listed_compares_once, listed_ends_once};
 
 use crate::fits::Fits;
 use combine_base::error::{ErrorOffset, Info, ParseError, ParseResult, Tracked};

@@ -1,6 +1,6 @@
 //! How the items of a list are compared with tokens. Our own: the crate passes a closure.
 ghost use Rattle.std.specs.Prelude.{◌≡◌};
-ghost use Rattle.combine_char.specs.Spelled.{ComparesOnceBy};
+ghost use Rattle.combine_char.specs.SpelledLists.{ComparesOnceBy};
 
 /// A comparison of items with tokens.
 pub trait Fits<A, T> {

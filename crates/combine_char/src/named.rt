@@ -1,7 +1,7 @@
 //! A parser of which errors say one text. Our own, as `expected` with a text that is a type.
 ghost use Rattle.std.specs.Prelude.{◌≡◌};
 ghost use Rattle.combine_char.specs.TextParsers.{named_parser, parser_named};
-ghost use Rattle.combine_char.specs.Named.{named, named_is_meaning, named_means_one};
+ghost use Rattle.combine_char.specs.NamedParser.{named, named_is_meaning, named_means_one};
 
 use crate::class::Text;
 use combine_base::error::{ErrorOffset, Info, ParseError, ParseResult, Tracked};

@@ -4,7 +4,7 @@ ghost use Rattle.combine_base.specs.Parser.Answer.{world};
 ghost use Rattle.combine_base.specs.Parser.Meaning.{MeansSame};
 ghost use Rattle.combine_base.specs.Parser.Reasons.{Reasoned};
 ghost use Rattle.combine_base.specs.Stream.Calls.{Passes};
-ghost use Rattle.combine_char.specs.Again.{BeginsAgain, whole_pair, whole_pair_is_meaning, whole_pair_means_one};
+ghost use Rattle.combine_char.specs.Restart.{BeginsAgain, whole_pair, whole_pair_is_meaning, whole_pair_means_one};
 ghost use Rattle.combine_char.specs.TextParsers.{pair_of, whole_pair_parser};
 
 use combine_base::error::{ErrorOffset, ParseResult, Tracked};

@@ -6,20 +6,20 @@ use Rattle.combine_base.specs.Error.Errors.{Errors, Joined, Only, later}
 use Rattle.combine_base.specs.Parser.Meaning.{Meaning, MeantRefusal, Reading, Refusing, begun_refuses, refusals}
 use Rattle.combine_base.specs.Parser.Reasons.{Reasoned, ReasonedCall}
 use Rattle.combine_base.specs.Refusals.{Saying}
-use Rattle.combine_base.proofs.Reasoning.{reasons_fault, reasons_hand_on, reasons_ok, reasons_peek_ok, reasons_peeked}
-use Rattle.combine_base.proofs.Explaining.{reason_peeked}
+use Rattle.combine_base.proofs.Errors.CallReasons.{reasons_fault, reasons_hand_on, reasons_ok, reasons_peek_ok, reasons_peeked}
+use Rattle.combine_base.proofs.Errors.Explanations.{reason_peeked}
 use Rattle.combine_base.specs.declared.stream.Kind.TheVariants as kinds
 use Rattle.combine_base.specs.declared.error.Tracked.{Tracked}
 use Rattle.combine_base.specs.declared.error.ParseResult.{ParseResult}
 use Rattle.combine_base.specs.declared.error.ParseResult.TheVariants.{CommitOk, PeekOk, CommitErr, PeekErr}
-use Rattle.combine_token.specs.Alternatives.{AfterRefusal, refuses_both}
-use Rattle.combine_choice.specs.Chosen.{choice_of}
-use Rattle.combine_choice.specs.Merged.{choice_is_empty, merges, one_commits, on_refuses, tried_refuses}
-use Rattle.combine_choice.specs.OneTurn.{NoAlternative, Afresh, InFirst, AtPeek, PastLast}
-use Rattle.combine_choice.proofs.Listed.{drop_past}
+use Rattle.combine_token.specs.Choice.Alternatives.{AfterRefusal, refuses_both}
+use Rattle.combine_choice.specs.ListChoice.{choice_of}
+use Rattle.combine_choice.specs.MergedErrors.{choice_is_empty, merges, one_commits, on_refuses, tried_refuses}
+use Rattle.combine_choice.specs.SliceCalls.{NoAlternative, Afresh, InFirst, AtPeek, PastLast}
+use Rattle.combine_choice.proofs.AlternativeLists.{drop_past}
 use Rattle.combine_choice.specs.declared.choice.slice.SliceState.{SliceState}
 use Rattle.combine_choice.specs.declared.choice.slice.SliceState.TheVariants.{Peek, At}
-use Rattle.combine_choice.proofs.Refusing.{IsSettled}
+use Rattle.combine_choice.proofs.RefusedAlternatives.{IsSettled}
 
 module _ {X P T R E V S : Type 0} (s : Errors T R P E) (cmp : P → P → Ordering) (m : X → Meaning P T R E V S) (v : View P T) where
   -- what those that are left say makes up an error of the whole, after an error and the view that its parser left

@@ -6,16 +6,16 @@ use Rattle.combine_base.specs.Parser.Outcome.{Outcome, Refused}
 use Rattle.combine_base.specs.Error.Errors.{Errors, Says}
 use Rattle.combine_base.specs.Parser.Meaning.{Meaning, IsMeaning, begun}
 use Rattle.combine_base.specs.Parser.Answer.{Run, World, Answers, world}
-use Rattle.combine_base.proofs.Progress.{takes_none}
+use Rattle.combine_base.proofs.Parsers.Progress.{takes_none}
 use Rattle.combine_base.specs.declared.stream.Failures.{Failures}
 use Rattle.combine_base.specs.declared.error.ParseResult.{ParseResult}
 use Rattle.combine_base.specs.declared.error.ParseResult.TheVariants.{CommitOk, PeekOk, CommitErr, PeekErr}
-use Rattle.combine_token.specs.Choice.{refused, last_is, either_into}
-use Rattle.combine_token.proofs.Choosing.{Tries}
-use Rattle.combine_token.proofs.Adding.{says_together}
-use Rattle.combine_choice.specs.Chosen.{first_of, goes_on, every, choice_of, chosen_lost, chosen_rest, adds_all}
-use Rattle.combine_choice.specs.OneTurn.{NoAlternative, Afresh, InFirst, AtPeek, PastLast}
-use Rattle.combine_choice.proofs.Listed.{drop_past}
+use Rattle.combine_token.specs.Choice.Choices.{refused, last_is, either_into}
+use Rattle.combine_token.proofs.Choices.ChoiceOutcomes.{Tries}
+use Rattle.combine_token.proofs.Choices.TwoAdditions.{says_together}
+use Rattle.combine_choice.specs.ListChoice.{first_of, goes_on, every, choice_of, chosen_lost, chosen_rest, adds_all}
+use Rattle.combine_choice.specs.SliceCalls.{NoAlternative, Afresh, InFirst, AtPeek, PastLast}
+use Rattle.combine_choice.proofs.AlternativeLists.{drop_past}
 use Rattle.combine_choice.specs.declared.choice.slice.SliceState.{SliceState}
 use Rattle.combine_choice.specs.declared.choice.slice.SliceState.TheVariants.{Peek, At}
 

@@ -1,6 +1,6 @@
 //! Choices: the first alternative that isn't refused peeked gives the result.
 ghost use Rattle.std.specs.Prelude.{◌≡◌};
-ghost use Rattle.combine_choice.specs.Parsers.{choice_parser};
+ghost use Rattle.combine_choice.specs.ChoiceParsers.{choice_parser};
 
 use combine_base::error::{ErrorOffset, ParseResult, Tracked};
 use combine_base::parser::{FirstMode, ParseMode, Parser, PartialMode};

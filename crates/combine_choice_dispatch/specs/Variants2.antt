@@ -1,7 +1,7 @@
 -- a parser that is one of two: it means the one that it holds
 use Rattle.std.specs.Prelude.{Option, Some, None}
 use Rattle.combine_base.specs.Parser.Meaning.{Meaning, IsMeaning, MeansOne}
-use Rattle.combine_choice_dispatch.specs.Held.{Holds, held, held_is_meaning, held_means_one}
+use Rattle.combine_choice_dispatch.specs.HeldParser.{Holds, held, held_is_meaning, held_means_one}
 use Rattle.combine_choice_dispatch.specs.declared.variants.either.Either.{Either}
 use Rattle.combine_choice_dispatch.specs.declared.variants.either.Either.TheVariants.{Left, Right}
 

@@ -2,24 +2,22 @@
 use Rattle.std.proofs.Common.{ℕ, ◌+◌, ◌<◌, ◌≤◌, ◌≡◌, Bool, true, false, ◌||◌, if◌then◌else◌, arith, ap, sym, subst, refl, ◌∙◌, length-append, nat_lt, Ok, Err, List, Result, length, ltb-true, ltb-false}
 use Rattle.combine_base.specs.Stream.View.{View, Takes, Moves, advanced, extended, Follows}
 use Rattle.combine_base.specs.Stream.Advance.{advanced_extended}
-use Rattle.combine_base.specs.Parser.Outcome.{Outcome, Accepted, Refused, Undecided, after, IsCommitted}
-use Rattle.combine_base.specs.Parser.OutcomeFacts.{or_true, or_false}
+use Rattle.combine_base.specs.Parser.Outcome.{Outcome, Accepted, Refused, Undecided, after, IsCommitted, or_true, or_false}
 use Rattle.combine_base.specs.Parser.Meaning.{Meaning, begun}
 use Rattle.combine_base.specs.Parser.Answer.{Run, World, Answers, Accepts, Refuses, Asks, Leaves, fails, ends, peeks, loses}
 use Rattle.combine_base.specs.Stream.Calls.{Passes, ResetTo}
 use Rattle.combine_base.specs.Parser.Drivers.{Broke}
 use Rattle.combine_base.specs.Distances.{PassesOver, Measures, stops}
 use Rattle.combine_base.specs.Sequence.Parts.{accepted_as}
-use Rattle.combine_base.proofs.Calls.{around, left_settled, needs, need_of_more, peeked_refusal, same_mark}
-use Rattle.combine_base.proofs.Progress.{after_none, takes_none, takes_more, takes_open}
+use Rattle.combine_base.proofs.Errors.CallErrors.{around, left_settled, needs, need_of_more, peeked_refusal, same_mark}
+use Rattle.combine_base.proofs.Parsers.Progress.{after_none, takes_none, takes_more, takes_open}
 use Rattle.combine_base.specs.declared.stream.Kind.{Kind}
 use Rattle.combine_base.specs.declared.stream.Kind.TheVariants as kinds
 use Rattle.combine_base.specs.declared.stream.Failures.{Failures}
 use Rattle.combine_base.specs.declared.error.Tracked.{Tracked}
 use Rattle.combine_base.specs.declared.error.ParseResult.{ParseResult}
 use Rattle.combine_base.specs.declared.error.ParseResult.TheVariants.{CommitOk, PeekOk, CommitErr, PeekErr}
-use Rattle.combine_combinator.specs.Attempt.{IsFresh, refused_peeked, refusing, losing, Attempts, Loses, Short, Within, attempted}
-use Rattle.combine_combinator.specs.PutBack.{KeepsDistance, PutsBack, keeps_distance}
+use Rattle.combine_combinator.specs.Attempt.{IsFresh, refused_peeked, refusing, losing, Attempts, Loses, Short, Within, attempted, KeepsDistance, PutsBack, keeps_distance}
 use Rattle.combine_combinator.specs.declared.combinator.TryState.{TryState}
 
 -- a part's refusal that could not be put back: the fault of the reset

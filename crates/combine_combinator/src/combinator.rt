@@ -1,7 +1,7 @@
 //! Parsers that change the value of another parser, or keep a part of it, put its refusals back, or look ahead.
 ghost use Rattle.std.specs.Prelude.{◌≡◌, if◌then◌else◌};
 ghost use Rattle.combine_combinator.specs.Attempt.{IsFresh};
-ghost use Rattle.combine_combinator.specs.Parsers.{attempt_of, look_ahead_of, map_of, no_partial_of, not_followed_by_of, picked_of};
+ghost use Rattle.combine_combinator.specs.CombinatorParsers.{attempt_of, look_ahead_of, map_of, no_partial_of, not_followed_by_of, picked_of};
 
 pub mod laws;
 mod look;

@@ -7,18 +7,18 @@ use Rattle.combine_base.specs.Parser.Drivers.{afresh}
 use Rattle.combine_base.specs.Parser.Meaning.{Meaning, Reading, Refusing}
 use Rattle.combine_base.specs.Stream.Calls.{ResetTo}
 use Rattle.combine_base.specs.Stream.View.{View}
-use Rattle.combine_base.proofs.Calls.{need_of_more, same_mark, unreset}
-use Rattle.combine_base.proofs.Inside.{Inside, inside_commits, inside_fails, inside_peeks, inside_refuses}
-use Rattle.combine_base.proofs.Progress.{takes_more}
-use Rattle.combine_base.proofs.Starting.{progress_here}
+use Rattle.combine_base.proofs.Errors.CallErrors.{need_of_more, same_mark, unreset}
+use Rattle.combine_base.proofs.Parsers.InnerCalls.{Inside, inside_commits, inside_fails, inside_peeks, inside_refuses}
+use Rattle.combine_base.proofs.Parsers.Progress.{takes_more}
+use Rattle.combine_base.proofs.Parsers.CallStarts.{progress_here}
 use Rattle.combine_base.specs.declared.error.ParseResult.{ParseResult}
 use Rattle.combine_base.specs.declared.error.ParseResult.TheVariants.{CommitOk, PeekOk, CommitErr, PeekErr}
 use Rattle.combine_base.specs.declared.error.Tracked.{Tracked}
 use Rattle.combine_base.specs.declared.stream.Failures.{Failures}
 use Rattle.combine_base.specs.declared.stream.Kind.{Kind}
 use Rattle.combine_base.specs.declared.stream.Kind.TheVariants as kinds
-use Rattle.combine_token.specs.Stateless.{stateless}
-use Rattle.combine_token.proofs.Stateless.{asks, into_begun}
+use Rattle.combine_token.specs.Token.Stateless.{stateless}
+use Rattle.combine_token.proofs.Tokens.Stateless.{asks, into_begun}
 use Rattle.combine_combinator_function.specs.Once.{RunsOnce, once, once_world}
 
 module _ {I P T R E C S V : Type 0} (step : P → T → P) (s : Errors T R P E) (steady : Type 0) (view : I → View P T) (marks : I → C → View P T → Type 0) (failures : I → Failures) (fresh : S → Type 0) (read : Reading P T V) (refuses : Refusing P T E) (first : Bool) (state left : S) (d : fresh left) (input mid : I) where

@@ -13,18 +13,18 @@ use Rattle.combine_base.specs.Sequence.Parts.{joined_answer, refused_as}
 use Rattle.combine_base.specs.Sequence.Readings.{following, sequel}
 use Rattle.combine_base.specs.Stream.Calls.{Passes}
 use Rattle.combine_base.specs.Stream.View.{View}
-use Rattle.combine_base.proofs.Inside.{Inside, Keeps, inside_asks, inside_commits, inside_fails, inside_peeks, inside_refuses}
-use Rattle.combine_base.proofs.Progress.{Progress, progress_none, takes_none}
-use Rattle.combine_base.proofs.Same.{passes_more, passes_none}
-use Rattle.combine_base.proofs.SequenceResumes.{accepted_resumes}
-use Rattle.combine_base.proofs.Starting.{need_or_not}
+use Rattle.combine_base.proofs.Parsers.InnerCalls.{Inside, Keeps, inside_asks, inside_commits, inside_fails, inside_peeks, inside_refuses}
+use Rattle.combine_base.proofs.Parsers.Progress.{Progress, progress_none, takes_none}
+use Rattle.combine_base.proofs.Parsers.SameMeanings.{passes_more, passes_none}
+use Rattle.combine_base.proofs.Sequences.SequenceResumes.{accepted_resumes}
+use Rattle.combine_base.proofs.Parsers.CallStarts.{need_or_not}
 use Rattle.combine_base.specs.declared.error.ParseResult.{ParseResult}
 use Rattle.combine_base.specs.declared.error.ParseResult.TheVariants.{CommitOk, PeekOk, CommitErr, PeekErr}
 use Rattle.combine_base.specs.declared.error.Tracked.{Tracked}
 use Rattle.combine_base.specs.declared.stream.Failures.{Failures}
 use Rattle.combine_base.specs.declared.stream.Kind.TheVariants as kinds
 use Rattle.combine_combinator_function.specs.Functions.{AnswersAt, AnswersWith, IsFunction, KeepsLaws}
-use Rattle.combine_combinator_function.specs.Running.{run_keeps_laws}
+use Rattle.combine_combinator_function.specs.OneRun.{run_keeps_laws}
 use Rattle.combine_combinator_function.specs.Once.{RunsOnce, once, once_is_meaning}
 
 module _ {P T R E : Type 0} (step : P → T → P) (s : Errors T R P E) (steady : Type 0) where

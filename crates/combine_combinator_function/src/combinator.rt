@@ -1,6 +1,6 @@
 //! Parsers that change the value of another parser, or refuse it.
 ghost use Rattle.std.specs.Prelude.{◌≡◌};
-ghost use Rattle.combine_combinator_function.specs.Parsers.{and_then_of, flat_map_of, from_str_of, map_input_of};
+ghost use Rattle.combine_combinator_function.specs.ChangeParsers.{and_then_of, flat_map_of, from_str_of, map_input_of};
 
 mod changed;
 mod changes;

@@ -1,6 +1,6 @@
 //! Parsers that always refuse.
 ghost use Rattle.std.specs.Prelude.{◌≡◌};
-ghost use Rattle.combine_combinator_function.specs.Refusing.{unexpected_of};
+ghost use Rattle.combine_combinator_function.specs.Unexpected.{unexpected_of};
 
 pub mod types;
 

@@ -1,7 +1,7 @@
 -- where a maker answers one parser, which has one outcome, there is one outcome
 use Rattle.std.proofs.Common.{◌≡◌, subst}
 use Rattle.combine_base.specs.Parser.Meaning.{IsSingle, Reading}
-use Rattle.combine_combinator_lazy.specs.Made.{Makes, MakesOne}
+use Rattle.combine_combinator_lazy.specs.MadeParsers.{Makes, MakesOne}
 
 -- the one parser that is made
 pub one_made : {P T N B : Type 0} {makes : Makes P T N} {means : N → Reading P T B} (made : N) → ((v : _) (n : N) → makes v n → n ≡ made) → IsSingle (means made) → MakesOne makes means

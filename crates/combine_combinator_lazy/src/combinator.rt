@@ -1,6 +1,6 @@
 //! Parsers that a maker returns.
 ghost use Rattle.std.specs.Prelude.{◌≡◌};
-ghost use Rattle.combine_combinator_lazy.specs.Made.{factory_of, lazy_of};
+ghost use Rattle.combine_combinator_lazy.specs.MadeParsers.{factory_of, lazy_of};
 
 pub(crate) mod made;
 pub mod types;

@@ -1,7 +1,7 @@
 //! By which parser a `factory` parses.
 ghost use Rattle.std.specs.Prelude.{◌≡◌};
-ghost use Rattle.combine_combinator_lazy.specs.Calling.{ParsesMade};
-ghost use Rattle.combine_combinator_lazy.specs.Made.{factory_maker};
+ghost use Rattle.combine_combinator_lazy.specs.MadeCalls.{ParsesMade};
+ghost use Rattle.combine_combinator_lazy.specs.MadeParsers.{factory_maker};
 
 use crate::combinator::made::{MadeState, make_and_run};
 use crate::combinator::types::Factory;

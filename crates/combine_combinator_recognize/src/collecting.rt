@@ -2,7 +2,7 @@
 ghost use Rattle.std.specs.Prelude.{◌≡◌};
 ghost use Rattle.combine_base.specs.Stream.Calls.{Passes};
 ghost use Rattle.combine_base.specs.Stream.View.{Takes};
-ghost use Rattle.combine_combinator_recognize.specs.Gathered.{Collects};
+ghost use Rattle.combine_combinator_recognize.specs.RecognizedTokens.{Collects};
 
 use combine_base::repeat::Append;
 use combine_base::stream::{Kind, Stream};

@@ -1,6 +1,6 @@
 //! What a parser takes, in place of its value.
 ghost use Rattle.std.specs.Prelude.{◌≡◌};
-ghost use Rattle.combine_combinator_recognize.specs.Gathered.{recognize_of};
+ghost use Rattle.combine_combinator_recognize.specs.RecognizedTokens.{recognize_of};
 
 pub mod types;
 

@@ -1,6 +1,6 @@
 //! A parser whose errors stand at the span that it read.
 ghost use Rattle.std.specs.Prelude.{◌≡◌};
-ghost use Rattle.combine_combinator_spanned.specs.Spanned.{spanned_of};
+ghost use Rattle.combine_combinator_spanned.specs.SpannedErrors.{spanned_of};
 
 pub mod types;
 

@@ -9,7 +9,7 @@ use Rattle.combine_decode.specs.declared.decode.framing.Framing.{Framing}
 use Rattle.combine_byte_num.specs.Numbers.{big_endian}
 use Rattle.combine_byte_num.specs.WholeNumbers.{number_parser}
 use Rattle.combine_byte_num.specs.declared.whole.WholeNumber.{WholeNumber}
-use Rattle.combine_sequence.specs.Answered.{answered_of}
+use Rattle.combine_sequence.specs.Then.{answered_of}
 use Rattle.combine_sequence.specs.declared.sequence.answered.Answered.{Answered}
 
 abbrev pub framing_of : {Input : Type 0} → Global → Framing Input

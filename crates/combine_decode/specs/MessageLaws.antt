@@ -3,7 +3,7 @@ use Rattle.std.specs.Prelude.{ℕ, ◌≡◌, List, ◌++◌, length, Ok}
 use Rattle.combine_base.specs.Parser.Meaning.{Reading}
 use Rattle.combine_base.specs.Parser.Pieces.{concatenated}
 use Rattle.combine_decode.specs.Messages.{Divides, Messages}
-use Rattle.combine_decode.specs.Pieces.{DecodesPieces}
+use Rattle.combine_decode.specs.DecodedPieces.{DecodesPieces}
 use Rattle.combine_decode.specs.declared.decode.Batch.{Batch}
 use Rattle.combine_decode.specs.declared.decode.BatchEnd.{BatchEnd}
 

@@ -1,6 +1,6 @@
 //! Parsers that shape what the errors of another parser say.
 ghost use Rattle.std.specs.Prelude.{◌≡◌};
-ghost use Rattle.combine_error.specs.Shaped.{expected_of, message_of, silent_of};
+ghost use Rattle.combine_error.specs.ErrorParsers.{expected_of, message_of, silent_of};
 
 pub mod types;
 

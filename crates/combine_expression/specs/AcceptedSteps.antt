@@ -4,10 +4,10 @@ use Rattle.std.proofs.Common.{subst}
 use Rattle.combine_base.specs.Stream.View.{View, advanced}
 use Rattle.combine_base.specs.Parser.Outcome.{Outcome, Accepted, Refused, Undecided}
 use Rattle.combine_base.specs.Parser.Meaning.{Meaning, Reading}
-use Rattle.combine_base.specs.Sequence.Joined.{joined}
+use Rattle.combine_base.specs.Sequence.JoinedOutcome.{joined}
 use Rattle.combine_base.specs.Sequence.Readings.{continues}
 use Rattle.combine_nested.specs.declared.nested.Next.{Next}
-use Rattle.combine_nested.specs.Nesting.{Ends, Opened, Closed, Denied, TooDeep, answered, ended, goes_on, last_value, mark, marked, settles, stepping, steps, then}
+use Rattle.combine_nested.specs.NestedSteps.{Ends, Opened, Closed, Denied, TooDeep, answered, ended, goes_on, last_value, mark, marked, settles, stepping, steps, then}
 
 module _ {P T R E F I V N U : Type 0} (step : P → T → P) (depth : ℕ) (roots : F → Type 0) (answers : F → N → Type 0) (takes : F → I → Next F V → Type 0) (joins : F → V → Next F V → Type 0) (some : N → Type 0) (means : N → Meaning P T R E I U) where
   abbrev pub reads_item : F → Reading P T I

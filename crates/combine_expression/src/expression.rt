@@ -3,8 +3,8 @@
 //! A language of expressions is a table of levels, of which the first binds least: each says where its operators stand, and how they group. An operand of an operator is an expression of that operator's level or a higher one, and on a side on which the operator doesn't group, of a higher one alone. So a grammar of one rule for each level is written as a table.
 ghost use Rattle.std.specs.Prelude.{◌≡◌};
 ghost use Rattle.combine_nested.specs.Asks.{if_else_of};
-ghost use Rattle.combine_nested.specs.Nesting.{asked_part, depth_part, root_part};
-ghost use Rattle.combine_expression.specs.Parts.{MakesOutermost};
+ghost use Rattle.combine_nested.specs.NestedSteps.{asked_part, depth_part, root_part};
+ghost use Rattle.combine_expression.specs.ExpressionParts.{MakesOutermost};
 
 pub mod operands;
 pub mod types;

@@ -3,22 +3,21 @@ use Rattle.std.proofs.Common.{ℕ, suc, ◌+◌, ◌*◌, ◌-◌, ◌<◌, ◌�
 use Rattle.combine_base.specs.Error.Errors.{Errors}
 use Rattle.combine_base.specs.Parser.Answer.{World, Run, Answers, Accepts, Refuses, Resumes, Leaves, fails, peeks, world}
 use Rattle.combine_base.specs.Parser.Drivers.{Explained}
-use Rattle.combine_base.specs.Parser.Kept.{KeptOf}
+use Rattle.combine_base.specs.Parser.KeptParsers.{KeptOf}
 use Rattle.combine_base.specs.Parser.Meaning.{Meaning, Reading, Refusing, IsMeaning, MeansSame, refusals_from}
-use Rattle.combine_base.specs.Parser.Outcome.{Outcome, Accepted, Refused, Undecided, after}
-use Rattle.combine_base.specs.Parser.OutcomeFacts.{or_assoc, or_false, or_true}
+use Rattle.combine_base.specs.Parser.Outcome.{Outcome, Accepted, Refused, Undecided, after, or_assoc, or_false, or_true}
 use Rattle.combine_base.specs.Parser.Reasons.{Reasoned, ReasonedCall}
-use Rattle.combine_base.specs.Sequence.Joined.{joined}
+use Rattle.combine_base.specs.Sequence.JoinedOutcome.{joined}
 use Rattle.combine_base.specs.Sequence.Parts.{RunsFrom, refused_as, run_from}
 use Rattle.combine_base.specs.Sequence.Readings.{following}
 use Rattle.combine_base.specs.Stream.View.{View, Takes, advanced}
-use Rattle.combine_base.proofs.Inside.{Inside, Keeps, inside_asks, inside_fails, inside_refuses}
-use Rattle.combine_base.proofs.Progress.{Progress, progress_more, progress_outcome, takes_more}
-use Rattle.combine_base.proofs.Reasoning.{reasons_after, reasons_committed, reasons_fault, reasons_ok, reasons_peek_ok, reasons_peeked}
-use Rattle.combine_base.proofs.Refusing.{explained_meant, reasoned_in_mode, reasoned_into}
-use Rattle.combine_base.proofs.SequenceResumes.{following_resumes, sequel_resumes, accepted_resumes}
-use Rattle.combine_base.proofs.Starting.{in_mode, progress_here, progress_left}
-use Rattle.combine_base.proofs.Same.{same_more, same_none}
+use Rattle.combine_base.proofs.Parsers.InnerCalls.{Inside, Keeps, inside_asks, inside_fails, inside_refuses}
+use Rattle.combine_base.proofs.Parsers.Progress.{Progress, progress_more, progress_outcome, takes_more}
+use Rattle.combine_base.proofs.Errors.CallReasons.{reasons_after, reasons_committed, reasons_fault, reasons_ok, reasons_peek_ok, reasons_peeked}
+use Rattle.combine_base.proofs.Errors.MeantRefusals.{explained_meant, reasoned_in_mode, reasoned_into}
+use Rattle.combine_base.proofs.Sequences.SequenceResumes.{following_resumes, sequel_resumes, accepted_resumes}
+use Rattle.combine_base.proofs.Parsers.CallStarts.{in_mode, progress_here, progress_left}
+use Rattle.combine_base.proofs.Parsers.SameMeanings.{same_more, same_none}
 use Rattle.combine_base.specs.declared.error.ParseResult.{ParseResult}
 use Rattle.combine_base.specs.declared.error.Tracked.{Tracked}
 use Rattle.combine_base.specs.declared.error.ParseResult.TheVariants.{CommitOk, PeekOk, CommitErr, PeekErr}
@@ -27,12 +26,10 @@ use Rattle.combine_base.specs.declared.stream.Failures.{Failures}
 use Rattle.combine_base.specs.declared.stream.Kind.TheVariants as kinds
 use Rattle.combine_base.specs.declared.stream.StreamOnce as stream
 use Rattle.combine_nested.specs.Asks.{asked_by_some, asked_so}
-use Rattle.combine_nested.specs.Nesting.{Ends, Opened, Closed, Denied, TooDeep, around, begins_steps, valid_step, starts_valid, marked, last_value, unchanged, runs, stepping, then, goes_on}
-use Rattle.combine_nested.specs.NestingErrors.{ended_refuses, goes_refuses, nested_refuses, running_refuses, runs_refuse}
-use Rattle.combine_nested.specs.NestingLaws.{marked_is_reading, nesting}
-use Rattle.combine_nested.proofs.Settling.{one_higher}
+use Rattle.combine_nested.specs.NestedSteps.{Ends, Opened, Closed, Denied, TooDeep, around, begins_steps, valid_step, starts_valid, marked, last_value, unchanged, runs, stepping, then, goes_on, ended_refuses, goes_refuses, nested_refuses, running_refuses, runs_refuse, marked_is_reading, nesting}
+use Rattle.combine_nested.proofs.FrameStack.{one_higher}
 use Rattle.combine_nested.proofs.StepErrors.{next_refuses}
-use Rattle.combine_nested.proofs.Stepping.{marked_resumes, one_more}
+use Rattle.combine_nested.proofs.StepCuts.{marked_resumes, one_more}
 use Rattle.combine_nested.specs.StepCalls.{CalledStep, DidItem, FrameRefuses, KeepsStep, TakesItem, StepRefuses, IsTooDeep, TakesNothing, item_did, step_did, stops_so, keeps_step}
 use Rattle.combine_nested.specs.declared.nested.Next.{Next}
 use Rattle.combine_nested.specs.declared.nested.steps.Did.{Did}

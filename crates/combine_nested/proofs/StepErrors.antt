@@ -3,10 +3,9 @@ use Rattle.std.proofs.Common.{ℕ, suc, inl, inr, Bool, true, false, ◌||◌, n
 use Rattle.combine_base.specs.Error.Errors.{Errors}
 use Rattle.combine_base.specs.Parser.Meaning.{Meaning, Reading, Refusing, IsMeaning, refusals, refusals_begin, refusals_from}
 use Rattle.combine_base.specs.Parser.Outcome.{Accepted}
-use Rattle.combine_base.specs.Sequence.Behind.{last_into}
+use Rattle.combine_base.specs.Sequence.PartErrors.{last_into}
 use Rattle.combine_base.specs.Stream.View.{View, advanced}
-use Rattle.combine_nested.specs.Nesting.{Ends, Opened, Closed, Denied, TooDeep, around}
-use Rattle.combine_nested.specs.NestingErrors.{RefusesItem, ended_refuses, goes_refuses, running_refuses, runs_refuse, step_refuses, steps_refuse}
+use Rattle.combine_nested.specs.NestedSteps.{Ends, Opened, Closed, Denied, TooDeep, around, RefusesItem, ended_refuses, goes_refuses, running_refuses, runs_refuse, step_refuses, steps_refuse}
 use Rattle.combine_nested.specs.declared.nested.Next.{Next}
 use Rattle.combine_nested.specs.declared.nested.steps.Frames.{Frames}
 

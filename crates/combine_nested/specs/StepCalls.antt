@@ -3,7 +3,7 @@ use Rattle.std.specs.Prelude.{codes, ◌≡◌, ℕ, ◌⊎◌, ◌||◌, Bool, 
 use Rattle.combine_base.specs.Error.Errors.{Errors}
 use Rattle.combine_base.specs.Parser.Answer.{Answers, world}
 use Rattle.combine_base.specs.Parser.Drivers.{Explained}
-use Rattle.combine_base.specs.Parser.Judged.{NeedsMore}
+use Rattle.combine_base.specs.Parser.DriverAnswers.{NeedsMore}
 use Rattle.combine_base.specs.Parser.Meaning.{MeansSame}
 use Rattle.combine_base.specs.Sequence.Parts.{refused_as, run_from}
 use Rattle.combine_base.specs.Stream.Calls.{Passes}
@@ -13,8 +13,7 @@ use Rattle.combine_base.specs.declared.error.ParseResult.{ParseResult}
 use Rattle.combine_base.specs.declared.error.ParseResult.TheVariants.{CommitOk, PeekOk, CommitErr, PeekErr}
 use Rattle.combine_base.specs.declared.parser.Parser as parser
 use Rattle.combine_base.specs.declared.stream.StreamOnce as stream
-use Rattle.combine_nested.specs.Nesting.{Ends, Opened, Closed, Denied, TooDeep, around, begins_steps, settles}
-use Rattle.combine_nested.specs.NestingErrors.{Tells}
+use Rattle.combine_nested.specs.NestedSteps.{Ends, Opened, Closed, Denied, TooDeep, around, begins_steps, settles, Tells}
 use Rattle.combine_nested.specs.declared.nested.Next.{Next}
 use Rattle.combine_nested.specs.declared.nested.steps.Did.{Did}
 use Rattle.combine_nested.specs.declared.nested.steps.Did.TheVariants as dids

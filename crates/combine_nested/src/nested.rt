@@ -5,7 +5,7 @@
 //! Nothing recurses, so no input overflows the call stack, and a parse goes on at the step where a piece ended.
 ghost use Rattle.std.specs.Prelude.{◌≡◌, MatchResult};
 ghost use Rattle.combine_nested.specs.Asks.{always_of, if_else_of};
-ghost use Rattle.combine_nested.specs.Nesting.{nested_of};
+ghost use Rattle.combine_nested.specs.NestedSteps.{nested_of};
 
 pub mod asked;
 mod steps;

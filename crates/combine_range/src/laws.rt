@@ -4,12 +4,11 @@ ghost use Rattle.std.specs.Char.{len_utf8};
 ghost use Rattle.std.specs.Str.{chars};
 ghost use Rattle.combine_base.specs.Parser.Outcome.{Accepted};
 ghost use Rattle.combine_base.specs.Stream.View.{View};
-ghost use Rattle.combine_range.specs.Exactly.{TakesExactly};
-ghost use Rattle.combine_range.specs.Fairness.{begins_equal};
-ghost use Rattle.combine_range.specs.RangeParsers.{recognize_of};
-ghost use Rattle.combine_range.specs.Tested.{Fails, FirstTested, NoneTested};
-ghost use Rattle.combine_range.specs.Wanted.{Begins, Fair, First, Nowhere, given};
-ghost use Rattle.combine_stream.specs.Ranges.{size_of};
+ghost use Rattle.combine_range.specs.Range.RecognizedRange.{TakesExactly};
+ghost use Rattle.combine_range.specs.WantedRanges.{begins_equal, Begins, Fair, First, Nowhere, given};
+ghost use Rattle.combine_range.specs.Range.RangeParsers.{recognize_of};
+ghost use Rattle.combine_range.specs.RangeTests.{Fails, FirstTested, NoneTested};
+ghost use Rattle.combine_stream.specs.Range.Ranges.{size_of};
 
 use crate::range::types::Recognize;
 use combine_base::parser::Parser;

@@ -2,11 +2,11 @@
 ghost use Rattle.std.specs.Prelude.{◌≡◌, ◌↔◌, [], true, if◌then◌else◌};
 ghost use Rattle.combine_base.specs.Stream.View.{Takes};
 ghost use Rattle.combine_base.specs.Stream.Calls.{Passes};
-ghost use Rattle.combine_stream.specs.Ranges.{UnconsRange};
-ghost use Rattle.combine_range.specs.Kept.{Hands, HandsOut, KeepsDistance, NotPassed};
+ghost use Rattle.combine_stream.specs.Range.Ranges.{UnconsRange};
+ghost use Rattle.combine_range.specs.KeptDistance.{Hands, HandsOut, KeepsDistance, NotPassed};
 ghost use Rattle.combine_base.specs.Error.Errors.{New};
-ghost use Rattle.combine_token.specs.Reasons.{refuses_one};
-ghost use Rattle.combine_range.specs.Peeking.{NoRange, PeeksSaying, RefusesPeeked, says_why};
+ghost use Rattle.combine_token.specs.Token.TokenReasons.{refuses_one};
+ghost use Rattle.combine_range.specs.PeekedRefusals.{NoRange, PeeksSaying, RefusesPeeked, says_why};
 
 use crate::distance::Distance;
 use combine_base::error::{ParseResult, Tracked};

@@ -1,8 +1,8 @@
 //! The first place where a range stands.
 ghost use Rattle.std.specs.Prelude.{◌≡◌};
 ghost use Rattle.combine_base.specs.Stream.Calls.{Passes};
-ghost use Rattle.combine_range.specs.Tested.{Seeks, Tells};
-ghost use Rattle.combine_range.specs.Wanted.{given};
+ghost use Rattle.combine_range.specs.RangeTests.{Seeks, Tells};
+ghost use Rattle.combine_range.specs.WantedRanges.{given};
 
 use combine_base::stream::{Kind, ResetStream, StreamOnce};
 use combine_stream::range::{Range, RangeStream};

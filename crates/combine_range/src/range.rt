@@ -2,7 +2,7 @@
 //!
 //! They run over every stream that hands out ranges. On need of more each puts the stream back to where it began.
 ghost use Rattle.std.specs.Prelude.{◌≡◌};
-ghost use Rattle.combine_range.specs.RangeParsers.{range_of, recognize_of, recognize_with_value_of, take_of, take_until_range_of, take_beginning_of};
+ghost use Rattle.combine_range.specs.Range.RangeParsers.{range_of, recognize_of, recognize_with_value_of, take_of, take_until_range_of, take_beginning_of};
 
 mod beginnings;
 mod lengths;

@@ -6,7 +6,7 @@ use Rattle.combine_base.specs.Parser.Outcome.{Outcome, shape}
 use Rattle.combine_base.specs.Stream.View.{View}
 use Rattle.combine_combinator_function.specs.Changes.{DecidesOne, changed_reading}
 use Rattle.combine_range_length_prefix.specs.Prefixes.{FitsNone, OneLength}
-use Rattle.combine_sequence.specs.Answered.{AnswersOne}
+use Rattle.combine_sequence.specs.Then.{AnswersOne}
 
 module _ {P T A E : Type 0} (step : P → T → P) (turned : A → Result ℕ E → Type 0) (r : Reading P T A) (h : OneLength turned r) where
   pub decides_one : DecidesOne step r (λ at a n. turned a (Ok n)) (FitsNone turned)

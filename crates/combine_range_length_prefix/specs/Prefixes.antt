@@ -7,8 +7,8 @@ use Rattle.combine_base.specs.Parser.Meaning.{Reading, Refusing, MeantRefusal}
 use Rattle.combine_base.specs.Parser.Outcome.{Accepted, Refused, Undecided}
 use Rattle.combine_base.specs.Stream.View.{View, Takes, advanced}
 use Rattle.combine_combinator_function.specs.Changes.{MadeSaying}
-use Rattle.combine_range.specs.Lengths.{First, Unfit, Waits}
-use Rattle.combine_range.specs.Reasons.{RefusesLength}
+use Rattle.combine_range.specs.Range.Lengths.{First, Unfit, Waits}
+use Rattle.combine_range.specs.RangeReasons.{RefusesLength}
 
 module _ {A E : Type 0} (turned : A → Result ℕ E → Type 0) where
   -- a value that is no length

@@ -1,6 +1,6 @@
 //! What stands before the first place of some bytes.
 ghost use Rattle.std.specs.Prelude.{◌≡◌};
-ghost use Rattle.combine_range_search.specs.Searchers.{until_needle_of, until_one_of, until_three_of, until_two_of};
+ghost use Rattle.combine_range_search.specs.Search.SearchParsers.{until_needle_of, until_one_of, until_three_of, until_two_of};
 
 pub mod types;
 

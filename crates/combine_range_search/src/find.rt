@@ -1,9 +1,8 @@
 //! First places of bytes: blocks are looked through whole, so that the compiler compares many bytes at once, and the block that has one again, byte by byte.
 ghost use Rattle.std.specs.Prelude.{◌≡◌, ◌↔◌, ℕ, ◌<◌, Bool, length, false, true};
-ghost use Rattle.combine_range_search.specs.InBytes.{Finds, Stands, a_byte, these_bytes};
-ghost use Rattle.combine_range_search.specs.Scans.{FirstByte, Without};
-ghost use Rattle.combine_stream.specs.Ranges.{Longest};
-ghost use Rattle.combine_range_search.specs.Scans.{fails_all};
+ghost use Rattle.combine_range_search.specs.Bytes.ByteSearch.{Finds, Stands, a_byte, these_bytes};
+ghost use Rattle.combine_range_search.specs.Bytes.ByteScans.{FirstByte, Without, fails_all};
+ghost use Rattle.combine_stream.specs.Range.Ranges.{Longest};
 
 /// A test of a byte.
 pub trait ByteTest {

@@ -1,10 +1,10 @@
 //! What `take_fn` means for a function whose results stay, stated by functions that do nothing.
 ghost use Rattle.std.specs.Prelude.{◌≡◌};
-ghost use Rattle.combine_range.specs.Kept.{items_of};
-ghost use Rattle.combine_range_search.specs.Options.{answers_as};
-ghost use Rattle.combine_range_search.specs.Searchers.{take_fn_of};
-ghost use Rattle.combine_range_search.specs.Searches.{searching};
-ghost use Rattle.combine_range_search.specs.Stable.{Stable, answered_by};
+ghost use Rattle.combine_range.specs.KeptDistance.{items_of};
+ghost use Rattle.combine_range_search.specs.Search.TakeFn.{answers_as};
+ghost use Rattle.combine_range_search.specs.Search.SearchParsers.{take_fn_of};
+ghost use Rattle.combine_range_search.specs.Search.Searches.{searching};
+ghost use Rattle.combine_range_search.specs.Search.StableFunctions.{Stable, answered_by};
 ghost use Rattle.combine_range_search.specs.declared.search.TakeRange.{TakeRange};
 
 use crate::range::types::TakeFn;

@@ -1,8 +1,8 @@
 //! What a parser returns where a search finds no place.
 ghost use Rattle.std.specs.Prelude.{◌≡◌, ◌↔◌, false, true};
 ghost use Rattle.combine_base.specs.Stream.Calls.{Passes};
-ghost use Rattle.combine_range_search.specs.Reasons.{SaysAbsent};
-ghost use Rattle.combine_range_search.specs.UpTo.{PassesUpTo, RefusesAbsent};
+ghost use Rattle.combine_range_search.specs.Search.SearchReasons.{SaysAbsent};
+ghost use Rattle.combine_range_search.specs.Search.ItemLimit.{PassesUpTo, RefusesAbsent};
 
 use combine_base::error::ParseResult;
 use combine_base::refusal::no_token;

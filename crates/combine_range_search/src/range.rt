@@ -1,6 +1,6 @@
 //! What stands before the place that a function finds.
 ghost use Rattle.std.specs.Prelude.{◌≡◌};
-ghost use Rattle.combine_range_search.specs.Searchers.{take_fn_of};
+ghost use Rattle.combine_range_search.specs.Search.SearchParsers.{take_fn_of};
 
 pub mod types;
 

@@ -1,9 +1,9 @@
 //! Searches for a place in what is unread, and the parser of what stands before it.
 ghost use Rattle.std.specs.Prelude.{◌≡◌, List};
 ghost use Rattle.combine_base.specs.Error.Errors.{Nothing};
-ghost use Rattle.combine_range.specs.Kept.{kept, kept_is_meaning, kept_means_one};
-ghost use Rattle.combine_range_search.specs.Reasons.{RefusesSearch};
-ghost use Rattle.combine_range_search.specs.Searches.{IsOneSearch, IsSearch, Search, Searched, searching, searching_is_reading, searching_is_single};
+ghost use Rattle.combine_range.specs.KeptDistance.{kept, kept_is_meaning, kept_means_one};
+ghost use Rattle.combine_range_search.specs.Search.SearchReasons.{RefusesSearch};
+ghost use Rattle.combine_range_search.specs.Search.Searches.{IsOneSearch, IsSearch, Search, Searched, searching, searching_is_reading, searching_is_single};
 
 use crate::passing::{is_nothing, may_grow, not_found, pass_up_to};
 use combine_base::error::{ErrorOffset, ParseResult, Tracked};
@@ -24,7 +24,7 @@ pub enum TakeRange {
 }
 
 impl From<Option<usize>> for TakeRange {
-    ghost use Rattle.combine_range_search.specs.Options.{place_of};
+    ghost use Rattle.combine_range_search.specs.Search.TakeFn.{place_of};
 
     ghost from_gives = { λ place answer. answer ≡ place_of place };
 
@@ -162,8 +162,7 @@ impl<Input: RangeStream, T: Into<TakeRange>, F: Fn(Input::Range) -> T> Searcher<
 where
     Input::Range: Range,
 {
-    ghost use Rattle.combine_range_search.specs.Asking.{asking, asking_is_search};
-    ghost use Rattle.combine_range_search.specs.Options.{answers_as};
+    ghost use Rattle.combine_range_search.specs.Search.TakeFn.{asking, asking_is_search, answers_as};
 
     ghost callable = { λ s. F.IsAlwaysCallable s.0 };
 

@@ -1,6 +1,6 @@
 -- the parsers that the constructors build
 use Rattle.std.specs.declared.alloc.Global.{Global}
-use Rattle.combine_repeat_turns.specs.RepeatParsers.{each_of, repeat_of}
+use Rattle.combine_repeat_turns.specs.Repeat.RepeatParsers.{each_of, repeat_of}
 use Rattle.combine_repeat_turns.specs.declared.each.Dropped.{Dropped}
 use Rattle.combine_repeat_turns.specs.declared.each.Each.{Each}
 use Rattle.combine_repeat_turns.specs.declared.repeat.types.Repeat.{Repeat}

@@ -1,6 +1,6 @@
 -- the parsers that the constructors build, and their parts
 use Rattle.std.specs.declared.alloc.Global.{Global}
-use Rattle.combine_combinator.specs.Parsers.{no_partial_of, picked_of}
+use Rattle.combine_combinator.specs.CombinatorParsers.{no_partial_of, picked_of}
 use Rattle.combine_combinator.specs.declared.combinator.look.NoPartial.{NoPartial}
 use Rattle.combine_combinator.specs.declared.combinator.values.Nothing.{Nothing}
 use Rattle.combine_combinator.specs.declared.combinator.values.Picked.{Picked}
@@ -8,8 +8,8 @@ use Rattle.combine_repeat.specs.ManyParsers.{skip_many_of}
 use Rattle.combine_repeat_turns.specs.declared.each.Dropped.{Dropped}
 use Rattle.combine_repeat_turns.specs.declared.repeat.types.Repeat.{Repeat}
 use Rattle.combine_repeat_turns.specs.declared.turns.limits.AnyNumber.{AnyNumber}
-use Rattle.combine_token.specs.Or.{or_parser}
-use Rattle.combine_token.specs.TokenParsers.{token_parser}
+use Rattle.combine_token.specs.Choice.Or.{or_parser}
+use Rattle.combine_token.specs.Token.TokenParsers.{token_parser}
 use Rattle.combine_token.specs.declared.choice.types.Or.{Or}
 use Rattle.combine_token.specs.declared.token.types.Token.{Token}
 use Rattle.combine_repeat_chain.specs.declared.repeat.types.RightFold.{RightFold}

@@ -1,12 +1,12 @@
 -- operands and operators, folded from the right
 use Rattle.std.specs.Prelude.{◌≡◌, List, [], ◌∷◌, ◌++◌, Option, Some, None}
 use Rattle.combine_base.specs.Error.Errors.{Errors}
-use Rattle.combine_base.specs.Parser.Mapped.{mapped}
+use Rattle.combine_base.specs.Parser.ValueMap.{mapped}
 use Rattle.combine_base.specs.Parser.Meaning.{Meaning}
 use Rattle.combine_combinator.specs.Tables.{by_table, stays}
-use Rattle.combine_repeat_turns.specs.Turns.{Collecting}
-use Rattle.combine_repeat_turns.specs.Bounded.{gathered}
-use Rattle.combine_repeat_turns.specs.Sound.{KeepsSound, kept_sound}
+use Rattle.combine_repeat_turns.specs.Turns.Blocks.{Collecting}
+use Rattle.combine_repeat_turns.specs.Turns.Bounds.{gathered}
+use Rattle.combine_repeat_turns.specs.Turns.SoundValues.{KeepsSound, kept_sound}
 use Rattle.combine_repeat_sep.specs.Separated.{lead_good}
 use Rattle.combine_repeat_sep.specs.Elements.{joined}
 use Rattle.combine_repeat_sep.specs.declared.separated.Element.{Element}

@@ -2,22 +2,21 @@
 use Rattle.std.proofs.Common.{ℕ, ◌+◌, ◌≡◌, ◌≤◌, inl, inr, List, [], ◌∷◌, Bool, true, false, ◌||◌, refl, sym, ◌∙◌, ap, subst, arith, add-zero}
 use Rattle.combine_base.specs.Error.Errors.{Errors}
 use Rattle.combine_base.specs.Parser.Answer.{World, Run, Answers, Accepts, Resumes, Leaves, fails, world}
-use Rattle.combine_base.specs.Parser.Kept.{KeptOf}
+use Rattle.combine_base.specs.Parser.KeptParsers.{KeptOf}
 use Rattle.combine_base.specs.Parser.Meaning.{Meaning, Reading, Refusing, IsMeaning, MeansSame, refusals_from}
-use Rattle.combine_base.specs.Parser.Outcome.{Outcome, Accepted, Refused, Undecided}
-use Rattle.combine_base.specs.Parser.OutcomeFacts.{or_false}
+use Rattle.combine_base.specs.Parser.Outcome.{Outcome, Accepted, Refused, Undecided, or_false}
 use Rattle.combine_base.specs.Parser.Reasons.{Reasoned}
-use Rattle.combine_base.specs.Sequence.Joined.{joined}
+use Rattle.combine_base.specs.Sequence.JoinedOutcome.{joined}
 use Rattle.combine_base.specs.Sequence.Parts.{RunsFrom, accepted_as, refused_as, run_from}
 use Rattle.combine_base.specs.Sequence.Readings.{following}
 use Rattle.combine_base.specs.Stream.View.{View, Takes, advanced}
-use Rattle.combine_base.proofs.Inside.{Inside, Keeps, inside_asks, inside_fails, inside_refuses}
-use Rattle.combine_base.proofs.Progress.{Progress, progress_more, progress_outcome, takes_more, takes_none}
-use Rattle.combine_base.proofs.Explaining.{reason_committed, reason_peeked}
-use Rattle.combine_base.proofs.Reasoning.{reasons_after, reasons_committed, reasons_fault}
-use Rattle.combine_base.proofs.Same.{same_more, same_none}
-use Rattle.combine_base.proofs.SequenceResumes.{following_resumes, sequel_resumes, accepted_resumes}
-use Rattle.combine_base.proofs.Starting.{progress_here, progress_left}
+use Rattle.combine_base.proofs.Parsers.InnerCalls.{Inside, Keeps, inside_asks, inside_fails, inside_refuses}
+use Rattle.combine_base.proofs.Parsers.Progress.{Progress, progress_more, progress_outcome, takes_more, takes_none}
+use Rattle.combine_base.proofs.Errors.Explanations.{reason_committed, reason_peeked}
+use Rattle.combine_base.proofs.Errors.CallReasons.{reasons_after, reasons_committed, reasons_fault}
+use Rattle.combine_base.proofs.Parsers.SameMeanings.{same_more, same_none}
+use Rattle.combine_base.proofs.Sequences.SequenceResumes.{following_resumes, sequel_resumes, accepted_resumes}
+use Rattle.combine_base.proofs.Parsers.CallStarts.{progress_here, progress_left}
 use Rattle.combine_base.specs.declared.error.ParseResult.{ParseResult}
 use Rattle.combine_base.specs.declared.error.ParseResult.TheVariants.{CommitOk, PeekOk, CommitErr, PeekErr}
 use Rattle.combine_base.specs.declared.parser.Parser as parser
@@ -25,7 +24,7 @@ use Rattle.combine_base.specs.declared.stream.Failures.{Failures}
 use Rattle.combine_base.specs.declared.stream.Kind.TheVariants as kinds
 use Rattle.combine_base.specs.declared.stream.StreamOnce as stream
 use Rattle.combine_repeat_iterate.specs.declared.repeat.items.Item.{Item}
-use Rattle.combine_repeat_iterate.specs.Items.{begins_items, starts_valid, valid_item, each, each_from, iterated, last_value, unchanged}
+use Rattle.combine_repeat_iterate.specs.ItemParsers.{begins_items, starts_valid, valid_item, each, each_from, iterated, last_value, unchanged}
 use Rattle.combine_repeat_iterate.specs.ItemCalls.{CalledItem, Stores, item_did, keeps_item, unstored}
 use Rattle.combine_repeat_iterate.specs.ItemErrors.{RefusesIterated, item_refuses, items_refuse, running_refuses}
 use Rattle.combine_repeat_iterate.proofs.ItemErrors.{item_meant, next_refuses}

@@ -5,10 +5,10 @@ use Rattle.combine_base.specs.Parser.Meaning.{Meaning, IsMeaning, Refusing, begu
 use Rattle.combine_base.specs.Parser.Answer.{Answers, World}
 use Rattle.combine_base.specs.Parser.Outcome.{Accepted, Refused}
 use Rattle.combine_base.specs.Parser.Reasons.{Reasoned}
-use Rattle.combine_base.specs.Sequence.Behind.{refusal_into}
+use Rattle.combine_base.specs.Sequence.PartErrors.{refusal_into}
 use Rattle.combine_base.specs.Sequence.Parts.{run_from}
 use Rattle.combine_base.specs.Stream.View.{View}
-use Rattle.combine_base.proofs.Refusing.{refusal_is_meant, refusal_meant}
+use Rattle.combine_base.proofs.Errors.MeantRefusals.{refusal_is_meant, refusal_meant}
 use Rattle.combine_base.specs.declared.stream.Failures.{Failures}
 use Rattle.combine_base.specs.declared.error.ParseResult.{ParseResult}
 use Rattle.combine_repeat_iterate.specs.ItemErrors.{RefusesItem, from_item, item_peeks, item_refuses, items_refuse}

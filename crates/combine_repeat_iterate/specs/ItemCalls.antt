@@ -2,7 +2,7 @@
 use Rattle.std.specs.Prelude.{◌≡◌, ◌⊎◌, ◌||◌, Bool, true, false}
 use Rattle.combine_base.specs.Error.Errors.{Errors}
 use Rattle.combine_base.specs.Parser.Answer.{Answers, world}
-use Rattle.combine_base.specs.Parser.Judged.{NeedsMore}
+use Rattle.combine_base.specs.Parser.DriverAnswers.{NeedsMore}
 use Rattle.combine_base.specs.Parser.Meaning.{MeansSame}
 use Rattle.combine_base.specs.Parser.Reasons.{Reasoned}
 use Rattle.combine_base.specs.Sequence.Parts.{refused_as, run_from}
@@ -14,7 +14,7 @@ use Rattle.combine_base.specs.declared.error.ParseResult.TheVariants.{CommitOk, 
 use Rattle.combine_base.specs.declared.parser.Parser as parser
 use Rattle.combine_base.specs.declared.stream.StreamOnce as stream
 use Rattle.combine_repeat_iterate.specs.ItemErrors.{item_refuses}
-use Rattle.combine_repeat_iterate.specs.Items.{begins_items}
+use Rattle.combine_repeat_iterate.specs.ItemParsers.{begins_items}
 use Rattle.combine_repeat_iterate.specs.declared.repeat.items.Collected.{Collected}
 use Rattle.combine_repeat_iterate.specs.declared.repeat.items.Item.{Item}
 use Rattle.combine_repeat_iterate.specs.declared.repeat.items.Item.TheVariants as items

@@ -3,7 +3,7 @@ use Rattle.std.specs.Prelude.{◌≡◌, ◌⊎◌, Bool, true, false, ◌||◌,
 use Rattle.combine_base.specs.Error.Errors.{Errors}
 use Rattle.combine_base.specs.Parser.Drivers.{Refusal}
 use Rattle.combine_base.specs.Parser.Meaning.{Meaning, Reading, Refusing, refusals, refusals_from}
-use Rattle.combine_base.specs.Sequence.Behind.{RefusesBehind}
+use Rattle.combine_base.specs.Sequence.PartErrors.{RefusesBehind}
 use Rattle.combine_base.specs.Stream.View.{View}
 use Rattle.combine_repeat_iterate.specs.declared.repeat.items.RunningItem.{RunningItem}
 use Rattle.combine_repeat_iterate.specs.declared.repeat.items.IterateState.{IterateState}

@@ -1,12 +1,12 @@
 //! The values of a parser, one after another, and a parser for each item of a list.
 ghost use Rattle.std.specs.Prelude.{◌≡◌, ℕ};
 ghost use Rattle.combine_base.specs.Stream.View.{View, Takes};
-ghost use Rattle.combine_repeat_turns.specs.Bounded.{goes_at};
+ghost use Rattle.combine_repeat_turns.specs.Turns.Bounds.{goes_at};
 ghost use Rattle.combine_repeat_turns.specs.declared.turns.Bounds.TheVariants.{Any};
 ghost use Rattle.combine_base.specs.Error.Results.{standard};
-ghost use Rattle.combine_repeat_iterate.specs.Iterated.{iterate_of};
-ghost use Rattle.combine_repeat_iterate.specs.Turned.{TurnCalled, place_of};
-ghost use Rattle.combine_repeat_iterate.specs.Nexts.{Begins, Nexts, answer_of, answer_with, at_most_left, may_go_on, runs_at};
+ghost use Rattle.combine_repeat_iterate.specs.ListedItems.{iterate_of};
+ghost use Rattle.combine_repeat_iterate.specs.IteratorTurn.{TurnCalled, place_of};
+ghost use Rattle.combine_repeat_iterate.specs.IteratorValues.{Begins, Nexts, answer_of, answer_with, at_most_left, may_go_on, runs_at};
 
 mod items;
 pub mod types;

@@ -1,19 +1,22 @@
--- how elements are gathered
-use Rattle.std.specs.Prelude.{ℕ, ◌≡◌, Option, Some, None}
+-- how elements are gathered, what elements and separators mean, and the laws of that; a first element, and then turns under the rule of `many`
+use Rattle.std.specs.Prelude.{ℕ, ◌≡◌, Option, Some, None, false, ◌↔◌}
 use Rattle.combine_base.specs.Error.Errors.{Errors}
-use Rattle.combine_base.specs.Parser.Meaning.{Meaning}
-use Rattle.combine_repeat_sep.specs.Pair.{pair}
-use Rattle.combine_repeat_turns.specs.Turns.{Collecting}
-use Rattle.combine_repeat_turns.specs.Bounded.{gathered, none_yet}
-use Rattle.combine_repeat_turns.specs.Counts.{never}
-use Rattle.combine_repeat_turns.specs.TurnsMeaning.{turns_from}
-use Rattle.combine_repeat_sep.specs.Separated.{first_element, first_then, later_turn, then_element}
+use Rattle.combine_base.specs.Parser.Meaning.{Meaning, IsMeaning, MeansOne, MeansSame}
+use Rattle.combine_repeat_sep.specs.Pair.{pair, led_is_meaning, led_means_one, led_valid, pair_is_meaning, pair_means_one, pair_means_same}
+use Rattle.combine_repeat_turns.specs.Turns.Blocks.{Collecting}
+use Rattle.combine_repeat_turns.specs.Turns.Bounds.{gathered, none_yet, turns_from, fresh_turns, running_turn, turns_is_meaning, turns_means_one, turns_means_same}
+use Rattle.combine_repeat_turns.specs.Repeat.Repeated.{never}
+use Rattle.combine_repeat_sep.specs.Separated.{first_element, first_then, later_turn, then_element, separated_fresh, separated_valid, then_is_turn, then_once, then_same}
 use Rattle.combine_repeat_turns.specs.declared.turns.Bounds.{Bounds}
 use Rattle.combine_repeat_turns.specs.declared.turns.Bounds.TheVariants.{Joined}
 use Rattle.combine_repeat_turns.specs.declared.turns.TurnsState.{TurnsState}
 use Rattle.combine_repeat_sep.specs.declared.separated.Element.{Element}
 use Rattle.combine_repeat_sep.specs.declared.separated.Element.TheVariants.{First, Then}
 use Rattle.combine_repeat_sep.specs.declared.separated.SeparatedState.{SeparatedState}
+use Rattle.combine_base.specs.Stream.View.{View}
+use Rattle.combine_base.specs.Parser.Outcome.{Outcome}
+use Rattle.combine_base.specs.Sequence.Readings.{following}
+use Rattle.combine_repeat_turns.specs.Repeat.OneThenTurns.{one_then_turns}
 
 -- one more element, whatever its separator gave
 abbrev pub each_element : {O A Held : Type 0} → (Held → A → Held → Type 0) → Held → Element O A → Held → Type 0
@@ -54,3 +57,18 @@ module _ {P T R E O V U W : Type 0} (step : P → T → P) (errors : Errors T R 
   -- an element, and then turns of an operator and an element, folded from the left
   abbrev pub chainl1 : Meaning P T R E V U → Meaning P T R E O W → Meaning P T R E V (TurnsState V (SeparatedState O W U))
   chainl1 = joined step errors (Joined 1 None) (folded post)
+
+module _ {P T R E O A V U W : Type 0} (step : P → T → P) (errors : Errors T R P E) (b : Bounds) (c : Collecting (Element O A) V) where
+  pub joined_is_meaning : (good : O → Type 0) (fresh valid : U → Type 0) (fresh' valid' : W → Type 0) (m : Meaning P T R E A U) (s : Meaning P T R E O W) → IsMeaning fresh valid m → IsMeaning fresh' valid' s → IsMeaning (fresh_turns (separated_fresh fresh)) (λ z. separated_valid valid (led_valid good valid' valid) (running_turn z)) (joined step errors b c m s)
+  joined_is_meaning good fresh valid fresh' valid' m s h k = turns_is_meaning step errors b never c (none_yet c.none) (separated_fresh fresh) (separated_valid valid (led_valid good valid' valid)) (first_then first_element then_element m (pair step errors s m)) (later_turn then_element (pair step errors s m)) (then_is_turn first_element then_element h (led_is_meaning good valid' valid (pair_is_meaning step errors k h)))
+
+  pub joined_means_one : (good : O → Type 0) (valid : U → Type 0) (valid' : W → Type 0) (m : Meaning P T R E A U) (s : Meaning P T R E O W) → MeansOne valid m → MeansOne valid' s → MeansOne (λ (z : TurnsState V (SeparatedState O W U)). separated_valid valid (led_valid good valid' valid) (running_turn z)) (joined step errors b c m s)
+  joined_means_one good valid valid' m s h k = turns_means_one step errors b never c (none_yet c.none) (separated_valid valid (led_valid good valid' valid)) (first_then first_element then_element m (pair step errors s m)) (later_turn then_element (pair step errors s m)) (then_once first_element then_element h (led_means_one good valid' valid (pair_means_one step errors k h)))
+
+  pub joined_means_same : (m m' : Meaning P T R E A U) (s s' : Meaning P T R E O W) → MeansSame m m' → MeansSame s s' → MeansSame (joined step errors b c m s) (joined step errors b c m' s')
+  joined_means_same m m' s s' h k = turns_means_same step errors b never c (none_yet c.none) (first_then first_element then_element m (pair step errors s m)) (first_then first_element then_element m' (pair step errors s' m')) (later_turn then_element (pair step errors s m)) (later_turn then_element (pair step errors s' m')) (then_same first_element then_element m m' (pair step errors s m) (pair step errors s' m') h (pair_means_same step errors k h))
+
+module _ {P T R E O A V U W : Type 0} (step : P → T → P) (errors : Errors T R P E) (c : Collecting A V) (m : Meaning P T R E A U) (s : Meaning P T R E O W) where
+  -- `sep_by1` is an element, and then turns of a separator and an element
+  abbrev pub SepBy1IsOneThenTurns : Type 0
+  SepBy1IsOneThenTurns = (v : View P T) (o : Outcome V) → (sep_by1 step errors c m s).whole v o ↔ one_then_turns step (elements c) (following false first_element m.whole) (later_turn then_element (pair step errors s m)).reads v o

@@ -4,7 +4,7 @@ use Rattle.combine_base.specs.Stream.View.{View}
 use Rattle.combine_base.specs.Parser.Outcome.{Outcome}
 use Rattle.combine_base.specs.Parser.Meaning.{Meaning, Reading, Refusing, SameReasons, IsReading, IsMeaning, MeansOne, MeansSame}
 use Rattle.combine_base.specs.Sequence.Readings.{following, following_is_reading, following_is_single, following_same}
-use Rattle.combine_repeat_turns.specs.Turn.{Start, IsTurn, TurnsSame, EndsOnce, TurnsOnce, never_ends}
+use Rattle.combine_repeat_turns.specs.Turns.Turn.{Start, IsTurn, TurnsSame, EndsOnce, TurnsOnce, never_ends}
 use Rattle.combine_repeat_sep.specs.declared.pair.PairState.{PairState}
 use Rattle.combine_repeat_sep.specs.declared.pair.PairState.TheVariants as pairs
 use Rattle.combine_repeat_sep.specs.declared.separated.Lead.TheVariants as leads

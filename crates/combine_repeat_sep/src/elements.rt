@@ -2,7 +2,7 @@
 ghost use Rattle.std.specs.Prelude.{◌≡◌};
 ghost use Rattle.combine_repeat_sep.specs.Elements.{each_element, folds};
 ghost use Rattle.combine_repeat_sep.specs.Separated.{lead_good};
-ghost use Rattle.combine_repeat_turns.specs.Sound.{any_sound};
+ghost use Rattle.combine_repeat_turns.specs.Turns.SoundValues.{any_sound};
 
 use crate::separated::{Element, Folds};
 use combine_base::repeat::Append;

@@ -3,7 +3,7 @@
 //! They run as a tuple of two does, from a state of their own, whose parts a turn can take apart.
 ghost use Rattle.std.specs.Prelude.{◌≡◌, true};
 ghost use Rattle.combine_base.specs.Parser.Meaning.{MeansSame};
-ghost use Rattle.combine_base.specs.Sequence.Followed.{Follows};
+ghost use Rattle.combine_base.specs.Sequence.SequenceCalls.{Follows};
 ghost use Rattle.combine_base.specs.Sequence.Parts.{CalledLast, CalledRest};
 ghost use Rattle.combine_repeat_sep.specs.Pair.{LedBy, pair_begins, pair_place, pair_valid, put_to};
 

@@ -1,11 +1,11 @@
 //! What runs in each turn: a part, and later a separator and the part.
 ghost use Rattle.std.specs.Prelude.{◌≡◌, false, true};
-ghost use Rattle.combine_base.specs.Parser.Given.{GivesOnly};
+ghost use Rattle.combine_base.specs.Parser.GivenValues.{GivesOnly};
 ghost use Rattle.combine_base.specs.Parser.Meaning.{MeansSame};
 ghost use Rattle.combine_base.specs.Stream.Calls.{Passes};
 ghost use Rattle.combine_repeat_sep.specs.Pair.{LedBy, led_is_meaning, led_means_one, led_valid, pair, pair_begins, pair_is_meaning, pair_means_one, pair_valid};
-ghost use Rattle.combine_repeat_sep.specs.Leads.{separated_gives};
-ghost use Rattle.combine_repeat_sep.specs.RanCalls.{RanCall, RanLaterCall};
+ghost use Rattle.combine_repeat_sep.specs.Separators.{separated_gives};
+ghost use Rattle.combine_repeat_sep.specs.PartCalls.{RanCall, RanLaterCall};
 ghost use Rattle.combine_repeat_sep.specs.Separated.{first_element, first_then, later_kept, later_turn, lead_good, part_of, separated_default, separated_fresh, separated_valid, separator_of, then_element, then_is_turn, then_once, turn_place};
 
 use crate::pair::{PairState, PairStateOf, parse_pair};

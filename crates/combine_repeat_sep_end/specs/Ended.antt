@@ -5,18 +5,18 @@ use Rattle.combine_base.specs.Error.Errors.{Errors}
 use Rattle.combine_base.specs.Stream.View.{View, advanced}
 use Rattle.combine_base.specs.Parser.Outcome.{Outcome, Accepted, Refused, Undecided, shape}
 use Rattle.combine_base.specs.Parser.Meaning.{Meaning, Reading, IsSingle, MeansOne, MeansSame}
-use Rattle.combine_base.specs.Parser.Mapped.{mapped_reading}
-use Rattle.combine_base.specs.Sequence.Joined.{joined}
+use Rattle.combine_base.specs.Parser.ValueMap.{mapped_reading}
+use Rattle.combine_base.specs.Sequence.JoinedOutcome.{joined}
 use Rattle.combine_base.specs.Sequence.Places.{in_place}
 use Rattle.combine_base.specs.Sequence.Readings.{following, following_is_single, sequel, continues}
 use Rattle.combine_base.specs.Sequence.Meanings.{rest_at, independent}
-use Rattle.combine_token.specs.Choice.{Either, Here, Later as Passed}
-use Rattle.combine_token.specs.Optional.{optional, optional_means_one, is_some, nothing, optional_parser}
+use Rattle.combine_token.specs.Choice.Choices.{Either, Here, Later as Passed}
+use Rattle.combine_token.specs.Choice.Optional.{optional, optional_means_one, is_some, nothing, optional_parser}
 use Rattle.combine_base.specs.declared.sequence.SequenceState.{SequenceState}
 use Rattle.combine_base.specs.declared.sequence.SequencePlace.{SequencePlace}
 use Rattle.combine_base.specs.declared.sequence.SequencePlace.TheVariants.{Before, Last}
 use Rattle.combine_token.specs.declared.choice.types.Optional.{Optional}
-use Rattle.combine_repeat_turns.specs.Turn.{EndsOnce, TurnsOnce}
+use Rattle.combine_repeat_turns.specs.Turns.Turn.{EndsOnce, TurnsOnce}
 use Rattle.combine_repeat_sep.specs.Pair.{pair, pair_means_one, pair_place, pair_valid, put_to}
 use Rattle.combine_repeat_sep.specs.Separated.{first_then, kept_reading, later_turn, separated_valid, turn_place, valid_at}
 use Rattle.combine_repeat_sep.specs.declared.separated.TurnPlace.{TurnPlace}

@@ -3,11 +3,9 @@ use Rattle.std.specs.Prelude.{Option, None}
 use Rattle.combine_base.specs.Error.Errors.{Errors}
 use Rattle.combine_base.specs.Parser.Meaning.{Meaning, IsMeaning, MeansOne, MeansSame}
 use Rattle.combine_repeat_sep.specs.Pair.{pair, pair_is_meaning, pair_means_same, pair_valid}
-use Rattle.combine_token.specs.Optional.{optional, optional_is_meaning, optional_means_same}
-use Rattle.combine_repeat_turns.specs.Turns.{Collecting}
-use Rattle.combine_repeat_turns.specs.Bounded.{fresh_turns, none_yet, running_turn}
-use Rattle.combine_repeat_turns.specs.TurnsMeaning.{turns_from}
-use Rattle.combine_repeat_turns.specs.BoundedLaws.{turns_is_meaning, turns_means_one, turns_means_same}
+use Rattle.combine_token.specs.Choice.Optional.{optional, optional_is_meaning, optional_means_same}
+use Rattle.combine_repeat_turns.specs.Turns.Blocks.{Collecting}
+use Rattle.combine_repeat_turns.specs.Turns.Bounds.{fresh_turns, none_yet, running_turn, turns_from, turns_is_meaning, turns_means_one, turns_means_same}
 use Rattle.combine_repeat_sep.specs.Separated.{first_then, later_turn, separated_fresh, separated_valid, then_is_turn, then_same}
 use Rattle.combine_repeat_sep_end.specs.Ended.{ended_once, is_none, last, some_more, some_of}
 use Rattle.combine_repeat_turns.specs.declared.turns.Bounds.{Bounds}

@@ -3,12 +3,12 @@ ghost use Rattle.std.specs.Prelude.{◌≡◌, false, true};
 ghost use Rattle.combine_base.specs.Parser.Meaning.{MeansSame};
 ghost use Rattle.combine_base.specs.Stream.Calls.{Passes};
 ghost use Rattle.combine_repeat_sep.specs.Pair.{pair, pair_begins, pair_is_meaning, pair_valid};
-ghost use Rattle.combine_repeat_sep.specs.RanCalls.{RanCall, RanLaterCall};
+ghost use Rattle.combine_repeat_sep.specs.PartCalls.{RanCall, RanLaterCall};
 ghost use Rattle.combine_repeat_sep.specs.Separated.{first_then, later_turn, separated_default, separated_valid, then_is_turn};
 ghost use Rattle.combine_repeat_sep_end.specs.Ended.{closer_of, ended_once, ended_part, is_none, last, some_more, some_of, within};
-ghost use Rattle.combine_token.specs.Optional.{optional, optional_is_meaning};
-ghost use Rattle.combine_repeat_turns.specs.Sound.{any_sound};
-ghost use Rattle.combine_repeat_turns.specs.Turn.{gives_any};
+ghost use Rattle.combine_token.specs.Choice.Optional.{optional, optional_is_meaning};
+ghost use Rattle.combine_repeat_turns.specs.Turns.SoundValues.{any_sound};
+ghost use Rattle.combine_repeat_turns.specs.Turns.Turn.{gives_any};
 
 use combine_base::error::{ParseResult, Tracked};
 use combine_base::parser::{FirstMode, ParseMode, Parser};

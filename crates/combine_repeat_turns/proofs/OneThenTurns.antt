@@ -1,14 +1,13 @@
 -- turns of which the first is asked for are that one, and then turns under the rule of `many`
 use Rattle.std.proofs.Common.{ℕ, ◌+◌, ◌≡◌, List, [], ◌∷◌, Bool, true, false, ◌||◌, None, arith, ap, sym, refl, ◌∙◌, ◌↔◌}
 use Rattle.combine_base.specs.Stream.View.{View, advanced}
-use Rattle.combine_base.specs.Parser.Outcome.{Outcome, Accepted, Refused, Undecided, after, shape}
-use Rattle.combine_base.specs.Parser.OutcomeFacts.{or_assoc, shape_after}
+use Rattle.combine_base.specs.Parser.Outcome.{Outcome, Accepted, Refused, Undecided, after, shape, or_assoc, shape_after}
 use Rattle.combine_base.specs.Parser.Meaning.{Reading}
-use Rattle.combine_repeat_turns.specs.Turns.{Block, outcome, taken, values, any_committed, Stops, Collecting, Folds, Divides, Collects, Turned}
-use Rattle.combine_repeat_turns.specs.Bounded.{bounded, judged, none_yet}
-use Rattle.combine_repeat_turns.specs.Counts.{never}
-use Rattle.combine_repeat_turns.proofs.Turning.{collects_after}
-use Rattle.combine_repeat_turns.specs.OneThenTurns.{one_then_turns, then_turns}
+use Rattle.combine_repeat_turns.specs.Turns.Blocks.{Block, outcome, taken, values, any_committed, Stops, Collecting, Folds, Divides, Collects, Turned}
+use Rattle.combine_repeat_turns.specs.Turns.Bounds.{bounded, judged, none_yet}
+use Rattle.combine_repeat_turns.specs.Repeat.Repeated.{never}
+use Rattle.combine_repeat_turns.proofs.TurnSteps.{collects_after}
+use Rattle.combine_repeat_turns.specs.Repeat.OneThenTurns.{one_then_turns, then_turns}
 use Rattle.combine_repeat_turns.specs.declared.turns.Bounds.TheVariants.{Any, Joined}
 use Rattle.combine_repeat_turns.specs.declared.turns.Place.{Place}
 

@@ -1,16 +1,15 @@
 -- the turns of one call: each goes on, and each way out is an answer of what runs them
 use Rattle.std.proofs.Common.{ℕ, ◌+◌, ◌≤◌, ◌<◌, ◌≡◌, ◌⊎◌, inl, inr, Bool, true, false, ◌||◌, length, drop, arith, ap, sym, refl, ◌∙◌, length-drop}
 use Rattle.combine_base.specs.Stream.View.{View, Takes}
-use Rattle.combine_base.specs.Parser.Outcome.{Outcome, Accepted, Refused, Undecided, after, shape}
-use Rattle.combine_base.specs.Parser.OutcomeFacts.{or_true, or_false}
+use Rattle.combine_base.specs.Parser.Outcome.{Outcome, Accepted, Refused, Undecided, after, shape, or_true, or_false}
 use Rattle.combine_base.specs.Parser.Meaning.{Meaning, Reading, IsReading, begun}
 use Rattle.combine_base.specs.Parser.Answer.{Run, World, Answers, Accepts, Refuses, Asks, Leaves, fails, peeks, ends, loses}
 use Rattle.combine_base.specs.Sequence.Parts.{accepted_as, refused_as}
 use Rattle.combine_base.specs.Refusals.{Told}
-use Rattle.combine_base.proofs.Progress.{Progress, takes_more, takes_open, progress_more, progress_outcome, resumes_more, takes_none}
-use Rattle.combine_base.proofs.Calls.{around, Settles, settles, unreset}
-use Rattle.combine_repeat_turns.specs.Turns.{Goes, Stops, Rule, IsRule, Collecting, SoFar, Collects, Turned}
-use Rattle.combine_repeat_turns.proofs.Turning.{turned_stop, turned_block, turned_cut, after_a_block, after_a_cut}
+use Rattle.combine_base.proofs.Parsers.Progress.{Progress, takes_more, takes_open, progress_more, progress_outcome, resumes_more, takes_none}
+use Rattle.combine_base.proofs.Errors.CallErrors.{around, Settles, settles, unreset}
+use Rattle.combine_repeat_turns.specs.Turns.Blocks.{Goes, Stops, Rule, IsRule, Collecting, SoFar, Collects, Turned}
+use Rattle.combine_repeat_turns.proofs.TurnSteps.{turned_stop, turned_block, turned_cut, after_a_block, after_a_cut}
 use Rattle.combine_base.specs.declared.stream.Kind.{Kind}
 use Rattle.combine_base.specs.declared.stream.Kind.TheVariants as kinds
 use Rattle.combine_base.specs.declared.stream.Failures.{Failures}

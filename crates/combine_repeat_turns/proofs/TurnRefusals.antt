@@ -2,22 +2,19 @@
 use Rattle.std.proofs.Common.{ℕ, ◌≡◌, [], ◌∷◌, Bool, true, false, ◌||◌, if◌then◌else◌, refl, sym, subst, ◌∙◌, None}
 use Rattle.combine_base.specs.Error.Errors.{Errors}
 use Rattle.combine_base.specs.Parser.Answer.{Run, World}
-use Rattle.combine_base.specs.Parser.Judged.{IsRefusal}
+use Rattle.combine_base.specs.Parser.DriverAnswers.{IsRefusal}
 use Rattle.combine_base.specs.Parser.Meaning.{Meaning, MeansSame, begun_refuses, MeantRefusal}
-use Rattle.combine_base.specs.Parser.Outcome.{Accepted}
-use Rattle.combine_base.specs.Parser.OutcomeFacts.{or_true, or_false}
+use Rattle.combine_base.specs.Parser.Outcome.{Accepted, or_true, or_false}
 use Rattle.combine_base.specs.Parser.Reasons.{ReasonedCall, refused_with}
 use Rattle.combine_base.specs.Sequence.Parts.{accepted_as, refused_as}
 use Rattle.combine_base.specs.Stream.View.{View, advanced}
 use Rattle.combine_base.specs.declared.error.ParseResult.TheVariants.{CommitErr, PeekErr}
 use Rattle.combine_base.specs.declared.error.Tracked.{Tracked}
-use Rattle.combine_repeat_turns.specs.Bounded.{full_at, goes_at, judged, kept_or, next_of, none_yet, running_turn, so_far, so_far_or}
-use Rattle.combine_repeat_turns.specs.FirstTurn.{FirstGoes}
-use Rattle.combine_repeat_turns.specs.OneTurn.{GoesOn, stopped_answer}
-use Rattle.combine_repeat_turns.specs.Turn.{Start, called, from_start, from_state, started}
-use Rattle.combine_repeat_turns.specs.TurnRefusals.{Missing, Own, RefusesHere, RefusesOnward, StartsInto, StopRefuses, here_into}
-use Rattle.combine_repeat_turns.specs.Turns.{Collecting, Goes, SoFar}
-use Rattle.combine_repeat_turns.specs.TurnsMeaning.{turns_from}
+use Rattle.combine_repeat_turns.specs.Turns.Bounds.{full_at, goes_at, judged, kept_or, next_of, none_yet, running_turn, so_far, so_far_or, Missing, Own, RefusesHere, RefusesOnward, StartsInto, StopRefuses, here_into, turns_from}
+use Rattle.combine_repeat_turns.specs.Turns.FirstTurn.{FirstGoes}
+use Rattle.combine_repeat_turns.specs.Turns.OneTurn.{GoesOn, stopped_answer}
+use Rattle.combine_repeat_turns.specs.Turns.Turn.{Start, called, from_start, from_state, started}
+use Rattle.combine_repeat_turns.specs.Turns.Blocks.{Collecting, Goes, SoFar}
 use Rattle.combine_repeat_turns.specs.declared.turns.Bounds.{Bounds}
 use Rattle.combine_repeat_turns.specs.declared.turns.Bounds.TheVariants.{Joined}
 use Rattle.combine_repeat_turns.specs.declared.turns.Earlier.{Earlier}
@@ -27,8 +24,8 @@ use Rattle.combine_repeat_turns.specs.declared.turns.Stop.{Stop}
 use Rattle.combine_repeat_turns.specs.declared.turns.Stop.TheVariants as stop
 use Rattle.combine_repeat_turns.specs.declared.turns.Turns.{Turns as Kept}
 use Rattle.combine_repeat_turns.specs.declared.turns.TurnsState.{TurnsState}
-use Rattle.combine_repeat_turns.proofs.Beginning.{first_place}
-use Rattle.combine_repeat_turns.proofs.Repeating.{judged_goes}
+use Rattle.combine_repeat_turns.proofs.FirstTurn.{first_place}
+use Rattle.combine_repeat_turns.proofs.RepeatCalls.{judged_goes}
 
 -- turns at the same place, behind the same ones
 module _ {P T R A E : Type 0} (step : P → T → P) (errors : Errors T R P E) (b : Bounds) (ending : A → Bool) (later s : Start P T E A) (v w : View P T) (committed : Bool) (e : E) where

@@ -1,8 +1,8 @@
 //! The same parser in each turn, and each value appended or dropped.
 ghost use Rattle.std.specs.Prelude.{◌≡◌, false, true};
-ghost use Rattle.combine_repeat_turns.specs.Sound.{any_sound};
-ghost use Rattle.combine_repeat_turns.specs.Turn.{from_start, gives_any, plain_is_turn, plain_once};
-ghost use Rattle.combine_repeat_turns.specs.RepeatParsers.{each_of, plain_parser};
+ghost use Rattle.combine_repeat_turns.specs.Turns.SoundValues.{any_sound};
+ghost use Rattle.combine_repeat_turns.specs.Turns.Turn.{from_start, gives_any, plain_is_turn, plain_once};
+ghost use Rattle.combine_repeat_turns.specs.Repeat.RepeatParsers.{each_of, plain_parser};
 
 use crate::turns::{Collect, Gather, Gathers, Turn};
 use combine_base::error::{ParseResult, Tracked};

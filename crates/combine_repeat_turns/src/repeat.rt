@@ -10,7 +10,7 @@
 //!
 //! Which error a refusal has is exact: that of a turn that is refused committed, or one that says how many turns are missing, at the place where the last turn was begun or resumed. A turn's own error is one that the parser refuses with.
 ghost use Rattle.std.specs.Prelude.{◌≡◌, ◌≤◌};
-ghost use Rattle.combine_repeat_turns.specs.RepeatParsers.{count_min_max_of, skip_count_min_max_of};
+ghost use Rattle.combine_repeat_turns.specs.Repeat.RepeatParsers.{count_min_max_of, skip_count_min_max_of};
 
 pub mod laws;
 pub mod types;

@@ -9,13 +9,11 @@ ghost use Rattle.combine_base.specs.Error.Items.{Count, Message};
 ghost use Rattle.combine_base.specs.Refusals.{Saying, Told};
 ghost use Rattle.combine_base.specs.Sequence.Parts.{accepted_as, refused_as};
 ghost use Rattle.std.specs.Prelude.{None};
-ghost use Rattle.combine_repeat_turns.specs.OneTurn.{IsGathered, stopped_answer, stopped_state};
-ghost use Rattle.combine_repeat_turns.specs.Sound.{LeavesSound, kept_sound};
-ghost use Rattle.combine_repeat_turns.specs.TurnRefusals.{FirstRefuses, JudgesRefusal, StepRefuses};
-ghost use Rattle.combine_repeat_turns.specs.Turn.{TurnsSame, called, started};
-ghost use Rattle.combine_repeat_turns.specs.TurnCalls.{FirstTurnCall, HaltsCall, OneTurnCall, TurnsCall};
-ghost use Rattle.combine_repeat_turns.specs.TurnsMeaning.{turns_from};
-ghost use Rattle.combine_repeat_turns.specs.Bounded.{gathered, cut_at, counted, fresh_turns, kept_or, none_yet, running_turn, so_far};
+ghost use Rattle.combine_repeat_turns.specs.Turns.OneTurn.{IsGathered, stopped_answer, stopped_state};
+ghost use Rattle.combine_repeat_turns.specs.Turns.SoundValues.{LeavesSound, kept_sound};
+ghost use Rattle.combine_repeat_turns.specs.Turns.Bounds.{FirstRefuses, JudgesRefusal, StepRefuses, turns_from, gathered, cut_at, counted, fresh_turns, kept_or, none_yet, running_turn, so_far};
+ghost use Rattle.combine_repeat_turns.specs.Turns.Turn.{TurnsSame, called, started};
+ghost use Rattle.combine_repeat_turns.specs.Turns.TurnCalls.{FirstTurnCall, HaltsCall, OneTurnCall, TurnsCall};
 ghost use Rattle.combine_repeat_turns.specs.declared.turns.Bounds.TheVariants.{Joined};
 
 mod entry;
@@ -39,7 +37,7 @@ pub trait Turn<Input: Stream> {
     ghost use Rattle.combine_base.specs.Parser.Reasons.{ReasonedCall};
     ghost use Rattle.combine_base.specs.Error.Errors.{Says};
     ghost use Rattle.combine_base.specs.Stream.Calls.{Passes};
-    ghost use Rattle.combine_repeat_turns.specs.Turn.{Start, TurnsSame, TurnsOnce, TurnsGive, IsTurn, called};
+    ghost use Rattle.combine_repeat_turns.specs.Turns.Turn.{Start, TurnsSame, TurnsOnce, TurnsGive, IsTurn, called};
 
     /// What a turn gives.
     type Value: Drop;
@@ -112,7 +110,7 @@ pub trait Gathers {
 /// How what turns give is gathered.
 pub trait Gather<A>: Gathers {
     ghost use Rattle.std.specs.Prelude.{◌≡◌, MatchResult};
-    ghost use Rattle.combine_repeat_turns.specs.Sound.{KeepsSound};
+    ghost use Rattle.combine_repeat_turns.specs.Turns.SoundValues.{KeepsSound};
 
     ghost Held: { Type 0 };
 

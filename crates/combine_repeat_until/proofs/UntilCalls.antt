@@ -2,17 +2,16 @@
 use Rattle.std.proofs.Common.{ℕ, ◌+◌, ◌<◌, ◌≤◌, ◌≡◌, ◌⊎◌, inl, inr, List, [], ◌∷◌, Bool, true, false, ◌||◌, ◌&&◌, Option, Some, None, length, arith, ap, sym, subst, refl, ◌∙◌, length-append, nat_lt, lt-ltb, ltb-true}
 use Rattle.combine_base.specs.Stream.View.{View, Takes, Moves, advanced, extended, Follows}
 use Rattle.combine_base.specs.Stream.Advance.{advanced_twice, advanced_extended, extended_none, follows_none, stands}
-use Rattle.combine_base.specs.Parser.Outcome.{Outcome, Accepted, Refused, Undecided, after, shape}
-use Rattle.combine_base.specs.Parser.OutcomeFacts.{or_true, or_false, or_assoc}
+use Rattle.combine_base.specs.Parser.Outcome.{Outcome, Accepted, Refused, Undecided, after, shape, or_true, or_false, or_assoc}
 use Rattle.combine_base.specs.Parser.Meaning.{Meaning, Reading, IsReading, IsMeaning, MeansSame, begun}
 use Rattle.combine_base.specs.Parser.Answer.{Run, World, Answers, Accepts, Refuses, Asks, Leaves, fails, peeks, loses}
 use Rattle.combine_base.specs.Parser.Drivers.{Broke}
 use Rattle.combine_base.specs.Distances.{stops}
 use Rattle.combine_base.specs.Error.Errors.{Errors}
 use Rattle.combine_base.specs.Sequence.Parts.{accepted_as}
-use Rattle.combine_base.proofs.Progress.{takes_more, takes_none, takes_open, after_none}
-use Rattle.combine_base.proofs.Calls.{around, need_of_more, needs, same_mark as marks_same, settles}
-use Rattle.combine_base.proofs.Same.{answers_same}
+use Rattle.combine_base.proofs.Parsers.Progress.{takes_more, takes_none, takes_open, after_none}
+use Rattle.combine_base.proofs.Errors.CallErrors.{around, need_of_more, needs, same_mark as marks_same, settles}
+use Rattle.combine_base.proofs.Parsers.SameMeanings.{answers_same}
 use Rattle.combine_base.specs.declared.stream.Kind.{Kind}
 use Rattle.combine_base.specs.declared.stream.Kind.TheVariants as kinds
 use Rattle.combine_base.specs.declared.stream.Failures.{Failures}
@@ -20,10 +19,8 @@ use Rattle.combine_base.specs.declared.error.Tracked.{Tracked}
 use Rattle.combine_base.specs.declared.error.ParseResult.{ParseResult}
 use Rattle.combine_base.specs.declared.error.ParseResult.TheVariants.{CommitErr, PeekErr}
 use Rattle.combine_combinator.specs.Attempt.{Loses, Short, Within, losing}
-use Rattle.combine_repeat_turns.specs.Turns.{Block, outcome, taken, values, any_committed, Goes, Stops, Collecting, SoFar, Folds, Divides, Collects}
-use Rattle.combine_repeat_until.specs.Until.{block_at, until_judged, until_rule, stop_at, stopped_at, Until, no_blocks, blocks_so_far, until_fresh, until_valid}
-use Rattle.combine_repeat_until.specs.UntilLaws.{until_is_rule, until_into}
-use Rattle.combine_repeat_until.specs.UntilMeaning.{until, until_lost}
+use Rattle.combine_repeat_turns.specs.Turns.Blocks.{Block, outcome, taken, values, any_committed, Goes, Stops, Collecting, SoFar, Folds, Divides, Collects}
+use Rattle.combine_repeat_until.specs.Until.{block_at, until_judged, until_rule, stop_at, stopped_at, Until, no_blocks, blocks_so_far, until_fresh, until_valid, until_is_rule, until_into, until, until_lost}
 use Rattle.combine_repeat_until.specs.UntilTurn.{Afresh, HandsOut, handed, Comes, GoesOn, EndsHere, NeedsMore, HasFailed, InTurn, TakesNothing, Unstored, Unreset, OneTurn, halted, turned, HasKept, HasBroken, Keeps, KeepsRunning, Settled}
 use Rattle.combine_repeat_until.specs.declared.until.Blocks.{Blocks}
 use Rattle.combine_repeat_until.specs.declared.until.Kept.{Kept}

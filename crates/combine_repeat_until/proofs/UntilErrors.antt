@@ -4,28 +4,25 @@ use Rattle.combine_base.specs.Error.Errors.{Errors}
 use Rattle.combine_base.specs.Distances.{stops}
 use Rattle.combine_base.specs.Parser.Answer.{World, Run, Asks, world}
 use Rattle.combine_base.specs.Parser.Drivers.{Broke}
-use Rattle.combine_base.specs.Parser.Judged.{IsRefusal}
+use Rattle.combine_base.specs.Parser.DriverAnswers.{IsRefusal}
 use Rattle.combine_base.specs.Parser.Meaning.{Meaning, IsMeaning, MeansSame, begun, begun_refuses, MeantRefusal}
 use Rattle.combine_base.specs.Parser.Outcome.{Accepted, Refused}
 use Rattle.combine_base.specs.Parser.Reasons.{Reasoned}
-use Rattle.combine_base.specs.Sequence.Behind.{refusal_into}
+use Rattle.combine_base.specs.Sequence.PartErrors.{refusal_into}
 use Rattle.combine_base.specs.Stream.View.{View, Takes, advanced}
-use Rattle.combine_base.proofs.Calls.{need_of_more, same_mark as marks_same}
-use Rattle.combine_base.proofs.Progress.{takes_more, takes_open}
-use Rattle.combine_base.proofs.Reasoning.{reasons_accepted, reasons_committed, reasons_fault, reasons_need, reasons_peeked}
+use Rattle.combine_base.proofs.Errors.CallErrors.{need_of_more, same_mark as marks_same}
+use Rattle.combine_base.proofs.Parsers.Progress.{takes_more, takes_open}
+use Rattle.combine_base.proofs.Errors.CallReasons.{reasons_accepted, reasons_committed, reasons_fault, reasons_need, reasons_peeked}
 use Rattle.combine_base.specs.declared.error.ParseResult.{ParseResult}
 use Rattle.combine_base.specs.declared.error.ParseResult.TheVariants.{CommitErr}
 use Rattle.combine_base.specs.declared.stream.Failures.{Failures}
 use Rattle.combine_base.specs.declared.stream.Kind.{Kind}
 use Rattle.combine_base.specs.declared.stream.Kind.TheVariants as kinds
 use Rattle.combine_combinator.specs.Attempt.{losing}
-use Rattle.combine_repeat_turns.specs.Turn.{Start, from_start, from_state, started}
-use Rattle.combine_repeat_turns.specs.TurnRefusals.{StartsInto}
-use Rattle.combine_repeat_turns.specs.Turns.{Block, Collecting}
-use Rattle.combine_repeat_until.specs.Until.{block_at}
-use Rattle.combine_repeat_until.specs.UntilErrors.{RefusesUntil, blocks_refuse, place_refuses}
-use Rattle.combine_repeat_until.specs.UntilLaws.{blocks_into, place_into}
-use Rattle.combine_repeat_until.specs.UntilMeaning.{until}
+use Rattle.combine_repeat_turns.specs.Turns.Turn.{Start, from_start, from_state, started}
+use Rattle.combine_repeat_turns.specs.Turns.Bounds.{StartsInto}
+use Rattle.combine_repeat_turns.specs.Turns.Blocks.{Block, Collecting}
+use Rattle.combine_repeat_until.specs.Until.{block_at, RefusesUntil, blocks_refuse, place_refuses, blocks_into, place_into, until}
 use Rattle.combine_repeat_until.specs.UntilTurn.{Afresh, HandsOut, handed, NeedsMore, HasKept, HasBroken, Keeps, RefusesTurn, Settled, halted, stop_says}
 use Rattle.combine_repeat_until.specs.declared.until.Blocks.{Blocks}
 use Rattle.combine_repeat_until.specs.declared.until.Kept.{Kept}

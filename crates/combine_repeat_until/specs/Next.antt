@@ -5,14 +5,14 @@ use Rattle.std.specs.declared.cmp.Ordering.{Ordering}
 use Rattle.combine_base.specs.Error.Errors.{Errors}
 use Rattle.combine_base.specs.Stream.View.{View}
 use Rattle.combine_base.specs.Parser.Outcome.{Accepted, Refused}
-use Rattle.combine_base.specs.Parser.Mapped.{mapped, mapped_reading, mapped_means_one, mapped_is_meaning}
+use Rattle.combine_base.specs.Parser.ValueMap.{mapped, mapped_reading, mapped_means_one, mapped_is_meaning}
 use Rattle.combine_base.specs.Parser.Meaning.{Meaning, Reading, IsSingle, IsMeaning, MeansOne}
-use Rattle.combine_combinator.specs.Picks.{Picks}
-use Rattle.combine_token.specs.Choice.{Either, Here, Later, refused}
-use Rattle.combine_token.specs.Or.{either_of, or_is_meaning, or_means_one, or_valid}
+use Rattle.combine_combinator.specs.ValueParts.{Picks}
+use Rattle.combine_token.specs.Choice.Choices.{Either, Here, Later, refused}
+use Rattle.combine_token.specs.Choice.Or.{either_of, or_is_meaning, or_means_one, or_valid}
 use Rattle.combine_token.specs.declared.choice.OrState.{OrState}
 use Rattle.combine_token.specs.declared.choice.OrState.TheVariants as running
-use Rattle.combine_repeat_turns.specs.Turn.{EndsOnce, TurnsOnce, from_start}
+use Rattle.combine_repeat_turns.specs.Turns.Turn.{EndsOnce, TurnsOnce, from_start}
 use Rattle.combine_repeat_until.specs.Until.{is_none}
 
 -- a value that is dropped, and one that is kept

@@ -1,13 +1,13 @@
--- what the calls promise of which blocks up to a place are made
+-- what the calls promise of which blocks up to a place are made; the call of a turn, by the stream before and after it
 use Rattle.std.specs.Prelude.{ℕ, ◌+◌, ◌<◌, ◌≡◌, ◌⊎◌, Bool, true, false, ◌||◌, ◌&&◌, nat_lt, Option, Some, None, Result, Ok, Err}
 use Rattle.combine_base.specs.Stream.View.{View, Takes, Moves}
 use Rattle.combine_base.specs.Distances.{stops}
 use Rattle.combine_base.specs.Error.Errors.{Errors}
 use Rattle.combine_base.specs.Parser.Drivers.{Broke, Refusal}
-use Rattle.combine_base.specs.Parser.Judged.{IsRefusal}
+use Rattle.combine_base.specs.Parser.DriverAnswers.{IsRefusal}
 use Rattle.combine_base.specs.Parser.Meaning.{Meaning, begun, begun_refuses, MeantRefusal}
 use Rattle.combine_base.specs.Parser.Outcome.{Accepted}
-use Rattle.combine_base.specs.Parser.Answer.{Run, World, Answers, Accepts, Leaves}
+use Rattle.combine_base.specs.Parser.Answer.{Run, World, Answers, Accepts, Leaves, world}
 use Rattle.combine_base.specs.Refusals.{Told}
 use Rattle.combine_base.specs.Sequence.Parts.{accepted_as}
 use Rattle.combine_base.specs.declared.error.ParseResult.{ParseResult}
@@ -15,10 +15,9 @@ use Rattle.combine_base.specs.declared.error.ParseResult.TheVariants.{CommitErr,
 use Rattle.combine_base.specs.declared.stream.Failures.{Failures}
 use Rattle.combine_base.specs.declared.stream.Kind.{Kind}
 use Rattle.combine_base.specs.declared.stream.Kind.TheVariants as kinds
-use Rattle.combine_repeat_turns.specs.Turn.{started}
-use Rattle.combine_repeat_turns.specs.Turns.{Collecting}
-use Rattle.combine_repeat_until.specs.Until.{blocks_so_far}
-use Rattle.combine_repeat_until.specs.UntilErrors.{place_refuses}
+use Rattle.combine_repeat_turns.specs.Turns.Turn.{started}
+use Rattle.combine_repeat_turns.specs.Turns.Blocks.{Collecting}
+use Rattle.combine_repeat_until.specs.Until.{blocks_so_far, place_refuses}
 use Rattle.combine_repeat_until.specs.declared.until.Blocks.{Blocks}
 use Rattle.combine_repeat_until.specs.declared.until.Kept.{Kept}
 use Rattle.combine_repeat_until.specs.declared.until.Step.{Step}
@@ -27,6 +26,8 @@ use Rattle.combine_repeat_until.specs.declared.until.Stop.{Stop}
 use Rattle.combine_repeat_until.specs.declared.until.Stop.TheVariants as stop
 use Rattle.combine_repeat_until.specs.declared.until.UntilState.{UntilState}
 use Rattle.combine_repeat_until.specs.declared.until.UntilState.TheVariants.{Begin, At}
+use Rattle.combine_base.specs.Parser.AnswersCalls.{run_between}
+use Rattle.combine_base.specs.declared.stream.StreamOnce as stream
 
 -- nothing is read yet
 pub record Afresh {V S : Type 0} (fresh : S → Type 0) (into : V) (k : Kept V S) : Type 0 where
@@ -168,3 +169,7 @@ module _ {P T E V S : Type 0} (steady : Type 0) (step : P → T → P) (kind : E
 -- a state is left as it was, or keeps the running part's
 pub record KeepsRunning {V S : Type 0} (running : S) (given left : UntilState V S) : Type 0 where
   pub is : (left ≡ given) ⊎ ((k : Kept V S) × (left ≡ At k) × (k.running ≡ running))
+
+module _ {Input P T R A V S E : Type 0} (i : stream.Ghosts Input T R P E) (seen : Errors T R P E) (fresh : S → Type 0) where
+  abbrev pub OneTurnCall : Meaning P T R E (Option A) S → Collecting (Option A) V → (first : Bool) (from left : S) (input after : Input) → (View P T → Type 0) → Blocks V → Step V E → Type 0
+  OneTurnCall m c first from left input after marked blocks result = OneTurn (world i.step seen i.steady fresh) m c (run_between i first from left input after) marked blocks result

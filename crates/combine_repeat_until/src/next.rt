@@ -1,6 +1,6 @@
 //! What runs at each place of a repetition up to a place: the parser that ends it, or else that of a block.
 ghost use Rattle.std.specs.Prelude.{◌≡◌};
-ghost use Rattle.combine_token.specs.Or.{or_valid};
+ghost use Rattle.combine_token.specs.Choice.Or.{or_valid};
 ghost use Rattle.combine_repeat_until.specs.Next.{next, next_is_meaning, next_means_one};
 ghost use Rattle.combine_repeat_until.specs.UntilParsers.{next_end, next_of, next_part};
 

@@ -7,10 +7,8 @@ ghost use Rattle.combine_base.specs.Sequence.Parts.{accepted_as};
 ghost use Rattle.combine_base.specs.Stream.Calls.{Passes};
 ghost use Rattle.combine_base.specs.Stream.View.{Takes, View};
 ghost use Rattle.combine_combinator.specs.Attempt.{losing};
-ghost use Rattle.combine_repeat_until.specs.Until.{blocks_so_far, some_appended, until_fresh, until_valid};
-ghost use Rattle.combine_repeat_until.specs.UntilMeaning.{until};
-ghost use Rattle.combine_repeat_until.specs.UntilCalls.{OneTurnCall};
-ghost use Rattle.combine_repeat_until.specs.UntilTurn.{ComesTo, HandsOut, Keeps, KeepsRunning, RefusesTurn, Settled};
+ghost use Rattle.combine_repeat_until.specs.Until.{blocks_so_far, some_appended, until_fresh, until_valid, until};
+ghost use Rattle.combine_repeat_until.specs.UntilTurn.{OneTurnCall, ComesTo, HandsOut, Keeps, KeepsRunning, RefusesTurn, Settled};
 
 use combine_base::distance::{measure, pass_over};
 use combine_base::error::{ParseResult, Tracked};

@@ -4,16 +4,15 @@ use Rattle.combine_base.specs.Error.Errors.{Errors}
 use Rattle.combine_base.specs.Parser.Answer.{Accepts, Answers, world}
 use Rattle.combine_base.specs.Parser.Meaning.{Meaning, IsMeaning, refusals, refusals_begin, refusals_from}
 use Rattle.combine_base.specs.Parser.Reasons.{ReasonedCall}
-use Rattle.combine_base.specs.Sequence.Behind.{RefusesLast, last_into}
+use Rattle.combine_base.specs.Sequence.PartErrors.{RefusesLast, last_into}
 use Rattle.combine_base.specs.Sequence.Parts.{run_from}
-use Rattle.combine_base.proofs.Refusing.{reasoned_at_rest, reasoned_error, reasoned_into, reasoned_meant, reasoned_refusal, runs_reasons}
+use Rattle.combine_base.proofs.Errors.MeantRefusals.{reasoned_at_rest, reasoned_error, reasoned_into, reasoned_meant, reasoned_refusal, runs_reasons}
 use Rattle.combine_base.specs.declared.error.ParseResult.{ParseResult}
 use Rattle.combine_base.specs.declared.error.ParseResult.TheVariants.{CommitErr, PeekErr}
 use Rattle.combine_base.specs.declared.error.Tracked.{Tracked}
 use Rattle.combine_base.specs.declared.parser.Parser as parser
 use Rattle.combine_base.specs.declared.stream.StreamOnce as stream
-use Rattle.combine_sequence.specs.Answered.{then}
-use Rattle.combine_sequence.specs.Thens.{CalledAnswered}
+use Rattle.combine_sequence.specs.Then.{then, CalledAnswered}
 use Rattle.combine_sequence.specs.declared.sequence.answered.state.Answering.{Answering}
 use Rattle.combine_sequence.specs.declared.sequence.answered.state.AnsweredState.{AnsweredState}
 use Rattle.combine_sequence.specs.declared.sequence.answered.state.AnsweredState.TheVariants.{First, Second}

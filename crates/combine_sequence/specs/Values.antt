@@ -1,7 +1,7 @@
 -- one value of a sequence
 use Rattle.std.specs.Prelude.{◌≡◌}
 use Rattle.combine_base.specs.Error.Errors.{Errors}
-use Rattle.combine_base.specs.Parser.Mapped.{mapped}
+use Rattle.combine_base.specs.Parser.ValueMap.{mapped}
 use Rattle.combine_base.specs.Parser.Meaning.{Meaning}
 use Rattle.combine_base.specs.Sequence.Tuples.{tuple_2, tuple_3}
 use Rattle.combine_base.specs.declared.sequence.SequenceState.{SequenceState}

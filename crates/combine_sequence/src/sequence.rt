@@ -2,8 +2,8 @@
 //!
 //! Of `with`, `skip`, `between` and `struct_parser!` what is taken, refusals, faults, need of more, errors and states are those of the tuple.
 ghost use Rattle.std.specs.Prelude.{◌≡◌};
-ghost use Rattle.combine_combinator.specs.Parsers.{picked_of};
-ghost use Rattle.combine_sequence.specs.Answered.{then_of, then_partial_of, then_ref_of};
+ghost use Rattle.combine_combinator.specs.CombinatorParsers.{picked_of};
+ghost use Rattle.combine_sequence.specs.Then.{then_of, then_partial_of, then_ref_of};
 
 mod answered;
 pub mod laws;

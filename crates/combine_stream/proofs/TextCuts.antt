@@ -6,10 +6,10 @@ use Rattle.std.proofs.Math.Utf8.{scalar, scalars, encodes}
 use Rattle.std.specs.Char.{len_utf8}
 use Rattle.std.specs.Str.{chars, IsUtf8, IsCharBoundary}
 use Rattle.combine_base.specs.Stream.View.{Takes, after_all}
-use Rattle.combine_stream.specs.Ranges.{size_of, Place, Inside}
+use Rattle.combine_stream.specs.Range.Ranges.{size_of, Place, Inside}
 use Rattle.combine_base.specs.Stream.Texts.{text_view, less_char}
-use Rattle.combine_stream.specs.TextRanges.{text_of, size_encodes}
-use Rattle.combine_stream.proofs.Slicing.{left_after}
+use Rattle.combine_stream.specs.Range.TextRanges.{text_of, size_encodes}
+use Rattle.combine_stream.proofs.SliceLengths.{left_after}
 
 pub text_size : (bytes : List ℕ) → IsUtf8 bytes → length bytes ≡ size_of len_utf8 (chars bytes)
 text_size bytes u = ap length (sym (encodes-chars bytes u)) ∙ size_encodes (chars bytes)

@@ -4,9 +4,9 @@ use Rattle.std.proofs.lemmas.List.{take_all, take_at, drop_at, take-append-drop,
 use Rattle.std.proofs.lemmas.Str.{chars-append, chars_from_encodes, encodes-chars, encodes-append, scalars-chars, IsUtf8-take, IsCharBoundary-from_take}
 use Rattle.std.proofs.Math.Utf8.{scalar, scalars, encodes}
 use Rattle.std.specs.Str.{chars, IsUtf8, IsCharBoundary}
-use Rattle.combine_base.proofs.Characters.{few_chars}
-use Rattle.combine_stream.specs.Lines.{Fits, behind, feeds, has_feed, last_line}
-use Rattle.combine_stream.specs.TextWindows.{index_of, chars_later}
+use Rattle.combine_base.proofs.Streams.FirstCharacter.{few_chars}
+use Rattle.combine_stream.specs.Position.Lines.{Fits, behind, feeds, has_feed, last_line}
+use Rattle.combine_stream.specs.Range.TextWindows.{index_of, chars_later}
 
 -- a place before another one is a place of what stands before that
 pub place_inside : (bytes : List ℕ) (c d : ℕ) → IsUtf8 bytes → IsCharBoundary bytes c → IsCharBoundary bytes d → c ≤ d → IsCharBoundary (take d bytes) c

@@ -1,8 +1,8 @@
 //! A stream of which a read or a reset fails.
 ghost use Rattle.std.specs.Prelude.{◌≡◌};
 ghost use Rattle.combine_base.specs.Stream.Calls.{Passes, ResetTo, Uncons};
-ghost use Rattle.combine_stream.specs.Failing.{CountsCall, due_at, failed, failures_of, fails_next, one_call, read_due, reset_due, wrapped};
-ghost use Rattle.combine_stream.specs.Ranges.{UnconsRange, UnconsWhile};
+ghost use Rattle.combine_stream.specs.FailingCalls.{CountsCall, due_at, failed, failures_of, fails_next, one_call, read_due, reset_due, wrapped};
+ghost use Rattle.combine_stream.specs.Range.Ranges.{UnconsRange, UnconsWhile};
 
 use crate::MaybePartialStream;
 use crate::position::{SliceStream, TextStream};

@@ -2,7 +2,7 @@
 ghost use Rattle.std.specs.Prelude.{◌≡◌, ℕ, ◌<◌, List, length, take};
 ghost use Rattle.combine_base.specs.Stream.View.{View, Ahead};
 ghost use Rattle.combine_base.specs.Stream.Calls.{Passes};
-ghost use Rattle.combine_stream.specs.Ranges.{size_of, UnconsRange, UnconsWhile};
+ghost use Rattle.combine_stream.specs.Range.Ranges.{size_of, UnconsRange, UnconsWhile};
 
 use combine_base::maps::Maps;
 use combine_base::stream::{Kind, ResetStream, Stream, StreamOnce};

@@ -4,13 +4,12 @@ use Rattle.std.specs.Prelude.{Result, Ok, Err}
 use Rattle.std.proofs.Math.Decide.{dec_lt}
 use Rattle.std.proofs.Math.Nat.{eq-or-lt_of_le}
 use Rattle.std.proofs.lemmas.List.{take-append-drop, take-take, take_all}
-use Rattle.combine_base.specs.Parser.Outcome.{Outcome, Accepted, Refused, Undecided, IsDecided}
-use Rattle.combine_base.specs.Parser.OutcomeFacts.{decided_shape}
+use Rattle.combine_base.specs.Parser.Outcome.{Outcome, Accepted, Refused, Undecided, IsDecided, decided_shape}
 use Rattle.combine_base.specs.Parser.Meaning.{Meaning, IsReading, IsSingle, IsMeaning, MeansSame}
 use Rattle.combine_stream_cuts.specs.Cuts as places
 use Rattle.combine_stream_cuts.specs.Cuts.{on, Decides, decided, Ran, RunsCuts, ParsesWindow}
-use Rattle.combine_base.proofs.Same.{answers_same}
-use Rattle.combine_base.proofs.Progress.{after_none}
+use Rattle.combine_base.proofs.Parsers.SameMeanings.{answers_same}
+use Rattle.combine_base.proofs.Parsers.Progress.{after_none}
 use Rattle.combine_stream_cuts.proofs.Windows.{Reached, reached_later, window_judged}
 use Rattle.combine_base.specs.declared.stream.Kind.{Kind}
 use Rattle.combine_base.specs.declared.parser.answer.Answer.{Answer}

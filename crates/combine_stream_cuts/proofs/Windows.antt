@@ -7,9 +7,9 @@ use Rattle.combine_base.specs.Parser.Outcome.{Outcome, Accepted, Refused, Undeci
 use Rattle.combine_base.specs.Stream.Advance.{open_follows, advanced_twice, advanced_extended}
 use Rattle.combine_base.specs.Parser.Meaning.{Meaning}
 use Rattle.combine_base.specs.Parser.Answer.{World, Run, Answers, Accepts, Asks, Leaves, ends, loses, fails, peeks}
-use Rattle.combine_base.specs.Parser.Judged.{answer_to, answer_to_error}
+use Rattle.combine_base.specs.Parser.DriverAnswers.{answer_to, answer_to_error}
 use Rattle.combine_stream_cuts.specs.Cuts.{up_to, window_at, on, ParsesWindow}
-use Rattle.combine_base.proofs.Progress.{after_twice}
+use Rattle.combine_base.proofs.Parsers.Progress.{after_twice}
 use Rattle.combine_base.specs.declared.stream.Kind.{Kind}
 use Rattle.combine_base.specs.declared.stream.Kind.TheVariants as kinds
 use Rattle.combine_base.specs.declared.stream.Failures.{Failures}

@@ -1,9 +1,9 @@
 //! Choices: the first parser that isn't refused peeked gives the result.
 ghost use Rattle.std.specs.Prelude.{◌≡◌};
 ghost use Rattle.combine_base.specs.Error.Errors.{IsFault};
-ghost use Rattle.combine_token.specs.Alternatives.{AfterRefusal, PeeksNoFault};
-ghost use Rattle.combine_token.specs.Optional.{optional_parser};
-ghost use Rattle.combine_token.specs.Or.{StartsSame, or_parser};
+ghost use Rattle.combine_token.specs.Choice.Alternatives.{AfterRefusal, PeeksNoFault};
+ghost use Rattle.combine_token.specs.Choice.Optional.{optional_parser};
+ghost use Rattle.combine_token.specs.Choice.Or.{StartsSame, or_parser};
 
 use combine_base::error::{ParseError, ParseResult, Tracked};
 use combine_base::parser::Parser;

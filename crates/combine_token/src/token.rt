@@ -2,7 +2,7 @@
 //!
 //! The parsers of single tokens and of values keep no state: on need of more nothing was taken and nothing is unread, and the next call begins again. A list of tokens keeps how many were matched.
 ghost use Rattle.std.specs.Prelude.{◌≡◌};
-ghost use Rattle.combine_token.specs.TokenParsers.{any_parser, eof_parser, position_parser, produce_parser, satisfy_map_parser, satisfy_parser, token_parser, value_parser};
+ghost use Rattle.combine_token.specs.Token.TokenParsers.{any_parser, eof_parser, position_parser, produce_parser, satisfy_map_parser, satisfy_parser, token_parser, value_parser};
 
 use std::marker::PhantomData;
 use types::{Any, Eof, Position, Produce, Satisfy, SatisfyMap, Token, Value};

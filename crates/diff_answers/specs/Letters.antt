@@ -1,8 +1,8 @@
 -- the tokens that a list has, and what a parser of the list means
 use Rattle.std.specs.Prelude.{ℕ, ◌≡◌, nat_eq, List, [], ◌∷◌, drop, Option, Some, None}
 use Rattle.combine_base.specs.Parser.Meaning.{Reading}
-use Rattle.combine_token.specs.Iterated.{iterated}
-use Rattle.combine_token.specs.TokenLists.{matching}
+use Rattle.combine_token.specs.Token.Lists.IteratedLists.{iterated}
+use Rattle.combine_token.specs.Token.Lists.TokenLists.{matching}
 use Rattle.diff_answers.specs.declared.letters.Letters.{Letters}
 
 -- those that weren't passed yet

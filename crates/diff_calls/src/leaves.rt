@@ -1,6 +1,6 @@
 //! Calls of the constructors of single tokens and of values.
 ghost use Rattle.std.specs.Prelude.{ℕ, ◌≡◌, Bool, true};
-ghost use Rattle.diff_calls.specs.Parsers.{byte, byte_given, ended, one_for, one_where};
+ghost use Rattle.diff_calls.specs.CallMeanings.{byte, byte_given, ended, one_for, one_where};
 
 use crate::{Call, Visitor};
 use combine_base::error::ParseError;

@@ -1,7 +1,7 @@
 //! Constructors over one parser, and their calls.
 ghost use Rattle.std.specs.Prelude.{◌≡◌};
-ghost use Rattle.combine_base.specs.Parser.Mapped.{mapped_reading};
-ghost use Rattle.diff_calls.specs.Parsers.{maybe, put_back, single};
+ghost use Rattle.combine_base.specs.Parser.ValueMap.{mapped_reading};
+ghost use Rattle.diff_calls.specs.CallMeanings.{maybe, put_back, single};
 
 use crate::{Unary, UnaryCall, Visitor};
 use combine_base::error::ParseError;

@@ -1,6 +1,6 @@
 //! Choices and tuples, and their calls.
 ghost use Rattle.std.specs.Prelude.{◌≡◌};
-ghost use Rattle.diff_calls.specs.Parsers.{either, pair, triple};
+ghost use Rattle.diff_calls.specs.CallMeanings.{either, pair, triple};
 
 use crate::{Binary, BinaryCall, Ternary, TernaryCall, Visitor};
 use combine_base::error::ParseError;

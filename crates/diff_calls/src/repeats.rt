@@ -1,7 +1,7 @@
 //! Repetitions, and their calls.
 ghost use Rattle.std.specs.Prelude.{◌≡◌};
-ghost use Rattle.combine_repeat_turns.specs.Counts.{appended};
-ghost use Rattle.diff_calls.specs.Parsers.{collecting, collecting1, skipping, skipping1};
+ghost use Rattle.combine_repeat_turns.specs.Repeat.Repeated.{appended};
+ghost use Rattle.diff_calls.specs.CallMeanings.{collecting, collecting1, skipping, skipping1};
 
 use crate::{Unary, UnaryCall, Visitor};
 use combine_base::error::ParseError;

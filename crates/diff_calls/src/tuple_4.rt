@@ -1,6 +1,6 @@
 //! Calls of tuples of four parsers, which are made in turn and kept.
 ghost use Rattle.std.specs.Prelude.{◌≡◌};
-ghost use Rattle.diff_calls.specs.Parsers.{quadruple};
+ghost use Rattle.diff_calls.specs.CallMeanings.{quadruple};
 
 use crate::{Call, Visitor};
 use combine_base::error::ParseError;

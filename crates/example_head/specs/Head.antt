@@ -7,7 +7,7 @@ use Rattle.combine_base.specs.Error.Errors.{Nothing, Only}
 use Rattle.combine_base.specs.Error.Items.{Expected, Fixed, OfToken}
 use Rattle.combine_base.specs.Error.NoItems.{no_items}
 use Rattle.combine_base.specs.Parser.AnswersCalls.{StartsCall}
-use Rattle.combine_base.specs.Parser.Mapped.{mapped}
+use Rattle.combine_base.specs.Parser.ValueMap.{mapped}
 use Rattle.combine_base.specs.Parser.Meaning.{Meaning}
 use Rattle.combine_base.specs.Sequence.Places.{first_fresh, begins_2, begins_4}
 use Rattle.combine_base.specs.Sequence.Tuples.{tuple_2, tuple_4}
@@ -18,9 +18,9 @@ use Rattle.combine_base.specs.declared.stream.StreamOnce as stream
 use Rattle.combine_base.specs.declared.stream.slices.Left.{Left}
 use Rattle.combine_char.specs.Bytes as bytes
 use Rattle.combine_repeat.specs.Repetition as repetition
-use Rattle.combine_repeat_turns.specs.Bounded.{fresh_turns}
-use Rattle.combine_repeat_turns.specs.Counts.{appended}
-use Rattle.combine_token.specs.OneToken.{of_function, satisfied, takes_one}
+use Rattle.combine_repeat_turns.specs.Turns.Bounds.{fresh_turns}
+use Rattle.combine_repeat_turns.specs.Repeat.Repeated.{appended}
+use Rattle.combine_token.specs.Token.OneToken.{of_function, satisfied, takes_one}
 use Rattle.example_head.specs.declared.Head.{Head}
 
 -- the bytes of a slice, as a stream

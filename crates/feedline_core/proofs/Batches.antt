@@ -4,17 +4,17 @@ use Rattle.std.proofs.lemmas.List.{append-nil, drop-map, length-append, length-d
 use Rattle.std.proofs.KnownBytes.{Appends-nil, Appends-trans}
 use Rattle.std.specs.Global.{Vec}
 use Rattle.std.specs.Io.KnownBytes.{Appends}
-use Rattle.combine_base.proofs.Pieces.{concatenated_append, concatenated_more}
+use Rattle.combine_base.proofs.Parsers.Pieces.{concatenated_append, concatenated_more}
 use Rattle.combine_base.specs.Parser.Meaning.{Meaning, IsReading}
 use Rattle.combine_base.specs.Parser.Pieces.{concatenated}
-use Rattle.combine_decode.proofs.Dividing.{ended_longer}
-use Rattle.combine_decode.proofs.Pieces.{SoFar, at_first, behind_within, given, goes_on_at, messages_now}
+use Rattle.combine_decode.proofs.MessageDivision.{ended_longer}
+use Rattle.combine_decode.proofs.DecodedPieces.{SoFar, at_first, behind_within, given, goes_on_at, messages_now}
 use Rattle.combine_decode.specs.Decoders.{Decoding, Stands}
 use Rattle.combine_decode.specs.Messages.{Messages, made}
 use Rattle.combine_decode.specs.declared.decode.BatchEnd.{BatchEnd}
 use Rattle.combine_decode.specs.declared.decode.BatchEnd.TheVariants as ends
-use Rattle.feedline_core.proofs.Writing.{message_lines_append}
-use Rattle.feedline_core.specs.Decoding.{DecodesInput, HasRoom, WritesBatch}
+use Rattle.feedline_core.proofs.WrittenLines.{message_lines_append}
+use Rattle.feedline_core.specs.DecodedLines.{DecodesInput, HasRoom, WritesBatch}
 use Rattle.feedline_core.specs.Lines.{end_line, message_lines}
 use Rattle.feedline_core.specs.declared.fault.Fault.{Fault}
 use Rattle.feedline_core.specs.declared.fault.Fault.TheVariants as faults

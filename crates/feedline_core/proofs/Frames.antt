@@ -10,14 +10,15 @@ use Rattle.combine_base.specs.Sequence.Readings.{continues, sequel}
 use Rattle.combine_decode.specs.Messages.{Divides, Messages, on_open, stops}
 use Rattle.combine_decode.specs.declared.decode.BatchEnd.{BatchEnd}
 use Rattle.combine_decode.specs.declared.decode.BatchEnd.TheVariants as ends
-use Rattle.combine_token.specs.TokenParsers.{any_parser}
+use Rattle.combine_token.specs.Token.TokenParsers.{any_parser}
 use Rattle.combine_token.specs.declared.token.types.Any.{Any}
-use Rattle.combine_repeat_turns.specs.RepeatParsers.{count_min_max_of, least_of, most_of}
-use Rattle.combine_repeat_turns.specs.Counts.{appended, count_min_max}
+use Rattle.combine_repeat_turns.specs.Repeat.RepeatParsers.{count_min_max_of, least_of, most_of}
+use Rattle.combine_repeat_turns.specs.Repeat.Repeated.{appended}
+use Rattle.combine_repeat_turns.specs.Repeat.Counts.{count_min_max}
 use Rattle.combine_repeat_turns.specs.declared.each.Each.{Each}
 use Rattle.combine_repeat_turns.specs.declared.repeat.types.Repeat.{Repeat}
 use Rattle.combine_repeat_turns.specs.declared.turns.limits.Between.{Between}
-use Rattle.feedline_core.specs.Decoding.{DecodesInput, PrintsMessages}
+use Rattle.feedline_core.specs.DecodedLines.{DecodesInput, PrintsMessages}
 use Rattle.feedline_core.specs.Frames.{bytes, frame, length_before}
 use Rattle.feedline_core.specs.Messages.{byte_where, step}
 use Rattle.feedline_core.specs.declared.fault.Fault.{Fault}

@@ -9,7 +9,7 @@ use Rattle.feedline_core.specs.Cut.{pieces_of}
 use Rattle.feedline_core.specs.Runs.{Prints, Runs}
 use Rattle.feedline_core.specs.OnInput.{PrintsOn, RunsOn}
 use Rattle.feedline_core.specs.declared.message.Message.{Message}
-use Rattle.feedline_core.proofs.Running.{never_over}
+use Rattle.feedline_core.proofs.RunLines.{never_over}
 use Rattle.feedline_core.specs.declared.fault.Fault.{Fault}
 use Rattle.feedline_core.specs.declared.fault.Fault.TheVariants as faults
 

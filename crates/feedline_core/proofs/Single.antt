@@ -2,17 +2,16 @@
 use Rattle.std.proofs.Common.{ℕ, ◌≡◌, Bool, None, [], ◌∷◌, ◌++◌, nat_eq}
 use Rattle.std.specs.Global.{Vec}
 use Rattle.combine_base.specs.Parser.Meaning.{Meaning, IsSingle, MeansOne}
-use Rattle.combine_base.specs.Parser.Mapped.{mapped_means_one}
+use Rattle.combine_base.specs.Parser.ValueMap.{mapped_means_one}
 use Rattle.combine_base.specs.Error.Errors.{Nothing, Only}
 use Rattle.combine_base.specs.Error.Items.{Expected, OfToken}
 use Rattle.combine_base.specs.Error.NoItems.{no_items}
 use Rattle.combine_base.specs.Sequence.Places.{valid_in, valid_1, place_2, place_3, place_4}
 use Rattle.combine_base.specs.Sequence.Tuples.{push_1, push_2, push_3, tuple_3, tuple_4, tuple_1_means_one, followed_means_one}
-use Rattle.combine_token.specs.Choice.{Either, refused, refused_is_single, either_is_single}
-use Rattle.combine_token.specs.OneToken.{of_function, of_function_is_predicate, satisfied, satisfied_is_test, takes_one_means_one}
+use Rattle.combine_token.specs.Choice.Choices.{Either, refused, refused_is_single, either_is_single}
+use Rattle.combine_token.specs.Token.OneToken.{of_function, of_function_is_predicate, satisfied, satisfied_is_test, takes_one_means_one}
 use Rattle.combine_combinator.specs.Attempt.{attempted_means_one}
-use Rattle.combine_repeat_turns.specs.Counts.{appended}
-use Rattle.combine_repeat_turns.specs.CountLaws.{repeated_means_one}
+use Rattle.combine_repeat_turns.specs.Repeat.Repeated.{appended, repeated_means_one}
 use Rattle.combine_repeat_turns.specs.declared.turns.Bounds.TheVariants.{Joined}
 use Rattle.combine_repeat_turns.specs.declared.turns.TurnsState.{TurnsState}
 use Rattle.combine_base.specs.declared.error.UnexpectedParse.{UnexpectedParse}

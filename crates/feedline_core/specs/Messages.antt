@@ -3,14 +3,14 @@ use Rattle.std.specs.Prelude.{ℕ, ◌≡◌, ◌+◌, nat_eq, [], ◌∷◌, �
 use Rattle.std.specs.Char.{is_ascii_digit, is_ascii_lowercase}
 use Rattle.std.specs.Global.{Vec}
 use Rattle.combine_base.specs.Parser.Meaning.{Meaning}
-use Rattle.combine_base.specs.Parser.Mapped.{mapped}
+use Rattle.combine_base.specs.Parser.ValueMap.{mapped}
 use Rattle.std.specs.Ordering.{nat_cmp}
 use Rattle.combine_base.specs.Error.Errors.{Nothing, Only}
 use Rattle.combine_base.specs.Error.Items.{Expected, OfToken}
 use Rattle.combine_base.specs.Error.NoItems.{no_items}
 use Rattle.combine_base.specs.Sequence.Tuples.{tuple_3, tuple_4}
-use Rattle.combine_token.specs.Or.{either_of}
-use Rattle.combine_token.specs.OneToken.{of_function, satisfied, takes_one}
+use Rattle.combine_token.specs.Choice.Or.{either_of}
+use Rattle.combine_token.specs.Token.OneToken.{of_function, satisfied, takes_one}
 use Rattle.combine_base.specs.declared.error.UnexpectedParse.{UnexpectedParse}
 use Rattle.combine_base.specs.declared.sequence.SequenceState.{SequenceState}
 use Rattle.combine_base.specs.declared.sequence.PartialState3.{PartialState3}
@@ -19,7 +19,7 @@ use Rattle.combine_token.specs.declared.choice.OrState.{OrState}
 use Rattle.combine_combinator.specs.Attempt.{attempted}
 use Rattle.combine_combinator.specs.declared.combinator.TryState.{TryState}
 use Rattle.combine_repeat.specs.Repetition.{many1}
-use Rattle.combine_repeat_turns.specs.Counts.{appended}
+use Rattle.combine_repeat_turns.specs.Repeat.Repeated.{appended}
 use Rattle.combine_repeat_turns.specs.declared.turns.TurnsState.{TurnsState}
 use Rattle.feedline_core.specs.declared.message.Message.{Message}
 use Rattle.feedline_core.specs.declared.message.Message.TheVariants.{Set, Delete}

@@ -5,7 +5,7 @@ ghost use Rattle.combine_base.specs.Parser.Pieces.{concatenated};
 ghost use Rattle.combine_decode.specs.Decoders.{Decodes};
 ghost use Rattle.combine_decode.specs.Frames.{frame_of};
 ghost use Rattle.combine_decode.specs.Messages.{IsMade, made};
-ghost use Rattle.feedline_core.specs.Decoding.{DecodesInput, HasRoom, IsRefusedGrowth, WritesBatch};
+ghost use Rattle.feedline_core.specs.DecodedLines.{DecodesInput, HasRoom, IsRefusedGrowth, WritesBatch};
 ghost use Rattle.feedline_core.specs.Frames as frames;
 ghost use Rattle.feedline_core.specs.Lines.{end_line};
 

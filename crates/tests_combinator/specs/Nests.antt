@@ -4,16 +4,16 @@ use Rattle.std.proofs.Common.{arith, subst}
 use Rattle.combine_base.specs.Stream.View.{View, advanced}
 use Rattle.combine_base.specs.Error.Errors.{Nothing}
 use Rattle.combine_base.specs.Error.NoItems.{no_items}
-use Rattle.combine_base.specs.Parser.Mapped.{mapped_is_meaning, mapped_means_one, mapped_reading}
+use Rattle.combine_base.specs.Parser.ValueMap.{mapped_is_meaning, mapped_means_one, mapped_reading}
 use Rattle.combine_base.specs.Parser.Meaning.{Meaning, Reading, Refusing, IsMeaning, IsReading, IsSingle, MeansOne}
 use Rattle.combine_base.specs.Parser.Outcome.{Outcome, Accepted, Refused, Undecided, shape}
-use Rattle.combine_base.specs.Sequence.Joined.{joined}
+use Rattle.combine_base.specs.Sequence.JoinedOutcome.{joined}
 use Rattle.combine_base.specs.Sequence.Readings.{FollowsOne, continues, following, following_is_reading, sequel, sequel_is_reading, sequel_is_single}
 use Rattle.combine_base.specs.Sequence.Tuples.{push_0, push_1}
-use Rattle.combine_token.specs.Choice.{Either, Here, Later}
-use Rattle.combine_token.specs.OneToken.{of_function, of_function_is_predicate, one_token, one_token_at, satisfied, satisfied_is_test, takes_one, takes_one_is_meaning, takes_one_means_one}
-use Rattle.combine_token.specs.Optional.{is_some, nothing, optional_is_meaning, optional_means_one}
-use Rattle.combine_token.specs.Stateless.{stateless, stateless_is_meaning, stateless_means_one}
+use Rattle.combine_token.specs.Choice.Choices.{Either, Here, Later}
+use Rattle.combine_token.specs.Token.OneToken.{of_function, of_function_is_predicate, one_token, one_token_at, satisfied, satisfied_is_test, takes_one, takes_one_is_meaning, takes_one_means_one}
+use Rattle.combine_token.specs.Choice.Optional.{is_some, nothing, optional_is_meaning, optional_means_one}
+use Rattle.combine_token.specs.Token.Stateless.{stateless, stateless_is_meaning, stateless_means_one}
 use Rattle.combine_base.specs.declared.error.UnexpectedParse.{UnexpectedParse}
 
 -- the value of the second of two parts

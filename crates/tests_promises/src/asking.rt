@@ -1,6 +1,6 @@
 //! Need of more, exactly where the written meaning is undecided: of a call of each form of choice, of `then`, and of `tokens`.
 ghost use Rattle.std.specs.Prelude.{◌≡◌, nat_eq};
-ghost use Rattle.tests_promises.specs.Asking.{AsksExactly};
+ghost use Rattle.tests_promises.specs.NeedsOfMore.{AsksExactly};
 
 use combine::error::{ParseError, ParseResult};
 use combine::parser::Parser;

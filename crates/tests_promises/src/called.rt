@@ -3,7 +3,7 @@ ghost use Rattle.std.specs.Prelude.{◌≡◌};
 ghost use Rattle.combine_base.specs.Error.Results.{from_standard};
 ghost use Rattle.combine_base.specs.Parser.Answer.{world};
 ghost use Rattle.combine_base.specs.Parser.Drivers.{Starts};
-ghost use Rattle.combine_token.specs.TokenParsers.{token_parser};
+ghost use Rattle.combine_token.specs.Token.TokenParsers.{token_parser};
 
 use crate::promises::puts_back_without_memory;
 use combine::error::{ParseError, StdParseResult};

@@ -5,7 +5,7 @@ use Rattle.combine_base.specs.Error.Items.{Item, Unexpected, OfToken}
 use Rattle.combine_base.specs.Error.Errors.{Errors, Says}
 use Rattle.combine_base.specs.Parser.Meaning.{Meaning, Refusing}
 use Rattle.combine_base.specs.Error.Results.{as_result}
-use Rattle.combine_base.specs.Parser.Judged.{IsRefusal}
+use Rattle.combine_base.specs.Parser.DriverAnswers.{IsRefusal}
 use Rattle.combine_base.specs.Parser.Answer.{World, Run, Answers}
 use Rattle.combine_base.specs.declared.stream.Kind.{Kind}
 use Rattle.combine_base.specs.declared.stream.Kind.TheVariants as kinds

@@ -4,7 +4,7 @@ use Rattle.combine_base.specs.Stream.View.{View, extended}
 use Rattle.combine_base.specs.Parser.Outcome.{Outcome, Accepted, Refused, Undecided, after, shape}
 use Rattle.combine_base.specs.Parser.Meaning.{Meaning, Reading, MeansOne, MeansSame}
 use Rattle.combine_base.specs.Stream.Fed.{fed_view}
-use Rattle.combine_base.specs.Parser.Judged.{IsRefusal, answer_to}
+use Rattle.combine_base.specs.Parser.DriverAnswers.{IsRefusal, answer_to}
 use Rattle.combine_base.specs.declared.stream.fed.Stream.{Stream}
 use Rattle.combine_base.specs.declared.stream.Kind.{Kind}
 use Rattle.combine_base.specs.declared.stream.Kind.TheVariants as kinds

@@ -4,9 +4,9 @@ use Rattle.std.proofs.Common.{inl, inr, sym, subst}
 use Rattle.combine_base.specs.Error.Errors.{Errors}
 use Rattle.combine_base.specs.Stream.View.{View}
 use Rattle.combine_base.specs.Parser.Outcome.{Outcome}
-use Rattle.combine_base.specs.Parser.Given.{GivesOnly}
+use Rattle.combine_base.specs.Parser.GivenValues.{GivesOnly}
 use Rattle.combine_base.specs.Parser.Meaning.{Meaning, Reading, Refusing, IsReading, IsSingle, IsMeaning, MeansOne, MeansSame, SameReasons, refusals, refusals_begin, refusals_from, refusals_from_same, refusals_same}
-use Rattle.combine_base.specs.Sequence.Behind.{RefusesBehind, RefusesLast, behind_into, last_same}
+use Rattle.combine_base.specs.Sequence.PartErrors.{RefusesBehind, RefusesLast, behind_into, last_same}
 use Rattle.combine_base.specs.Sequence.Readings.{following, sequel, following_is_reading, following_is_single, following_same, FollowsOne, sequel_is_single, sequel_reads, sequel_same}
 use Rattle.combine_base.specs.Sequence.Places.{in_place, begins, begins_before}
 use Rattle.combine_base.specs.declared.sequence.SequenceState.{SequenceState}

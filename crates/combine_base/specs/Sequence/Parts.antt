@@ -6,7 +6,7 @@ use Rattle.combine_base.specs.Error.Errors.{Errors}
 use Rattle.combine_base.specs.Parser.Meaning.{Meaning, MeansSame}
 use Rattle.combine_base.specs.Parser.Answer.{World, Run, Answers, world}
 use Rattle.combine_base.specs.Parser.Drivers.{Explained}
-use Rattle.combine_base.specs.Parser.Judged.{NeedsMore}
+use Rattle.combine_base.specs.Parser.DriverAnswers.{NeedsMore}
 use Rattle.combine_base.specs.declared.stream.Failures.{Failures}
 use Rattle.combine_base.specs.declared.parser.Parser as parser
 use Rattle.combine_base.specs.declared.stream.StreamOnce as stream

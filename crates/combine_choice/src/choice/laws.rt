@@ -1,7 +1,7 @@
 //! Laws of choices, each the contract of a function that does nothing.
 ghost use Rattle.std.specs.Prelude.{◌≡◌, [], ◌∷◌};
 ghost use Rattle.combine_base.specs.Parser.Meaning.{MeansSame};
-ghost use Rattle.combine_token.specs.Or.{StartsSame};
+ghost use Rattle.combine_token.specs.Choice.Or.{StartsSame};
 
 use super::{ChoiceParser, Slice};
 use combine_base::parser::Parser;

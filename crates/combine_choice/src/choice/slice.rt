@@ -6,9 +6,8 @@ ghost use Rattle.combine_base.specs.Parser.AnswersCalls.{AnswersCall};
 ghost use Rattle.combine_base.specs.Parser.Meaning.{MeansSame};
 ghost use Rattle.combine_base.specs.Parser.Reasons.{ReasonedCall};
 ghost use Rattle.combine_base.specs.Stream.Calls.{Passes};
-ghost use Rattle.combine_choice.specs.Chosen.{choice_of, slice_valid};
-ghost use Rattle.combine_choice.specs.OneTurn.{NoAlternative, Resumes};
-ghost use Rattle.combine_choice.specs.SliceCall.{ChoseFrom, TurnCall};
+ghost use Rattle.combine_choice.specs.ListChoice.{choice_of, slice_valid};
+ghost use Rattle.combine_choice.specs.SliceCalls.{NoAlternative, Resumes, ChoseFrom, TurnCall};
 
 use super::{ChoiceOutputs, ChoiceParser};
 use combine_base::error::{ParseResult, Tracked};
@@ -226,7 +225,7 @@ impl<'a, Input, P: Outputs<Input>> ChoiceOutputs<Input> for Slice<'a, P> {
 impl<'a, Input: Stream, P: Parser<Input>> ChoiceParser<Input> for Slice<'a, P> {
     ghost use Rattle.std.specs.List.{All};
     ghost use Rattle.combine_base.specs.Parser.Meaning.{IsMeaning, MeansOne};
-    ghost use Rattle.combine_choice.specs.Chosen.{chosen_is_meaning, chosen_means_one, choice_of, every_all, every_both, slice_valid};
+    ghost use Rattle.combine_choice.specs.ListChoice.{chosen_is_meaning, chosen_means_one, choice_of, every_all, every_both, slice_valid};
 
     type PartialState = SliceState<P::PartialState>;
 
@@ -267,7 +266,7 @@ impl<Input, P: Outputs<Input>, const N: usize> ChoiceOutputs<Input> for [P; N] {
 impl<Input: Stream, P: Parser<Input>, const N: usize> ChoiceParser<Input> for [P; N] {
     ghost use Rattle.std.specs.List.{All};
     ghost use Rattle.combine_base.specs.Parser.Meaning.{IsMeaning, MeansOne};
-    ghost use Rattle.combine_choice.specs.Chosen.{chosen_is_meaning, chosen_means_one, choice_of, every_all, every_both, slice_valid};
+    ghost use Rattle.combine_choice.specs.ListChoice.{chosen_is_meaning, chosen_means_one, choice_of, every_all, every_both, slice_valid};
 
     type PartialState = SliceState<P::PartialState>;
 

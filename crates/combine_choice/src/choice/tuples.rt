@@ -70,7 +70,7 @@ impl<Input: Stream, A: Parser<Input>, B: Parser<Input, Output = A::Output>> Choi
     for (A, B) {
     ghost use Rattle.std.specs.Prelude.{◌≡◌};
     ghost use Rattle.combine_token.specs.declared.choice.OrState.TheVariants.{Peek};
-    ghost use Rattle.combine_choice.specs.Nested.{nest_laws, nest_one, or_2};
+    ghost use Rattle.combine_choice.specs.NestedChoice.{nest_laws, nest_one, or_2};
 
     type PartialState = <Or<A, B> as Parser<Input>>::PartialState;
 
@@ -117,7 +117,7 @@ impl<
 > ChoiceParser<Input> for (A, B, C) {
     ghost use Rattle.std.specs.Prelude.{◌≡◌};
     ghost use Rattle.combine_token.specs.declared.choice.OrState.TheVariants.{Peek};
-    ghost use Rattle.combine_choice.specs.Nested.{nest_laws, nest_one, or_3};
+    ghost use Rattle.combine_choice.specs.NestedChoice.{nest_laws, nest_one, or_3};
 
     type PartialState = <Or3<A, B, C> as Parser<Input>>::PartialState;
 
@@ -166,7 +166,7 @@ impl<
 > ChoiceParser<Input> for (A, B, C, D) {
     ghost use Rattle.std.specs.Prelude.{◌≡◌};
     ghost use Rattle.combine_token.specs.declared.choice.OrState.TheVariants.{Peek};
-    ghost use Rattle.combine_choice.specs.Nested.{nest_laws, nest_one, or_4};
+    ghost use Rattle.combine_choice.specs.NestedChoice.{nest_laws, nest_one, or_4};
 
     type PartialState = <Or4<A, B, C, D> as Parser<Input>>::PartialState;
 
@@ -217,7 +217,7 @@ impl<
 > ChoiceParser<Input> for (A, B, C, D, E) {
     ghost use Rattle.std.specs.Prelude.{◌≡◌};
     ghost use Rattle.combine_token.specs.declared.choice.OrState.TheVariants.{Peek};
-    ghost use Rattle.combine_choice.specs.Nested.{nest_laws, nest_one, or_5};
+    ghost use Rattle.combine_choice.specs.NestedChoice.{nest_laws, nest_one, or_5};
 
     type PartialState = <Or5<A, B, C, D, E> as Parser<Input>>::PartialState;
 
@@ -273,7 +273,7 @@ impl<
 > ChoiceParser<Input> for (A, B, C, D, E, F) {
     ghost use Rattle.std.specs.Prelude.{◌≡◌};
     ghost use Rattle.combine_token.specs.declared.choice.OrState.TheVariants.{Peek};
-    ghost use Rattle.combine_choice.specs.Nested.{nest_laws, nest_one, or_6};
+    ghost use Rattle.combine_choice.specs.NestedChoice.{nest_laws, nest_one, or_6};
 
     type PartialState = <Or6<A, B, C, D, E, F> as Parser<Input>>::PartialState;
 
@@ -331,7 +331,7 @@ impl<
 > ChoiceParser<Input> for (A, B, C, D, E, F, G) {
     ghost use Rattle.std.specs.Prelude.{◌≡◌};
     ghost use Rattle.combine_token.specs.declared.choice.OrState.TheVariants.{Peek};
-    ghost use Rattle.combine_choice.specs.Nested.{nest_laws, nest_one, nest_one_4, or_7};
+    ghost use Rattle.combine_choice.specs.NestedChoice.{nest_laws, nest_one, nest_one_4, or_7};
 
     type PartialState = <Or7<A, B, C, D, E, F, G> as Parser<Input>>::PartialState;
 
@@ -392,7 +392,7 @@ impl<
 > ChoiceParser<Input> for (A, B, C, D, E, F, G, H) {
     ghost use Rattle.std.specs.Prelude.{◌≡◌};
     ghost use Rattle.combine_token.specs.declared.choice.OrState.TheVariants.{Peek};
-    ghost use Rattle.combine_choice.specs.Nested.{nest_laws, nest_one_8, or_8};
+    ghost use Rattle.combine_choice.specs.NestedChoice.{nest_laws, nest_one_8, or_8};
 
     type PartialState = <Or8<A, B, C, D, E, F, G, H> as Parser<Input>>::PartialState;
 

@@ -1,5 +1,5 @@
 //! A parser that is one of five.
-ghost use Rattle.combine_choice_dispatch.specs.Held.{Started, within};
+ghost use Rattle.combine_choice_dispatch.specs.HeldParser.{Started, within};
 ghost use Rattle.combine_choice_dispatch.specs.Halves.{nest_5};
 ghost use Rattle.combine_choice_dispatch.specs.Variants2.{pick_left, pick_right};
 
@@ -100,7 +100,7 @@ impl<
     D: Parser<Input, Output = A::Output>,
     E: Parser<Input, Output = A::Output>,
 > Parser<Input> for Dispatch5<A, B, C, D, E> {
-    ghost use Rattle.combine_choice_dispatch.specs.Held.{nested, nested_is_meaning, nested_means_one};
+    ghost use Rattle.combine_choice_dispatch.specs.HeldParser.{nested, nested_is_meaning, nested_means_one};
     ghost use Rattle.combine_choice_dispatch.specs.Variants2.{each_2_into, variant_2_is_meaning, variant_2_means_one};
 
     type PartialState = Dispatch5<

@@ -1,5 +1,5 @@
 //! A parser that is one of two.
-ghost use Rattle.combine_choice_dispatch.specs.Held.{Started};
+ghost use Rattle.combine_choice_dispatch.specs.HeldParser.{Started};
 ghost use Rattle.combine_choice_dispatch.specs.Variants2.{each_2, pick_left, pick_right};
 
 use super::passed_on;

@@ -1,7 +1,7 @@
 //! Laws of the parsers of `combinator`, each stated by a function that does nothing.
 ghost use Rattle.combine_base.specs.Parser.Meaning.{MeansSame};
-ghost use Rattle.combine_combinator.specs.Laws.{AcceptedWhereRefused, IsComposition, SameFromTheStart};
-ghost use Rattle.combine_combinator.specs.Parsers.{attempt_of, map_of, not_followed_by_of};
+ghost use Rattle.combine_combinator.specs.CombinatorLaws.{AcceptedWhereRefused, IsComposition, SameFromTheStart};
+ghost use Rattle.combine_combinator.specs.CombinatorParsers.{attempt_of, map_of, not_followed_by_of};
 
 use crate::combinator::types::{Map, NotFollowedBy, Try};
 use combine_base::parser::Parser;

@@ -2,8 +2,8 @@
 ghost use Rattle.std.specs.Prelude.{◌≡◌};
 ghost use Rattle.combine_base.specs.Error.Errors.{Nothing};
 ghost use Rattle.combine_base.specs.Stream.Calls.{Passes};
-ghost use Rattle.combine_combinator.specs.Backs.{PutBackFor, RefusesFollowed};
-ghost use Rattle.combine_combinator.specs.Parsers.{denied_part, look_part, whole_part};
+ghost use Rattle.combine_combinator.specs.ResetAnswers.{PutBackFor, RefusesFollowed};
+ghost use Rattle.combine_combinator.specs.CombinatorParsers.{denied_part, look_part, whole_part};
 ghost use Rattle.combine_combinator.specs.Tables.{by_table, is_not, looks, looks_is_table, not_is_table, stays, stays_is_table, table_is_meaning, table_means_one};
 
 use super::types::refuses;

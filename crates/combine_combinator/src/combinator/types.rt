@@ -1,10 +1,9 @@
 //! The parsers that the functions of `combinator` return.
 ghost use Rattle.std.specs.Prelude.{◌≡◌};
-ghost use Rattle.combine_combinator.specs.Attempt.{HasValid, attempted, attempted_is_meaning, attempted_means_one, losing, refusing};
-ghost use Rattle.combine_combinator.specs.Parsers.{attempt_part, map_function, map_of, map_part};
-ghost use Rattle.combine_combinator.specs.PutBack.{KeepsDistance, PutsBack};
-ghost use Rattle.combine_base.specs.Parser.Given.{GivesOnly};
-ghost use Rattle.combine_base.specs.Parser.Mapped.{mapped, mapped_is_meaning, mapped_means_one};
+ghost use Rattle.combine_combinator.specs.Attempt.{HasValid, attempted, attempted_is_meaning, attempted_means_one, losing, refusing, KeepsDistance, PutsBack};
+ghost use Rattle.combine_combinator.specs.CombinatorParsers.{attempt_part, map_function, map_of, map_part};
+ghost use Rattle.combine_base.specs.Parser.GivenValues.{GivesOnly};
+ghost use Rattle.combine_base.specs.Parser.ValueMap.{mapped, mapped_is_meaning, mapped_means_one};
 ghost use Rattle.combine_base.specs.Stream.Calls.{Passes};
 
 use super::TryState;

@@ -1,8 +1,8 @@
 //! Parsers that keep a part of another parser's value.
 ghost use Rattle.std.specs.Prelude.{◌≡◌, ℕ};
-ghost use Rattle.combine_base.specs.Parser.Mapped.{mapped, mapped_is_meaning, mapped_means_one};
-ghost use Rattle.combine_combinator.specs.Parsers.{picked_of, picked_part};
-ghost use Rattle.combine_combinator.specs.Picks.{Picks};
+ghost use Rattle.combine_base.specs.Parser.ValueMap.{mapped, mapped_is_meaning, mapped_means_one};
+ghost use Rattle.combine_combinator.specs.CombinatorParsers.{picked_of, picked_part};
+ghost use Rattle.combine_combinator.specs.ValueParts.{Picks};
 
 use combine_base::error::{ErrorOffset, ParseResult, Tracked};
 use combine_base::parser::{Outputs, ParseMode, Parser};

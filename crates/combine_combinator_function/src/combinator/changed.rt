@@ -1,8 +1,8 @@
 //! A parser whose value is changed, or refused.
 ghost use Rattle.std.specs.Prelude.{◌≡◌};
-ghost use Rattle.combine_base.specs.Parser.Given.{GivesOnly};
+ghost use Rattle.combine_base.specs.Parser.GivenValues.{GivesOnly};
 ghost use Rattle.combine_combinator_function.specs.Changes.{ChangesOne, changed, changed_is_meaning, changed_means_one, spares};
-ghost use Rattle.combine_combinator_function.specs.Parsers.{changed_of, changed_part, change_part};
+ghost use Rattle.combine_combinator_function.specs.ChangeParsers.{changed_of, changed_part, change_part};
 
 use combine_base::error::{ErrorOffset, ParseResult, Tracked};
 use combine_base::parser::{Outputs, ParseMode, Parser};

@@ -2,8 +2,8 @@
 ghost use Rattle.std.specs.Prelude.{◌≡◌, MatchResult};
 ghost use Rattle.combine_base.specs.Error.Errors.{Only};
 ghost use Rattle.combine_base.specs.Error.Items.{Unexpected as SaysUnexpected, shown};
-ghost use Rattle.combine_token.specs.ListAnswers.{NoText};
-ghost use Rattle.combine_combinator_function.specs.Refusing.{refuses_all, refuses_all_is_meaning, refuses_all_means_one, unexpected_info};
+ghost use Rattle.combine_token.specs.Token.Lists.ListAnswers.{NoText};
+ghost use Rattle.combine_combinator_function.specs.Unexpected.{refuses_all, refuses_all_is_meaning, refuses_all_means_one, unexpected_info};
 
 use combine_base::error::{ErrorOffset, Info, ParseError, ParseResult, Tracked};
 use combine_base::parser::{Outputs, ParseMode, Parser};

@@ -1,8 +1,8 @@
 //! A parser that was made, and what is kept of it.
 ghost use Rattle.std.specs.Prelude.{◌≡◌, true};
 ghost use Rattle.combine_base.specs.Stream.Calls.{Passes};
-ghost use Rattle.combine_combinator_lazy.specs.Calling.{CalledMade, RunsMade};
-ghost use Rattle.combine_combinator_lazy.specs.Made.{InPlace, MadeAt, MadeFor};
+ghost use Rattle.combine_combinator_lazy.specs.MadeCalls.{CalledMade, RunsMade};
+ghost use Rattle.combine_combinator_lazy.specs.MadeParsers.{InPlace, MadeAt, MadeFor};
 
 use combine_base::error::ParseResult;
 use combine_base::parser::{Calls, ParseMode, Parser};
@@ -25,7 +25,7 @@ pub enum MadeState<N, U> {
 }
 
 impl<N, U> Default for MadeState<N, U> {
-    ghost use Rattle.combine_combinator_lazy.specs.Made.{is_unmade};
+    ghost use Rattle.combine_combinator_lazy.specs.MadeParsers.{is_unmade};
 
     ghost is_default = { is_unmade };
 

@@ -1,9 +1,9 @@
 //! The parsers that the functions of this module return.
 ghost use Rattle.std.specs.Prelude.{◌≡◌};
 ghost use Rattle.combine_base.specs.Error.Errors.{Nothing};
-ghost use Rattle.combine_base.specs.Parser.Kept.{KeptOf};
+ghost use Rattle.combine_base.specs.Parser.KeptParsers.{KeptOf};
 ghost use Rattle.combine_base.specs.Stream.View.{View};
-ghost use Rattle.combine_combinator_lazy.specs.Made.{Adds, InPlace, MadeAt, MakesOne, at_any, at_any_lasts, by_factory, by_lazy, factory_maker, is_unmade_valid, lazy_maker, made, made_at_lasts, made_is_meaning, made_means_one, valid_made};
+ghost use Rattle.combine_combinator_lazy.specs.MadeParsers.{Adds, InPlace, MadeAt, MakesOne, at_any, at_any_lasts, by_factory, by_lazy, factory_maker, is_unmade_valid, lazy_maker, made, made_at_lasts, made_is_meaning, made_means_one, valid_made};
 
 pub use super::made::{Made, MadeState};
 use super::made::{make_and_run, resume_made, run_made};

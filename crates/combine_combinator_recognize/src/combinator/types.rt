@@ -1,6 +1,6 @@
 //! The parser that `recognize` returns.
 ghost use Rattle.std.specs.Prelude.{◌≡◌};
-ghost use Rattle.combine_combinator_recognize.specs.Gathered.{HasValid, IsFresh, collected_by, parser_of, recognized, recognized_is_meaning, recognized_means_one};
+ghost use Rattle.combine_combinator_recognize.specs.RecognizedTokens.{HasValid, IsFresh, collected_by, parser_of, recognized, recognized_is_meaning, recognized_means_one};
 
 use crate::collecting::collect_since;
 use combine_base::error::{ErrorOffset, ParseResult, Tracked};

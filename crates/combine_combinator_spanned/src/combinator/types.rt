@@ -1,6 +1,6 @@
 //! The parser that `spanned` returns.
 ghost use Rattle.std.specs.Prelude.{◌≡◌};
-ghost use Rattle.combine_combinator_spanned.specs.Spanned.{Spans, SpansAnswer, spanned, spanned_is_meaning, spanned_means_one, spanned_part};
+ghost use Rattle.combine_combinator_spanned.specs.SpannedErrors.{Spans, SpansAnswer, spanned, spanned_is_meaning, spanned_means_one, spanned_part};
 
 use combine_base::error::{DetailedError, ErrorOffset, ParseError, ParseResult, Tracked};
 use combine_base::parser::{Outputs, ParseMode, Parser};

@@ -1,9 +1,9 @@
 //! A message after its length, and the parser for a length.
 ghost use Rattle.std.specs.Prelude.{◌≡◌};
 ghost use Rattle.combine_decode.specs.Frames.{framing_of};
-ghost use Rattle.combine_sequence.specs.Answered.{forget};
-ghost use Rattle.combine_token.specs.TokenParsers.{any_parser};
-ghost use Rattle.combine_repeat_turns.specs.RepeatParsers.{count_min_max_of};
+ghost use Rattle.combine_sequence.specs.Then.{forget};
+ghost use Rattle.combine_token.specs.Token.TokenParsers.{any_parser};
+ghost use Rattle.combine_repeat_turns.specs.Repeat.RepeatParsers.{count_min_max_of};
 
 use combine_repeat_turns::repeat::count_min_max;
 use combine_repeat_turns::repeat::types::CountMinMax;

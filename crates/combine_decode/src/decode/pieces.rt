@@ -1,7 +1,7 @@
 //! Messages of pieces, decoded as one input.
 ghost use Rattle.std.specs.Prelude.{◌≡◌, ◌++◌, map, MatchResult};
 ghost use Rattle.combine_decode.specs.Messages.{IsMade, made};
-ghost use Rattle.combine_decode.specs.Pieces.{DecodesPieces, FeedsMore};
+ghost use Rattle.combine_decode.specs.DecodedPieces.{DecodesPieces, FeedsMore};
 
 use crate::decode::{Batch, BatchEnd, DecodeError, Decoder};
 use combine_base::parser::Parser;

@@ -3,10 +3,10 @@ ghost use Rattle.std.specs.Prelude.{◌≡◌, ◌↔◌, true};
 ghost use Rattle.combine_base.specs.Error.Errors.{Nothing, Only};
 ghost use Rattle.combine_base.specs.Error.Items as items;
 ghost use Rattle.combine_base.specs.Error.Items.{shown};
-ghost use Rattle.combine_base.specs.Parser.Judged.{IsRefusal};
+ghost use Rattle.combine_base.specs.Parser.DriverAnswers.{IsRefusal};
 ghost use Rattle.combine_error.specs.Copies.{NoText};
-ghost use Rattle.combine_error.specs.Saying.{AndThen, Hushes, InPlace, Tells, ToldLess, saying, saying_is_meaning, saying_means_one, told_less_is_monotone, told_more, told_more_is_monotone, unchanged, unchanged_is_monotone};
-ghost use Rattle.combine_error.specs.Shaped.{hushed_part, named_info, named_part, told_info, told_part};
+ghost use Rattle.combine_error.specs.RewordedErrors.{AndThen, Hushes, InPlace, Tells, ToldLess, saying, saying_is_meaning, saying_means_one, told_less_is_monotone, told_more, told_more_is_monotone, unchanged, unchanged_is_monotone};
+ghost use Rattle.combine_error.specs.ErrorParsers.{hushed_part, named_info, named_part, told_info, told_part};
 
 use crate::info::copied;
 use combine_base::error::{ErrorOffset, Info, ParseError, ParseResult, Tracked};

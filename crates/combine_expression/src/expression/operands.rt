@@ -2,7 +2,7 @@
 ghost use Rattle.std.specs.Prelude.{◌≡◌, [], ◌∷◌, ◌++◌, MatchResult, None, length, reverse, slice_get, vec_items};
 ghost use Rattle.combine_expression.specs.Levels.{Expression, Infix, Operand, Postfix, Prefix};
 ghost use Rattle.combine_expression.specs.Shapes.{fits_behind, fits_in_front, sides_of};
-ghost use Rattle.combine_expression.specs.Waiting.{EndsEarly, Follows, Holds, Misfits, Reduced, ReducedAbove, StandsIn, asked, blames, makes_of, operator_refuses};
+ghost use Rattle.combine_expression.specs.OpenExpressions.{EndsEarly, Follows, Holds, Misfits, Reduced, ReducedAbove, StandsIn, asked, blames, makes_of, operator_refuses};
 
 use super::{Fixity, Operator};
 use std::alloc::{AllocError, Global};

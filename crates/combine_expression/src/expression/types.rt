@@ -1,6 +1,6 @@
 //! What an expression's parser is made of.
 ghost use Rattle.std.specs.Prelude.{◌≡◌, MatchResult};
-ghost use Rattle.combine_expression.specs.Parts.{Begins, MakesOutermost, closed_as, part_joins, part_takes, stayed_as};
+ghost use Rattle.combine_expression.specs.ExpressionParts.{Begins, MakesOutermost, closed_as, part_joins, part_takes, stayed_as};
 
 use super::operands::{Fault, Operands};
 use super::{Fixity, Item, Operator};
@@ -160,7 +160,7 @@ impl<O: Drop, V: Drop, const N: usize> Makes for Outermost<O, V, N> {
 pub struct Awaits;
 
 impl<O, V, const N: usize> Test<Part<O, V, N>> for Awaits {
-    ghost use Rattle.combine_expression.specs.Parts.{awaits};
+    ghost use Rattle.combine_expression.specs.ExpressionParts.{awaits};
 
     ghost callable = { λ _. Unit {0} };
 

@@ -1,6 +1,6 @@
 //! One step's parser, run, and what becomes of the frames.
 ghost use Rattle.std.specs.Prelude.{◌≡◌, ◌||◌, true, MatchResult, reverse, vec_items};
-ghost use Rattle.combine_nested.specs.Nesting.{around, begins_steps, settles};
+ghost use Rattle.combine_nested.specs.NestedSteps.{around, begins_steps, settles};
 ghost use Rattle.combine_nested.specs.StepCalls.{CalledStep, Denies, TakesItem, ends_of, item_did};
 
 use super::{Frame, Next};

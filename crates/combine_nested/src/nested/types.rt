@@ -1,10 +1,9 @@
 //! The parser of `nested`, and its state.
 ghost use Rattle.std.specs.Prelude.{◌≡◌};
-ghost use Rattle.combine_base.specs.Parser.Kept.{KeptOf};
+ghost use Rattle.combine_base.specs.Parser.KeptParsers.{KeptOf};
 ghost use Rattle.combine_nested.specs.Asks.{asked_by_some, asked_so};
-ghost use Rattle.combine_nested.specs.Nesting.{asked_part, depth_part, root_part, starts_valid, valid_step};
-ghost use Rattle.combine_nested.specs.NestingLaws.{nesting, nesting_is_meaning};
-ghost use Rattle.combine_nested.specs.NestingOne.{NestsOne, nesting_means_one};
+ghost use Rattle.combine_nested.specs.NestedSteps.{asked_part, depth_part, root_part, starts_valid, valid_step, nesting, nesting_is_meaning};
+ghost use Rattle.combine_nested.specs.AlikeFrames.{NestsOne, nesting_means_one};
 
 use super::Frame;
 use super::asked::Ask;

@@ -3,10 +3,9 @@ ghost use Rattle.std.specs.Prelude.{◌≡◌};
 ghost use Rattle.combine_base.specs.Parser.AnswersCalls.{AnswersCall};
 ghost use Rattle.combine_base.specs.Parser.Reasons.{ReasonedCall};
 ghost use Rattle.combine_base.specs.Stream.Calls.{Passes};
-ghost use Rattle.combine_stream.specs.RangeFacts.{IsPredicate};
-ghost use Rattle.combine_range.specs.Kept.{kept_is_meaning, kept_means_one};
-ghost use Rattle.combine_range.specs.Beginnings.{beginning_is_reading, beginning_is_single};
-ghost use Rattle.combine_range.specs.BeginningMeaning.{takes_beginning};
+ghost use Rattle.combine_stream.specs.Range.Ranges.{IsPredicate};
+ghost use Rattle.combine_range.specs.KeptDistance.{kept_is_meaning, kept_means_one};
+ghost use Rattle.combine_range.specs.Range.Beginnings.{beginning_is_reading, beginning_is_single, takes_beginning};
 
 use crate::distance::Distance;
 use crate::passing::{

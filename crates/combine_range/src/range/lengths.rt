@@ -2,10 +2,10 @@
 ghost use Rattle.std.specs.Prelude.{◌≡◌};
 ghost use Rattle.combine_base.specs.Error.Errors.{Nothing, Only};
 ghost use Rattle.combine_base.specs.Error.Items.{Expected, OfRange};
-ghost use Rattle.combine_token.specs.Stateless.{stateless, stateless_is_meaning, stateless_means_one};
-ghost use Rattle.combine_range.specs.Lengths.{matching, matching_is_reading, matching_is_single, taking, taking_is_reading, taking_is_single};
-ghost use Rattle.combine_range.specs.Reasons.{RefusesDiffering, RefusesLength};
-ghost use Rattle.combine_range.specs.Wanted.{Fair, given};
+ghost use Rattle.combine_token.specs.Token.Stateless.{stateless, stateless_is_meaning, stateless_means_one};
+ghost use Rattle.combine_range.specs.Range.Lengths.{matching, matching_is_reading, matching_is_single, taking, taking_is_reading, taking_is_single};
+ghost use Rattle.combine_range.specs.RangeReasons.{RefusesDiffering, RefusesLength};
+ghost use Rattle.combine_range.specs.WantedRanges.{Fair, given};
 
 use crate::passing::no_range;
 use combine_base::error::{ErrorOffset, Info, ParseError, ParseResult, Tracked};

@@ -1,9 +1,9 @@
 //! What a parser takes, as a range.
 ghost use Rattle.std.specs.Prelude.{◌≡◌, if◌then◌else◌};
-ghost use Rattle.combine_base.specs.Parser.Mapped.{mapped, mapped_is_meaning, mapped_means_one};
+ghost use Rattle.combine_base.specs.Parser.ValueMap.{mapped, mapped_is_meaning, mapped_means_one};
 ghost use Rattle.combine_base.specs.Stream.Calls.{Passes};
 ghost use Rattle.combine_base.specs.Stream.View.{View, Takes};
-ghost use Rattle.combine_range.specs.Recognized.{HasValid, IsFresh, beside, recognized, recognized_is_meaning, recognized_means_one};
+ghost use Rattle.combine_range.specs.Range.RecognizedRange.{HasValid, IsFresh, beside, recognized, recognized_is_meaning, recognized_means_one};
 
 use crate::passing::{hand_out, not_passed, pass_items};
 use combine_base::error::{ErrorOffset, ParseResult, Tracked};

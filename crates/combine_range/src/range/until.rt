@@ -1,10 +1,10 @@
 //! What stands before the first occurrence of a range.
 ghost use Rattle.std.specs.Prelude.{◌≡◌};
 ghost use Rattle.combine_base.specs.Error.Errors.{Nothing};
-ghost use Rattle.combine_range.specs.Kept.{kept, kept_is_meaning, kept_means_one};
-ghost use Rattle.combine_range.specs.Reasons.{RefusesKept, RefusesMissing};
-ghost use Rattle.combine_range.specs.Until.{until_is_reading, until_is_single, until_range};
-ghost use Rattle.combine_range.specs.Wanted.{Fair, given};
+ghost use Rattle.combine_range.specs.KeptDistance.{kept, kept_is_meaning, kept_means_one};
+ghost use Rattle.combine_range.specs.RangeReasons.{RefusesKept, RefusesMissing};
+ghost use Rattle.combine_range.specs.Range.UntilRange.{until_is_reading, until_is_single, until_range};
+ghost use Rattle.combine_range.specs.WantedRanges.{Fair, given};
 
 use crate::distance::Distance;
 use crate::passing::{begin, hand_out, keep_distance, not_passed, pass_items};

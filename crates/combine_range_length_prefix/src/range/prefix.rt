@@ -2,8 +2,8 @@
 ghost use Rattle.std.specs.Prelude.{◌≡◌, Ok};
 ghost use Rattle.combine_combinator_function.specs.Changes.{MadeSaying};
 ghost use Rattle.combine_range_length_prefix.specs.Prefixes.{FitsNone, out_of_range};
-ghost use Rattle.combine_range.specs.RangeParsers.{take_of};
-ghost use Rattle.combine_sequence.specs.Answered.{forget};
+ghost use Rattle.combine_range.specs.Range.RangeParsers.{take_of};
+ghost use Rattle.combine_sequence.specs.Then.{forget};
 
 use combine_base::error::{ErrorOffset, Info, ParseError};
 use combine_base::stream::{Kind, Stream, StreamOnce};

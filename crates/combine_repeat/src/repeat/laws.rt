@@ -1,9 +1,8 @@
 //! What the repetitions mean, and what beside one another. The functions do nothing: their contracts are the laws.
-ghost use Rattle.combine_repeat.specs.Compared.{Many1OrSkip, ManyOrSkip, OnceThenTurns};
+ghost use Rattle.combine_repeat.specs.Repetition.{Many1OrSkip, ManyOrSkip, OnceThenTurns, many, many1, skip_many, skip_many1};
 ghost use Rattle.combine_base.specs.Parser.Meaning.{MeansSame};
-ghost use Rattle.combine_repeat.specs.Repetition.{many, many1, skip_many, skip_many1};
-ghost use Rattle.combine_repeat_turns.specs.RepeatParsers.{repeated_by};
-ghost use Rattle.combine_repeat_turns.specs.Counts.{appended};
+ghost use Rattle.combine_repeat_turns.specs.Repeat.RepeatParsers.{repeated_by};
+ghost use Rattle.combine_repeat_turns.specs.Repeat.Repeated.{appended};
 
 use crate::repeat::types::{Many, Many1, SkipMany, SkipMany1};
 use combine_base::parser::Parser;

@@ -1,13 +1,13 @@
 //! The parsers that the functions of this module return.
 ghost use Rattle.std.specs.Prelude.{◌≡◌};
-ghost use Rattle.combine_base.specs.Parser.Given.{GivesOnly};
-ghost use Rattle.combine_base.specs.Parser.Mapped.{mapped_is_meaning, mapped_means_one};
+ghost use Rattle.combine_base.specs.Parser.GivenValues.{GivesOnly};
+ghost use Rattle.combine_base.specs.Parser.ValueMap.{mapped_is_meaning, mapped_means_one};
 ghost use Rattle.combine_repeat_sep.specs.Pair.{fewer_is_meaning, fewer_means_one, led_valid};
 ghost use Rattle.combine_repeat_chain.specs.ChainParsers.{right_operator, right_part};
 ghost use Rattle.combine_repeat_chain.specs.Chains.{nothing_good, each_operand, kept_good, operands, right_fold};
-ghost use Rattle.combine_repeat_sep.specs.JoinedLaws.{joined_is_meaning, joined_means_one};
+ghost use Rattle.combine_repeat_sep.specs.Elements.{joined_is_meaning, joined_means_one};
 ghost use Rattle.combine_repeat_sep.specs.Separated.{separated_default, separated_valid};
-ghost use Rattle.combine_repeat_turns.specs.Bounded.{begun_valid, running_turn};
+ghost use Rattle.combine_repeat_turns.specs.Turns.Bounds.{begun_valid, running_turn};
 
 use crate::operands::{EachOperand, Operands};
 use combine_base::error::{ErrorOffset, ParseResult, Tracked};

@@ -4,7 +4,7 @@ ghost use Rattle.combine_base.specs.Parser.AnswersCalls.{AnswersCall};
 ghost use Rattle.combine_base.specs.Parser.Meaning.{MeansSame, begun_refuses};
 ghost use Rattle.combine_base.specs.Parser.Reasons.{Reasoned};
 ghost use Rattle.combine_base.specs.Stream.Calls.{Passes};
-ghost use Rattle.combine_repeat_iterate.specs.Items.{begins_items};
+ghost use Rattle.combine_repeat_iterate.specs.ItemParsers.{begins_items};
 ghost use Rattle.combine_repeat_iterate.specs.ItemCalls.{CalledItem, Stores};
 ghost use Rattle.combine_repeat_iterate.specs.ItemErrors.{item_refuses};
 

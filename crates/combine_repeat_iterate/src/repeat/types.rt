@@ -1,7 +1,7 @@
 //! The parser of `iterate`, and its state.
-ghost use Rattle.combine_base.specs.Parser.Kept.{KeptOf};
-ghost use Rattle.combine_repeat_iterate.specs.Iterated.{InPlace, ListsOne, any_of, asks, asked_part, gives_all, gives_one, items_part, lists};
-ghost use Rattle.combine_repeat_iterate.specs.Items.{AnswersOne, iterated, iterated_is_meaning, iterated_means_one, starts_valid, valid_item};
+ghost use Rattle.combine_base.specs.Parser.KeptParsers.{KeptOf};
+ghost use Rattle.combine_repeat_iterate.specs.ListedItems.{InPlace, ListsOne, any_of, asks, asked_part, gives_all, gives_one, items_part, lists};
+ghost use Rattle.combine_repeat_iterate.specs.ItemParsers.{AnswersOne, iterated, iterated_is_meaning, iterated_means_one, starts_valid, valid_item};
 
 use super::items::{Collected, Item, parse_item, resume_item};
 pub use super::items::{IterateState, RunningItem};

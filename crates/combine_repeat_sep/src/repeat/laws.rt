@@ -1,10 +1,9 @@
 //! What separated repetitions mean, and what in the words of others. The functions do nothing: their contracts are the laws.
 ghost use Rattle.std.specs.Prelude.{Some};
 ghost use Rattle.combine_base.specs.Parser.Meaning.{MeansSame};
-ghost use Rattle.combine_repeat_sep.specs.ElementThenTurns.{SepBy1IsOneThenTurns};
-ghost use Rattle.combine_repeat_sep.specs.Elements.{sep_by, sep_by1, sep_count_min_max};
+ghost use Rattle.combine_repeat_sep.specs.Elements.{SepBy1IsOneThenTurns, sep_by, sep_by1, sep_count_min_max};
 ghost use Rattle.combine_repeat_sep.specs.SeparatedParsers.{least_of, most_of, separated_part, separated_separator};
-ghost use Rattle.combine_repeat_turns.specs.Counts.{appended};
+ghost use Rattle.combine_repeat_turns.specs.Repeat.Repeated.{appended};
 
 use crate::repeat::types::{SepBy, SepBy1, SepCountMinMax};
 use combine_base::parser::Parser;

@@ -1,12 +1,11 @@
 //! The parsers of turns with a separator, and the names of the first for the functions of this module.
 ghost use Rattle.std.specs.Prelude.{◌≡◌, if◌then◌else◌};
-ghost use Rattle.combine_base.specs.Parser.Given.{GivesOnly};
-ghost use Rattle.combine_repeat_turns.specs.Bounded.{begun_valid, is_unbounded, running_turn};
-ghost use Rattle.combine_repeat_turns.specs.Counts.{appended};
+ghost use Rattle.combine_base.specs.Parser.GivenValues.{GivesOnly};
+ghost use Rattle.combine_repeat_turns.specs.Turns.Bounds.{begun_valid, is_unbounded, running_turn};
+ghost use Rattle.combine_repeat_turns.specs.Repeat.Repeated.{appended};
 ghost use Rattle.combine_repeat_sep.specs.Pair.{led_valid};
 ghost use Rattle.combine_repeat_sep.specs.SeparatedParsers.{bounds_of, chained_operator, chained_part, repeat_separated_of, separated_part, separated_separator};
-ghost use Rattle.combine_repeat_sep.specs.Elements.{chainl1, elements, folded, joined};
-ghost use Rattle.combine_repeat_sep.specs.JoinedLaws.{joined_is_meaning, joined_means_one};
+ghost use Rattle.combine_repeat_sep.specs.Elements.{chainl1, elements, folded, joined, joined_is_meaning, joined_means_one};
 ghost use Rattle.combine_repeat_sep.specs.Separated.{any_lead, separated_default, separated_fresh, separated_valid};
 
 use crate::elements::{EachElement, Folded};

@@ -2,7 +2,7 @@
 ghost use Rattle.combine_base.specs.Parser.Meaning.{MeansSame};
 ghost use Rattle.combine_repeat_sep_end.specs.SepEnd.{sep_end_by, sep_end_by1};
 ghost use Rattle.combine_repeat_sep_end.specs.SepEndParsers.{ended_by_part, ended_by_separator};
-ghost use Rattle.combine_repeat_turns.specs.Counts.{appended};
+ghost use Rattle.combine_repeat_turns.specs.Repeat.Repeated.{appended};
 
 use crate::repeat::types::{SepEndBy, SepEndBy1};
 use combine_base::parser::Parser;

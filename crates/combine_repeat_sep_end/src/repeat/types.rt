@@ -4,8 +4,8 @@ ghost use Rattle.combine_repeat_sep.specs.Pair.{pair_valid};
 ghost use Rattle.combine_repeat_sep.specs.Separated.{separated_default, separated_fresh, separated_valid};
 ghost use Rattle.combine_repeat_sep_end.specs.SepEnd.{sep_end, sep_end_is_meaning, sep_end_means_one};
 ghost use Rattle.combine_repeat_sep_end.specs.SepEndParsers.{bounds_of, ended_by_part, ended_by_separator, repeat_ended_of};
-ghost use Rattle.combine_repeat_turns.specs.Bounded.{begun_valid, running_turn};
-ghost use Rattle.combine_repeat_turns.specs.Counts.{appended};
+ghost use Rattle.combine_repeat_turns.specs.Turns.Bounds.{begun_valid, running_turn};
+ghost use Rattle.combine_repeat_turns.specs.Repeat.Repeated.{appended};
 
 use crate::ended::{EachSome, Ended};
 use combine_base::error::{ErrorOffset, ParseResult, Tracked};

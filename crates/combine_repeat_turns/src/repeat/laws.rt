@@ -1,8 +1,8 @@
 //! What counted repetitions mean, and what beside one another. The functions do nothing: their contracts are the laws.
 ghost use Rattle.combine_base.specs.Parser.Meaning.{MeansSame};
-ghost use Rattle.combine_repeat_turns.specs.CountsCompared.{CountOrSkip};
-ghost use Rattle.combine_repeat_turns.specs.Counts.{appended, count_min_max, skip_count_min_max};
-ghost use Rattle.combine_repeat_turns.specs.RepeatParsers.{least_of, most_of, repeated_by};
+ghost use Rattle.combine_repeat_turns.specs.Repeat.Counts.{CountOrSkip, count_min_max, skip_count_min_max};
+ghost use Rattle.combine_repeat_turns.specs.Repeat.Repeated.{appended};
+ghost use Rattle.combine_repeat_turns.specs.Repeat.RepeatParsers.{least_of, most_of, repeated_by};
 
 use crate::repeat::types::{CountMinMax, SkipCountMinMax};
 use combine_base::parser::Parser;

@@ -1,9 +1,8 @@
 //! The parser of turns, and its names for the functions of this module.
 ghost use Rattle.std.specs.Prelude.{◌≡◌, ◌&&◌, if◌then◌else◌};
-ghost use Rattle.combine_repeat_turns.specs.Bounded.{begun_valid, gathered, is_unbounded, running_turn};
-ghost use Rattle.combine_repeat_turns.specs.CountLaws.{repeated_is_meaning, repeated_means_one};
-ghost use Rattle.combine_repeat_turns.specs.Counts.{repeated};
-ghost use Rattle.combine_repeat_turns.specs.RepeatParsers.{bounds_of, repeat_of, repeated_by};
+ghost use Rattle.combine_repeat_turns.specs.Turns.Bounds.{begun_valid, gathered, is_unbounded, running_turn};
+ghost use Rattle.combine_repeat_turns.specs.Repeat.Repeated.{repeated_is_meaning, repeated_means_one, repeated};
+ghost use Rattle.combine_repeat_turns.specs.Repeat.RepeatParsers.{bounds_of, repeat_of, repeated_by};
 
 use crate::each::{Dropped, Each, Plain};
 use crate::turns::limits::{Between, Bounded};

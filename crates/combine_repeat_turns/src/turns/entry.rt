@@ -12,7 +12,7 @@ pub trait Entry {
     ghost use Rattle.combine_base.specs.Parser.AnswersCalls.{AnswersCall};
     ghost use Rattle.combine_base.specs.Parser.Reasons.{ReasonedCall};
     ghost use Rattle.combine_base.specs.Stream.Calls.{Passes};
-    ghost use Rattle.combine_repeat_turns.specs.Turn.{TurnsSame, called};
+    ghost use Rattle.combine_repeat_turns.specs.Turns.Turn.{TurnsSame, called};
 
     /// The entries that begin afresh.
     ghost first: { Self → Bool };

@@ -1,7 +1,7 @@
 //! Bounds of turns: a type each, so that what some turns don't need isn't compiled with them.
 ghost use Rattle.std.specs.Prelude.{◌≡◌, ℕ};
 ghost use Rattle.combine_base.specs.Stream.View.{View, Takes};
-ghost use Rattle.combine_repeat_turns.specs.Bounded.{between, enough, goes_joined, joined_between, takes_token};
+ghost use Rattle.combine_repeat_turns.specs.Turns.Bounds.{between, enough, goes_joined, joined_between, takes_token};
 
 use crate::turns::{Bounds, Place};
 use combine_base::stream::{Stream, has_taken};
@@ -10,7 +10,7 @@ use combine_base::stream::{Stream, has_taken};
 pub trait Bounded: Copy {
     ghost use Rattle.std.specs.Prelude.{◌≡◌, ℕ};
     ghost use Rattle.combine_base.specs.Stream.View.{View, Takes};
-    ghost use Rattle.combine_repeat_turns.specs.Bounded.{full_at, goes_at, is_unbounded, limit, missing, owns};
+    ghost use Rattle.combine_repeat_turns.specs.Turns.Bounds.{full_at, goes_at, is_unbounded, limit, missing, owns};
     ghost use Rattle.combine_repeat_turns.specs.declared.turns.Bounds.{Bounds};
 
     /// What they are.

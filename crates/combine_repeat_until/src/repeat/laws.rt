@@ -1,6 +1,6 @@
 //! What repetitions up to a place mean beside one another. The function does nothing: its contract is the law.
 ghost use Rattle.combine_repeat_until.specs.Until.{some_appended};
-ghost use Rattle.combine_repeat_until.specs.UntilCompared.{RepeatOrSkip};
+ghost use Rattle.combine_repeat_until.specs.UntilParsers.{RepeatOrSkip};
 
 use combine_base::parser::Parser;
 use combine_base::repeat::Append;

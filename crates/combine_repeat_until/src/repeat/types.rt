@@ -1,8 +1,7 @@
 //! The parsers that the functions of this module return.
-ghost use Rattle.combine_token.specs.Or.{or_valid};
+ghost use Rattle.combine_token.specs.Choice.Or.{or_valid};
 ghost use Rattle.combine_repeat_until.specs.Next.{next_is_meaning, next_once};
-ghost use Rattle.combine_repeat_until.specs.Until.{some_appended, some_dropped, until_valid};
-ghost use Rattle.combine_repeat_until.specs.UntilLaws.{until_is_meaning, until_means_one};
+ghost use Rattle.combine_repeat_until.specs.Until.{some_appended, some_dropped, until_valid, until_is_meaning, until_means_one};
 ghost use Rattle.combine_repeat_until.specs.UntilParsers.{blocks_end, blocks_part, repeat_until, skipped_end, skipped_part};
 
 pub use crate::mute::Mute;

@@ -1,9 +1,8 @@
 //! A parser, and then one that a function of its value returns.
 ghost use Rattle.std.specs.Prelude.{◌≡◌, true};
-ghost use Rattle.combine_base.specs.Parser.Given.{GivesOnly, gives_as};
-ghost use Rattle.combine_base.specs.Parser.Kept.{KeptOf};
-ghost use Rattle.combine_sequence.specs.Answered.{AnsweredBySome, AsksOne, answered_of, asked_part, asks_lawful, first_part, some_lawful, starts_first, starts_valid, then, then_is_meaning, then_means_one, valid_step};
-ghost use Rattle.combine_sequence.specs.Thens.{CalledAnswered};
+ghost use Rattle.combine_base.specs.Parser.GivenValues.{GivesOnly, gives_as};
+ghost use Rattle.combine_base.specs.Parser.KeptParsers.{KeptOf};
+ghost use Rattle.combine_sequence.specs.Then.{AnsweredBySome, AsksOne, answered_of, asked_part, asks_lawful, first_part, some_lawful, starts_first, starts_valid, then, then_is_meaning, then_means_one, valid_step, CalledAnswered};
 
 pub(super) mod asked;
 pub(super) mod state;

@@ -1,6 +1,6 @@
 //! What the parsers of `sequence` mean, stated by functions that do nothing: of parsers with values of one type, so that another value would be of the right type too.
 ghost use Rattle.combine_base.specs.Parser.Meaning.{MeansSame};
-ghost use Rattle.combine_combinator.specs.Parsers.{picked_of};
+ghost use Rattle.combine_combinator.specs.CombinatorParsers.{picked_of};
 ghost use Rattle.combine_sequence.specs.Values.{first_value, middle_value, second_value};
 
 use crate::sequence::types::{Between, Skip, With};

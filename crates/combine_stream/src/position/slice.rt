@@ -32,7 +32,7 @@ impl<'a, T> Clone for SliceStream<'a, T> {
 impl<'a, T> Copy for SliceStream<'a, T> {}
 
 impl<'a, T: Copy> SliceStream<'a, T> {
-    ghost use Rattle.combine_stream.specs.Indices.{indexed_view};
+    ghost use Rattle.combine_stream.specs.Position.IndexedSlices.{indexed_view};
 
     // Returns the unread tokens.
     #[inline(always)]
@@ -44,7 +44,7 @@ impl<'a, T: Copy> SliceStream<'a, T> {
 }
 
 impl<'a, T: Copy> DefaultPositioned for &'a [T] {
-    ghost use Rattle.combine_stream.specs.Counted.{index_counts};
+    ghost use Rattle.combine_stream.specs.Position.CountedPositions.{index_counts};
 
     type Placed = SliceStream<'a, T>;
 
@@ -113,7 +113,7 @@ impl<'a, T: Copy> Windowed for &'a [T] {
 
 impl<'a, T: Copy> StreamOnce for SliceStream<'a, T> {
     ghost use Rattle.combine_base.specs.Stream.Fed.{one_more, count_moves};
-    ghost use Rattle.combine_stream.specs.Indices.{indexed_view};
+    ghost use Rattle.combine_stream.specs.Position.IndexedSlices.{indexed_view};
 
     type Token = T;
 
@@ -160,7 +160,7 @@ impl<'a, T: Copy> StreamOnce for SliceStream<'a, T> {
 }
 
 impl<'a, T: Copy> ResetStream for SliceStream<'a, T> {
-    ghost use Rattle.combine_stream.specs.Indices.{indexed_view};
+    ghost use Rattle.combine_stream.specs.Position.IndexedSlices.{indexed_view};
 
     type Checkpoint = SliceStream<'a, T>;
 
@@ -207,7 +207,7 @@ impl<'a, T: Copy> Stream for SliceStream<'a, T> {}
 impl<'a, T: Copy> RangeStream for SliceStream<'a, T> {
     ghost use Rattle.std.specs.Prelude.{◌≡◌, ℕ, ◌<◌};
     ghost use Rattle.std.proofs.Common.{arith};
-    ghost use Rattle.combine_stream.specs.Measures.{slice_measured};
+    ghost use Rattle.combine_stream.specs.Range.Measures.{slice_measured};
 
     ghost size = { λ t. 1 };
 

@@ -3,10 +3,10 @@ ghost use Rattle.std.specs.Prelude.{◌≡◌, ◌↔◌, ℕ, ◌+◌, ◌<◌,
 ghost use Rattle.std.specs.Char.{len_utf8};
 ghost use Rattle.std.specs.Str.{IsCharBoundary, IsUtf8, chars};
 ghost use Rattle.combine_base.specs.Stream.View.{after_all};
-ghost use Rattle.combine_stream.specs.Ranges.{size_of};
-ghost use Rattle.combine_stream.specs.TextRanges.{Cut, uncut};
-ghost use Rattle.combine_stream.specs.Lines.{Fits, StepsOn, behind, first_place, next_place};
-ghost use Rattle.combine_stream.specs.TextWindows.{index_of};
+ghost use Rattle.combine_stream.specs.Range.Ranges.{size_of};
+ghost use Rattle.combine_stream.specs.Range.TextRanges.{Cut, uncut};
+ghost use Rattle.combine_stream.specs.Position.Lines.{Fits, StepsOn, behind, first_place, next_place};
+ghost use Rattle.combine_stream.specs.Range.TextWindows.{index_of};
 
 use crate::position::{DefaultPositioned, Windowed};
 use crate::range::texts::{bytes_while, cut};
@@ -94,8 +94,8 @@ pub struct TextStream<'a> {
 }
 
 impl<'a> DefaultPositioned for &'a str {
-    ghost use Rattle.combine_stream.specs.Counted.{place_counts};
-    ghost use Rattle.combine_stream.specs.Lines.{behind};
+    ghost use Rattle.combine_stream.specs.Position.CountedPositions.{place_counts};
+    ghost use Rattle.combine_stream.specs.Position.Lines.{behind};
 
     type Placed = TextStream<'a>;
 
@@ -117,7 +117,7 @@ impl<'a> DefaultPositioned for &'a str {
 
 impl<'a> Windowed for &'a str {
     ghost use Rattle.std.specs.Prelude.{refl};
-    ghost use Rattle.combine_stream.specs.TextWindows.{index_orders, index_rises};
+    ghost use Rattle.combine_stream.specs.Range.TextWindows.{index_orders, index_rises};
 
     ghost places = { λ s c. IsUtf8 s.now × IsCharBoundary s.now c };
 
@@ -161,7 +161,7 @@ impl<'a> Windowed for &'a str {
 }
 
 impl<'a> StreamOnce for TextStream<'a> {
-    ghost use Rattle.combine_stream.specs.PlacedViews.{placed_view, placed_moves};
+    ghost use Rattle.combine_stream.specs.Position.PlacedViews.{placed_view, placed_moves};
 
     type Token = char;
 
@@ -208,7 +208,7 @@ impl<'a> StreamOnce for TextStream<'a> {
 }
 
 impl<'a> ResetStream for TextStream<'a> {
-    ghost use Rattle.combine_stream.specs.PlacedViews.{placed_view};
+    ghost use Rattle.combine_stream.specs.Position.PlacedViews.{placed_view};
 
     type Checkpoint = TextStream<'a>;
 
@@ -251,7 +251,7 @@ impl<'a> Positioned for TextStream<'a> {
 impl<'a> Stream for TextStream<'a> {}
 
 impl<'a> RangeStream for TextStream<'a> {
-    ghost use Rattle.combine_stream.specs.TextRanges.{text_of, char_filled, text_measured};
+    ghost use Rattle.combine_stream.specs.Range.TextRanges.{text_of, char_filled, text_measured};
 
     ghost size = { len_utf8 };
 

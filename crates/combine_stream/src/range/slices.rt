@@ -1,6 +1,6 @@
 //! A slice as a stream of ranges, which are slices of it.
 ghost use Rattle.std.specs.Prelude.{◌≡◌, length};
-ghost use Rattle.combine_stream.specs.Ranges.{LongestItems};
+ghost use Rattle.combine_stream.specs.Range.Ranges.{LongestItems};
 
 use crate::range::{ByteRange, Range, RangeStream};
 use combine_base::maps::Maps;
@@ -31,7 +31,7 @@ impl<'a> ByteRange for &'a [u8] {
 impl<'a, T: Copy> RangeStream for &'a [T] {
     ghost use Rattle.std.specs.Prelude.{◌≡◌, ℕ, ◌<◌};
     ghost use Rattle.std.proofs.Common.{arith};
-    ghost use Rattle.combine_stream.specs.Measures.{slice_measured};
+    ghost use Rattle.combine_stream.specs.Range.Measures.{slice_measured};
 
     ghost size = { λ t. 1 };
 

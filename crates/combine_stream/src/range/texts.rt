@@ -3,9 +3,9 @@ ghost use Rattle.std.specs.Prelude.{◌≡◌, ℕ, MatchResult, length, take};
 ghost use Rattle.std.specs.Str.{chars};
 ghost use Rattle.std.specs.Char.{len_utf8};
 ghost use Rattle.combine_base.specs.Stream.View.{Ahead};
-ghost use Rattle.combine_stream.specs.Ranges.{LongestItems, size_of};
+ghost use Rattle.combine_stream.specs.Range.Ranges.{LongestItems, size_of};
 ghost use Rattle.combine_base.specs.Stream.Texts.{text_view, less_char};
-ghost use Rattle.combine_stream.specs.TextRanges.{Cut, uncut, text_of};
+ghost use Rattle.combine_stream.specs.Range.TextRanges.{Cut, uncut, text_of};
 
 use crate::range::{ByteRange, Range, RangeStream};
 use combine_base::maps::Maps;
@@ -34,7 +34,7 @@ impl<'a> ByteRange for &'a str {
 }
 
 impl<'a> RangeStream for &'a str {
-    ghost use Rattle.combine_stream.specs.TextRanges.{text_of, char_filled, text_measured};
+    ghost use Rattle.combine_stream.specs.Range.TextRanges.{text_of, char_filled, text_measured};
 
     ghost size = { len_utf8 };
 

@@ -1,7 +1,7 @@
 use Rattle.std.proofs.Common.{◌≡◌, ◌+◌, ◌∙◌, ap, length, arith, refl}
 use Rattle.std.specs.Prelude.{Ok}
 use Rattle.std.proofs.lemmas.Result.{err_from_is_err_and}
-use Rattle.combine_base.proofs.Same.{same_none, same_more}
+use Rattle.combine_base.proofs.Parsers.SameMeanings.{same_none, same_more}
 use Rattle.combine_stream_cuts.proofs.CutRuns.{at_first, stops, stops_by, goes_on, ends, ends_by, fits, fits_last, fits_in_tokens, window_same}
 use Rattle.combine_stream_cuts.proofs.parse_cuts.Goals as goal
 

@@ -1,7 +1,7 @@
 //! The first part of a choice, and what follows it. Our own: what `or` and the choices over tuples are made of.
 ghost use Rattle.std.specs.Prelude.{◌≡◌, false};
 ghost use Rattle.combine_base.specs.Stream.Calls.{Passes};
-ghost use Rattle.combine_token.specs.Turned.{GoesOn, RunsOn, Settled, Settles};
+ghost use Rattle.combine_token.specs.Choice.FirstAlternative.{GoesOn, RunsOn, Settled, Settles};
 
 use super::{OrState, after_refusal};
 use combine_base::error::{ParseResult, Tracked};

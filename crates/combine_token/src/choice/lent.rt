@@ -1,8 +1,8 @@
 //! Alternatives that are lent: a parser, or a pair of two halves of a choice. Our own: `or` and the choices over tuples are made of it.
 ghost use Rattle.std.specs.Prelude.{◌≡◌, refl};
-ghost use Rattle.combine_token.specs.ChoiceCalls.{FollowedCall, TriedCall};
-ghost use Rattle.combine_token.specs.Turned.{NoFault, first_valid};
-ghost use Rattle.combine_token.specs.Or.{either_of, or_is_meaning, or_valid};
+ghost use Rattle.combine_token.specs.Choice.ChoiceCalls.{FollowedCall, TriedCall};
+ghost use Rattle.combine_token.specs.Choice.FirstAlternative.{NoFault, first_valid};
+ghost use Rattle.combine_token.specs.Choice.Or.{either_of, or_is_meaning, or_valid};
 
 use super::OrState;
 use super::first::{Turn, begin, go_on, settle};
@@ -21,7 +21,7 @@ pub struct Second;
 /// What a call promises is that of a parser, and that the same parsers are lent as before: so the lender knows what they became.
 pub trait Alternatives<Input: Stream> {
     ghost use Rattle.combine_base.specs.Parser.Meaning.{Meaning, IsMeaning};
-    ghost use Rattle.combine_token.specs.ChoiceCalls.{ChoseCall};
+    ghost use Rattle.combine_token.specs.Choice.ChoiceCalls.{ChoseCall};
 
     /// The value of an acceptance.
     type Output: Drop;

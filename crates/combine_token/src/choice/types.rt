@@ -1,7 +1,7 @@
 //! The parsers that the functions of `choice` return.
 ghost use Rattle.std.specs.Prelude.{◌≡◌};
-ghost use Rattle.combine_token.specs.Optional.{optional, optional_is_meaning, optional_means_one};
-ghost use Rattle.combine_token.specs.Or.{either_of, or_is_meaning, or_means_one, or_valid};
+ghost use Rattle.combine_token.specs.Choice.Optional.{optional, optional_is_meaning, optional_means_one};
+ghost use Rattle.combine_token.specs.Choice.Or.{either_of, or_is_meaning, or_means_one, or_valid};
 
 use super::OrState;
 use super::lent::{Alternatives, First};

@@ -2,8 +2,8 @@
 ghost use Rattle.std.specs.Prelude.{◌≡◌};
 ghost use Rattle.std.specs.Iterator.{IsFinite};
 ghost use Rattle.combine_base.specs.Error.Errors.{Says};
-ghost use Rattle.combine_token.specs.Among.{ExpectsEach, Finds};
-ghost use Rattle.combine_token.specs.TokenParsers.{none_of_parser, one_of_parser};
+ghost use Rattle.combine_token.specs.Token.Among.{ExpectsEach, Finds};
+ghost use Rattle.combine_token.specs.Token.TokenParsers.{none_of_parser, one_of_parser};
 
 pub mod types;
 

@@ -1,9 +1,9 @@
 //! Lists of tokens, matched one by one.
 ghost use Rattle.std.specs.Prelude.{◌≡◌};
 ghost use Rattle.combine_base.specs.Stream.Calls.{Passes};
-ghost use Rattle.combine_token.specs.Iterated.{IsIterated};
-ghost use Rattle.combine_token.specs.ListCalls.{MatchesCall, MismatchesCall};
-ghost use Rattle.combine_token.specs.TokenParsers.{tokens_cmp_of, tokens_of};
+ghost use Rattle.combine_token.specs.Token.Lists.IteratedLists.{IsIterated};
+ghost use Rattle.combine_token.specs.Token.Lists.ListCalls.{MatchesCall, MismatchesCall};
+ghost use Rattle.combine_token.specs.Token.TokenParsers.{tokens_cmp_of, tokens_of};
 
 mod answers;
 pub mod types;

@@ -2,8 +2,8 @@
 ghost use Rattle.combine_base.specs.Parser.Answer.{world};
 ghost use Rattle.combine_base.specs.Parser.Reasons.{Reasoned};
 ghost use Rattle.combine_base.specs.Stream.Calls.{Passes};
-ghost use Rattle.combine_token.specs.OneToken.{holds, of_token, PutBack, ReadsToken, ReadsTokenIf};
-ghost use Rattle.combine_token.specs.Reasons.{RefusesToken};
+ghost use Rattle.combine_token.specs.Token.OneToken.{holds, of_token, PutBack, ReadsToken, ReadsTokenIf};
+ghost use Rattle.combine_token.specs.Token.TokenReasons.{RefusesToken};
 
 pub use crate::token::lists::match_list;
 use combine_base::error::{ParseResult, Tracked};

@@ -1,4 +1,4 @@
-use Rattle.combine_char.proofs.Spelling.{given_answers, slice_iterated, slice_within, within_slice, spelled_reasons}
+use Rattle.combine_char.proofs.SpelledLists.{given_answers, slice_iterated, slice_within, within_slice, spelled_reasons}
 use Rattle.combine_char.proofs.byte_list.match_bytes.Goals as goal
 
 pub match_list-requires-clause-list : goal.match_list-requires-clause-list

@@ -1,8 +1,8 @@
 use Rattle.std.proofs.Common.{sym, ◌∙◌}
 use Rattle.std.proofs.lemmas.Bool.{false≢true}
 use Rattle.combine_base.specs.Parser.Answer.{world}
-use Rattle.combine_base.proofs.Reasoning.{reasons_need}
-use Rattle.combine_char.proofs.Beginning.{begins_accepted, begins_peeked, begins_refused, begins_failed, begins_open, begins_put_back, begins_unreset}
+use Rattle.combine_base.proofs.Errors.CallReasons.{reasons_need}
+use Rattle.combine_char.proofs.RestartCalls.{begins_accepted, begins_peeked, begins_refused, begins_failed, begins_open, begins_put_back, begins_unreset}
 use Rattle.combine_char.proofs.pair.begin_again.Goals as goal
 
 pub returns-in-CommitOk-clause-answers : goal.returns-in-CommitOk-clause-answers

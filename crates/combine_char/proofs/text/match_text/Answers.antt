@@ -1,4 +1,4 @@
-use Rattle.combine_char.proofs.Spelling.{chars_iterated, chars_within, given_answers, within_chars, spelled_reasons}
+use Rattle.combine_char.proofs.SpelledLists.{chars_iterated, chars_within, given_answers, within_chars, spelled_reasons}
 use Rattle.combine_char.proofs.text.match_text.Goals as goal
 
 pub match_list-requires-clause-list : goal.match_list-requires-clause-list

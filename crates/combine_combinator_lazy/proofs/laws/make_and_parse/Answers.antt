@@ -1,5 +1,5 @@
-use Rattle.combine_combinator_lazy.specs.Made.{made_at_of_for}
-use Rattle.combine_combinator_lazy.proofs.Making.{refuses_made, starts_made}
+use Rattle.combine_combinator_lazy.specs.MadeParsers.{made_at_of_for}
+use Rattle.combine_combinator_lazy.proofs.MadeAnswers.{refuses_made, starts_made}
 use Rattle.combine_combinator_lazy.proofs.laws.make_and_parse.Goals as goal
 
 pub make_and_run-requires-clause-lawful : goal.make_and_run-requires-clause-lawful

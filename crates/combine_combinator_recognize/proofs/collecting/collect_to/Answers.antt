@@ -1,10 +1,10 @@
 use Rattle.std.proofs.Common.{◌∙◌, ◌+◌, arith, refl, ap, sym}
 use Rattle.std.proofs.lemmas.Result.{err_from_is_err_and}
 use Rattle.combine_base.specs.Stream.View.{View}
-use Rattle.combine_base.proofs.Distances.{takes_token, not_yet, reached}
-use Rattle.combine_base.proofs.Progress.{takes_more, takes_none}
-use Rattle.combine_base.proofs.Same.{passes_more, passes_none}
-use Rattle.combine_combinator_recognize.proofs.Gathering.{collect_starved, collect_stopped, one_more}
+use Rattle.combine_base.proofs.Streams.Distances.{takes_token, not_yet, reached}
+use Rattle.combine_base.proofs.Parsers.Progress.{takes_more, takes_none}
+use Rattle.combine_base.proofs.Parsers.SameMeanings.{passes_more, passes_none}
+use Rattle.combine_combinator_recognize.proofs.TokenCollection.{collect_starved, collect_stopped, one_more}
 use Rattle.combine_combinator_recognize.proofs.collecting.collect_to.Goals as goal
 
 pub tokens-init : goal.tokens-init

@@ -1,7 +1,7 @@
 use Rattle.std.proofs.Common.{ℕ, ◌≡◌, ◌≤◌, length, take}
 use Rattle.combine_base.specs.Stream.View.{View, Takes}
 use Rattle.combine_base.specs.Stream.Calls.{Passes}
-use Rattle.combine_combinator_recognize.specs.Gathered.{all_more}
+use Rattle.combine_combinator_recognize.specs.RecognizedTokens.{all_more}
 use Rattle.combine_combinator_recognize.proofs.collecting.collect_to.Given as goal
 
 abbrev pub invariant-tokens : goal.invariant-tokens

@@ -1,5 +1,5 @@
 use Rattle.std.proofs.Common.{refl, ap, not, nat_eq, length, ◌∙◌, arith, ◌<◌}
-use Rattle.combine_decode.proofs.Decoding.{by_length, further, gives_empty, gives_more, gives_refused, less_left, smaller, starts}
+use Rattle.combine_decode.proofs.OneMessage.{by_length, further, gives_empty, gives_more, gives_refused, less_left, smaller, starts}
 use Rattle.combine_decode.proofs.decode.drain.Goals as goal
 
 pub messages-init : goal.messages-init

@@ -1,6 +1,6 @@
 use Rattle.std.proofs.Common.{◌≡◌, ◌↔◌, true, length, List}
 use Rattle.combine_decode.specs.Messages.{Told, made}
-use Rattle.combine_decode.proofs.Decoding.{SoFar, remaining}
+use Rattle.combine_decode.proofs.OneMessage.{SoFar, remaining}
 use Rattle.combine_decode.proofs.decode.drain.Given as goal
 
 -- the messages so far, and what the session was told of the tokens behind them

@@ -1,4 +1,4 @@
-use Rattle.combine_decode.proofs.Decoding.{again_told}
+use Rattle.combine_decode.proofs.OneMessage.{again_told}
 use Rattle.combine_decode.proofs.decode.go_on.Goals as goal
 
 pub returns-in-Ok : goal.returns-in-Ok

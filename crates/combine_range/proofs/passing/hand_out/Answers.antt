@@ -1,5 +1,5 @@
 use Rattle.std.proofs.Common.{arith}
-use Rattle.combine_range.proofs.Since.{handed_some, handed_none, not_handed}
+use Rattle.combine_range.proofs.CheckpointRanges.{handed_some, handed_none, not_handed}
 use Rattle.combine_range.proofs.passing.hand_out.Goals as goal
 
 pub returns-then-len-gt0-clause-hands : goal.returns-then-len-gt0-clause-hands

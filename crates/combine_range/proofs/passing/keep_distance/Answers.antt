@@ -1,4 +1,4 @@
-use Rattle.combine_range.proofs.Since.{ahead, kept_back, not_kept}
+use Rattle.combine_range.proofs.CheckpointRanges.{ahead, kept_back, not_kept}
 use Rattle.combine_range.proofs.passing.keep_distance.Goals as goal
 
 pub returns-in-Ok-clause-keeps : goal.returns-in-Ok-clause-keeps

@@ -1,5 +1,5 @@
 use Rattle.std.proofs.Common.{sym, ◌∙◌, ap}
-use Rattle.combine_range.specs.Kept.{losing}
+use Rattle.combine_range.specs.KeptDistance.{losing}
 use Rattle.combine_range.proofs.passing.not_passed.Goals as goal
 
 pub returns-in-End-clause-answers : goal.returns-in-End-clause-answers

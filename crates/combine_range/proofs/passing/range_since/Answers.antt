@@ -1,4 +1,4 @@
-use Rattle.combine_range.proofs.Since.{ahead, read_again, not_back}
+use Rattle.combine_range.proofs.CheckpointRanges.{ahead, read_again, not_back}
 use Rattle.combine_range.proofs.passing.range_since.Goals as goal
 
 pub returns-in-Err-clause-hands : goal.returns-in-Err-clause-hands

@@ -1,4 +1,4 @@
-use Rattle.combine_range.proofs.Seeking.{told, told_stuck}
+use Rattle.combine_range.proofs.RangePlaces.{told, told_stuck}
 use Rattle.combine_range.proofs.places.begins_with.Goals as goal
 
 pub returns-in-Ok-reset-clause-tells : goal.returns-in-Ok-reset-clause-tells

@@ -1,6 +1,6 @@
-use Rattle.combine_base.proofs.Same.{passes_more}
+use Rattle.combine_base.proofs.Parsers.SameMeanings.{passes_more}
 use Rattle.std.proofs.Common.{arith}
-use Rattle.combine_range.proofs.Seeking.{sought_more, seeks_end, seeks_none, seeks_broken, seeks_unread}
+use Rattle.combine_range.proofs.RangePlaces.{sought_more, seeks_end, seeks_none, seeks_broken, seeks_unread}
 use Rattle.combine_range.proofs.places.seek.Goals as goal
 
 pub returns-in-Ok-None-clause-seeks : goal.returns-in-Ok-None-clause-seeks

@@ -1,7 +1,7 @@
 use Rattle.std.proofs.Common.{length}
 use Rattle.combine_base.specs.Stream.Calls.{Passes}
-use Rattle.combine_range.specs.Wanted.{given}
-use Rattle.combine_range.specs.Tested.{Sought}
+use Rattle.combine_range.specs.WantedRanges.{given}
+use Rattle.combine_range.specs.RangeTests.{Sought}
 use Rattle.combine_range.proofs.places.seek.Given as goal
 
 abbrev pub invariant-loop-found : goal.invariant-loop-found

@@ -1,6 +1,6 @@
 use Rattle.std.specs.Prelude.{refl}
-use Rattle.combine_range.specs.RangeParsers.{take_of}
-use Rattle.combine_range_length_prefix.proofs.Refusing.{same_refusals}
+use Rattle.combine_range.specs.Range.RangeParsers.{take_of}
+use Rattle.combine_range_length_prefix.proofs.PrefixErrors.{same_refusals}
 use Rattle.combine_range_length_prefix.proofs.laws.length_prefix_refuses.Goals as goal
 
 pub returns : goal.returns

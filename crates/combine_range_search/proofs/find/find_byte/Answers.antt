@@ -1,4 +1,4 @@
-use Rattle.combine_range_search.proofs.Scanning.{finds_first, finds_none}
+use Rattle.combine_range_search.proofs.ByteScans.{finds_first, finds_none}
 use Rattle.combine_range_search.proofs.find.find_byte.Goals as goal
 
 pub returns-then-place-bytes : goal.returns-then-place-bytes

@@ -1,7 +1,7 @@
 use Rattle.std.proofs.Common.{arith, refl, sym, subst, ap, ◌≡◌, ◌∷◌, ◌∙◌, [], List, ℕ, length, ◌-◌}
 use Rattle.std.proofs.lemmas.Bool.{false≢true}
-use Rattle.combine_range_search.specs.InBytes.{Stands, these_bytes}
-use Rattle.combine_range_search.proofs.Scanning.{empty_first, needle_found, needle_nowhere, sought_more, within_bytes}
+use Rattle.combine_range_search.specs.Bytes.ByteSearch.{Stands, these_bytes}
+use Rattle.combine_range_search.proofs.ByteScans.{empty_first, needle_found, needle_nowhere, sought_more, within_bytes}
 use Rattle.combine_range_search.proofs.find.find_bytes.Goals as goal
 
 none : (xs : List ℕ) → length xs ≡ 0 → xs ≡ []

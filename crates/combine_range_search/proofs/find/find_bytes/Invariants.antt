@@ -1,5 +1,5 @@
 use Rattle.std.proofs.Common.{length}
-use Rattle.combine_range_search.proofs.Scanning.{Sought}
+use Rattle.combine_range_search.proofs.ByteScans.{Sought}
 use Rattle.combine_range_search.proofs.find.find_bytes.Given as goal
 
 abbrev pub invariant-loop-rest : goal.invariant-loop-rest

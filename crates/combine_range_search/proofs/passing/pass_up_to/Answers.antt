@@ -1,7 +1,7 @@
 use Rattle.std.proofs.Common.{arith, refl}
-use Rattle.combine_base.proofs.Same.{passes_none}
-use Rattle.combine_stream.specs.RangeFacts.{size_take}
-use Rattle.combine_range_search.proofs.Bounding.{up_to}
+use Rattle.combine_base.proofs.Parsers.SameMeanings.{passes_none}
+use Rattle.combine_stream.specs.Range.Ranges.{size_take}
+use Rattle.combine_range_search.proofs.ItemLimit.{up_to}
 use Rattle.combine_range_search.proofs.passing.pass_up_to.Goals as goal
 
 pub loop-range-init : goal.loop-range-init

@@ -1,6 +1,6 @@
 use Rattle.std.proofs.Common.{ℕ, ◌≡◌, ◌≤◌, length, take}
 use Rattle.combine_base.specs.Stream.Calls.{Passes}
-use Rattle.combine_stream.specs.Ranges.{size_of}
+use Rattle.combine_stream.specs.Range.Ranges.{size_of}
 use Rattle.combine_range_search.proofs.passing.pass_up_to.Given as goal
 
 abbrev pub invariant-loop-range : goal.invariant-loop-range

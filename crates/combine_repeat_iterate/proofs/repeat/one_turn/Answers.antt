@@ -1,7 +1,7 @@
-use Rattle.combine_base.proofs.Same.{passes_more}
-use Rattle.combine_repeat_turns.proofs.Judging.{put_back}
-use Rattle.combine_repeat_iterate.specs.Turned.{InTurn, TakesNothing}
-use Rattle.combine_repeat_iterate.proofs.Judging.{judged_by, block_commits, not_put_back}
+use Rattle.combine_base.proofs.Parsers.SameMeanings.{passes_more}
+use Rattle.combine_repeat_turns.proofs.OneTurn.{put_back}
+use Rattle.combine_repeat_iterate.specs.IteratorTurn.{InTurn, TakesNothing}
+use Rattle.combine_repeat_iterate.proofs.IteratorBlocks.{judged_by, block_commits, not_put_back}
 use Rattle.combine_repeat_iterate.proofs.repeat.one_turn.Goals as goal
 use Rattle.combine_repeat_iterate.proofs.repeat.one_turn.Goals.{in-CommitOk, in-PeekOk}
 

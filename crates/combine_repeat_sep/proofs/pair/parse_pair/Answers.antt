@@ -1,10 +1,10 @@
 use Rattle.std.proofs.Common.{refl}
 use Rattle.combine_base.specs.Parser.Answer.{world}
-use Rattle.combine_base.proofs.Following.{last_called, sequence_called}
-use Rattle.combine_base.proofs.Refusing.{reasoned_at_rest}
-use Rattle.combine_base.proofs.Starting.{at_rest}
+use Rattle.combine_base.proofs.Sequences.SequenceCalls.{last_called, sequence_called}
+use Rattle.combine_base.proofs.Errors.MeantRefusals.{reasoned_at_rest}
+use Rattle.combine_base.proofs.Parsers.CallStarts.{at_rest}
 use Rattle.combine_repeat_sep.specs.Pair.{pair_place, put_to}
-use Rattle.combine_repeat_sep.proofs.Leading.{led_rest, runs_still}
+use Rattle.combine_repeat_sep.proofs.Separators.{led_rest, runs_still}
 use Rattle.combine_repeat_sep.proofs.pair.parse_pair.Goals as goal
 
 pub parse_mode-answer-requires-clause-valid : goal.parse_mode-answer-requires-clause-valid

@@ -1,7 +1,7 @@
 use Rattle.std.proofs.Common.{refl, sym, ◌∙◌}
-use Rattle.combine_repeat_turns.specs.OneTurn.{PutBack}
-use Rattle.combine_repeat_turns.specs.TurnRefusals.{Few}
-use Rattle.combine_repeat_turns.proofs.Judging.{put_back, not_put_back, ran_answers}
+use Rattle.combine_repeat_turns.specs.Turns.OneTurn.{PutBack}
+use Rattle.combine_repeat_turns.specs.Turns.Bounds.{Few}
+use Rattle.combine_repeat_turns.proofs.OneTurn.{put_back, not_put_back, ran_answers}
 use Rattle.combine_repeat_turns.proofs.turns.judge_refusal.Goals as goal
 
 pub returns-in-Err-clause-halted : goal.returns-in-Err-clause-halted

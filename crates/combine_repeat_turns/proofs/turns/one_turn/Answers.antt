@@ -1,9 +1,9 @@
 use Rattle.std.proofs.Common.{false, true, refl, sym, ◌∙◌}
-use Rattle.combine_base.proofs.Refusing.{reasoned_meant}
-use Rattle.combine_repeat_turns.specs.OneTurn.{Ended, TakesNothing, Unstored}
-use Rattle.combine_repeat_turns.specs.TurnRefusals.{Idle, Own}
-use Rattle.combine_repeat_turns.proofs.Judging.{judged_by, accepts_by, gathered_on, needs_on}
-use Rattle.combine_repeat_turns.proofs.Sounding.{turn_able}
+use Rattle.combine_base.proofs.Errors.MeantRefusals.{reasoned_meant}
+use Rattle.combine_repeat_turns.specs.Turns.OneTurn.{Ended, TakesNothing, Unstored}
+use Rattle.combine_repeat_turns.specs.Turns.Bounds.{Idle, Own}
+use Rattle.combine_repeat_turns.proofs.OneTurn.{judged_by, accepts_by, gathered_on, needs_on}
+use Rattle.combine_repeat_turns.proofs.SoundValues.{turn_able}
 use Rattle.combine_repeat_turns.proofs.turns.one_turn.Goals as goal
 use Rattle.combine_repeat_turns.proofs.turns.one_turn.Goals.{in-CommitOk, in-PeekOk}
 

@@ -1,13 +1,13 @@
 use Rattle.std.proofs.Common.{true, false, refl, sym, ◌∙◌, None}
 use Rattle.combine_base.specs.Parser.Answer.{world}
 use Rattle.combine_repeat_turns.specs.declared.turns.Bounds.TheVariants.{Joined}
-use Rattle.combine_base.proofs.Same.{passes_none, passes_more}
-use Rattle.combine_repeat_turns.specs.Bounded.{gathered, none_yet}
-use Rattle.combine_repeat_turns.proofs.Judging.{called_same, turned_same, turns_same_more}
-use Rattle.combine_repeat_turns.proofs.Repeating.{comes_on, comes_stopped, resumed_valid}
+use Rattle.combine_base.proofs.Parsers.SameMeanings.{passes_none, passes_more}
+use Rattle.combine_repeat_turns.specs.Turns.Bounds.{gathered, none_yet}
+use Rattle.combine_repeat_turns.proofs.OneTurn.{called_same, turned_same, turns_same_more}
+use Rattle.combine_repeat_turns.proofs.RepeatCalls.{comes_on, comes_stopped, resumed_valid}
 use Rattle.combine_repeat_turns.proofs.TurnRefusals.{first_failed_leads, first_refused_leads, leads_entered, leads_first_on, leads_kept, leads_on, stops_leading, stops_same}
-use Rattle.combine_repeat_turns.proofs.Beginning.{not_first, valid_begun, comes_kept, enters, first_on, first_refused, first_more, first_fails}
-use Rattle.combine_repeat_turns.proofs.Sounding.{first_sound, goes_sound, nothing_kept, stopped_sound, turn_able}
+use Rattle.combine_repeat_turns.proofs.FirstTurn.{not_first, valid_begun, comes_kept, enters, first_on, first_refused, first_more, first_fails}
+use Rattle.combine_repeat_turns.proofs.SoundValues.{first_sound, goes_sound, nothing_kept, stopped_sound, turn_able}
 use Rattle.combine_repeat_turns.proofs.turns.take_joined.Goals as goal
 use Rattle.combine_repeat_turns.proofs.turns.take_joined.Goals.{in-Turns+in-Goes, in-Nothing+in-Goes-first_turn}
 

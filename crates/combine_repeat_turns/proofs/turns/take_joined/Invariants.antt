@@ -3,12 +3,10 @@ use Rattle.combine_repeat_turns.specs.declared.turns.Bounds.TheVariants.{Joined}
 use Rattle.std.proofs.Common.{◌≡◌, ◌+◌, length, true, None}
 use Rattle.combine_base.specs.Parser.Answer.{world}
 use Rattle.combine_base.specs.Stream.Calls.{Passes}
-use Rattle.combine_repeat_turns.specs.Turn.{TurnsSame, called}
-use Rattle.combine_repeat_turns.specs.Bounded.{bounded, gathered, fresh_turns, none_yet, so_far}
-use Rattle.combine_repeat_turns.specs.TurnsMeaning.{turns_from}
-use Rattle.combine_repeat_turns.specs.BoundedLaws.{bounded_is_rule}
+use Rattle.combine_repeat_turns.specs.Turns.Turn.{TurnsSame, called}
+use Rattle.combine_repeat_turns.specs.Turns.Bounds.{bounded, gathered, fresh_turns, none_yet, so_far, turns_from, bounded_is_rule}
 use Rattle.combine_repeat_turns.proofs.TurnCalls.{Reaches}
-use Rattle.combine_repeat_turns.proofs.Repeating.{idle_turns}
+use Rattle.combine_repeat_turns.proofs.RepeatCalls.{idle_turns}
 use Rattle.combine_repeat_turns.proofs.TurnRefusals.{Leads}
 use Rattle.combine_repeat_turns.proofs.turns.take_joined.Given as goal
 

@@ -1,9 +1,9 @@
 use Rattle.std.proofs.Common.{true, false, refl, sym, ◌∙◌}
 use Rattle.combine_base.specs.Parser.Answer.{world}
-use Rattle.combine_base.proofs.Same.{passes_none, passes_more}
-use Rattle.combine_repeat_turns.specs.Bounded.{gathered, so_far}
-use Rattle.combine_repeat_turns.proofs.Judging.{called_same, turned_same, turns_same_none, turns_same_more}
-use Rattle.combine_repeat_turns.proofs.Repeating.{comes_first, comes_afresh, comes_on, comes_full, comes_stopped, goes_out, resumed_valid}
+use Rattle.combine_base.proofs.Parsers.SameMeanings.{passes_none, passes_more}
+use Rattle.combine_repeat_turns.specs.Turns.Bounds.{gathered, so_far}
+use Rattle.combine_repeat_turns.proofs.OneTurn.{called_same, turned_same, turns_same_none, turns_same_more}
+use Rattle.combine_repeat_turns.proofs.RepeatCalls.{comes_first, comes_afresh, comes_on, comes_full, comes_stopped, goes_out, resumed_valid}
 use Rattle.combine_repeat_turns.proofs.TurnRefusals.{leads_afresh, leads_first, leads_on, stops_leading, stops_same}
 use Rattle.combine_repeat_turns.proofs.turns.take_turns.Goals as goal
 use Rattle.combine_repeat_turns.proofs.turns.take_turns.Goals.{then-not-is_first+else-is_full+in-Goes, else-not-is_first}

@@ -2,12 +2,10 @@ use Rattle.combine_repeat_turns.specs.declared.turns.Earlier.TheVariants.{Nothin
 use Rattle.std.proofs.Common.{◌≡◌, ◌+◌, length, true}
 use Rattle.combine_base.specs.Parser.Answer.{world}
 use Rattle.combine_base.specs.Stream.Calls.{Passes}
-use Rattle.combine_repeat_turns.specs.Turn.{TurnsSame, called, started}
-use Rattle.combine_repeat_turns.specs.Bounded.{bounded, gathered, fresh_turns, so_far}
-use Rattle.combine_repeat_turns.specs.TurnsMeaning.{turns_from}
-use Rattle.combine_repeat_turns.specs.BoundedLaws.{bounded_is_rule}
+use Rattle.combine_repeat_turns.specs.Turns.Turn.{TurnsSame, called, started}
+use Rattle.combine_repeat_turns.specs.Turns.Bounds.{bounded, gathered, fresh_turns, so_far, turns_from, bounded_is_rule}
 use Rattle.combine_repeat_turns.proofs.TurnCalls.{Reaches}
-use Rattle.combine_repeat_turns.proofs.Repeating.{idle_turns}
+use Rattle.combine_repeat_turns.proofs.RepeatCalls.{idle_turns}
 use Rattle.combine_repeat_turns.proofs.TurnRefusals.{Leads}
 use Rattle.combine_repeat_turns.proofs.turns.take_turns.Given as goal
 

@@ -1,8 +1,8 @@
 use Rattle.std.proofs.Common.{false, true, inl, inr, refl, sym, ◌∙◌}
-use Rattle.combine_base.proofs.Refusing.{refusal_is_meant, refusal_meant}
+use Rattle.combine_base.proofs.Errors.MeantRefusals.{refusal_is_meant, refusal_meant}
 use Rattle.combine_base.specs.declared.error.ParseResult.TheVariants.{CommitErr, PeekErr}
 use Rattle.combine_repeat_until.specs.UntilTurn.{TakesNothing}
-use Rattle.combine_repeat_until.proofs.OneTurns.{accepts_value, needs_more, unreset_by}
+use Rattle.combine_repeat_until.proofs.UntilTurn.{accepts_value, needs_more, unreset_by}
 use Rattle.combine_repeat_until.proofs.until.one_turn.Goals as goal
 use Rattle.combine_repeat_until.proofs.until.one_turn.Goals.{in-CommitOk, in-PeekOk}
 

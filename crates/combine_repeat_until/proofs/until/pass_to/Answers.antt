@@ -1,6 +1,6 @@
 use Rattle.std.proofs.Common.{◌∙◌}
-use Rattle.combine_base.proofs.Progress.{moves_more}
-use Rattle.combine_repeat_until.proofs.OneTurns.{stops_later}
+use Rattle.combine_base.proofs.Parsers.Progress.{moves_more}
+use Rattle.combine_repeat_until.proofs.UntilTurn.{stops_later}
 use Rattle.combine_repeat_until.proofs.until.pass_to.Goals as goal
 
 pub returns-in-Err-pass_over-clause-comes : goal.returns-in-Err-pass_over-clause-comes

@@ -31,7 +31,7 @@ pub trait Asked<A> {
 pub struct ByValue<F>(pub(crate) F);
 
 impl<A, N, F: Fn(A) -> N> Asked<A> for ByValue<F> {
-    ghost use Rattle.combine_sequence.specs.Answered.{forget};
+    ghost use Rattle.combine_sequence.specs.Then.{forget};
 
     type Parser = N;
 
@@ -55,7 +55,7 @@ impl<A, N, F: Fn(A) -> N> Asked<A> for ByValue<F> {
 pub struct ByMut<F>(pub(crate) F);
 
 impl<A: Drop, N, F: Fn(&mut A) -> N> Asked<A> for ByMut<F> {
-    ghost use Rattle.combine_sequence.specs.Answered.{ReturnsAtMut, TakesAtMut, forget};
+    ghost use Rattle.combine_sequence.specs.Then.{ReturnsAtMut, TakesAtMut, forget};
 
     type Parser = N;
 
@@ -81,7 +81,7 @@ pub struct ByRef<F>(pub(crate) F);
 
 impl<A, N, F: Fn(&A) -> N> Asked<A> for ByRef<F> {
     ghost use Rattle.std.specs.Fn.{FnReturnsAt};
-    ghost use Rattle.combine_sequence.specs.Answered.{TakesAt, keep_first};
+    ghost use Rattle.combine_sequence.specs.Then.{TakesAt, keep_first};
 
     type Parser = N;
 
@@ -116,7 +116,7 @@ pub trait Join<B> {
 }
 
 impl<B> Join<B> for () {
-    ghost use Rattle.combine_sequence.specs.Answered.{only_last};
+    ghost use Rattle.combine_sequence.specs.Then.{only_last};
 
     type Joined = B;
 

@@ -21,7 +21,7 @@ pub enum AnsweredState<S, V, N, U> {
 }
 
 impl<S: Default, V, N, U> Default for AnsweredState<S, V, N, U> {
-    ghost use Rattle.combine_sequence.specs.Answered.{starts_first};
+    ghost use Rattle.combine_sequence.specs.Then.{starts_first};
 
     ghost is_default = { starts_first S.is_default };
 

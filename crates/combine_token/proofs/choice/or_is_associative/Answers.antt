@@ -1,4 +1,4 @@
-use Rattle.combine_token.specs.Or.{is_associative}
+use Rattle.combine_token.specs.Choice.Or.{is_associative}
 use Rattle.combine_token.proofs.choice.or_is_associative.Goals as goal
 
 pub returns : goal.returns

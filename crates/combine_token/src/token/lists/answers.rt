@@ -5,9 +5,9 @@ ghost use Rattle.std.specs.Option.{option_copied};
 ghost use Rattle.combine_base.specs.Error.Errors.{New};
 ghost use Rattle.combine_base.specs.Parser.Reasons.{Reasoned};
 ghost use Rattle.combine_base.specs.Stream.Calls.{Passes};
-ghost use Rattle.combine_token.specs.Iterated.{Gave, GaveAll};
-ghost use Rattle.combine_token.specs.ListAnswers.{Accepted, FindsNone, Mismatch, PutBack};
-ghost use Rattle.combine_token.specs.Reasons.{SaysEnded, peeked_only};
+ghost use Rattle.combine_token.specs.Token.Lists.IteratedLists.{Gave, GaveAll};
+ghost use Rattle.combine_token.specs.Token.Lists.ListAnswers.{Accepted, FindsNone, Mismatch, PutBack};
+ghost use Rattle.combine_token.specs.Token.TokenReasons.{SaysEnded, peeked_only};
 
 use combine_base::error::{Info, ParseError, ParseResult, Tracked};
 use combine_base::refusal::{add_unexpected_token, no_token};

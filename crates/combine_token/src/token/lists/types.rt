@@ -2,10 +2,10 @@
 ghost use Rattle.std.specs.Prelude.{◌≡◌, not, if◌then◌else◌, MatchResult, None, Some};
 ghost use Rattle.combine_base.specs.Error.Errors.{Nothing, Only};
 ghost use Rattle.combine_base.specs.Error.Items.{Expected, shown};
-ghost use Rattle.combine_token.specs.ListAnswers.{NoText};
-ghost use Rattle.combine_token.specs.TokenLists.{ComparesOnce};
-ghost use Rattle.combine_token.specs.TokenListLaws.{token_list, token_list_is_meaning, token_list_means_one};
-ghost use Rattle.combine_token.specs.Iterated.{IsIterated, iterated, iterated_ends_once};
+ghost use Rattle.combine_token.specs.Token.Lists.ListAnswers.{NoText};
+ghost use Rattle.combine_token.specs.Token.Lists.TokenLists.{ComparesOnce};
+ghost use Rattle.combine_token.specs.Token.Lists.ListMeaning.{token_list, token_list_is_meaning, token_list_means_one};
+ghost use Rattle.combine_token.specs.Token.Lists.IteratedLists.{IsIterated, iterated, iterated_ends_once};
 
 use crate::token::lists::match_list;
 use combine_base::error::{ErrorOffset, Info, ParseError, ParseResult, Tracked};

@@ -1,6 +1,6 @@
 use Rattle.std.proofs.Common.{◌<◌, not, inr, refl, sym, ap, ◌∙◌, map, length}
 use Rattle.std.proofs.lemmas.List.{length-map, get_or-map}
-use Rattle.feedline_core.proofs.Sizing.{one_more, no_size, no_sizes}
+use Rattle.feedline_core.proofs.Sizes.{one_more, no_size, no_sizes}
 use Rattle.feedline_core.proofs.args.read_sizes.Goals as goal
 
 pub returns-in_default : goal.returns-in_default

@@ -1,6 +1,6 @@
 use Rattle.std.proofs.Common.{◌≡◌, drop, map}
 use Rattle.feedline_core.specs.Sizes.{each_size}
-use Rattle.feedline_core.proofs.Sizing.{behind}
+use Rattle.feedline_core.proofs.Sizes.{behind}
 use Rattle.feedline_core.proofs.args.read_sizes.Given as goal
 
 abbrev pub invariant-loop-word : goal.invariant-loop-word

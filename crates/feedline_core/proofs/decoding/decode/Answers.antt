@@ -1,6 +1,6 @@
 use Rattle.std.proofs.Common.{◌≡◌, ◌+◌, ◌<◌, map, length, arith}
 use Rattle.std.proofs.lemmas.List.{length-map, get_or-map}
-use Rattle.combine_decode.proofs.Dividing.{made_is_reading}
+use Rattle.combine_decode.proofs.MessageDivision.{made_is_reading}
 use Rattle.feedline_core.proofs.Batches.{ends_at, ends_behind, goes_on, line_behind, none_written, room_at, room_behind}
 use Rattle.feedline_core.proofs.decoding.decode.Goals as goal
 

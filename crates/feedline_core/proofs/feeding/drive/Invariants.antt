@@ -1,6 +1,6 @@
 use Rattle.std.proofs.Common.{◌≡◌, take, map, length}
-use Rattle.combine_base.proofs.Pieces.{SoFar}
-use Rattle.feedline_core.proofs.Running.{Written}
+use Rattle.combine_base.proofs.Parsers.Pieces.{SoFar}
+use Rattle.feedline_core.proofs.RunLines.{Written}
 use Rattle.feedline_core.proofs.feeding.drive.Given as goal
 
 -- more was asked for after each piece so far, and a line written

@@ -1,6 +1,6 @@
 use Rattle.std.proofs.Common.{◌-◌, arith, refl, sym}
 use Rattle.tests_combinator.specs.Nests.{closed, inside, nest, nest_few, nest_is_reading, none_there, opened, opened_is_reading, second, too_deep}
-use Rattle.tests_combinator.proofs.Nesting.{deeper_there, no_bracket, too_deep_there}
+use Rattle.tests_combinator.proofs.Nests.{deeper_there, no_bracket, too_deep_there}
 use Rattle.combine_combinator_function.proofs.Once.{as_it_is, commits_once, gives_once, peeks_once, refused_once, stops_once, stops_peeked}
 use Rattle.tests_combinator.proofs.nest.+brackets.Goals as goal
 

@@ -1,6 +1,6 @@
 use Rattle.std.proofs.Common.{sym, ◌∙◌}
 use Rattle.std.proofs.lemmas.Bool.{false≢true}
-use Rattle.combine_token.proofs.Stateless.{stateless_reasons}
+use Rattle.combine_token.proofs.Tokens.Stateless.{stateless_reasons}
 use Rattle.bench_grammar.specs.Apart.{Anything, any_error}
 use Rattle.bench_grammar.proofs.Again.{again, again_back, again_stuck}
 use Rattle.bench_grammar.proofs.apart.ApartParser.parse_mode.Goals as goal

@@ -1,6 +1,6 @@
 use Rattle.std.proofs.Common.{rules, length, ◌≡◌}
 use Rattle.std.proofs.lemmas.List.{nil_from_length}
-use Rattle.bench_measures.proofs.Feeding.{none_fed, one_more, stopped, ended, gives_within}
+use Rattle.bench_measures.proofs.FedBytes.{none_fed, one_more, stopped, ended, gives_within}
 use Rattle.bench_measures.proofs.run.PiecesRunFedStreamU8.run.Goals as goal
 
 pub pieces-init : goal.pieces-init

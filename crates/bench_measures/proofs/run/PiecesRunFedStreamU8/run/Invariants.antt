@@ -1,5 +1,5 @@
 use Rattle.std.proofs.Common.{length}
-use Rattle.bench_measures.proofs.Feeding.{Fed}
+use Rattle.bench_measures.proofs.FedBytes.{Fed}
 use Rattle.bench_measures.proofs.run.PiecesRunFedStreamU8.run.Given as goal
 
 abbrev pub invariant-pieces : goal.invariant-pieces

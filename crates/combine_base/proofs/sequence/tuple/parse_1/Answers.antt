@@ -1,7 +1,7 @@
 use Rattle.combine_base.specs.Sequence.Places.{begins_valid_1}
 use Rattle.combine_base.specs.Sequence.Tuples.{tuple_1_means_same}
-use Rattle.combine_base.proofs.Refusing.{reasoned_accepted, reasoned_error, reasoned_peeked, reasoned_refusal, reasoned_single}
-use Rattle.combine_base.proofs.SingleAnswers.{single_commits, single_peeks, single_error, single_refused}
+use Rattle.combine_base.proofs.Errors.MeantRefusals.{reasoned_accepted, reasoned_error, reasoned_peeked, reasoned_refusal, reasoned_single}
+use Rattle.combine_base.proofs.Sequences.SingleAnswers.{single_commits, single_peeks, single_error, single_refused}
 use Rattle.combine_base.proofs.sequence.tuple.parse_1.Goals as goal
 
 pub returns-in-CommitOk-clause-called : goal.returns-in-CommitOk-clause-called

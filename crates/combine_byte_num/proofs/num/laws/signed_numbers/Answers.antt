@@ -1,4 +1,4 @@
-use Rattle.combine_base.proofs.Same.{same_none}
+use Rattle.combine_base.proofs.Parsers.SameMeanings.{same_none}
 use Rattle.combine_byte_num.specs.Numbers.{big_endian, little_endian, signed}
 use Rattle.combine_byte_num.specs.WholeNumbers.{takes_number, worth}
 use Rattle.combine_byte_num.proofs.num.laws.signed_numbers.Goals as goal

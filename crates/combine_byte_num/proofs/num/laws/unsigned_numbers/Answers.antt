@@ -1,4 +1,4 @@
-use Rattle.combine_base.proofs.Same.{same_none}
+use Rattle.combine_base.proofs.Parsers.SameMeanings.{same_none}
 use Rattle.combine_byte_num.specs.Numbers.{big_endian, little_endian}
 use Rattle.combine_byte_num.specs.WholeNumbers.{takes_number}
 use Rattle.combine_byte_num.proofs.num.laws.unsigned_numbers.Goals as goal

@@ -1,10 +1,10 @@
 use Rattle.std.proofs.Common.{rules, ◌≡◌, arith, ap, sym, ◌∙◌, length-take-le}
 use Rattle.combine_base.specs.declared.stream.Kind.TheVariants as kinds
-use Rattle.combine_base.proofs.Distances.{takes_token}
-use Rattle.combine_base.proofs.Progress.{takes_more}
-use Rattle.combine_base.proofs.Same.{passes_more}
+use Rattle.combine_base.proofs.Streams.Distances.{takes_token}
+use Rattle.combine_base.proofs.Parsers.Progress.{takes_more}
+use Rattle.combine_base.proofs.Parsers.SameMeanings.{passes_more}
 use Rattle.combine_byte_num.specs.WholeNumbers.{worth}
-use Rattle.combine_byte_num.proofs.Taking.{cut_reasons, number_cut, number_unread, take_next, unread_reasons}
+use Rattle.combine_byte_num.proofs.NumberCalls.{cut_reasons, number_cut, number_unread, take_next, unread_reasons}
 use Rattle.combine_byte_num.proofs.whole.WholeNumberParser.parse_mode.Goals as goal
 
 pub returns-then-eq-clause-answers : goal.returns-then-eq-clause-answers

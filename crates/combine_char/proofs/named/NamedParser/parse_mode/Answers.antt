@@ -1,6 +1,6 @@
-use Rattle.combine_base.proofs.Same.{answers_alike}
-use Rattle.combine_char.specs.Named.{named_alike, named_means_same}
-use Rattle.combine_char.proofs.Mapping.{named_reasons}
+use Rattle.combine_base.proofs.Parsers.SameMeanings.{answers_alike}
+use Rattle.combine_char.specs.NamedParser.{named_alike, named_means_same}
+use Rattle.combine_char.proofs.ValueChanges.{named_reasons}
 use Rattle.combine_char.proofs.named.NamedParser.parse_mode.Goals as goal
 
 pub returns-clause-same : goal.returns-clause-same

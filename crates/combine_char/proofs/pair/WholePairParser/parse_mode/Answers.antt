@@ -1,5 +1,5 @@
-use Rattle.combine_char.specs.Again.{is_second, whole_pair_means_same}
-use Rattle.combine_char.proofs.Mapping.{mapped_answer, pair_reasons}
+use Rattle.combine_char.specs.Restart.{is_second, whole_pair_means_same}
+use Rattle.combine_char.proofs.ValueChanges.{mapped_answer, pair_reasons}
 use Rattle.combine_char.proofs.pair.WholePairParser.parse_mode.Goals as goal
 
 pub returns-clause-same : goal.returns-clause-same

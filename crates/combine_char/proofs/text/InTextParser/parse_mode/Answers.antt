@@ -1,13 +1,13 @@
-use Rattle.combine_base.proofs.Same.{same_none}
+use Rattle.combine_base.proofs.Parsers.SameMeanings.{same_none}
 use Rattle.std.proofs.Common.{◌≡◌, None}
 use Rattle.std.specs.Str.{chars}
 use Rattle.combine_base.specs.Error.Errors.{Only}
 use Rattle.combine_base.specs.Error.Items.{Expected, Fixed}
-use Rattle.combine_token.specs.Listed.{listed}
-use Rattle.combine_token.specs.TokenParsers.{matched_before}
-use Rattle.combine_token.proofs.ListReasons.{list_reasons}
-use Rattle.combine_token.proofs.Giving.{within_same}
-use Rattle.combine_char.proofs.Spelling.{spelled_answers}
+use Rattle.combine_token.specs.Token.Lists.KnownLists.{listed}
+use Rattle.combine_token.specs.Token.TokenParsers.{matched_before}
+use Rattle.combine_token.proofs.Lists.ListReasons.{list_reasons}
+use Rattle.combine_token.proofs.Lists.GivenItems.{within_same}
+use Rattle.combine_char.proofs.SpelledLists.{spelled_answers}
 use Rattle.combine_char.proofs.text.InTextParser.parse_mode.Goals as goal
 
 pub returns-clause-same : goal.returns-clause-same

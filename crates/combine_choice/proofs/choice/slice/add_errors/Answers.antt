@@ -1,8 +1,8 @@
 use Rattle.std.proofs.Common.{◌≤◌, ◌<◌, ◌∙◌, length, arith, rules, refl}
 use Rattle.std.proofs.lemmas.List.{drop-set-lt}
 use Rattle.std.proofs.lemmas.List.Elements.{All-set}
-use Rattle.combine_choice.specs.Chosen.{chosen_same}
-use Rattle.combine_choice.proofs.Listed.{drop_here, drop_past, same_self, same_set}
+use Rattle.combine_choice.specs.ListChoice.{chosen_same}
+use Rattle.combine_choice.proofs.AlternativeLists.{drop_here, drop_past, same_self, same_set}
 use Rattle.combine_choice.proofs.SliceCalls.{adding_all, adding_more, adding_none}
 use Rattle.combine_choice.proofs.choice.slice.add_errors.Goals as goal
 

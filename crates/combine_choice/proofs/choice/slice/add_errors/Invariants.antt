@@ -1,6 +1,6 @@
 use Rattle.std.proofs.Common.{ℕ, ◌≡◌, ◌≤◌, drop}
 use Rattle.std.specs.List.{All}
-use Rattle.combine_choice.specs.Chosen.{AllSame}
+use Rattle.combine_choice.specs.ListChoice.{AllSame}
 use Rattle.combine_choice.proofs.SliceCalls.{Adding}
 use Rattle.combine_choice.proofs.choice.slice.add_errors.Given as goal
 

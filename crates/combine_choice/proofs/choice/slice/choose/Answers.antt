@@ -3,12 +3,12 @@ use Rattle.std.proofs.lemmas.List.{drop-set-lt}
 use Rattle.std.proofs.lemmas.List.Elements.{All-set}
 use Rattle.combine_base.specs.Parser.Answer.{world}
 use Rattle.combine_base.specs.Parser.Meaning.{begun, begun_refuses}
-use Rattle.combine_base.proofs.Same.{passes_more}
-use Rattle.combine_token.proofs.Choosing.{begun_reads}
-use Rattle.combine_choice.specs.Chosen.{every_drop}
-use Rattle.combine_choice.proofs.Listed.{drop_at, drop_here, drop_past, same_self, same_set}
-use Rattle.combine_choice.proofs.Refusing.{begins_at, later_refuses, later_settles, peeked_no_fault, refusing_end, refusing_here, refusing_next, refusing_unreset, turn_meant, turn_no_fault, turn_settles}
-use Rattle.combine_base.proofs.Reasoning.{reasons_fault, reasons_ok, reasons_peek_ok}
+use Rattle.combine_base.proofs.Parsers.SameMeanings.{passes_more}
+use Rattle.combine_token.proofs.Choices.ChoiceOutcomes.{begun_reads}
+use Rattle.combine_choice.specs.ListChoice.{every_drop}
+use Rattle.combine_choice.proofs.AlternativeLists.{drop_at, drop_here, drop_past, same_self, same_set}
+use Rattle.combine_choice.proofs.RefusedAlternatives.{begins_at, later_refuses, later_settles, peeked_no_fault, refusing_end, refusing_here, refusing_next, refusing_unreset, turn_meant, turn_no_fault, turn_settles}
+use Rattle.combine_base.proofs.Errors.CallReasons.{reasons_fault, reasons_ok, reasons_peek_ok}
 use Rattle.combine_base.specs.declared.stream.Kind.TheVariants as kinds
 use Rattle.combine_choice.proofs.MergedErrors.{first_commits, goes_end, goes_first, goes_next, next_reasons}
 use Rattle.combine_choice.proofs.choice.slice.choose.Goals as goal

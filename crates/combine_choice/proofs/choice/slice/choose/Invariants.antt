@@ -2,11 +2,11 @@ use Rattle.std.proofs.Common.{ℕ, ◌≡◌, ◌≤◌, drop, false}
 use Rattle.std.specs.List.{All}
 use Rattle.combine_base.specs.Parser.Answer.{world}
 use Rattle.combine_base.specs.Stream.Calls.{Passes}
-use Rattle.combine_choice.specs.Chosen.{AllSame}
+use Rattle.combine_choice.specs.ListChoice.{AllSame}
 use Rattle.combine_base.specs.Parser.Meaning.{begun, begun_refuses}
-use Rattle.combine_choice.specs.Merged.{tried_refuses}
+use Rattle.combine_choice.specs.MergedErrors.{tried_refuses}
 use Rattle.combine_choice.proofs.MergedErrors.{Goes}
-use Rattle.combine_choice.proofs.Refusing.{Refusing}
+use Rattle.combine_choice.proofs.RefusedAlternatives.{Refusing}
 use Rattle.combine_choice.specs.declared.choice.slice.SliceState.TheVariants.{Peek, At}
 use Rattle.combine_choice.proofs.choice.slice.choose.Given as goal
 

@@ -1,12 +1,12 @@
 use Rattle.std.proofs.Common.{◌≡◌, ◌<◌, ◌≤◌, length, arith, rules, refl}
 use Rattle.combine_base.specs.Parser.Answer.{world}
 use Rattle.combine_base.specs.Parser.Meaning.{IsMeaning}
-use Rattle.combine_token.proofs.Choosing.{tries_answers}
-use Rattle.combine_choice.specs.Chosen.{chosen_same, every_all}
-use Rattle.combine_choice.proofs.Listed.{drop_past, drop_within}
+use Rattle.combine_token.proofs.Choices.ChoiceOutcomes.{tries_answers}
+use Rattle.combine_choice.specs.ListChoice.{chosen_same, every_all}
+use Rattle.combine_choice.proofs.AlternativeLists.{drop_past, drop_within}
 use Rattle.combine_choice.proofs.SliceCalls.{afresh, begins_first, begins_kept}
 use Rattle.combine_choice.specs.declared.choice.slice.SliceState.TheVariants.{Peek}
-use Rattle.combine_base.proofs.Reasoning.{reasons_into}
+use Rattle.combine_base.proofs.Errors.CallReasons.{reasons_into}
 use Rattle.combine_choice.proofs.MergedErrors.{empty_reasons, start_afresh, start_kept}
 use Rattle.combine_choice.proofs.choice.slice.parse_slice.Goals as goal
 

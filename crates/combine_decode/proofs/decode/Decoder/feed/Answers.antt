@@ -1,6 +1,6 @@
 use Rattle.std.proofs.Common.{◌≡◌, ◌&&◌, nat_eq, length, refl, sym, ◌∙◌}
-use Rattle.combine_decode.proofs.Decoding.{feeds_open}
-use Rattle.combine_decode.proofs.Feeding.{fails_later, gives_batch, is_running}
+use Rattle.combine_decode.proofs.OneMessage.{feeds_open}
+use Rattle.combine_decode.proofs.FeedCalls.{fails_later, gives_batch, is_running}
 use Rattle.combine_decode.proofs.decode.Decoder.feed.Goals.{then-self, else-self}
 use Rattle.combine_decode.proofs.decode.Decoder.feed.Goals as goal
 

@@ -1,14 +1,14 @@
 use Rattle.std.specs.Global.{Vec}
 use Rattle.std.proofs.Common.{ℕ, [], ◌∷◌, ◌++◌, true}
-use Rattle.combine_decode.proofs.Counting.{counted}
-use Rattle.combine_decode.proofs.Framing.{is_framed}
+use Rattle.combine_decode.proofs.TokenTurns.{counted}
+use Rattle.combine_decode.proofs.FrameAnswers.{is_framed}
 use Rattle.combine_decode.proofs.decode.laws.frame_is_a_length_and_its_bytes.Goals as goal
-use Rattle.combine_token.specs.OneToken.{of_function, one_token, satisfied}
-use Rattle.combine_token.specs.TokenParsers.{any_parser}
-use Rattle.combine_repeat_turns.specs.Bounded.{bounded, none_yet}
-use Rattle.combine_repeat_turns.specs.RepeatParsers.{count_min_max_of, least_of, most_of}
-use Rattle.combine_repeat_turns.specs.Counts.{appended, never}
-use Rattle.combine_repeat_turns.specs.Turns.{Turned}
+use Rattle.combine_token.specs.Token.OneToken.{of_function, one_token, satisfied}
+use Rattle.combine_token.specs.Token.TokenParsers.{any_parser}
+use Rattle.combine_repeat_turns.specs.Turns.Bounds.{bounded, none_yet}
+use Rattle.combine_repeat_turns.specs.Repeat.RepeatParsers.{count_min_max_of, least_of, most_of}
+use Rattle.combine_repeat_turns.specs.Repeat.Repeated.{appended, never}
+use Rattle.combine_repeat_turns.specs.Turns.Blocks.{Turned}
 use Rattle.combine_repeat_turns.specs.declared.turns.Bounds.TheVariants.{Counted}
 
 pub returns : goal.returns

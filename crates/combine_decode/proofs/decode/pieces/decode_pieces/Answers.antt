@@ -1,7 +1,7 @@
 use Rattle.std.proofs.Common.{◌≡◌, ◌<◌, ◌∙◌, ap, get_or, map, length, arith, sym, refl}
 use Rattle.std.proofs.lemmas.List.{length-map, get_or-map}
-use Rattle.combine_decode.proofs.Dividing.{made_is_reading}
-use Rattle.combine_decode.proofs.Pieces.{at_first, ends_at, ends_behind, fails_at, fails_behind, goes_on_at}
+use Rattle.combine_decode.proofs.MessageDivision.{made_is_reading}
+use Rattle.combine_decode.proofs.DecodedPieces.{at_first, ends_at, ends_behind, fails_at, fails_behind, goes_on_at}
 use Rattle.combine_decode.proofs.decode.pieces.decode_pieces.Goals as goal
 
 pub pieces-init : goal.pieces-init

@@ -1,6 +1,6 @@
 use Rattle.std.proofs.Common.{◌≡◌, take, map}
 use Rattle.combine_base.specs.Parser.Pieces.{concatenated}
-use Rattle.combine_decode.proofs.Pieces.{SoFar}
+use Rattle.combine_decode.proofs.DecodedPieces.{SoFar}
 use Rattle.combine_decode.proofs.decode.pieces.decode_pieces.Given as goal
 
 -- the messages so far are those of the pieces so far, behind which the decoder goes on

@@ -1,7 +1,7 @@
 use Rattle.std.proofs.Common.{◌≡◌, List, reverse, vec_items, vec_len}
 use Rattle.combine_expression.specs.Levels.{Thing}
 use Rattle.combine_expression.specs.Shapes.{reduce_to}
-use Rattle.combine_expression.specs.Waiting.{Holds, shapes}
+use Rattle.combine_expression.specs.OpenExpressions.{Holds, shapes}
 use Rattle.combine_expression.specs.declared.expression.Fixity.{Fixity}
 use Rattle.combine_expression.proofs.expression.operands.reduce_above.Given as goal
 

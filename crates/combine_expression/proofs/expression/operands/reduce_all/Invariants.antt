@@ -1,6 +1,6 @@
 use Rattle.std.proofs.Common.{List, reverse, vec_items, vec_len}
 use Rattle.combine_expression.specs.Levels.{Thing}
-use Rattle.combine_expression.specs.Waiting.{Holds}
+use Rattle.combine_expression.specs.OpenExpressions.{Holds}
 use Rattle.combine_expression.specs.declared.expression.Fixity.{Fixity}
 use Rattle.combine_expression.proofs.expression.operands.reduce_all.Given as goal
 

@@ -1,6 +1,6 @@
 use Rattle.std.proofs.Common.{rules, vec_items}
-use Rattle.combine_nested.specs.Nesting.{TooDeep}
-use Rattle.combine_nested.proofs.Settling.{closes, opens_so, stays_open, too_deep, denies}
+use Rattle.combine_nested.specs.NestedSteps.{TooDeep}
+use Rattle.combine_nested.proofs.FrameStack.{closes, opens_so, stays_open, too_deep, denies}
 use Rattle.combine_nested.proofs.nested.steps.settle.Goals as goal
 
 pub returns-in-Stay : goal.returns-in-Stay

@@ -1,5 +1,5 @@
 use Rattle.std.proofs.Common.{reverse, vec_items, vec_len}
-use Rattle.combine_nested.specs.Nesting.{Ends, settles}
+use Rattle.combine_nested.specs.NestedSteps.{Ends, settles}
 use Rattle.combine_nested.proofs.nested.steps.settle.Given as goal
 
 abbrev pub invariant-frames : goal.invariant-frames

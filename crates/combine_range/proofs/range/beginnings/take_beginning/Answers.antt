@@ -2,14 +2,14 @@ use Rattle.std.proofs.Common.{◌≡◌, false, ap, drop, sym, refl, ◌∙◌, 
 use Rattle.std.proofs.lemmas.Bool.{false≢true}
 use Rattle.combine_base.specs.Error.Errors.{Nothing}
 use Rattle.combine_base.specs.Stream.View.{View, advanced}
-use Rattle.combine_base.proofs.Progress.{moves_more, takes_open}
-use Rattle.combine_base.proofs.Reasoning.{reasons_fault, reasons_ok, reasons_peek_ok}
+use Rattle.combine_base.proofs.Parsers.Progress.{moves_more, takes_open}
+use Rattle.combine_base.proofs.Errors.CallReasons.{reasons_fault, reasons_ok, reasons_peek_ok}
 use Rattle.combine_base.specs.declared.stream.Kind.TheVariants as kinds
-use Rattle.combine_range.specs.Beginnings.{Split, beginning}
-use Rattle.combine_range.proofs.Kept.{unpassed, breaks, broke_read}
-use Rattle.combine_range.specs.Reasons.{RefusesKept, refuses_beginning}
-use Rattle.combine_range.proofs.Reasons.{kept_inside, kept_own, kept_reasons, reached_none, reasons_empty, reasons_handed, reasons_keeping, reasons_unpassed}
-use Rattle.combine_range.proofs.Walking.{walked, direct, some_before, beginning_hands, beginning_keeps, beginning_commits, beginning_peeks, beginning_refuses, some_taken, none_taken}
+use Rattle.combine_range.specs.Range.Beginnings.{Split, beginning}
+use Rattle.combine_range.proofs.KeptDistance.{unpassed, breaks, broke_read}
+use Rattle.combine_range.specs.RangeReasons.{RefusesKept, refuses_beginning}
+use Rattle.combine_range.proofs.RangeReasons.{kept_inside, kept_own, kept_reasons, reached_none, reasons_empty, reasons_handed, reasons_keeping, reasons_unpassed}
+use Rattle.combine_range.proofs.BeginningCalls.{walked, direct, some_before, beginning_hands, beginning_keeps, beginning_commits, beginning_peeks, beginning_refuses, some_taken, none_taken}
 use Rattle.combine_range.proofs.range.beginnings.take_beginning.Goals as goal
 
 pub returns-in-Err-clause-answers : goal.returns-in-Err-clause-answers

@@ -1,5 +1,5 @@
 use Rattle.std.proofs.Common.{arith, ◌∙◌}
-use Rattle.combine_range_search.proofs.Looking.{looks_found, looks_in_vain}
+use Rattle.combine_range_search.proofs.ByteSearch.{looks_found, looks_in_vain}
 use Rattle.combine_range_search.proofs.bytes.InBytesSearcher.look.Goals as goal
 
 pub returns-in-None : goal.returns-in-None

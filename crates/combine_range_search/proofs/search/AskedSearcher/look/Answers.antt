@@ -1,4 +1,4 @@
-use Rattle.combine_range_search.specs.Asking.{asked}
+use Rattle.combine_range_search.specs.Search.TakeFn.{asked}
 use Rattle.combine_range_search.proofs.search.AskedSearcher.look.Goals as goal
 
 pub returns : goal.returns

@@ -3,15 +3,15 @@ use Rattle.std.proofs.lemmas.Bool.{false≢true}
 use Rattle.combine_base.specs.Error.Errors.{Nothing}
 use Rattle.combine_base.specs.Parser.Answer.{Run, World, world}
 use Rattle.combine_base.specs.Stream.View.{Takes}
-use Rattle.combine_base.proofs.Progress.{moves_more, takes_more, takes_open}
+use Rattle.combine_base.proofs.Parsers.Progress.{moves_more, takes_more, takes_open}
 use Rattle.combine_range.specs.declared.distance.Distance.{Distance}
-use Rattle.combine_range.proofs.Kept.{breaks}
-use Rattle.combine_base.proofs.Reasoning.{reasons_ok, reasons_peek_ok}
-use Rattle.combine_range.proofs.Reasons.{kept_reasons, reasons_broke, reasons_handed, reasons_keeping, reasons_none, reasons_unpassed}
-use Rattle.combine_range_search.specs.Reasons.{RefusesSearch}
-use Rattle.combine_range_search.specs.Searches.{Split, searching}
-use Rattle.combine_range_search.proofs.Calling.{found_commits, found_hands, found_none, found_peeks, found_says, found_waits, missing_keeps, missing_refuses, missing_says}
-use Rattle.combine_range_search.proofs.Reasons.{reasons_absent}
+use Rattle.combine_range.proofs.KeptDistance.{breaks}
+use Rattle.combine_base.proofs.Errors.CallReasons.{reasons_ok, reasons_peek_ok}
+use Rattle.combine_range.proofs.RangeReasons.{kept_reasons, reasons_broke, reasons_handed, reasons_keeping, reasons_none, reasons_unpassed}
+use Rattle.combine_range_search.specs.Search.SearchReasons.{RefusesSearch}
+use Rattle.combine_range_search.specs.Search.Searches.{Split, searching}
+use Rattle.combine_range_search.proofs.SearchCalls.{found_commits, found_hands, found_none, found_peeks, found_says, found_waits, missing_keeps, missing_refuses, missing_says}
+use Rattle.combine_range_search.proofs.SearchReasons.{reasons_absent}
 use Rattle.combine_range_search.proofs.search.SearchingParser.parse_mode.Goals as goal
 
 pub returns-then-distance-gt0-clause-answers : goal.returns-then-distance-gt0-clause-answers

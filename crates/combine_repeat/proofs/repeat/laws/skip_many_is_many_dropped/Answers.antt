@@ -1,4 +1,4 @@
-use Rattle.combine_repeat_turns.proofs.Comparing.{repeated_or_skip}
+use Rattle.combine_repeat_turns.proofs.DroppedValues.{repeated_or_skip}
 use Rattle.combine_repeat_turns.specs.declared.turns.Bounds.TheVariants.{Any}
 use Rattle.combine_repeat.proofs.repeat.laws.skip_many_is_many_dropped.Goals as goal
 

@@ -1,5 +1,5 @@
 use Rattle.std.proofs.Common.{arith, of_calls}
-use Rattle.combine_repeat_chain.proofs.Folding.{fold_last, fold_none, last_good}
+use Rattle.combine_repeat_chain.proofs.FoldRight.{fold_last, fold_none, last_good}
 use Rattle.combine_repeat_chain.proofs.operands.Operands.fold.Goals as goal
 
 pub folding-preserved : goal.folding-preserved

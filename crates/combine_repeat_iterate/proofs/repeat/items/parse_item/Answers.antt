@@ -1,6 +1,6 @@
 use Rattle.std.proofs.Common.{inl, inr, refl, ap}
 use Rattle.combine_base.specs.Parser.Answer.{world}
-use Rattle.combine_base.proofs.Starting.{at_rest}
+use Rattle.combine_base.proofs.Parsers.CallStarts.{at_rest}
 use Rattle.combine_base.specs.declared.error.ParseResult.TheVariants.{CommitOk, PeekOk, CommitErr, PeekErr}
 use Rattle.combine_repeat_iterate.specs.declared.repeat.items.Item.TheVariants as items
 use Rattle.combine_repeat_iterate.proofs.ItemErrors.{item_at_rest}

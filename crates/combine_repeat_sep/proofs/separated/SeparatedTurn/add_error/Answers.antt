@@ -1,5 +1,5 @@
 use Rattle.combine_repeat_sep.specs.Pair.{pair_means_same}
-use Rattle.combine_base.proofs.Same.{same_none}
+use Rattle.combine_base.proofs.Parsers.SameMeanings.{same_none}
 use Rattle.combine_repeat_sep.specs.Separated.{separator_of, then_same}
 use Rattle.combine_repeat_sep.proofs.separated.SeparatedTurn.add_error.Goals as goal
 

@@ -1,10 +1,10 @@
 use Rattle.std.proofs.Common.{ap, sym, subst, ◌∙◌}
-use Rattle.combine_base.proofs.Giving.{gives_same}
+use Rattle.combine_base.proofs.Parsers.GivenValues.{gives_same}
 use Rattle.combine_repeat_sep.specs.Pair.{pair, pair_begins, pair_is_meaning, pair_means_same, led_valid}
-use Rattle.combine_base.proofs.Same.{same_none}
+use Rattle.combine_base.proofs.Parsers.SameMeanings.{same_none}
 use Rattle.combine_repeat_sep.specs.Separated.{first_element, part_of, separated_default, separated_valid, separator_of, then_element, then_same, turn_place, valid_at}
-use Rattle.combine_repeat_sep.proofs.Leading.{begins_led, led_good}
-use Rattle.combine_repeat_sep.proofs.Separating.{ran_valid, first_afresh, first_afresh_reasons, first_resumed, first_resumed_reasons, later_afresh, later_afresh_reasons, later_resumed, later_resumed_reasons, later_valid}
+use Rattle.combine_repeat_sep.proofs.Separators.{begins_led, led_good}
+use Rattle.combine_repeat_sep.proofs.SeparatedCalls.{ran_valid, first_afresh, first_afresh_reasons, first_resumed, first_resumed_reasons, later_afresh, later_afresh_reasons, later_resumed, later_resumed_reasons, later_valid}
 use Rattle.combine_repeat_sep.proofs.separated.SeparatedTurn.parse_turn.Goals as goal
 
 pub returns-then-later-clause-valid : goal.returns-then-later-clause-valid

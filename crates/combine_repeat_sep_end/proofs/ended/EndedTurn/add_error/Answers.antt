@@ -1,7 +1,7 @@
-use Rattle.combine_token.specs.Optional.{optional_means_same}
+use Rattle.combine_token.specs.Choice.Optional.{optional_means_same}
 use Rattle.combine_repeat_sep_end.specs.Ended.{closer_of}
 use Rattle.combine_repeat_sep.specs.Pair.{pair_means_same}
-use Rattle.combine_base.proofs.Same.{same_none}
+use Rattle.combine_base.proofs.Parsers.SameMeanings.{same_none}
 use Rattle.combine_repeat_sep.specs.Separated.{then_same}
 use Rattle.combine_repeat_sep_end.proofs.ended.EndedTurn.add_error.Goals as goal
 

@@ -1,11 +1,11 @@
-use Rattle.combine_token.specs.Optional.{optional, optional_is_meaning, optional_means_same}
+use Rattle.combine_token.specs.Choice.Optional.{optional, optional_is_meaning, optional_means_same}
 use Rattle.combine_repeat_sep_end.specs.Ended.{closer_of, ended_part, some_of}
 use Rattle.std.proofs.Common.{sym, ◌∙◌}
 use Rattle.combine_repeat_sep.specs.Pair.{pair, pair_begins, pair_is_meaning, pair_means_same, pair_valid}
-use Rattle.combine_base.proofs.Same.{same_none}
+use Rattle.combine_base.proofs.Parsers.SameMeanings.{same_none}
 use Rattle.combine_repeat_sep_end.specs.Ended.{last}
 use Rattle.combine_repeat_sep.specs.Separated.{separated_default, separated_valid, then_same}
-use Rattle.combine_repeat_sep.proofs.Separating.{ran_valid, first_afresh, first_afresh_reasons, first_resumed, first_resumed_reasons, later_afresh, later_afresh_reasons, later_resumed, later_resumed_reasons, later_valid}
+use Rattle.combine_repeat_sep.proofs.SeparatedCalls.{ran_valid, first_afresh, first_afresh_reasons, first_resumed, first_resumed_reasons, later_afresh, later_afresh_reasons, later_resumed, later_resumed_reasons, later_valid}
 use Rattle.combine_repeat_sep_end.proofs.ended.EndedTurn.parse_turn.Goals as goal
 
 pub returns-then-later-clause-valid : goal.returns-then-later-clause-valid

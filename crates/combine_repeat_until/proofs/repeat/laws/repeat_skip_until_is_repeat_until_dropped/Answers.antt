@@ -1,4 +1,4 @@
-use Rattle.combine_repeat_until.proofs.Comparing.{repeat_or_skip}
+use Rattle.combine_repeat_until.proofs.DroppedBlocks.{repeat_or_skip}
 use Rattle.combine_repeat_until.proofs.repeat.laws.repeat_skip_until_is_repeat_until_dropped.Goals as goal
 
 pub returns : goal.returns

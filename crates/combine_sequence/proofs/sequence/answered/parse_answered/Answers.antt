@@ -2,8 +2,8 @@ use Rattle.std.proofs.Common.{inl, inr, refl, ap, ◌∙◌}
 use Rattle.combine_base.specs.Parser.Answer.{world}
 use Rattle.combine_base.specs.Sequence.Parts.{accepted_as}
 use Rattle.combine_base.specs.declared.error.ParseResult.TheVariants.{CommitErr, CommitOk}
-use Rattle.combine_base.proofs.Refusing.{explained_at_rest}
-use Rattle.combine_base.proofs.Starting.{at_rest}
+use Rattle.combine_base.proofs.Errors.MeantRefusals.{explained_at_rest}
+use Rattle.combine_base.proofs.Parsers.CallStarts.{at_rest}
 use Rattle.combine_sequence.proofs.sequence.answered.parse_answered.Goals as goal
 
 pub returns-in-CommitOk : goal.returns-in-CommitOk

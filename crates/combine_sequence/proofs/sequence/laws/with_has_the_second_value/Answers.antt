@@ -1,4 +1,4 @@
-use Rattle.combine_base.proofs.Same.{same_none}
+use Rattle.combine_base.proofs.Parsers.SameMeanings.{same_none}
 use Rattle.combine_sequence.specs.Values.{second_value}
 use Rattle.combine_sequence.proofs.sequence.laws.with_has_the_second_value.Goals as goal
 

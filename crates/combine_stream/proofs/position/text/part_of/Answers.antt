@@ -1,5 +1,5 @@
 use Rattle.std.proofs.Common.{arith, sym, subst, ◌-◌}
-use Rattle.combine_stream.specs.Lines.{Fits}
+use Rattle.combine_stream.specs.Position.Lines.{Fits}
 use Rattle.combine_stream.proofs.TextParts.{chars_between, fits_behind}
 use Rattle.combine_stream.proofs.position.text.part_of.Goals as goal
 

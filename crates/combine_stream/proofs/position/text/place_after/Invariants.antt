@@ -3,7 +3,7 @@ use denote.Text.{Utf8}
 use denote.Shadow.{shadow}
 use Rattle.std.specs.Str.{chars}
 use Rattle.combine_base.specs.Stream.View.{after_all}
-use Rattle.combine_stream.specs.Lines.{Fits, next_place}
+use Rattle.combine_stream.specs.Position.Lines.{Fits, next_place}
 use Rattle.combine_stream.proofs.position.text.place_after.Given as goal
 
 abbrev pub invariant-loop-first : goal.invariant-loop-first

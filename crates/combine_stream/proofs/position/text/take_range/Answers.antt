@@ -1,8 +1,8 @@
 use Rattle.std.proofs.Common.{arith, ap, sym, subst, length, ◌∙◌}
 use Rattle.combine_base.specs.Stream.View.{after_all}
-use Rattle.combine_stream.specs.TextRanges.{Cut}
-use Rattle.combine_stream.specs.Lines.{Fits, next_place}
-use Rattle.combine_stream.proofs.Placing.{front_size, front_within, front_chars, back_fits}
+use Rattle.combine_stream.specs.Range.TextRanges.{Cut}
+use Rattle.combine_stream.specs.Position.Lines.{Fits, next_place}
+use Rattle.combine_stream.proofs.PlacedTexts.{front_size, front_within, front_chars, back_fits}
 use Rattle.combine_stream.proofs.position.text.take_range.Goals as goal
 
 pub place_after-requires : goal.place_after-requires

@@ -1,5 +1,5 @@
 use Rattle.std.proofs.Common.{◌≡◌, drop}
-use Rattle.combine_stream.proofs.Passing.{Passed}
+use Rattle.combine_stream.proofs.TokenWalks.{Passed}
 use Rattle.combine_stream.proofs.range.slices.count_each.Given as goal
 
 abbrev pub invariant-loop-token : goal.invariant-loop-token

@@ -1,6 +1,6 @@
 use Rattle.std.proofs.Common.{length, take, arith, ap, ◌∙◌, length-drop, length-take-le}
-use Rattle.combine_stream.proofs.Blocks.{few, passed_block, passed_inside, passed_rest, within}
-use Rattle.combine_stream.proofs.Passing.{passed_none}
+use Rattle.combine_stream.proofs.BlockWalks.{few, passed_block, passed_inside, passed_rest, within}
+use Rattle.combine_stream.proofs.TokenWalks.{passed_none}
 use Rattle.combine_stream.proofs.range.slices.count_while.Goals as goal
 
 pub walk-init : goal.walk-init

@@ -1,5 +1,5 @@
 use Rattle.std.proofs.Common.{length}
-use Rattle.combine_stream.proofs.Passing.{Passed}
+use Rattle.combine_stream.proofs.TokenWalks.{Passed}
 use Rattle.combine_stream.proofs.range.slices.count_while.Given as goal
 
 abbrev pub invariant-walk : goal.invariant-walk

@@ -1,7 +1,7 @@
 use Rattle.std.proofs.Common.{arith, ◌≡◌, ◌+◌, ◌-◌, length, subst}
 use Rattle.std.specs.Char.{len_utf8}
 use Rattle.std.specs.Str.{chars}
-use Rattle.combine_stream.proofs.Passing.{Passed, passed_more, passed_stop, passed_end}
+use Rattle.combine_stream.proofs.TokenWalks.{Passed, passed_more, passed_stop, passed_end}
 use Rattle.combine_stream.proofs.range.texts.bytes_while.Goals as goal
 
 pub returns-then-not-map_one : goal.returns-then-not-map_one

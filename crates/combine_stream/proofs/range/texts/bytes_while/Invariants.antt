@@ -3,7 +3,7 @@ use denote.Text.{Utf8}
 use denote.Shadow.{shadow}
 use Rattle.std.specs.Char.{len_utf8}
 use Rattle.std.specs.Str.{chars}
-use Rattle.combine_stream.proofs.Passing.{Passed}
+use Rattle.combine_stream.proofs.TokenWalks.{Passed}
 use Rattle.combine_stream.proofs.range.texts.bytes_while.Given as goal
 
 abbrev pub invariant-loop-first : goal.invariant-loop-first

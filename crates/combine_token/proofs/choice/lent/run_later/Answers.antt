@@ -1,5 +1,5 @@
 use Rattle.combine_base.specs.Parser.Answer.{world}
-use Rattle.combine_token.proofs.TupleCalls.{may_settle}
+use Rattle.combine_token.proofs.Choices.HalfCalls.{may_settle}
 use Rattle.combine_token.proofs.choice.lent.run_later.Goals as goal
 
 pub settle-requires : goal.settle-requires

@@ -1,6 +1,6 @@
 use Rattle.combine_base.specs.Parser.Answer.{world}
-use Rattle.combine_token.proofs.FirstTurn.{begun_valid}
-use Rattle.combine_token.proofs.TupleCalls.{resumed, tried}
+use Rattle.combine_token.proofs.Choices.FirstAlternative.{begun_valid}
+use Rattle.combine_token.proofs.Choices.HalfCalls.{resumed, tried}
 use Rattle.combine_token.proofs.choice.lent.try_first.Goals as goal
 
 pub returns-in-Err-clause-tried : goal.returns-in-Err-clause-tried

@@ -1,4 +1,4 @@
-use Rattle.combine_token.proofs.Seeking.{told_none, told_more, told_all}
+use Rattle.combine_token.proofs.Lists.FoundItems.{told_none, told_more, told_all}
 use Rattle.combine_token.proofs.token.among.expect_each.Goals as goal
 
 pub items-init : goal.items-init

@@ -1,4 +1,4 @@
-use Rattle.combine_token.proofs.Seeking.{ToldEach}
+use Rattle.combine_token.proofs.Lists.FoundItems.{ToldEach}
 use Rattle.combine_token.proofs.token.among.expect_each.Given as goal
 
 abbrev pub invariant-items : goal.invariant-items

@@ -1,5 +1,5 @@
 use Rattle.std.proofs.Common.{sym, ◌∙◌}
-use Rattle.combine_token.proofs.Seeking.{passed_none, passed_more, found_there, found_nowhere}
+use Rattle.combine_token.proofs.Lists.FoundItems.{passed_none, passed_more, found_there, found_nowhere}
 use Rattle.combine_token.proofs.token.among.is_among.Goals as goal
 
 pub items-init : goal.items-init

@@ -1,5 +1,5 @@
 use Rattle.std.proofs.Common.{◌≡◌, false}
-use Rattle.combine_token.specs.Among.{Passed}
+use Rattle.combine_token.specs.Token.Among.{Passed}
 use Rattle.combine_token.proofs.token.among.is_among.Given as goal
 
 abbrev pub invariant-items : goal.invariant-items

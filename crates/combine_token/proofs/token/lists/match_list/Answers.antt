@@ -1,12 +1,12 @@
 use Rattle.std.proofs.Common.{rules, arith, refl, sym, ◌∙◌, lt-ltb, le-ltb}
 use Rattle.std.proofs.lemmas.Bool.{false≢true}
-use Rattle.combine_base.proofs.Same.{passes_none, passes_more}
-use Rattle.combine_token.specs.Iterated.{iterated_ends_once}
-use Rattle.combine_token.proofs.Iterating.{reached, reached_more, stands_there, ends, ends_early}
-use Rattle.combine_token.proofs.Matches.{arrived_first, arrived_next}
-use Rattle.combine_token.proofs.ListAnswered.{match_accepted, match_refused, match_put_back, match_unread, match_asks, mismatch_told}
-use Rattle.combine_base.proofs.Reasoning.{reasons_fault, reasons_need}
-use Rattle.combine_token.proofs.ListReasons.{accepted_reasons, mismatch_reasons, put_back_reasons, unread_reasons}
+use Rattle.combine_base.proofs.Parsers.SameMeanings.{passes_none, passes_more}
+use Rattle.combine_token.specs.Token.Lists.IteratedLists.{iterated_ends_once}
+use Rattle.combine_token.proofs.Lists.IteratorCalls.{reached, reached_more, stands_there, ends, ends_early}
+use Rattle.combine_token.proofs.Lists.Matches.{arrived_first, arrived_next}
+use Rattle.combine_token.proofs.Lists.ListAnswers.{match_accepted, match_refused, match_put_back, match_unread, match_asks, mismatch_told}
+use Rattle.combine_base.proofs.Errors.CallReasons.{reasons_fault, reasons_need}
+use Rattle.combine_token.proofs.Lists.ListReasons.{accepted_reasons, mismatch_reasons, put_back_reasons, unread_reasons}
 use Rattle.combine_base.specs.declared.stream.Kind.TheVariants as kinds
 use Rattle.combine_token.proofs.token.lists.match_list.Goals as goal
 

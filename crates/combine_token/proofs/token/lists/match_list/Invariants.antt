@@ -2,9 +2,9 @@ use Rattle.std.proofs.Common.{◌+◌, ◌<◌, ◌≡◌, ◌^◌}
 use Rattle.std.specs.Option.{option_copied}
 use Rattle.combine_base.specs.Parser.Answer.{world}
 use Rattle.combine_base.specs.Stream.Calls.{Passes}
-use Rattle.combine_token.proofs.Matches.{Arrived}
-use Rattle.combine_token.specs.Iterated.{Reached, iterated}
-use Rattle.combine_token.specs.ListAnswers.{expecting}
+use Rattle.combine_token.proofs.Lists.Matches.{Arrived}
+use Rattle.combine_token.specs.Token.Lists.IteratedLists.{Reached, iterated}
+use Rattle.combine_token.specs.Token.Lists.ListAnswers.{expecting}
 use Rattle.combine_token.specs.declared.token.lists.types.TokensState.{TokensState}
 use Rattle.combine_token.proofs.token.lists.match_list.Given as goal
 

@@ -1,8 +1,8 @@
 use Rattle.std.proofs.Common.{rules, sym, ◌∙◌}
-use Rattle.combine_token.proofs.OneToken.{accepts_end, needs_token, not_put_back}
+use Rattle.combine_token.proofs.Tokens.OneToken.{accepts_end, needs_token, not_put_back}
 use Rattle.combine_base.specs.declared.stream.Kind.TheVariants as kinds
-use Rattle.combine_base.proofs.Reasoning.{reasons_ok, reasons_peek_ok, reasons_fault, reasons_need}
-use Rattle.combine_token.proofs.TokenReasons.{refused_token, refused_end}
+use Rattle.combine_base.proofs.Errors.CallReasons.{reasons_ok, reasons_peek_ok, reasons_fault, reasons_need}
+use Rattle.combine_token.proofs.Tokens.TokenReasons.{refused_token, refused_end}
 use Rattle.combine_token.proofs.token.reading.one_token.Goals as goal
 
 pub returns-then-is_partial-clause-reads : goal.returns-then-is_partial-clause-reads

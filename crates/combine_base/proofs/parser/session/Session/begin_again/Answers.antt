@@ -3,7 +3,7 @@ use Rattle.std.proofs.lemmas.Bool.{false≢true}
 use Rattle.combine_base.specs.Stream.Fed.{fed_view}
 use Rattle.combine_base.specs.Parser.Sessions.{Course, answered, course_of, stage_after}
 use Rattle.combine_base.specs.declared.parser.session.Stage.TheVariants as stages
-use Rattle.combine_base.proofs.Sessions.{admits_fewer, answers_again, begins, blank, keeps_none, leaves_few}
+use Rattle.combine_base.proofs.Parsers.Sessions.{admits_fewer, answers_again, begins, blank, keeps_none, leaves_few}
 use Rattle.combine_base.proofs.parser.session.Session.begin_again.Goals as goal
 
 pub invariant_of-self : goal.invariant_of-self

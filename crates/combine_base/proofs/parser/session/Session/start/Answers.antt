@@ -1,8 +1,8 @@
 use Rattle.std.proofs.Common.{refl, subst, sym, ◌∙◌}
 use Rattle.combine_base.specs.Parser.Sessions.{Course, Parses, answered, stage_after}
 use Rattle.combine_base.specs.Stream.Fed.{fed_view}
-use Rattle.combine_base.proofs.Sessions.{judged}
-use Rattle.combine_base.proofs.Starting.{at_rest}
+use Rattle.combine_base.proofs.Parsers.Sessions.{judged}
+use Rattle.combine_base.proofs.Parsers.CallStarts.{at_rest}
 use Rattle.combine_base.proofs.parser.session.Session.start.Goals as goal
 
 pub returns-clause-parses : goal.returns-clause-parses

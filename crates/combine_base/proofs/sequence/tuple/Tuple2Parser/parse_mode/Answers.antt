@@ -1,6 +1,6 @@
 use Rattle.combine_base.specs.Sequence.Tuples.{tuple_2_is_meaning}
-use Rattle.combine_base.proofs.Refusing.{reasoned_in_mode}
-use Rattle.combine_base.proofs.Starting.{in_mode}
+use Rattle.combine_base.proofs.Errors.MeantRefusals.{reasoned_in_mode}
+use Rattle.combine_base.proofs.Parsers.CallStarts.{in_mode}
 use Rattle.combine_base.proofs.sequence.tuple.Tuple2Parser.parse_mode.Goals as goal
 
 pub returns-clause-answers : goal.returns-clause-answers

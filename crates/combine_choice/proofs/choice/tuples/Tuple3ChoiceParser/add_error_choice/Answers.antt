@@ -1,5 +1,5 @@
-use Rattle.combine_token.specs.Or.{or_means_same}
-use Rattle.combine_token.proofs.Adding.{says_together}
+use Rattle.combine_token.specs.Choice.Or.{or_means_same}
+use Rattle.combine_token.proofs.Choices.TwoAdditions.{says_together}
 use Rattle.combine_choice.proofs.choice.tuples.Tuple3ChoiceParser.add_error_choice.Goals as goal
 
 pub returns-clause-same : goal.returns-clause-same

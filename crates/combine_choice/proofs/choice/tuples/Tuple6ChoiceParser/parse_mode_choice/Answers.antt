@@ -1,7 +1,7 @@
 use Rattle.std.proofs.Common.{rules}
 use Rattle.combine_base.specs.Parser.Meaning.{MeansSame}
-use Rattle.combine_token.specs.Or.{either_of}
-use Rattle.combine_choice.proofs.Lent.{carried_8, no_value}
+use Rattle.combine_token.specs.Choice.Or.{either_of}
+use Rattle.combine_choice.proofs.EqualValues.{carried_8, no_value}
 use Rattle.combine_choice.proofs.choice.tuples.Tuple6ChoiceParser.parse_mode_choice.Goals as goal
 
 pub returns-clause-valid : goal.returns-clause-valid

@@ -1,8 +1,8 @@
 use Rattle.std.proofs.Common.{refl}
-use Rattle.combine_choice_dispatch.specs.Held.{held_means_same, within}
+use Rattle.combine_choice_dispatch.specs.HeldParser.{held_means_same, within}
 use Rattle.combine_choice_dispatch.specs.Halves.{nest_4}
 use Rattle.combine_choice_dispatch.specs.Variants2.{pick_left, pick_right}
-use Rattle.combine_choice_dispatch.proofs.Holding.{held_answers, held_reasons, held_twice}
+use Rattle.combine_choice_dispatch.proofs.HeldAnswers.{held_answers, held_reasons, held_twice}
 use Rattle.combine_choice_dispatch.proofs.variants.dispatch4.Dispatch4Parser.parse_mode.Goals as goal
 
 pub returns-in-A-clause-same : goal.returns-in-A-clause-same

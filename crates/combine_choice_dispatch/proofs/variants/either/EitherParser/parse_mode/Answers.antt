@@ -1,7 +1,7 @@
 use Rattle.std.proofs.Common.{refl}
-use Rattle.combine_choice_dispatch.specs.Held.{held_means_same}
+use Rattle.combine_choice_dispatch.specs.HeldParser.{held_means_same}
 use Rattle.combine_choice_dispatch.specs.Variants2.{pick_left, pick_right}
-use Rattle.combine_choice_dispatch.proofs.Holding.{held_answers, held_reasons}
+use Rattle.combine_choice_dispatch.proofs.HeldAnswers.{held_answers, held_reasons}
 use Rattle.combine_choice_dispatch.proofs.variants.either.EitherParser.parse_mode.Goals as goal
 
 pub returns-in-Left-clause-same : goal.returns-in-Left-clause-same

@@ -1,9 +1,9 @@
 use Rattle.std.proofs.Common.{refl, sym, ◌∙◌, true, false}
 use Rattle.std.proofs.lemmas.Bool.{false≢true}
 use Rattle.combine_base.specs.Parser.Answer.{world}
-use Rattle.combine_base.proofs.Reasoning.{reasons_peek_ok}
+use Rattle.combine_base.proofs.Errors.CallReasons.{reasons_peek_ok}
 use Rattle.combine_combinator.specs.Tables.{looks}
-use Rattle.combine_combinator.proofs.Looking.{asks_reasons, back_reasons, table_accepts, table_answers, table_asks_back, table_fails, table_reasons, table_refuses}
+use Rattle.combine_combinator.proofs.TableAnswers.{asks_reasons, back_reasons, table_accepts, table_answers, table_asks_back, table_fails, table_reasons, table_refuses}
 use Rattle.combine_combinator.proofs.combinator.look.LookAheadParser.parse_mode.Goals as goal
 
 pub returns-in-CommitOk-clause-answers : goal.returns-in-CommitOk-clause-answers

@@ -2,7 +2,7 @@ use Rattle.std.proofs.Common.{refl, sym, ◌∙◌, true, false}
 use Rattle.std.proofs.lemmas.Bool.{false≢true}
 use Rattle.combine_base.specs.Parser.Answer.{world}
 use Rattle.combine_combinator.specs.Tables.{stays}
-use Rattle.combine_combinator.proofs.Looking.{asks_reasons, table_asks_back, table_fails, table_reasons, table_refuses, table_takes}
+use Rattle.combine_combinator.proofs.TableAnswers.{asks_reasons, table_asks_back, table_fails, table_reasons, table_refuses, table_takes}
 use Rattle.combine_combinator.proofs.combinator.look.NoPartialParser.parse_mode.Goals as goal
 
 pub returns-in-CommitOk-clause-answers : goal.returns-in-CommitOk-clause-answers

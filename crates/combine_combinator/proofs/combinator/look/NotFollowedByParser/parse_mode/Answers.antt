@@ -2,12 +2,12 @@ use Rattle.std.proofs.Common.{refl, sym, ap, ◌∙◌, true, false}
 use Rattle.std.proofs.lemmas.Bool.{false≢true}
 use Rattle.combine_base.specs.Parser.Answer.{world}
 use Rattle.combine_base.specs.Error.Errors.{Nothing}
-use Rattle.combine_base.proofs.Calls.{peeked_refusal}
-use Rattle.combine_base.proofs.Reasoning.{reasons_peek_ok, reasons_peeked}
-use Rattle.combine_combinator.specs.Backs.{RefusesFollowed}
+use Rattle.combine_base.proofs.Errors.CallErrors.{peeked_refusal}
+use Rattle.combine_base.proofs.Errors.CallReasons.{reasons_peek_ok, reasons_peeked}
+use Rattle.combine_combinator.specs.ResetAnswers.{RefusesFollowed}
 use Rattle.combine_combinator.specs.Tables.{is_not}
 use Rattle.combine_combinator.specs.Attempt.{refusing}
-use Rattle.combine_combinator.proofs.Looking.{asks_reasons, back_reasons, committed_refusal, table_answers, table_asks_back, table_denies, table_faults, table_permits, table_reasons}
+use Rattle.combine_combinator.proofs.TableAnswers.{asks_reasons, back_reasons, committed_refusal, table_answers, table_asks_back, table_denies, table_faults, table_permits, table_reasons}
 use Rattle.combine_combinator.proofs.combinator.look.NotFollowedByParser.parse_mode.Goals as goal
 
 pub returns-in-CommitOk-clause-answers : goal.returns-in-CommitOk-clause-answers

@@ -1,12 +1,12 @@
 use Rattle.std.proofs.Common.{◌≡◌, ap, refl, sym, ◌∙◌}
 use Rattle.std.proofs.lemmas.Bool.{false≢true}
-use Rattle.combine_base.proofs.Same.{passes_more, same_none}
+use Rattle.combine_base.proofs.Parsers.SameMeanings.{passes_more, same_none}
 use Rattle.combine_combinator.specs.Attempt.{attempted, attempted_means_same, refusing}
 use Rattle.combine_base.specs.Parser.Answer.{world}
 use Rattle.combine_base.specs.Parser.Meaning.{begun_refuses}
 use Rattle.combine_combinator.proofs.Attempts.{comes, try_commit_ok, try_peek_ok, try_peeks_back, try_refuses_back, try_faults, try_lost, try_keeps_distance}
-use Rattle.combine_base.proofs.Reasoning.{reasons_accepted}
-use Rattle.combine_combinator.proofs.Reasons.{attempt_fails, from_committed, from_peeked, kept_fails, reasons_put_back}
+use Rattle.combine_base.proofs.Errors.CallReasons.{reasons_accepted}
+use Rattle.combine_combinator.proofs.AttemptReasons.{attempt_fails, from_committed, from_peeked, kept_fails, reasons_put_back}
 use Rattle.combine_combinator.proofs.combinator.types.TryParser.parse_mode.Goals as goal
 
 pub returns-in-Err-clause-same : goal.returns-in-Err-clause-same

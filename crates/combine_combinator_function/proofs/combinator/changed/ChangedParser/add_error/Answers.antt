@@ -1,6 +1,6 @@
 use Rattle.combine_combinator_function.specs.Changes.{changed_means_same, spares}
-use Rattle.combine_combinator_function.specs.Parsers.{change_part}
-use Rattle.combine_combinator_function.proofs.Changing.{gives_same}
+use Rattle.combine_combinator_function.specs.ChangeParsers.{change_part}
+use Rattle.combine_combinator_function.proofs.Changes.{gives_same}
 use Rattle.combine_combinator_function.proofs.combinator.changed.ChangedParser.add_error.Goals as goal
 
 pub returns-clause-same : goal.returns-clause-same

@@ -1,8 +1,8 @@
-use Rattle.combine_base.specs.Parser.Given.{GivesOnly}
-use Rattle.combine_base.proofs.Giving.{good_ok, good_peek_ok}
+use Rattle.combine_base.specs.Parser.GivenValues.{GivesOnly}
+use Rattle.combine_base.proofs.Parsers.GivenValues.{good_ok, good_peek_ok}
 use Rattle.combine_combinator_function.specs.Changes.{changed_means_same, spares}
-use Rattle.combine_combinator_function.specs.Parsers.{change_part, changed_part}
-use Rattle.combine_combinator_function.proofs.Changing.{changed_err, changed_peek_err, commit_denial, commit_value, gives_same, part_error, part_refusal, peek_denial, peek_value, value_error, value_refusal}
+use Rattle.combine_combinator_function.specs.ChangeParsers.{change_part, changed_part}
+use Rattle.combine_combinator_function.proofs.Changes.{changed_err, changed_peek_err, commit_denial, commit_value, gives_same, part_error, part_refusal, peek_denial, peek_value, value_error, value_refusal}
 use Rattle.combine_combinator_function.proofs.combinator.changed.ChangedParser.parse_mode.Goals as goal
 
 pub change-requires : goal.change-requires

@@ -1,5 +1,5 @@
 use Rattle.std.proofs.Common.{inl}
-use Rattle.combine_combinator_function.proofs.Changing.{says_made}
+use Rattle.combine_combinator_function.proofs.Changes.{says_made}
 use Rattle.combine_combinator_function.proofs.combinator.changes.ReadChange.change.Goals as goal
 
 pub returns-in_default-clause-changes : goal.returns-in_default-clause-changes

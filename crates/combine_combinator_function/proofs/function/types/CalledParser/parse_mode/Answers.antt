@@ -1,9 +1,9 @@
 use Rattle.std.proofs.Common.{sym, true, ◌∙◌}
 use Rattle.std.proofs.lemmas.Bool.{false≢true}
 use Rattle.combine_base.specs.declared.stream.Kind.TheVariants as kinds
-use Rattle.combine_base.proofs.Reasoning.{reasons_fault, reasons_need}
+use Rattle.combine_base.proofs.Errors.CallReasons.{reasons_fault, reasons_need}
 use Rattle.combine_combinator_function.specs.Functions.{NeedsNoMemory, call_of}
-use Rattle.combine_combinator_function.proofs.Calling.{back_open, called_back, called_err, called_ok, called_peek_err, called_peek_ok, called_says, called_says_peeked, called_stuck}
+use Rattle.combine_combinator_function.proofs.FunctionCalls.{back_open, called_back, called_err, called_ok, called_peek_err, called_peek_ok, called_says, called_says_peeked, called_stuck}
 use Rattle.combine_combinator_function.proofs.function.types.CalledParser.parse_mode.Goals as goal
 
 pub returns-in-CommitOk-clause-answers : goal.returns-in-CommitOk-clause-answers

@@ -1,10 +1,10 @@
-use Rattle.combine_base.proofs.Refusing.{reasoned_in_mode}
-use Rattle.combine_base.proofs.Same.{passes_more}
-use Rattle.combine_base.proofs.Starting.{in_mode}
+use Rattle.combine_base.proofs.Errors.MeantRefusals.{reasoned_in_mode}
+use Rattle.combine_base.proofs.Parsers.SameMeanings.{passes_more}
+use Rattle.combine_base.proofs.Parsers.CallStarts.{in_mode}
 use Rattle.combine_base.specs.Error.Errors.{Nothing}
-use Rattle.combine_base.specs.Parser.Kept.{KeptOf}
-use Rattle.combine_combinator_lazy.specs.Made.{MadeAt, by_factory, factory_maker, made_at_lasts, made_at_of_for, made_is_meaning}
-use Rattle.combine_combinator_lazy.proofs.Making.{begins_in_place, factory_makable, kept_valid, leaves_valid, makable_kept, reasons_in_place, resumes_made}
+use Rattle.combine_base.specs.Parser.KeptParsers.{KeptOf}
+use Rattle.combine_combinator_lazy.specs.MadeParsers.{MadeAt, by_factory, factory_maker, made_at_lasts, made_at_of_for, made_is_meaning}
+use Rattle.combine_combinator_lazy.proofs.MadeAnswers.{begins_in_place, factory_makable, kept_valid, leaves_valid, makable_kept, reasons_in_place, resumes_made}
 use Rattle.combine_combinator_lazy.proofs.combinator.types.FactoryParser.parse_mode.Goals as goal
 
 pub resume_made-requires-clause-ready : goal.resume_made-requires-clause-ready

@@ -1,8 +1,8 @@
-use Rattle.combine_base.proofs.Refusing.{reasoned_in_mode}
-use Rattle.combine_base.proofs.Starting.{in_mode}
-use Rattle.combine_base.specs.Parser.Kept.{KeptOf}
-use Rattle.combine_combinator_lazy.specs.Made.{Adds, at_any, at_any_lasts, by_lazy, lazy_maker, made_is_meaning}
-use Rattle.combine_combinator_lazy.proofs.Making.{begins_made, makable_kept, kept_valid, leaves_valid, reasons_made, resumes_made}
+use Rattle.combine_base.proofs.Errors.MeantRefusals.{reasoned_in_mode}
+use Rattle.combine_base.proofs.Parsers.CallStarts.{in_mode}
+use Rattle.combine_base.specs.Parser.KeptParsers.{KeptOf}
+use Rattle.combine_combinator_lazy.specs.MadeParsers.{Adds, at_any, at_any_lasts, by_lazy, lazy_maker, made_is_meaning}
+use Rattle.combine_combinator_lazy.proofs.MadeAnswers.{begins_made, makable_kept, kept_valid, leaves_valid, reasons_made, resumes_made}
 use Rattle.combine_combinator_lazy.proofs.combinator.types.LazyParser.parse_mode.Goals as goal
 
 pub resume_made-requires-clause-ready : goal.resume_made-requires-clause-ready

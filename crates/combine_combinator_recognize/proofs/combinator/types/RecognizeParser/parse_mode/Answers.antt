@@ -1,8 +1,8 @@
 use Rattle.std.proofs.Common.{refl}
 use Rattle.combine_base.specs.Parser.Answer.{world}
-use Rattle.combine_base.proofs.Starting.{at_rest, in_mode}
-use Rattle.combine_combinator_recognize.specs.Gathered.{recognized_is_meaning}
-use Rattle.combine_combinator_recognize.proofs.Recognizing.{error_reasons, part_valid, recognize_asks, recognize_peeks, refusal_reasons}
+use Rattle.combine_base.proofs.Parsers.CallStarts.{at_rest, in_mode}
+use Rattle.combine_combinator_recognize.specs.RecognizedTokens.{recognized_is_meaning}
+use Rattle.combine_combinator_recognize.proofs.RecognizedAnswers.{error_reasons, part_valid, recognize_asks, recognize_peeks, refusal_reasons}
 use Rattle.combine_combinator_recognize.proofs.combinator.types.RecognizeParser.parse_mode.Goals as goal
 
 pub returns-in-PeekOk-clause-answers : goal.returns-in-PeekOk-clause-answers

@@ -1,5 +1,5 @@
-use Rattle.combine_error.proofs.InPlaces.{says_in_place}
-use Rattle.combine_error.specs.Saying.{in_place_same, unchanged_is_monotone}
+use Rattle.combine_error.proofs.ReplacedItems.{says_in_place}
+use Rattle.combine_error.specs.RewordedErrors.{in_place_same, unchanged_is_monotone}
 use Rattle.combine_error.proofs.error.types.ExpectedInfoTokenRangeParser.add_error.Goals as goal
 
 pub returns-clause-same : goal.returns-clause-same

@@ -1,7 +1,7 @@
 use Rattle.combine_base.specs.Error.Items.{Expected, shown}
-use Rattle.combine_base.proofs.Same.{answers_alike}
-use Rattle.combine_error.proofs.Shapes.{saying_reasons}
-use Rattle.combine_error.specs.Saying.{InPlace, in_place_same, saying_alike, unchanged, unchanged_is_monotone}
+use Rattle.combine_base.proofs.Parsers.SameMeanings.{answers_alike}
+use Rattle.combine_error.proofs.ShapedAnswers.{saying_reasons}
+use Rattle.combine_error.specs.RewordedErrors.{InPlace, in_place_same, saying_alike, unchanged, unchanged_is_monotone}
 use Rattle.combine_error.proofs.error.types.ExpectedInfoTokenRangeParser.parse_mode.Goals as goal
 
 pub returns-clause-same : goal.returns-clause-same

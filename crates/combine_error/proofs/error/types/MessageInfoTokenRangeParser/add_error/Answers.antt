@@ -1,5 +1,5 @@
-use Rattle.combine_error.proofs.InPlaces.{says_and_then}
-use Rattle.combine_error.specs.Saying.{and_then_same, told_more_is_monotone}
+use Rattle.combine_error.proofs.ReplacedItems.{says_and_then}
+use Rattle.combine_error.specs.RewordedErrors.{and_then_same, told_more_is_monotone}
 use Rattle.combine_error.proofs.error.types.MessageInfoTokenRangeParser.add_error.Goals as goal
 
 pub returns-clause-same : goal.returns-clause-same

@@ -1,7 +1,7 @@
 use Rattle.combine_base.specs.Error.Items.{Message, shown}
 use Rattle.combine_base.specs.Parser.Meaning.{begun_refuses}
-use Rattle.combine_error.proofs.Shapes.{saying_reasons, told, told_reasons}
-use Rattle.combine_error.specs.Saying.{AndThen, and_then_same, told_more, told_more_is_monotone}
+use Rattle.combine_error.proofs.ShapedAnswers.{saying_reasons, told, told_reasons}
+use Rattle.combine_error.specs.RewordedErrors.{AndThen, and_then_same, told_more, told_more_is_monotone}
 use Rattle.combine_error.proofs.error.types.MessageInfoTokenRangeParser.parse_mode.Goals as goal
 
 pub returns-clause-same : goal.returns-clause-same

@@ -1,7 +1,7 @@
 use Rattle.combine_base.specs.Error.Errors.{Nothing}
 use Rattle.combine_base.specs.Parser.Meaning.{begun_refuses}
-use Rattle.combine_error.proofs.Shapes.{hushed, hushed_reasons, saying_reasons}
-use Rattle.combine_error.specs.Saying.{ToldLess, saying_means_same, told_less_is_monotone}
+use Rattle.combine_error.proofs.ShapedAnswers.{hushed, hushed_reasons, saying_reasons}
+use Rattle.combine_error.specs.RewordedErrors.{ToldLess, saying_means_same, told_less_is_monotone}
 use Rattle.combine_error.proofs.error.types.SilentParser.parse_mode.Goals as goal
 
 pub returns-clause-same : goal.returns-clause-same

@@ -1,9 +1,8 @@
 use Rattle.std.proofs.Common.{refl, arith, rules}
-use Rattle.combine_base.specs.Parser.Kept.{KeptOf}
-use Rattle.combine_base.proofs.Same.{passes_none, passes_more}
+use Rattle.combine_base.specs.Parser.KeptParsers.{KeptOf}
+use Rattle.combine_base.proofs.Parsers.SameMeanings.{passes_none, passes_more}
 use Rattle.combine_nested.specs.Asks.{asked_by_some}
-use Rattle.combine_nested.specs.Nesting.{asked_part, depth_part, root_part, starts_valid}
-use Rattle.combine_nested.specs.NestingLaws.{nesting_is_meaning}
+use Rattle.combine_nested.specs.NestedSteps.{asked_part, depth_part, root_part, starts_valid, nesting_is_meaning}
 use Rattle.combine_nested.specs.declared.nested.steps.NestedState.TheVariants as states
 use Rattle.combine_nested.proofs.EachStep.{asked_kept, reaches_first, runs_first, runs_next, step_leads, steps_fall, valid_from}
 use Rattle.combine_nested.proofs.nested.types.NestedParser.parse_mode.Goals as goal

@@ -1,7 +1,7 @@
 use Rattle.std.proofs.Common.{◌≡◌}
 use Rattle.combine_base.specs.Stream.Calls.{Passes}
 use Rattle.combine_nested.specs.Asks.{asked_by_some}
-use Rattle.combine_nested.specs.Nesting.{asked_part, depth_part, root_part}
+use Rattle.combine_nested.specs.NestedSteps.{asked_part, depth_part, root_part}
 use Rattle.combine_nested.proofs.EachStep.{leads_to, left_over}
 use Rattle.combine_nested.proofs.nested.types.NestedParser.parse_mode.Given as goal
 

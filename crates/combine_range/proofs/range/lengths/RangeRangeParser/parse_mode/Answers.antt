@@ -1,13 +1,13 @@
 use Rattle.std.proofs.Common.{◌∙◌}
-use Rattle.combine_range.proofs.Measuring.{match_commits, match_none, match_refuses, match_stuck}
-use Rattle.combine_base.proofs.Reasoning.{reasons_fault, reasons_ok}
+use Rattle.combine_range.proofs.LengthCalls.{match_commits, match_none, match_refuses, match_stuck}
+use Rattle.combine_base.proofs.Errors.CallReasons.{reasons_fault, reasons_ok}
 use Rattle.combine_base.specs.declared.stream.Kind.TheVariants as kinds
 use Rattle.combine_base.specs.Error.Errors.{Only}
 use Rattle.combine_base.specs.Error.Items.{Expected, OfRange}
-use Rattle.combine_range.specs.Lengths.{matching}
-use Rattle.combine_range.specs.Reasons.{RefusesDiffering}
-use Rattle.combine_range.specs.Wanted.{given}
-use Rattle.combine_range.proofs.Reasons.{reasons_other, reasons_unmatched, stateless_reasons}
+use Rattle.combine_range.specs.Range.Lengths.{matching}
+use Rattle.combine_range.specs.RangeReasons.{RefusesDiffering}
+use Rattle.combine_range.specs.WantedRanges.{given}
+use Rattle.combine_range.proofs.RangeReasons.{reasons_other, reasons_unmatched, stateless_reasons}
 use Rattle.combine_range.proofs.range.lengths.RangeRangeParser.parse_mode.Goals as goal
 
 pub returns-then-eq-clause-answers : goal.returns-then-eq-clause-answers

@@ -1,10 +1,10 @@
 use Rattle.std.proofs.Common.{arith, refl}
-use Rattle.combine_range.proofs.Measuring.{take_commits, take_none, take_peeks}
-use Rattle.combine_base.proofs.Reasoning.{reasons_ok, reasons_peek_ok}
+use Rattle.combine_range.proofs.LengthCalls.{take_commits, take_none, take_peeks}
+use Rattle.combine_base.proofs.Errors.CallReasons.{reasons_ok, reasons_peek_ok}
 use Rattle.combine_base.specs.Error.Errors.{Nothing}
-use Rattle.combine_range.specs.Lengths.{taking}
-use Rattle.combine_range.specs.Reasons.{RefusesLength}
-use Rattle.combine_range.proofs.Reasons.{reasons_none, stateless_reasons}
+use Rattle.combine_range.specs.Range.Lengths.{taking}
+use Rattle.combine_range.specs.RangeReasons.{RefusesLength}
+use Rattle.combine_range.proofs.RangeReasons.{reasons_none, stateless_reasons}
 use Rattle.combine_range.proofs.range.lengths.TakeParser.parse_mode.Goals as goal
 
 pub returns-then-self-gt0-clause-answers : goal.returns-then-self-gt0-clause-answers

@@ -1,4 +1,4 @@
-use Rattle.combine_range.specs.Recognized.{recognized_means_same}
+use Rattle.combine_range.specs.Range.RecognizedRange.{recognized_means_same}
 use Rattle.combine_range.proofs.range.recognized.RecognizeWithValueParser.add_error.Goals as goal
 
 pub returns-clause-same : goal.returns-clause-same

@@ -1,15 +1,15 @@
 use Rattle.std.proofs.Common.{true, false, refl, sym, ◌∙◌, ◌+◌, ap}
 use Rattle.std.proofs.lemmas.Bool.{false≢true}
 use Rattle.combine_base.specs.Stream.View.{View}
-use Rattle.combine_base.proofs.Calls.{same_mark}
-use Rattle.combine_base.proofs.Progress.{takes_more, takes_open}
-use Rattle.combine_base.proofs.Explaining.{reason_peeked}
-use Rattle.combine_base.proofs.Reasoning.{reasons_fault, reasons_hand_on, reasons_need, reasons_peeked}
+use Rattle.combine_base.proofs.Errors.CallErrors.{same_mark}
+use Rattle.combine_base.proofs.Parsers.Progress.{takes_more, takes_open}
+use Rattle.combine_base.proofs.Errors.Explanations.{reason_peeked}
+use Rattle.combine_base.proofs.Errors.CallReasons.{reasons_fault, reasons_hand_on, reasons_need, reasons_peeked}
 use Rattle.combine_base.specs.declared.stream.Kind.TheVariants as kinds
-use Rattle.combine_range.proofs.Reasons.{part_behind, part_inside, reasons_beside, reasons_unpassed}
-use Rattle.combine_range.proofs.Since.{ahead}
-use Rattle.combine_range.proofs.Recognizing.{comes, slice_hands, slice_refuses, slice_settles, slice_unreset, slice_asks, slice_unpassed}
-use Rattle.combine_range.specs.Recognized.{recognized_means_same}
+use Rattle.combine_range.proofs.RangeReasons.{part_behind, part_inside, reasons_beside, reasons_unpassed}
+use Rattle.combine_range.proofs.CheckpointRanges.{ahead}
+use Rattle.combine_range.proofs.RecognizedCalls.{comes, slice_hands, slice_refuses, slice_settles, slice_unreset, slice_asks, slice_unpassed}
+use Rattle.combine_range.specs.Range.RecognizedRange.{recognized_means_same}
 use Rattle.combine_range.specs.declared.range.recognized.RecognizeState.{RecognizeState}
 use Rattle.combine_range.proofs.range.recognized.RecognizeWithValueParser.parse_mode.Goals as goal
 

@@ -1,12 +1,12 @@
 use Rattle.std.proofs.Common.{◌≡◌, false, sym, refl, ◌∙◌, arith}
 use Rattle.combine_base.specs.Error.Errors.{Nothing}
-use Rattle.combine_base.proofs.Progress.{moves_more, takes_open}
-use Rattle.combine_range.proofs.Kept.{breaks}
-use Rattle.combine_range.specs.Reasons.{RefusesKept, RefusesMissing}
-use Rattle.combine_range.specs.Until.{until_range}
-use Rattle.combine_range.specs.Wanted.{given}
-use Rattle.combine_range.proofs.Reasons.{kept_inside, kept_own, kept_reasons, reasons_broke, reasons_ended, reasons_handed, reasons_keeping, reasons_unpassed}
-use Rattle.combine_range.proofs.Stopping.{went, missing, until_hands, until_keeps, until_ends}
+use Rattle.combine_base.proofs.Parsers.Progress.{moves_more, takes_open}
+use Rattle.combine_range.proofs.KeptDistance.{breaks}
+use Rattle.combine_range.specs.RangeReasons.{RefusesKept, RefusesMissing}
+use Rattle.combine_range.specs.Range.UntilRange.{until_range}
+use Rattle.combine_range.specs.WantedRanges.{given}
+use Rattle.combine_range.proofs.RangeReasons.{kept_inside, kept_own, kept_reasons, reasons_broke, reasons_ended, reasons_handed, reasons_keeping, reasons_unpassed}
+use Rattle.combine_range.proofs.UntilRange.{went, missing, until_hands, until_keeps, until_ends}
 use Rattle.combine_range.proofs.range.until.TakeUntilRangeRangeParser.parse_mode.Goals as goal
 
 pub returns-then-is_partial-clause-answers : goal.returns-then-is_partial-clause-answers

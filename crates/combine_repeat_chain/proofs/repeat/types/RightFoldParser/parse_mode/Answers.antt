@@ -1,10 +1,10 @@
 use Rattle.std.proofs.Common.{None}
-use Rattle.combine_base.proofs.Reasoning.{reasons_err, reasons_peek_err}
-use Rattle.combine_base.proofs.Refusing.{reasoned_accepted, reasoned_peeked}
-use Rattle.combine_base.proofs.Mapped.{mapped_err, mapped_ok, mapped_peek_err, mapped_peek_ok}
-use Rattle.combine_base.specs.Parser.Mapped.{mapped_means_same}
-use Rattle.combine_repeat_turns.specs.BoundedLaws.{turns_means_same}
-use Rattle.combine_repeat_turns.specs.Counts.{never}
+use Rattle.combine_base.proofs.Errors.CallReasons.{reasons_err, reasons_peek_err}
+use Rattle.combine_base.proofs.Errors.MeantRefusals.{reasoned_accepted, reasoned_peeked}
+use Rattle.combine_base.proofs.Parsers.ValueMap.{mapped_err, mapped_ok, mapped_peek_err, mapped_peek_ok}
+use Rattle.combine_base.specs.Parser.ValueMap.{mapped_means_same}
+use Rattle.combine_repeat_turns.specs.Turns.Bounds.{turns_means_same}
+use Rattle.combine_repeat_turns.specs.Repeat.Repeated.{never}
 use Rattle.combine_repeat_turns.specs.declared.turns.Bounds.TheVariants.{Joined}
 use Rattle.combine_repeat_chain.proofs.repeat.types.RightFoldParser.parse_mode.Goals as goal
 

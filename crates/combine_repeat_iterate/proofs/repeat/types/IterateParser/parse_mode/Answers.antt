@@ -1,12 +1,12 @@
 use Rattle.std.proofs.Common.{refl, arith}
-use Rattle.combine_base.proofs.Reasoning.{reasons_accepted, reasons_fault}
-use Rattle.combine_base.proofs.Refusing.{reasoned_in_mode}
+use Rattle.combine_base.proofs.Errors.CallReasons.{reasons_accepted, reasons_fault}
+use Rattle.combine_base.proofs.Errors.MeantRefusals.{reasoned_in_mode}
 use Rattle.combine_base.specs.declared.stream.Kind.TheVariants as kinds
-use Rattle.combine_base.proofs.Same.{passes_none, passes_more}
-use Rattle.combine_base.proofs.Starting.{in_mode}
-use Rattle.combine_repeat_iterate.specs.Items.{iterated_is_meaning, starts_valid}
-use Rattle.combine_base.specs.Parser.Kept.{KeptOf}
-use Rattle.combine_repeat_iterate.specs.Iterated.{AskedFor, Gives, Lists, asked_part, by_function, gives_callable, gives_none, gives_one, gives_some, items_part}
+use Rattle.combine_base.proofs.Parsers.SameMeanings.{passes_none, passes_more}
+use Rattle.combine_base.proofs.Parsers.CallStarts.{in_mode}
+use Rattle.combine_repeat_iterate.specs.ItemParsers.{iterated_is_meaning, starts_valid}
+use Rattle.combine_base.specs.Parser.KeptParsers.{KeptOf}
+use Rattle.combine_repeat_iterate.specs.ListedItems.{AskedFor, Gives, Lists, asked_part, by_function, gives_callable, gives_none, gives_one, gives_some, items_part}
 use Rattle.combine_repeat_iterate.specs.declared.repeat.items.IterateState.TheVariants as states
 use Rattle.combine_repeat_iterate.proofs.EachItem.{asked_kept, item_goes, item_leaves, item_passes, item_reasons, item_stops, items_end, no_clone, reaches_first, runs_first, runs_next, valid_from}
 use Rattle.combine_repeat_iterate.proofs.repeat.types.IterateParser.parse_mode.Given as given

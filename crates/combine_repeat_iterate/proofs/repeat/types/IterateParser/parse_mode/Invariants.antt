@@ -1,8 +1,8 @@
 use Rattle.std.proofs.Common.{◌≡◌}
 use Rattle.std.specs.Iterator.{size}
 use Rattle.combine_base.specs.Stream.Calls.{Passes}
-use Rattle.combine_repeat_iterate.specs.Items.{begins_items}
-use Rattle.combine_repeat_iterate.specs.Iterated.{AskedFor, Gives, Lists, asked_part, by_function, items_part}
+use Rattle.combine_repeat_iterate.specs.ItemParsers.{begins_items}
+use Rattle.combine_repeat_iterate.specs.ListedItems.{AskedFor, Gives, Lists, asked_part, by_function, items_part}
 use Rattle.combine_repeat_iterate.proofs.EachItem.{Loops}
 use Rattle.combine_repeat_iterate.proofs.repeat.types.IterateParser.parse_mode.Given as goal
 

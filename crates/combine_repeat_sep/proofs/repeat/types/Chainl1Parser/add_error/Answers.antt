@@ -1,7 +1,7 @@
 use Rattle.std.proofs.Common.{None}
-use Rattle.combine_base.proofs.Same.{same_none}
+use Rattle.combine_base.proofs.Parsers.SameMeanings.{same_none}
 use Rattle.combine_repeat_sep.specs.SeparatedParsers.{chained_operator}
-use Rattle.combine_repeat_sep.specs.JoinedLaws.{joined_means_same}
+use Rattle.combine_repeat_sep.specs.Elements.{joined_means_same}
 use Rattle.combine_repeat_turns.specs.declared.turns.Bounds.TheVariants.{Joined}
 use Rattle.combine_repeat_sep.proofs.repeat.types.Chainl1Parser.add_error.Goals as goal
 

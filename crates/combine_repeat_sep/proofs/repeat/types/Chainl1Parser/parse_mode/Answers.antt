@@ -1,6 +1,6 @@
 use Rattle.std.proofs.Common.{None}
-use Rattle.combine_repeat_turns.specs.BoundedLaws.{turns_means_same}
-use Rattle.combine_repeat_turns.specs.Counts.{never}
+use Rattle.combine_repeat_turns.specs.Turns.Bounds.{turns_means_same}
+use Rattle.combine_repeat_turns.specs.Repeat.Repeated.{never}
 use Rattle.combine_repeat_turns.specs.declared.turns.Bounds.TheVariants.{Joined}
 use Rattle.combine_repeat_sep.proofs.repeat.types.Chainl1Parser.parse_mode.Goals as goal
 

@@ -1,6 +1,6 @@
-use Rattle.combine_base.proofs.Same.{same_none}
+use Rattle.combine_base.proofs.Parsers.SameMeanings.{same_none}
 use Rattle.combine_repeat_sep.specs.SeparatedParsers.{bounds_of, separated_separator}
-use Rattle.combine_repeat_sep.specs.JoinedLaws.{joined_means_same}
+use Rattle.combine_repeat_sep.specs.Elements.{joined_means_same}
 use Rattle.combine_repeat_sep.proofs.repeat.types.RepeatSeparatedParser.add_error.Goals as goal
 
 pub returns-clause-same : goal.returns-clause-same

@@ -1,7 +1,7 @@
 use Rattle.combine_repeat_sep.specs.SeparatedParsers.{bounds_of}
-use Rattle.combine_repeat_turns.specs.BoundedLaws.{turns_means_same}
-use Rattle.combine_repeat_turns.specs.Counts.{never}
-use Rattle.combine_repeat_sep.specs.Leads.{any_given}
+use Rattle.combine_repeat_turns.specs.Turns.Bounds.{turns_means_same}
+use Rattle.combine_repeat_turns.specs.Repeat.Repeated.{never}
+use Rattle.combine_repeat_sep.specs.Separators.{any_given}
 use Rattle.combine_repeat_sep.proofs.repeat.types.RepeatSeparatedParser.parse_mode.Goals as goal
 
 pub returns-clause-same : goal.returns-clause-same

@@ -1,4 +1,4 @@
-use Rattle.combine_base.proofs.Same.{same_none}
+use Rattle.combine_base.proofs.Parsers.SameMeanings.{same_none}
 use Rattle.combine_repeat_sep_end.specs.SepEnd.{sep_end_means_same}
 use Rattle.combine_repeat_sep_end.specs.SepEndParsers.{bounds_of, ended_by_separator}
 use Rattle.combine_repeat_sep_end.proofs.repeat.types.RepeatEndedParser.add_error.Goals as goal

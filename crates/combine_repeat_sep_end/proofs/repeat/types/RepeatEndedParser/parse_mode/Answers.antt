@@ -1,6 +1,6 @@
 use Rattle.combine_repeat_sep_end.specs.Ended.{is_none}
 use Rattle.combine_repeat_sep_end.specs.SepEndParsers.{bounds_of}
-use Rattle.combine_repeat_turns.specs.BoundedLaws.{turns_means_same}
+use Rattle.combine_repeat_turns.specs.Turns.Bounds.{turns_means_same}
 use Rattle.combine_repeat_sep_end.proofs.repeat.types.RepeatEndedParser.parse_mode.Goals as goal
 
 pub returns-clause-same : goal.returns-clause-same

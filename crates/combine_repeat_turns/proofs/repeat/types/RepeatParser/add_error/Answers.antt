@@ -1,5 +1,5 @@
-use Rattle.combine_repeat_turns.specs.CountLaws.{repeated_means_same}
-use Rattle.combine_repeat_turns.specs.RepeatParsers.{bounds_of}
+use Rattle.combine_repeat_turns.specs.Repeat.Repeated.{repeated_means_same}
+use Rattle.combine_repeat_turns.specs.Repeat.RepeatParsers.{bounds_of}
 use Rattle.combine_repeat_turns.proofs.repeat.types.RepeatParser.add_error.Goals as goal
 
 pub returns-clause-same : goal.returns-clause-same

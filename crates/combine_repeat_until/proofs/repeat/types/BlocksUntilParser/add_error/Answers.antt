@@ -1,4 +1,4 @@
-use Rattle.combine_repeat_until.specs.UntilLaws.{until_means_same}
+use Rattle.combine_repeat_until.specs.Until.{until_means_same}
 use Rattle.combine_repeat_until.proofs.repeat.types.BlocksUntilParser.add_error.Goals as goal
 
 pub returns-clause-same : goal.returns-clause-same

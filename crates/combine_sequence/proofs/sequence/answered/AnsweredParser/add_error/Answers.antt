@@ -1,6 +1,6 @@
-use Rattle.combine_base.proofs.Giving.{gives_same}
-use Rattle.combine_sequence.specs.Answered.{asked_part, then_means_same}
-use Rattle.combine_sequence.proofs.Keeping.{by_some}
+use Rattle.combine_base.proofs.Parsers.GivenValues.{gives_same}
+use Rattle.combine_sequence.specs.Then.{asked_part, then_means_same}
+use Rattle.combine_sequence.proofs.ThenAnswers.{by_some}
 use Rattle.combine_sequence.proofs.sequence.answered.AnsweredParser.add_error.Goals as goal
 
 pub returns-clause-lawful : goal.returns-clause-lawful

@@ -1,11 +1,11 @@
 use Rattle.std.proofs.Common.{false, refl, subst, sym, true}
-use Rattle.combine_base.proofs.Giving.{gives_same, good_ok, good_peek_ok}
-use Rattle.combine_base.proofs.Refusing.{reasoned_in_mode}
-use Rattle.combine_base.proofs.Starting.{in_mode}
-use Rattle.combine_base.specs.Parser.Given.{gives_as}
-use Rattle.combine_base.specs.Parser.Kept.{KeptOf}
-use Rattle.combine_sequence.specs.Answered.{asked_part, starts_valid, then_is_meaning, then_means_same}
-use Rattle.combine_sequence.proofs.Keeping.{accepted_kept, at_first, by_some, committed_at, leaves_valid, peeked_at, then_resumes, then_stops, then_refuses, then_commits, then_peeks, valid_from}
+use Rattle.combine_base.proofs.Parsers.GivenValues.{gives_same, good_ok, good_peek_ok}
+use Rattle.combine_base.proofs.Errors.MeantRefusals.{reasoned_in_mode}
+use Rattle.combine_base.proofs.Parsers.CallStarts.{in_mode}
+use Rattle.combine_base.specs.Parser.GivenValues.{gives_as}
+use Rattle.combine_base.specs.Parser.KeptParsers.{KeptOf}
+use Rattle.combine_sequence.specs.Then.{asked_part, starts_valid, then_is_meaning, then_means_same}
+use Rattle.combine_sequence.proofs.ThenAnswers.{accepted_kept, at_first, by_some, committed_at, leaves_valid, peeked_at, then_resumes, then_stops, then_refuses, then_commits, then_peeks, valid_from}
 use Rattle.combine_sequence.proofs.ThenErrors.{answered_reasons, first_peeked, first_reasons, resumed_reasons}
 use Rattle.combine_sequence.proofs.sequence.answered.AnsweredParser.parse_mode.Goals as goal
 use Rattle.combine_sequence.proofs.sequence.answered.AnsweredParser.parse_mode.Goals.{in-CommitOk, in-PeekOk}

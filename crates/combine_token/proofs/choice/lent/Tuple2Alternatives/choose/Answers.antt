@@ -1,5 +1,5 @@
-use Rattle.combine_token.proofs.TupleCalls.{ended_chose, gone_chose, is_no_fault, ready}
-use Rattle.combine_token.proofs.FirstThen.{first_is_valid}
+use Rattle.combine_token.proofs.Choices.HalfCalls.{ended_chose, gone_chose, is_no_fault, ready}
+use Rattle.combine_token.proofs.Choices.LaterAlternatives.{first_is_valid}
 use Rattle.combine_token.proofs.choice.lent.Tuple2Alternatives.choose.Goals as goal
 
 pub try_first-requires-clause-valid : goal.try_first-requires-clause-valid

@@ -1,4 +1,4 @@
-use Rattle.combine_token.proofs.ListAnswered.{accepts_as}
+use Rattle.combine_token.proofs.Lists.ListAnswers.{accepts_as}
 use Rattle.combine_token.proofs.token.lists.answers.accepted.Goals as goal
 
 pub returns-in-Ok : goal.returns-in-Ok

@@ -1,5 +1,5 @@
 use Rattle.std.proofs.Common.{◌≡◌, arith}
-use Rattle.combine_token.proofs.Iterating.{gave_more}
+use Rattle.combine_token.proofs.Lists.IteratorCalls.{gave_more}
 use Rattle.combine_token.proofs.token.lists.answers.pass_over.Goals as goal
 
 pub items-preserved : goal.items-preserved

@@ -1,5 +1,5 @@
 use Rattle.std.proofs.Common.{◌+◌, ◌≤◌}
-use Rattle.combine_token.specs.Iterated.{Gave}
+use Rattle.combine_token.specs.Token.Lists.IteratedLists.{Gave}
 use Rattle.combine_token.proofs.token.lists.answers.pass_over.Given as goal
 
 abbrev pub invariant-items : goal.invariant-items

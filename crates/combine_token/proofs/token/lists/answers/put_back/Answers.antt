@@ -6,7 +6,7 @@ use Rattle.combine_base.specs.declared.stream.Kind.TheVariants as kinds
 use Rattle.combine_base.specs.declared.stream.Failures.{Failures}
 use Rattle.combine_base.specs.declared.error.Tracked.{Tracked}
 use Rattle.combine_base.specs.declared.error.ParseResult.TheVariants.{PeekErr}
-use Rattle.combine_token.specs.ListAnswers.{PutBack}
+use Rattle.combine_token.specs.Token.Lists.ListAnswers.{PutBack}
 use Rattle.combine_token.proofs.token.lists.answers.put_back.Goals as goal
 
 refuses : {P T V E : Type 0} (steady : Type 0) (step : P → T → P) (kind : E → Kind) (marked : View P T → Type 0) (old new : View P T) (before after : Failures) (t : Tracked E) (u : Unit) → ResetTo steady step marked old new before after (Ok u) → kind t.error ≡ kinds.Refused → PutBack {V = V} steady step kind marked old new before after (PeekErr t)

@@ -1,10 +1,10 @@
-use Rattle.combine_base.proofs.Same.{same_none}
-use Rattle.combine_token.specs.OneToken.{ends_there}
+use Rattle.combine_base.proofs.Parsers.SameMeanings.{same_none}
+use Rattle.combine_token.specs.Token.OneToken.{ends_there}
 use Rattle.combine_base.specs.Error.Errors.{Only}
 use Rattle.std.specs.Prelude.{codes}
 use Rattle.combine_base.specs.Error.Items.{Expected, Fixed}
-use Rattle.combine_token.proofs.TokenReasons.{token_reasons}
-use Rattle.combine_token.proofs.OneToken.{takes}
+use Rattle.combine_token.proofs.Tokens.TokenReasons.{token_reasons}
+use Rattle.combine_token.proofs.Tokens.OneToken.{takes}
 use Rattle.combine_token.proofs.token.types.EofParser.parse_mode.Goals as goal
 
 pub returns-clause-answers : goal.returns-clause-answers

@@ -1,8 +1,8 @@
-use Rattle.combine_base.proofs.Same.{same_none}
+use Rattle.combine_base.proofs.Parsers.SameMeanings.{same_none}
 use Rattle.combine_base.specs.Error.Errors.{Nothing}
-use Rattle.combine_token.specs.OneToken.{of_token}
-use Rattle.combine_token.proofs.TokenReasons.{token_reasons}
-use Rattle.combine_token.proofs.OneToken.{takes}
+use Rattle.combine_token.specs.Token.OneToken.{of_token}
+use Rattle.combine_token.proofs.Tokens.TokenReasons.{token_reasons}
+use Rattle.combine_token.proofs.Tokens.OneToken.{takes}
 use Rattle.combine_token.proofs.token.types.SatisfyMapParser.parse_mode.Goals as goal
 
 pub returns-clause-answers : goal.returns-clause-answers

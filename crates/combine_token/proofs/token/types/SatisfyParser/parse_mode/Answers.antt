@@ -1,8 +1,8 @@
-use Rattle.combine_base.proofs.Same.{same_none}
+use Rattle.combine_base.proofs.Parsers.SameMeanings.{same_none}
 use Rattle.combine_base.specs.Error.Errors.{Nothing}
-use Rattle.combine_token.specs.OneToken.{satisfied}
-use Rattle.combine_token.proofs.TokenReasons.{token_reasons}
-use Rattle.combine_token.proofs.OneToken.{takes_if}
+use Rattle.combine_token.specs.Token.OneToken.{satisfied}
+use Rattle.combine_token.proofs.Tokens.TokenReasons.{token_reasons}
+use Rattle.combine_token.proofs.Tokens.OneToken.{takes_if}
 use Rattle.combine_token.proofs.token.types.SatisfyParser.parse_mode.Goals as goal
 
 pub returns-clause-answers : goal.returns-clause-answers

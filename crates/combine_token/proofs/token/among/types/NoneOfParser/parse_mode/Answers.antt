@@ -1,11 +1,11 @@
 use Rattle.combine_base.specs.declared.stream.Kind.TheVariants as kinds
-use Rattle.combine_base.proofs.Reasoning.{reasons_fault}
-use Rattle.combine_base.proofs.Same.{same_none}
-use Rattle.combine_token.specs.Among.{beside}
+use Rattle.combine_base.proofs.Errors.CallReasons.{reasons_fault}
+use Rattle.combine_base.proofs.Parsers.SameMeanings.{same_none}
+use Rattle.combine_token.specs.Token.Among.{beside}
 use Rattle.combine_base.specs.Error.Errors.{Nothing}
-use Rattle.combine_token.specs.OneToken.{satisfied}
-use Rattle.combine_token.proofs.TokenReasons.{token_reasons}
-use Rattle.combine_token.proofs.OneToken.{takes_if}
+use Rattle.combine_token.specs.Token.OneToken.{satisfied}
+use Rattle.combine_token.proofs.Tokens.TokenReasons.{token_reasons}
+use Rattle.combine_token.proofs.Tokens.OneToken.{takes_if}
 use Rattle.combine_token.proofs.token.among.types.NoneOfParser.parse_mode.Goals as goal
 
 pub returns-clause-same : goal.returns-clause-same

@@ -1,11 +1,11 @@
-use Rattle.combine_base.proofs.Same.{same_none}
+use Rattle.combine_base.proofs.Parsers.SameMeanings.{same_none}
 use Rattle.std.specs.Prelude.{Some}
 use Rattle.combine_base.specs.Error.Errors.{Only}
 use Rattle.combine_base.specs.Error.Items.{Expected, shown}
-use Rattle.combine_token.specs.Iterated.{iterated}
-use Rattle.combine_token.specs.TokenParsers.{matched_before}
-use Rattle.combine_token.proofs.ListReasons.{list_reasons}
-use Rattle.combine_token.proofs.Giving.{answers_cloned}
+use Rattle.combine_token.specs.Token.Lists.IteratedLists.{iterated}
+use Rattle.combine_token.specs.Token.TokenParsers.{matched_before}
+use Rattle.combine_token.proofs.Lists.ListReasons.{list_reasons}
+use Rattle.combine_token.proofs.Lists.GivenItems.{answers_cloned}
 use Rattle.combine_token.proofs.token.lists.types.TokensInfoTokenRangeParser.parse_mode.Goals as goal
 
 pub returns-clause-same : goal.returns-clause-same
