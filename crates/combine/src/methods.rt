@@ -211,8 +211,8 @@ pub trait ParserExt<Input: Stream>: Parser<Input> {
     /// fn leading_digits(alloc: Global, input: &mut fed::Stream<u8>) -> Result<Vec<u8>, AllocError> {
     ///     let mut state = Default::default();
     ///     let mut digits = Vec::new(alloc);
-    ///     for digit in satisfy(is_digit).iter(input, &mut state) {
-    ///         digits.push(digit)?;
+    ///     for byte in digit().iter(input, &mut state) {
+    ///         digits.push(byte)?;
     ///     }
     ///     Ok(digits)
     /// }

@@ -188,7 +188,7 @@ impl<'a, Input: Stream, P: ChoiceParser<Input>> ChoiceParser<Input> for &'a mut 
 /// }
 /// ```
 ///
-/// `"one"` is accepted. `"three"` is refused committed, since `two` took its first letter; `attempt` round each helps.
+/// `"one"` is accepted; `"three"` is refused committed, since `two` took its first letter and no `attempt` stands round it.
 #[inline]
 pub fn choice<P>(alternatives: P) -> Choice<P>
     ensures { result ≡ choice_parser alternatives }

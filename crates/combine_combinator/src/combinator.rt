@@ -61,7 +61,7 @@ pub fn map<P, F, B>(p: P, f: F) -> Map<P, F, B>
 /// }
 /// ```
 ///
-/// On `b"go"` the `g` that `get` took is put back, and `go` is accepted.
+/// On `b"go"` it returns `(b"go", b"")`: the `g` that `get` took is put back.
 #[inline]
 pub fn attempt<P>(p: P) -> Try<P>
     ensures { result ≡ attempt_of p }

@@ -68,13 +68,23 @@ pub fn and_then<P, F, B>(p: P, f: F) -> AndThen<P, F, B>
 ///
 /// # Examples
 ///
-/// With `digit_of` as for [`and_then`]:
-///
 /// ```
+/// fn digit_of(byte: u8) -> Result<u8, UnexpectedParse>
+///     ensures { IfErr result (λ e. e.0 ≡ Kind.Refused) }
+/// {
+///     if byte.is_ascii_digit() {
+///         Ok(byte - b'0')
+///     } else {
+///         Err(UnexpectedParse(Kind::Refused))
+///     }
+/// }
+///
 /// fn digit(input: &[u8]) -> Result<(u8, &[u8]), UnexpectedParse> {
 ///     flat_map(any(), digit_of).parse(input)
 /// }
 /// ```
+///
+/// On `b"7;"` it returns `(7, b";")`; `b"x"` is refused committed.
 #[inline]
 pub fn flat_map<P, F, B>(p: P, f: F) -> FlatMap<P, F, B>
     ensures { result ≡ flat_map_of p f }

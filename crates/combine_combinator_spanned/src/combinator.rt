@@ -21,6 +21,8 @@ use types::Spanned;
 ///     spanned(token(b'a')).parse(span::Stream(input))
 /// }
 /// ```
+///
+/// On `b"ab"` it returns `b'a'`, and leaves `span::Stream(b"b")`.
 #[inline]
 pub fn spanned<P>(parser: P) -> Spanned<P>
     ensures { result ≡ spanned_of parser }

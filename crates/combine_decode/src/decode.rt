@@ -73,12 +73,22 @@ pub enum Phase {
 /// # Examples
 ///
 /// ```
-/// let mut decoder = Decoder::new(alloc, || frame(alloc));
-/// let batch = decoder.feed(piece)?;
-/// for message in batch.messages {
-///     // ..
+/// fn second_batch<F: Fn() -> P + Drop, P: Parser<fed::Stream<u8>> + Drop>(
+///     alloc: Global,
+///     maker: F,
+///     first: &[u8],
+///     second: &[u8],
+/// ) -> Result<Batch<P::Output>, DecodeError>
+///     requires callable { F.IsAlwaysCallable maker }
+///     requires lawful { IsMade (F.post maker) P.lawful }
+/// {
+///     let mut decoder = Decoder::new(alloc, maker);
+///     decoder.feed(first)?;
+///     decoder.feed(second)
 /// }
 /// ```
+///
+/// With `|| frame(alloc)`, and the pieces `b"\0\x02a"` and `b"b"`, the second batch has the message `b"ab"`.
 #[derive(Drop)]
 pub struct Decoder<F: Fn() -> P, P: Parser<fed::Stream<T>>, T: Copy + 'static> {
     alloc: Global,

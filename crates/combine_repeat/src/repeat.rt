@@ -53,7 +53,7 @@ use types::{Many, Many1, SkipMany, SkipMany1};
 /// }
 /// ```
 ///
-/// On `b"dex=1"` it returns `(b"dex", b"=1")`, and on `b"=1"` no letter and `b"=1"`.
+/// On `b"dex=1"` it returns `(b"dex", b"=1")`, and on `b"=1"` `(b"", b"=1")`.
 #[inline]
 pub fn many<F, P>(alloc: Global, parser: P) -> Many<F, P>
     ensures { result ≡ many_of alloc parser }

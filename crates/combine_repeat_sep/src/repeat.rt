@@ -83,7 +83,7 @@ pub fn sep_count_min_max<F, P, S>(
 /// }
 /// ```
 ///
-/// On `b"a,bc;"` it returns `b"a"` and `b"bc"`, and `b";"`. `b"a,;"` is refused committed.
+/// On `b"a,bc;"` it returns `([b"a", b"bc"], b";")`; `b"a,;"` is refused committed.
 #[inline]
 pub fn sep_by<F, P, S>(alloc: Global, parser: P, separator: S) -> SepBy<F, P, S>
     ensures { result ≡ sep_by_of alloc parser separator }

@@ -88,7 +88,7 @@ pub fn skip_count_min_max<P>(min: usize, max: usize, parser: P) -> SkipCountMinM
 /// }
 /// ```
 ///
-/// On `b"123"` it returns `(b"12", b"3")`, and on `b"a"` no digit and `b"a"`.
+/// On `b"123"` it returns `(b"12", b"3")`, and on `b"a"` `(b"", b"a")`.
 #[inline]
 pub fn count<F, P>(alloc: Global, count: usize, parser: P) -> Count<F, P>
     ensures { result ≡ count_min_max_of alloc 0 count parser }

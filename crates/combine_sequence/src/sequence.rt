@@ -177,13 +177,23 @@ pub fn then_ref<P, F, B>(parser: P, f: F) -> ThenRef<P, F, B>
 /// # Examples
 ///
 /// ```
-/// let mut header = struct_parser!(Header {
-///     name: take_while1(is_token_byte),
-///     _: (token(b':'), take_while(is_blank)),
-///     value: recognize(skip_many(word)),
-///     _: (take_while(is_blank), crlf()),
-/// });
+/// #[derive(Debug, Drop, PartialEq)]
+/// struct Entry {
+///     name: u8,
+///     digit: u8,
+/// }
+///
+/// fn setting(input: &[u8]) -> Result<(Entry, &[u8]), UnexpectedParse> {
+///     struct_parser!(Entry {
+///         name: any(),
+///         _: token(b'='),
+///         digit: digit(),
+///     })
+///     .parse(input)
+/// }
 /// ```
+///
+/// On `b"a=1;"` it returns `(Entry { name: b'a', digit: b'1' }, b";")`.
 #[macro_export]
 macro_rules! struct_parser {
     ($name:ident { $($parts:tt)* }) => {

@@ -108,7 +108,7 @@ pub trait Windowed: DefaultPositioned + Copy {
 /// # Examples
 ///
 /// ```
-/// fn binding<'a>(text: &'a str) -> Result<((char, char), TextStream<'a>), UnexpectedParse> {
+/// fn binding<'a>(text: &'a str) -> Result<((char, char), position::TextStream<'a>), UnexpectedParse> {
 ///     (letter(), digit()).parse(position::Stream::new(text))
 /// }
 /// ```

@@ -99,7 +99,7 @@ pub fn satisfy<Input, F>(predicate: F) -> Satisfy<Input, F>
 ///
 /// ```
 /// fn flag(input: &[u8]) -> Result<(bool, &[u8]), UnexpectedParse> {
-///     let flag = satisfy_map(|byte: u8| match byte {
+///     let mut flag = satisfy_map(|byte: u8| match byte {
 ///         b'y' => Some(true),
 ///         b'n' => Some(false),
 ///         _ => None,
@@ -160,12 +160,12 @@ pub fn token<Input, T>(token: T) -> Token<Input, T>
 /// # Examples
 ///
 /// ```
-/// fn placed<'a>(text: &'a str) -> Result<((SourcePosition, char), TextStream<'a>), UnexpectedParse> {
+/// fn placed<'a>(text: &'a str) -> Result<((SourcePosition, char), position::TextStream<'a>), UnexpectedParse> {
 ///     (position(), any()).parse(position::Stream::new(text))
 /// }
 /// ```
 ///
-/// The first value on any text is line 1, column 1.
+/// On `"ab"` the first value is line 1 and column 1.
 #[inline]
 pub fn position<Input>() -> Position<Input>
     ensures { result ≡ position_parser }

@@ -15,11 +15,16 @@ use std::mem::take;
 /// # Examples
 ///
 /// ```
-/// match kind {
-///     1 => Either::Left(map(be_u32(), |number: u32| Payload::Number(number))),
-///     _ => Either::Right(map(be_u16(), |number: u16| Payload::Short(number))),
+/// fn number(input: &[u8]) -> Result<(u32, &[u8]), UnexpectedParse> {
+///     let of_kind = |kind: u8| match kind {
+///         4 => Either::Left(be_u32()),
+///         _ => Either::Right(map(be_u16(), |number: u16| u32::from(number))),
+///     };
+///     then(any(), of_kind).parse(input)
 /// }
 /// ```
+///
+/// On `b"\x04\0\0\x01\0;"` it returns `(256, b";")`, and on `b"\x02\x01\0;"` `(256, b";")`.
 #[derive(Drop)]
 pub enum Either<L, R> {
     Left(L),

@@ -57,7 +57,7 @@ pub fn one_of<T, Input>(tokens: T) -> OneOf<T, Input>
 /// }
 /// ```
 ///
-/// `b"a"` is accepted, and a quote is refused peeked.
+/// On `b"ab"` it returns `(b'a', b"b")`; `b"\""` is refused peeked.
 pub fn none_of<T, Input>(tokens: T) -> NoneOf<T, Input>
     ensures { result ≡ none_of_parser tokens }
 {
