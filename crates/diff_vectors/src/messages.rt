@@ -229,6 +229,13 @@ fn limits(rt: HostRuntime) -> Result<(), AllocError> {
         })
     );
     assert_eq!(rt; read_args(alloc, &most), Err(Fault::Argument));
+    Ok(())
+}
+
+/// A limit after a size, a second one, and one whose number isn't written as a size is, are bad arguments.
+#[test]
+fn no_limits(rt: HostRuntime) {
+    let alloc = rt.alloc();
     for words in [
         ["1", "limit=2"],
         ["limit=2", "limit=2"],
@@ -250,7 +257,6 @@ fn limits(rt: HostRuntime) -> Result<(), AllocError> {
             "{first} {second}"
         );
     }
-    Ok(())
 }
 
 #[test]
