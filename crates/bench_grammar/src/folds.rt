@@ -86,11 +86,11 @@ impl<F: Fold> Append<u8> for Folded<F> {
 pub(crate) struct InFold<F>(PhantomData<(F,)>);
 
 impl<F: Fold> Collect<u64> for InFold<F> {
-    type Into = Folded<F>;
+    type Collection = Folded<F>;
 }
 
 impl<F: Fold> Collect<u8> for InFold<F> {
-    type Into = Folded<F>;
+    type Collection = Folded<F>;
 }
 
 /// The number itself.

@@ -2,7 +2,7 @@
 ghost use Rattle.bench_measures.specs.Measures.{Measures, messages_skip, taken};
 
 use crate::classes::{Decimal, Letter};
-use crate::del::Del;
+use crate::delete_tag::DeleteTag;
 use crate::measure::{Taken, measured};
 use diff_calls::{
     Change, MapCall, OrCall, SatisfyCall, SkipMany1Call, SkipManyCall, TokenCall, Tuple3Call,
@@ -15,7 +15,7 @@ type Word = SkipMany1Call<SatisfyCall<Letter>>;
 type Digits = SkipMany1Call<SatisfyCall<Decimal>>;
 
 /// `del WORD;`
-type Delete = MapCall<Tuple3Call<Del, Word, TokenCall<b';'>>, Dropped>;
+type Delete = MapCall<Tuple3Call<DeleteTag, Word, TokenCall<b';'>>, Dropped>;
 
 /// `WORD=DIGITS;`
 type Set = MapCall<Tuple4Call<Word, TokenCall<b'='>, Digits, TokenCall<b';'>>, Dropped>;

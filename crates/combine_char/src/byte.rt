@@ -13,7 +13,7 @@ ghost use Rattle.combine_token.specs.Token.TokenParsers.{token_parser};
 pub mod classes;
 pub mod types;
 
-use crate::byte_list::in_bytes;
+use crate::byte_list::bytes_parser;
 use crate::class::in_class;
 use crate::fits::{By, Equal};
 use crate::named::naming;
@@ -178,7 +178,7 @@ pub fn spaces<Input>() -> Spaces<Input>
 pub fn bytes<Input>(s: &'static [u8]) -> Bytes<Input>
     ensures { result ≡ in_bytes_parser s.entry equal }
 {
-    in_bytes(s, Equal)
+    bytes_parser(s, Equal)
 }
 
 /// Takes as many bytes as the list has, as `bytes` does, each if `cmp` says that it fits.
@@ -192,5 +192,5 @@ pub fn bytes<Input>(s: &'static [u8]) -> Bytes<Input>
 pub fn bytes_cmp<C, Input>(s: &'static [u8], cmp: C) -> BytesCmp<Input, C>
     ensures { result ≡ in_bytes_parser s.entry (by cmp) }
 {
-    in_bytes(s, By(cmp))
+    bytes_parser(s, By(cmp))
 }

@@ -54,7 +54,7 @@ impl ShowsBytes for () {
 ///
 /// On need of more nothing is left unread: the state keeps how many bytes were matched.
 #[derive(Drop)]
-pub struct InBytes<Input, F> {
+pub struct BytesParser<Input, F> {
     bytes: &'static [u8],
     fits: F,
     reads: PhantomData<Input>,
@@ -62,21 +62,21 @@ pub struct InBytes<Input, F> {
 
 /// Takes the bytes of a list, each compared with the token at its place.
 #[inline]
-pub fn in_bytes<Input, F>(bytes: &'static [u8], fits: F) -> InBytes<Input, F>
+pub fn bytes_parser<Input, F>(bytes: &'static [u8], fits: F) -> BytesParser<Input, F>
     ensures { result ≡ in_bytes_parser bytes.entry fits }
 {
-    InBytes {
+    BytesParser {
         bytes,
         fits,
         reads: PhantomData,
     }
 }
 
-impl<Input, F> Outputs<Input> for InBytes<Input, F> {
+impl<Input, F> Outputs<Input> for BytesParser<Input, F> {
     type Output = &'static [u8];
 }
 
-impl<Input: Stream, F: Fits<u8, Input::Token>> Parser<Input> for InBytes<Input, F>
+impl<Input: Stream, F: Fits<u8, Input::Token>> Parser<Input> for BytesParser<Input, F>
 where
     Input::Range: ShowsBytes,
 {

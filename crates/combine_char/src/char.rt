@@ -17,7 +17,7 @@ use crate::class::in_class;
 use crate::fits::{By, Equal};
 use crate::named::naming;
 use crate::pair::whole_pair;
-use crate::text::in_text;
+use crate::text::text_parser;
 use combine_repeat::repeat::skip_many;
 use combine_token::token::token;
 use combine_token::token::types::Token;
@@ -178,7 +178,7 @@ pub fn spaces<Input>() -> Spaces<Input>
 pub fn string<Input>(s: &'static str) -> Str<Input>
     ensures { result ≡ in_text_parser s.entry equal }
 {
-    in_text(s, Equal)
+    text_parser(s, Equal)
 }
 
 /// Takes as many characters as the text has, as `string` does, each if `cmp` says that it fits.
@@ -192,5 +192,5 @@ pub fn string<Input>(s: &'static str) -> Str<Input>
 pub fn string_cmp<C, Input>(s: &'static str, cmp: C) -> StrCmp<Input, C>
     ensures { result ≡ in_text_parser s.entry (by cmp) }
 {
-    in_text(s, By(cmp))
+    text_parser(s, By(cmp))
 }

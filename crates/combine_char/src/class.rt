@@ -5,7 +5,7 @@ ghost use Rattle.combine_char.specs.TextParsers.{in_class_parser};
 pub mod types;
 
 use std::marker::PhantomData;
-use types::InClass;
+use types::ClassParser;
 
 /// A fixed text that errors say: a type of no size.
 pub trait Text {
@@ -39,10 +39,10 @@ pub trait Class<T>: Text {
 ///
 /// Another token is put back and refused peeked, as is the end of ended input; the text of the class is said to be expected.
 #[inline]
-pub fn in_class<Input, C>() -> InClass<Input, C>
+pub fn in_class<Input, C>() -> ClassParser<Input, C>
     ensures { result ≡ in_class_parser }
 {
-    InClass {
+    ClassParser {
         reads: PhantomData,
         class: PhantomData,
     }

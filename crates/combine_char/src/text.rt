@@ -28,7 +28,7 @@ use std::str::Chars;
 ///
 /// On need of more nothing is left unread: the state keeps how many characters were matched.
 #[derive(Drop)]
-pub struct InText<Input, F> {
+pub struct TextParser<Input, F> {
     text: &'static str,
     fits: F,
     reads: PhantomData<Input>,
@@ -36,21 +36,21 @@ pub struct InText<Input, F> {
 
 /// Takes the characters of a text, each compared with the token at its place.
 #[inline]
-pub fn in_text<Input, F>(text: &'static str, fits: F) -> InText<Input, F>
+pub fn text_parser<Input, F>(text: &'static str, fits: F) -> TextParser<Input, F>
     ensures { result ≡ in_text_parser text.entry fits }
 {
-    InText {
+    TextParser {
         text,
         fits,
         reads: PhantomData,
     }
 }
 
-impl<Input, F> Outputs<Input> for InText<Input, F> {
+impl<Input, F> Outputs<Input> for TextParser<Input, F> {
     type Output = &'static str;
 }
 
-impl<Input: Stream, F: Fits<char, Input::Token>> Parser<Input> for InText<Input, F> {
+impl<Input: Stream, F: Fits<char, Input::Token>> Parser<Input> for TextParser<Input, F> {
     type PartialState = TokensState;
 
     ghost lawful = { λ p. F.ready (fits_of_text p) };

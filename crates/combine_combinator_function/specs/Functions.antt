@@ -14,11 +14,11 @@ use Rattle.combine_base.specs.declared.error.ParseResult.{ParseResult}
 use Rattle.combine_base.specs.declared.error.ParseResult.TheVariants.{CommitOk, PeekOk, CommitErr, PeekErr}
 use Rattle.combine_token.specs.Token.Stateless.{stateless, stateless_is_meaning, stateless_means_one}
 use Rattle.combine_combinator_function.specs.declared.function.types.Called.{Called}
-use Rattle.combine_combinator_function.specs.declared.function.types.Plain.{Plain}
+use Rattle.combine_combinator_function.specs.declared.function.types.WithoutEnv.{WithoutEnv}
 use Rattle.combine_combinator_function.specs.declared.function.types.WithEnv.{WithEnv}
 
 -- the parsers of this module, of their parts
-abbrev pub parser_of : {Input F : Type 0} → F → Called Input (Plain F)
+abbrev pub parser_of : {Input F : Type 0} → F → Called Input (WithoutEnv F)
 parser_of f = record { call = record { 0 = f }; reads = record {} }
 
 abbrev pub env_parser_of : {Input E F : Type 0} → E → F → Called Input (WithEnv E F)

@@ -7,8 +7,8 @@ mod changes;
 mod text;
 pub mod types;
 
-pub use changed::{Change, Changed};
-use changes::{Answering, Read, Seeing, Trying};
+pub use changed::{Changed, ValueChange};
+use changes::{AndThenFn, FlatMapFn, FromStrFn, MapInputFn};
 use std::marker::PhantomData;
 pub use text::StrLike;
 use types::{AndThen, FlatMap, FromStr, MapInput};
@@ -51,7 +51,7 @@ use types::{AndThen, FlatMap, FromStr, MapInput};
 pub fn and_then<P, F, B>(p: P, f: F) -> AndThen<P, F, B>
     ensures { result ≡ and_then_of p f }
 {
-    Changed::new(p, Trying(f))
+    Changed::new(p, AndThenFn(f))
 }
 
 /// Parses as `p`, and changes its value by `f`, or refuses it with the error that `f` returns.
@@ -89,7 +89,7 @@ pub fn and_then<P, F, B>(p: P, f: F) -> AndThen<P, F, B>
 pub fn flat_map<P, F, B>(p: P, f: F) -> FlatMap<P, F, B>
     ensures { result ≡ flat_map_of p f }
 {
-    Changed::new(p, Answering(f))
+    Changed::new(p, FlatMapFn(f))
 }
 
 /// Parses as `p`, and changes its value by `f`, which is given the stream too, as `p` left it.
@@ -103,7 +103,7 @@ pub fn flat_map<P, F, B>(p: P, f: F) -> FlatMap<P, F, B>
 pub fn map_input<P, F, B>(p: P, f: F) -> MapInput<P, F, B>
     ensures { result ≡ map_input_of p f }
 {
-    Changed::new(p, Seeing(f))
+    Changed::new(p, MapInputFn(f))
 }
 
 /// Parses as `p`, whose value is a text, and reads it as a `T` by its `FromStr`.
@@ -133,5 +133,5 @@ pub fn map_input<P, F, B>(p: P, f: F) -> MapInput<P, F, B>
 pub fn from_str<P, T>(p: P) -> FromStr<P, T>
     ensures { result ≡ from_str_of p }
 {
-    Changed::new(p, Read(PhantomData))
+    Changed::new(p, FromStrFn(PhantomData))
 }

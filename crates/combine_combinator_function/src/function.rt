@@ -5,7 +5,7 @@ ghost use Rattle.combine_combinator_function.specs.Functions.{env_parser_of, par
 pub mod types;
 
 use std::marker::PhantomData;
-use types::{Called, EnvParser, FnParser, Plain, WithEnv};
+use types::{Called, EnvParser, FnParser, WithEnv, WithoutEnv};
 
 /// Parses as the function, which is given the stream.
 ///
@@ -32,7 +32,7 @@ pub fn parser<Input, F>(f: F) -> FnParser<Input, F>
     ensures { result ≡ parser_of f }
 {
     Called {
-        call: Plain(f),
+        call: WithoutEnv(f),
         reads: PhantomData,
     }
 }

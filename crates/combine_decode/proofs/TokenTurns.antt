@@ -9,7 +9,7 @@ use Rattle.combine_repeat_turns.specs.Turns.Bounds.{bounded, judged, none_yet, r
 use Rattle.combine_repeat_turns.specs.Repeat.Repeated.{appended, never}
 use Rattle.combine_repeat_turns.specs.Turns.Blocks.{Block, Collecting, Collects, Divides, Folds, Goes, Rule, Stops, StopsHere, Turned, any_committed, taken, values}
 use Rattle.combine_repeat_turns.specs.declared.turns.Bounds.TheVariants.{Counted}
-use Rattle.combine_repeat_turns.specs.declared.turns.Place.{Place}
+use Rattle.combine_repeat_turns.specs.declared.turns.TurnIndex.{TurnIndex}
 
 -- what tokens appended one by one make
 folds_to : {T : Type 0} (h xs i : List T) → Folds (λ us t ws. ws ≡ us ++ t ∷ []) h xs i → i ≡ h ++ xs
@@ -20,10 +20,10 @@ module _ {P T : Type 0} (step : P → T → P) (most : ℕ) where
   abbrev any_token : Reading P T T
   any_token = one_token (satisfied (of_function (λ t. true)))
 
-  abbrev rule : Rule T Place
+  abbrev rule : Rule T TurnIndex
   rule = bounded (Counted most most) never
 
-  abbrev place : ℕ → Bool → Place
+  abbrev place : ℕ → Bool → TurnIndex
   place i g = record { number = i; begun = g }
 
   abbrev view : P → List T → Bool → View P T

@@ -263,7 +263,7 @@ fn begin<F: Fn() -> P, P: Parser<fed::Stream<T>>, T: Copy + 'static>(
 }
 
 /// Begins the next message on what the last one left unread.
-fn go_on<F: Fn() -> P, P: Parser<fed::Stream<T>> + Drop, T: Copy + 'static>(
+fn begin_next<F: Fn() -> P, P: Parser<fed::Stream<T>> + Drop, T: Copy + 'static>(
     maker: &F,
     session: &mut Session<P, T>,
 ) -> Result<Answer<P::Output, UnexpectedParse>, Kind>
@@ -322,7 +322,7 @@ fn drain<F: Fn() -> P, P: Parser<fed::Stream<T>> + Drop, T: Copy + 'static>(
                     return Err(Kind::Memory);
                 }
                 at_boundary = session.unread().is_empty();
-                answer = go_on(maker, session)?;
+                answer = begin_next(maker, session)?;
             }
         }
     }

@@ -8,8 +8,8 @@ use Rattle.combine_repeat_turns.specs.Turns.Bounds.{accepted_at, bounded, counte
 use Rattle.combine_repeat_turns.specs.Repeat.Repeated.{never}
 use Rattle.combine_repeat_turns.specs.Turns.Blocks.{Stops, StopsHere}
 use Rattle.combine_repeat_turns.specs.declared.turns.Bounds.{Bounds}
-use Rattle.combine_repeat_turns.specs.declared.turns.Bounds.TheVariants.{Any, Joined, Counted}
-use Rattle.combine_repeat_turns.specs.declared.turns.Place.{Place}
+use Rattle.combine_repeat_turns.specs.declared.turns.Bounds.TheVariants.{Unbounded, OwnFirst, Counted}
+use Rattle.combine_repeat_turns.specs.declared.turns.TurnIndex.{TurnIndex}
 use Rattle.combine_facts.specs.TurnReads.{so_many}
 
 -- what a test says that is turned round
@@ -29,15 +29,15 @@ reached n m e = ltb-false n m (is_false (nat_lt n m) e)
 
 -- from so many turns on the rest may be accepted
 abbrev pub fewest : Bounds → ℕ
-fewest Any = 0
-fewest (Joined least None) = least
-fewest (Joined least (Some most)) = min least most
+fewest Unbounded = 0
+fewest (OwnFirst least None) = least
+fewest (OwnFirst least (Some most)) = min least most
 fewest (Counted least most) = min least most
 
 abbrev pub within : Bounds → ℕ → Type 0
-within Any n = Unit {0}
-within (Joined least None) n = Unit {0}
-within (Joined least (Some most)) n = n ≤ most
+within Unbounded n = Unit {0}
+within (OwnFirst least None) n = Unit {0}
+within (OwnFirst least (Some most)) n = n ≤ most
 within (Counted least most) n = n ≤ most
 
 -- a number that is counted up to a limit
@@ -55,44 +55,44 @@ counts_below most n h = by_case (nat_lt n most) (λ e. ltb-false n most e)
     by_case true h = cc
     by_case false f = let i = f (cc) in absurd (omega arith)
 
-enough_has : (b : Bounds) (g : Place) → enough b g ≡ true → fewest b ≤ g.number
-enough_has Any g e = omega arith
-enough_has (Joined least None) g e = let i = reached 0 (least - g.number) e in omega arith
-enough_has (Joined least (Some most)) g e = let i = reached 0 (least - g.number) e in omega arith
+enough_has : (b : Bounds) (g : TurnIndex) → enough b g ≡ true → fewest b ≤ g.number
+enough_has Unbounded g e = omega arith
+enough_has (OwnFirst least None) g e = let i = reached 0 (least - g.number) e in omega arith
+enough_has (OwnFirst least (Some most)) g e = let i = reached 0 (least - g.number) e in omega arith
 enough_has (Counted least most) g e = let i = reached 0 (least - g.number) e in omega arith
 
-full_has : (b : Bounds) (g : Place) → full_at b g ≡ true → fewest b ≤ g.number
-full_has Any g e = absurd (cc)
-full_has (Joined least None) g e = absurd (cc)
-full_has (Joined least (Some most)) g e = let i = reached g.number most e in omega arith
+full_has : (b : Bounds) (g : TurnIndex) → full_at b g ≡ true → fewest b ≤ g.number
+full_has Unbounded g e = absurd (cc)
+full_has (OwnFirst least None) g e = absurd (cc)
+full_has (OwnFirst least (Some most)) g e = let i = reached g.number most e in omega arith
 full_has (Counted least most) g e = let i = reached g.number most e in omega arith
 
 pub none_within : (b : Bounds) → within b 0
-none_within Any = tt
-none_within (Joined least None) = tt
-none_within (Joined least (Some most)) = omega arith
+none_within Unbounded = tt
+none_within (OwnFirst least None) = tt
+none_within (OwnFirst least (Some most)) = omega arith
 none_within (Counted least most) = omega arith
 
 -- where there aren't as many as there may be, one more is within
-pub next_fits : (b : Bounds) (g : Place) → full_at b g ≡ false → within b (next_of b g).number
-next_fits Any g e = tt
-next_fits (Joined least None) g e = tt
-next_fits (Joined least (Some most)) g e = let h = below g.number most e in let i = counts most g.number in omega arith
+pub next_fits : (b : Bounds) (g : TurnIndex) → full_at b g ≡ false → within b (next_of b g).number
+next_fits Unbounded g e = tt
+next_fits (OwnFirst least None) g e = tt
+next_fits (OwnFirst least (Some most)) g e = let h = below g.number most e in let i = counts most g.number in omega arith
 next_fits (Counted least most) g e = let h = below g.number most e in let i = counts most g.number in omega arith
 
-pub next_within : (b : Bounds) (g : Place) (n : ℕ) → full_at b g ≡ false → within b ((next_of b g).number + n) → within b (g.number + suc n)
-next_within Any g n e w = tt
-next_within (Joined least None) g n e w = tt
-next_within (Joined least (Some most)) g n e w = let i = counts_below most g.number (below g.number most e) in omega arith
+pub next_within : (b : Bounds) (g : TurnIndex) (n : ℕ) → full_at b g ≡ false → within b ((next_of b g).number + n) → within b (g.number + suc n)
+next_within Unbounded g n e w = tt
+next_within (OwnFirst least None) g n e w = tt
+next_within (OwnFirst least (Some most)) g n e w = let i = counts_below most g.number (below g.number most e) in omega arith
 next_within (Counted least most) g n e w = let i = counts_below most g.number (below g.number most e) in omega arith
 
 pub so_many_is : (b : Bounds) (n : ℕ) → fewest b ≤ n → within b n → so_many b n
-so_many_is Any n h w = tt
-so_many_is (Joined least None) n h w = h
-so_many_is (Joined least (Some most)) n h w = (h, w)
+so_many_is Unbounded n h w = tt
+so_many_is (OwnFirst least None) n h w = h
+so_many_is (OwnFirst least (Some most)) n h w = (h, w)
 so_many_is (Counted least most) n h w = (h, w)
 
-module _ {P T A : Type 0} (step : P → T → P) (b : Bounds) (turn : Place → Reading P T A) (n : ℕ) (k : Bool) (g : Place) where
+module _ {P T A : Type 0} (step : P → T → P) (b : Bounds) (turn : TurnIndex → Reading P T A) (n : ℕ) (k : Bool) (g : TurnIndex) where
   judged_so : (o : Outcome A) → judged b never g o ≡ Stops (Accepted tt n k) → (n ≡ 0) × (enough b g ≡ true)
   judged_so (Accepted a m c) e = by_goes (goes_at b g m c) e
     where

@@ -13,7 +13,7 @@ use Rattle.combine_repeat_turns.specs.Turns.Bounds.{bounded, limit, next_of, non
 use Rattle.combine_repeat_turns.specs.Repeat.Repeated.{appended, dropped, never}
 use Rattle.combine_repeat_turns.specs.Turns.Blocks.{Block, Collecting, Divides, Folds, Turned, any_committed, taken, values}
 use Rattle.combine_repeat_turns.specs.declared.turns.Bounds.{Bounds}
-use Rattle.combine_repeat_turns.specs.declared.turns.Place.{Place}
+use Rattle.combine_repeat_turns.specs.declared.turns.TurnIndex.{TurnIndex}
 use Rattle.combine_facts.specs.TurnReads.{all_where, each, first_and_each, gathers, listed, passed, so_many}
 use Rattle.combine_facts.specs.Reads.{Reads, one_where}
 use Rattle.combine_facts.proofs.CountFacts.{counts, fewest, next_fits, next_within, none_within, so_many_is, stops, within}
@@ -26,10 +26,10 @@ same_each says xs (a ∷ bs) w = w
 
 module _ {P T A : Type 0} (step : P → T → P) (b : Bounds) {later : Reading P T A} {says : List T → A → Type 0} (h : Reads later says) where
   -- turns from a place on, up to one where they stop accepted
-  abbrev said_from : (List T → A → Type 0) → ℕ → List (Block A) → Place → View P T → Type 0
+  abbrev said_from : (List T → A → Type 0) → ℕ → List (Block A) → TurnIndex → View P T → Type 0
   said_from first n bs g v = (n ≡ 0) × (taken bs ≤ length v.unread) × first_and_each first says (take (taken bs) v.unread) (values bs) × (fewest b ≤ g.number + length (values bs)) × (within b g.number → within b (g.number + length (values bs)))
 
-  divided : (n : ℕ) (k : Bool) (bs : List (Block A)) {running : Reading P T A} {first : List T → A → Type 0} → Reads running first → (g : Place) (v : View P T) → Divides step (bounded b never) (λ _. later) (Accepted tt n k) running g bs v → said_from first n bs g v
+  divided : (n : ℕ) (k : Bool) (bs : List (Block A)) {running : Reading P T A} {first : List T → A → Type 0} → Reads running first → (g : TurnIndex) (v : View P T) → Divides step (bounded b never) (λ _. later) (Accepted tt n k) running g bs v → said_from first n bs g v
   divided n k [] {running} i g v w =
       let s = stops step b (λ _. later) n k g running v w in
       (s.0, omega arith, refl, omega arith, λ z. subst (within b) {x = g.number} {y = g.number + 0} (omega arith) z)

@@ -2,20 +2,20 @@
 use Rattle.std.specs.Prelude.{ℕ, ◌≡◌, ◌≤◌, List, [], ◌∷◌, ◌++◌, Bool, true, None, Some, All, length, min}
 use Rattle.combine_repeat_turns.specs.Turns.Blocks.{Collecting, Folds}
 use Rattle.combine_repeat_turns.specs.declared.turns.Bounds.{Bounds}
-use Rattle.combine_repeat_turns.specs.declared.turns.Bounds.TheVariants.{Any, Joined, Counted}
+use Rattle.combine_repeat_turns.specs.declared.turns.Bounds.TheVariants.{Unbounded, OwnFirst, Counted}
 
 -- the bounds of `many`, of `many1`, and of counts
 abbrev pub none_or_more : Bounds
-none_or_more = Any
+none_or_more = Unbounded
 
 abbrev pub one_or_more : Bounds
-one_or_more = Joined 1 None
+one_or_more = OwnFirst 1 None
 
 -- there are so many turns: bounds with fewer at most than at least end at the most
 abbrev pub so_many : Bounds → ℕ → Type 0
-so_many Any n = Unit {0}
-so_many (Joined least None) n = least ≤ n
-so_many (Joined least (Some most)) n = (min least most ≤ n) × (n ≤ most)
+so_many Unbounded n = Unit {0}
+so_many (OwnFirst least None) n = least ≤ n
+so_many (OwnFirst least (Some most)) n = (min least most ≤ n) × (n ≤ most)
 so_many (Counted least most) n = (min least most ≤ n) × (n ≤ most)
 
 -- values, each said by the tokens of its turn

@@ -2,7 +2,7 @@
 #![tactic(auto)]
 
 pub mod distance;
+pub mod kept_distance;
 pub mod laws;
-pub mod passing;
 pub mod places;
 pub mod range;

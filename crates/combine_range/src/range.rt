@@ -13,7 +13,8 @@ mod until;
 pub use recognized::RecognizeState;
 use std::marker::PhantomData;
 use types::{
-    Range, Recognize, RecognizeWithValue, Take, TakeBeginning, TakeUntilRange, TakeWhile, TakeWhile1,
+    Range, Recognize, RecognizeWithValue, Take, TakeBeginning, TakeUntilRange, TakeWhile,
+    TakeWhile1,
 };
 
 /// Takes as many first items as the range has, if they are that range.

@@ -4,7 +4,7 @@ ghost use Rattle.combine_range_search.specs.Search.SearchParsers.{until_needle_o
 
 pub mod types;
 
-use crate::bytes::{ByteOf, InBytes, Needle};
+use crate::bytes::{ByteOf, FindBytes, Needle};
 use crate::find::{One, Three, Two};
 use crate::search::Searching;
 use std::marker::PhantomData;
@@ -42,7 +42,7 @@ pub fn take_until_byte<Input>(wanted: u8) -> TakeUntilByte<Input>
     ensures { result ≡ until_one_of wanted }
 {
     Searching {
-        searcher: InBytes(ByteOf(One(wanted))),
+        searcher: FindBytes(ByteOf(One(wanted))),
         reads: PhantomData,
     }
 }
@@ -55,7 +55,7 @@ pub fn take_until_byte2<Input>(first: u8, second: u8) -> TakeUntilByte2<Input>
     ensures { result ≡ until_two_of first second }
 {
     Searching {
-        searcher: InBytes(ByteOf(Two(first, second))),
+        searcher: FindBytes(ByteOf(Two(first, second))),
         reads: PhantomData,
     }
 }
@@ -68,7 +68,7 @@ pub fn take_until_byte3<Input>(first: u8, second: u8, third: u8) -> TakeUntilByt
     ensures { result ≡ until_three_of first second third }
 {
     Searching {
-        searcher: InBytes(ByteOf(Three(first, second, third))),
+        searcher: FindBytes(ByteOf(Three(first, second, third))),
         reads: PhantomData,
     }
 }
@@ -83,7 +83,7 @@ pub fn take_until_bytes<'a, Input>(needle: &'a [u8]) -> TakeUntilBytes<'a, Input
     ensures { result ≡ until_needle_of needle.entry }
 {
     Searching {
-        searcher: InBytes(Needle(needle)),
+        searcher: FindBytes(Needle(needle)),
         reads: PhantomData,
     }
 }

@@ -172,9 +172,9 @@ impl<'a> Pattern for Needle<'a> {
 
 /// The search for a pattern in the bytes of a range.
 #[derive(Clone, Drop)]
-pub struct InBytes<W>(pub(crate) W);
+pub struct FindBytes<W>(pub(crate) W);
 
-impl<Input: ByteStream, W: Pattern> Searcher<Input> for InBytes<W>
+impl<Input: ByteStream, W: Pattern> Searcher<Input> for FindBytes<W>
 where
     Input::Range: ByteRange,
 {

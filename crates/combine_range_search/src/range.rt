@@ -5,7 +5,7 @@ ghost use Rattle.combine_range_search.specs.Search.SearchParsers.{take_fn_of};
 pub mod types;
 
 pub use crate::search::TakeRange;
-use crate::search::{Asked, Searching};
+use crate::search::{FindByFn, Searching};
 use std::marker::PhantomData;
 use types::TakeFn;
 
@@ -59,7 +59,7 @@ pub fn take_fn<F, Input>(searcher: F) -> TakeFn<F, Input>
     ensures { result ≡ take_fn_of searcher }
 {
     Searching {
-        searcher: Asked(searcher),
+        searcher: FindByFn(searcher),
         reads: PhantomData,
     }
 }

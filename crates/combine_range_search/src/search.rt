@@ -5,12 +5,14 @@ ghost use Rattle.combine_range.specs.KeptDistance.{kept, kept_is_meaning, kept_m
 ghost use Rattle.combine_range_search.specs.Search.SearchReasons.{RefusesSearch};
 ghost use Rattle.combine_range_search.specs.Search.Searches.{IsOneSearch, IsSearch, Search, Searched, searching, searching_is_reading, searching_is_single};
 
-use crate::passing::{is_nothing, may_grow, not_found, pass_up_to};
+use crate::absence::{is_nothing, may_grow, not_found, pass_up_to};
 use combine_base::error::{ErrorOffset, ParseResult, Tracked};
 use combine_base::parser::{Outputs, ParseMode, Parser};
 use combine_base::stream::{Positioned, ResetStream, Stream, StreamOnce};
 use combine_range::distance::Distance;
-use combine_range::passing::{begin, hand_out, keep_distance, no_range, not_passed, pass_items};
+use combine_range::kept_distance::{
+    begin, hand_out, keep_distance, no_range, not_passed, pass_items,
+};
 use combine_stream::range::{Range, RangeStream};
 use std::marker::PhantomData;
 
@@ -156,9 +158,10 @@ where
 
 /// The search by a function of ranges.
 #[derive(Clone, Drop)]
-pub struct Asked<F>(pub(crate) F);
+pub struct FindByFn<F>(pub(crate) F);
 
-impl<Input: RangeStream, T: Into<TakeRange>, F: Fn(Input::Range) -> T> Searcher<Input> for Asked<F>
+impl<Input: RangeStream, T: Into<TakeRange>, F: Fn(Input::Range) -> T> Searcher<Input>
+    for FindByFn<F>
 where
     Input::Range: Range,
 {

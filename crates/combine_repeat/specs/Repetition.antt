@@ -4,7 +4,7 @@ use Rattle.combine_base.specs.Error.Errors.{Errors}
 use Rattle.combine_base.specs.Parser.Meaning.{Meaning}
 use Rattle.combine_repeat_turns.specs.Repeat.Repeated.{dropped, repeated}
 use Rattle.combine_repeat_turns.specs.Turns.Blocks.{Collecting}
-use Rattle.combine_repeat_turns.specs.declared.turns.Bounds.TheVariants.{Any, Joined}
+use Rattle.combine_repeat_turns.specs.declared.turns.Bounds.TheVariants.{Unbounded, OwnFirst}
 use Rattle.combine_repeat_turns.specs.declared.turns.TurnsState.{TurnsState}
 use Rattle.combine_base.specs.Stream.View.{View}
 use Rattle.combine_base.specs.Parser.Outcome.{Outcome}
@@ -14,11 +14,11 @@ use Rattle.combine_repeat_turns.specs.Repeat.OneThenTurns.{one_then_turns}
 module _ {P T R E A V S : Type 0} (step : P → T → P) (errors : Errors T R P E) (c : Collecting A V) where
   -- turns, of which there need be none
   abbrev pub many : Meaning P T R E A S → Meaning P T R E V (TurnsState V S)
-  many = repeated step errors Any c
+  many = repeated step errors Unbounded c
 
   -- turns, of which the first is asked for
   abbrev pub many1 : Meaning P T R E A S → Meaning P T R E V (TurnsState V S)
-  many1 = repeated step errors (Joined 1 None) c
+  many1 = repeated step errors (OwnFirst 1 None) c
 
 -- the same, with the values dropped
 module _ {P T R E A S : Type 0} (step : P → T → P) (errors : Errors T R P E) where

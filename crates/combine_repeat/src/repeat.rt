@@ -21,7 +21,7 @@ pub use combine_base::repeat::{Append, Sink};
 use combine_repeat_turns::each::{Dropped, Each};
 use combine_repeat_turns::repeat::types::Repeat;
 pub use combine_repeat_turns::turns::TurnsState;
-use combine_repeat_turns::turns::limits::{AnyNumber, JoinedFrom};
+use combine_repeat_turns::turns::turn_bounds::{FirstThenMore, ZeroOrMore};
 use std::alloc::Global;
 use types::{Many, Many1, SkipMany, SkipMany1};
 
@@ -58,7 +58,7 @@ use types::{Many, Many1, SkipMany, SkipMany1};
 pub fn many<F, P>(alloc: Global, parser: P) -> Many<F, P>
     ensures { result ≡ many_of alloc parser }
 {
-    Repeat::new(Each::new(alloc), parser, AnyNumber)
+    Repeat::new(Each::new(alloc), parser, ZeroOrMore)
 }
 
 /// Runs `parser` once, and then turns of it until it is refused peeked, and collects all values in order.
@@ -90,7 +90,7 @@ pub fn many<F, P>(alloc: Global, parser: P) -> Many<F, P>
 pub fn many1<F, P>(alloc: Global, parser: P) -> Many1<F, P>
     ensures { result ≡ many1_of alloc parser }
 {
-    Repeat::new(Each::new(alloc), parser, JoinedFrom::<1>)
+    Repeat::new(Each::new(alloc), parser, FirstThenMore::<1>)
 }
 
 /// Runs turns as `many` does, and drops the values.
@@ -110,7 +110,7 @@ pub fn many1<F, P>(alloc: Global, parser: P) -> Many1<F, P>
 pub fn skip_many<P>(parser: P) -> SkipMany<P>
     ensures { result ≡ skip_many_of parser }
 {
-    Repeat::new(Dropped, parser, AnyNumber)
+    Repeat::new(Dropped, parser, ZeroOrMore)
 }
 
 /// Runs turns as `many1` does, and drops the values.
@@ -120,5 +120,5 @@ pub fn skip_many<P>(parser: P) -> SkipMany<P>
 pub fn skip_many1<P>(parser: P) -> SkipMany1<P>
     ensures { result ≡ skip_many1_of parser }
 {
-    Repeat::new(Dropped, parser, JoinedFrom::<1>)
+    Repeat::new(Dropped, parser, FirstThenMore::<1>)
 }

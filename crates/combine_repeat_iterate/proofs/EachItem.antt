@@ -28,7 +28,7 @@ use Rattle.combine_repeat_iterate.specs.ItemParsers.{begins_items, starts_valid,
 use Rattle.combine_repeat_iterate.specs.ItemCalls.{CalledItem, Stores, item_did, keeps_item, unstored}
 use Rattle.combine_repeat_iterate.specs.ItemErrors.{RefusesIterated, item_refuses, items_refuse, running_refuses}
 use Rattle.combine_repeat_iterate.proofs.ItemErrors.{item_meant, next_refuses}
-use Rattle.combine_repeat_iterate.specs.declared.repeat.items.Collected.{Collected}
+use Rattle.combine_repeat_iterate.specs.declared.repeat.items.CollectedItems.{CollectedItems}
 use Rattle.combine_repeat_iterate.specs.declared.repeat.items.Item.TheVariants as items
 use Rattle.combine_repeat_iterate.specs.declared.repeat.items.RunningItem.{RunningItem}
 use Rattle.combine_repeat_iterate.specs.declared.repeat.items.IterateState.{IterateState}
@@ -74,7 +74,7 @@ module _ {N Input It I B C H U Checkpoint T R P E : Type 0} (p : parser.Ghosts N
   whole_world = world i.step seen i.steady begins_items
 
   -- what is left where the items' turns come, so much being collected
-  abbrev left_at : Collected C It → List I → Reading P T C
+  abbrev left_at : CollectedItems C It → List I → Reading P T C
   left_at l xs = following l.committed unchanged (these (held l.values) xs)
 
   -- what is left where an item's parser runs
@@ -82,7 +82,7 @@ module _ {N Input It I B C H U Checkpoint T R P E : Type 0} (p : parser.Ghosts N
   left_in l xs = following l.before.committed unchanged (these_from ((p.meaning l.parser).rest l.state) (held l.before.values) xs)
 
   -- what is left refuses so: where the items' turns come, and where an item's parser runs
-  abbrev refused_at : Collected C It → List I → Refusing P T E
+  abbrev refused_at : CollectedItems C It → List I → Refusing P T E
   refused_at l xs = items_refuse i.step answers p.meaning seen xs l.is_begun l.committed
 
   abbrev refused_in : RunningItem C It N U → List I → Refusing P T E
@@ -92,7 +92,7 @@ module _ {N Input It I B C H U Checkpoint T R P E : Type 0} (p : parser.Ghosts N
   refused_from z = RefusesIterated i.step answers p.meaning seen at lists z
 
   -- the call has come so far that the next item's turn comes
-  pub record Reaches (z : IterateState C It N U) (old now : View P T) (before later : Failures) (l : Collected C It) : Type 0 where
+  pub record Reaches (z : IterateState C It N U) (old now : View P T) (before later : Failures) (l : CollectedItems C It) : Type 0 where
     pub left : List I
     pub given : at l.items left
     pub progress : Progress part_world (all.rest z) (left_at l left) old now before later
@@ -108,13 +108,13 @@ module _ {N Input It I B C H U Checkpoint T R P E : Type 0} (p : parser.Ghosts N
     pub refuses : (w : View P T) (k : Bool) (e : E) → refused_in l left now w k e → refused_from z old w k e
 
   -- and it began so, from a state that it was given
-  pub record Loops (first : Bool) (given : IterateState C It N U) (old now : View P T) (before later : Failures) (l : Collected C It) : Type 0 where
+  pub record Loops (first : Bool) (given : IterateState C It N U) (old now : View P T) (before later : Failures) (l : CollectedItems C It) : Type 0 where
     pub z : IterateState C It N U
     pub from : RunsFrom begins_items first given z
     pub reaches : Reaches z old now before later l
 
   -- from the start
-  pub reaches_first : (l : Collected C It) (xs : List I) (v : View P T) (f : Failures) → l.is_begun ≡ false → l.committed ≡ false → held l.values ≡ none → lists xs → at l.items xs → Reaches states.Start v v f f l
+  pub reaches_first : (l : CollectedItems C It) (xs : List I) (v : View P T) (f : Failures) → l.is_begun ≡ false → l.committed ≡ false → held l.values ≡ none → lists xs → at l.items xs → Reaches states.Start v v f f l
   reaches_first l xs v f b c h k g =
       let start : (u : View P T) (o : Outcome C) → following false unchanged (these none xs) u o → all.rest states.Start u o = λ u o w. (xs, k, subst (these none xs u) (sym (w.2 ∙ joined_none w.0)) w.1) in
       let to : (u : View P T) (o : Outcome C) → left_at l xs u o → all.rest states.Start u o = λ u o w. start u o (subst (λ b. following b unchanged (these none xs) u o) c (subst (λ y. following l.committed unchanged (these y xs) u o) h w)) in
@@ -137,7 +137,7 @@ module _ {N Input It I B C H U Checkpoint T R P E : Type 0} (p : parser.Ghosts N
   }
 
   -- the next item's parser runs, the stream being where it was
-  pub runs_next : {valid : U → Type 0} (z : IterateState C It N U) (old now there : View P T) (before later then : Failures) (l : Collected C It) (r : Reaches z old now before later l) (x : I) (xs : List I) → r.left ≡ x ∷ xs → (n : N) → answers x n → KeptOf p.lawful p.meaning some n → (u : U) → fresh u → IsMeaning fresh valid (p.meaning n) → (rest : It) → at rest xs → there ≡ now → then ≡ later → Runs z old there before then (record { before = record { values = l.values; is_begun = l.is_begun; committed = l.committed; items = rest }; parser = n; state = u })
+  pub runs_next : {valid : U → Type 0} (z : IterateState C It N U) (old now there : View P T) (before later then : Failures) (l : CollectedItems C It) (r : Reaches z old now before later l) (x : I) (xs : List I) → r.left ≡ x ∷ xs → (n : N) → answers x n → KeptOf p.lawful p.meaning some n → (u : U) → fresh u → IsMeaning fresh valid (p.meaning n) → (rest : It) → at rest xs → there ≡ now → then ≡ later → Runs z old there before then (record { before = record { values = l.values; is_begun = l.is_begun; committed = l.committed; items = rest }; parser = n; state = u })
   runs_next z old now there before later then l r x xs is n j k u d laws rest g stays fails =
       let q : RunningItem C It N U = record { before = record { values = l.values; is_begun = l.is_begun; committed = l.committed; items = rest }; parser = n; state = u } in
       let to : (v : View P T) (o : Outcome C) → left_in q xs v o → left_at l (x ∷ xs) v o = λ v o w. (w.0, (w.1.0, (n, j, (laws.start u v w.1.0 d).0 w.1.1), w.1.2), w.2) in
@@ -152,7 +152,7 @@ module _ {N Input It I B C H U Checkpoint T R P E : Type 0} (p : parser.Ghosts N
       }
 
   -- no item is left
-  pub items_end : (z state : IterateState C It N U) (old now : View P T) (before later : Failures) (l : Collected C It) (r : Reaches z old now before later l) → r.left ≡ [] → begins_items state → Answers whole_world all (run_from z state old now before later) (accepted_as l.committed l.values)
+  pub items_end : (z state : IterateState C It N U) (old now : View P T) (before later : Failures) (l : CollectedItems C It) (r : Reaches z old now before later l) → r.left ≡ [] → begins_items state → Answers whole_world all (run_from z state old now before later) (accepted_as l.committed l.values)
   items_end z state old now before later l r none_left d = by_commitment l.committed refl
     where
       h : Progress part_world (all.rest z) (left_at l []) old now before later
@@ -271,7 +271,7 @@ module _ {N Input It I B C H U Checkpoint T R P E : Type 0} (p : parser.Ghosts N
         by_answer (PeekErr t) x d = subst (λ y. Reasoned seen.kind (i.view left).is_open (refused_from z old (i.view left)) y) (stops_as d) (reasons_after seen.kind (i.view left).is_open (refused_from z old (i.view left)) l.before.committed t (r.refuses (i.view left) l.before.committed t.error (inl (record { is = inr (refl, reason_peeked seen.kind (i.view left).is_open _ t x) }))))
 
     -- it was accepted, and the next item's turn comes
-    pub item_goes : {valid : U → Type 0} → IsMeaning fresh valid (p.meaning l.parser) → valid l.state → (next : Collected C It) → CalledItem p i seen fresh held more lean input left l state (items.Goes next) → begins_items state × Reaches z old (i.view left) before (i.failures left) next
+    pub item_goes : {valid : U → Type 0} → IsMeaning fresh valid (p.meaning l.parser) → valid l.state → (next : CollectedItems C It) → CalledItem p i seen fresh held more lean input left l state (items.Goes next) → begins_items state × Reaches z old (i.view left) before (i.failures left) next
     item_goes {valid} laws v next g = by_answer g.answer g.answers g.did g.keeps
       where
         gone : (b : B) (k : Bool) → Accepts part_world (p.meaning l.parser) (run g.stopped) b k → Stores held more l.before b k next → Reaches z old (i.view left) before (i.failures left) next
@@ -329,7 +329,7 @@ module _ {N Input It I B C H U Checkpoint T R P E : Type 0} (p : parser.Ghosts N
       by_need (inr k) = starts_valid kept p.valid at state k.1
 
   -- the items that are left are those that were left
-  pub item_passes : {input left : Input} {l : RunningItem C It N U} {state : IterateState C It N U} {next : Collected C It} → CalledItem p i seen fresh held more lean input left l state (items.Goes next) → next.items ≡ l.before.items
+  pub item_passes : {input left : Input} {l : RunningItem C It N U} {state : IterateState C It N U} {next : CollectedItems C It} → CalledItem p i seen fresh held more lean input left l state (items.Goes next) → next.items ≡ l.before.items
   item_passes {input} {left} {l} {state} {next} g = by_answer g.answer g.did
     where
       by_answer : (x : ParseResult B E) → item_did p i seen fresh held more lean l x (items.Goes next) → next.items ≡ l.before.items

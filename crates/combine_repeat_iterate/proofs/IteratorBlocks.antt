@@ -12,11 +12,11 @@ use Rattle.combine_base.specs.declared.stream.Failures.{Failures}
 use Rattle.combine_base.specs.declared.error.Tracked.{Tracked}
 use Rattle.combine_base.specs.declared.error.ParseResult.TheVariants.{PeekErr}
 use Rattle.combine_repeat_turns.specs.Turns.Bounds.{goes_at}
-use Rattle.combine_repeat_turns.specs.declared.turns.Bounds.TheVariants.{Any}
+use Rattle.combine_repeat_turns.specs.declared.turns.Bounds.TheVariants.{Unbounded}
 use Rattle.combine_repeat_iterate.specs.IteratorTurn.{Judged, HasFailed, Unreset, place_of}
 
 module _ {P T R A S E : Type 0} (w : World P T S E) (m : Meaning P T R E A S) where
-  pub judged_by : (r : Run P T S) (x : A × Bool) (a : A) (k goes b : Bool) → x ≡ (a, k) → Accepts w m r a k → ((n : ℕ) → Takes w.step n r.old r.new → goes ≡ goes_at Any (place_of r.first) n x.1) → goes ≡ b → Judged w m r x.0 x.1 b
+  pub judged_by : (r : Run P T S) (x : A × Bool) (a : A) (k goes b : Bool) → x ≡ (a, k) → Accepts w m r a k → ((n : ℕ) → Takes w.step n r.old r.new → goes ≡ goes_at Unbounded (place_of r.first) n x.1) → goes ≡ b → Judged w m r x.0 x.1 b
   judged_by r x a k goes b e p s i = let q : Accepts w m r x.0 x.1 = rw e p in record { accepts = q; says = sym (s q.count q.taken) ∙ i }
 
   -- a block is committed

@@ -10,18 +10,18 @@ use Rattle.combine_base.specs.declared.stream.Kind.TheVariants as kinds
 use Rattle.combine_repeat_turns.specs.Turns.Bounds.{accepted_at, bounded, goes_at}
 use Rattle.combine_repeat_turns.specs.Repeat.Repeated.{never}
 use Rattle.combine_repeat_turns.specs.Turns.Blocks.{Block, outcome, Stops, Divides, divides_into}
-use Rattle.combine_repeat_turns.specs.declared.turns.Bounds.TheVariants.{Any}
+use Rattle.combine_repeat_turns.specs.declared.turns.Bounds.TheVariants.{Unbounded}
 use Rattle.combine_repeat_iterate.specs.IteratorTurn.{Turned, IsOver, HasFailed, InTurn, TakesNothing, Unreset, place_of}
 use Rattle.combine_repeat_iterate.specs.IteratorValues.{gone_on, remains, error_stops, stage_stops, stage_after}
-use Rattle.combine_repeat_iterate.specs.declared.repeat.Turn.{Turn}
-use Rattle.combine_repeat_iterate.specs.declared.repeat.Turn.TheVariants.{Gives, Over, Fails}
+use Rattle.combine_repeat_iterate.specs.declared.repeat.IterStep.{IterStep}
+use Rattle.combine_repeat_iterate.specs.declared.repeat.IterStep.TheVariants.{Gives, Over, Fails}
 
 -- past a block
-pub past_block : {P T R E A S : Type 0} (step : P → T → P) (m m' : Meaning P T R E A S) → MeansSame m m' → (first again : Bool) (s s' : S) (v u : View P T) (b : Block A) → again ≡ true → begun m first s v (outcome b) → goes_at Any (place_of first) b.count b.committed ≡ true → u ≡ advanced step b.count v → (bs : List (Block A)) (l : Outcome (Unit {0})) → remains step m' again s' u bs l → remains step m first s v (b ∷ bs) l
+pub past_block : {P T R E A S : Type 0} (step : P → T → P) (m m' : Meaning P T R E A S) → MeansSame m m' → (first again : Bool) (s s' : S) (v u : View P T) (b : Block A) → again ≡ true → begun m first s v (outcome b) → goes_at Unbounded (place_of first) b.count b.committed ≡ true → u ≡ advanced step b.count v → (bs : List (Block A)) (l : Outcome (Unit {0})) → remains step m' again s' u bs l → remains step m first s v (b ∷ bs) l
 past_block {T = T} step m m' h first again s s' v u b e d j q bs l t =
     let At : Bool → Type 0 = λ k. remains step m' k s' u bs l in
-    let y = divides_into step (bounded Any never) (λ _. m'.whole) (λ _. m.whole) (λ g v o. (h.whole v o).1) m'.whole m.whole (λ v o. (h.whole v o).1) (place_of true) u l bs (subst At e t) in
-    let To : View _ T → Type 0 = λ z. Divides step (bounded Any never) (λ _. m.whole) l m.whole (place_of true) bs z in
+    let y = divides_into step (bounded Unbounded never) (λ _. m'.whole) (λ _. m.whole) (λ g v o. (h.whole v o).1) m'.whole m.whole (λ v o. (h.whole v o).1) (place_of true) u l bs (subst At e t) in
+    let To : View _ T → Type 0 = λ z. Divides step (bounded Unbounded never) (λ _. m.whole) l m.whole (place_of true) bs z in
     (refl, d, ap (accepted_at b.count b.committed false) j, subst To q y)
 
 module _ {P T R A S E : Type 0} (w : World P T S E) (m : Meaning P T R E A S) (r : Run P T S) where
@@ -57,13 +57,13 @@ module _ {P T R A S E : Type 0} (w : World P T S E) (m : Meaning P T R E A S) (r
   fails_here e (Unreset i c y) l q = absurd (subst (λ (k : Kind). error_stops k r.new.is_open l) i q)
 
   -- where the turns end, no block was left
-  pub stops_here : (t : Turn A E) → Turned w m r t → (l : Outcome (Unit {0})) → stage_stops w.kind r.new.is_open (stage_after t) l → here l
+  pub stops_here : (t : IterStep A E) → Turned w m r t → (l : Outcome (Unit {0})) → stage_stops w.kind r.new.is_open (stage_after t) l → here l
   stops_here (Gives a) p l q = absurd q
   stops_here Over p l q = over_here p.is l q
   stops_here (Fails e) p l q = fails_here e p.is l q
 
 -- a block that begins afresh takes a token, and so does each after it
-pub fewer : {P T : Type 0} (step : P → T → P) (first again : Bool) (n : ℕ) (v u : View P T) → again ≡ true → goes_at Any (place_of first) n true ≡ true → Takes step n v u → length u.unread + gone_on again < length v.unread + gone_on first
+pub fewer : {P T : Type 0} (step : P → T → P) (first again : Bool) (n : ℕ) (v u : View P T) → again ≡ true → goes_at Unbounded (place_of first) n true ≡ true → Takes step n v u → length u.unread + gone_on again < length v.unread + gone_on first
 fewer step first again n v u e j t = by_mode first j
   where
     len : length u.unread + n ≡ length v.unread
@@ -75,6 +75,6 @@ fewer step first again n v u e j t = by_mode first j
     none : gone_on again ≡ 0
     none = rw e refl
 
-    by_mode : (b : Bool) → goes_at Any (place_of b) n true ≡ true → length u.unread + gone_on again < length v.unread + gone_on b
+    by_mode : (b : Bool) → goes_at Unbounded (place_of b) n true ≡ true → length u.unread + gone_on again < length v.unread + gone_on b
     by_mode true i = let a = len in let z = none in let y = ltb-true 0 n i in omega arith
     by_mode false i = let a = len in let z = none in omega arith

@@ -15,7 +15,7 @@ use Rattle.combine_base.specs.declared.parser.Parser as parser
 use Rattle.combine_base.specs.declared.stream.StreamOnce as stream
 use Rattle.combine_repeat_iterate.specs.ItemErrors.{item_refuses}
 use Rattle.combine_repeat_iterate.specs.ItemParsers.{begins_items}
-use Rattle.combine_repeat_iterate.specs.declared.repeat.items.Collected.{Collected}
+use Rattle.combine_repeat_iterate.specs.declared.repeat.items.CollectedItems.{CollectedItems}
 use Rattle.combine_repeat_iterate.specs.declared.repeat.items.Item.{Item}
 use Rattle.combine_repeat_iterate.specs.declared.repeat.items.Item.TheVariants as items
 use Rattle.combine_repeat_iterate.specs.declared.repeat.items.RunningItem.{RunningItem}
@@ -24,13 +24,13 @@ use Rattle.combine_repeat_iterate.specs.declared.repeat.items.IterateState.TheVa
 
 module _ {B C H It : Type 0} (held : C → H) (more : H → B → H) where
   -- one more value is collected, of an item that was committed or not
-  pub record Stores (before : Collected C It) (value : B) (commits : Bool) (next : Collected C It) : Type 0 where
+  pub record Stores (before : CollectedItems C It) (value : B) (commits : Bool) (next : CollectedItems C It) : Type 0 where
     pub values : held next.values ≡ more (held before.values) value
     pub begun : next.is_begun ≡ true
     pub committed : next.committed ≡ (before.committed || commits)
     pub items : next.items ≡ before.items
 
-  module _ {E : Type 0} (kind : E → Kind) (lean : Type 0) (before : Collected C It) where
+  module _ {E : Type 0} (kind : E → Kind) (lean : Type 0) (before : CollectedItems C It) where
     -- a value finds no memory
     abbrev pub unstored : ParseResult C E → Type 0
     unstored (CommitErr e) = (kind e ≡ kinds.Memory) × (lean → ⊥)

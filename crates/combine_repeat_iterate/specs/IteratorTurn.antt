@@ -6,24 +6,24 @@ use Rattle.combine_base.specs.Parser.Answer.{Run, World, Answers, Accepts, Refus
 use Rattle.combine_base.specs.Refusals.{Told}
 use Rattle.combine_base.specs.Stream.Calls.{Passes}
 use Rattle.combine_repeat_turns.specs.Turns.Bounds.{goes_at}
-use Rattle.combine_repeat_turns.specs.declared.turns.Bounds.TheVariants.{Any}
-use Rattle.combine_repeat_turns.specs.declared.turns.Place.{Place}
+use Rattle.combine_repeat_turns.specs.declared.turns.Bounds.TheVariants.{Unbounded}
+use Rattle.combine_repeat_turns.specs.declared.turns.TurnIndex.{TurnIndex}
 use Rattle.combine_base.specs.declared.parser.Parser as parser
 use Rattle.combine_base.specs.declared.stream.StreamOnce as stream
 use Rattle.combine_base.specs.declared.stream.Kind.TheVariants as kinds
 use Rattle.combine_base.specs.declared.error.ParseResult.TheVariants.{CommitErr}
-use Rattle.combine_repeat_iterate.specs.declared.repeat.Turn.{Turn}
-use Rattle.combine_repeat_iterate.specs.declared.repeat.Turn.TheVariants.{Gives, Over, Fails}
+use Rattle.combine_repeat_iterate.specs.declared.repeat.IterStep.{IterStep}
+use Rattle.combine_repeat_iterate.specs.declared.repeat.IterStep.TheVariants.{Gives, Over, Fails}
 
 -- The place of a turn: none is asked for, and one that resumes may have taken its tokens from an earlier piece.
-abbrev pub place_of : Bool → Place
+abbrev pub place_of : Bool → TurnIndex
 place_of first = record { number = 0; begun = not first }
 
 module _ {P T R A S E : Type 0} (w : World P T S E) (m : Meaning P T R E A S) (r : Run P T S) where
   -- the turn is accepted, committed or not, and is a block or takes nothing
   pub record Judged (a : A) (committed goes : Bool) : Type 0 where
     pub accepts : Accepts w m r a committed
-    pub says : goes_at Any (place_of r.first) accepts.count committed ≡ goes
+    pub says : goes_at Unbounded (place_of r.first) accepts.count committed ≡ goes
 
   -- the turn is refused peeked and put back
   pub record IsOver : Type 0 where
@@ -38,17 +38,17 @@ module _ {P T R A S E : Type 0} (w : World P T S E) (m : Meaning P T R E A S) (r
     -- the stream could not be put back
     Unreset : (reset : w.kind e ≡ kinds.Reset) (counted : r.before.resets < r.after.resets) (leaves : Leaves w r) → HasFailed e
 
-  abbrev pub turned : Turn A E → Type 0
+  abbrev pub turned : IterStep A E → Type 0
   turned (Gives a) = Judged a true true
   turned Over = IsOver
   turned (Fails e) = HasFailed e
 
-  pub record Turned (result : Turn A E) : Type 0 where
+  pub record Turned (result : IterStep A E) : Type 0 where
     pub is : turned result
 
 module _ {Self Input Output State Checkpoint Token Range Position Error : Type 0} (p : parser.Ghosts Self Input State Output Checkpoint Token Range Position Error) where
   -- what one turn promises, of what was before and after it
-  pub record TurnCalled (i : stream.Ghosts Input Token Range Position Error) (seen : Errors Token Range Position Error) (fresh : State → Type 0) (old new : Self) (input left : Input) (first : Bool) (from state : State) (result : Turn Output Error) : Type 0 where
+  pub record TurnCalled (i : stream.Ghosts Input Token Range Position Error) (seen : Errors Token Range Position Error) (fresh : State → Type 0) (old new : Self) (input left : Input) (first : Bool) (from state : State) (result : IterStep Output Error) : Type 0 where
     pub lawful : p.lawful new
     pub valid : p.valid state
     pub same : MeansSame (p.meaning old) (p.meaning new)

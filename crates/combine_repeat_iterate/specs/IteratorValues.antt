@@ -10,7 +10,7 @@ use Rattle.combine_base.specs.Sequence.Parts.{accepted_as}
 use Rattle.combine_repeat_turns.specs.Turns.Bounds.{bounded}
 use Rattle.combine_repeat_turns.specs.Repeat.Repeated.{never}
 use Rattle.combine_repeat_turns.specs.Turns.Blocks.{Block, Divides}
-use Rattle.combine_repeat_turns.specs.declared.turns.Bounds.TheVariants.{Any}
+use Rattle.combine_repeat_turns.specs.declared.turns.Bounds.TheVariants.{Unbounded}
 use Rattle.combine_base.specs.declared.parser.Parser as parser
 use Rattle.combine_base.specs.declared.stream.StreamOnce as stream
 use Rattle.combine_base.specs.declared.stream.Kind.{Kind}
@@ -19,14 +19,14 @@ use Rattle.combine_base.specs.declared.error.ParseResult.{ParseResult}
 use Rattle.combine_base.specs.declared.error.ParseResult.TheVariants.{CommitErr}
 use Rattle.combine_repeat_iterate.specs.IteratorTurn.{TurnCalled, place_of}
 use Rattle.combine_repeat_iterate.specs.declared.repeat.Iter.{Iter}
-use Rattle.combine_repeat_iterate.specs.declared.repeat.Stage.{Stage}
-use Rattle.combine_repeat_iterate.specs.declared.repeat.Stage.TheVariants as stages
-use Rattle.combine_repeat_iterate.specs.declared.repeat.Turn.{Turn}
-use Rattle.combine_repeat_iterate.specs.declared.repeat.Turn.TheVariants.{Gives, Over, Fails}
+use Rattle.combine_repeat_iterate.specs.declared.repeat.IterStage.{IterStage}
+use Rattle.combine_repeat_iterate.specs.declared.repeat.IterStage.TheVariants as stages
+use Rattle.combine_repeat_iterate.specs.declared.repeat.IterStep.{IterStep}
+use Rattle.combine_repeat_iterate.specs.declared.repeat.IterStep.TheVariants.{Gives, Over, Fails}
 
 -- The turns that are left, of which the first begins afresh or goes on from a state: these blocks, as `many` divides the list, and then a place where the turns stop so. A turn that goes on is a block also if it takes nothing more.
 abbrev pub remains : {P T R E A S : Type 0} → (P → T → P) → Meaning P T R E A S → Bool → S → View P T → List (Block A) → Outcome (Unit {0}) → Type 0
-remains step m first s v bs l = Divides step (bounded Any never) (λ _. m.whole) l (begun m first s) (place_of first) bs v
+remains step m first s v bs l = Divides step (bounded Unbounded never) (λ _. m.whole) l (begun m first s) (place_of first) bs v
 
 -- these blocks, of which the first took n tokens more before
 abbrev pub longer : {A : Type 0} → ℕ → List (Block A) → List (Block A)
@@ -55,25 +55,25 @@ error_stops kinds.Reset is_open l = ⊥
 error_stops kinds.Lost is_open l = ⊥
 
 -- how the turns stop that end so
-abbrev pub stage_stops : {E : Type 0} → (E → Kind) → Bool → Stage E → Outcome (Unit {0}) → Type 0
+abbrev pub stage_stops : {E : Type 0} → (E → Kind) → Bool → IterStage E → Outcome (Unit {0}) → Type 0
 stage_stops kind is_open stages.Running l = ⊥
 stage_stops kind is_open stages.Over l = l ≡ Accepted tt 0 false
 stage_stops kind is_open (stages.Failed e) l = error_stops (kind e) is_open l
 
 -- another turn runs
-abbrev pub runs_at : {E : Type 0} → Stage E → Bool
+abbrev pub runs_at : {E : Type 0} → IterStage E → Bool
 runs_at stages.Running = true
 runs_at stages.Over = false
 runs_at (stages.Failed e) = false
 
 -- the stage after a turn
-abbrev pub stage_after : {A E : Type 0} → Turn A E → Stage E
+abbrev pub stage_after : {A E : Type 0} → IterStep A E → IterStage E
 stage_after (Gives a) = stages.Running
 stage_after Over = stages.Over
 stage_after (Fails e) = stages.Failed e
 
 -- the turns as an answer with that value, of which one gave a value or none
-abbrev pub answer_of : {V E : Type 0} → Stage E → Bool → V → ParseResult V E
+abbrev pub answer_of : {V E : Type 0} → IterStage E → Bool → V → ParseResult V E
 answer_of stages.Running given v = accepted_as given v
 answer_of stages.Over given v = accepted_as given v
 answer_of (stages.Failed e) given v = CommitErr e
@@ -84,14 +84,14 @@ gone_on true = 0
 gone_on false = 1
 
 -- at most so many values come from so many tokens, the first turn beginning afresh or not
-abbrev pub values_left : {E : Type 0} → Stage E → ℕ → Bool → ℕ
+abbrev pub values_left : {E : Type 0} → IterStage E → ℕ → Bool → ℕ
 values_left stages.Running n first = n + gone_on first
 values_left stages.Over n first = 0
 values_left (stages.Failed e) n first = 0
 
 -- how an iterator ended, and as what it answers
 module _ {Self Input Mode Checkpoint Token Range Position Error Output State : Type 0} where
-  abbrev pub stage_of : Iter Input Self Mode Checkpoint Token Range Position Error State Output → Stage Error
+  abbrev pub stage_of : Iter Input Self Mode Checkpoint Token Range Position Error State Output → IterStage Error
   stage_of it = it.stage
 
   abbrev pub answer_with : {V : Type 0} → Iter Input Self Mode Checkpoint Token Range Position Error State Output → V → ParseResult V Error
@@ -124,7 +124,7 @@ module _ {Self Input Mode Checkpoint Token Range Position Error Output State : T
 
   module _ (seen : Errors Token Range Position Error) (fresh : State → Type 0) where
     -- a call in which a turn was run
-    pub record Runs (it new : Iter Input Self Mode Checkpoint Token Range Position Error State Output) (turn : Turn Output Error) : Type 0 where
+    pub record Runs (it new : Iter Input Self Mode Checkpoint Token Range Position Error State Output) (turn : IterStep Output Error) : Type 0 where
       pub called : TurnCalled p i seen fresh it.parser new.parser it.input.now new.input.now (first it.mode) it.state.now new.state.now turn
       pub stage : new.stage ≡ stage_after turn
 
@@ -141,7 +141,7 @@ module _ {Self Input Mode Checkpoint Token Range Position Error Output State : T
 
     -- no block was left, and the turns stop as the stage says
     pub record EndsTurns (it new : Iter Input Self Mode Checkpoint Token Range Position Error State Output) : Type 0 where
-      pub turn : Turn Output Error
+      pub turn : IterStep Output Error
       pub runs : Runs it new turn
       pub ended : runs_at new.stage ≡ false
       pub given : new.given ≡ it.given
@@ -158,7 +158,7 @@ module _ {Self Input Mode Checkpoint Token Range Position Error Output State : T
     after_end it (Some a) new = ⊥
     after_end it None new = new ≡ it
 
-    abbrev pub next_at : Stage Error → Iter Input Self Mode Checkpoint Token Range Position Error State Output → Option Output → Iter Input Self Mode Checkpoint Token Range Position Error State Output → Type 0
+    abbrev pub next_at : IterStage Error → Iter Input Self Mode Checkpoint Token Range Position Error State Output → Option Output → Iter Input Self Mode Checkpoint Token Range Position Error State Output → Type 0
     next_at stages.Running it result new = goes_on it result new
     next_at stages.Over it result new = after_end it result new
     next_at (stages.Failed e) it result new = after_end it result new

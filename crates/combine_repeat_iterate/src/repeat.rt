@@ -2,7 +2,7 @@
 ghost use Rattle.std.specs.Prelude.{◌≡◌, ℕ};
 ghost use Rattle.combine_base.specs.Stream.View.{View, Takes};
 ghost use Rattle.combine_repeat_turns.specs.Turns.Bounds.{goes_at};
-ghost use Rattle.combine_repeat_turns.specs.declared.turns.Bounds.TheVariants.{Any};
+ghost use Rattle.combine_repeat_turns.specs.declared.turns.Bounds.TheVariants.{Unbounded};
 ghost use Rattle.combine_base.specs.Error.Results.{standard};
 ghost use Rattle.combine_repeat_iterate.specs.ListedItems.{iterate_of};
 ghost use Rattle.combine_repeat_iterate.specs.IteratorTurn.{TurnCalled, place_of};
@@ -11,10 +11,9 @@ ghost use Rattle.combine_repeat_iterate.specs.IteratorValues.{Begins, Nexts, ans
 mod items;
 pub mod types;
 
-use combine_base::error::{ParseResult, StdParseResult};
+use combine_base::error::{ParseResult, StdParseResult, accepted_after};
 use combine_base::parser::{Calls, ParseMode, Parser};
 use combine_base::refusal::refusal_saying;
-use combine_base::sequence::accepted_after;
 use combine_base::stream::{Stream, has_taken};
 use std::alloc::Global;
 use std::marker::PhantomData;
@@ -65,7 +64,7 @@ pub fn iterate<C, J, F>(alloc: Global, items: J, f: F) -> Iterate<C, J, F>
 
 /// Returns whether another turn runs, and how the turns ended.
 #[derive(Drop)]
-enum Stage<E> {
+enum IterStage<E> {
     /// Another turn runs.
     Running,
     /// A turn was refused peeked, and put back.
@@ -74,15 +73,15 @@ enum Stage<E> {
     Failed(E),
 }
 
-impl<E> Stage<E> {
+impl<E> IterStage<E> {
     #[inline(always)]
     fn is_running(&self) -> bool
         ensures { result ≡ runs_at self.now }
     {
         match self {
-            Stage::Running => true,
-            Stage::Over => false,
-            Stage::Failed(_) => false,
+            IterStage::Running => true,
+            IterStage::Over => false,
+            IterStage::Failed(_) => false,
         }
     }
 
@@ -91,9 +90,9 @@ impl<E> Stage<E> {
         ensures { result ≡ answer_of self given value }
     {
         match self {
-            Stage::Running => accepted_after(given, value),
-            Stage::Over => accepted_after(given, value),
-            Stage::Failed(error) => ParseResult::CommitErr(error),
+            IterStage::Running => accepted_after(given, value),
+            IterStage::Over => accepted_after(given, value),
+            IterStage::Failed(error) => ParseResult::CommitErr(error),
         }
     }
 }
@@ -121,7 +120,7 @@ pub struct Iter<'a, Input: Stream, P: Parser<Input>, M> {
     state: &'a mut P::PartialState,
     /// Set if a value was given; each is of a committed turn.
     given: bool,
-    stage: Stage<Input::Error>,
+    stage: IterStage<Input::Error>,
 }
 
 impl<'a, Input: Stream, P: Parser<Input>, M: ParseMode> Iter<'a, Input, P, M> {
@@ -148,7 +147,7 @@ impl<'a, Input: Stream, P: Parser<Input>, M: ParseMode> Iter<'a, Input, P, M> {
             input,
             state,
             given: false,
-            stage: Stage::Running,
+            stage: IterStage::Running,
         }
     }
 
@@ -191,18 +190,18 @@ impl<'a, Input: Stream, P: Parser<Input> + Drop, M: ParseMode> Iterator for Iter
         if !self.stage.is_running() {
             return None;
         }
-        match one_turn(&mut self.parser, self.mode, self.input, self.state) {
-            Turn::Gives(value) => {
+        match iter_step(&mut self.parser, self.mode, self.input, self.state) {
+            IterStep::Gives(value) => {
                 self.mode.set_first();
                 self.given = true;
                 Some(value)
             }
-            Turn::Over => {
-                self.stage = Stage::Over;
+            IterStep::Over => {
+                self.stage = IterStage::Over;
                 None
             }
-            Turn::Fails(error) => {
-                self.stage = Stage::Failed(error);
+            IterStep::Fails(error) => {
+                self.stage = IterStage::Failed(error);
                 None
             }
         }
@@ -210,7 +209,7 @@ impl<'a, Input: Stream, P: Parser<Input> + Drop, M: ParseMode> Iterator for Iter
 }
 
 /// What a turn did.
-enum Turn<A, E> {
+enum IterStep<A, E> {
     /// It is a block with that value.
     Gives(A),
     /// It was refused peeked, and put back.
@@ -221,12 +220,12 @@ enum Turn<A, E> {
 
 /// Runs one turn.
 #[inline(always)]
-fn one_turn<Input: Stream, P: Parser<Input>, M: ParseMode>(
+fn iter_step<Input: Stream, P: Parser<Input>, M: ParseMode>(
     parser: &mut P,
     mode: M,
     input: &mut Input,
     state: &mut P::PartialState,
-) -> Turn<P::Output, Input::Error>
+) -> IterStep<P::Output, Input::Error>
     requires { ⟦<P as Calls<Input>>⟧.ready parser.old state.old }
     ensures { TurnCalled P.Parser Input.StreamOnce Input.Error.seen P.PartialState.is_default
         parser.old parser.new input.old input.new (M.first mode) state.old state.new result }
@@ -238,16 +237,16 @@ fn one_turn<Input: Stream, P: Parser<Input>, M: ParseMode>(
         ParseResult::PeekOk(value) => (value, false),
         ParseResult::PeekErr(_refusal) => {
             if let Err(kind) = input.reset(checkpoint) {
-                return Turn::Fails(input.new_error(kind, position));
+                return IterStep::Fails(input.new_error(kind, position));
             }
-            return Turn::Over;
+            return IterStep::Over;
         }
-        ParseResult::CommitErr(error) => return Turn::Fails(error),
+        ParseResult::CommitErr(error) => return IterStep::Fails(error),
     };
     if !is_block(mode.is_first(), committed, checkpoint, input) {
-        return Turn::Fails(refusal_saying(input, position, "repetition takes nothing"));
+        return IterStep::Fails(refusal_saying(input, position, "repetition takes nothing"));
     }
-    Turn::Gives(value)
+    IterStep::Gives(value)
 }
 
 /// Returns whether an accepted turn counts, which has to take a token, unless it resumes.
@@ -260,7 +259,7 @@ fn is_block<Input: Stream>(
     since: Input::Checkpoint,
     input: &Input,
 ) -> bool
-    ensures { (n : ℕ) (v : View Input.Position Input.Token) → Input.stands input.now since v → Takes Input.step n v (Input.view input.now) → result ≡ goes_at Any (place_of first) n committed }
+    ensures { (n : ℕ) (v : View Input.Position Input.Token) → Input.stands input.now since v → Takes Input.step n v (Input.view input.now) → result ≡ goes_at Unbounded (place_of first) n committed }
 {
     committed && has_taken(!first, since, input)
 }

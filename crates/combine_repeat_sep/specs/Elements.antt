@@ -8,7 +8,7 @@ use Rattle.combine_repeat_turns.specs.Turns.Bounds.{gathered, none_yet, turns_fr
 use Rattle.combine_repeat_turns.specs.Repeat.Repeated.{never}
 use Rattle.combine_repeat_sep.specs.Separated.{first_element, first_then, later_turn, then_element, separated_fresh, separated_valid, then_is_turn, then_once, then_same}
 use Rattle.combine_repeat_turns.specs.declared.turns.Bounds.{Bounds}
-use Rattle.combine_repeat_turns.specs.declared.turns.Bounds.TheVariants.{Joined}
+use Rattle.combine_repeat_turns.specs.declared.turns.Bounds.TheVariants.{OwnFirst}
 use Rattle.combine_repeat_turns.specs.declared.turns.TurnsState.{TurnsState}
 use Rattle.combine_repeat_sep.specs.declared.separated.Element.{Element}
 use Rattle.combine_repeat_sep.specs.declared.separated.Element.TheVariants.{First, Then}
@@ -45,7 +45,7 @@ module _ {P T R E O A V U W : Type 0} (step : P → T → P) (errors : Errors T 
 module _ {P T R E O A V U W : Type 0} (step : P → T → P) (errors : Errors T R P E) (c : Collecting A V) where
   -- at least so many elements, and at most so many if there is such a number
   abbrev pub sep_count_min_max : ℕ → Option ℕ → Meaning P T R E A U → Meaning P T R E O W → Meaning P T R E V (TurnsState V (SeparatedState O W U))
-  sep_count_min_max least most = joined step errors (Joined least most) (elements c)
+  sep_count_min_max least most = joined step errors (OwnFirst least most) (elements c)
 
   abbrev pub sep_by : Meaning P T R E A U → Meaning P T R E O W → Meaning P T R E V (TurnsState V (SeparatedState O W U))
   sep_by = sep_count_min_max 0 None
@@ -56,7 +56,7 @@ module _ {P T R E O A V U W : Type 0} (step : P → T → P) (errors : Errors T 
 module _ {P T R E O V U W : Type 0} (step : P → T → P) (errors : Errors T R P E) (post : O → V → V → V → Type 0) where
   -- an element, and then turns of an operator and an element, folded from the left
   abbrev pub chainl1 : Meaning P T R E V U → Meaning P T R E O W → Meaning P T R E V (TurnsState V (SeparatedState O W U))
-  chainl1 = joined step errors (Joined 1 None) (folded post)
+  chainl1 = joined step errors (OwnFirst 1 None) (folded post)
 
 module _ {P T R E O A V U W : Type 0} (step : P → T → P) (errors : Errors T R P E) (b : Bounds) (c : Collecting (Element O A) V) where
   pub joined_is_meaning : (good : O → Type 0) (fresh valid : U → Type 0) (fresh' valid' : W → Type 0) (m : Meaning P T R E A U) (s : Meaning P T R E O W) → IsMeaning fresh valid m → IsMeaning fresh' valid' s → IsMeaning (fresh_turns (separated_fresh fresh)) (λ z. separated_valid valid (led_valid good valid' valid) (running_turn z)) (joined step errors b c m s)

@@ -15,7 +15,7 @@ use std::marker::PhantomData;
 pub struct EachElement<F>(PhantomData<F>);
 
 impl<F: Drop> Gathers for EachElement<F> {
-    type Into = F;
+    type Collection = F;
 }
 
 impl<O: Drop, A, F: Append<A>> Gather<Element<O, A>> for EachElement<F> {
@@ -56,7 +56,7 @@ impl<O: Drop, A, F: Append<A>> Gather<Element<O, A>> for EachElement<F> {
 pub struct Folded<V>(PhantomData<V>);
 
 impl<V: Drop> Gathers for Folded<V> {
-    type Into = V;
+    type Collection = V;
 }
 
 impl<V: Drop, O: Folds<V> + Drop> Gather<Element<O, V>> for Folded<V> {
@@ -88,7 +88,7 @@ impl<V: Drop, O: Folds<V> + Drop> Gather<Element<O, V>> for Folded<V> {
 }
 
 impl<V: Drop, O: Folds<V> + Drop> Reduce<Element<O, V>> for Folded<V> {
-    type From = ();
+    type Seed = ();
 
     #[inline(always)]
     fn begin(from: (), value: Element<O, V>) -> Result<V, AllocError> {

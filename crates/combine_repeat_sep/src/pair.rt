@@ -7,9 +7,8 @@ ghost use Rattle.combine_base.specs.Sequence.SequenceCalls.{Follows};
 ghost use Rattle.combine_base.specs.Sequence.Parts.{CalledLast, CalledRest};
 ghost use Rattle.combine_repeat_sep.specs.Pair.{LedBy, pair_begins, pair_place, pair_valid, put_to};
 
-use combine_base::error::ParseResult;
+use combine_base::error::{ParseResult, accepted_after, refused_after};
 use combine_base::parser::{Calls, Outputs, ParseMode, Parser};
-use combine_base::sequence::{accepted_after, refused_after};
 use combine_base::stream::{Stream, needs_more};
 
 /// What is kept of a separator and a part while one of them runs.

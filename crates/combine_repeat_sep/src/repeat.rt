@@ -16,7 +16,7 @@ pub mod laws;
 pub mod types;
 
 use crate::separated::Separated;
-use combine_repeat_turns::turns::limits::{JoinedBetween, JoinedFrom};
+use combine_repeat_turns::turns::turn_bounds::{FirstThenMore, FirstThenUpTo};
 use std::alloc::Global;
 use std::marker::PhantomData;
 use types::{Chainl1, RepeatSeparated, SepBy, SepBy1, SepCountMinMax};
@@ -58,10 +58,7 @@ pub fn sep_count_min_max<F, P, S>(
     requires { min ≤ max }
     ensures { result ≡ sep_count_min_max_of alloc min max parser separator }
 {
-    let bounds = JoinedBetween {
-        least: min,
-        most: max,
-    };
+    let bounds = FirstThenUpTo { min, max };
     RepeatSeparated::new(alloc, bounds, parser, separator)
 }
 
@@ -88,7 +85,7 @@ pub fn sep_count_min_max<F, P, S>(
 pub fn sep_by<F, P, S>(alloc: Global, parser: P, separator: S) -> SepBy<F, P, S>
     ensures { result ≡ sep_by_of alloc parser separator }
 {
-    RepeatSeparated::new(alloc, JoinedFrom::<0>, parser, separator)
+    RepeatSeparated::new(alloc, FirstThenMore::<0>, parser, separator)
 }
 
 /// Takes at least one element, and any number, with what `separator` takes between two of them, and collects their values.
@@ -113,7 +110,7 @@ pub fn sep_by<F, P, S>(alloc: Global, parser: P, separator: S) -> SepBy<F, P, S>
 pub fn sep_by1<F, P, S>(alloc: Global, parser: P, separator: S) -> SepBy1<F, P, S>
     ensures { result ≡ sep_by1_of alloc parser separator }
 {
-    RepeatSeparated::new(alloc, JoinedFrom::<1>, parser, separator)
+    RepeatSeparated::new(alloc, FirstThenMore::<1>, parser, separator)
 }
 
 /// Parses as `parser`, and then by turns as `operator` and `parser`: folds the values from the left, by the functions that `operator` gives.

@@ -12,7 +12,7 @@ use crate::pair::{PairState, PairStateOf, parse_pair};
 use combine_base::error::{ParseResult, Tracked};
 use combine_base::parser::{FirstMode, ParseMode, Parser};
 use combine_base::stream::{Stream, needs_more};
-use combine_repeat_turns::turns::Turn;
+use combine_repeat_turns::turns::TurnParser;
 use std::marker::PhantomData;
 use std::mem;
 
@@ -136,9 +136,9 @@ impl<O, V> Leads<O, V> for Anything {
 
 /// It is a function that can be called on any two operands.
 #[derive(Drop)]
-pub struct Operator;
+pub struct ChainOperator;
 
-impl<O: Folds<V> + Drop, V: Drop> Leads<O, V> for Operator {
+impl<O: Folds<V> + Drop, V: Drop> Leads<O, V> for ChainOperator {
     ghost good = { λ f. O.callable f };
 }
 
@@ -225,8 +225,9 @@ fn run_later<Input: Stream, P: Parser<Input>, S: Parser<Input>, M: ParseMode>(
     }
 }
 
-impl<Input: Stream, P: Parser<Input>, S: Parser<Input>, L: Leads<S::Output, P::Output>> Turn<Input>
-    for Separated<P, S, L> {
+impl<Input: Stream, P: Parser<Input>, S: Parser<Input>, L: Leads<S::Output, P::Output>> TurnParser<
+    Input,
+> for Separated<P, S, L> {
     type Value = Element<S::Output, P::Output>;
 
     type Running = SeparatedState<S::Output, S::PartialState, P::PartialState>;
@@ -287,7 +288,7 @@ impl<Input: Stream, P: Parser<Input>, S: Parser<Input>, L: Leads<S::Output, P::O
     }
 
     #[inline(always)]
-    fn ends(value: &Self::Value) -> bool {
+    fn is_last(value: &Self::Value) -> bool {
         false
     }
 

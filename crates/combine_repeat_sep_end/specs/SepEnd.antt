@@ -9,7 +9,7 @@ use Rattle.combine_repeat_turns.specs.Turns.Bounds.{fresh_turns, none_yet, runni
 use Rattle.combine_repeat_sep.specs.Separated.{first_then, later_turn, separated_fresh, separated_valid, then_is_turn, then_same}
 use Rattle.combine_repeat_sep_end.specs.Ended.{ended_once, is_none, last, some_more, some_of}
 use Rattle.combine_repeat_turns.specs.declared.turns.Bounds.{Bounds}
-use Rattle.combine_repeat_turns.specs.declared.turns.Bounds.TheVariants.{Joined}
+use Rattle.combine_repeat_turns.specs.declared.turns.Bounds.TheVariants.{OwnFirst}
 use Rattle.combine_repeat_turns.specs.declared.turns.TurnsState.{TurnsState}
 use Rattle.combine_repeat_sep.specs.declared.separated.SeparatedState.{SeparatedState}
 
@@ -33,7 +33,7 @@ module _ {P T R E O A V U W : Type 0} (step : P → T → P) (errors : Errors T 
 
 module _ {P T R E O A V U W : Type 0} (step : P → T → P) (errors : Errors T R P E) (c : Collecting A V) where
   abbrev pub sep_end_by : Meaning P T R E A U → Meaning P T R E O W → Meaning P T R E V (TurnsState V (SeparatedState O W U))
-  sep_end_by = sep_end step errors (Joined 0 None) c
+  sep_end_by = sep_end step errors (OwnFirst 0 None) c
 
   abbrev pub sep_end_by1 : Meaning P T R E A U → Meaning P T R E O W → Meaning P T R E V (TurnsState V (SeparatedState O W U))
-  sep_end_by1 = sep_end step errors (Joined 1 None) c
+  sep_end_by1 = sep_end step errors (OwnFirst 1 None) c

@@ -16,7 +16,7 @@ use combine_base::repeat::Append;
 use combine_base::stream::{Stream, needs_more};
 use combine_repeat_sep::pair::{PairState, PairStateOf, parse_pair};
 use combine_repeat_sep::separated::{Lead, SeparatedState, TurnPlace};
-use combine_repeat_turns::turns::{Gather, Gathers, Turn};
+use combine_repeat_turns::turns::{Gather, Gathers, TurnParser};
 use combine_token::choice::types::Optional;
 use std::alloc::AllocError;
 use std::marker::PhantomData;
@@ -34,7 +34,7 @@ pub struct Ended<P, S> {
 pub struct EachSome<F>(PhantomData<F>);
 
 impl<F: Drop> Gathers for EachSome<F> {
-    type Into = F;
+    type Collection = F;
 }
 
 impl<A, F: Append<A>> Gather<Option<A>> for EachSome<F> {
@@ -138,7 +138,7 @@ fn run_later<Input: Stream, P: Parser<Input>, S: Parser<Input>, M: ParseMode>(
     }
 }
 
-impl<Input: Stream, P: Parser<Input>, S: Parser<Input>> Turn<Input> for Ended<P, S> {
+impl<Input: Stream, P: Parser<Input>, S: Parser<Input>> TurnParser<Input> for Ended<P, S> {
     type Value = Option<P::Output>;
 
     type Running = SeparatedState<S::Output, S::PartialState, P::PartialState>;
@@ -199,7 +199,7 @@ impl<Input: Stream, P: Parser<Input>, S: Parser<Input>> Turn<Input> for Ended<P,
     }
 
     #[inline(always)]
-    fn ends(value: &Self::Value) -> bool {
+    fn is_last(value: &Self::Value) -> bool {
         match value {
             Some(_) => false,
             None => true,

@@ -13,7 +13,7 @@ ghost use Rattle.combine_repeat_sep_end.specs.SepEndParsers.{sep_end_by_of, sep_
 pub mod laws;
 pub mod types;
 
-use combine_repeat_turns::turns::limits::JoinedFrom;
+use combine_repeat_turns::turns::turn_bounds::FirstThenMore;
 use std::alloc::Global;
 use types::{RepeatEnded, SepEndBy, SepEndBy1};
 
@@ -35,7 +35,7 @@ use types::{RepeatEnded, SepEndBy, SepEndBy1};
 pub fn sep_end_by<F, P, S>(alloc: Global, parser: P, separator: S) -> SepEndBy<F, P, S>
     ensures { result ≡ sep_end_by_of alloc parser separator }
 {
-    RepeatEnded::new(alloc, JoinedFrom::<0>, parser, separator)
+    RepeatEnded::new(alloc, FirstThenMore::<0>, parser, separator)
 }
 
 /// Takes at least one element, which are `parser`'s, with what `separator` takes between two of them and perhaps after the last.
@@ -59,5 +59,5 @@ pub fn sep_end_by<F, P, S>(alloc: Global, parser: P, separator: S) -> SepEndBy<F
 pub fn sep_end_by1<F, P, S>(alloc: Global, parser: P, separator: S) -> SepEndBy1<F, P, S>
     ensures { result ≡ sep_end_by1_of alloc parser separator }
 {
-    RepeatEnded::new(alloc, JoinedFrom::<1>, parser, separator)
+    RepeatEnded::new(alloc, FirstThenMore::<1>, parser, separator)
 }

@@ -8,17 +8,17 @@ use Rattle.combine_repeat_turns.specs.Turns.Bounds.{bounded, judged, none_yet}
 use Rattle.combine_repeat_turns.specs.Repeat.Repeated.{never}
 use Rattle.combine_repeat_turns.proofs.TurnSteps.{collects_after}
 use Rattle.combine_repeat_turns.specs.Repeat.OneThenTurns.{one_then_turns, then_turns}
-use Rattle.combine_repeat_turns.specs.declared.turns.Bounds.TheVariants.{Any, Joined}
-use Rattle.combine_repeat_turns.specs.declared.turns.Place.{Place}
+use Rattle.combine_repeat_turns.specs.declared.turns.Bounds.TheVariants.{Unbounded, OwnFirst}
+use Rattle.combine_repeat_turns.specs.declared.turns.TurnIndex.{TurnIndex}
 
 -- the places of the first turn, and of one behind the first that is asked for
-abbrev at_first : Place
+abbrev at_first : TurnIndex
 at_first = record { number = 0; begun = false }
 
-abbrev behind : Place
+abbrev behind : TurnIndex
 behind = record { number = 1; begun = false }
 
-same_judge : {A : Type 0} (o : Outcome A) → judged (Joined 1 None) never behind o ≡ judged Any never at_first o
+same_judge : {A : Type 0} (o : Outcome A) → judged (OwnFirst 1 None) never behind o ≡ judged Unbounded never at_first o
 same_judge (Accepted a n k) = refl
 same_judge (Refused true) = refl
 same_judge (Refused false) = refl
@@ -30,19 +30,19 @@ after_twice n m k d (Refused c) = rw (or_assoc k d c) refl
 after_twice n m k d Undecided = refl
 
 module _ {P T A V : Type 0} (step : P → T → P) (c : Collecting A V) (first later : Reading P T A) where
-  to_any : (l : Outcome (Unit {0})) (bs : List (Block A)) (v : View P T) → Divides step (bounded (Joined 1 None) never) (λ _. later) l later behind bs v → Divides step (bounded Any never) (λ _. later) l later at_first bs v
+  to_any : (l : Outcome (Unit {0})) (bs : List (Block A)) (v : View P T) → Divides step (bounded (OwnFirst 1 None) never) (λ _. later) l later behind bs v → Divides step (bounded Unbounded never) (λ _. later) l later at_first bs v
   to_any l [] v d = (d.0, d.1, sym (same_judge d.0) ∙ d.2)
   to_any l (b ∷ bs) v d = (refl, d.1, sym (same_judge (outcome b)) ∙ d.2, to_any l bs (advanced step b.count v) d.3)
 
-  from_any : (l : Outcome (Unit {0})) (bs : List (Block A)) (v : View P T) → Divides step (bounded Any never) (λ _. later) l later at_first bs v → Divides step (bounded (Joined 1 None) never) (λ _. later) l later behind bs v
+  from_any : (l : Outcome (Unit {0})) (bs : List (Block A)) (v : View P T) → Divides step (bounded Unbounded never) (λ _. later) l later at_first bs v → Divides step (bounded (OwnFirst 1 None) never) (λ _. later) l later behind bs v
   from_any l [] v d = (d.0, d.1, same_judge d.0 ∙ d.2)
   from_any l (b ∷ bs) v d = (refl, d.1, same_judge (outcome b) ∙ d.2, from_any l bs (advanced step b.count v) d.3)
 
   abbrev joined_turns : Reading P T V
-  joined_turns = Turned step (bounded (Joined 1 None) never) c (λ _. later) first (none_yet c.none)
+  joined_turns = Turned step (bounded (OwnFirst 1 None) never) c (λ _. later) first (none_yet c.none)
 
   -- the first turn stops them
-  alone : (v : View P T) (l : Outcome (Unit {0})) (o : Outcome V) (i : Outcome A) → judged (Joined 1 None) never at_first i ≡ Stops l → shape o ≡ after 0 false l → then_turns step c first later v i o
+  alone : (v : View P T) (l : Outcome (Unit {0})) (o : Outcome V) (i : Outcome A) → judged (OwnFirst 1 None) never at_first i ≡ Stops l → shape o ≡ after 0 false l → then_turns step c first later v i o
   alone v l o (Accepted a n k) e j = absurd (cc)
   alone v l (Refused x) (Refused true) e j = let q : l ≡ Refused true = cc in cc
   alone v l (Refused x) (Refused false) e j = let q : l ≡ Refused false = cc in cc
@@ -80,7 +80,7 @@ module _ {P T A V : Type 0} (step : P → T → P) (c : Collecting A V) (first l
   forth : (v : View P T) (o : Outcome V) → joined_turns v o → one_then_turns step c first later v o
   forth v o t = by_blocks t.blocks t.last t.held t.divided t.joined t.folded t.collected
     where
-      by_blocks : (bs : List (Block A)) (l : Outcome (Unit {0})) (h : c.Held) → Divides step (bounded (Joined 1 None) never) (λ _. later) l first at_first bs v → shape o ≡ after (taken bs) (any_committed bs) l → Folds c.more c.none (values bs) h → Collects c o h → one_then_turns step c first later v o
+      by_blocks : (bs : List (Block A)) (l : Outcome (Unit {0})) (h : c.Held) → Divides step (bounded (OwnFirst 1 None) never) (λ _. later) l first at_first bs v → shape o ≡ after (taken bs) (any_committed bs) l → Folds c.more c.none (values bs) h → Collects c o h → one_then_turns step c first later v o
       by_blocks [] l h d j f q = (d.0, d.1, alone v l o d.0 d.2 j)
       by_blocks (b ∷ bs) l h d j f q =
           let p = part b.count (taken bs) b.committed (any_committed bs) l h o j q in

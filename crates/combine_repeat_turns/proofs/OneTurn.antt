@@ -18,12 +18,12 @@ use Rattle.combine_repeat_turns.specs.Turns.Turn.{Start, TurnsSame, called}
 use Rattle.combine_repeat_turns.specs.Turns.Bounds.{cut_at, goes_at, limit, next_of, so_far}
 use Rattle.combine_repeat_turns.specs.Turns.OneTurn.{IsGathered, Judged, OneTurn, IsOver, Ended, PutBack, NeedsMore, HasFailed, InTurn, TakesNothing, Unstored, Untold, Unreset, halted, Ran, then_left}
 use Rattle.combine_repeat_turns.specs.declared.turns.Bounds.{Bounds}
-use Rattle.combine_repeat_turns.specs.declared.turns.Place.{Place}
-use Rattle.combine_repeat_turns.specs.declared.turns.Step.{Step}
-use Rattle.combine_repeat_turns.specs.declared.turns.Step.TheVariants as steps
-use Rattle.combine_repeat_turns.specs.declared.turns.Stop.{Stop}
-use Rattle.combine_repeat_turns.specs.declared.turns.Stop.TheVariants as stop
-use Rattle.combine_repeat_turns.specs.declared.turns.Turns.{Turns as Kept}
+use Rattle.combine_repeat_turns.specs.declared.turns.TurnIndex.{TurnIndex}
+use Rattle.combine_repeat_turns.specs.declared.turns.TurnStep.{TurnStep}
+use Rattle.combine_repeat_turns.specs.declared.turns.TurnStep.TheVariants as steps
+use Rattle.combine_repeat_turns.specs.declared.turns.TurnStop.{TurnStop}
+use Rattle.combine_repeat_turns.specs.declared.turns.TurnStop.TheVariants as stop
+use Rattle.combine_repeat_turns.specs.declared.turns.TurnProgress.{TurnProgress}
 
 module _ {P T R E A S : Type 0} where
   pub turns_same_none : (m : Meaning P T R E A S) (a : Start P T E A) → TurnsSame m a m a
@@ -38,8 +38,8 @@ called_same m again m' again' h true = let x = h.meaning in record { whole = h.l
 called_same m again m' again' h false = let x = h.meaning in record { whole = x.whole; rest = x.rest; lost = x.lost; keeps = x.keeps; puts_back = x.puts_back; lean = x.lean; adds = x.adds; refuses = x.refuses; refuses_from = x.refuses_from }
 
 module _ {P T R A S E : Type 0} (w : World P T S E) (b : Bounds) (ending : A → Bool) (m : Meaning P T R E A S) where
-  pub judged_by : (r : Run P T S) (place : Place) (x : A × Bool) (a : A) (k goes i : Bool) → x ≡ (a, k) → Accepts w m r a k → ending x.0 ≡ false → ((n : ℕ) → Takes w.step n r.old r.new → goes ≡ goes_at b place n x.1) → goes ≡ i → Judged w b ending m r place x i
-  judged_by r place x a k goes i e p o s j = let q : Accepts w m r x.0 x.1 = rw e p in record { accepts = q; on = o; says = sym j ∙ s q.count q.taken }
+  pub judged_by : (r : Run P T S) (index : TurnIndex) (x : A × Bool) (a : A) (k goes i : Bool) → x ≡ (a, k) → Accepts w m r a k → ending x.0 ≡ false → ((n : ℕ) → Takes w.step n r.old r.new → goes ≡ goes_at b index n x.1) → goes ≡ i → Judged w b ending m r index x i
+  judged_by r index x a k goes i e p o s j = let q : Accepts w m r x.0 x.1 = rw e p in record { accepts = q; on = o; says = sym j ∙ s q.count q.taken }
 
 module _ {P T R A S E : Type 0} (w : World P T S E) (m : Meaning P T R E A S) where
   pub accepts_by : (r : Run P T S) (x : A × Bool) (a : A) (k : Bool) → x ≡ (a, k) → Accepts w m r a k → Accepts w m r x.0 x.1
@@ -58,13 +58,13 @@ module _ {P T R A S E : Type 0} (w : World P T S E) (m : Meaning P T R E A S) (s
 
 -- a turn that needs more, and began where that stands
 module _ {P T R A V S E : Type 0} (w : World P T S E) (b : Bounds) (ending : A → Bool) (c : Collecting A V) (m : Meaning P T R E A S) (stands : View P T → Type 0) (r : Run P T S) (s : stands r.old) where
-  pub needs_on : (t i : Kept V) (e : E) → (w.kind e ≡ kinds.End) × (r.new.is_open ≡ true) → Answers w m r (CommitErr e) → ((k : ℕ) (v : View P T) → stands v → Takes w.step k v r.new → i ≡ record { into = t.into; committed = t.committed; place = cut_at t.place k }) → NeedsMore w b ending c m r t i e
+  pub needs_on : (t i : TurnProgress V) (e : E) → (w.kind e ≡ kinds.End) × (r.new.is_open ≡ true) → Answers w m r (CommitErr e) → ((k : ℕ) (v : View P T) → stands v → Takes w.step k v r.new → i ≡ record { into = t.into; committed = t.committed; index = cut_at t.index k }) → NeedsMore w b ending c m r t i e
   needs_on t i e q p h =
       let a = need_of_more w m r e q.0 (sym (same_mark w m r e p) ∙ q.1) p in
       let x = h a.count r.old s a.taken in
-      record { needs = q; answers = p; place = i.place; cut = λ k y. ap (λ (z : Kept V). z.place) (h k r.old s y); turns = rw x refl }
+      record { needs = q; answers = p; index = i.index; cut = λ k y. ap (λ (z : TurnProgress V). z.index) (h k r.old s y); turns = rw x refl }
 
-module _ {P T R A V S E : Type 0} (w : World P T S E) (b : Bounds) (ending : A → Bool) (c : Collecting A V) (m : Meaning P T R E A S) (t : Kept V) where
+module _ {P T R A V S E : Type 0} (w : World P T S E) (b : Bounds) (ending : A → Bool) (c : Collecting A V) (m : Meaning P T R E A S) (t : TurnProgress V) where
   -- the same where the stream could not be put back
   pub not_put_back : (first : Bool) (state left : S) (old now new : View P T) (before later after : Failures) (e : Tracked E) → Answers w m (record { first = first; state = state; left = left; old = old; new = now; before = before; after = later }) (PeekErr e) → (k : Kind) → (k ≡ kinds.Reset) × Moves w.step now new × (later.resets < after.resets) → before.resets ≤ later.resets → (d : E) → w.kind d ≡ k → HasFailed w b ending c m (record { first = first; state = state; left = left; old = old; new = new; before = before; after = after }) t d
   not_put_back first state left old now new before later after e p k h i d q =
@@ -74,8 +74,8 @@ module _ {P T R A V S E : Type 0} (w : World P T S E) (b : Bounds) (ending : A �
       Unreset (q ∙ h.0) (omega arith) (record { count = y.count + x.count; taken = takes_more w.step y.count x.count old now new y.taken x.taken; state = y.state })
 
 -- a turn that is gathered, and what the next one begins with
-pub gathered_on : {A V Held : Type 0} (held : V → Held) (more : Held → A → Held → Type 0) (b : Bounds) (old joined new : Kept V) (value : A) (most : ℕ) (k : Bool) → IsGathered held more joined value most new → joined ≡ record { into = old.into; committed = old.committed || k; place = old.place } → most ≡ limit b → more (held old.into) value (held new.into) × (so_far held new ≡ record { mark = next_of b old.place; held = held new.into; committed = old.committed || k })
-gathered_on held more b old joined new value most k g e l = let h = rw (e, l) at g in (h.more_held, rw (h.place, h.committed) refl)
+pub gathered_on : {A V Held : Type 0} (held : V → Held) (more : Held → A → Held → Type 0) (b : Bounds) (old joined new : TurnProgress V) (value : A) (most : ℕ) (k : Bool) → IsGathered held more joined value most new → joined ≡ record { into = old.into; committed = old.committed || k; index = old.index } → most ≡ limit b → more (held old.into) value (held new.into) × (so_far held new ≡ record { mark = next_of b old.index; held = held new.into; committed = old.committed || k })
+gathered_on held more b old joined new value most k g e l = let h = rw (e, l) at g in (h.more_held, rw (h.index, h.committed) refl)
 
 -- what a turn of one parser did is what it did of another that means the same
 module _ {P T R A S E : Type 0} (w : World P T S E) (b : Bounds) (ending : A → Bool) (m m' : Meaning P T R E A S) (h : MeansSame m m') (r : Run P T S) where
@@ -89,29 +89,29 @@ module _ {P T R A S E : Type 0} (w : World P T S E) (b : Bounds) (ending : A →
   accepts_same : (x : A × Bool) → Accepts w m' r x.0 x.1 → Accepts w m r x.0 x.1
   accepts_same x a = record { count = a.count; meant = begun_back r.first _ a.meant; taken = a.taken; state = a.state; failures = a.failures }
 
-  judged_same : (place : Place) (x : A × Bool) (i : Bool) → Judged w b ending m' r place x i → Judged w b ending m r place x i
-  judged_same place x i j =
+  judged_same : (index : TurnIndex) (x : A × Bool) (i : Bool) → Judged w b ending m' r index x i → Judged w b ending m r index x i
+  judged_same index x i j =
       let a = j.accepts in
       record { accepts = record { count = a.count; meant = begun_back r.first _ a.meant; taken = a.taken; state = a.state; failures = a.failures }; on = j.on; says = j.says }
 
-  module _ {V : Type 0} (c : Collecting A V) (t : Kept V) where
-    over_same : (n : Kept V) → IsOver w b ending c m' r t n → IsOver w b ending c m r t n
+  module _ {V : Type 0} (c : Collecting A V) (t : TurnProgress V) where
+    over_same : (n : TurnProgress V) → IsOver w b ending c m' r t n → IsOver w b ending c m r t n
     over_same n (Ended x a e q) = Ended x (accepts_same x a) e q
     over_same n (PutBack i y v q) = PutBack i (refuses_same false y) v q
 
     fails_same : (e : E) → HasFailed w b ending c m' r t e → HasFailed w b ending c m r t e
     fails_same e (InTurn q p) = InTurn q (answers_same w m m' h r (CommitErr e) p)
-    fails_same e (TakesNothing x j y) = TakesNothing x (judged_same t.place x false j) y
+    fails_same e (TakesNothing x j y) = TakesNothing x (judged_same t.index x false j) y
     fails_same e (Unstored x a i y) = Unstored x (accepts_same x a) i y
     fails_same e (Untold y i x) = Untold (refuses_same false y) i x
     fails_same e (Unreset i j y) = Unreset i j y
 
-    pub halted_same : (x : Stop V E) → halted w b ending c m' r t x → halted w b ending c m r t x
+    pub halted_same : (x : TurnStop V E) → halted w b ending c m' r t x → halted w b ending c m r t x
     halted_same (stop.Over n) p = over_same n p
     halted_same (stop.Refused n e) p = record { missing = p.missing; answers = answers_same w m m' h r (PeekErr e) p.answers; turns = p.turns }
-    halted_same (stop.More n e) p = record { needs = p.needs; answers = answers_same w m m' h r (CommitErr e) p.answers; place = p.place; cut = p.cut; turns = p.turns }
+    halted_same (stop.More n e) p = record { needs = p.needs; answers = answers_same w m m' h r (CommitErr e) p.answers; index = p.index; cut = p.cut; turns = p.turns }
     halted_same (stop.Failed e) p = fails_same e p
 
-    pub turned_same : (x : Step V E) → OneTurn w b ending c m' r t x → OneTurn w b ending c m r t x
-    turned_same (steps.Goes n) p = let g = p.is in record { is = record { turn = g.turn; judged = judged_same t.place g.turn true g.judged; held = g.held; more = g.more; turns = g.turns } }
+    pub turned_same : (x : TurnStep V E) → OneTurn w b ending c m' r t x → OneTurn w b ending c m r t x
+    turned_same (steps.Goes n) p = let g = p.is in record { is = record { turn = g.turn; judged = judged_same t.index g.turn true g.judged; held = g.held; more = g.more; turns = g.turns } }
     turned_same (steps.Stops why) p = record { is = halted_same why p.is }

@@ -19,19 +19,19 @@ use Rattle.combine_base.specs.declared.error.Tracked.{Tracked}
 use Rattle.combine_base.specs.declared.error.ParseResult.{ParseResult}
 use Rattle.combine_base.specs.declared.error.ParseResult.TheVariants.{CommitErr}
 use Rattle.combine_repeat_turns.specs.declared.turns.Bounds.{Bounds}
-use Rattle.combine_repeat_turns.specs.declared.turns.Bounds.TheVariants.{Any, Joined, Counted}
-use Rattle.combine_repeat_turns.specs.declared.turns.Place.{Place}
-use Rattle.combine_repeat_turns.specs.declared.turns.Stop.{Stop}
-use Rattle.combine_repeat_turns.specs.declared.turns.Stop.TheVariants as stop
-use Rattle.combine_repeat_turns.specs.declared.turns.Turns.{Turns as Kept}
+use Rattle.combine_repeat_turns.specs.declared.turns.Bounds.TheVariants.{Unbounded, OwnFirst, Counted}
+use Rattle.combine_repeat_turns.specs.declared.turns.TurnIndex.{TurnIndex}
+use Rattle.combine_repeat_turns.specs.declared.turns.TurnStop.{TurnStop}
+use Rattle.combine_repeat_turns.specs.declared.turns.TurnStop.TheVariants as stop
+use Rattle.combine_repeat_turns.specs.declared.turns.TurnProgress.{TurnProgress}
 use Rattle.combine_repeat_turns.specs.declared.turns.TurnsState.{TurnsState}
 use Rattle.combine_repeat_turns.specs.declared.turns.Earlier.{Earlier}
-use Rattle.combine_repeat_turns.specs.declared.turns.Earlier.TheVariants.{Nothing, Turns}
+use Rattle.combine_repeat_turns.specs.declared.turns.Earlier.TheVariants.{Nothing, Gathered}
 
 -- the turns that may still take nothing
-abbrev pub idle_turns : Bounds → Place → ℕ
-idle_turns Any g = if g.begun then 1 else 0
-idle_turns (Joined least most) g = if nat_lt g.number 1 then 1 else (if g.begun then 1 else 0)
+abbrev pub idle_turns : Bounds → TurnIndex → ℕ
+idle_turns Unbounded g = if g.begun then 1 else 0
+idle_turns (OwnFirst least most) g = if nat_lt g.number 1 then 1 else (if g.begun then 1 else 0)
 idle_turns (Counted least most) g = most - g.number
 
 both : (a b : Bool) → (a && b) ≡ true → b ≡ true
@@ -68,7 +68,7 @@ at_least_one least = by_test (nat_lt least 1) refl
     by_test false e = let x = ltb-false least 1 e in omega arith
 
 -- a turn that is a block took a token, or it was one that needn't
-pub turns_run_out : {P T : Type 0} {step : P → T → P} (b : Bounds) (g : Place) (n : ℕ) (k : Bool) (u v : View P T) → Takes step n u v → full_at b g ≡ false → goes_at b g n k ≡ true → length v.unread + idle_turns b (next_of b g) < length u.unread + idle_turns b g
+pub turns_run_out : {P T : Type 0} {step : P → T → P} (b : Bounds) (g : TurnIndex) (n : ℕ) (k : Bool) (u v : View P T) → Takes step n u v → full_at b g ≡ false → goes_at b g n k ≡ true → length v.unread + idle_turns b (next_of b g) < length u.unread + idle_turns b g
 turns_run_out b g n k u v t f e = by_bounds b f e
   where
     fewer : length v.unread + n ≡ length u.unread
@@ -86,9 +86,9 @@ turns_run_out b g n k u v t f e = by_bounds b f e
     joined most z false e = rw z (took k g.begun e)
 
     by_bounds : (b : Bounds) → full_at b g ≡ false → goes_at b g n k ≡ true → length v.unread + idle_turns b (next_of b g) < length u.unread + idle_turns b g
-    by_bounds Any f e = took k g.begun e
-    by_bounds (Joined least None) f e = joined (if nat_lt least 1 then 1 else least) (after_one (if nat_lt least 1 then 1 else least) g.number (at_least_one least)) (nat_lt g.number 1) e
-    by_bounds (Joined least (Some most)) f e =
+    by_bounds Unbounded f e = took k g.begun e
+    by_bounds (OwnFirst least None) f e = joined (if nat_lt least 1 then 1 else least) (after_one (if nat_lt least 1 then 1 else least) g.number (at_least_one least)) (nat_lt g.number 1) e
+    by_bounds (OwnFirst least (Some most)) f e =
         let l = ltb-true g.number most (is_not (nat_lt g.number most) f) in
         joined most (after_one most g.number (omega arith)) (nat_lt g.number 1) e
     by_bounds (Counted least most) f e =
@@ -109,13 +109,13 @@ judged_ends n k e i x = rw x refl
 pub resumed_valid : {S : Type 0} (valid : S → Type 0) (r s : S) → r ≡ s → valid s → valid r
 resumed_valid valid r s e d = rw e d
 
-module _ {P T R A V S E : Type 0} (w : World P T S E) (errors : Errors T R P E) (b : Bounds) (ending : A → Bool) (c : Collecting A V) (start : SoFar Place c.Held) (m : Meaning P T R E A S) (again : Start P T E A) where
+module _ {P T R A V S E : Type 0} (w : World P T S E) (errors : Errors T R P E) (b : Bounds) (ending : A → Bool) (c : Collecting A V) (start : SoFar TurnIndex c.Held) (m : Meaning P T R E A S) (again : Start P T E A) where
   -- a call that began so has come to a place where a turn begins so
-  abbrev pub Comes : Bool → TurnsState V S → View P T → Failures → Bool → Bool → S → View P T → Failures → Kept V → Type 0
+  abbrev pub Comes : Bool → TurnsState V S → View P T → Failures → Bool → Bool → S → View P T → Failures → TurnProgress V → Type 0
   Comes first state old before later turn_first turn_state now failures t = Reaches w (fresh_turns w.fresh) (bounded b ending) (bounded_is_rule b ending) c (λ _. again.reads) (called m again later) (turns_from w.step errors b ending c start m again) first state old before turn_first turn_state now failures (so_far c.held t)
 
   -- in first mode the state of the turn that runs doesn't matter
-  pub comes_first : (first : Bool) (state : TurnsState V S) (running : S) (old : View P T) (before : Failures) (from t : Kept V) → so_far c.held from ≡ start → t ≡ (if first then from else kept_or from state.earlier) → (first ≡ false → running ≡ running_turn state) → Comes first state old before false first running old before t
+  pub comes_first : (first : Bool) (state : TurnsState V S) (running : S) (old : View P T) (before : Failures) (from t : TurnProgress V) → so_far c.held from ≡ start → t ≡ (if first then from else kept_or from state.earlier) → (first ≡ false → running ≡ running_turn state) → Comes first state old before false first running old before t
   comes_first true state running old before from t e i j = record {
     progress = rw (i, e) (progress_none w (Turned w.step (bounded b ending) c (λ _. again.reads) m.whole start) old before);
     lost = λ x. absurd (cc);
@@ -127,10 +127,10 @@ module _ {P T R A V S E : Type 0} (w : World P T S E) (errors : Errors T R P E) 
     where
       kept : (k : Earlier V) → so_far c.held (kept_or from k) ≡ so_far_or start c.held k
       kept Nothing = e
-      kept (Turns t) = refl
+      kept (Gathered t) = refl
 
   -- a call in first mode, whatever the state of its turn is
-  pub comes_afresh : (first : Bool) (state : TurnsState V S) (running : S) (old : View P T) (before : Failures) (from t : Kept V) → first ≡ true → so_far c.held from ≡ start → t ≡ (if first then from else kept_or from state.earlier) → Comes first state old before false true running old before t
+  pub comes_afresh : (first : Bool) (state : TurnsState V S) (running : S) (old : View P T) (before : Failures) (from t : TurnProgress V) → first ≡ true → so_far c.held from ≡ start → t ≡ (if first then from else kept_or from state.earlier) → Comes first state old before false true running old before t
   comes_afresh true state running old before from t f e i = comes_first true state running old before from t e i (λ x. absurd (cc))
   comes_afresh false state running old before from t f e i = absurd (cc)
 
@@ -140,11 +140,11 @@ module _ {P T R A V S E : Type 0} (w : World P T S E) (errors : Errors T R P E) 
   turn_reads valid h later false s k = h.meaning.rest s k
 
   -- a turn that is a block: the next one runs, in first mode
-  pub comes_on : (valid : S → Type 0) → IsTurn w.fresh valid m again → (first : Bool) (state : TurnsState V S) (old : View P T) (before : Failures) (later : Bool) (r : Run P T S) (t n : Kept V) → Comes first state old before later r.first r.state r.old r.before t → full_at b t.place ≡ false → valid r.state → GoesOn w b ending c (called m again later) r t n → (s : S) → Comes first state old before true true s r.new r.after n
+  pub comes_on : (valid : S → Type 0) → IsTurn w.fresh valid m again → (first : Bool) (state : TurnsState V S) (old : View P T) (before : Failures) (later : Bool) (r : Run P T S) (t n : TurnProgress V) → Comes first state old before later r.first r.state r.old r.before t → full_at b t.index ≡ false → valid r.state → GoesOn w b ending c (called m again later) r t n → (s : S) → Comes first state old before true true s r.new r.after n
   comes_on valid h first state old before later r t n z nf d g s =
       let u : Run P T (TurnsState V S) = record { first = first; state = state; left = state; old = old; new = old; before = before; after = before } in
       record {
-        progress = rw g.turns (turn_goes w (fresh_turns w.fresh) (bounded b ending) (bounded_is_rule b ending) c (λ _. again.reads) (called m again later) (turns_from w.step errors b ending c start m again) u r (so_far c.held t) z nf (turn_reads valid h later r.first r.state d) g.turn.0 g.turn.1 g.held g.judged.accepts (judged_goes g.judged.accepts.count g.turn.1 (ending g.turn.0) (goes_at b t.place g.judged.accepts.count g.turn.1) g.judged.on g.judged.says) g.more);
+        progress = rw g.turns (turn_goes w (fresh_turns w.fresh) (bounded b ending) (bounded_is_rule b ending) c (λ _. again.reads) (called m again later) (turns_from w.step errors b ending c start m again) u r (so_far c.held t) z nf (turn_reads valid h later r.first r.state d) g.turn.0 g.turn.1 g.held g.judged.accepts (judged_goes g.judged.accepts.count g.turn.1 (ending g.turn.0) (goes_at b t.index g.judged.accepts.count g.turn.1) g.judged.on g.judged.says) g.more);
         lost = λ y. absurd (cc);
       }
 
@@ -153,7 +153,7 @@ module _ {P T R A V S E : Type 0} (w : World P T S E) (errors : Errors T R P E) 
   accepted_answer u v false x = record { is = x }
 
   -- no turn runs any more
-  pub comes_full : (u : Run P T (TurnsState V S)) (later turn_first : Bool) (s : S) (t : Kept V) → Comes u.first u.state u.old u.before later turn_first s u.new u.after t → full_at b t.place ≡ true → fresh_turns w.fresh u.left → (result : ParseResult V E) → result ≡ accepted_as t.committed t.into → Answers (around w (fresh_turns w.fresh)) (turns_from w.step errors b ending c start m again) u result
+  pub comes_full : (u : Run P T (TurnsState V S)) (later turn_first : Bool) (s : S) (t : TurnProgress V) → Comes u.first u.state u.old u.before later turn_first s u.new u.after t → full_at b t.index ≡ true → fresh_turns w.fresh u.left → (result : ParseResult V E) → result ≡ accepted_as t.committed t.into → Answers (around w (fresh_turns w.fresh)) (turns_from w.step errors b ending c start m again) u result
   comes_full u later turn_first s t z f l result e =
       let running = begun (called m again later) turn_first s in
       let p = z.progress in
@@ -167,7 +167,7 @@ module _ {P T R A V S E : Type 0} (w : World P T S E) (errors : Errors T R P E) 
         failures = p.failures;
       }))
 
-  module _ (u : Run P T (TurnsState V S)) (later : Bool) (r : Run P T S) (t : Kept V) (z : Comes u.first u.state u.old u.before later r.first r.state r.old r.before t) (nf : full_at b t.place ≡ false) where
+  module _ (u : Run P T (TurnsState V S)) (later : Bool) (r : Run P T S) (t : TurnProgress V) (z : Comes u.first u.state u.old u.before later r.first r.state r.old r.before t) (nf : full_at b t.index ≡ false) where
     -- why no turn runs any more is what the call answers
     module _ (state : TurnsState V S) (cleared : state.earlier ≡ Nothing) (running : state.running ≡ r.left) (new : u.new ≡ r.new) (failures : u.after ≡ r.after) (reads : u.before.reads ≤ r.before.reads) (resets : u.before.resets ≤ r.before.resets) where
       settled : u.left ≡ state → w.fresh r.left → fresh_turns w.fresh u.left
@@ -176,15 +176,15 @@ module _ {P T R A V S E : Type 0} (w : World P T S E) (errors : Errors T R P E) 
       ends : u.left ≡ state → Ends w (fresh_turns w.fresh) (bounded b ending) (bounded_is_rule b ending) c (λ _. again.reads) (called m again later) (turns_from w.step errors b ending c start m again) u r (so_far c.held t) z nf
       ends l = record { new = new; state = settled l; failures = λ _. failures }
 
-      comes_over : (n : Kept V) → IsOver w b ending c (called m again later) r t n → u.left ≡ state → Answers (around w (fresh_turns w.fresh)) (turns_from w.step errors b ending c start m again) u (accepted_as n.committed n.into)
+      comes_over : (n : TurnProgress V) → IsOver w b ending c (called m again later) r t n → u.left ≡ state → Answers (around w (fresh_turns w.fresh)) (turns_from w.step errors b ending c start m again) u (accepted_as n.committed n.into)
       comes_over n (PutBack i y v q) l = rw q (turn_ends w (fresh_turns w.fresh) (bounded b ending) (bounded_is_rule b ending) c (λ _. again.reads) (called m again later) (turns_from w.step errors b ending c start m again) u r (so_far c.held t) z nf t.into _ (ap (λ x. refused_at x false) i) refl refl y (new ∙ v) (settled l) (λ _. failures))
-      comes_over n (Ended x a i q) l = rw q (accepted_answer u t.into (t.committed || x.1) (turn_accepts w (fresh_turns w.fresh) (bounded b ending) (bounded_is_rule b ending) c (λ _. again.reads) (called m again later) (turns_from w.step errors b ending c start m again) u r (so_far c.held t) z nf (Accepted x.0 a.count x.1) a.count x.1 t.into a.meant (judged_ends a.count x.1 (ending x.0) (goes_at b t.place a.count x.1) i) refl (rw new a.taken) (settled l a.state) (λ _. failures) a.failures))
+      comes_over n (Ended x a i q) l = rw q (accepted_answer u t.into (t.committed || x.1) (turn_accepts w (fresh_turns w.fresh) (bounded b ending) (bounded_is_rule b ending) c (λ _. again.reads) (called m again later) (turns_from w.step errors b ending c start m again) u r (so_far c.held t) z nf (Accepted x.0 a.count x.1) a.count x.1 t.into a.meant (judged_ends a.count x.1 (ending x.0) (goes_at b t.index a.count x.1) i) refl (rw new a.taken) (settled l a.state) (λ _. failures) a.failures))
 
-      comes_refused : (n : Kept V) (e : Tracked E) → IsRefused w b ending c (called m again later) r t n e → u.left ≡ state → Answers (around w (fresh_turns w.fresh)) (turns_from w.step errors b ending c start m again) u (stopped_answer (stop.Refused n e))
+      comes_refused : (n : TurnProgress V) (e : Tracked E) → IsRefused w b ending c (called m again later) r t n e → u.left ≡ state → Answers (around w (fresh_turns w.fresh)) (turns_from w.step errors b ending c start m again) u (stopped_answer (stop.Refused n e))
       comes_refused n e p l = rw p.turns (turn_peeks w (fresh_turns w.fresh) (bounded b ending) (bounded_is_rule b ending) c (λ _. again.reads) (called m again later) (turns_from w.step errors b ending c start m again) u r (so_far c.held t) z nf e _ (ap (λ x. refused_at x false) p.missing) refl p.answers (ends l))
 
       -- the turns so far are kept, and the turn that runs
-      comes_more : (n : Kept V) (e : E) → NeedsMore w b ending c (called m again later) r t n e → u.left ≡ record { earlier = Turns n; running = state.running } → Answers (around w (fresh_turns w.fresh)) (turns_from w.step errors b ending c start m again) u (CommitErr e)
+      comes_more : (n : TurnProgress V) (e : E) → NeedsMore w b ending c (called m again later) r t n e → u.left ≡ record { earlier = Gathered n; running = state.running } → Answers (around w (fresh_turns w.fresh)) (turns_from w.step errors b ending c start m again) u (CommitErr e)
       comes_more n e p l = needs w (fresh_turns w.fresh) (called m again later) (turns_from w.step errors b ending c start m again) r u e p.needs p.answers (takes_open w.step z.progress.count u.old r.old z.progress.taken) asks
         where
           asks : Asks w (called m again later) r → Asks (around w (fresh_turns w.fresh)) (turns_from w.step errors b ending c start m again) u
@@ -209,19 +209,19 @@ module _ {P T R A V S E : Type 0} (w : World P T S E) (errors : Errors T R P E) 
       })
       comes_fails e (TakesNothing x j y) l =
           let a = j.accepts in
-          turn_told w (fresh_turns w.fresh) (bounded b ending) (bounded_is_rule b ending) c (λ _. again.reads) (called m again later) (turns_from w.step errors b ending c start m again) u r (so_far c.held t) z nf (Accepted x.0 a.count x.1) e a.meant (judged_nothing a.count x.1 (ending x.0) (goes_at b t.place a.count x.1) j.on j.says) y (ends l) (record { count = a.count; taken = a.taken; state = a.state }) a.failures
+          turn_told w (fresh_turns w.fresh) (bounded b ending) (bounded_is_rule b ending) c (λ _. again.reads) (called m again later) (turns_from w.step errors b ending c start m again) u r (so_far c.held t) z nf (Accepted x.0 a.count x.1) e a.meant (judged_nothing a.count x.1 (ending x.0) (goes_at b t.index a.count x.1) j.on j.says) y (ends l) (record { count = a.count; taken = a.taken; state = a.state }) a.failures
       comes_fails e (Unstored x a i y) l = turn_unstored w (fresh_turns w.fresh) (bounded b ending) (bounded_is_rule b ending) c (λ _. again.reads) (called m again later) (turns_from w.step errors b ending c start m again) u r (so_far c.held t) z nf e i (λ q. y q.1) (ends l) (record { count = a.count; taken = a.taken; state = a.state })
       comes_fails e (Untold y i x) l = record { is = rw i (λ f q. x f, record { count = z.progress.count + y.leaves.count; taken = takes_more w.step z.progress.count y.leaves.count u.old r.old u.new z.progress.taken (rw new y.leaves.taken); state = settled l y.leaves.state }) }
       comes_fails e (Unreset i j y) l = turn_unreset w (fresh_turns w.fresh) (bounded b ending) (bounded_is_rule b ending) c (λ _. again.reads) (called m again later) (turns_from w.step errors b ending c start m again) u r (so_far c.held t) z nf e i (rw failures (omega arith)) (ends l) y
 
-      pub comes_stopped : (why : Stop V E) → halted w b ending c (called m again later) r t why → u.left ≡ stopped_state why state → Answers (around w (fresh_turns w.fresh)) (turns_from w.step errors b ending c start m again) u (stopped_answer why)
+      pub comes_stopped : (why : TurnStop V E) → halted w b ending c (called m again later) r t why → u.left ≡ stopped_state why state → Answers (around w (fresh_turns w.fresh)) (turns_from w.step errors b ending c start m again) u (stopped_answer why)
       comes_stopped (stop.Over n) p l = comes_over n p l
       comes_stopped (stop.Refused n e) p l = comes_refused n e p l
       comes_stopped (stop.More n e) p l = comes_more n e p l
       comes_stopped (stop.Failed e) p l = comes_fails e p l
 
-pub goes_out : {P T R A V S E : Type 0} (w : World P T S E) (b : Bounds) (ending : A → Bool) (c : Collecting A V) (m : Meaning P T R E A S) (r : Run P T S) (t n : Kept V) → full_at b t.place ≡ false → GoesOn w b ending c m r t n → length r.new.unread + idle_turns b n.place < length r.old.unread + idle_turns b t.place
+pub goes_out : {P T R A V S E : Type 0} (w : World P T S E) (b : Bounds) (ending : A → Bool) (c : Collecting A V) (m : Meaning P T R E A S) (r : Run P T S) (t n : TurnProgress V) → full_at b t.index ≡ false → GoesOn w b ending c m r t n → length r.new.unread + idle_turns b n.index < length r.old.unread + idle_turns b t.index
 goes_out w b ending c m r t n nf g =
-    let e : n.place ≡ next_of b t.place = ap (λ (x : SoFar Place c.Held). x.mark) g.turns in
+    let e : n.index ≡ next_of b t.index = ap (λ (x : SoFar TurnIndex c.Held). x.mark) g.turns in
     let a = g.judged.accepts in
-    rw e (turns_run_out b t.place a.count g.turn.1 r.old r.new a.taken nf (sym g.judged.says))
+    rw e (turns_run_out b t.index a.count g.turn.1 r.old r.new a.taken nf (sym g.judged.says))

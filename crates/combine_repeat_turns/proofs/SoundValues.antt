@@ -12,9 +12,9 @@ use Rattle.combine_repeat_turns.specs.Turns.SoundValues.{KeepsSound, LeavesSound
 use Rattle.combine_repeat_turns.specs.Turns.FirstTurn.{FirstGoes}
 use Rattle.combine_repeat_turns.specs.Turns.OneTurn.{GoesOn, IsOver, Ended, PutBack, halted, stopped_answer, stopped_state}
 use Rattle.combine_repeat_turns.specs.declared.turns.Bounds.{Bounds}
-use Rattle.combine_repeat_turns.specs.declared.turns.Stop.{Stop}
-use Rattle.combine_repeat_turns.specs.declared.turns.Stop.TheVariants as stop
-use Rattle.combine_repeat_turns.specs.declared.turns.Turns.{Turns as Kept}
+use Rattle.combine_repeat_turns.specs.declared.turns.TurnStop.{TurnStop}
+use Rattle.combine_repeat_turns.specs.declared.turns.TurnStop.TheVariants as stop
+use Rattle.combine_repeat_turns.specs.declared.turns.TurnProgress.{TurnProgress}
 use Rattle.combine_repeat_turns.specs.declared.turns.TurnsState.{TurnsState}
 use Rattle.combine_repeat_turns.specs.declared.turns.Earlier.TheVariants.{Nothing}
 
@@ -31,14 +31,14 @@ module _ {P T R A S E : Type 0} (w : World P T S E) (valid : S → Type 0) (m : 
 
 -- what is held stays sound
 module _ {P T R A V S E : Type 0} (w : World P T S E) (c : Collecting A V) (able : A → Type 0) (sound : c.Held → Type 0) (h : KeepsSound c.none c.more able sound) (m : Meaning P T R E A S) (r : Run P T S) where
-  pub first_sound : (n : Kept V) → (g : FirstGoes w c c.none m r n) → able g.turn.0 → sound (c.held n.into)
+  pub first_sound : (n : TurnProgress V) → (g : FirstGoes w c c.none m r n) → able g.turn.0 → sound (c.held n.into)
   first_sound n g a = let e = ap (λ x. x.held) g.turns in rw e (h.stays c.none g.turn.0 g.held h.begins a g.more)
 
-  module _ (b : Bounds) (ending : A → Bool) (old : Kept V) (s : sound (c.held old.into)) where
-    pub goes_sound : (n : Kept V) → (g : GoesOn w b ending c m r old n) → able g.turn.0 → sound (c.held n.into)
+  module _ (b : Bounds) (ending : A → Bool) (old : TurnProgress V) (s : sound (c.held old.into)) where
+    pub goes_sound : (n : TurnProgress V) → (g : GoesOn w b ending c m r old n) → able g.turn.0 → sound (c.held n.into)
     goes_sound n g a = let e = ap (λ x. x.held) g.turns in rw e (h.stays (c.held old.into) g.turn.0 g.held s a g.more)
 
-    over_sound : (n : Kept V) → IsOver w b ending c m r old n → sound (c.held n.into)
+    over_sound : (n : TurnProgress V) → IsOver w b ending c m r old n → sound (c.held n.into)
     over_sound n (Ended x a e t) = rw t s
     over_sound n (PutBack i y v t) = rw t s
 
@@ -50,13 +50,13 @@ module _ {P T R A V S E : Type 0} (w : World P T S E) (c : Collecting A V) (able
     refused_sound true t = tt
     refused_sound false t = tt
 
-    stopped : (why : Stop V E) → halted w b ending c m r old why → (state : TurnsState V S) → state.earlier ≡ Nothing → LeavesSound (λ i. sound (c.held i)) (stopped_state why state) (stopped_answer why)
+    stopped : (why : TurnStop V E) → halted w b ending c m r old why → (state : TurnsState V S) → state.earlier ≡ Nothing → LeavesSound (λ i. sound (c.held i)) (stopped_state why state) (stopped_answer why)
     stopped (stop.Over n) p state e = record { kept = λ t i. absurd (cc); value = accepted_sound n.committed n.into (over_sound n p) }
     stopped (stop.Refused n t) p state e = record { kept = λ t i. absurd (cc); value = refused_sound n.committed t }
     stopped (stop.More n x) p state e = record { kept = λ t i. let j = p.turns in let u : n ≡ t = cc in rw (sym u) (rw j s); value = tt }
     stopped (stop.Failed x) p state e = record { kept = λ t i. absurd (cc); value = tt }
 
-    pub stopped_sound : (why : Stop V E) → halted w b ending c m r old why → (state left : TurnsState V S) (result : ParseResult V E) → state.earlier ≡ Nothing → left ≡ stopped_state why state → result ≡ stopped_answer why → LeavesSound (λ i. sound (c.held i)) left result
+    pub stopped_sound : (why : TurnStop V E) → halted w b ending c m r old why → (state left : TurnsState V S) (result : ParseResult V E) → state.earlier ≡ Nothing → left ≡ stopped_state why state → result ≡ stopped_answer why → LeavesSound (λ i. sound (c.held i)) left result
     stopped_sound why p state left result e i j = rw (i, j) (stopped why p state e)
 
 -- nothing is kept

@@ -4,7 +4,7 @@ ghost use Rattle.combine_repeat_turns.specs.Turns.SoundValues.{any_sound};
 ghost use Rattle.combine_repeat_turns.specs.Turns.Turn.{from_start, gives_any, plain_is_turn, plain_once};
 ghost use Rattle.combine_repeat_turns.specs.Repeat.RepeatParsers.{each_of, plain_parser};
 
-use crate::turns::{Collect, Gather, Gathers, Turn};
+use crate::turns::{Collect, Gather, Gathers, TurnParser};
 use combine_base::error::{ParseResult, Tracked};
 use combine_base::parser::{ParseMode, Parser};
 use combine_base::repeat::Append;
@@ -14,9 +14,9 @@ use std::marker::PhantomData;
 
 /// The same parser in each turn.
 #[derive(Clone, Copy, Drop)]
-pub struct Plain<P>(pub P);
+pub struct SameParser<P>(pub P);
 
-impl<Input: Stream, P: Parser<Input>> Turn<Input> for Plain<P> {
+impl<Input: Stream, P: Parser<Input>> TurnParser<Input> for SameParser<P> {
     type Value = P::Output;
 
     type Running = P::PartialState;
@@ -51,7 +51,7 @@ impl<Input: Stream, P: Parser<Input>> Turn<Input> for Plain<P> {
     }
 
     #[inline(always)]
-    fn ends(value: &Self::Value) -> bool {
+    fn is_last(value: &Self::Value) -> bool {
         false
     }
 
@@ -86,7 +86,7 @@ impl<F> Each<F> {
 }
 
 impl<F: Drop> Gathers for Each<F> {
-    type Into = F;
+    type Collection = F;
 }
 
 impl<A, F: Append<A>> Gather<A> for Each<F> {
@@ -138,7 +138,7 @@ impl<A, F: Append<A>> Collect<A> for Each<F> {
 pub struct Dropped;
 
 impl Gathers for Dropped {
-    type Into = ();
+    type Collection = ();
 }
 
 impl<A: Drop> Gather<A> for Dropped {

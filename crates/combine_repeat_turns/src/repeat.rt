@@ -17,7 +17,7 @@ pub mod types;
 
 use crate::each::{Dropped, Each};
 pub use crate::turns::TurnsState;
-use crate::turns::limits::Between;
+use crate::turns::turn_bounds::MinToMax;
 use std::alloc::Global;
 use types::{Count, CountMinMax, Repeat, SkipCount, SkipCountMinMax};
 
@@ -56,10 +56,7 @@ pub fn count_min_max<F, P>(alloc: Global, min: usize, max: usize, parser: P) -> 
     requires { min ≤ max }
     ensures { result ≡ count_min_max_of alloc min max parser }
 {
-    let bounds = Between {
-        least: min,
-        most: max,
-    };
+    let bounds = MinToMax { min, max };
     Repeat::new(Each::new(alloc), parser, bounds)
 }
 
@@ -71,10 +68,7 @@ pub fn skip_count_min_max<P>(min: usize, max: usize, parser: P) -> SkipCountMinM
     requires { min ≤ max }
     ensures { result ≡ skip_count_min_max_of min max parser }
 {
-    let bounds = Between {
-        least: min,
-        most: max,
-    };
+    let bounds = MinToMax { min, max };
     Repeat::new(Dropped, parser, bounds)
 }
 

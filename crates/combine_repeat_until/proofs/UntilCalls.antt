@@ -23,11 +23,11 @@ use Rattle.combine_repeat_turns.specs.Turns.Blocks.{Block, outcome, taken, value
 use Rattle.combine_repeat_until.specs.Until.{block_at, until_judged, until_rule, stop_at, stopped_at, Until, no_blocks, blocks_so_far, until_fresh, until_valid, until_is_rule, until_into, until, until_lost}
 use Rattle.combine_repeat_until.specs.UntilTurn.{Afresh, HandsOut, handed, Comes, GoesOn, EndsHere, NeedsMore, HasFailed, InTurn, TakesNothing, Unstored, Unreset, OneTurn, halted, turned, HasKept, HasBroken, Keeps, KeepsRunning, Settled}
 use Rattle.combine_repeat_until.specs.declared.until.Blocks.{Blocks}
-use Rattle.combine_repeat_until.specs.declared.until.Kept.{Kept}
-use Rattle.combine_repeat_until.specs.declared.until.Step.{Step}
-use Rattle.combine_repeat_until.specs.declared.until.Step.TheVariants as steps
-use Rattle.combine_repeat_until.specs.declared.until.Stop.{Stop}
-use Rattle.combine_repeat_until.specs.declared.until.Stop.TheVariants as stop
+use Rattle.combine_repeat_until.specs.declared.until.KeptBlocks.{KeptBlocks}
+use Rattle.combine_repeat_until.specs.declared.until.BlockStep.{BlockStep}
+use Rattle.combine_repeat_until.specs.declared.until.BlockStep.TheVariants as steps
+use Rattle.combine_repeat_until.specs.declared.until.BlockStop.{BlockStop}
+use Rattle.combine_repeat_until.specs.declared.until.BlockStop.TheVariants as stop
 use Rattle.combine_repeat_until.specs.declared.until.UntilState.{UntilState}
 use Rattle.combine_repeat_until.specs.declared.until.UntilState.TheVariants.{Begin, At}
 
@@ -84,7 +84,7 @@ module _ {P T R A V S E : Type 0} (w : World P T S E) (errors : Errors T R P E) 
 
   -- where a call begins
   module _ {C : Type 0} (fresh valid : S → Type 0) (h : IsMeaning fresh valid m) (old now : View P T) (earlier later : Failures) (marks : C → View P T → Type 0) (place : C) where
-    from_nothing : (k : Kept V S) (into : V) → Afresh fresh into k → c.held into ≡ c.none → (b : Bool) (v : View P T) (o : Outcome V) → Until w.step c m.whole k.before k.beyond (begun m b k.running) (blocks_so_far c.held k.blocks) v o → Until w.step c m.whole 0 0 m.whole (no_blocks c.none) v o
+    from_nothing : (k : KeptBlocks V S) (into : V) → Afresh fresh into k → c.held into ≡ c.none → (b : Bool) (v : View P T) (o : Outcome V) → Until w.step c m.whole k.before k.beyond (begun m b k.running) (blocks_so_far c.held k.blocks) v o → Until w.step c m.whole 0 0 m.whole (no_blocks c.none) v o
     from_nothing k into a e b v o u =
         let s : blocks_so_far c.held k.blocks ≡ no_blocks c.none = rw a.blocks (rw e refl) in
         until_into w.step c m.whole m.whole (λ v o x. x) 0 0 (begun m b k.running) m.whole (whole_from b) (no_blocks c.none) v o (rw (a.before, a.beyond, s) at u)
@@ -93,18 +93,18 @@ module _ {P T R A V S E : Type 0} (w : World P T S E) (errors : Errors T R P E) 
         whole_from true v o x = x
         whole_from false v o x = (h.start k.running v o a.running).0 x
 
-    pub starts : (first : Bool) (state : UntilState V S) (k : Kept V S) (into : V) → handed fresh into first state k → c.held into ≡ c.none → (v : View P T) (o : Outcome V) → Until w.step c m.whole k.before k.beyond (begun m first k.running) (blocks_so_far c.held k.blocks) v o → begun (until w.step errors c m) first state v o
+    pub starts : (first : Bool) (state : UntilState V S) (k : KeptBlocks V S) (into : V) → handed fresh into first state k → c.held into ≡ c.none → (v : View P T) (o : Outcome V) → Until w.step c m.whole k.before k.beyond (begun m first k.running) (blocks_so_far c.held k.blocks) v o → begun (until w.step errors c m) first state v o
     starts true state k into a e v o u = from_nothing k into a e true v o u
     starts false Begin k into a e v o u = from_nothing k into a e false v o u
     starts false (At j) k into a e v o u = let f : k ≡ j = a in subst (λ k. Until w.step c m.whole k.before k.beyond (m.rest k.running) (blocks_so_far c.held k.blocks) v o) f u
 
-    loses_first : (first : Bool) (state : UntilState V S) (k : Kept V S) (into : V) → handed fresh into first state k → first ≡ false → (v : View P T) → Loses w.step (k.before + k.beyond) (m.lost k.running) v → until_lost w.step c m state v
+    loses_first : (first : Bool) (state : UntilState V S) (k : KeptBlocks V S) (into : V) → handed fresh into first state k → first ≡ false → (v : View P T) → Loses w.step (k.before + k.beyond) (m.lost k.running) v → until_lost w.step c m state v
     loses_first true state k into a e v l = absurd (cc)
     loses_first false Begin k into a e v (Short l) = let x = a.before in let y = a.beyond in absurd (omega arith)
     loses_first false Begin k into a e v (Within l) = absurd (h.found k.running _ a.running l)
     loses_first false (At j) k into a e v l = let f : k ≡ j = a in subst (λ k. Loses w.step (k.before + k.beyond) (m.lost k.running) v) f l
 
-    pub reaches_first : (first : Bool) (state : UntilState V S) (k : Kept V S) (into : V) (blocks : Blocks V) (t : Bool) → HandsOut fresh into first state k → c.held into ≡ c.none → Comes w.steady w.step marks old now earlier later k.before k.beyond place → blocks ≡ record { into = k.blocks.into; committed = k.blocks.committed || t; begun = k.blocks.begun } → t ≡ nat_lt 0 k.before → earlier.reads ≤ later.reads → earlier.resets ≤ later.resets → (at : View P T) → Takes w.step k.before old at → Takes w.step k.beyond at now → Reaches first state old earlier first k.running at now later (blocks_so_far c.held blocks)
+    pub reaches_first : (first : Bool) (state : UntilState V S) (k : KeptBlocks V S) (into : V) (blocks : Blocks V) (t : Bool) → HandsOut fresh into first state k → c.held into ≡ c.none → Comes w.steady w.step marks old now earlier later k.before k.beyond place → blocks ≡ record { into = k.blocks.into; committed = k.blocks.committed || t; begun = k.blocks.begun } → t ≡ nat_lt 0 k.before → earlier.reads ≤ later.reads → earlier.resets ≤ later.resets → (at : View P T) → Takes w.step k.before old at → Takes w.step k.beyond at now → Reaches first state old earlier first k.running at now later (blocks_so_far c.held blocks)
     reaches_first first state k into blocks t a e q f g x y at i j = record {
       before = k.before;
       beyond = k.beyond;
@@ -384,14 +384,14 @@ module _ {P T R A V S E : Type 0} (w : World P T S E) (errors : Errors T R P E) 
         by_kept (inr q) = rw q.answer (record { is = broken (w.kind q.error) q.broke x y (record { count = q.moves.count; taken = q.moves.taken; state = q.state ∙ k }) })
 
     -- what blocks answer that stop so
-    pub until_settled : (marked begins stood : View P T → Type 0) (why : Stop V E) (given : UntilState V S) (result : ParseResult V E) → halted w m c r marked b why → Settled w.steady w.step w.kind begins stood r.new u.new r.after u.after r.left given u.left result why → given ≡ Begin → marked place → begins u.old → stood place → r.before.reads ≤ r.after.reads → r.before.resets ≤ r.after.resets → Answers (around w until_fresh) (until w.step errors c m) u result
-    until_settled marked begins stood (stop.Ends n) given result h s g i j k x y = let q = s.is.1 in rw s.is.0 (until_ends marked n h i (record { new = q.view; left = q.state ∙ g; after = q.failures }))
+    pub until_settled : (marked begins stood : View P T → Type 0) (why : BlockStop V E) (given : UntilState V S) (result : ParseResult V E) → halted w m c r marked b why → Settled w.steady w.step w.kind begins stood r.new u.new r.after u.after r.left given u.left result why → given ≡ Begin → marked place → begins u.old → stood place → r.before.reads ≤ r.after.reads → r.before.resets ≤ r.after.resets → Answers (around w until_fresh) (until w.step errors c m) u result
+    until_settled marked begins stood (stop.Over n) given result h s g i j k x y = let q = s.is.1 in rw s.is.0 (until_ends marked n h i (record { new = q.view; left = q.state ∙ g; after = q.failures }))
     until_settled marked begins stood (stop.Refused t) given result h s g i j k x y = let q = s.is.1 in rw s.is.0 (until_refused t h (record { new = q.view; left = q.state ∙ g; after = q.failures }))
     until_settled marked begins stood (stop.More n e) given result h s g i j k x y = until_more marked begins stood n e given result h j k s.is g x y
     until_settled marked begins stood (stop.Failed e) given result h s g i j k x y = let q = s.is.1 in rw s.is.0 (until_fails marked e h (record { new = q.view; left = q.state ∙ g; after = q.failures }))
 
   -- the kept distances could not be passed over
-  pub until_short : (fresh valid : S → Type 0) → IsMeaning fresh valid m → (u : Run P T (UntilState V S)) (k : Kept V S) (into : V) → HandsOut fresh into u.first u.state k → (j i : Kind) (e : E) → i ≡ losing j → w.kind e ≡ i → stops w.steady w.step u.old u.new u.before u.after (k.before + k.beyond) j → Moves w.step u.old u.new → u.left ≡ Begin → Answers (around w until_fresh) (until w.step errors c m) u (CommitErr e)
+  pub until_short : (fresh valid : S → Type 0) → IsMeaning fresh valid m → (u : Run P T (UntilState V S)) (k : KeptBlocks V S) (into : V) → HandsOut fresh into u.first u.state k → (j i : Kind) (e : E) → i ≡ losing j → w.kind e ≡ i → stops w.steady w.step u.old u.new u.before u.after (k.before + k.beyond) j → Moves w.step u.old u.new → u.left ≡ Begin → Answers (around w until_fresh) (until w.step errors c m) u (CommitErr e)
   until_short fresh valid h u k into a j i e q f s t l = record { is = rw (f, q) (by_kind j s) }
     where
       left : Leaves (around w until_fresh) u
@@ -400,7 +400,7 @@ module _ {P T R A V S E : Type 0} (w : World P T S E) (errors : Errors T R P E) 
       short : (b : Bool) (state : UntilState V S) → handed fresh into b state k → length u.old.unread < k.before + k.beyond → (b ≡ false) × until_lost w.step c m state u.old
       short true state a y = let p = a.before in let q = a.beyond in absurd (omega arith)
       short false Begin a y = let p = a.before in let q = a.beyond in absurd (omega arith)
-      short false (At d) a y = let g : k ≡ d = a in (refl, Short (subst (λ (n : Kept V S). length u.old.unread < n.before + n.beyond) g y))
+      short false (At d) a y = let g : k ≡ d = a in (refl, Short (subst (λ (n : KeptBlocks V S). length u.old.unread < n.before + n.beyond) g y))
 
       loses_by : (b : Bool) → (b ≡ false) × until_lost w.step c m u.state u.old → loses (around w until_fresh) (until w.step errors c m) u b
       loses_by true y = absurd (let g = y.0 in cc)
@@ -429,28 +429,28 @@ module _ {P T R A V S E : Type 0} (w : World P T S E) (c : Collecting (Option A)
   fails_back e (Unstored i a l) = Unstored i a l
   fails_back e (Unreset i a l) = Unreset i a l
 
-  halted_back : (why : Stop V E) → halted w m' c r marked b why → halted w m c r marked b why
-  halted_back (stop.Ends n) p = record { count = p.count; committed = p.committed; meant = begun_back r.first _ p.meant; state = p.state; failures = p.failures; back = p.back; blocks = p.blocks }
+  halted_back : (why : BlockStop V E) → halted w m' c r marked b why → halted w m c r marked b why
+  halted_back (stop.Over n) p = record { count = p.count; committed = p.committed; meant = begun_back r.first _ p.meant; state = p.state; failures = p.failures; back = p.back; blocks = p.blocks }
   halted_back (stop.Refused t) p = answers_same w m m' h r (PeekErr t) p
   halted_back (stop.More n e) p = record { needs = p.needs; answers = answers_same w m m' h r (CommitErr e) p.answers; begun_so = p.begun_so; cut = p.cut; blocks = p.blocks }
   halted_back (stop.Failed e) p = fails_back e p
 
-  turned_back : (x : Step V E) → turned w m' c r marked b x → turned w m c r marked b x
+  turned_back : (x : BlockStep V E) → turned w m' c r marked b x → turned w m c r marked b x
   turned_back (steps.Goes n) p = record { value = p.value; committed = p.committed; accepts = accepts_back (Some p.value) p.committed p.accepts; takes = p.takes; held = p.held; more = p.more; blocks = p.blocks }
   turned_back (steps.Stops why) p = halted_back why p
 
-  pub turn_back : (x : Step V E) → OneTurn w m' c r marked b x → OneTurn w m c r marked b x
+  pub turn_back : (x : BlockStep V E) → OneTurn w m' c r marked b x → OneTurn w m c r marked b x
   turn_back x p = record { is = turned_back x p.is }
 
 pub begun_reads : {P T R E A S : Type 0} (fresh valid : S → Type 0) (m : Meaning P T R E A S) → IsMeaning fresh valid m → (first : Bool) (s : S) → valid s → IsReading (begun m first s)
 begun_reads fresh valid m h true s v = h.whole
 begun_reads fresh valid m h false s v = h.rest s v
 
-module _ {V S : Type 0} (fresh valid : S → Type 0) (h : (s : S) → fresh s → valid s) (into : V) (k : Kept V S) where
+module _ {V S : Type 0} (fresh valid : S → Type 0) (h : (s : S) → fresh s → valid s) (into : V) (k : KeptBlocks V S) where
   handed_so : (first : Bool) (state : UntilState V S) → handed fresh into first state k → until_valid valid state → valid k.running
   handed_so true state a v = h k.running a.running
   handed_so false Begin a v = h k.running a.running
-  handed_so false (At j) a v = subst (λ (i : Kept V S). valid i.running) (sym a) v
+  handed_so false (At j) a v = subst (λ (i : KeptBlocks V S). valid i.running) (sym a) v
 
   -- what is handed out is valid
   pub handed_valid : (first : Bool) (state : UntilState V S) → HandsOut fresh into first state k → until_valid valid state → valid k.running
@@ -460,6 +460,6 @@ module _ {V S : Type 0} (fresh valid : S → Type 0) (h : (s : S) → fresh s �
 pub running_valid : {V S : Type 0} (valid : S → Type 0) (running : S) (given left : UntilState V S) → valid running → given ≡ Begin → KeepsRunning running given left → until_valid valid left
 running_valid valid running given left v g k = by_case k.is
   where
-    by_case : (left ≡ given) ⊎ ((k : Kept _ _) × (left ≡ At k) × (k.running ≡ running)) → until_valid valid left
+    by_case : (left ≡ given) ⊎ ((k : KeptBlocks _ _) × (left ≡ At k) × (k.running ≡ running)) → until_valid valid left
     by_case (inl e) = rw (e, g) tt
     by_case (inr e) = rw (e.1, e.2) v

@@ -25,10 +25,10 @@ use Rattle.combine_repeat_turns.specs.Turns.Blocks.{Block, Collecting}
 use Rattle.combine_repeat_until.specs.Until.{block_at, RefusesUntil, blocks_refuse, place_refuses, blocks_into, place_into, until}
 use Rattle.combine_repeat_until.specs.UntilTurn.{Afresh, HandsOut, handed, NeedsMore, HasKept, HasBroken, Keeps, RefusesTurn, Settled, halted, stop_says}
 use Rattle.combine_repeat_until.specs.declared.until.Blocks.{Blocks}
-use Rattle.combine_repeat_until.specs.declared.until.Kept.{Kept}
-use Rattle.combine_repeat_until.specs.declared.until.Step.TheVariants as steps
-use Rattle.combine_repeat_until.specs.declared.until.Stop.{Stop}
-use Rattle.combine_repeat_until.specs.declared.until.Stop.TheVariants as stop
+use Rattle.combine_repeat_until.specs.declared.until.KeptBlocks.{KeptBlocks}
+use Rattle.combine_repeat_until.specs.declared.until.BlockStep.TheVariants as steps
+use Rattle.combine_repeat_until.specs.declared.until.BlockStop.{BlockStop}
+use Rattle.combine_repeat_until.specs.declared.until.BlockStop.TheVariants as stop
 use Rattle.combine_repeat_until.specs.declared.until.UntilState.{UntilState}
 use Rattle.combine_repeat_until.specs.declared.until.UntilState.TheVariants.{Begin, At}
 
@@ -38,13 +38,13 @@ module _ {P T R A S E : Type 0} (errors : Errors T R P E) (m m' : Meaning P T R 
   started_back true = record { reads = λ v o. (h.whole v o).1; refuses = λ v w k e. (h.refuses v w k e).1 }
   started_back false = record { reads = λ v o. (h.rest from v o).1; refuses = λ v w k e. (h.refuses_from from v w k e).1 }
 
-  stop_back : {V : Type 0} (why : Stop V E) → stop_says errors m' first from begun_so old new why → stop_says errors m first from begun_so old new why
-  stop_back (stop.Ends n) w = tt
+  stop_back : {V : Type 0} (why : BlockStop V E) → stop_says errors m' first from begun_so old new why → stop_says errors m first from begun_so old new why
+  stop_back (stop.Over n) w = tt
   stop_back (stop.Refused t) w = refusal_into errors m' m (MeantRefusal (begun m' first from) (begun_refuses m' first from)) (MeantRefusal (begun m first from) (begun_refuses m first from)) h.lean.0 (λ is. (h.adds is).1) (λ v w k e x. record { meant = (started_back first).reads v (Refused k) x.meant; error = (started_back first).refuses v w k e x.error }) old new t.error w
   stop_back (stop.More n e) w = tt
   stop_back (stop.Failed e) w = λ i. place_into errors m' m h.lean.0 (λ is. (h.adds is).1) (started m' first from) (started m first from) (started_back first) begun_so old new true e (w i)
 
-  pub stop_alike : {V : Type 0} (why : Stop V E) → RefusesTurn errors m' first from begun_so old new (steps.Stops why) → stop_says errors m first from begun_so old new why
+  pub stop_alike : {V : Type 0} (why : BlockStop V E) → RefusesTurn errors m' first from begun_so old new (steps.Stops why) → stop_says errors m first from begun_so old new why
   stop_alike why w = stop_back why w.is
 
 module _ {P T R A S E : Type 0} (m : Meaning P T R E (Option A) S) where
@@ -64,7 +64,7 @@ module _ {P T R A V S E : Type 0} (step : P → T → P) (errors : Errors T R P 
 
   module _ {fresh valid : S → Type 0} (laws : IsMeaning fresh valid m) where
     -- where a call begins
-    module _ (k : Kept V S) (into : V) (old now : View P T) (enough : k.before + k.beyond ≤ length old.unread) (there : now ≡ advanced step (k.before + k.beyond) old) where
+    module _ (k : KeptBlocks V S) (into : V) (old now : View P T) (enough : k.before + k.beyond ≤ length old.unread) (there : now ≡ advanced step (k.before + k.beyond) old) where
       from_nothing : (first : Bool) → Afresh fresh into k → (bs : List (Block (Option A))) (w : View P T) (j : Bool) (e : E) → blocks_refuse step errors m bs (started m first k.running) k.blocks.begun now w j e → RefusesUntil step errors m 0 (from_start m) false old w j e
       from_nothing first a bs w j e x =
           let stays : now ≡ advanced step 0 old = (let x = a.before in let y = a.beyond in there ∙ rw (x, y) refl) in
@@ -77,9 +77,9 @@ module _ {P T R A V S E : Type 0} (step : P → T → P) (errors : Errors T R P 
       first_leads false Begin a bs w j e x = from_nothing false a bs w j e x
       first_leads false (At d) a bs w j e x =
           let here = subst (λ v. blocks_refuse step errors m bs (from_state m k.running) k.blocks.begun v w j e) there x in
-          subst (λ (y : Kept V S). RefusesUntil step errors m (y.before + y.beyond) (from_state m y.running) y.blocks.begun old w j e) a (record { enough = enough; blocks = bs; is = here })
+          subst (λ (y : KeptBlocks V S). RefusesUntil step errors m (y.before + y.beyond) (from_state m y.running) y.blocks.begun old w j e) a (record { enough = enough; blocks = bs; is = here })
 
-    pub leads_first : (first : Bool) (given : UntilState V S) (k : Kept V S) (into : V) (b : Bool) → HandsOut fresh into first given k → b ≡ k.blocks.begun → (old at now : View P T) → Takes step k.before old at → Takes step k.beyond at now → LeadsTo first given old first k.running b now
+    pub leads_first : (first : Bool) (given : UntilState V S) (k : KeptBlocks V S) (into : V) (b : Bool) → HandsOut fresh into first given k → b ≡ k.blocks.begun → (old at now : View P T) → Takes step k.before old at → Takes step k.beyond at now → LeadsTo first given old first k.running b now
     leads_first first given k into b a same old at now i j =
         let t = takes_more step k.before k.beyond old at now i j in
         record { refuses = λ bs w c e x. first_leads k into old now t.enough t.rest first given a.is bs w c e (subst (λ d. blocks_refuse step errors m bs (started m first k.running) d now w c e) same x) }
@@ -133,8 +133,8 @@ module _ {P T R A V S E : Type 0} (step : P → T → P) (errors : Errors T R P 
           rw q.answer (reasons_need errors.kind new.is_open says e p.needs.0 mark)
       by_kept (inr q) = rw q.answer (broken_reasons errors.kind new.is_open says q.error (errors.kind q.error) r.after after refl q.broke)
 
-  pub settled_reasons : (begins stood : View P T → Type 0) (why : Stop V E) (none left : UntilState V S) (result : ParseResult V E) → halted part m c r marked b why → stop_says errors m r.first r.state b.begun r.old r.new why → Settled steady step errors.kind begins stood r.new new r.after after r.left none left result why → (place : View P T) → begins old → stood place → (before beyond : ℕ) → Takes step before old place → Takes step beyond place r.old → Reasoned errors.kind new.is_open says result
-  settled_reasons begins stood (stop.Ends n) none left result h x s place i j before beyond there on = reasons_accepted errors.kind new.is_open says n.committed n.into result s.is.0
+  pub settled_reasons : (begins stood : View P T → Type 0) (why : BlockStop V E) (none left : UntilState V S) (result : ParseResult V E) → halted part m c r marked b why → stop_says errors m r.first r.state b.begun r.old r.new why → Settled steady step errors.kind begins stood r.new new r.after after r.left none left result why → (place : View P T) → begins old → stood place → (before beyond : ℕ) → Takes step before old place → Takes step beyond place r.old → Reasoned errors.kind new.is_open says result
+  settled_reasons begins stood (stop.Over n) none left result h x s place i j before beyond there on = reasons_accepted errors.kind new.is_open says n.committed n.into result s.is.0
   settled_reasons begins stood (stop.Refused t) none left result h x s place i j before beyond there on =
       let own_error = z.refuses [] new false t.error (record { own = x.own; left = x.left; refused = x.refused; back = s.is.1.view ∙ x.back; says = x.says }) in
       rw s.is.0 (reasons_peeked errors.kind new.is_open says t own_error)

@@ -17,7 +17,7 @@ use Rattle.combine_repeat_until.specs.Until.{until, some_dropped}
 use Rattle.combine_repeat_until.specs.declared.mute.Mute.{Mute}
 use Rattle.combine_repeat_until.specs.declared.next.Next.{Next}
 use Rattle.combine_repeat_until.specs.declared.repeat.types.BlocksUntil.{BlocksUntil}
-use Rattle.combine_repeat_until.specs.declared.repeat.types.Skips.{Skips}
+use Rattle.combine_repeat_until.specs.declared.repeat.types.SkipBlocksUntil.{SkipBlocksUntil}
 use Rattle.combine_repeat_until.specs.declared.until.UntilState.{UntilState}
 use Rattle.combine_base.specs.Parser.ValueMap.{mapped}
 use Rattle.combine_base.specs.declared.repeat.Sink.{Sink}
@@ -49,19 +49,19 @@ repeat_until_of alloc part end = blocks_of alloc part (mute_of end)
 abbrev pub take_until_of : {F I A Y : Type 0} → Global → Y → BlocksUntil F A (Any I) Y
 take_until_of alloc end = blocks_of alloc any_parser end
 
-abbrev pub skips_of : {A X Y : Type 0} → X → Y → Picked (Skips A X Y) Nothing (Unit {0})
+abbrev pub skips_of : {A X Y : Type 0} → X → Y → Picked (SkipBlocksUntil A X Y) Nothing (Unit {0})
 skips_of part end = picked_of (record { turn = next_of part end })
 
-abbrev pub repeat_skip_until_of : {A X Y : Type 0} → X → Y → Picked (Skips A X (Mute Y)) Nothing (Unit {0})
+abbrev pub repeat_skip_until_of : {A X Y : Type 0} → X → Y → Picked (SkipBlocksUntil A X (Mute Y)) Nothing (Unit {0})
 repeat_skip_until_of part end = skips_of part (mute_of end)
 
-abbrev pub skip_until_of : {I A Y : Type 0} → Y → Picked (Skips A (Any I) Y) Nothing (Unit {0})
+abbrev pub skip_until_of : {I A Y : Type 0} → Y → Picked (SkipBlocksUntil A (Any I) Y) Nothing (Unit {0})
 skip_until_of end = skips_of any_parser end
 
-abbrev pub skipped_end : {A X Y : Type 0} → Skips A X Y → Y
+abbrev pub skipped_end : {A X Y : Type 0} → SkipBlocksUntil A X Y → Y
 skipped_end p = next_end p.turn
 
-abbrev pub skipped_part : {A X Y : Type 0} → Skips A X Y → X
+abbrev pub skipped_part : {A X Y : Type 0} → SkipBlocksUntil A X Y → X
 skipped_part p = next_part p.turn
 
 abbrev pub blocks_end : {F A X Y : Type 0} → BlocksUntil F A X Y → Y

@@ -19,30 +19,30 @@ use Rattle.combine_repeat_turns.specs.Turns.Turn.{started}
 use Rattle.combine_repeat_turns.specs.Turns.Blocks.{Collecting}
 use Rattle.combine_repeat_until.specs.Until.{blocks_so_far, place_refuses}
 use Rattle.combine_repeat_until.specs.declared.until.Blocks.{Blocks}
-use Rattle.combine_repeat_until.specs.declared.until.Kept.{Kept}
-use Rattle.combine_repeat_until.specs.declared.until.Step.{Step}
-use Rattle.combine_repeat_until.specs.declared.until.Step.TheVariants as steps
-use Rattle.combine_repeat_until.specs.declared.until.Stop.{Stop}
-use Rattle.combine_repeat_until.specs.declared.until.Stop.TheVariants as stop
+use Rattle.combine_repeat_until.specs.declared.until.KeptBlocks.{KeptBlocks}
+use Rattle.combine_repeat_until.specs.declared.until.BlockStep.{BlockStep}
+use Rattle.combine_repeat_until.specs.declared.until.BlockStep.TheVariants as steps
+use Rattle.combine_repeat_until.specs.declared.until.BlockStop.{BlockStop}
+use Rattle.combine_repeat_until.specs.declared.until.BlockStop.TheVariants as stop
 use Rattle.combine_repeat_until.specs.declared.until.UntilState.{UntilState}
 use Rattle.combine_repeat_until.specs.declared.until.UntilState.TheVariants.{Begin, At}
 use Rattle.combine_base.specs.Parser.AnswersCalls.{run_between}
 use Rattle.combine_base.specs.declared.stream.StreamOnce as stream
 
 -- nothing is read yet
-pub record Afresh {V S : Type 0} (fresh : S → Type 0) (into : V) (k : Kept V S) : Type 0 where
+pub record Afresh {V S : Type 0} (fresh : S → Type 0) (into : V) (k : KeptBlocks V S) : Type 0 where
   pub before : k.before ≡ 0
   pub beyond : k.beyond ≡ 0
   pub blocks : k.blocks ≡ record { into = into; committed = false; begun = false }
   pub running : fresh k.running
 
-abbrev pub handed : {V S : Type 0} → (S → Type 0) → V → Bool → UntilState V S → Kept V S → Type 0
+abbrev pub handed : {V S : Type 0} → (S → Type 0) → V → Bool → UntilState V S → KeptBlocks V S → Type 0
 handed fresh into true s k = Afresh fresh into k
 handed fresh into false Begin k = Afresh fresh into k
 handed fresh into false (At j) k = k ≡ j
 
 -- what a call begins with, afresh or not
-pub record HandsOut {V S : Type 0} (fresh : S → Type 0) (into : V) (first : Bool) (state : UntilState V S) (k : Kept V S) : Type 0 where
+pub record HandsOut {V S : Type 0} (fresh : S → Type 0) (into : V) (first : Bool) (state : UntilState V S) (k : KeptBlocks V S) : Type 0 where
   pub is : handed fresh into first state k
 
 module _ {P T C : Type 0} (steady : Type 0) (step : P → T → P) (stands : C → View P T → Type 0) (old new : View P T) (earlier later : Failures) (before beyond : ℕ) where
@@ -100,33 +100,33 @@ module _ {P T R A V S E : Type 0} (w : World P T S E) (m : Meaning P T R E (Opti
     -- the stream could not be put back
     Unreset : (reset : w.kind e ≡ kinds.Reset) (counted : r.before.resets < r.after.resets) (leaves : Leaves w r) → HasFailed e
 
-  abbrev pub halted : Stop V E → Type 0
-  halted (stop.Ends n) = EndsHere n
+  abbrev pub halted : BlockStop V E → Type 0
+  halted (stop.Over n) = EndsHere n
   halted (stop.Refused t) = Answers w m r (PeekErr t)
   halted (stop.More n e) = NeedsMore n e
   halted (stop.Failed e) = HasFailed e
 
-  abbrev pub turned : Step V E → Type 0
+  abbrev pub turned : BlockStep V E → Type 0
   turned (steps.Goes n) = GoesOn n
   turned (steps.Stops why) = halted why
 
-  pub record OneTurn (result : Step V E) : Type 0 where
+  pub record OneTurn (result : BlockStep V E) : Type 0 where
     pub is : turned result
 
 -- the errors of the turn's refusals
 module _ {P T R A V S E : Type 0} (errors : Errors T R P E) (m : Meaning P T R E (Option A) S) (first : Bool) (from : S) (begun_so : Bool) (old new : View P T) where
-  abbrev pub stop_says : Stop V E → Type 0
-  stop_says (stop.Ends n) = Unit {0}
+  abbrev pub stop_says : BlockStop V E → Type 0
+  stop_says (stop.Over n) = Unit {0}
   stop_says (stop.Refused t) = Refusal errors m (MeantRefusal (begun m first from) (begun_refuses m first from)) old new t.error
   stop_says (stop.More n e) = Unit {0}
   stop_says (stop.Failed e) = IsRefusal new.is_open (errors.kind e) → place_refuses errors m (started m first from) begun_so old new true e
 
-  abbrev pub step_says : Step V E → Type 0
+  abbrev pub step_says : BlockStep V E → Type 0
   step_says (steps.Goes n) = Unit {0}
   step_says (steps.Stops why) = stop_says why
 
   -- where it refuses, the error is one that its place may have
-  pub record RefusesTurn (result : Step V E) : Type 0 where
+  pub record RefusesTurn (result : BlockStep V E) : Type 0 where
     pub is : step_says result
 
 module _ {P T E V S : Type 0} (steady : Type 0) (step : P → T → P) (kind : E → Kind) (begins stands : View P T → Type 0) (old new : View P T) (earlier later : Failures) where
@@ -156,20 +156,20 @@ module _ {P T E V S : Type 0} (steady : Type 0) (step : P → T → P) (kind : E
       pub failures : later ≡ earlier
       pub state : left ≡ given
 
-    abbrev pub settled : Stop V E → Type 0
-    settled (stop.Ends n) = (result ≡ accepted_as n.committed n.into) × Stays
+    abbrev pub settled : BlockStop V E → Type 0
+    settled (stop.Over n) = (result ≡ accepted_as n.committed n.into) × Stays
     settled (stop.Refused t) = (result ≡ PeekErr t) × Stays
     settled (stop.More n e) = Keeps n running e given left result
     settled (stop.Failed e) = (result ≡ CommitErr e) × Stays
 
     -- what blocks answer that stop so
-    pub record Settled (why : Stop V E) : Type 0 where
+    pub record Settled (why : BlockStop V E) : Type 0 where
       pub is : settled why
 
 -- a state is left as it was, or keeps the running part's
 pub record KeepsRunning {V S : Type 0} (running : S) (given left : UntilState V S) : Type 0 where
-  pub is : (left ≡ given) ⊎ ((k : Kept V S) × (left ≡ At k) × (k.running ≡ running))
+  pub is : (left ≡ given) ⊎ ((k : KeptBlocks V S) × (left ≡ At k) × (k.running ≡ running))
 
 module _ {Input P T R A V S E : Type 0} (i : stream.Ghosts Input T R P E) (seen : Errors T R P E) (fresh : S → Type 0) where
-  abbrev pub OneTurnCall : Meaning P T R E (Option A) S → Collecting (Option A) V → (first : Bool) (from left : S) (input after : Input) → (View P T → Type 0) → Blocks V → Step V E → Type 0
+  abbrev pub OneTurnCall : Meaning P T R E (Option A) S → Collecting (Option A) V → (first : Bool) (from left : S) (input after : Input) → (View P T → Type 0) → Blocks V → BlockStep V E → Type 0
   OneTurnCall m c first from left input after marked blocks result = OneTurn (world i.step seen i.steady fresh) m c (run_between i first from left input after) marked blocks result

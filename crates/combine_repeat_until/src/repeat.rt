@@ -19,7 +19,9 @@ use combine_combinator::combinator::ignore;
 use combine_token::token::any;
 use std::alloc::Global;
 use std::marker::PhantomData;
-use types::{BlocksUntil, Mute, RepeatUntil, SkipRepeatUntil, SkipUntil, Skips, TakeUntil};
+use types::{
+    BlocksUntil, Mute, RepeatUntil, SkipBlocksUntil, SkipRepeatUntil, SkipUntil, TakeUntil,
+};
 
 /// Takes blocks of `parser` up to the first place where `end` isn't refused peeked, and collects their values in order.
 ///
@@ -69,7 +71,7 @@ pub fn repeat_until<F, A, P, E>(alloc: Global, parser: P, end: E) -> RepeatUntil
 pub fn repeat_skip_until<A, P, E>(parser: P, end: E) -> SkipRepeatUntil<A, P, E>
     ensures { result ≡ repeat_skip_until_of parser end }
 {
-    ignore(Skips {
+    ignore(SkipBlocksUntil {
         turn: Next::new(parser, Mute::new(end)),
     })
 }
@@ -121,7 +123,7 @@ pub fn take_until<F, Input, T, E>(alloc: Global, end: E) -> TakeUntil<F, Input, 
 pub fn skip_until<Input, T, E>(end: E) -> SkipUntil<Input, T, E>
     ensures { result ≡ skip_until_of end }
 {
-    ignore(Skips {
+    ignore(SkipBlocksUntil {
         turn: Next::new(any(), end),
     })
 }

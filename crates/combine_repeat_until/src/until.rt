@@ -10,12 +10,11 @@ ghost use Rattle.combine_combinator.specs.Attempt.{losing};
 ghost use Rattle.combine_repeat_until.specs.Until.{blocks_so_far, some_appended, until_fresh, until_valid, until};
 ghost use Rattle.combine_repeat_until.specs.UntilTurn.{OneTurnCall, ComesTo, HandsOut, Keeps, KeepsRunning, RefusesTurn, Settled};
 
-use combine_base::distance::{measure, pass_over};
-use combine_base::error::{ParseResult, Tracked};
+use combine_base::distance::{measure, pass_tokens};
+use combine_base::error::{ParseResult, Tracked, accepted_after};
 use combine_base::parser::{ParseMode, Parser};
 use combine_base::refusal::refusal_saying;
 use combine_base::repeat::Append;
-use combine_base::sequence::accepted_after;
 use combine_base::stream::{Kind, Stream, has_taken, needs_more};
 use std::alloc::AllocError;
 use std::mem::replace;
@@ -42,7 +41,7 @@ impl<F> Blocks<F> {
 
     /// Returns the blocks, committed if that is, or they were.
     #[inline(always)]
-    fn joined(self, committed: bool) -> Blocks<F>
+    fn or_committed(self, committed: bool) -> Blocks<F>
         ensures { result ≡ record { into = self.into; committed = self.committed || committed; begun = self.begun } }
     {
         let Blocks {
@@ -112,22 +111,22 @@ impl<F> Blocks<F> {
 ///
 /// That is how many tokens stand before the place where the running part began, how many it has read beyond, the blocks, and its state.
 #[derive(Drop)]
-pub struct Kept<F, S> {
+pub struct KeptBlocks<F, S> {
     before: u64,
     beyond: u64,
     blocks: Blocks<F>,
     running: S,
 }
 
-impl<F, S: Default> Kept<F, S> {
+impl<F, S: Default> KeptBlocks<F, S> {
     /// Returns what is kept where nothing is read yet.
     #[inline(always)]
-    fn nothing(into: F) -> Kept<F, S>
+    fn nothing(into: F) -> KeptBlocks<F, S>
         ensures place { (result.before ≡ 0) × (result.beyond ≡ 0) }
         ensures blocks { result.blocks ≡ record { into = into; committed = false; begun = false } }
         ensures fresh { S.is_default result.running }
     {
-        Kept {
+        KeptBlocks {
             before: 0,
             beyond: 0,
             blocks: Blocks::none(into),
@@ -142,7 +141,7 @@ pub enum UntilState<F, S> {
     /// Nothing is kept, and the next call begins.
     Begin,
     /// The next call passes over what was read, and goes on.
-    At(Kept<F, S>),
+    At(KeptBlocks<F, S>),
 }
 
 impl<F, S> Default for UntilState<F, S> {
@@ -157,15 +156,15 @@ impl<F, S> Default for UntilState<F, S> {
 impl<F: Drop, S: Default + Drop> UntilState<F, S> {
     /// Hands out what a call begins with: what is kept, unless it begins afresh.
     #[inline(always)]
-    fn hand_out(&mut self, first: bool, into: F) -> Kept<F, S>
+    fn hand_out(&mut self, first: bool, into: F) -> KeptBlocks<F, S>
         ensures out { HandsOut S.is_default into first self.old result }
         ensures left { self.new ≡ UntilState.Begin }
     {
         match replace(self, UntilState::Begin) {
-            UntilState::Begin => Kept::nothing(into),
+            UntilState::Begin => KeptBlocks::nothing(into),
             UntilState::At(kept) => {
                 if first {
-                    return Kept::nothing(into);
+                    return KeptBlocks::nothing(into);
                 }
                 kept
             }
@@ -174,9 +173,9 @@ impl<F: Drop, S: Default + Drop> UntilState<F, S> {
 }
 
 /// Why no further block runs.
-pub enum Stop<F, E> {
+pub enum BlockStop<F, E> {
     /// The blocks end there, accepted.
-    Ends(Blocks<F>),
+    Over(Blocks<F>),
     /// No block is there, refused peeked.
     Refused(Tracked<E>),
     /// The running part needs more.
@@ -186,11 +185,11 @@ pub enum Stop<F, E> {
 }
 
 /// What came of one turn.
-pub enum Step<F, E> {
+pub enum BlockStep<F, E> {
     /// It is a block, and the next one runs.
     Goes(Blocks<F>),
     /// The blocks stop.
-    Stops(Stop<F, E>),
+    Stops(BlockStop<F, E>),
 }
 
 /// Returns the kind of a failure to pass over the kept distance.
@@ -214,11 +213,11 @@ fn pass_to<Input: Stream>(
     ensures passes { Passes (Input.marks input.old) (Input.marks input.new) (Input.failures input.old) (Input.failures input.new) }
     ensures comes { ComesTo Input.steady Input.step (Input.stands input.new) (Input.view input.old) (Input.view input.new) (Input.failures input.old) (Input.failures input.new) before beyond result }
 {
-    if let Err(kind) = pass_over(input, before) {
+    if let Err(kind) = pass_tokens(input, before) {
         return Err(kind);
     }
     let place = input.checkpoint();
-    if let Err(kind) = pass_over(input, beyond) {
+    if let Err(kind) = pass_tokens(input, beyond) {
         return Err(kind);
     }
     Ok(place)
@@ -239,7 +238,7 @@ fn is_block<Input: Stream>(
 
 /// Runs one turn, which began at that place; if its parser says that the blocks end, the stream is put back to it.
 #[inline(always)]
-fn one_turn<
+fn one_block<
     A: Drop,
     F: Append<A>,
     Input: Stream,
@@ -252,7 +251,7 @@ fn one_turn<
     blocks: Blocks<F>,
     input: &mut Input,
     running: &mut N::PartialState,
-) -> Step<F, Input::Error>
+) -> BlockStep<F, Input::Error>
     requires lawful { N.lawful parser.old }
     requires valid { N.valid running.old }
     ensures lawful { N.lawful parser.new }
@@ -267,28 +266,28 @@ fn one_turn<
     let (value, committed) = match parser.parse_explained(mode, input, running) {
         ParseResult::CommitOk(value) => (value, true),
         ParseResult::PeekOk(value) => (value, false),
-        ParseResult::PeekErr(refusal) => return Step::Stops(Stop::Refused(refusal)),
+        ParseResult::PeekErr(refusal) => return BlockStep::Stops(BlockStop::Refused(refusal)),
         ParseResult::CommitErr(error) => {
             if needs_more(input, &error) {
-                return Step::Stops(Stop::More(blocks.cut(since, input), error));
+                return BlockStep::Stops(BlockStop::More(blocks.cut(since, input), error));
             }
-            return Step::Stops(Stop::Failed(error));
+            return BlockStep::Stops(BlockStop::Failed(error));
         }
     };
     match value {
         None => match input.reset(place) {
-            Ok(()) => Step::Stops(Stop::Ends(blocks.joined(committed))),
-            Err(kind) => Step::Stops(Stop::Failed(input.new_error(kind, position))),
+            Ok(()) => BlockStep::Stops(BlockStop::Over(blocks.or_committed(committed))),
+            Err(kind) => BlockStep::Stops(BlockStop::Failed(input.new_error(kind, position))),
         },
         Some(value) => {
             if !is_block(blocks.begun, committed, since, input) {
                 let error = refusal_saying(input, position, "repetition takes nothing");
-                return Step::Stops(Stop::Failed(error));
+                return BlockStep::Stops(BlockStop::Failed(error));
             }
-            match blocks.joined(committed).add(value) {
-                Ok(blocks) => Step::Goes(blocks),
+            match blocks.or_committed(committed).add(value) {
+                Ok(blocks) => BlockStep::Goes(blocks),
                 Err(_refused) => {
-                    Step::Stops(Stop::Failed(input.new_error(Kind::Memory, position)))
+                    BlockStep::Stops(BlockStop::Failed(input.new_error(Kind::Memory, position)))
                 }
             }
         }
@@ -321,7 +320,7 @@ where
         Ok(distance) => distance,
         Err(kind) => return ParseResult::CommitErr(input.new_error(kind, position)),
     };
-    *state = UntilState::At(Kept {
+    *state = UntilState::At(KeptBlocks {
         before,
         beyond,
         blocks,
@@ -332,8 +331,8 @@ where
 
 /// Returns the result of blocks that stopped for this reason.
 #[inline(always)]
-fn settle<F, Input: Stream, S>(
-    why: Stop<F, Input::Error>,
+fn settle_blocks<F, Input: Stream, S>(
+    why: BlockStop<F, Input::Error>,
     start: Input::Checkpoint,
     place: Input::Checkpoint,
     position: Input::Position,
@@ -349,10 +348,10 @@ where
     ensures left { KeepsRunning running state.old state.new }
 {
     match why {
-        Stop::Ends(blocks) => blocks.end(),
-        Stop::Refused(refusal) => ParseResult::PeekErr(refusal),
-        Stop::Failed(error) => ParseResult::CommitErr(error),
-        Stop::More(blocks, error) => {
+        BlockStop::Over(blocks) => blocks.end(),
+        BlockStop::Refused(refusal) => ParseResult::PeekErr(refusal),
+        BlockStop::Failed(error) => ParseResult::CommitErr(error),
+        BlockStop::More(blocks, error) => {
             keep(blocks, error, start, place, position, input, running, state)
         }
     }
@@ -385,7 +384,7 @@ pub fn take_blocks<
 {
     let start = input.checkpoint();
     let position = input.position();
-    let Kept {
+    let KeptBlocks {
         before,
         beyond,
         blocks,
@@ -395,11 +394,13 @@ pub fn take_blocks<
         Ok(place) => place,
         Err(kind) => return ParseResult::CommitErr(input.new_error(lost(kind), position)),
     };
-    let mut blocks = blocks.joined(before > 0);
+    let mut blocks = blocks.or_committed(before > 0);
     'turns: loop {
-        match one_turn(parser, place, mode, blocks, input, &mut running) {
-            Step::Goes(next) => blocks = next,
-            Step::Stops(why) => return settle(why, start, place, position, input, running, state),
+        match one_block(parser, place, mode, blocks, input, &mut running) {
+            BlockStep::Goes(next) => blocks = next,
+            BlockStep::Stops(why) => return settle_blocks(
+                why, start, place, position, input, running, state,
+            ),
         }
         place = input.checkpoint();
     }

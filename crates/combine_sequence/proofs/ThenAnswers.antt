@@ -21,7 +21,7 @@ use Rattle.combine_base.specs.declared.parser.Parser as parser
 use Rattle.combine_base.specs.declared.sequence.SequencePlace.TheVariants.{Before, Last}
 use Rattle.combine_base.specs.declared.stream.StreamOnce as stream
 use Rattle.combine_sequence.specs.Then.{AnsweredBySome, answered, asks_lawful, starts_first, starts_valid, step_of, then, valid_step, CalledAnswered}
-use Rattle.combine_sequence.specs.declared.sequence.answered.state.Answering.{Answering}
+use Rattle.combine_sequence.specs.declared.sequence.answered.state.AnsweredProgress.{AnsweredProgress}
 use Rattle.combine_sequence.specs.declared.sequence.answered.state.AnsweredState.{AnsweredState}
 use Rattle.combine_sequence.specs.declared.sequence.answered.state.AnsweredState.TheVariants.{First, Second}
 
@@ -50,7 +50,7 @@ module _ {N Input V A B C S U Checkpoint T R P E : Type 0} (p : parser.Ghosts N 
   abbrev both : Meaning P T R E C (AnsweredState S V N U)
   both = then i.step seen keep join answers some m p.meaning
 
-  abbrev second : After P T E A B C (Answering V N U)
+  abbrev second : After P T E A B C (AnsweredProgress V N U)
   second = answered seen keep join answers p.meaning some
 
   abbrev kept : N → Type 0
@@ -70,10 +70,10 @@ module _ {N Input V A B C S U Checkpoint T R P E : Type 0} (p : parser.Ghosts N 
   call_of first at stopped input mid = record { first = first; state = at; left = stopped; old = i.view input; new = i.view mid; before = i.failures input; after = i.failures mid }
 
   -- what is kept of an answered parser that its call has changed
-  abbrev kept_with : Answering V N U → N → U → Answering V N U
+  abbrev kept_with : AnsweredProgress V N U → N → U → AnsweredProgress V N U
   kept_with l n u = record { value = l.value; parser = n; committed = l.committed; state = u }
 
-  holds : (l : Answering V N U) → kept l.parser → (n : N) → MeansSame (p.meaning l.parser) (p.meaning n) → Holds second (p.meaning l.parser) l.committed (join l.value) (kept_with l n)
+  holds : (l : AnsweredProgress V N U) → kept l.parser → (n : N) → MeansSame (p.meaning l.parser) (p.meaning n) → Holds second (p.meaning l.parser) l.committed (join l.value) (kept_with l n)
   holds l d n h = record {
     rest = λ s v o. following_same l.committed (join l.value) ((p.meaning n).rest s) ((p.meaning l.parser).rest s) (λ v o. ((h.rest s v o).1, (h.rest s v o).0)) v o;
     lost = λ s v. ((h.lost s v).1, (h.lost s v).0);
@@ -82,7 +82,7 @@ module _ {N Input V A B C S U Checkpoint T R P E : Type 0} (p : parser.Ghosts N 
   }
 
   -- the state that is left is valid
-  pub leaves_valid : ((s : S) → fresh s → valid s) → {input left : Input} {l : Answering V N U} {state : AnsweredState S V N U} {y : ParseResult C E} → kept l.parser → CalledAnswered p i seen last_fresh fresh join input left l state y → valid_step valid kept p.valid state
+  pub leaves_valid : ((s : S) → fresh s → valid s) → {input left : Input} {l : AnsweredProgress V N U} {state : AnsweredState S V N U} {y : ParseResult C E} → kept l.parser → CalledAnswered p i seen last_fresh fresh join input left l state y → valid_step valid kept p.valid state
   leaves_valid h {input} {left} {l} {state} {y} d g = by_need g.runs.leaves
     where
       by_need : (NeedsMore seen.kind (i.view left).is_open g.runs.answer × (step_of state ≡ Last (kept_with l g.parser g.runs.stopped)) × p.valid g.runs.stopped) ⊎ ((NeedsMore seen.kind (i.view left).is_open g.runs.answer → ⊥) × starts_first fresh state) → valid_step valid kept p.valid state
@@ -90,7 +90,7 @@ module _ {N Input V A B C S U Checkpoint T R P E : Type 0} (p : parser.Ghosts N 
       by_need (inr j) = starts_valid kept p.valid h state j.1
 
   -- a call that begins in the answered parser
-  pub then_resumes : {input left : Input} {l : Answering V N U} {z state : AnsweredState S V N U} {y : ParseResult C E} → z ≡ Second l → kept l.parser → CalledAnswered p i seen last_fresh fresh join input left l state y → Answers all_world both (run_from z state (i.view input) (i.view left) (i.failures input) (i.failures left)) y
+  pub then_resumes : {input left : Input} {l : AnsweredProgress V N U} {z state : AnsweredState S V N U} {y : ParseResult C E} → z ≡ Second l → kept l.parser → CalledAnswered p i seen last_fresh fresh join input left l state y → Answers all_world both (run_from z state (i.view input) (i.view left) (i.failures input) (i.failures left)) y
   then_resumes {input} {left} {l} {z} {state} {y} is d g =
       let e = ap step_of is in
       let old = i.view input in
@@ -122,7 +122,7 @@ module _ {N Input V A B C S U Checkpoint T R P E : Type 0} (p : parser.Ghosts N 
       module _ (d : valid at) {a : A} {n : N} (j : answers a n) (w : kept n) (k : IsMeaning last_fresh p.valid (p.meaning n)) {u : U} (b : last_fresh u) {left : Input} {state : AnsweredState S V N U} {y : ParseResult C E} (reads : (i.failures input).reads ≤ (i.failures mid).reads) (resets : (i.failures input).resets ≤ (i.failures mid).resets) where
         goes_on : (c : Bool) → Accepts first_world m (call_of false at stopped input mid) a c → CalledAnswered p i seen last_fresh fresh join mid left (record { value = keep a; parser = n; committed = c; state = u }) state y → Answers all_world both (run_from z state (i.view input) (i.view left) (i.failures input) (i.failures left)) y
         goes_on c x g =
-            let l : Answering V N U = record { value = keep a; parser = n; committed = c; state = u } in
+            let l : AnsweredProgress V N U = record { value = keep a; parser = n; committed = c; state = u } in
             let q = accepted_before i.step seen i.steady fresh step_of m second at stopped z state (ap step_of is) (i.view input) (i.view mid) (i.failures input) (i.failures mid) valid h d a c x last_fresh in
             let into : (v : View P T) (o : Outcome C) → following c (join (keep a)) ((p.meaning n).rest u) v o → following c (join (keep a)) (second.whole a) v o = λ v o f. (f.0, (n, j, (k.start u v f.0 b).0 f.1), f.2) in
             runs_answer i.step seen i.steady fresh step_of m second (p.meaning n) last_fresh p.valid c (join (keep a)) (kept_with l g.parser) (holds l w g.parser g.same) u z state (i.view input) (i.view mid) (i.view left) (i.failures input) (i.failures mid) (i.failures left) (progress_left last_world (both.rest z) (following c (join (keep a)) (second.whole a)) (following c (join (keep a)) ((p.meaning n).rest u)) (i.view input) (i.view mid) (i.failures input) (i.failures mid) into q) reads resets (λ f. absurd (k.found u (i.view mid) b f)) y g.runs

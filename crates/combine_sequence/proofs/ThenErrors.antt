@@ -13,7 +13,7 @@ use Rattle.combine_base.specs.declared.error.Tracked.{Tracked}
 use Rattle.combine_base.specs.declared.parser.Parser as parser
 use Rattle.combine_base.specs.declared.stream.StreamOnce as stream
 use Rattle.combine_sequence.specs.Then.{then, CalledAnswered}
-use Rattle.combine_sequence.specs.declared.sequence.answered.state.Answering.{Answering}
+use Rattle.combine_sequence.specs.declared.sequence.answered.state.AnsweredProgress.{AnsweredProgress}
 use Rattle.combine_sequence.specs.declared.sequence.answered.state.AnsweredState.{AnsweredState}
 use Rattle.combine_sequence.specs.declared.sequence.answered.state.AnsweredState.TheVariants.{First, Second}
 
@@ -23,7 +23,7 @@ module _ {N Input V A B C S U Checkpoint T R P E : Type 0} (p : parser.Ghosts N 
   reasoned z input left = ReasonedCall seen (then i.step seen keep join answers some m p.meaning) false z (i.view input) (i.view left)
 
   -- a call that begins in the answered parser
-  pub resumed_reasons : {input left : Input} {l : Answering V N U} {state : AnsweredState S V N U} {y : ParseResult C E} → CalledAnswered p i seen last_fresh fresh join input left l state y → reasoned (Second l) input left y
+  pub resumed_reasons : {input left : Input} {l : AnsweredProgress V N U} {state : AnsweredState S V N U} {y : ParseResult C E} → CalledAnswered p i seen last_fresh fresh join input left l state y → reasoned (Second l) input left y
   resumed_reasons g k x h = runs_reasons g.runs k x h
 
   module _ {valid : S → Type 0} (h : IsMeaning fresh valid m) {first : Bool} {at : S} (starts : first ≡ true → fresh at) {input left : Input} where

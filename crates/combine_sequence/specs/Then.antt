@@ -14,13 +14,13 @@ use Rattle.combine_base.specs.Sequence.Meanings.{Second, IsSecond, SecondSame, s
 use Rattle.combine_base.specs.Sequence.Places.{begins, in_place}
 use Rattle.combine_base.specs.declared.sequence.SequencePlace.{SequencePlace}
 use Rattle.combine_base.specs.declared.sequence.SequencePlace.TheVariants.{Before, Last}
-use Rattle.combine_sequence.specs.declared.sequence.answered.state.Answering.{Answering}
+use Rattle.combine_sequence.specs.declared.sequence.answered.state.AnsweredProgress.{AnsweredProgress}
 use Rattle.combine_sequence.specs.declared.sequence.answered.state.AnsweredState.{AnsweredState}
 use Rattle.combine_sequence.specs.declared.sequence.answered.state.AnsweredState.TheVariants as steps
 use Rattle.combine_sequence.specs.declared.sequence.answered.Answered.{Answered}
-use Rattle.combine_sequence.specs.declared.sequence.answered.asked.ByMut.{ByMut}
-use Rattle.combine_sequence.specs.declared.sequence.answered.asked.ByRef.{ByRef}
-use Rattle.combine_sequence.specs.declared.sequence.answered.asked.ByValue.{ByValue}
+use Rattle.combine_sequence.specs.declared.sequence.answered.next_parser.ByMut.{ByMut}
+use Rattle.combine_sequence.specs.declared.sequence.answered.next_parser.ByRef.{ByRef}
+use Rattle.combine_sequence.specs.declared.sequence.answered.next_parser.ByValue.{ByValue}
 use Rattle.combine_base.specs.Parser.Answer.{world}
 use Rattle.combine_base.specs.Sequence.Parts.{Runs}
 use Rattle.combine_base.specs.Stream.Calls.{Passes}
@@ -74,7 +74,7 @@ pub record ReturnsAtMut {F T R : Type 0} (g : Shared F (MutBor T × Unit {0}) (R
   pub met : g.post f (shown, tt) (r, (left, tt))
 
 -- which of the two parsers runs
-abbrev pub step_of : {S V N U : Type 0} → AnsweredState S V N U → SequencePlace S (Answering V N U)
+abbrev pub step_of : {S V N U : Type 0} → AnsweredState S V N U → SequencePlace S (AnsweredProgress V N U)
 step_of (steps.First s) = Before s
 step_of (steps.Second l) = Last l
 
@@ -83,7 +83,7 @@ abbrev pub starts_first : {S V N U : Type 0} → (S → Type 0) → AnsweredStat
 starts_first fresh = begins step_of fresh
 
 -- a state is valid where that of the running parser is, and an answered parser that it keeps is one that may be kept
-abbrev pub valid_last : {V N U : Type 0} → (N → Type 0) → (U → Type 0) → Answering V N U → Type 0
+abbrev pub valid_last : {V N U : Type 0} → (N → Type 0) → (U → Type 0) → AnsweredProgress V N U → Type 0
 valid_last kept last l = kept l.parser × last l.state
 
 abbrev pub valid_step : {S V N U : Type 0} → (S → Type 0) → (N → Type 0) → (U → Type 0) → AnsweredState S V N U → Type 0
@@ -126,7 +126,7 @@ module _ {P T R E A B N U : Type 0} (errors : Errors T R P E) (answers : A → N
 
 module _ {P T R E A V B C N U : Type 0} (errors : Errors T R P E) (keep : A → V) (join : V → B → C) (answers : A → N → Type 0) (means : N → Meaning P T R E B U) (some : N → Type 0) where
   -- any parser that is answered for the value; keep is what is kept of the value, and join puts the second value to it
-  abbrev pub answered : Second P T E A B C (Answering V N U)
+  abbrev pub answered : Second P T E A B C (AnsweredProgress V N U)
   answered = record {
     join = λ a. join (keep a);
     whole = λ a v o. (n : N) × answers a n × (means n).whole v o;
@@ -205,7 +205,7 @@ module _ {P T R E A V B C N S U : Type 0} (step : P → T → P) (errors : Error
 
 -- An answered parser was run from what is kept of it. Its call may change it, not what it means; need of more keeps it as it then is.
 module _ {N Input V B C S U Checkpoint T R P E : Type 0} (p : parser.Ghosts N Input U B Checkpoint T R P E) (i : stream.Ghosts Input T R P E) (seen : Errors T R P E) (last_fresh : U → Type 0) (fresh : S → Type 0) (join : V → B → C) where
-  pub record CalledAnswered (input left : Input) (from : Answering V N U) (state : AnsweredState S V N U) (result : ParseResult C E) : Type 0 where
+  pub record CalledAnswered (input left : Input) (from : AnsweredProgress V N U) (state : AnsweredState S V N U) (result : ParseResult C E) : Type 0 where
     pub parser : N
     pub lawful : p.lawful parser
     pub same : MeansSame (p.meaning from.parser) (p.meaning parser)

@@ -9,7 +9,7 @@ mod answered;
 pub mod laws;
 pub mod types;
 
-use answered::asked::{ByMut, ByRef, ByValue};
+use answered::next_parser::{ByMut, ByRef, ByValue};
 pub use combine_combinator::combinator::map;
 use types::{Answered, Between, Skip, Then, ThenPartial, ThenRef, With};
 

@@ -15,20 +15,20 @@ pub use text::{SourcePosition, TextStream};
 /// In the crate it says which type counts; here, which stream the input is with its position.
 pub trait DefaultPositioned {
     /// The stream of such an input.
-    type Placed: combine_base::stream::Stream;
+    type Located: combine_base::stream::Stream;
 
     /// What is seen of the whole input.
-    ghost whole: { Self → View Self.Placed.Position Self.Placed.Token };
+    ghost whole: { Self → View Self.Located.Position Self.Located.Token };
 
     /// The position after so many tokens of the whole input.
-    ghost behind: { Self → ℕ → Self.Placed.Position };
+    ghost behind: { Self → ℕ → Self.Located.Position };
 
     /// Makes the whole input, at the first position.
-    fn place(self) -> Self::Placed
-        ensures { Self.Placed.view result ≡ whole self };
+    fn place(self) -> Self::Located
+        ensures { Self.Located.view result ≡ whole self };
 
     /// The position is what was said.
-    ghost counts: { (s : Self) (n : ℕ) → n ≤ length (whole s).unread → (advanced Self.Placed.step n (whole s)).position ≡ behind s n };
+    ghost counts: { (s : Self) (n : ℕ) → n ≤ length (whole s).unread → (advanced Self.Located.step n (whole s)).position ≡ behind s n };
 }
 
 /// An input of which parts can be parsed, one window after another: a slice or a text. Our own.
@@ -64,18 +64,18 @@ pub trait Windowed: DefaultPositioned + Copy {
         self,
         from: usize,
         to: usize,
-        position: <Self::Placed as StreamOnce>::Position,
-    ) -> Self::Placed
+        position: <Self::Located as StreamOnce>::Position,
+    ) -> Self::Located
         requires from { places self from }
         requires to { places self to }
         requires order { from ≤ to }
         requires position { position ≡ Self.DefaultPositioned.behind self (index self from) }
-        ensures { Self.Placed.view result ≡ record { position = position; unread = drop (index self from) (take (index self to) (Self.DefaultPositioned.whole self).unread); is_open = false } };
+        ensures { Self.Located.view result ≡ record { position = position; unread = drop (index self from) (take (index self to) (Self.DefaultPositioned.whole self).unread); is_open = false } };
 
     /// Returns the place of the first unread token of a window that ends at a place.
-    fn place_before(self, to: usize, window: &Self::Placed) -> usize
+    fn place_before(self, to: usize, window: &Self::Located) -> usize
         requires { places self to }
-        ensures { (k : ℕ) → k ≤ index self to → (Self.Placed.view window.now).unread ≡ drop k (take (index self to) (Self.DefaultPositioned.whole self).unread) → places self result × (result ≤ to) × (index self result ≡ k) };
+        ensures { (k : ℕ) → k ≤ index self to → (Self.Located.view window.now).unread ≡ drop k (take (index self to) (Self.DefaultPositioned.whole self).unread) → places self result × (result ≤ to) × (index self result ≡ k) };
 
     /// Returns how many tokens stand before a place, where so many stand before an earlier one.
     ///
@@ -94,7 +94,7 @@ pub trait Windowed: DefaultPositioned + Copy {
     ghost ordered: { (s : Self) (c d : ℕ) → places s c → places s d → index s c ≤ index s d → c ≤ d };
 
     /// Neither reads nor resets fail.
-    ghost calm: { (s t : Self.Placed) → Self.Placed.failures s ≡ Self.Placed.failures t };
+    ghost calm: { (s t : Self.Located) → Self.Located.failures s ≡ Self.Located.failures t };
 }
 
 /// Makes streams that count their position: `Stream::new(input)`.
@@ -119,8 +119,8 @@ pub struct Stream;
 impl Stream {
     /// Makes the stream of the whole input, at the first position.
     #[inline]
-    pub fn new<S: DefaultPositioned>(input: S) -> S::Placed
-        ensures { S.Placed.view result ≡ S.whole input }
+    pub fn new<S: DefaultPositioned>(input: S) -> S::Located
+        ensures { S.Located.view result ≡ S.whole input }
     {
         input.place()
     }

@@ -40,26 +40,26 @@ struct Run<S> {
 
 // The result of parsing a window.
 type Parsed<T, S> = Result<
-    Answer<T, <<S as DefaultPositioned>::Placed as StreamOnce>::Error>,
+    Answer<T, <<S as DefaultPositioned>::Located as StreamOnce>::Error>,
     Kind,
 >;
 
 // Makes one call of a parser on the window from the first unread token to a place.
 //
 // The run is given and handed back by value, so that the stream is a local while the parser reads.
-fn parse_window<S: Windowed, P: Parser<MaybePartialStream<S::Placed>>>(
+fn parse_window<S: Windowed, P: Parser<MaybePartialStream<S::Located>>>(
     parser: &mut P,
     state: &mut P::PartialState,
-    run: Run<S::Placed>,
+    run: Run<S::Located>,
     whole: S,
     to: usize,
     is_open: bool,
-) -> (Run<S::Placed>, Parsed<P::Output, S>)
+) -> (Run<S::Located>, Parsed<P::Output, S>)
     requires lawful { P.lawful parser.old }
     requires valid { P.valid state.old }
     requires place { S.places whole run.place }
     requires index { S.index whole run.place ≡ run.taken }
-    requires position { (⟦<MaybePartialStream<S::Placed> as StreamOnce>⟧.view run.stream).position ≡ S.DefaultPositioned.behind whole run.taken }
+    requires position { (⟦<MaybePartialStream<S::Located> as StreamOnce>⟧.view run.stream).position ≡ S.DefaultPositioned.behind whole run.taken }
     requires to { S.places whole to }
     requires order { run.place ≤ to }
     ensures lawful { P.lawful parser.new }
@@ -67,8 +67,8 @@ fn parse_window<S: Windowed, P: Parser<MaybePartialStream<S::Placed>>>(
     ensures same { MeansSame (P.meaning parser.old) (P.meaning parser.new) }
     ensures place { S.places whole result.0.place }
     ensures index { S.index whole result.0.place ≡ result.0.taken }
-    ensures position { (⟦<MaybePartialStream<S::Placed> as StreamOnce>⟧.view result.0.stream).position ≡ S.DefaultPositioned.behind whole result.0.taken }
-    ensures parses { WindowCall S.Placed.StreamOnce S.Placed.Error.seen P.PartialState.is_default (S.DefaultPositioned.whole whole).position (P.meaning parser.old) state.old state.new (S.DefaultPositioned.whole whole).unread run.taken (S.index whole to) is_open result.0.taken result.1 }
+    ensures position { (⟦<MaybePartialStream<S::Located> as StreamOnce>⟧.view result.0.stream).position ≡ S.DefaultPositioned.behind whole result.0.taken }
+    ensures parses { WindowCall S.Located.StreamOnce S.Located.Error.seen P.PartialState.is_default (S.DefaultPositioned.whole whole).position (P.meaning parser.old) state.old state.new (S.DefaultPositioned.whole whole).unread run.taken (S.index whole to) is_open result.0.taken result.1 }
 {
     let Run {
         mut stream,
@@ -119,17 +119,17 @@ fn parse_window<S: Windowed, P: Parser<MaybePartialStream<S::Placed>>>(
 /// ```
 ///
 /// Of `"a"` and the cuts `[0]` it is `Some((1, true))`: the first window is empty, and asks for more.
-pub fn parse_cuts<S: Windowed, P: Parser<MaybePartialStream<S::Placed>>>(
+pub fn parse_cuts<S: Windowed, P: Parser<MaybePartialStream<S::Located>>>(
     parser: &mut P,
     whole: S,
     cuts: &[usize],
-) -> Result<(usize, Answer<P::Output, <S::Placed as StreamOnce>::Error>), Kind>
+) -> Result<(usize, Answer<P::Output, <S::Located as StreamOnce>::Error>), Kind>
     requires lawful { P.lawful parser.old }
     requires fit { Fit (S.places whole) cuts.now }
     ensures lawful { P.lawful parser.new }
     ensures same { MeansSame (P.meaning parser.old) (P.meaning parser.new) }
     ensures single { P.determined parser.old → IsSingle (P.meaning parser.old).whole }
-    ensures runs { RunsCuts S.Placed.Error.seen.frugal (S.DefaultPositioned.whole whole).position (P.meaning parser.old) (S.DefaultPositioned.whole whole).unread (length cuts.now) (λ i. S.index whole (get_or cuts.now i 0)) result }
+    ensures runs { RunsCuts S.Located.Error.seen.frugal (S.DefaultPositioned.whole whole).position (P.meaning parser.old) (S.DefaultPositioned.whole whole).unread (length cuts.now) (λ i. S.index whole (get_or cuts.now i 0)) result }
 {
     let mut state = P::PartialState::default();
     let stream = Stream::new(whole);

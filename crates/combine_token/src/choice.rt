@@ -10,8 +10,8 @@ use combine_base::parser::Parser;
 use combine_base::refusal::peeked;
 use combine_base::stream::Stream;
 
+pub mod alternatives;
 pub mod first;
-pub mod lent;
 pub mod types;
 
 use types::{Optional, Or};

@@ -17,7 +17,7 @@ use Rattle.combine_repeat_turns.specs.Repeat.Repeated.{appended}
 use Rattle.combine_repeat_turns.specs.Repeat.Counts.{count_min_max}
 use Rattle.combine_repeat_turns.specs.declared.each.Each.{Each}
 use Rattle.combine_repeat_turns.specs.declared.repeat.types.Repeat.{Repeat}
-use Rattle.combine_repeat_turns.specs.declared.turns.limits.Between.{Between}
+use Rattle.combine_repeat_turns.specs.declared.turns.turn_bounds.MinToMax.{MinToMax}
 use Rattle.feedline_core.specs.DecodedLines.{DecodesInput, PrintsMessages}
 use Rattle.feedline_core.specs.Frames.{bytes, frame, length_before}
 use Rattle.feedline_core.specs.Messages.{byte_where, step}
@@ -54,7 +54,7 @@ decodes_as r q has input old new (Err why) h = record { is = h.is }
 -- as many bytes as the length says, by the parser that is answered for it
 module _ (Input : Type 0) (alloc : Global) where
   abbrev answered : ℕ → Reading ℕ ℕ (Vec ℕ)
-  answered n v o = (p : Repeat (Each (Vec ℕ)) (Any Input) Between) × (p ≡ count_min_max_of alloc n n any_parser) × (count_min_max step no_items (appended (λ v. v.items) [] (λ bs b. bs ++ b ∷ []) ⊥) (least_of p) (most_of p) (byte_where (λ b. true))).whole v o
+  answered n v o = (p : Repeat (Each (Vec ℕ)) (Any Input) MinToMax) × (p ≡ count_min_max_of alloc n n any_parser) × (count_min_max step no_items (appended (λ v. v.items) [] (λ bs b. bs ++ b ∷ []) ⊥) (least_of p) (most_of p) (byte_where (λ b. true))).whole v o
 
   answers_bytes : (n : ℕ) (v : View ℕ ℕ) (o : Outcome (Vec ℕ)) → answered n v o → bytes n v o
   answers_bytes n v o w = subst (λ p. (count_min_max step no_items (appended (λ v. v.items) [] (λ bs b. bs ++ b ∷ []) ⊥) (least_of p) (most_of p) (byte_where (λ b. true))).whole v o) w.1 w.2

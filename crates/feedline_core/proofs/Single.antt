@@ -12,7 +12,7 @@ use Rattle.combine_token.specs.Choice.Choices.{Either, refused, refused_is_singl
 use Rattle.combine_token.specs.Token.OneToken.{of_function, of_function_is_predicate, satisfied, satisfied_is_test, takes_one_means_one}
 use Rattle.combine_combinator.specs.Attempt.{attempted_means_one}
 use Rattle.combine_repeat_turns.specs.Repeat.Repeated.{appended, repeated_means_one}
-use Rattle.combine_repeat_turns.specs.declared.turns.Bounds.TheVariants.{Joined}
+use Rattle.combine_repeat_turns.specs.declared.turns.Bounds.TheVariants.{OwnFirst}
 use Rattle.combine_repeat_turns.specs.declared.turns.TurnsState.{TurnsState}
 use Rattle.combine_base.specs.declared.error.UnexpectedParse.{UnexpectedParse}
 use Rattle.feedline_core.specs.Messages.{step, byte, byte_where, bytes_where, delete, set, message}
@@ -26,7 +26,7 @@ byte_one : (b : ℕ) → MeansOne {State = Unit {0}} all (byte b)
 byte_one b = takes_one_means_one no_items (satisfied (of_function (λ t. nat_eq t b))) (Unit {0}) (Only (Expected (OfToken b))) all (satisfied_is_test (of_function (λ t. nat_eq t b)) (of_function_is_predicate (λ t. nat_eq t b)))
 
 bytes_one : (f : ℕ → Bool) → MeansOne {State = TurnsState (Vec ℕ) (Unit {0})} all (bytes_where f)
-bytes_one f = repeated_means_one step no_items (Joined 1 None) (appended (λ v. v.items) [] (λ bs b. bs ++ b ∷ []) ⊥) all (byte_where f) (takes_one_means_one no_items (satisfied (of_function f)) (Unit {0}) Nothing all (satisfied_is_test (of_function f) (of_function_is_predicate f)))
+bytes_one f = repeated_means_one step no_items (OwnFirst 1 None) (appended (λ v. v.items) [] (λ bs b. bs ++ b ∷ []) ⊥) all (byte_where f) (takes_one_means_one no_items (satisfied (of_function f)) (Unit {0}) Nothing all (satisfied_is_test (of_function f) (of_function_is_predicate f)))
 
 -- tuples whose parts have one outcome
 module _ {A B C U V W : Type 0} {f : U → Type 0} {g : V → Type 0} {h : W → Type 0} {m : Meaning ℕ ℕ (Unit {0}) UnexpectedParse A U} {n : Meaning ℕ ℕ (Unit {0}) UnexpectedParse B V} {p : Meaning ℕ ℕ (Unit {0}) UnexpectedParse C W} (one : MeansOne f m) (two : MeansOne g n) (three : MeansOne h p) where

@@ -4,7 +4,7 @@ use combine::error::UnexpectedParse;
 use combine::parser::{Parser, byte, char};
 use combine::stream::Kind;
 use combine_char::class::Class;
-use combine_char::class::types::InClass;
+use combine_char::class::types::ClassParser;
 use example_callers::answers::{Parsed, ParsedText};
 use std::process::Abort;
 
@@ -47,7 +47,7 @@ fn is_char_taken(char: char, parsed: ParsedText<'_, char>) -> Option<bool> {
 /// The class takes each byte that stands in one of these intervals, and refuses the others.
 fn check_bytes<C: Class<u8>>(
     rt: &impl Abort,
-    class: InClass<&'static [u8], C>,
+    class: ClassParser<&'static [u8], C>,
     intervals: &[(u8, u8)],
 ) {
     let mut class = class;
@@ -63,7 +63,7 @@ fn check_bytes<C: Class<u8>>(
 /// The class takes each character that stands in one of these intervals, and refuses the others.
 fn check_chars<C: Class<char>>(
     rt: &impl Abort,
-    class: InClass<&'static str, C>,
+    class: ClassParser<&'static str, C>,
     intervals: &[(char, char)],
 ) {
     let mut class = class;

@@ -8,6 +8,8 @@ mod collecting;
 #[cfg(test)]
 mod items;
 #[cfg(test)]
+mod iter;
+#[cfg(test)]
 mod repetitions;
 #[cfg(test)]
 mod room;
@@ -19,5 +21,3 @@ mod sessions;
 mod turns;
 #[cfg(test)]
 mod until;
-#[cfg(test)]
-mod values;

@@ -8,8 +8,8 @@ use crate::error::{ErrorOffset, ParseResult, Tracked};
 use crate::parser::{Calls, Outputs, ParseMode, Parser};
 use crate::sequence::part::{parse_rest, resume_last, take_state};
 use crate::sequence::{
-    PartialState1, PartialState2, PartialState3, PartialState4, Placed, SequencePlace,
-    SequenceState,
+    PartialState1, PartialState2, PartialState3, PartialState4, SequencePlace, SequenceState,
+    TupleState,
 };
 use crate::stream::Stream;
 

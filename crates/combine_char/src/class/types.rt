@@ -16,16 +16,16 @@ use std::marker::PhantomData;
 /// It keeps no state.
 #[derive(Drop)]
 #[derive_where(Clone, Copy; C)]
-pub struct InClass<Input, C> {
+pub struct ClassParser<Input, C> {
     pub(super) reads: PhantomData<Input>,
     pub(super) class: PhantomData<C>,
 }
 
-impl<Input: StreamOnce, C> Outputs<Input> for InClass<Input, C> {
+impl<Input: StreamOnce, C> Outputs<Input> for ClassParser<Input, C> {
     type Output = Input::Token;
 }
 
-impl<Input: Stream, C: Class<Input::Token>> Parser<Input> for InClass<Input, C> {
+impl<Input: Stream, C: Class<Input::Token>> Parser<Input> for ClassParser<Input, C> {
     type PartialState = ();
 
     ghost lawful = { λ p. Unit {0} };

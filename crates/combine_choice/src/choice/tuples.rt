@@ -4,7 +4,7 @@ use super::{ChoiceOutputs, ChoiceParser};
 use combine_base::error::{ParseResult, Tracked};
 use combine_base::parser::{Outputs, ParseMode, Parser};
 use combine_base::stream::Stream;
-use combine_token::choice::lent::{Alternatives, First};
+use combine_token::choice::alternatives::{Alternatives, FirstHalf};
 use combine_token::choice::types::Or;
 
 /// Three alternatives as choices of two.
@@ -96,7 +96,7 @@ impl<Input: Stream, A: Parser<Input>, B: Parser<Input, Output = A::Output>> Choi
         state: &mut Self::PartialState,
     ) -> ParseResult<A::Output, Input::Error> {
         let mut halves = (&mut self.0, &mut self.1);
-        halves.choose::<_, First>(mode, input, state)
+        halves.choose::<_, FirstHalf>(mode, input, state)
     }
 
     fn add_error_choice(&mut self, error: &mut Tracked<Input::Error>) {
@@ -143,7 +143,7 @@ impl<
         state: &mut Self::PartialState,
     ) -> ParseResult<A::Output, Input::Error> {
         let mut halves = (&mut self.0, (&mut self.1, &mut self.2));
-        halves.choose::<_, First>(mode, input, state)
+        halves.choose::<_, FirstHalf>(mode, input, state)
     }
 
     fn add_error_choice(&mut self, error: &mut Tracked<Input::Error>) {
@@ -192,7 +192,7 @@ impl<
         state: &mut Self::PartialState,
     ) -> ParseResult<A::Output, Input::Error> {
         let mut halves = ((&mut self.0, &mut self.1), (&mut self.2, &mut self.3));
-        halves.choose::<_, First>(mode, input, state)
+        halves.choose::<_, FirstHalf>(mode, input, state)
     }
 
     fn add_error_choice(&mut self, error: &mut Tracked<Input::Error>) {
@@ -246,7 +246,7 @@ impl<
             &mut self.0,
             ((&mut self.1, &mut self.2), (&mut self.3, &mut self.4)),
         );
-        halves.choose::<_, First>(mode, input, state)
+        halves.choose::<_, FirstHalf>(mode, input, state)
     }
 
     fn add_error_choice(&mut self, error: &mut Tracked<Input::Error>) {
@@ -302,7 +302,7 @@ impl<
             (&mut self.0, &mut self.1),
             ((&mut self.2, &mut self.3), (&mut self.4, &mut self.5)),
         );
-        halves.choose::<_, First>(mode, input, state)
+        halves.choose::<_, FirstHalf>(mode, input, state)
     }
 
     fn add_error_choice(&mut self, error: &mut Tracked<Input::Error>) {
@@ -360,7 +360,7 @@ impl<
             (&mut self.0, (&mut self.1, &mut self.2)),
             ((&mut self.3, &mut self.4), (&mut self.5, &mut self.6)),
         );
-        halves.choose::<_, First>(mode, input, state)
+        halves.choose::<_, FirstHalf>(mode, input, state)
     }
 
     fn add_error_choice(&mut self, error: &mut Tracked<Input::Error>) {
@@ -421,7 +421,7 @@ impl<
             ((&mut self.0, &mut self.1), (&mut self.2, &mut self.3)),
             ((&mut self.4, &mut self.5), (&mut self.6, &mut self.7)),
         );
-        halves.choose::<_, First>(mode, input, state)
+        halves.choose::<_, FirstHalf>(mode, input, state)
     }
 
     fn add_error_choice(&mut self, error: &mut Tracked<Input::Error>) {

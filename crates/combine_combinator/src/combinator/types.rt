@@ -9,11 +9,10 @@ ghost use Rattle.combine_base.specs.Stream.Calls.{Passes};
 use super::TryState;
 pub use super::look::{LookAhead, NoPartial, NotFollowedBy};
 pub use super::values::{Ignore, Nothing, Pick, Picked};
-use combine_base::distance::{measure, pass_over};
-use combine_base::error::{ErrorOffset, ParseError, ParseResult, Tracked};
+use combine_base::distance::{measure, pass_tokens};
+use combine_base::error::{ErrorOffset, ParseError, ParseResult, Tracked, accepted_after};
 use combine_base::maps::Maps;
 use combine_base::parser::{Outputs, ParseMode, Parser};
-use combine_base::sequence::accepted_after;
 use combine_base::stream::{Kind, Positioned, ResetStream, Stream, StreamOnce, needs_more};
 use std::marker::PhantomData;
 
@@ -129,7 +128,7 @@ impl<Input: Stream, P: Parser<Input>> Parser<Input> for Try<P> {
         let start = input.checkpoint();
         let position = input.position();
         let distance = state.begin(mode.is_first());
-        if let Err(kind) = pass_over(input, distance) {
+        if let Err(kind) = pass_tokens(input, distance) {
             return fault(input, lost(kind), position, &mut state.part);
         }
         match self.0.parse_mode(mode, input, &mut state.part) {

@@ -13,7 +13,7 @@ use std::marker::PhantomData;
 /// How a value is changed, or refused. Our own.
 ///
 /// The crate writes each of its parsers by itself.
-pub trait Change<Input: Stream, A> {
+pub trait ValueChange<Input: Stream, A> {
     ghost use Rattle.std.specs.Prelude.{◌≡◌, ℕ};
     ghost use Rattle.combine_base.specs.Stream.Calls.{Passes};
     ghost use Rattle.combine_combinator_function.specs.Changes.{Changes};
@@ -86,7 +86,7 @@ impl<Input, P, C, B: Drop> Outputs<Input> for Changed<P, C, B> {
     type Output = B;
 }
 
-impl<Input: Stream, P: Parser<Input>, B: Drop, C: Change<Input, P::Output, Output = B>> Parser<
+impl<Input: Stream, P: Parser<Input>, B: Drop, C: ValueChange<Input, P::Output, Output = B>> Parser<
     Input,
 > for Changed<P, C, B> {
     type PartialState = P::PartialState;

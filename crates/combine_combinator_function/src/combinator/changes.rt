@@ -4,7 +4,7 @@ ghost use Rattle.std.specs.Str.{IsUtf8};
 ghost use Rattle.combine_base.specs.declared.stream.Kind.TheVariants as kinds;
 ghost use Rattle.combine_combinator_function.specs.Changes.{AnsweredItem, AnsweredKind, ErrorKinds, GivesAt, InPlace, ItemKinds, MadeOf, MadeSaying, Misread, unreadable};
 
-use super::changed::Change;
+use super::changed::ValueChange;
 use super::text::StrLike;
 use combine_base::error::{DetailedError, ErrorOffset, Info, ParseError, StreamError};
 use combine_base::stream::{Kind, Stream, StreamOnce};
@@ -13,10 +13,10 @@ use std::str::FromStr;
 
 /// A function that returns a value, or the error of the stream that the value is refused with.
 #[derive(Clone, Copy, Drop)]
-pub struct Answering<F>(pub(super) F);
+pub struct FlatMapFn<F>(pub(super) F);
 
-impl<Input: Stream, A, B: Drop, F: Fn(A) -> Result<B, Input::Error>> Change<Input, A>
-    for Answering<F> {
+impl<Input: Stream, A, B: Drop, F: Fn(A) -> Result<B, Input::Error>> ValueChange<Input, A>
+    for FlatMapFn<F> {
     type Output = B;
 
     ghost callable = { λ f a. F.pre f.0 a × ErrorKinds Input.Error.seen.kind (F.post f.0 a) };
@@ -50,7 +50,7 @@ impl<Input: Stream, A, B: Drop, F: Fn(A) -> Result<B, Input::Error>> Change<Inpu
 
 /// A function that returns a value, or what the error says that the value is refused with.
 #[derive(Clone, Copy, Drop)]
-pub struct Trying<F>(pub(super) F);
+pub struct AndThenFn<F>(pub(super) F);
 
 impl<
     Input: Stream,
@@ -60,7 +60,7 @@ impl<
         <Input::Error as DetailedError<Input::Token, Input::Range, Input::Position>>::StreamError,
     >,
     F: Fn(A) -> Result<B, E>,
-> Change<Input, A> for Trying<F>
+> ValueChange<Input, A> for AndThenFn<F>
 where
     Input::Error: DetailedError<Input::Token, Input::Range, Input::Position>,
 {
@@ -105,9 +105,9 @@ where
 
 /// A function of the value and of the stream, which it leaves in place.
 #[derive(Clone, Copy, Drop)]
-pub struct Seeing<F>(pub(super) F);
+pub struct MapInputFn<F>(pub(super) F);
 
-impl<Input: Stream, A, B: Drop, F: Fn(A, &mut Input) -> B> Change<Input, A> for Seeing<F> {
+impl<Input: Stream, A, B: Drop, F: Fn(A, &mut Input) -> B> ValueChange<Input, A> for MapInputFn<F> {
     type Output = B;
 
     ghost callable = { λ f a. ((i : _) → F.pre f.0 a i) × InPlace Input.view Input.marks Input.failures (λ i b l. F.post f.0 a i b l) };
@@ -142,9 +142,9 @@ impl<Input: Stream, A, B: Drop, F: Fn(A, &mut Input) -> B> Change<Input, A> for 
 /// The text of the value, read as a `T`.
 #[derive(Drop)]
 #[derive_where(Clone, Copy)]
-pub struct Read<T>(pub(super) PhantomData<T>);
+pub struct FromStrFn<T>(pub(super) PhantomData<T>);
 
-impl<Input: Stream, A: StrLike + Drop, T: FromStr + Drop> Change<Input, A> for Read<T>
+impl<Input: Stream, A: StrLike + Drop, T: FromStr + Drop> ValueChange<Input, A> for FromStrFn<T>
 where
     T::Err: Drop,
 {

@@ -38,7 +38,7 @@ pub struct NoMemory;
 
 /// A function of the stream.
 #[derive(Clone, Copy, Drop)]
-pub struct Plain<F>(pub(super) F);
+pub struct WithoutEnv<F>(pub(super) F);
 
 /// A function of what it needs, and of the stream.
 #[derive(Clone, Copy, Drop)]
@@ -48,7 +48,7 @@ pub struct WithEnv<E, F> {
 }
 
 impl<Input: Stream, O: Drop, F: Fn(&mut Input) -> StdParseResult<O, Input>> Call<Input>
-    for Plain<F> {
+    for WithoutEnv<F> {
     type Value = O;
 
     ghost callable = { λ f. F.IsAlwaysCallable f.0 };
@@ -93,7 +93,7 @@ pub struct Called<Input, C> {
 }
 
 /// The parser of [`parser`](crate::function::parser).
-pub type FnParser<Input, F> = Called<Input, Plain<F>>;
+pub type FnParser<Input, F> = Called<Input, WithoutEnv<F>>;
 
 /// The parser of [`env_parser`](crate::function::env_parser), with the type of the function as `F`, where the crate has that of the value.
 pub type EnvParser<E, Input, F> = Called<Input, WithEnv<E, F>>;

@@ -7,7 +7,7 @@ ghost use Rattle.combine_repeat_turns.specs.Repeat.RepeatParsers.{count_min_max_
 
 use combine_repeat_turns::repeat::count_min_max;
 use combine_repeat_turns::repeat::types::CountMinMax;
-use combine_sequence::sequence::types::Asked;
+use combine_sequence::sequence::types::NextParser;
 use combine_token::token::any;
 use combine_token::token::types::Any;
 use std::alloc::Global;
@@ -33,7 +33,7 @@ impl<Input> Framing<Input> {
     }
 }
 
-impl<Input> Asked<u16> for Framing<Input> {
+impl<Input> NextParser<u16> for Framing<Input> {
     ghost use Rattle.combine_decode.specs.Frames.{allocator_of};
 
     type Parser = CountMinMax<Vec<u8>, Any<Input>>;

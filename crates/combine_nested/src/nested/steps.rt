@@ -4,10 +4,9 @@ ghost use Rattle.combine_nested.specs.NestedSteps.{around, begins_steps, settles
 ghost use Rattle.combine_nested.specs.StepCalls.{CalledStep, Denies, TakesItem, ends_of, item_did};
 
 use super::{Frame, Next};
-use combine_base::error::{ParseResult, Tracked};
+use combine_base::error::{ParseResult, Tracked, accepted_after, refused_after};
 use combine_base::parser::{Calls, ParseMode, Parser};
 use combine_base::refusal::{peeked, refusal_saying};
-use combine_base::sequence::{accepted_after, refused_after};
 use combine_base::stream::{Kind, Stream, has_taken, needs_more};
 use std::alloc::AllocError;
 

@@ -8,8 +8,8 @@ ghost use Rattle.combine_range.specs.KeptDistance.{kept_is_meaning, kept_means_o
 ghost use Rattle.combine_range.specs.Range.Beginnings.{beginning_is_reading, beginning_is_single, takes_beginning};
 
 use crate::distance::Distance;
-use crate::passing::{
-    begin, hand_out, keep_distance, may_go_on, not_passed, pass_items, refused_here,
+use crate::kept_distance::{
+    begin, hand_out, is_undecided_end, keep_distance, not_passed, pass_items, refused_here,
 };
 use combine_base::error::{ErrorOffset, ParseResult, Tracked};
 use combine_base::maps::Maps;
@@ -55,7 +55,7 @@ where
     }
     match input.uncons_while(test) {
         Ok(range) => {
-            if may_go_on(input) {
+            if is_undecided_end(input) {
                 return keep_distance(start, position, input, state);
             }
             if distance > 0 {

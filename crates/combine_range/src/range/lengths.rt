@@ -7,7 +7,7 @@ ghost use Rattle.combine_range.specs.Range.Lengths.{matching, matching_is_readin
 ghost use Rattle.combine_range.specs.RangeReasons.{RefusesDiffering, RefusesLength};
 ghost use Rattle.combine_range.specs.WantedRanges.{Fair, given};
 
-use crate::passing::no_range;
+use crate::kept_distance::no_range;
 use combine_base::error::{ErrorOffset, Info, ParseError, ParseResult, Tracked};
 use combine_base::parser::{Outputs, ParseMode, Parser};
 use combine_base::stream::{Kind, Positioned, ResetStream, Stream, StreamOnce};

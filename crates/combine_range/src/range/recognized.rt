@@ -5,7 +5,7 @@ ghost use Rattle.combine_base.specs.Stream.Calls.{Passes};
 ghost use Rattle.combine_base.specs.Stream.View.{View, Takes};
 ghost use Rattle.combine_range.specs.Range.RecognizedRange.{HasValid, IsFresh, beside, recognized, recognized_is_meaning, recognized_means_one};
 
-use crate::passing::{hand_out, not_passed, pass_items};
+use crate::kept_distance::{hand_out, not_passed, pass_items};
 use combine_base::error::{ErrorOffset, ParseResult, Tracked};
 use combine_base::parser::{Outputs, ParseMode, Parser};
 use combine_base::stream::{Positioned, ResetStream, Stream, StreamOnce, needs_more};

@@ -7,7 +7,7 @@ ghost use Rattle.combine_range.specs.Range.UntilRange.{until_is_reading, until_i
 ghost use Rattle.combine_range.specs.WantedRanges.{Fair, given};
 
 use crate::distance::Distance;
-use crate::passing::{begin, hand_out, keep_distance, not_passed, pass_items};
+use crate::kept_distance::{begin, hand_out, keep_distance, not_passed, pass_items};
 use crate::places::seek;
 use combine_base::error::{ErrorOffset, ParseResult, Tracked};
 use combine_base::parser::{Outputs, ParseMode, Parser};

@@ -7,17 +7,17 @@ ghost use Rattle.combine_sequence.specs.Then.{forget};
 
 use combine_base::error::{ErrorOffset, Info, ParseError};
 use combine_base::stream::{Kind, Stream, StreamOnce};
-use combine_combinator_function::combinator::Change;
+use combine_combinator_function::combinator::ValueChange;
 use combine_range::range::take;
 use combine_range::range::types::Take;
-use combine_sequence::sequence::types::Asked;
+use combine_sequence::sequence::types::NextParser;
 use std::marker::PhantomData;
 
 /// The value as a `usize`; one that is none is refused. Our own.
 #[derive(Clone, Copy, Drop)]
 pub struct AsLength;
 
-impl<Input: Stream, A: TryInto<usize>> Change<Input, A> for AsLength
+impl<Input: Stream, A: TryInto<usize>> ValueChange<Input, A> for AsLength
 where
     A::Error: Drop,
 {
@@ -64,7 +64,7 @@ where
 #[derive_where(Clone, Copy)]
 pub struct Taking<Input>(pub(super) PhantomData<Input>);
 
-impl<Input> Asked<usize> for Taking<Input> {
+impl<Input> NextParser<usize> for Taking<Input> {
     type Parser = Take<Input>;
 
     type Kept = ();

@@ -9,15 +9,15 @@ ghost use Rattle.combine_repeat_sep.specs.Elements.{joined_is_meaning, joined_me
 ghost use Rattle.combine_repeat_sep.specs.Separated.{separated_default, separated_valid};
 ghost use Rattle.combine_repeat_turns.specs.Turns.Bounds.{begun_valid, running_turn};
 
-use crate::operands::{EachOperand, Operands};
+use crate::operands::{ChainOperands, EachOperand};
 use combine_base::error::{ErrorOffset, ParseResult, Tracked};
 use combine_base::parser::{Outputs, ParseMode, Parser};
 use combine_base::sequence::State2;
 use combine_base::stream::Stream;
 use combine_combinator::combinator::types::{Ignore, NoPartial};
 use combine_repeat::repeat::types::SkipMany;
-use combine_repeat_sep::separated::{Folds, Operator, Separated, SeparatedState};
-use combine_repeat_turns::turns::{TurnsState, take_joined};
+use combine_repeat_sep::separated::{ChainOperator, Folds, Separated, SeparatedState};
+use combine_repeat_turns::turns::{TurnsState, reduce_turns};
 use combine_token::choice::OrState;
 use combine_token::choice::types::Or;
 use combine_token::token::types::Token;
@@ -39,7 +39,7 @@ pub type EscapedState<Input, P, T, Q> = TurnsState<
 #[derive(Clone, Copy, Drop)]
 pub struct RightFold<P, S> {
     pub(super) alloc: Global,
-    pub(super) turn: Separated<P, S, Operator>,
+    pub(super) turn: Separated<P, S, ChainOperator>,
 }
 
 impl<Input, P: Outputs<Input>, S> Outputs<Input> for RightFold<P, S> {
@@ -51,10 +51,10 @@ where
     S::Output: Folds<P::Output>,
 {
     ghost use Rattle.std.specs.Prelude.{None};
-    ghost use Rattle.combine_repeat_turns.specs.declared.turns.Bounds.TheVariants.{Joined};
+    ghost use Rattle.combine_repeat_turns.specs.declared.turns.Bounds.TheVariants.{OwnFirst};
 
     type PartialState = TurnsState<
-        Operands<S::Output, P::Output>,
+        ChainOperands<S::Output, P::Output>,
         SeparatedState<S::Output, S::PartialState, P::PartialState>,
     >;
 
@@ -70,9 +70,9 @@ where
 
     ghost default_valid = { λ s d. (begun_valid _ _ (separated_default _ _ _ P.default_valid) s d, nothing_good (λ f. S.Output.callable f) s d.0) };
 
-    ghost laws = { λ p l. mapped_is_meaning _ _ _ _ (fewer_is_meaning (λ s d. d.0) (joined_is_meaning Input.step Input.Error.seen (Joined 1 None) each_operand (λ f. S.Output.callable f) _ _ _ _ _ _ (P.laws (right_part p) l.2) (S.laws (right_operator p) l.1))) };
+    ghost laws = { λ p l. mapped_is_meaning _ _ _ _ (fewer_is_meaning (λ s d. d.0) (joined_is_meaning Input.step Input.Error.seen (OwnFirst 1 None) each_operand (λ f. S.Output.callable f) _ _ _ _ _ _ (P.laws (right_part p) l.2) (S.laws (right_operator p) l.1))) };
 
-    ghost single = { λ p l d. mapped_means_one _ _ _ (fewer_means_one (λ s d. d.0) (joined_means_one Input.step Input.Error.seen (Joined 1 None) each_operand (λ f. S.Output.callable f) _ _ _ _ (P.single (right_part p) l.2 d.1) (S.single (right_operator p) l.1 d.0))) };
+    ghost single = { λ p l d. mapped_means_one _ _ _ (fewer_means_one (λ s d. d.0) (joined_means_one Input.step Input.Error.seen (OwnFirst 1 None) each_operand (λ f. S.Output.callable f) _ _ _ _ (P.single (right_part p) l.2 d.1) (S.single (right_operator p) l.1 d.0))) };
 
     #[inline(always)]
     fn parse_mode<M: ParseMode>(
@@ -82,13 +82,13 @@ where
         state: &mut Self::PartialState,
     ) -> ParseResult<P::Output, Input::Error> {
         let alloc = self.alloc;
-        match take_joined::<EachOperand<S::Output, P::Output>, Input, Separated<P, S, Operator>, M>(
-            &mut self.turn,
-            alloc,
-            mode,
-            input,
-            state,
-        ) {
+        match reduce_turns::<
+            EachOperand<S::Output, P::Output>,
+            Input,
+            Separated<P, S, ChainOperator>,
+            M,
+        >(&mut self.turn, alloc, mode, input, state)
+        {
             ParseResult::CommitOk(operands) => ParseResult::CommitOk(operands.fold()),
             ParseResult::PeekOk(operands) => ParseResult::PeekOk(operands.fold()),
             ParseResult::CommitErr(error) => ParseResult::CommitErr(error),

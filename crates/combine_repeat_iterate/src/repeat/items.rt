@@ -8,29 +8,28 @@ ghost use Rattle.combine_repeat_iterate.specs.ItemParsers.{begins_items};
 ghost use Rattle.combine_repeat_iterate.specs.ItemCalls.{CalledItem, Stores};
 ghost use Rattle.combine_repeat_iterate.specs.ItemErrors.{item_refuses};
 
-use combine_base::error::ParseResult;
+use combine_base::error::{ParseResult, refused_after};
 use combine_base::parser::{Calls, ParseMode, Parser};
 use combine_base::repeat::Append;
-use combine_base::sequence::refused_after;
 use combine_base::stream::{Kind, Stream, needs_more};
 use std::alloc::AllocError;
 
 /// What is kept of the items: the values of those that are over, whether there are some, whether one of them was committed, and an iterator of those that are left.
 #[derive(Drop)]
-pub struct Collected<C, I> {
+pub struct CollectedItems<C, I> {
     pub(super) values: C,
     pub(super) is_begun: bool,
     pub(super) committed: bool,
     pub(super) items: I,
 }
 
-impl<C, I> Collected<C, I> {
+impl<C, I> CollectedItems<C, I> {
     /// Returns what is kept where no item is over.
     #[inline]
-    pub(super) fn none_yet(values: C, items: I) -> Collected<C, I>
+    pub(super) fn none_yet(values: C, items: I) -> CollectedItems<C, I>
         ensures { result ≡ record { values = values; is_begun = false; committed = false; items = items } }
     {
-        Collected {
+        CollectedItems {
             values,
             is_begun: false,
             committed: false,
@@ -42,7 +41,7 @@ impl<C, I> Collected<C, I> {
 /// What is kept of an item whose parser runs: that parser, its state, and what is kept of the other items.
 #[derive(Drop)]
 pub struct RunningItem<C, I, N, U> {
-    pub(super) before: Collected<C, I>,
+    pub(super) before: CollectedItems<C, I>,
     pub(super) parser: N,
     pub(super) state: U,
 }
@@ -68,7 +67,7 @@ impl<C, I, N, U> Default for IterateState<C, I, N, U> {
 /// What an item's parser did.
 pub(super) enum Item<C, I, E> {
     /// It was accepted, and the next item's turn comes.
-    Goes(Collected<C, I>),
+    Goes(CollectedItems<C, I>),
     /// That is the result.
     Stops(ParseResult<C, E>),
 }
@@ -76,20 +75,20 @@ pub(super) enum Item<C, I, E> {
 /// Adds the value of one more item.
 #[inline(always)]
 fn store<B, C: Append<B>, I: Drop>(
-    before: Collected<C, I>,
+    before: CollectedItems<C, I>,
     value: B,
     committed: bool,
-) -> Result<Collected<C, I>, AllocError>
+) -> Result<CollectedItems<C, I>, AllocError>
     ensures { MatchResult result (Stores C.held C.more before value committed) (λ _. C.lean → ⊥) }
 {
-    let Collected {
+    let CollectedItems {
         mut values,
         is_begun: _,
         committed: earlier,
         items,
     } = before;
     values.append(value)?;
-    Ok(Collected {
+    Ok(CollectedItems {
         values,
         is_begun: true,
         committed: earlier || committed,

@@ -3,12 +3,12 @@ ghost use Rattle.combine_base.specs.Parser.KeptParsers.{KeptOf};
 ghost use Rattle.combine_repeat_iterate.specs.ListedItems.{InPlace, ListsOne, any_of, asks, asked_part, gives_all, gives_one, items_part, lists};
 ghost use Rattle.combine_repeat_iterate.specs.ItemParsers.{AnswersOne, iterated, iterated_is_meaning, iterated_means_one, starts_valid, valid_item};
 
-use super::items::{Collected, Item, parse_item, resume_item};
+use super::items::{CollectedItems, Item, parse_item, resume_item};
 pub use super::items::{IterateState, RunningItem};
-use combine_base::error::{ErrorOffset, ParseResult, Tracked};
+use combine_base::error::{ErrorOffset, ParseResult, Tracked, accepted_after};
 use combine_base::parser::{FirstMode, Outputs, ParseMode, Parser};
 use combine_base::repeat::Append;
-use combine_base::sequence::{accepted_after, take_state};
+use combine_base::sequence::take_state;
 use combine_base::stream::{Kind, Stream};
 use std::alloc::Global;
 use std::marker::PhantomData;
@@ -63,14 +63,14 @@ where
         input: &mut Input,
         state: &mut Self::PartialState,
     ) -> ParseResult<C, Input::Error> {
-        let mut collected: Collected<C, J::IntoIter>;
+        let mut collected: CollectedItems<C, J::IntoIter>;
         match take_state(mode, state) {
             IterateState::Running(item) => match resume_item(mode, input, item, state) {
                 Item::Goes(next) => collected = next,
                 Item::Stops(answer) => return answer,
             },
             IterateState::Start => match self.items.clone() {
-                Ok(items) => collected = Collected::none_yet(
+                Ok(items) => collected = CollectedItems::none_yet(
                     C::empty(self.alloc),
                     items.into_iter(),
                 ),

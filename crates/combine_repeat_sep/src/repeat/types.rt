@@ -9,13 +9,13 @@ ghost use Rattle.combine_repeat_sep.specs.Elements.{chainl1, elements, folded, j
 ghost use Rattle.combine_repeat_sep.specs.Separated.{any_lead, separated_default, separated_fresh, separated_valid};
 
 use crate::elements::{EachElement, Folded};
-use crate::separated::{Anything, Folds, Operator, Separated, SeparatedState};
+use crate::separated::{Anything, ChainOperator, Folds, Separated, SeparatedState};
 use combine_base::error::{ErrorOffset, ParseResult, Tracked};
 use combine_base::parser::{Outputs, ParseMode, Parser};
 use combine_base::repeat::Append;
 use combine_base::stream::Stream;
-use combine_repeat_turns::turns::limits::{Bounded, JoinedBetween, JoinedFrom};
-use combine_repeat_turns::turns::{Turns, TurnsState, take_joined, take_turns};
+use combine_repeat_turns::turns::turn_bounds::{FirstThenMore, FirstThenUpTo, TurnBounds};
+use combine_repeat_turns::turns::{TurnProgress, TurnsState, reduce_turns, take_turns};
 use std::alloc::Global;
 use std::marker::PhantomData;
 
@@ -56,19 +56,19 @@ impl<F, P, S, B> RepeatSeparated<F, P, S, B> {
 }
 
 /// The parser of [`sep_count_min_max`](crate::repeat::sep_count_min_max).
-pub type SepCountMinMax<F, P, S> = RepeatSeparated<F, P, S, JoinedBetween>;
+pub type SepCountMinMax<F, P, S> = RepeatSeparated<F, P, S, FirstThenUpTo>;
 
 /// The parser of [`sep_by`](crate::repeat::sep_by).
-pub type SepBy<F, P, S> = RepeatSeparated<F, P, S, JoinedFrom<0>>;
+pub type SepBy<F, P, S> = RepeatSeparated<F, P, S, FirstThenMore<0>>;
 
 /// The parser of [`sep_by1`](crate::repeat::sep_by1).
-pub type SepBy1<F, P, S> = RepeatSeparated<F, P, S, JoinedFrom<1>>;
+pub type SepBy1<F, P, S> = RepeatSeparated<F, P, S, FirstThenMore<1>>;
 
 impl<Input, F: Drop, P, S, B> Outputs<Input> for RepeatSeparated<F, P, S, B> {
     type Output = F;
 }
 
-impl<Input: Stream, P: Parser<Input>, S: Parser<Input>, F: Append<P::Output>, B: Bounded> Parser<
+impl<Input: Stream, P: Parser<Input>, S: Parser<Input>, F: Append<P::Output>, B: TurnBounds> Parser<
     Input,
 > for RepeatSeparated<F, P, S, B> {
     type PartialState = TurnsState<F, SeparatedState<S::Output, S::PartialState, P::PartialState>>;
@@ -96,7 +96,7 @@ impl<Input: Stream, P: Parser<Input>, S: Parser<Input>, F: Append<P::Output>, B:
         input: &mut Input,
         state: &mut Self::PartialState,
     ) -> ParseResult<F, Input::Error> {
-        let start = Turns::none_yet(F::empty(self.alloc));
+        let start = TurnProgress::none_yet(F::empty(self.alloc));
         take_turns::<EachElement<F>, Input, Separated<P, S, Anything>, M, B>(
             &mut self.turn,
             self.bounds,
@@ -125,7 +125,7 @@ impl<Input: Stream, P: Parser<Input>, S: Parser<Input>, F: Append<P::Output>, B:
 
 /// The parser of [`chainl1`](crate::repeat::chainl1).
 #[derive(Clone, Copy, Drop)]
-pub struct Chainl1<P, S>(pub(super) Separated<P, S, Operator>);
+pub struct Chainl1<P, S>(pub(super) Separated<P, S, ChainOperator>);
 
 impl<Input, P: Outputs<Input>, S> Outputs<Input> for Chainl1<P, S> {
     type Output = P::Output;
@@ -136,7 +136,7 @@ where
     S::Output: Folds<P::Output>,
 {
     ghost use Rattle.std.specs.Prelude.{None};
-    ghost use Rattle.combine_repeat_turns.specs.declared.turns.Bounds.TheVariants.{Joined};
+    ghost use Rattle.combine_repeat_turns.specs.declared.turns.Bounds.TheVariants.{OwnFirst};
 
     type PartialState = TurnsState<
         P::Output,
@@ -155,9 +155,9 @@ where
 
     ghost default_valid = { begun_valid (separated_fresh P.PartialState.is_default) (separated_valid P.valid (led_valid (λ f. S.Output.callable f) S.valid P.valid)) (separated_default P.PartialState.is_default P.valid (led_valid (λ f. S.Output.callable f) S.valid P.valid) P.default_valid) };
 
-    ghost laws = { λ p l. joined_is_meaning Input.step Input.Error.seen (Joined 1 None) (folded (λ f x y r. S.Output.answers f x y r)) (λ f. S.Output.callable f) _ _ _ _ _ _ (P.laws (chained_part p) l.2) (S.laws (chained_operator p) l.1) };
+    ghost laws = { λ p l. joined_is_meaning Input.step Input.Error.seen (OwnFirst 1 None) (folded (λ f x y r. S.Output.answers f x y r)) (λ f. S.Output.callable f) _ _ _ _ _ _ (P.laws (chained_part p) l.2) (S.laws (chained_operator p) l.1) };
 
-    ghost single = { λ p l d. joined_means_one Input.step Input.Error.seen (Joined 1 None) (folded (λ f x y r. S.Output.answers f x y r)) (λ f. S.Output.callable f) _ _ _ _ (P.single (chained_part p) l.2 d.1) (S.single (chained_operator p) l.1 d.0) };
+    ghost single = { λ p l d. joined_means_one Input.step Input.Error.seen (OwnFirst 1 None) (folded (λ f x y r. S.Output.answers f x y r)) (λ f. S.Output.callable f) _ _ _ _ (P.single (chained_part p) l.2 d.1) (S.single (chained_operator p) l.1 d.0) };
 
     #[inline(always)]
     fn parse_mode<M: ParseMode>(
@@ -166,7 +166,7 @@ where
         input: &mut Input,
         state: &mut Self::PartialState,
     ) -> ParseResult<P::Output, Input::Error> {
-        take_joined::<Folded<P::Output>, Input, Separated<P, S, Operator>, M>(
+        reduce_turns::<Folded<P::Output>, Input, Separated<P, S, ChainOperator>, M>(
             &mut self.0,
             (),
             mode,

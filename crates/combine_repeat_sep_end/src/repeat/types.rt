@@ -13,8 +13,8 @@ use combine_base::parser::{Outputs, ParseMode, Parser};
 use combine_base::repeat::Append;
 use combine_base::stream::Stream;
 use combine_repeat_sep::separated::SeparatedState;
-use combine_repeat_turns::turns::limits::{Bounded, JoinedFrom};
-use combine_repeat_turns::turns::{Turns, TurnsState, take_turns};
+use combine_repeat_turns::turns::turn_bounds::{FirstThenMore, TurnBounds};
+use combine_repeat_turns::turns::{TurnProgress, TurnsState, take_turns};
 use combine_token::choice::optional;
 use std::alloc::Global;
 use std::marker::PhantomData;
@@ -48,16 +48,16 @@ impl<F, P, S, B> RepeatEnded<F, P, S, B> {
 }
 
 /// The parser of [`sep_end_by`](crate::repeat::sep_end_by).
-pub type SepEndBy<F, P, S> = RepeatEnded<F, P, S, JoinedFrom<0>>;
+pub type SepEndBy<F, P, S> = RepeatEnded<F, P, S, FirstThenMore<0>>;
 
 /// The parser of [`sep_end_by1`](crate::repeat::sep_end_by1).
-pub type SepEndBy1<F, P, S> = RepeatEnded<F, P, S, JoinedFrom<1>>;
+pub type SepEndBy1<F, P, S> = RepeatEnded<F, P, S, FirstThenMore<1>>;
 
 impl<Input, F: Drop, P, S, B> Outputs<Input> for RepeatEnded<F, P, S, B> {
     type Output = F;
 }
 
-impl<Input: Stream, P: Parser<Input>, S: Parser<Input>, F: Append<P::Output>, B: Bounded> Parser<
+impl<Input: Stream, P: Parser<Input>, S: Parser<Input>, F: Append<P::Output>, B: TurnBounds> Parser<
     Input,
 > for RepeatEnded<F, P, S, B> {
     type PartialState = TurnsState<F, SeparatedState<S::Output, S::PartialState, P::PartialState>>;
@@ -85,7 +85,7 @@ impl<Input: Stream, P: Parser<Input>, S: Parser<Input>, F: Append<P::Output>, B:
         input: &mut Input,
         state: &mut Self::PartialState,
     ) -> ParseResult<F, Input::Error> {
-        let start = Turns::none_yet(F::empty(self.alloc));
+        let start = TurnProgress::none_yet(F::empty(self.alloc));
         take_turns::<EachSome<F>, Input, Ended<P, S>, M, B>(
             &mut self.turn,
             self.bounds,

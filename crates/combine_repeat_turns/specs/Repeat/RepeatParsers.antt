@@ -3,12 +3,12 @@ use Rattle.std.specs.Prelude.{ℕ}
 use Rattle.std.specs.declared.alloc.Global.{Global}
 use Rattle.combine_repeat_turns.specs.declared.each.Dropped.{Dropped}
 use Rattle.combine_repeat_turns.specs.declared.each.Each.{Each}
-use Rattle.combine_repeat_turns.specs.declared.each.Plain.{Plain}
+use Rattle.combine_repeat_turns.specs.declared.each.SameParser.{SameParser}
 use Rattle.combine_repeat_turns.specs.declared.repeat.types.Repeat.{Repeat}
-use Rattle.combine_repeat_turns.specs.declared.turns.limits.Between.{Between}
+use Rattle.combine_repeat_turns.specs.declared.turns.turn_bounds.MinToMax.{MinToMax}
 
 -- the same parser in each turn
-abbrev pub plain_parser : {P : Type 0} → Plain P → P
+abbrev pub plain_parser : {P : Type 0} → SameParser P → P
 plain_parser p = p.0
 
 -- the parser of turns, which parser it repeats, and how often
@@ -25,18 +25,18 @@ bounds_of p = p.bounds
 abbrev pub each_of : {F : Type 0} → Global → Each F
 each_of alloc = record { alloc = alloc; collects = record {} }
 
-abbrev pub between_of : ℕ → ℕ → Between
-between_of least most = record { least = least; most = most }
+abbrev pub between_of : ℕ → ℕ → MinToMax
+between_of least most = record { min = least; max = most }
 
 -- what the constructors of counted repetitions build
-abbrev pub count_min_max_of : {F P : Type 0} → Global → ℕ → ℕ → P → Repeat (Each F) P Between
+abbrev pub count_min_max_of : {F P : Type 0} → Global → ℕ → ℕ → P → Repeat (Each F) P MinToMax
 count_min_max_of alloc least most parser = repeat_of (each_of alloc) parser (between_of least most)
 
-abbrev pub skip_count_min_max_of : {P : Type 0} → ℕ → ℕ → P → Repeat Dropped P Between
+abbrev pub skip_count_min_max_of : {P : Type 0} → ℕ → ℕ → P → Repeat Dropped P MinToMax
 skip_count_min_max_of least most parser = repeat_of (record {}) parser (between_of least most)
 
-abbrev pub least_of : {G P : Type 0} → Repeat G P Between → ℕ
-least_of p = (bounds_of p).least
+abbrev pub least_of : {G P : Type 0} → Repeat G P MinToMax → ℕ
+least_of p = (bounds_of p).min
 
-abbrev pub most_of : {G P : Type 0} → Repeat G P Between → ℕ
-most_of p = (bounds_of p).most
+abbrev pub most_of : {G P : Type 0} → Repeat G P MinToMax → ℕ
+most_of p = (bounds_of p).max

@@ -3,14 +3,14 @@ use Rattle.std.specs.Prelude.{ℕ, ◌≡◌, ◌+◌, ◌-◌, Bool, true, fals
 use Rattle.combine_base.specs.Parser.Outcome.{Outcome, Accepted, Refused, Undecided, after, shape, IsDecided, IsCommitted}
 use Rattle.combine_repeat_turns.specs.Turns.Blocks.{Turn, Goes, Stops, Rule, Collecting, SoFar, Block, outcome, Turned, IsRule, IsJudgedOnce, turned_is_reading, turned_is_single, turned_into}
 use Rattle.combine_repeat_turns.specs.declared.turns.Bounds.{Bounds}
-use Rattle.combine_repeat_turns.specs.declared.turns.Bounds.TheVariants.{Any, Joined, Counted}
-use Rattle.combine_repeat_turns.specs.declared.turns.Place.{Place}
-use Rattle.combine_repeat_turns.specs.declared.turns.limits.JoinedBetween.{JoinedBetween}
-use Rattle.combine_repeat_turns.specs.declared.turns.limits.Between.{Between}
-use Rattle.combine_repeat_turns.specs.declared.turns.Turns.{Turns as Kept}
+use Rattle.combine_repeat_turns.specs.declared.turns.Bounds.TheVariants.{Unbounded, OwnFirst, Counted}
+use Rattle.combine_repeat_turns.specs.declared.turns.TurnIndex.{TurnIndex}
+use Rattle.combine_repeat_turns.specs.declared.turns.turn_bounds.FirstThenUpTo.{FirstThenUpTo}
+use Rattle.combine_repeat_turns.specs.declared.turns.turn_bounds.MinToMax.{MinToMax}
+use Rattle.combine_repeat_turns.specs.declared.turns.TurnProgress.{TurnProgress}
 use Rattle.combine_repeat_turns.specs.declared.turns.TurnsState.{TurnsState}
 use Rattle.combine_repeat_turns.specs.declared.turns.Earlier.{Earlier}
-use Rattle.combine_repeat_turns.specs.declared.turns.Earlier.TheVariants.{Nothing, Turns}
+use Rattle.combine_repeat_turns.specs.declared.turns.Earlier.TheVariants.{Nothing, Gathered}
 use Rattle.combine_base.specs.Error.Errors.{Errors, Only}
 use Rattle.combine_base.specs.Error.Items.{Count, Fixed, Message}
 use Rattle.combine_base.specs.Parser.DriverAnswers.{IsRefusal}
@@ -19,33 +19,33 @@ use Rattle.combine_base.specs.Refusals.{Saying}
 use Rattle.combine_base.specs.Stream.View.{View, advanced}
 use Rattle.combine_base.specs.declared.stream.Kind.TheVariants as kinds
 use Rattle.combine_repeat_turns.specs.Turns.Turn.{Start, started, from_start, from_state, IsTurn, StartsSame, TurnsSame, EndsOnce, TurnsOnce}
-use Rattle.combine_repeat_turns.specs.declared.turns.First.{First as FirstDone}
-use Rattle.combine_repeat_turns.specs.declared.turns.First.TheVariants as first
-use Rattle.combine_repeat_turns.specs.declared.turns.Step.{Step}
-use Rattle.combine_repeat_turns.specs.declared.turns.Step.TheVariants as steps
-use Rattle.combine_repeat_turns.specs.declared.turns.Stop.{Stop}
-use Rattle.combine_repeat_turns.specs.declared.turns.Stop.TheVariants as stop
+use Rattle.combine_repeat_turns.specs.declared.turns.FirstStep.{FirstStep}
+use Rattle.combine_repeat_turns.specs.declared.turns.FirstStep.TheVariants as first
+use Rattle.combine_repeat_turns.specs.declared.turns.TurnStep.{TurnStep}
+use Rattle.combine_repeat_turns.specs.declared.turns.TurnStep.TheVariants as steps
+use Rattle.combine_repeat_turns.specs.declared.turns.TurnStop.{TurnStop}
+use Rattle.combine_repeat_turns.specs.declared.turns.TurnStop.TheVariants as stop
 use Rattle.std.proofs.Common.{arith, ap, sym, subst, ◌∙◌, lt-ltb, ltb-true, ltb-false, zero, suc, inl, inr}
 
 -- what bounds that are types of their own say
-abbrev pub joined_between : JoinedBetween → Bounds
-joined_between b = Joined b.least (Some b.most)
+abbrev pub joined_between : FirstThenUpTo → Bounds
+joined_between b = OwnFirst b.min (Some b.max)
 
-abbrev pub between : Between → Bounds
-between b = Counted b.least b.most
+abbrev pub between : MinToMax → Bounds
+between b = Counted b.min b.max
 
 -- how far turns are counted
 abbrev pub limit : Bounds → ℕ
-limit Any = 0
-limit (Joined least None) = if nat_lt least 1 then 1 else least
-limit (Joined least (Some most)) = most
+limit Unbounded = 0
+limit (OwnFirst least None) = if nat_lt least 1 then 1 else least
+limit (OwnFirst least (Some most)) = most
 limit (Counted least most) = most
 
 -- there may be any number of turns
 abbrev pub is_unbounded : Bounds → Bool
-is_unbounded Any = true
-is_unbounded (Joined least None) = true
-is_unbounded (Joined least (Some most)) = false
+is_unbounded Unbounded = true
+is_unbounded (OwnFirst least None) = true
+is_unbounded (OwnFirst least (Some most)) = false
 is_unbounded (Counted least most) = false
 
 -- one more, up to a limit
@@ -53,39 +53,39 @@ abbrev pub counted : ℕ → ℕ → ℕ
 counted most n = if nat_lt n most then n + 1 else most
 
 -- there are as many turns as there may be
-abbrev pub full_at : Bounds → Place → Bool
-full_at Any g = false
-full_at (Joined least None) g = false
-full_at (Joined least (Some most)) g = not (nat_lt g.number most)
+abbrev pub full_at : Bounds → TurnIndex → Bool
+full_at Unbounded g = false
+full_at (OwnFirst least None) g = false
+full_at (OwnFirst least (Some most)) g = not (nat_lt g.number most)
 full_at (Counted least most) g = not (nat_lt g.number most)
 
 -- so many turns are missing
-abbrev pub missing : Bounds → Place → ℕ
-missing Any g = 0
-missing (Joined least most) g = least - g.number
+abbrev pub missing : Bounds → TurnIndex → ℕ
+missing Unbounded g = 0
+missing (OwnFirst least most) g = least - g.number
 missing (Counted least most) g = least - g.number
 
-abbrev pub enough : Bounds → Place → Bool
+abbrev pub enough : Bounds → TurnIndex → Bool
 enough b g = not (nat_lt 0 (missing b g))
 
 -- a missing turn that is refused as its parser refuses it
-abbrev pub owns : Bounds → Place → Bool
-owns Any g = false
-owns (Joined least most) g = nat_lt g.number 1
+abbrev pub owns : Bounds → TurnIndex → Bool
+owns Unbounded g = false
+owns (OwnFirst least most) g = nat_lt g.number 1
 owns (Counted least most) g = false
 
 -- an accepted turn that took n tokens took one, now or before a cut
-abbrev pub takes_token : Place → ℕ → Bool → Bool
+abbrev pub takes_token : TurnIndex → ℕ → Bool → Bool
 takes_token g n k = k && (g.begun || nat_lt 0 n)
 
 -- the same, but for a first part of its own
-abbrev pub goes_joined : Place → ℕ → Bool → Bool
+abbrev pub goes_joined : TurnIndex → ℕ → Bool → Bool
 goes_joined g n k = if nat_lt g.number 1 then true else takes_token g n k
 
 -- it is a block; turns that are counted may take nothing
-abbrev pub goes_at : Bounds → Place → ℕ → Bool → Bool
-goes_at Any g n k = takes_token g n k
-goes_at (Joined least most) g n k = goes_joined g n k
+abbrev pub goes_at : Bounds → TurnIndex → ℕ → Bool → Bool
+goes_at Unbounded g n k = takes_token g n k
+goes_at (OwnFirst least most) g n k = goes_joined g n k
 goes_at (Counted least most) g n k = true
 
 -- what an accepted turn does: its value ends the turns, or it is a block, or it takes nothing and is refused, committed
@@ -100,18 +100,18 @@ refused_at enough true = Stops (Refused true)
 refused_at true false = Stops (Accepted tt 0 false)
 refused_at false false = Stops (Refused false)
 
-abbrev pub judged : {A : Type 0} → Bounds → (A → Bool) → Place → Outcome A → Turn
+abbrev pub judged : {A : Type 0} → Bounds → (A → Bool) → TurnIndex → Outcome A → Turn
 judged b ending g (Accepted a n k) = accepted_at n k (ending a) (goes_at b g n k)
 judged b ending g (Refused k) = refused_at (enough b g) k
 judged b ending g Undecided = Stops Undecided
 
-abbrev pub cut_at : Place → ℕ → Place
+abbrev pub cut_at : TurnIndex → ℕ → TurnIndex
 cut_at g n = record { number = g.number; begun = g.begun || nat_lt 0 n }
 
-abbrev pub next_of : Bounds → Place → Place
+abbrev pub next_of : Bounds → TurnIndex → TurnIndex
 next_of b g = record { number = counted (limit b) g.number; begun = false }
 
-abbrev pub bounded : {A : Type 0} → Bounds → (A → Bool) → Rule A Place
+abbrev pub bounded : {A : Type 0} → Bounds → (A → Bool) → Rule A TurnIndex
 bounded b ending = record { full = full_at b; judge = judged b ending; next = next_of b; cut = cut_at }
 
 -- how values are gathered
@@ -130,21 +130,21 @@ pub begun_valid : {V S : Type 0} (fresh valid : S → Type 0) → ((s : S) → f
 begun_valid fresh valid h s d = h s.running d.1
 
 -- what is kept says of the turns so far
-abbrev pub so_far : {V Held : Type 0} → (V → Held) → Kept V → SoFar Place Held
-so_far held t = record { mark = t.place; held = held t.into; committed = t.committed }
+abbrev pub so_far : {V Held : Type 0} → (V → Held) → TurnProgress V → SoFar TurnIndex Held
+so_far held t = record { mark = t.index; held = held t.into; committed = t.committed }
 
 -- before any turn
-abbrev pub none_yet : {Held : Type 0} → Held → SoFar Place Held
+abbrev pub none_yet : {Held : Type 0} → Held → SoFar TurnIndex Held
 none_yet h = record { mark = record { number = 0; begun = false }; held = h; committed = false }
 
 -- what is kept, or what the turns begin with
-abbrev pub kept_or : {V : Type 0} → Kept V → Earlier V → Kept V
+abbrev pub kept_or : {V : Type 0} → TurnProgress V → Earlier V → TurnProgress V
 kept_or start Nothing = start
-kept_or start (Turns t) = t
+kept_or start (Gathered t) = t
 
-abbrev pub so_far_or : {V Held : Type 0} → SoFar Place Held → (V → Held) → Earlier V → SoFar Place Held
+abbrev pub so_far_or : {V Held : Type 0} → SoFar TurnIndex Held → (V → Held) → Earlier V → SoFar TurnIndex Held
 so_far_or start held Nothing = start
-so_far_or start held (Turns t) = so_far held t
+so_far_or start held (Gathered t) = so_far held t
 
 -- each outcome and each error of the first is one of the second
 pub record StartsInto {P T E A : Type 0} (s s' : Start P T E A) : Type 0 where
@@ -156,7 +156,7 @@ refusal_into s s' i v w committed e x = record { meant = i.reads v (Refused comm
 
 module _ {P T R A E : Type 0} (step : P → T → P) (errors : Errors T R P E) (b : Bounds) (ending : A → Bool) where
   -- why the turn at a place is the refusal, by what it starts with and the view that it leaves
-  pub data RefusesHere (s : Start P T E A) (g : Place) (v w : View P T) (committed : Bool) (e : E) : Type 0 where
+  pub data RefusesHere (s : Start P T E A) (g : TurnIndex) (v w : View P T) (committed : Bool) (e : E) : Type 0 where
     -- it is refused committed
     Own : (is : committed ≡ true) (refuses : MeantRefusal s.reads s.refuses v w true e) → RefusesHere s g v w committed e
     -- it is missing, and its own refusal is the answer
@@ -167,7 +167,7 @@ module _ {P T R A E : Type 0} (step : P → T → P) (errors : Errors T R P E) (
     Idle : (is : committed ≡ true) (value : A) (count : ℕ) (kind : Bool) (accepted : s.reads v (Accepted value count kind)) (on : ending value ≡ false) (nothing : goes_at b g count kind ≡ false) (told : Saying errors kinds.Refused v.position (Only (Message (Fixed (codes "repetition takes nothing")))) e) → RefusesHere s g v w committed e
 
   -- the same of a start whose outcomes and errors are all those of another
-  pub here_into : (s s' : Start P T E A) → StartsInto s s' → (g : Place) (v w : View P T) (committed : Bool) (e : E) → RefusesHere s g v w committed e → RefusesHere s' g v w committed e
+  pub here_into : (s s' : Start P T E A) → StartsInto s s' → (g : TurnIndex) (v w : View P T) (committed : Bool) (e : E) → RefusesHere s g v w committed e → RefusesHere s' g v w committed e
   here_into s s' i g v w committed e (Own is r) = Own is (refusal_into s s' i v w true e r)
   here_into s s' i g v w committed e (Missing is few owned r) = Missing is few owned (refusal_into s s' i v w false e r)
   here_into s s' i g v w committed e (Few is few other own r told) = Few is few other own (refusal_into s s' i v w false own r) told
@@ -175,61 +175,61 @@ module _ {P T R A E : Type 0} (step : P → T → P) (errors : Errors T R P E) (
 
   module _ (later : Start P T E A) where
     -- these blocks, and then a turn that is the refusal, which is committed where a block or that turn is
-    abbrev pub refuses_behind : Start P T E A → Place → Bool → List (Block A) → View P T → View P T → Bool → E → Type 0
+    abbrev pub refuses_behind : Start P T E A → TurnIndex → Bool → List (Block A) → View P T → View P T → Bool → E → Type 0
     refuses_behind s g before [] v w committed e = (full_at b g ≡ false) × (own : Bool) × RefusesHere s g v w own e × (committed ≡ (before || own))
     refuses_behind s g before (x ∷ xs) v w committed e = (full_at b g ≡ false) × s.reads v (outcome x) × (judged b ending g (outcome x) ≡ Goes) × refuses_behind later (next_of b g) (before || x.committed) xs (advanced step x.count v) w committed e
 
     -- the error of a refusal of turns, the first of which starts so, at that place, behind a turn that committed or not
-    pub record RefusesOnward (s : Start P T E A) (g : Place) (before : Bool) (v w : View P T) (committed : Bool) (e : E) : Type 0 where
+    pub record RefusesOnward (s : Start P T E A) (g : TurnIndex) (before : Bool) (v w : View P T) (committed : Bool) (e : E) : Type 0 where
       pub blocks : List (Block A)
       pub is : refuses_behind s g before blocks v w committed e
 
-  behind_into : (later later' : Start P T E A) → StartsInto later later' → (s s' : Start P T E A) → StartsInto s s' → (g : Place) (before : Bool) (xs : List (Block A)) (v w : View P T) (committed : Bool) (e : E) → refuses_behind later s g before xs v w committed e → refuses_behind later' s' g before xs v w committed e
+  behind_into : (later later' : Start P T E A) → StartsInto later later' → (s s' : Start P T E A) → StartsInto s s' → (g : TurnIndex) (before : Bool) (xs : List (Block A)) (v w : View P T) (committed : Bool) (e : E) → refuses_behind later s g before xs v w committed e → refuses_behind later' s' g before xs v w committed e
   behind_into later later' i s s' j g before [] v w committed e x = (x.0, x.1, here_into s s' j g v w x.1 e x.2, x.3)
   behind_into later later' i s s' j g before (y ∷ ys) v w committed e x = (x.0, j.reads v (outcome y) x.1, x.2, behind_into later later' i later later' i (next_of b g) (before || y.committed) ys (advanced step y.count v) w committed e x.3)
 
   -- turns whose outcomes and errors are among those of others
-  pub onward_into : (later later' : Start P T E A) → StartsInto later later' → (s s' : Start P T E A) → StartsInto s s' → (g : Place) (before : Bool) (v w : View P T) (committed : Bool) (e : E) → RefusesOnward later s g before v w committed e → RefusesOnward later' s' g before v w committed e
+  pub onward_into : (later later' : Start P T E A) → StartsInto later later' → (s s' : Start P T E A) → StartsInto s s' → (g : TurnIndex) (before : Bool) (v w : View P T) (committed : Bool) (e : E) → RefusesOnward later s g before v w committed e → RefusesOnward later' s' g before v w committed e
   onward_into later later' i s s' j g before v w committed e x = record { blocks = x.blocks; is = behind_into later later' i s s' j g before x.blocks v w committed e x.is }
 
   module _ (s : Start P T E A) (v w : View P T) where
     -- which errors a turn may stop with
-    module _ {V : Type 0} (turns : Kept V) where
-      abbrev pub stop_refuses : Stop V E → Type 0
+    module _ {V : Type 0} (turns : TurnProgress V) where
+      abbrev pub stop_refuses : TurnStop V E → Type 0
       stop_refuses (stop.Over n) = Unit {0}
-      stop_refuses (stop.Refused n t) = (n.committed ≡ turns.committed) × RefusesHere s turns.place v w false t.error
+      stop_refuses (stop.Refused n t) = (n.committed ≡ turns.committed) × RefusesHere s turns.index v w false t.error
       stop_refuses (stop.More n e) = IsRefusal w.is_open (errors.kind e) → ⊥
-      stop_refuses (stop.Failed e) = IsRefusal w.is_open (errors.kind e) → RefusesHere s turns.place v w true e
+      stop_refuses (stop.Failed e) = IsRefusal w.is_open (errors.kind e) → RefusesHere s turns.index v w true e
 
-      pub record StopRefuses (why : Stop V E) : Type 0 where
+      pub record StopRefuses (why : TurnStop V E) : Type 0 where
         pub is : stop_refuses why
 
-      abbrev pub step_refuses : Step V E → Type 0
+      abbrev pub step_refuses : TurnStep V E → Type 0
       step_refuses (steps.Goes n) = Unit {0}
       step_refuses (steps.Stops why) = StopRefuses why
 
-      pub record StepRefuses (result : Step V E) : Type 0 where
+      pub record StepRefuses (result : TurnStep V E) : Type 0 where
         pub is : step_refuses result
 
 -- what a turn stops with that is refused peeked with that error, its start at that position, by the view that the refusal left and that which is left at last
 module _ {P T R A V S E : Type 0} (step : P → T → P) (errors : Errors T R P E) (b : Bounds) (ending : A → Bool) (m : Meaning P T R E A S) where
-  pub record JudgesRefusal (turns : Kept V) (position : P) (own : E) (left new : View P T) (result : Stop V E) : Type 0 where
+  pub record JudgesRefusal (turns : TurnProgress V) (position : P) (own : E) (left new : View P T) (result : TurnStop V E) : Type 0 where
     pub is : (first : Bool) (s : S) (v : View P T) → v.position ≡ position → MeantRefusal (begun m first s) (begun_refuses m first s) v left false own → StopRefuses step errors b ending (started m first s) v new turns result
 
 -- which errors the first turn may have, where it makes what is gathered
 module _ {P T R A V E : Type 0} (errors : Errors T R P E) (s : Start P T E A) (v w : View P T) where
-  abbrev pub first_refuses : FirstDone V E → Type 0
+  abbrev pub first_refuses : FirstStep V E → Type 0
   first_refuses (first.Goes n) = Unit {0}
   first_refuses (first.Refused t) = MeantRefusal s.reads s.refuses v w false t.error
   first_refuses (first.More e) = IsRefusal w.is_open (errors.kind e) → ⊥
   first_refuses (first.Failed e) = IsRefusal w.is_open (errors.kind e) → MeantRefusal s.reads s.refuses v w true e
 
-  pub record FirstRefuses (result : FirstDone V E) : Type 0 where
+  pub record FirstRefuses (result : FirstStep V E) : Type 0 where
     pub is : first_refuses result
 
 module _ {P T R E A V S : Type 0} (step : P → T → P) (errors : Errors T R P E) (b : Bounds) (ending : A → Bool) (c : Collecting A V) where
   -- turns that begin so
-  abbrev pub turns_from : SoFar Place c.Held → Meaning P T R E A S → Start P T E A → Meaning P T R E V (TurnsState V S)
+  abbrev pub turns_from : SoFar TurnIndex c.Held → Meaning P T R E A S → Start P T E A → Meaning P T R E V (TurnsState V S)
   turns_from start m again = record {
     whole = Turned step (bounded b ending) c (λ _. again.reads) m.whole start;
     rest = λ s. Turned step (bounded b ending) c (λ _. again.reads) (m.rest (running_turn s)) (so_far_or start c.held s.earlier);
@@ -254,20 +254,20 @@ pub begun_over : (b : Bool) (n c : ℕ) → (b || nat_lt 0 (n + c)) ≡ ((b || n
 begun_over true n c = refl
 begun_over false n c = positive_sum n c
 
-goes_over : (b : Bounds) (g : Place) (n c : ℕ) (k : Bool) → goes_at b g (n + c) k ≡ goes_at b (cut_at g n) c k
-goes_over Any g n c k = ap (λ i. k && i) (begun_over g.begun n c)
-goes_over (Joined least most) g n c k = ap (λ i. if nat_lt g.number 1 then true else (k && i)) (begun_over g.begun n c)
+goes_over : (b : Bounds) (g : TurnIndex) (n c : ℕ) (k : Bool) → goes_at b g (n + c) k ≡ goes_at b (cut_at g n) c k
+goes_over Unbounded g n c k = ap (λ i. k && i) (begun_over g.begun n c)
+goes_over (OwnFirst least most) g n c k = ap (λ i. if nat_lt g.number 1 then true else (k && i)) (begun_over g.begun n c)
 goes_over (Counted least most) g n c k = refl
 
-full_over : (b : Bounds) (g : Place) (n : ℕ) → (bounded {A = ℕ} b (λ _. false)).full (cut_at g n) ≡ (bounded {A = ℕ} b (λ _. false)).full g
-full_over Any g n = refl
-full_over (Joined least None) g n = refl
-full_over (Joined least (Some most)) g n = refl
+full_over : (b : Bounds) (g : TurnIndex) (n : ℕ) → (bounded {A = ℕ} b (λ _. false)).full (cut_at g n) ≡ (bounded {A = ℕ} b (λ _. false)).full g
+full_over Unbounded g n = refl
+full_over (OwnFirst least None) g n = refl
+full_over (OwnFirst least (Some most)) g n = refl
 full_over (Counted least most) g n = refl
 
-enough_over : (b : Bounds) (g : Place) (n : ℕ) → enough b (cut_at g n) ≡ enough b g
-enough_over Any g n = refl
-enough_over (Joined least most) g n = refl
+enough_over : (b : Bounds) (g : TurnIndex) (n : ℕ) → enough b (cut_at g n) ≡ enough b g
+enough_over Unbounded g n = refl
+enough_over (OwnFirst least most) g n = refl
 enough_over (Counted least most) g n = refl
 
 none_if_not_positive : (n : ℕ) → (0 < n → ⊥) → n ≡ 0
@@ -307,22 +307,22 @@ refused_within n k j l e (inl q) = absurd (cc)
 refused_within n k j l e (inr q) = let x = q.0 in cc
 
 module _ {A : Type 0} (b : Bounds) (ending : A → Bool) where
-  decided_turn : (g : Place) (o : Outcome A) (l : Outcome (Unit {0})) → judged b ending g o ≡ Stops l → IsDecided l → IsDecided o
+  decided_turn : (g : TurnIndex) (o : Outcome A) (l : Outcome (Unit {0})) → judged b ending g o ≡ Stops l → IsDecided l → IsDecided o
   decided_turn g (Accepted a n k) l e d = tt
   decided_turn g (Refused k) l e d = tt
   decided_turn g Undecided l e d = let i : l ≡ Undecided = cc in subst (λ (o : Outcome (Unit {0})). IsDecided o) i d
 
-  undecided_turn : (g : Place) (o : Outcome A) → judged b ending g o ≡ Stops Undecided → o ≡ Undecided
+  undecided_turn : (g : TurnIndex) (o : Outcome A) → judged b ending g o ≡ Stops Undecided → o ≡ Undecided
   undecided_turn g (Accepted a n k) e = absurd (no_acceptance n k Undecided refl (accepted_stops n k (ending a) (goes_at b g n k) Undecided e))
   undecided_turn g (Refused k) e = absurd (no_refusal k Undecided refl (refused_stops (enough b g) k Undecided e))
   undecided_turn g Undecided e = refl
 
-  stop_within : (g : Place) (o : Outcome A) (n : ℕ) (k : Bool) → judged b ending g o ≡ Stops (Accepted tt n k) → (n ≡ 0) ⊎ ((a : A) × (o ≡ Accepted a n k))
+  stop_within : (g : TurnIndex) (o : Outcome A) (n : ℕ) (k : Bool) → judged b ending g o ≡ Stops (Accepted tt n k) → (n ≡ 0) ⊎ ((a : A) × (o ≡ Accepted a n k))
   stop_within g (Accepted a m j) n k e = accepted_within a n m k j (Accepted tt n k) refl (accepted_stops m j (ending a) (goes_at b g m j) (Accepted tt n k) e)
   stop_within g (Refused j) n k e = inl (refused_within n k j (Accepted tt n k) refl (refused_stops (enough b g) j (Accepted tt n k) e))
   stop_within g Undecided n k e = absurd (cc)
 
-  stop_commits : (g : Place) (o : Outcome A) (l : Outcome (Unit {0})) → judged b ending g o ≡ Stops l → IsCommitted o → IsCommitted l
+  stop_commits : (g : TurnIndex) (o : Outcome A) (l : Outcome (Unit {0})) → judged b ending g o ≡ Stops l → IsCommitted o → IsCommitted l
   stop_commits g (Accepted a n k) l e d = by_stop (accepted_stops n k (ending a) (goes_at b g n k) l e)
     where
       by_stop : (l ≡ Accepted tt n k) ⊎ (l ≡ Refused true) → IsCommitted l
@@ -335,7 +335,7 @@ module _ {A : Type 0} (b : Bounds) (ending : A → Bool) where
       by_stop (inr q) = absurd (let x = q.1 in cc)
   stop_commits g Undecided l e d = let i : l ≡ Undecided = cc in rw i tt
 
-  stop_over : (g : Place) (n : ℕ) (o : Outcome A) (l : Outcome (Unit {0})) → (0 < n → IsCommitted o) → judged b ending (cut_at g n) o ≡ Stops l → judged b ending g (after n false o) ≡ Stops (after n false l)
+  stop_over : (g : TurnIndex) (n : ℕ) (o : Outcome A) (l : Outcome (Unit {0})) → (0 < n → IsCommitted o) → judged b ending (cut_at g n) o ≡ Stops l → judged b ending g (after n false o) ≡ Stops (after n false l)
   stop_over g n (Accepted a c k) l d e = ap (accepted_at (n + c) k (ending a)) (goes_over b g n c k) ∙ accepted_stop_over n c k (ending a) (goes_at b (cut_at g n) c k) l e
   stop_over g n (Refused k) l d e = by_stop (refused_stops (enough b g) k l i)
     where
@@ -350,7 +350,7 @@ module _ {A : Type 0} (b : Bounds) (ending : A → Bool) where
           i ∙ ap Stops (sym y)
   stop_over g n Undecided l d e = let i : l ≡ Undecided = cc in rw i refl
 
-  full_cut : (g : Place) (n : ℕ) → (bounded b ending).full (cut_at g n) ≡ (bounded b ending).full g
+  full_cut : (g : TurnIndex) (n : ℕ) → (bounded b ending).full (cut_at g n) ≡ (bounded b ending).full g
   full_cut g n = full_over b g n
 
   pub bounded_is_rule : IsRule (bounded b ending)
@@ -370,10 +370,10 @@ module _ {A : Type 0} (b : Bounds) (ending : A → Bool) where
       accepted_goes n c k false true q = refl
       accepted_goes n c k false false q = absurd (cc)
 
-      goes_on : (g : Place) (n c : ℕ) (a : A) (k : Bool) → judged b ending (cut_at g n) (Accepted a c k) ≡ Goes → judged b ending g (Accepted a (n + c) k) ≡ Goes
+      goes_on : (g : TurnIndex) (n c : ℕ) (a : A) (k : Bool) → judged b ending (cut_at g n) (Accepted a c k) ≡ Goes → judged b ending g (Accepted a (n + c) k) ≡ Goes
       goes_on g n c a k e = ap (accepted_at (n + c) k (ending a)) (goes_over b g n c k) ∙ accepted_goes n c k (ending a) (goes_at b (cut_at g n) c k) e
 
-  module _ {P T : Type 0} (r : Reading P T A) (g : Place) (h : EndsOnce ending r) where
+  module _ {P T : Type 0} (r : Reading P T A) (g : TurnIndex) (h : EndsOnce ending r) where
     same_turn : (v : View P T) (o o' : Outcome A) → r v o → r v o' → shape o ≡ shape o' → judged b ending g o ≡ judged b ending g o'
     same_turn v (Accepted a n k) (Accepted a' n' k') p q e =
         let i : n' ≡ n = cc in
@@ -401,13 +401,13 @@ back_of : {P T E A : Type 0} (s s' : Start P T E A) → StartsSame s s' → Star
 back_of s s' h = record { reads = λ v o. (h.reads v o).1; refuses = λ v w k e. (h.refuses v w k e).1 }
 
 module _ {P T R E A : Type 0} (step : P → T → P) (errors : Errors T R P E) (b : Bounds) (ending : A → Bool) where
-  onward_same : (later later' : Start P T E A) → StartsSame later later' → (s s' : Start P T E A) → StartsSame s s' → (g : Place) (before : Bool) → SameReasons (RefusesOnward step errors b ending later s g before) (RefusesOnward step errors b ending later' s' g before)
+  onward_same : (later later' : Start P T E A) → StartsSame later later' → (s s' : Start P T E A) → StartsSame s s' → (g : TurnIndex) (before : Bool) → SameReasons (RefusesOnward step errors b ending later s g before) (RefusesOnward step errors b ending later' s' g before)
   onward_same later later' h s s' k g before v w j e = (
     onward_into step errors b ending later later' (into_of later later' h) s s' (into_of s s' k) g before v w j e,
     onward_into step errors b ending later' later (back_of later later' h) s' s (back_of s s' k) g before v w j e,
   )
 
-module _ {P T R E A V S : Type 0} (step : P → T → P) (errors : Errors T R P E) (b : Bounds) (ending : A → Bool) (c : Collecting A V) (start : SoFar Place c.Held) where
+module _ {P T R E A V S : Type 0} (step : P → T → P) (errors : Errors T R P E) (b : Bounds) (ending : A → Bool) (c : Collecting A V) (start : SoFar TurnIndex c.Held) where
   pub turns_is_meaning : (fresh valid : S → Type 0) (m : Meaning P T R E A S) (again : Start P T E A) → IsTurn fresh valid m again → IsMeaning (fresh_turns fresh) (λ s. valid (running_turn s)) (turns_from step errors b ending c start m again)
   turns_is_meaning fresh valid m again t =
       let h = t.meaning in
@@ -453,8 +453,8 @@ module _ {P T R E A V S : Type 0} (step : P → T → P) (errors : Errors T R P 
       h : MeansSame m m'
       h = t.meaning
 
-      there : (r r' : Reading P T A) → ((v : View P T) (o : Outcome A) → r v o → r' v o) → (s : SoFar Place c.Held) (v : View P T) (o : Outcome V) → Turned step (bounded b ending) c (λ _. again.reads) r s v o → Turned step (bounded b ending) c (λ _. again'.reads) r' s v o
+      there : (r r' : Reading P T A) → ((v : View P T) (o : Outcome A) → r v o → r' v o) → (s : SoFar TurnIndex c.Held) (v : View P T) (o : Outcome V) → Turned step (bounded b ending) c (λ _. again.reads) r s v o → Turned step (bounded b ending) c (λ _. again'.reads) r' s v o
       there r r' i s v o k = turned_into step (bounded b ending) c (λ _. again.reads) (λ _. again'.reads) (λ g v o. (t.later.reads v o).0) r r' i s v o k
 
-      back : (r r' : Reading P T A) → ((v : View P T) (o : Outcome A) → r' v o → r v o) → (s : SoFar Place c.Held) (v : View P T) (o : Outcome V) → Turned step (bounded b ending) c (λ _. again'.reads) r' s v o → Turned step (bounded b ending) c (λ _. again.reads) r s v o
+      back : (r r' : Reading P T A) → ((v : View P T) (o : Outcome A) → r' v o → r v o) → (s : SoFar TurnIndex c.Held) (v : View P T) (o : Outcome V) → Turned step (bounded b ending) c (λ _. again'.reads) r' s v o → Turned step (bounded b ending) c (λ _. again.reads) r s v o
       back r r' i s v o k = turned_into step (bounded b ending) c (λ _. again'.reads) (λ _. again.reads) (λ g v o. (t.later.reads v o).1) r' r i s v o k

@@ -13,56 +13,56 @@ use Rattle.combine_base.specs.declared.error.Tracked.{Tracked}
 use Rattle.combine_base.specs.declared.error.ParseResult.{ParseResult}
 use Rattle.combine_base.specs.declared.error.ParseResult.TheVariants.{CommitErr, PeekErr}
 use Rattle.combine_repeat_turns.specs.declared.turns.Bounds.{Bounds}
-use Rattle.combine_repeat_turns.specs.declared.turns.Place.{Place}
-use Rattle.combine_repeat_turns.specs.declared.turns.Step.{Step}
-use Rattle.combine_repeat_turns.specs.declared.turns.Step.TheVariants as steps
-use Rattle.combine_repeat_turns.specs.declared.turns.Stop.{Stop}
-use Rattle.combine_repeat_turns.specs.declared.turns.Stop.TheVariants.{Over, Refused, More, Failed}
-use Rattle.combine_repeat_turns.specs.declared.turns.Turns.{Turns as Kept}
+use Rattle.combine_repeat_turns.specs.declared.turns.TurnIndex.{TurnIndex}
+use Rattle.combine_repeat_turns.specs.declared.turns.TurnStep.{TurnStep}
+use Rattle.combine_repeat_turns.specs.declared.turns.TurnStep.TheVariants as steps
+use Rattle.combine_repeat_turns.specs.declared.turns.TurnStop.{TurnStop}
+use Rattle.combine_repeat_turns.specs.declared.turns.TurnStop.TheVariants.{Over, Refused, More, Failed}
+use Rattle.combine_repeat_turns.specs.declared.turns.TurnProgress.{TurnProgress}
 use Rattle.combine_repeat_turns.specs.declared.turns.TurnsState.{TurnsState}
 use Rattle.combine_repeat_turns.specs.declared.turns.Earlier.TheVariants as earlier
 
-module _ {P T R A S E : Type 0} (w : World P T S E) (b : Bounds) (ending : A → Bool) (m : Meaning P T R E A S) (r : Run P T S) (place : Place) where
+module _ {P T R A S E : Type 0} (w : World P T S E) (b : Bounds) (ending : A → Bool) (m : Meaning P T R E A S) (r : Run P T S) (index : TurnIndex) where
   -- the turn is accepted with that value, committed or not, which doesn't end the turns, and that answer says whether it is a block
   pub record Judged (x : A × Bool) (goes : Bool) : Type 0 where
     pub accepts : Accepts w m r x.0 x.1
     pub on : ending x.0 ≡ false
-    pub says : goes ≡ goes_at b place accepts.count x.1
+    pub says : goes ≡ goes_at b index accepts.count x.1
 
-module _ {P T R A V S E : Type 0} (w : World P T S E) (b : Bounds) (ending : A → Bool) (c : Collecting A V) (m : Meaning P T R E A S) (r : Run P T S) (old : Kept V) where
+module _ {P T R A V S E : Type 0} (w : World P T S E) (b : Bounds) (ending : A → Bool) (c : Collecting A V) (m : Meaning P T R E A S) (r : Run P T S) (old : TurnProgress V) where
   -- the turn is a block, and the next one runs
-  pub record GoesOn (new : Kept V) : Type 0 where
+  pub record GoesOn (new : TurnProgress V) : Type 0 where
     pub turn : A × Bool
-    pub judged : Judged w b ending m r old.place turn true
+    pub judged : Judged w b ending m r old.index turn true
     pub held : c.Held
     pub more : c.more (c.held old.into) turn.0 held
-    pub turns : so_far c.held new ≡ record { mark = next_of b old.place; held = held; committed = old.committed || turn.1 }
+    pub turns : so_far c.held new ≡ record { mark = next_of b old.index; held = held; committed = old.committed || turn.1 }
 
-  pub data IsOver (new : Kept V) : Type 0 where
+  pub data IsOver (new : TurnProgress V) : Type 0 where
     -- the turn's value ends the turns
-    Ended : (turn : A × Bool) (accepts : Accepts w m r turn.0 turn.1) (ends : ending turn.0 ≡ true) (turns : new ≡ record { into = old.into; committed = old.committed || turn.1; place = old.place }) → IsOver new
+    Ended : (turn : A × Bool) (accepts : Accepts w m r turn.0 turn.1) (ends : ending turn.0 ≡ true) (turns : new ≡ record { into = old.into; committed = old.committed || turn.1; index = old.index }) → IsOver new
     -- the turn is refused peeked and put back
-    PutBack : (there : enough b old.place ≡ true) (refused : Refuses w m r false) (view : r.new ≡ r.old) (turns : new ≡ old) → IsOver new
+    PutBack : (there : enough b old.index ≡ true) (refused : Refuses w m r false) (view : r.new ≡ r.old) (turns : new ≡ old) → IsOver new
 
   -- a turn that is missing is refused peeked
-  pub record IsRefused (new : Kept V) (t : Tracked E) : Type 0 where
-    pub missing : enough b old.place ≡ false
+  pub record IsRefused (new : TurnProgress V) (t : Tracked E) : Type 0 where
+    pub missing : enough b old.index ≡ false
     pub answers : Answers w m r (PeekErr t)
     pub turns : new ≡ old
 
   -- the turn needs more: it is the one that runs, with what it has taken so far
-  pub record NeedsMore (new : Kept V) (e : E) : Type 0 where
+  pub record NeedsMore (new : TurnProgress V) (e : E) : Type 0 where
     pub needs : (w.kind e ≡ kinds.End) × (r.new.is_open ≡ true)
     pub answers : Answers w m r (CommitErr e)
-    pub place : Place
-    pub cut : (n : ℕ) → Takes w.step n r.old r.new → place ≡ cut_at old.place n
-    pub turns : new ≡ record { into = old.into; committed = old.committed; place = place }
+    pub index : TurnIndex
+    pub cut : (n : ℕ) → Takes w.step n r.old r.new → index ≡ cut_at old.index n
+    pub turns : new ≡ record { into = old.into; committed = old.committed; index = index }
 
   pub data HasFailed (e : E) : Type 0 where
     -- by a committed refusal or a fault of the turn
     InTurn : (settled : (w.kind e ≡ kinds.End) × (r.new.is_open ≡ true) → ⊥) (answers : Answers w m r (CommitErr e)) → HasFailed e
     -- the turn is accepted, and takes nothing
-    TakesNothing : (turn : A × Bool) (judged : Judged w b ending m r old.place turn false) (told : Told w.kind w.frugal e) → HasFailed e
+    TakesNothing : (turn : A × Bool) (judged : Judged w b ending m r old.index turn false) (told : Told w.kind w.frugal e) → HasFailed e
     -- its value finds no memory
     Unstored : (turn : A × Bool) (accepts : Accepts w m r turn.0 turn.1) (memory : w.kind e ≡ kinds.Memory) (asked : c.lean → ⊥) → HasFailed e
     -- what is said of a missing turn finds no memory
@@ -70,17 +70,17 @@ module _ {P T R A V S E : Type 0} (w : World P T S E) (b : Bounds) (ending : A �
     -- the stream could not be put back
     Unreset : (reset : w.kind e ≡ kinds.Reset) (counted : r.before.resets < r.after.resets) (leaves : Leaves w r) → HasFailed e
 
-  abbrev pub halted : Stop V E → Type 0
+  abbrev pub halted : TurnStop V E → Type 0
   halted (Over n) = IsOver n
   halted (Refused n t) = IsRefused n t
   halted (More n e) = NeedsMore n e
   halted (Failed e) = HasFailed e
 
-  abbrev pub turned : Step V E → Type 0
+  abbrev pub turned : TurnStep V E → Type 0
   turned (steps.Goes n) = GoesOn n
   turned (steps.Stops why) = halted why
 
-  pub record OneTurn (result : Step V E) : Type 0 where
+  pub record OneTurn (result : TurnStep V E) : Type 0 where
     pub is : turned result
 
 -- what was known of a call at its answer, where it left the stream so
@@ -95,21 +95,21 @@ abbrev pub then_left : {P T S : Type 0} → Run P T S → View P T → Failures 
 then_left r now after = record { first = r.first; state = r.state; left = r.left; old = r.old; new = now; before = r.before; after = after }
 
 -- turns with one more value gathered, of which the next one runs
-pub record IsGathered {A V Held : Type 0} (held : V → Held) (more : Held → A → Held → Type 0) (old : Kept V) (value : A) (most : ℕ) (new : Kept V) : Type 0 where
+pub record IsGathered {A V Held : Type 0} (held : V → Held) (more : Held → A → Held → Type 0) (old : TurnProgress V) (value : A) (most : ℕ) (new : TurnProgress V) : Type 0 where
   pub more_held : more (held old.into) value (held new.into)
   pub committed : new.committed ≡ old.committed
-  pub place : new.place ≡ record { number = counted most old.place.number; begun = false }
+  pub index : new.index ≡ record { number = counted most old.index.number; begun = false }
 
 -- what turns answer that stop so
-abbrev pub stopped_answer : {V E : Type 0} → Stop V E → ParseResult V E
+abbrev pub stopped_answer : {V E : Type 0} → TurnStop V E → ParseResult V E
 stopped_answer (Over t) = accepted_as t.committed t.into
 stopped_answer (Refused t r) = refused_as t.committed r
 stopped_answer (More t e) = CommitErr e
 stopped_answer (Failed e) = CommitErr e
 
 -- and what they keep
-abbrev pub stopped_state : {V S E : Type 0} → Stop V E → TurnsState V S → TurnsState V S
+abbrev pub stopped_state : {V S E : Type 0} → TurnStop V E → TurnsState V S → TurnsState V S
 stopped_state (Over t) s = s
 stopped_state (Refused t e) s = s
-stopped_state (More t e) s = record { earlier = earlier.Turns t; running = s.running }
+stopped_state (More t e) s = record { earlier = earlier.Gathered t; running = s.running }
 stopped_state (Failed e) s = s

@@ -2,9 +2,9 @@
 use Rattle.std.specs.Prelude.{◌≡◌}
 use Rattle.combine_base.specs.declared.error.ParseResult.{ParseResult}
 use Rattle.combine_base.specs.declared.error.ParseResult.TheVariants.{CommitOk, PeekOk, CommitErr, PeekErr}
-use Rattle.combine_repeat_turns.specs.declared.turns.Turns.{Turns as Kept}
+use Rattle.combine_repeat_turns.specs.declared.turns.TurnProgress.{TurnProgress}
 use Rattle.combine_repeat_turns.specs.declared.turns.TurnsState.{TurnsState}
-use Rattle.combine_repeat_turns.specs.declared.turns.Earlier.TheVariants.{Turns}
+use Rattle.combine_repeat_turns.specs.declared.turns.Earlier.TheVariants.{Gathered}
 
 -- what is held is sound before any value, and stays so with each that is good
 pub record KeepsSound {A Held : Type 0} (none : Held) (more : Held → A → Held → Type 0) (good : A → Type 0) (sound : Held → Type 0) : Type 0 where
@@ -24,7 +24,7 @@ of_value good (PeekErr t) = Unit {0}
 
 -- what is kept of the turns so far is sound
 abbrev pub kept_sound : {V S : Type 0} → (V → Type 0) → TurnsState V S → Type 0
-kept_sound {V = V} sound s = (t : Kept V) → s.earlier ≡ Turns t → sound t.into
+kept_sound {V = V} sound s = (t : TurnProgress V) → s.earlier ≡ Gathered t → sound t.into
 
 -- and what a call answers is, and what it keeps
 pub record LeavesSound {V S E : Type 0} (sound : V → Type 0) (left : TurnsState V S) (result : ParseResult V E) : Type 0 where

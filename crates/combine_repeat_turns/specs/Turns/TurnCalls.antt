@@ -15,26 +15,26 @@ use Rattle.combine_repeat_turns.specs.Turns.OneTurn.{OneTurn, Ran, halted, then_
 use Rattle.combine_repeat_turns.specs.Turns.Turn.{Start}
 use Rattle.combine_repeat_turns.specs.Turns.Blocks.{Collecting, SoFar}
 use Rattle.combine_repeat_turns.specs.declared.turns.Bounds.{Bounds}
-use Rattle.combine_repeat_turns.specs.declared.turns.First.{First}
-use Rattle.combine_repeat_turns.specs.declared.turns.Place.{Place}
-use Rattle.combine_repeat_turns.specs.declared.turns.Step.{Step}
-use Rattle.combine_repeat_turns.specs.declared.turns.Stop.{Stop}
-use Rattle.combine_repeat_turns.specs.declared.turns.Turns.{Turns as Kept}
+use Rattle.combine_repeat_turns.specs.declared.turns.FirstStep.{FirstStep}
+use Rattle.combine_repeat_turns.specs.declared.turns.TurnIndex.{TurnIndex}
+use Rattle.combine_repeat_turns.specs.declared.turns.TurnStep.{TurnStep}
+use Rattle.combine_repeat_turns.specs.declared.turns.TurnStop.{TurnStop}
+use Rattle.combine_repeat_turns.specs.declared.turns.TurnProgress.{TurnProgress}
 use Rattle.combine_repeat_turns.specs.declared.turns.TurnsState.{TurnsState}
 
 module _ {Input P T R A V S E : Type 0} (i : stream.Ghosts Input T R P E) (seen : Errors T R P E) (fresh : S → Type 0) where
   -- a turn that is refused peeked, whatever was known of its call when it answered
-  abbrev pub HaltsCall : Bounds → (A → Bool) → Collecting A V → Meaning P T R E A S → (View P T → Type 0) → (input after : Input) → Tracked E → Kept V → Stop V E → Type 0
+  abbrev pub HaltsCall : Bounds → (A → Bool) → Collecting A V → Meaning P T R E A S → (View P T → Type 0) → (input after : Input) → Tracked E → TurnProgress V → TurnStop V E → Type 0
   HaltsCall b ending c m stands input after refusal turns result = (r : Run P T S) → Ran stands (i.view input) (i.failures input) r → Answers (world i.step seen i.steady fresh) m r (PeekErr refusal) → halted (world i.step seen i.steady fresh) b ending c m (then_left r (i.view after) (i.failures after)) turns result
 
   -- one turn
-  abbrev pub OneTurnCall : Bounds → (A → Bool) → Collecting A V → Meaning P T R E A S → Bool → (from left : S) → (input after : Input) → Kept V → Step V E → Type 0
+  abbrev pub OneTurnCall : Bounds → (A → Bool) → Collecting A V → Meaning P T R E A S → Bool → (from left : S) → (input after : Input) → TurnProgress V → TurnStep V E → Type 0
   OneTurnCall b ending c m first from left input after turns result = OneTurn (world i.step seen i.steady fresh) b ending c m (run_between i first from left input after) turns result
 
   -- the first one, which makes what is gathered
-  abbrev pub FirstTurnCall : (c : Collecting A V) → c.Held → Meaning P T R E A S → Bool → (from left : S) → (input after : Input) → First V E → Type 0
+  abbrev pub FirstTurnCall : (c : Collecting A V) → c.Held → Meaning P T R E A S → Bool → (from left : S) → (input after : Input) → FirstStep V E → Type 0
   FirstTurnCall c none m first from left input after result = FirstTurn (world i.step seen i.steady fresh) c none m (run_between i first from left input after) result
 
   -- all of them
-  abbrev pub TurnsCall : Bounds → (A → Bool) → (c : Collecting A V) → SoFar Place c.Held → Meaning P T R E A S → Start P T E A → Bool → (from left : TurnsState V S) → (input after : Input) → ParseResult V E → Type 0
+  abbrev pub TurnsCall : Bounds → (A → Bool) → (c : Collecting A V) → SoFar TurnIndex c.Held → Meaning P T R E A S → Start P T E A → Bool → (from left : TurnsState V S) → (input after : Input) → ParseResult V E → Type 0
   TurnsCall b ending c start m again first from left input after result = AnswersCall i seen (fresh_turns fresh) (turns_from i.step seen b ending c start m again) first from left input after result

@@ -4,9 +4,9 @@ ghost use Rattle.combine_repeat_turns.specs.Turns.Bounds.{begun_valid, gathered,
 ghost use Rattle.combine_repeat_turns.specs.Repeat.Repeated.{repeated_is_meaning, repeated_means_one, repeated};
 ghost use Rattle.combine_repeat_turns.specs.Repeat.RepeatParsers.{bounds_of, repeat_of, repeated_by};
 
-use crate::each::{Dropped, Each, Plain};
-use crate::turns::limits::{Between, Bounded};
-use crate::turns::{Collect, Gathers, Turns, TurnsState, take_turns};
+use crate::each::{Dropped, Each, SameParser};
+use crate::turns::turn_bounds::{MinToMax, TurnBounds};
+use crate::turns::{Collect, Gathers, TurnProgress, TurnsState, take_turns};
 use combine_base::error::{ErrorOffset, ParseResult, Tracked};
 use combine_base::parser::{Outputs, ParseMode, Parser};
 use combine_base::stream::{Kind, Positioned, Stream, StreamOnce};
@@ -17,7 +17,7 @@ use combine_base::stream::{Kind, Positioned, Stream, StreamOnce};
 #[derive(Clone, Copy, Drop)]
 pub struct Repeat<G, P, B> {
     gather: G,
-    turn: Plain<P>,
+    turn: SameParser<P>,
     bounds: B,
 }
 
@@ -29,23 +29,23 @@ impl<G, P, B> Repeat<G, P, B> {
     {
         Repeat {
             gather,
-            turn: Plain(parser),
+            turn: SameParser(parser),
             bounds,
         }
     }
 }
 
 /// The parser of [`count_min_max`](crate::repeat::count_min_max).
-pub type CountMinMax<F, P> = Repeat<Each<F>, P, Between>;
+pub type CountMinMax<F, P> = Repeat<Each<F>, P, MinToMax>;
 
 /// The parser of [`skip_count_min_max`](crate::repeat::skip_count_min_max).
-pub type SkipCountMinMax<P> = Repeat<Dropped, P, Between>;
+pub type SkipCountMinMax<P> = Repeat<Dropped, P, MinToMax>;
 
 /// The parser of [`count`](crate::repeat::count).
-pub type Count<F, P> = Repeat<Each<F>, P, Between>;
+pub type Count<F, P> = Repeat<Each<F>, P, MinToMax>;
 
 /// The parser of [`skip_count`](crate::repeat::skip_count).
-pub type SkipCount<P> = Repeat<Dropped, P, Between>;
+pub type SkipCount<P> = Repeat<Dropped, P, MinToMax>;
 
 /// Returns that no memory was found before anything was read, and leaves a default state.
 #[cold]
@@ -61,12 +61,12 @@ fn without_room<O, Input: Stream, S: Default + Drop>(
 }
 
 impl<Input, G: Gathers, P, B> Outputs<Input> for Repeat<G, P, B> {
-    type Output = G::Into;
+    type Output = G::Collection;
 }
 
-impl<Input: Stream, P: Parser<Input>, G: Collect<P::Output>, B: Bounded> Parser<Input>
+impl<Input: Stream, P: Parser<Input>, G: Collect<P::Output>, B: TurnBounds> Parser<Input>
     for Repeat<G, P, B> {
-    type PartialState = TurnsState<G::Into, P::PartialState>;
+    type PartialState = TurnsState<G::Collection, P::PartialState>;
 
     ghost lawful = { λ p. P.lawful (repeated_by p) };
 
@@ -90,7 +90,7 @@ impl<Input: Stream, P: Parser<Input>, G: Collect<P::Output>, B: Bounded> Parser<
         mode: M,
         input: &mut Input,
         state: &mut Self::PartialState,
-    ) -> ParseResult<G::Into, Input::Error> {
+    ) -> ParseResult<G::Collection, Input::Error> {
         let room = if mode.is_first() {
             self.bounds.room()
         } else {
@@ -99,8 +99,8 @@ impl<Input: Stream, P: Parser<Input>, G: Collect<P::Output>, B: Bounded> Parser<
         let Ok(empty) = self.gather.empty(room) else {
             return without_room(input, state);
         };
-        let start = Turns::none_yet(empty);
-        take_turns::<G, Input, Plain<P>, M, B>(
+        let start = TurnProgress::none_yet(empty);
+        take_turns::<G, Input, SameParser<P>, M, B>(
             &mut self.turn,
             self.bounds,
             start,

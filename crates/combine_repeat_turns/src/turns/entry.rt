@@ -1,7 +1,7 @@
 //! How a turn is called: a type each, so that it is known where the turn is compiled.
 ghost use Rattle.std.specs.Prelude.{true, false};
 
-use crate::turns::Turn;
+use crate::turns::TurnParser;
 use combine_base::error::ParseResult;
 use combine_base::parser::{FirstMode, ParseMode};
 use combine_base::stream::{Stream, needs_more};
@@ -21,7 +21,7 @@ pub trait Entry {
     ghost later: { Self → Bool };
 
     /// Calls the turn.
-    fn enter<Input: Stream, P: Turn<Input>>(
+    fn enter<Input: Stream, P: TurnParser<Input>>(
         self,
         parser: &mut P,
         input: &mut Input,
@@ -52,7 +52,7 @@ impl Entry for Afresh {
     ghost later = { λ e. e.later };
 
     #[inline(always)]
-    fn enter<Input: Stream, P: Turn<Input>>(
+    fn enter<Input: Stream, P: TurnParser<Input>>(
         self,
         parser: &mut P,
         input: &mut Input,
@@ -82,7 +82,7 @@ impl<M: ParseMode> Entry for Resumed<M> {
     ghost later = { λ _. false };
 
     #[inline(always)]
-    fn enter<Input: Stream, P: Turn<Input>>(
+    fn enter<Input: Stream, P: TurnParser<Input>>(
         self,
         parser: &mut P,
         input: &mut Input,

@@ -20,13 +20,13 @@ use std::marker::PhantomData;
 pub type RepeatUntil<F, A, P, E> = BlocksUntil<F, A, P, Mute<E>>;
 
 /// The parser of [`repeat_skip_until`](crate::repeat::repeat_skip_until).
-pub type SkipRepeatUntil<A, P, E> = Ignore<Skips<A, P, Mute<E>>>;
+pub type SkipRepeatUntil<A, P, E> = Ignore<SkipBlocksUntil<A, P, Mute<E>>>;
 
 /// The parser of [`take_until`](crate::repeat::take_until), with the stream's tokens as `T`.
 pub type TakeUntil<F, Input, T, E> = BlocksUntil<F, T, Any<Input>, E>;
 
 /// The parser of [`skip_until`](crate::repeat::skip_until).
-pub type SkipUntil<Input, T, E> = Ignore<Skips<T, Any<Input>, E>>;
+pub type SkipUntil<Input, T, E> = Ignore<SkipBlocksUntil<T, Any<Input>, E>>;
 
 /// Blocks of a parser up to a place, their values collected. Our own.
 ///
@@ -91,16 +91,16 @@ impl<Input: Stream, A: Drop, P: Parser<Input, Output = A>, E: Parser<Input>, F: 
 /// As `BlocksUntil`, with the values dropped. Our own.
 #[derive(Drop)]
 #[derive_where(Clone, Copy; P, E)]
-pub struct Skips<A, P, E> {
+pub struct SkipBlocksUntil<A, P, E> {
     pub(super) turn: Next<A, P, E>,
 }
 
-impl<Input, A, P, E> Outputs<Input> for Skips<A, P, E> {
+impl<Input, A, P, E> Outputs<Input> for SkipBlocksUntil<A, P, E> {
     type Output = Sink;
 }
 
 impl<Input: Stream, A: Drop, P: Parser<Input, Output = A>, E: Parser<Input>> Parser<Input>
-    for Skips<A, P, E> {
+    for SkipBlocksUntil<A, P, E> {
     type PartialState = UntilState<Sink, NextState<Input, P, E>>;
 
     ghost lawful = { λ p. E.lawful (skipped_end p) × P.lawful (skipped_part p) };

@@ -4,15 +4,15 @@ ghost use Rattle.combine_base.specs.Parser.GivenValues.{GivesOnly, gives_as};
 ghost use Rattle.combine_base.specs.Parser.KeptParsers.{KeptOf};
 ghost use Rattle.combine_sequence.specs.Then.{AnsweredBySome, AsksOne, answered_of, asked_part, asks_lawful, first_part, some_lawful, starts_first, starts_valid, then, then_is_meaning, then_means_one, valid_step, CalledAnswered};
 
-pub(super) mod asked;
+pub(super) mod next_parser;
 pub(super) mod state;
 
-use asked::{Asked, ByMut, ByRef, ByValue, Join};
-use combine_base::error::{ErrorOffset, ParseResult, Tracked};
+use combine_base::error::{ErrorOffset, ParseResult, Tracked, accepted_after, refused_after};
 use combine_base::parser::{Calls, FirstMode, Outputs, ParseMode, Parser};
-use combine_base::sequence::{accepted_after, refused_after, take_state};
+use combine_base::sequence::take_state;
 use combine_base::stream::{Stream, needs_more};
-use state::{AnsweredState, Answering};
+use next_parser::{ByMut, ByRef, ByValue, Join, NextParser};
+use state::{AnsweredProgress, AnsweredState};
 use std::marker::PhantomData;
 
 /// A parser, and then the one that a function returns for its value.
@@ -59,7 +59,7 @@ impl<
     N: Parser<Input> + Drop,
     B: Drop,
     V: Join<N::Output, Joined = B> + Drop,
-    K: Asked<P::Output, Parser = N, Kept = V>,
+    K: NextParser<P::Output, Parser = N, Kept = V>,
 > Parser<Input> for Answered<P, K, B> {
     type PartialState = AnsweredState<P::PartialState, V, N, N::PartialState>;
 
@@ -100,7 +100,7 @@ impl<
             ParseResult::PeekErr(refusal) => return ParseResult::PeekErr(refusal),
         };
         let (value, parser) = self.asked.ask(value);
-        let next = Answering {
+        let next = AnsweredProgress {
             value,
             parser,
             committed,
@@ -135,7 +135,7 @@ fn parse_answered<
 >(
     mode: M,
     input: &mut Input,
-    from: Answering<V, N, N::PartialState>,
+    from: AnsweredProgress<V, N, N::PartialState>,
     state: &mut AnsweredState<S, V, N, N::PartialState>,
 ) -> ParseResult<V::Joined, Input::Error>
     requires ready { ⟦<N as Calls<Input>>⟧.ready from.parser from.state }
@@ -143,7 +143,7 @@ fn parse_answered<
     requires fresh { starts_first S.is_default state.old }
     ensures { CalledAnswered N.Parser Input.StreamOnce Input.Error.seen N.PartialState.is_default S.is_default V.joined input.old input.new from state.new result }
 {
-    let Answering {
+    let AnsweredProgress {
         value,
         mut parser,
         committed,
@@ -154,7 +154,7 @@ fn parse_answered<
         ParseResult::PeekOk(last) => accepted_after(committed, value.join(last)),
         ParseResult::CommitErr(error) => {
             if needs_more(input, &error) {
-                *state = AnsweredState::Second(Answering {
+                *state = AnsweredState::Second(AnsweredProgress {
                     value,
                     parser,
                     committed,
@@ -179,7 +179,7 @@ fn resume_answered<
 >(
     mode: M,
     input: &mut Input,
-    from: Answering<V, N, N::PartialState>,
+    from: AnsweredProgress<V, N, N::PartialState>,
     state: &mut AnsweredState<S, V, N, N::PartialState>,
 ) -> ParseResult<V::Joined, Input::Error>
     requires ready { ⟦<N as Calls<Input>>⟧.ready from.parser from.state }

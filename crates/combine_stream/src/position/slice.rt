@@ -46,7 +46,7 @@ impl<'a, T: Copy> SliceStream<'a, T> {
 impl<'a, T: Copy> DefaultPositioned for &'a [T] {
     ghost use Rattle.combine_stream.specs.Position.CountedPositions.{index_counts};
 
-    type Placed = SliceStream<'a, T>;
+    type Located = SliceStream<'a, T>;
 
     ghost whole = { λ s. record { position = 0; unread = s.now; is_open = false } };
 

@@ -97,7 +97,7 @@ impl<'a> DefaultPositioned for &'a str {
     ghost use Rattle.combine_stream.specs.Position.CountedPositions.{place_counts};
     ghost use Rattle.combine_stream.specs.Position.Lines.{behind};
 
-    type Placed = TextStream<'a>;
+    type Located = TextStream<'a>;
 
     ghost whole = { λ s. record { position = first_place; unread = chars s.now; is_open = false } };
 

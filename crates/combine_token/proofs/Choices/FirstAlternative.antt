@@ -17,8 +17,8 @@ use Rattle.combine_base.specs.Parser.DriverAnswers.{NeedsMore}
 use Rattle.combine_token.specs.Choice.Choices.{refused}
 use Rattle.combine_token.specs.declared.choice.OrState.{OrState}
 use Rattle.combine_token.specs.declared.choice.OrState.TheVariants.{Peek, A, B}
-use Rattle.combine_token.specs.declared.choice.first.Turn.{Turn}
-use Rattle.combine_token.specs.declared.choice.first.Turn.TheVariants.{Ends, Goes}
+use Rattle.combine_token.specs.declared.choice.first.FirstResult.{FirstResult}
+use Rattle.combine_token.specs.declared.choice.first.FirstResult.TheVariants.{Done, RunsLater}
 use Rattle.combine_token.specs.Choice.FirstAlternative.{Turned, Answered, Failed, Unreset, IsFinal, begins, first_valid, GoesOn, Stays}
 
 pub asks_or_not : {V E : Type 0} (kind : E → Kind) (b : Bool) (answer : ParseResult V E) → NeedsMore kind b answer ⊎ (NeedsMore kind b answer → ⊥)
@@ -46,28 +46,28 @@ module _ {P T R V S S' E : Type 0} (w : World P T S E) (later : S' → Type 0) (
   run = record { first = first; state = s; left = stopped; old = old; new = mid; before = before; after = middle }
 
   module _ (stands : View P T → Type 0) (back : stands old) (resets : before.resets ≤ middle.resets) (left : OrState S S') (new : View P T) (after : Failures) where
-    abbrev Leads : ParseResult V E → Turn V S' E → Type 0
+    abbrev Leads : ParseResult V E → FirstResult V S' E → Type 0
     Leads = GoesOn w.step w.kind w.steady later stands stopped left mid new middle after
 
-    abbrev Here : Turn V S' E → Type 0
+    abbrev Here : FirstResult V S' E → Type 0
     Here = Turned w later valid a first given left old new before after
 
     abbrev Said : ParseResult V E → Type 0
     Said answer = Reasoned w.kind mid.is_open (begun_refuses a first s old mid) answer
 
-    ends : (answer : ParseResult V E) (turn : Turn V S' E) → turn ≡ Ends answer → Stays mid new middle after → Answers w a run answer → Said answer → IsFinal w later valid a first given left old new before after answer → (NeedsMore w.kind mid.is_open answer → left ≡ A stopped) → ((NeedsMore w.kind mid.is_open answer → ⊥) → left ≡ Peek) → Here turn
+    ends : (answer : ParseResult V E) (turn : FirstResult V S' E) → turn ≡ Done answer → Stays mid new middle after → Answers w a run answer → Said answer → IsFinal w later valid a first given left old new before after answer → (NeedsMore w.kind mid.is_open answer → left ≡ A stopped) → ((NeedsMore w.kind mid.is_open answer → ⊥) → left ≡ Peek) → Here turn
     ends answer turn e k p r f y n = rw (e, k.same, k.failures) (record { is = Answered (record { state = s; stopped = stopped; begun = b; reads = h; answers = p; refuses = r }) (record { holds = i; asks = y; ends = n }) f })
 
-    peeked : (t : Tracked E) (turn : Turn V S' E) → Leads (PeekErr t) turn → Answers w a run (PeekErr t) → Said (PeekErr t) → Here turn
-    peeked t (Ends answer) g p r =
+    peeked : (t : Tracked E) (turn : FirstResult V S' E) → Leads (PeekErr t) turn → Answers w a run (PeekErr t) → Said (PeekErr t) → Here turn
+    peeked t (Done answer) g p r =
         let n = g.is in
         record { is = Failed n.error n.is (unreset_here w later valid a first given left run new after t p (w.kind n.error) (n.why, n.moves, n.more) resets n.empty n.error refl) }
-    peeked t (Goes fresh refused) g p r =
+    peeked t (RunsLater fresh refused) g p r =
         let n = g.is in
         rw n.refused_so (record { is = record { fresh = n.is_fresh; view = mid; failures = middle; ran = record { state = s; stopped = stopped; begun = b; reads = h; answers = p; refuses = r }; back = n.back old back; steady = n.failures; empty = n.empty } })
 
     -- what comes of the first, by what is done with its answer
-    pub turned : (answer : ParseResult V E) (turn : Turn V S' E) → Answers w a run answer → Said answer → Leads answer turn → Here turn
+    pub turned : (answer : ParseResult V E) (turn : FirstResult V S' E) → Answers w a run answer → Said answer → Leads answer turn → Here turn
     turned (CommitOk v) turn p r g = let n = g.is in ends (CommitOk v) turn n.0 n.1 p r tt (λ q. absurd q) (λ q. n.2)
     turned (PeekOk v) turn p r g = let n = g.is in ends (PeekOk v) turn n.0 n.1 p r tt (λ q. absurd q) (λ q. n.2)
     turned (CommitErr e) turn p r g = let n = g.is in ends (CommitErr e) turn n.0 n.1 p r tt n.2 n.3

@@ -19,13 +19,13 @@ use Rattle.combine_token.specs.declared.choice.OrState.{OrState}
 use Rattle.combine_token.specs.declared.choice.OrState.TheVariants.{Peek, B}
 use Rattle.combine_token.specs.Choice.ChoiceCalls.{Chose, Followed, Tried}
 use Rattle.combine_token.specs.Choice.FirstAlternative.{Answered, Ended, Failed, GoesOn, IsFinal, NoFault, Ran, Settled, Settles, begins, turned}
-use Rattle.combine_token.specs.declared.choice.first.Turn.TheVariants.{Ends, Goes}
+use Rattle.combine_token.specs.declared.choice.first.FirstResult.TheVariants.{Done, RunsLater}
 use Rattle.combine_base.specs.Parser.Reasons.{Reasoned}
 use Rattle.combine_base.specs.declared.error.ParseResult.TheVariants.{CommitOk, PeekOk, CommitErr, PeekErr}
 use Rattle.combine_base.specs.declared.stream.Kind.TheVariants as kinds
 use Rattle.combine_base.proofs.Errors.CallReasons.{reasons_fault, reasons_ok, reasons_peek_ok}
 use Rattle.combine_token.proofs.Choices.ChoiceReasons.{begun_refusals, first_reasons, from_second, second_reasons}
-use Rattle.combine_token.specs.declared.choice.first.Turn.{Turn}
+use Rattle.combine_token.specs.declared.choice.first.FirstResult.{FirstResult}
 use Rattle.combine_token.proofs.Choices.FirstAlternative as first_turn
 use Rattle.combine_token.proofs.Choices.LaterAlternatives.{ended_answers, ended_valid, first_no_fault, gone_answers, gone_valid, kept_valid}
 
@@ -41,7 +41,7 @@ module _ {P T R V S S' E : Type 0} (step : P → T → P) (errors : Errors T R P
   ended_says answer (Answered ran l f) = final_says answer ran f
   ended_says answer (Failed e i u) = rw i (reasons_fault errors.kind now.is_open (begun_refuses (either_of errors cmp a b) first given old now) e kinds.Reset u.kind tt)
 
-  gone_says : (kept : S') (r : Option (Tracked E)) → turned (world step errors steady fresh) fresh' valid a first given none old now before so_far (Goes kept r) → (new : View P T) (after : Failures) (kept' : S') (left : OrState S S') (answer result : ParseResult V E) → Answers (world step errors steady fresh') b (record { first = first; state = kept; left = kept'; old = now; new = new; before = so_far; after = after }) answer → Reasoned errors.kind new.is_open (begun_refuses b first kept now new) answer → Settled errors cmp new.is_open r kept' none left answer result → Reasoned errors.kind new.is_open (begun_refuses (either_of errors cmp a b) first given old new) result
+  gone_says : (kept : S') (r : Option (Tracked E)) → turned (world step errors steady fresh) fresh' valid a first given none old now before so_far (RunsLater kept r) → (new : View P T) (after : Failures) (kept' : S') (left : OrState S S') (answer result : ParseResult V E) → Answers (world step errors steady fresh') b (record { first = first; state = kept; left = kept'; old = now; new = new; before = so_far; after = after }) answer → Reasoned errors.kind new.is_open (begun_refuses b first kept now new) answer → Settled errors cmp new.is_open r kept' none left answer result → Reasoned errors.kind new.is_open (begun_refuses (either_of errors cmp a b) first given old new) result
   gone_says kept None z new after kept' left answer result p q s =
       let i = subst (λ x. Reasoned errors.kind new.is_open (begun_refuses b first kept x new) answer) z.same q in
       rw s.is (from_second errors cmp h k first given kept z.partial z.was old new answer i)
@@ -50,7 +50,7 @@ module _ {P T R V S S' E : Type 0} (step : P → T → P) (errors : Errors T R P
       second_reasons errors cmp h k first given z.ran.state z.ran.begun old new kept z.fresh z.view u (reasoned_meant z.ran.answers z.ran.refuses) answer result i s.is
 
   module _ {C : Type 0} {a' : Meaning P T R E V S} {law : Type 0} {x y : C → View P T → Type 0} where
-    pub ended_chose : {law' : Type 0} → law' → (answer : ParseResult V E) → Tried (world step errors steady fresh) fresh' valid law a a' x y first given none old now before so_far (Ends answer) → Chose (world step errors steady (λ s. s ≡ Peek)) (law × law') (or_valid valid valid') (either_of errors cmp a b) (either_of errors cmp a' b) x y (record { first = first; state = given; left = none; old = old; new = now; before = before; after = so_far }) answer
+    pub ended_chose : {law' : Type 0} → law' → (answer : ParseResult V E) → Tried (world step errors steady fresh) fresh' valid law a a' x y first given none old now before so_far (Done answer) → Chose (world step errors steady (λ s. s ≡ Peek)) (law × law') (or_valid valid valid') (either_of errors cmp a b) (either_of errors cmp a' b) x y (record { first = first; state = given; left = none; old = old; new = now; before = before; after = so_far }) answer
     ended_chose l' answer t = record {
       lawful = (t.lawful, l');
       valid = ended_valid step errors steady cmp h k first given old before none now so_far answer t.turned.is;
@@ -60,7 +60,7 @@ module _ {P T R V S S' E : Type 0} (step : P → T → P) (errors : Errors T R P
       refuses = ended_says answer t.turned.is;
     }
 
-    module _ (kept : S') (refused : Option (Tracked E)) (t : Tried (world step errors steady fresh) fresh' valid law a a' x y first given none old now before so_far (Goes kept refused)) where
+    module _ (kept : S') (refused : Option (Tracked E)) (t : Tried (world step errors steady fresh) fresh' valid law a a' x y first given none old now before so_far (RunsLater kept refused)) where
       pub ready : ((s : S') → fresh' s → valid' s) → or_valid valid valid' given → valid' kept
       ready d v = kept_valid step errors steady cmp h k first given old before none now so_far kept d v refused t.turned.is
 
@@ -88,7 +88,7 @@ may_settle {P} {T} {R} {V} {S} {E} w {law} {accepts} {m} r refused n answer c = 
     by_answer (PeekErr t) p = no_fault w m r t p
 
 -- what comes of the first, by a call of it and what is done with its answer
-pub tried : {P T R V S S' E C : Type 0} (step : P → T → P) (errors : Errors T R P E) (steady : Type 0) {fresh valid : S → Type 0} (later : S' → Type 0) {a a' : Meaning P T R E V S} {law : Type 0} {x y z : C → View P T → Type 0} (first : Bool) (given left : OrState S S') (s stopped : S) (old mid new : View P T) (before middle after : Failures) (stands : View P T → Type 0) → begins fresh first given s → valid s → (answer : ParseResult V E) → Chose (world step errors steady fresh) law valid a a' x y (record { first = first; state = s; left = stopped; old = old; new = mid; before = before; after = middle }) answer → stands old → Passes y z middle after → (turn : Turn V S' E) → GoesOn step errors.kind steady later stands stopped left mid new middle after answer turn → Tried (world step errors steady fresh) later valid law a a' x z first given left old new before after turn
+pub tried : {P T R V S S' E C : Type 0} (step : P → T → P) (errors : Errors T R P E) (steady : Type 0) {fresh valid : S → Type 0} (later : S' → Type 0) {a a' : Meaning P T R E V S} {law : Type 0} {x y z : C → View P T → Type 0} (first : Bool) (given left : OrState S S') (s stopped : S) (old mid new : View P T) (before middle after : Failures) (stands : View P T → Type 0) → begins fresh first given s → valid s → (answer : ParseResult V E) → Chose (world step errors steady fresh) law valid a a' x y (record { first = first; state = s; left = stopped; old = old; new = mid; before = before; after = middle }) answer → stands old → Passes y z middle after → (turn : FirstResult V S' E) → GoesOn step errors.kind steady later stands stopped left mid new middle after answer turn → Tried (world step errors steady fresh) later valid law a a' x z first given left old new before after turn
 tried step errors steady {fresh} {valid} later {a} {a'} {law} {x} {y} {z} first given left s stopped old mid new before middle after stands b h answer call back p turn g = record {
   lawful = call.lawful;
   same = call.same;
@@ -97,7 +97,7 @@ tried step errors steady {fresh} {valid} later {a} {a'} {law} {x} {y} {z} first 
 }
 
 -- it was running already when another one was
-pub resumed : {P T R V S S' E C : Type 0} (w : World P T S E) (later : S' → Type 0) (valid : S → Type 0) {law : Type 0} (a : Meaning P T R E V S) (x : C → View P T → Type 0) (given left : OrState S S') (kept : S') (old : View P T) (before : Failures) → law → (first : Bool) → first ≡ false → given ≡ B kept → left ≡ Peek → Tried {V = V} w later valid law a a x x first given left old old before before (Goes kept None)
+pub resumed : {P T R V S S' E C : Type 0} (w : World P T S E) (later : S' → Type 0) (valid : S → Type 0) {law : Type 0} (a : Meaning P T R E V S) (x : C → View P T → Type 0) (given left : OrState S S') (kept : S') (old : View P T) (before : Failures) → law → (first : Bool) → first ≡ false → given ≡ B kept → left ≡ Peek → Tried {V = V} w later valid law a a x x first given left old old before before (RunsLater kept None)
 resumed w later valid a x given left kept old before l first e i n = record {
   lawful = l;
   same = same_none a;

@@ -20,7 +20,7 @@ use Rattle.combine_token.proofs.Choices.MergedRefusals.{no_fault, merged_answers
 use Rattle.combine_token.specs.declared.choice.OrState.{OrState}
 use Rattle.combine_token.specs.declared.choice.OrState.TheVariants.{Peek, A, B}
 use Rattle.combine_token.specs.Choice.FirstAlternative.{Ended, Answered, Failed, Ran, Keeps, Resumed, IsFinal, turned, begins, first_valid, NoFault, Settled, joined}
-use Rattle.combine_token.specs.declared.choice.first.Turn.TheVariants.{Goes}
+use Rattle.combine_token.specs.declared.choice.first.FirstResult.TheVariants.{RunsLater}
 use Rattle.combine_token.proofs.Choices.FirstAlternative.{asks_or_not}
 
 -- the state of the first is valid where the choice's is
@@ -100,7 +100,7 @@ module _ {P T R V S S' E : Type 0} (step : P → T → P) (errors : Errors T R P
   -- the later ones are tried
   module _ (none : OrState S S') (now : View P T) (so_far : Failures) (kept : S') where
     abbrev goes : Option (Tracked E) → Type 0
-    goes t = turned w fresh' valid a first given none old now before so_far (Goes kept t)
+    goes t = turned w fresh' valid a first given none old now before so_far (RunsLater kept t)
 
     resumes : Resumed w fresh' valid a first given none old now before so_far kept → Tries w' empty b refused m first kept now so_far first given old before
     resumes x = record {

@@ -12,7 +12,7 @@ use Rattle.combine_token.specs.Choice.FirstAlternative.{Settled, Turned}
 use Rattle.std.specs.declared.cmp.Ordering.{Ordering}
 use Rattle.combine_base.specs.Error.Errors.{Errors}
 use Rattle.combine_base.specs.declared.error.Tracked.{Tracked}
-use Rattle.combine_token.specs.declared.choice.first.Turn.{Turn}
+use Rattle.combine_token.specs.declared.choice.first.FirstResult.{FirstResult}
 use Rattle.combine_base.specs.declared.stream.StreamOnce as stream
 
 pub record Chose {P T R V S E C : Type 0} (w : World P T S E) (law : Type 0) (accepts : S → Type 0) (m m' : Meaning P T R E V S) (x y : C → View P T → Type 0) (r : Run P T S) (result : ParseResult V E) : Type 0 where
@@ -24,7 +24,7 @@ pub record Chose {P T R V S E C : Type 0} (w : World P T S E) (law : Type 0) (ac
   pub refuses : Reasoned w.kind r.new.is_open (begun_refuses m r.first r.state r.old r.new) result
 
 -- what came of the first, run by a call: that of `Turned`, and what the call promises besides
-pub record Tried {P T R V S S' E C : Type 0} (w : World P T S E) (later : S' → Type 0) (valid : S → Type 0) (law : Type 0) (a a' : Meaning P T R E V S) (x y : C → View P T → Type 0) (first : Bool) (given left : OrState S S') (old new : View P T) (before after : Failures) (result : Turn V S' E) : Type 0 where
+pub record Tried {P T R V S S' E C : Type 0} (w : World P T S E) (later : S' → Type 0) (valid : S → Type 0) (law : Type 0) (a a' : Meaning P T R E V S) (x y : C → View P T → Type 0) (first : Bool) (given left : OrState S S') (old new : View P T) (before after : Failures) (result : FirstResult V S' E) : Type 0 where
   pub lawful : law
   pub same : MeansSame a a'
   pub passes : Passes x y before after
@@ -44,7 +44,7 @@ module _ {Input T R P E V S : Type 0} (i : stream.Ghosts Input T R P E) (seen : 
 
 module _ {Input T R P E V S S' : Type 0} (i : stream.Ghosts Input T R P E) (seen : Errors T R P E) where
   -- the first half
-  abbrev pub TriedCall : (fresh : S → Type 0) (later : S' → Type 0) (valid : S → Type 0) (law : Type 0) (a a' : Meaning P T R E V S) (first : Bool) (given left : OrState S S') (input after : Input) → Turn V S' E → Type 0
+  abbrev pub TriedCall : (fresh : S → Type 0) (later : S' → Type 0) (valid : S → Type 0) (law : Type 0) (a a' : Meaning P T R E V S) (first : Bool) (given left : OrState S S') (input after : Input) → FirstResult V S' E → Type 0
   TriedCall fresh later valid law a a' first given left input after result = Tried (world i.step seen i.steady fresh) later valid law a a' (i.marks input) (i.marks after) first given left (i.view input) (i.view after) (i.failures input) (i.failures after) result
 
   -- the second, after that refusal of the first

@@ -16,8 +16,8 @@ use Rattle.combine_base.specs.Parser.DriverAnswers.{NeedsMore}
 use Rattle.combine_token.specs.Choice.Alternatives.{AfterRefusal, PeeksNoFault}
 use Rattle.combine_token.specs.declared.choice.OrState.{OrState}
 use Rattle.combine_token.specs.declared.choice.OrState.TheVariants.{Peek, A, B}
-use Rattle.combine_token.specs.declared.choice.first.Turn.{Turn}
-use Rattle.combine_token.specs.declared.choice.first.Turn.TheVariants.{Ends, Goes}
+use Rattle.combine_token.specs.declared.choice.first.FirstResult.{FirstResult}
+use Rattle.combine_token.specs.declared.choice.first.FirstResult.TheVariants.{Done, RunsLater}
 
 -- the first alternative's state is one that it may be given
 abbrev pub first_valid : {S S' : Type 0} → (S → Type 0) → OrState S S' → Type 0
@@ -96,12 +96,12 @@ module _ {P T R V S S' E : Type 0} (w : World P T S E) (later : S' → Type 0) (
     pub failures : after ≡ before
     pub empty : left ≡ Peek
 
-  abbrev pub turned : Turn V S' E → Type 0
-  turned (Ends answer) = Ended answer
-  turned (Goes kept None) = Resumed kept
-  turned (Goes kept (Some t)) = Refusal kept t
+  abbrev pub turned : FirstResult V S' E → Type 0
+  turned (Done answer) = Ended answer
+  turned (RunsLater kept None) = Resumed kept
+  turned (RunsLater kept (Some t)) = Refusal kept t
 
-  pub record Turned (result : Turn V S' E) : Type 0 where
+  pub record Turned (result : FirstResult V S' E) : Type 0 where
     pub is : turned result
 
 -- the stream stays as it is
@@ -128,14 +128,14 @@ pub record NotPutBack {P T V S S' E : Type 0} (step : P → T → P) (kind : E �
 
 -- what is done with the first one's answer, which left its state so, and the stream
 module _ {P T V S S' E : Type 0} (step : P → T → P) (kind : E → Kind) (steady : Type 0) (later : S' → Type 0) (stands : View P T → Type 0) (kept : S) (left : OrState S S') (old new : View P T) (before after : Failures) where
-  abbrev pub goes_on : ParseResult V E → Turn V S' E → Type 0
-  goes_on (CommitOk v) turn = (turn ≡ Ends (CommitOk v)) × Stays old new before after × (left ≡ Peek)
-  goes_on (PeekOk v) turn = (turn ≡ Ends (PeekOk v)) × Stays old new before after × (left ≡ Peek)
-  goes_on (CommitErr e) turn = (turn ≡ Ends (CommitErr e)) × Stays old new before after × (NeedsMore {V = V} kind old.is_open (CommitErr e) → left ≡ A kept) × ((NeedsMore {V = V} kind old.is_open (CommitErr e) → ⊥) → left ≡ Peek)
-  goes_on (PeekErr t) (Ends answer) = NotPutBack step kind left old new before after answer
-  goes_on (PeekErr t) (Goes fresh refused) = PutBack steady later stands left new before after t fresh refused
+  abbrev pub goes_on : ParseResult V E → FirstResult V S' E → Type 0
+  goes_on (CommitOk v) turn = (turn ≡ Done (CommitOk v)) × Stays old new before after × (left ≡ Peek)
+  goes_on (PeekOk v) turn = (turn ≡ Done (PeekOk v)) × Stays old new before after × (left ≡ Peek)
+  goes_on (CommitErr e) turn = (turn ≡ Done (CommitErr e)) × Stays old new before after × (NeedsMore {V = V} kind old.is_open (CommitErr e) → left ≡ A kept) × ((NeedsMore {V = V} kind old.is_open (CommitErr e) → ⊥) → left ≡ Peek)
+  goes_on (PeekErr t) (Done answer) = NotPutBack step kind left old new before after answer
+  goes_on (PeekErr t) (RunsLater fresh refused) = PutBack steady later stands left new before after t fresh refused
 
-  pub record GoesOn (answer : ParseResult V E) (turn : Turn V S' E) : Type 0 where
+  pub record GoesOn (answer : ParseResult V E) (turn : FirstResult V S' E) : Type 0 where
     pub is : goes_on answer turn
 
 abbrev pub NoFault : {E : Type 0} → (E → Kind) → Option (Tracked E) → Type 0

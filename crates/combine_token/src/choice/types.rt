@@ -4,7 +4,7 @@ ghost use Rattle.combine_token.specs.Choice.Optional.{optional, optional_is_mean
 ghost use Rattle.combine_token.specs.Choice.Or.{either_of, or_is_meaning, or_means_one, or_valid};
 
 use super::OrState;
-use super::lent::{Alternatives, First};
+use super::alternatives::{Alternatives, FirstHalf};
 use combine_base::error::{ErrorOffset, ParseResult, Tracked};
 use combine_base::parser::{Outputs, ParseMode, Parser};
 use combine_base::stream::Stream;
@@ -45,7 +45,7 @@ impl<Input: Stream, P: Parser<Input>, Q: Parser<Input, Output = P::Output>> Pars
         state: &mut Self::PartialState,
     ) -> ParseResult<P::Output, Input::Error> {
         let mut halves = (&mut self.0, &mut self.1);
-        halves.choose::<_, First>(mode, input, state)
+        halves.choose::<_, FirstHalf>(mode, input, state)
     }
 
     /// Adds what the first adds, and then what the second does.

@@ -8,7 +8,7 @@ ghost use Rattle.combine_token.specs.Token.TokenParsers.{tokens_cmp_of, tokens_o
 mod answers;
 pub mod types;
 
-use answers::{accepted, mismatch, no_more, pass_over, put_back};
+use answers::{accepted, mismatch, no_more, pass_list_items, put_back};
 use combine_base::error::{Info, ParseResult};
 use combine_base::parser::ParseMode;
 use combine_base::stream::{Kind, Stream, StreamOnce, ends_open};
@@ -102,7 +102,7 @@ where
         Ok(list) => list.into_iter(),
         Err(_refused) => return ParseResult::CommitErr(input.new_error(Kind::Memory, position)),
     };
-    match pass_over(&mut items, matched) {
+    match pass_list_items(&mut items, matched) {
         Ok(()) => {}
         Err(count) => return accepted(value, count > 0, position, input),
     }

@@ -11,8 +11,8 @@ use crate::parser::{Outputs, ParseMode, Parser};
 use crate::sequence::part::{Push, parse_rest, resume_last, take_state};
 use crate::sequence::tuple::add_counts;
 use crate::sequence::{
-    PartialState5, PartialState6, PartialState7, PartialState8, Placed, SequencePlace,
-    SequenceState,
+    PartialState5, PartialState6, PartialState7, PartialState8, SequencePlace, SequenceState,
+    TupleState,
 };
 use crate::stream::Stream;
 use front::Front;
@@ -21,12 +21,12 @@ use front::Front;
 ///
 /// Need of more is kept in `state`, which begins them, and which every other result leaves as it was.
 #[inline(always)]
-fn parse_one_after<
+fn parse_with_one_more<
     Input: Stream,
     T: Push<E::Output> + Drop,
     Q: Front<Input, Output = T>,
     E: Parser<Input>,
-    S: Placed<Before = Q::State, Last = SequenceState<T, E::PartialState>> + Drop,
+    S: TupleState<Before = Q::State, Last = SequenceState<T, E::PartialState>> + Drop,
     M: ParseMode,
 >(
     before: &mut Q,
@@ -58,15 +58,15 @@ fn parse_one_after<
 ///
 /// Need of more is kept in `state`, which begins them, and which every other result leaves as it was.
 #[inline(always)]
-fn parse_two_after<
+fn parse_with_two_more<
     Input: Stream,
     T: Push<E::Output, Pushed = V> + Drop,
     V: Push<F::Output> + Drop,
     Q: Front<Input, Output = T>,
     E: Parser<Input>,
     F: Parser<Input>,
-    N: Placed<Before = Q::State, Last = SequenceState<T, E::PartialState>> + Drop,
-    S: Placed<Before = N, Last = SequenceState<V, F::PartialState>> + Drop,
+    N: TupleState<Before = Q::State, Last = SequenceState<T, E::PartialState>> + Drop,
+    S: TupleState<Before = N, Last = SequenceState<V, F::PartialState>> + Drop,
     M: ParseMode,
 >(
     before: &mut Q,
@@ -88,7 +88,7 @@ fn parse_two_after<
     match from.into_place() {
         SequencePlace::Before(at) => {
             let mut kept = N::from_place(SequencePlace::Before(Q::begin()));
-            let answer = parse_one_after(before, e, mode, input, at, &mut kept);
+            let answer = parse_with_one_more(before, e, mode, input, at, &mut kept);
             parse_rest(answer, kept, f, mode, input, state)
         }
         SequencePlace::Last(at) => resume_last(f, mode, input, at, state),
@@ -99,7 +99,7 @@ fn parse_two_after<
 ///
 /// Need of more is kept in `state`, which begins them, and which every other result leaves as it was.
 #[inline(always)]
-fn parse_three_after<
+fn parse_with_three_more<
     Input: Stream,
     T: Push<E::Output, Pushed = V> + Drop,
     V: Push<F::Output, Pushed = W> + Drop,
@@ -108,9 +108,9 @@ fn parse_three_after<
     E: Parser<Input>,
     F: Parser<Input>,
     G: Parser<Input>,
-    L: Placed<Before = Q::State, Last = SequenceState<T, E::PartialState>> + Drop,
-    N: Placed<Before = L, Last = SequenceState<V, F::PartialState>> + Drop,
-    S: Placed<Before = N, Last = SequenceState<W, G::PartialState>> + Drop,
+    L: TupleState<Before = Q::State, Last = SequenceState<T, E::PartialState>> + Drop,
+    N: TupleState<Before = L, Last = SequenceState<V, F::PartialState>> + Drop,
+    S: TupleState<Before = N, Last = SequenceState<W, G::PartialState>> + Drop,
     M: ParseMode,
 >(
     before: &mut Q,
@@ -135,7 +135,7 @@ fn parse_three_after<
             let mut kept = N::from_place(SequencePlace::Before(L::from_place(SequencePlace::Before(
                 Q::begin(),
             ))));
-            let answer = parse_two_after(before, e, f, mode, input, at, &mut kept);
+            let answer = parse_with_two_more(before, e, f, mode, input, at, &mut kept);
             parse_rest(answer, kept, g, mode, input, state)
         }
         SequencePlace::Last(at) => resume_last(g, mode, input, at, state),
@@ -146,7 +146,7 @@ fn parse_three_after<
 ///
 /// Need of more is kept in `state`, which begins them, and which every other result leaves as it was.
 #[inline(always)]
-fn parse_four_after<
+fn parse_with_four_more<
     Input: Stream,
     T: Push<E::Output, Pushed = V> + Drop,
     V: Push<F::Output, Pushed = W> + Drop,
@@ -157,10 +157,10 @@ fn parse_four_after<
     F: Parser<Input>,
     G: Parser<Input>,
     H: Parser<Input>,
-    K: Placed<Before = Q::State, Last = SequenceState<T, E::PartialState>> + Drop,
-    L: Placed<Before = K, Last = SequenceState<V, F::PartialState>> + Drop,
-    N: Placed<Before = L, Last = SequenceState<W, G::PartialState>> + Drop,
-    S: Placed<Before = N, Last = SequenceState<Y, H::PartialState>> + Drop,
+    K: TupleState<Before = Q::State, Last = SequenceState<T, E::PartialState>> + Drop,
+    L: TupleState<Before = K, Last = SequenceState<V, F::PartialState>> + Drop,
+    N: TupleState<Before = L, Last = SequenceState<W, G::PartialState>> + Drop,
+    S: TupleState<Before = N, Last = SequenceState<Y, H::PartialState>> + Drop,
     M: ParseMode,
 >(
     before: &mut Q,
@@ -186,7 +186,7 @@ fn parse_four_after<
             let mut kept = N::from_place(SequencePlace::Before(L::from_place(SequencePlace::Before(
                 K::from_place(SequencePlace::Before(Q::begin())),
             ))));
-            let answer = parse_three_after(before, e, f, g, mode, input, at, &mut kept);
+            let answer = parse_with_three_more(before, e, f, g, mode, input, at, &mut kept);
             parse_rest(answer, kept, h, mode, input, state)
         }
         SequencePlace::Last(at) => resume_last(h, mode, input, at, state),
@@ -259,7 +259,7 @@ impl<
     ) -> ParseResult<Self::Output, Input::Error> {
         let from = take_state(mode, state);
         let mut before = (&mut self.0, &mut self.1, &mut self.2, &mut self.3);
-        parse_one_after(&mut before, &mut self.4, mode, input, from, state)
+        parse_with_one_more(&mut before, &mut self.4, mode, input, from, state)
     }
 
     #[inline]
@@ -373,7 +373,7 @@ impl<
     ) -> ParseResult<Self::Output, Input::Error> {
         let from = take_state(mode, state);
         let mut before = (&mut self.0, &mut self.1, &mut self.2, &mut self.3);
-        parse_two_after(
+        parse_with_two_more(
             &mut before,
             &mut self.4,
             &mut self.5,
@@ -512,7 +512,7 @@ impl<
     ) -> ParseResult<Self::Output, Input::Error> {
         let from = take_state(mode, state);
         let mut before = (&mut self.0, &mut self.1, &mut self.2, &mut self.3);
-        parse_three_after(
+        parse_with_three_more(
             &mut before,
             &mut self.4,
             &mut self.5,
@@ -670,7 +670,7 @@ impl<
     ) -> ParseResult<Self::Output, Input::Error> {
         let from = take_state(mode, state);
         let mut before = (&mut self.0, &mut self.1, &mut self.2, &mut self.3);
-        parse_four_after(
+        parse_with_four_more(
             &mut before,
             &mut self.4,
             &mut self.5,

@@ -11,7 +11,7 @@ use Rattle.combine_repeat_turns.proofs.turns.take_turns.Goals.{then-not-is_first
 pub returns-then-is_full-clause-answers : goal.returns-then-is_full-clause-answers
 returns-then-is_full-clause-answers g c =
     let z = comes_first _ _ _ _ _ _ _ _ _ _ _ _ _ _ _ refl (rw c.is_first.ensures at c.begin-turns.ensures.turns) (rw c.is_first.ensures at c.begin-turns.ensures.resumed) in
-    comes_full _ _ _ _ _ _ (g.P.Turn.meaning c.args.parser.now) (g.P.Turn.again c.args.parser.now) _ false _ _ _ z (sym c.is_full.ensures ∙ c.if-is_full.true) (c.begin-turns.ensures.left, c.default.ensures) _ c.end.ensures
+    comes_full _ _ _ _ _ _ (g.P.TurnParser.meaning c.args.parser.now) (g.P.TurnParser.again c.args.parser.now) _ false _ _ _ z (sym c.is_full.ensures ∙ c.if-is_full.true) (c.begin-turns.ensures.left, c.default.ensures) _ c.end.ensures
 
 pub returns-in-Stops-clause-answers : goal.returns-in-Stops-clause-answers
 returns-in-Stops-clause-answers g c =
@@ -34,19 +34,19 @@ turns-init g c =
             fresh = rw w.state-is s.judged.accepts.state;
             same = rw w.parser-is w.one_turn.ensures.same;
             passes = rw w.input-is w.one_turn.ensures.passes;
-            leads = rw (w.input-is, w.turns-is, w.later-is) (leads_on (world g.Input.StreamOnce.step g.Input.Error.ParseError.seen g.Input.StreamOnce.steady g.P.Running.Default.is_default) g.Input.Error.ParseError.seen (g.B.Bounded.bounds c.args.bounds) g.P.Turn.ending (gathered g.G.Gather.held g.G.Gather.none g.G.Gather.more g.G.Gather.lean) (so_far g.G.Gather.held c.args.start) (g.P.Turn.meaning c.args.parser.now) (g.P.Turn.again c.args.parser.now) false _ _ _ _ _ _ (sym w.is_full.ensures ∙ w.if-is_full.false) s (leads_first g.Input.StreamOnce.step g.Input.Error.ParseError.seen (g.B.Bounded.bounds c.args.bounds) g.P.Turn.ending (gathered g.G.Gather.held g.G.Gather.none g.G.Gather.more g.G.Gather.lean) c.args.start (g.P.Turn.meaning c.args.parser.now) (g.P.Turn.again c.args.parser.now) _ _ _ _ _ i j));
+            leads = rw (w.input-is, w.turns-is, w.later-is) (leads_on (world g.Input.StreamOnce.step g.Input.Error.ParseError.seen g.Input.StreamOnce.steady g.P.Running.Default.is_default) g.Input.Error.ParseError.seen (g.B.TurnBounds.bounds c.args.bounds) g.P.TurnParser.ending (gathered g.G.Gather.held g.G.Gather.none g.G.Gather.more g.G.Gather.lean) (so_far g.G.Gather.held c.args.start) (g.P.TurnParser.meaning c.args.parser.now) (g.P.TurnParser.again c.args.parser.now) false _ _ _ _ _ _ (sym w.is_full.ensures ∙ w.if-is_full.false) s (leads_first g.Input.StreamOnce.step g.Input.Error.ParseError.seen (g.B.TurnBounds.bounds c.args.bounds) g.P.TurnParser.ending (gathered g.G.Gather.held g.G.Gather.none g.G.Gather.more g.G.Gather.lean) c.args.start (g.P.TurnParser.meaning c.args.parser.now) (g.P.TurnParser.again c.args.parser.now) _ _ _ _ _ i j));
             cleared = rw w.state-is c.begin-turns.ensures.left;
-            reaches = rw (w.state-is, w.input-is, w.turns-is, w.later-is) (comes_on _ _ _ _ _ _ _ _ _ (g.met.P.Turn.laws _ c.requires.lawful) _ _ _ _ false _ _ _ z (sym w.is_full.ensures ∙ w.if-is_full.false) (resumed_valid g.P.Turn.valid _ _ r c.requires.valid) s _);
+            reaches = rw (w.state-is, w.input-is, w.turns-is, w.later-is) (comes_on _ _ _ _ _ _ _ _ _ (g.met.P.TurnParser.laws _ c.requires.lawful) _ _ _ _ false _ _ _ z (sym w.is_full.ensures ∙ w.if-is_full.false) (resumed_valid g.P.TurnParser.valid _ _ r c.requires.valid) s _);
           }
       | else-not-is_first w ↦
           let d = c.begin-turns.ensures.afresh (c.is_first.ensures ∙ sym c.is_first-2.ensures ∙ w.if-not-is_first.false) in
           record {
             lawful = rw w.parser-is c.requires.lawful;
-            valid = rw w.state-is (g.met.P.Turn.default_valid _ d);
+            valid = rw w.state-is (g.met.P.TurnParser.default_valid _ d);
             fresh = rw w.state-is d;
             same = rw w.parser-is (turns_same_none _ _);
             passes = rw w.input-is (passes_none _ _);
-            leads = rw (w.input-is, w.turns-is, w.later-is) (leads_afresh g.Input.StreamOnce.step g.Input.Error.ParseError.seen (g.B.Bounded.bounds c.args.bounds) g.P.Turn.ending (gathered g.G.Gather.held g.G.Gather.none g.G.Gather.more g.G.Gather.lean) c.args.start (g.P.Turn.meaning c.args.parser.now) (g.P.Turn.again c.args.parser.now) _ _ c.args.state.now.running _ _ (sym c.is_first-2.ensures ∙ w.if-not-is_first.false) i);
+            leads = rw (w.input-is, w.turns-is, w.later-is) (leads_afresh g.Input.StreamOnce.step g.Input.Error.ParseError.seen (g.B.TurnBounds.bounds c.args.bounds) g.P.TurnParser.ending (gathered g.G.Gather.held g.G.Gather.none g.G.Gather.more g.G.Gather.lean) c.args.start (g.P.TurnParser.meaning c.args.parser.now) (g.P.TurnParser.again c.args.parser.now) _ _ c.args.state.now.running _ _ (sym c.is_first-2.ensures ∙ w.if-not-is_first.false) i);
             cleared = rw w.state-is c.begin-turns.ensures.left;
             reaches = rw (w.state-is, w.input-is, w.turns-is, w.later-is) (comes_afresh _ _ _ _ _ _ _ _ _ _ _ _ _ _ _ (sym c.is_first-2.ensures ∙ w.if-not-is_first.false) refl i);
           }
@@ -78,18 +78,18 @@ turns-preserved g c =
       fresh = s.judged.accepts.state;
       same = turns_same_more _ _ _ _ _ _ i.same c.one_turn-in-turns.ensures.same;
       passes = passes_more _ _ _ _ _ _ i.passes c.one_turn-in-turns.ensures.passes;
-      leads = leads_on (world g.Input.StreamOnce.step g.Input.Error.ParseError.seen g.Input.StreamOnce.steady g.P.Running.Default.is_default) g.Input.Error.ParseError.seen (g.B.Bounded.bounds c.args.bounds) g.P.Turn.ending (gathered g.G.Gather.held g.G.Gather.none g.G.Gather.more g.G.Gather.lean) (so_far g.G.Gather.held c.args.start) (g.P.Turn.meaning c.args.parser.now) (g.P.Turn.again c.args.parser.now) _ _ _ _ _ _ _ (sym c.is_full-in-turns.ensures ∙ c.if-is_full-2.false) s i.leads;
+      leads = leads_on (world g.Input.StreamOnce.step g.Input.Error.ParseError.seen g.Input.StreamOnce.steady g.P.Running.Default.is_default) g.Input.Error.ParseError.seen (g.B.TurnBounds.bounds c.args.bounds) g.P.TurnParser.ending (gathered g.G.Gather.held g.G.Gather.none g.G.Gather.more g.G.Gather.lean) (so_far g.G.Gather.held c.args.start) (g.P.TurnParser.meaning c.args.parser.now) (g.P.TurnParser.again c.args.parser.now) _ _ _ _ _ _ _ (sym c.is_full-in-turns.ensures ∙ c.if-is_full-2.false) s i.leads;
       cleared = i.cleared;
-      reaches = comes_on _ _ _ _ _ _ _ _ _ (g.met.P.Turn.laws _ c.requires.lawful) _ _ _ _ _ _ _ _ i.reaches (sym c.is_full-in-turns.ensures ∙ c.if-is_full-2.false) i.valid s _;
+      reaches = comes_on _ _ _ _ _ _ _ _ _ (g.met.P.TurnParser.laws _ c.requires.lawful) _ _ _ _ _ _ _ _ i.reaches (sym c.is_full-in-turns.ensures ∙ c.if-is_full-2.false) i.valid s _;
     }
 
 pub returns-in-Stops-clause-refuses : goal.returns-in-Stops-clause-refuses
 returns-in-Stops-clause-refuses g c =
-    let z = leads_first g.Input.StreamOnce.step g.Input.Error.ParseError.seen (g.B.Bounded.bounds c.args.bounds) g.P.Turn.ending (gathered g.G.Gather.held g.G.Gather.none g.G.Gather.more g.G.Gather.lean) c.args.start (g.P.Turn.meaning c.args.parser.now) (g.P.Turn.again c.args.parser.now) _ _ _ _ _ (rw c.is_first.ensures at c.begin-turns.ensures.turns) (rw c.is_first.ensures at c.begin-turns.ensures.resumed) in
-    rw c.stopped.ensures.answer (stops_leading g.Input.StreamOnce.step g.Input.Error.ParseError.seen (g.B.Bounded.bounds c.args.bounds) g.P.Turn.ending (gathered g.G.Gather.held g.G.Gather.none g.G.Gather.more g.G.Gather.lean) (so_far g.G.Gather.held c.args.start) (g.P.Turn.meaning c.args.parser.now) (g.P.Turn.again c.args.parser.now) _ _ _ _ _ _ _ (sym c.is_full.ensures ∙ c.if-is_full.false) z _ c.in-Stops.ensures.refuses.is)
+    let z = leads_first g.Input.StreamOnce.step g.Input.Error.ParseError.seen (g.B.TurnBounds.bounds c.args.bounds) g.P.TurnParser.ending (gathered g.G.Gather.held g.G.Gather.none g.G.Gather.more g.G.Gather.lean) c.args.start (g.P.TurnParser.meaning c.args.parser.now) (g.P.TurnParser.again c.args.parser.now) _ _ _ _ _ (rw c.is_first.ensures at c.begin-turns.ensures.turns) (rw c.is_first.ensures at c.begin-turns.ensures.resumed) in
+    rw c.stopped.ensures.answer (stops_leading g.Input.StreamOnce.step g.Input.Error.ParseError.seen (g.B.TurnBounds.bounds c.args.bounds) g.P.TurnParser.ending (gathered g.G.Gather.held g.G.Gather.none g.G.Gather.more g.G.Gather.lean) (so_far g.G.Gather.held c.args.start) (g.P.TurnParser.meaning c.args.parser.now) (g.P.TurnParser.again c.args.parser.now) _ _ _ _ _ _ _ (sym c.is_full.ensures ∙ c.if-is_full.false) z _ c.in-Stops.ensures.refuses.is)
 
 pub returns-in-Stops-one_turn-clause-refuses : goal.returns-in-Stops-one_turn-clause-refuses
 returns-in-Stops-one_turn-clause-refuses g c =
     let i = c.turns.invariant in
-    let s = stops_same g.Input.StreamOnce.step g.Input.Error.ParseError.seen (g.B.Bounded.bounds c.args.bounds) g.P.Turn.ending _ _ (called_same _ _ _ _ i.same _) true c.args.state.now.running _ _ _ _ c.in-Stops-one_turn.ensures.refuses.is in
-    rw c.stopped-in-Stops-one_turn.ensures.answer (stops_leading g.Input.StreamOnce.step g.Input.Error.ParseError.seen (g.B.Bounded.bounds c.args.bounds) g.P.Turn.ending (gathered g.G.Gather.held g.G.Gather.none g.G.Gather.more g.G.Gather.lean) (so_far g.G.Gather.held c.args.start) (g.P.Turn.meaning c.args.parser.now) (g.P.Turn.again c.args.parser.now) _ _ _ _ _ _ _ (sym c.is_full-in-turns.ensures ∙ c.if-is_full-2.false) i.leads _ s)
+    let s = stops_same g.Input.StreamOnce.step g.Input.Error.ParseError.seen (g.B.TurnBounds.bounds c.args.bounds) g.P.TurnParser.ending _ _ (called_same _ _ _ _ i.same _) true c.args.state.now.running _ _ _ _ c.in-Stops-one_turn.ensures.refuses.is in
+    rw c.stopped-in-Stops-one_turn.ensures.answer (stops_leading g.Input.StreamOnce.step g.Input.Error.ParseError.seen (g.B.TurnBounds.bounds c.args.bounds) g.P.TurnParser.ending (gathered g.G.Gather.held g.G.Gather.none g.G.Gather.more g.G.Gather.lean) (so_far g.G.Gather.held c.args.start) (g.P.TurnParser.meaning c.args.parser.now) (g.P.TurnParser.again c.args.parser.now) _ _ _ _ _ _ _ (sym c.is_full-in-turns.ensures ∙ c.if-is_full-2.false) i.leads _ s)

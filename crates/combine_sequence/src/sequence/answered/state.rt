@@ -4,7 +4,7 @@
 ///
 /// That is what is kept of the value that it was asked for with, the parser, whether something was committed to before, and its own state.
 #[derive(Drop)]
-pub struct Answering<V, N, U> {
+pub struct AnsweredProgress<V, N, U> {
     pub(super) value: V,
     pub(super) parser: N,
     pub(super) committed: bool,
@@ -17,7 +17,7 @@ pub enum AnsweredState<S, V, N, U> {
     /// The first parser runs.
     First(S),
     /// The parser that was asked for runs.
-    Second(Answering<V, N, U>),
+    Second(AnsweredProgress<V, N, U>),
 }
 
 impl<S: Default, V, N, U> Default for AnsweredState<S, V, N, U> {

@@ -9,14 +9,13 @@ ghost use Rattle.combine_token.specs.Token.Lists.IteratedLists.{Gave, GaveAll};
 ghost use Rattle.combine_token.specs.Token.Lists.ListAnswers.{Accepted, FindsNone, Mismatch, PutBack};
 ghost use Rattle.combine_token.specs.Token.TokenReasons.{SaysEnded, peeked_only};
 
-use combine_base::error::{Info, ParseError, ParseResult, Tracked};
+use combine_base::error::{Info, ParseError, ParseResult, Tracked, accepted_after, refused_after};
 use combine_base::refusal::{add_unexpected_token, no_token};
-use combine_base::sequence::{accepted_after, refused_after};
 use combine_base::stream::{Kind, Stream};
 
 /// Takes the first `n` items, or returns how many there were, if there were fewer.
 #[inline]
-pub(super) fn pass_over<I: Iterator>(items: &mut I, n: usize) -> Result<(), usize>
+pub(super) fn pass_list_items<I: Iterator>(items: &mut I, n: usize) -> Result<(), usize>
 where
     I::Item: Drop,
     requires can { I.can_next items.old }

@@ -13,9 +13,9 @@ use Rattle.combine_token.proofs.token.lists.match_list.Goals as goal
 pub items-init : goal.items-init
 items-init g c =
     let i = c.into_iter-item-iterator.ensures.into_iter_gives in
-    let z = c.in-Ok-pass_over.ensures.gave in
+    let z = c.in-Ok-pass_list_items.ensures.gave in
     let x = c.requires.list.ready _ _ c.in-Ok.ensures.cases c.into_iter-items.ensures.into_iter_gives in
-    let y = c.in-Ok-pass_over.ensures.left in
+    let y = c.in-Ok-pass_list_items.ensures.left in
     record {
       passes = passes_none _ _;
       cleared = c.begin-matched.ensures.left;
@@ -24,9 +24,9 @@ items-init g c =
       arrived = arrived_first _ _ _ _ _ _ _ _ _ _ _ _ _ (rw c.is_first.ensures at c.begin-matched.ensures.matched);
     }
 
-pub returns-in-Err-pass_over-clause-answers : goal.returns-in-Err-pass_over-clause-answers
-returns-in-Err-pass_over-clause-answers g c =
-    let z = c.in-Err-pass_over.ensures.gave in
+pub returns-in-Err-pass_list_items-clause-answers : goal.returns-in-Err-pass_list_items-clause-answers
+returns-in-Err-pass_list_items-clause-answers g c =
+    let z = c.in-Err-pass_list_items.ensures.gave in
     let a = arrived_first _ _ _ _ _ _ _ _ _ _ _ _ _ (rw c.is_first.ensures at c.begin-matched.ensures.matched) in
     match_accepted _ _ _ _ _ _ _ _ _ _ _ _ a c.begin-matched.ensures.left _ (omega (arith, z.0)) (ends_early _ _ _ _ _ _ _ c.in-Ok.ensures.cases c.into_iter-items.ensures.into_iter_gives z.1) refl refl _ (λ l. l.1) _ refl _ c.accepted.ensures
 
@@ -97,8 +97,8 @@ returns-clause-answers g c =
 pub returns-in-Err-clause-refuses : goal.returns-in-Err-clause-refuses
 returns-in-Err-clause-refuses g c = reasons_fault _ _ _ _ kinds.Memory c.new_error.ensures.kind tt
 
-pub returns-in-Err-pass_over-clause-refuses : goal.returns-in-Err-pass_over-clause-refuses
-returns-in-Err-pass_over-clause-refuses g c = accepted_reasons _ _ _ _ _ _ _ c.accepted.ensures
+pub returns-in-Err-pass_list_items-clause-refuses : goal.returns-in-Err-pass_list_items-clause-refuses
+returns-in-Err-pass_list_items-clause-refuses g c = accepted_reasons _ _ _ _ _ _ _ c.accepted.ensures
 
 pub returns-then-matched-gt0-clause-refuses : goal.returns-then-matched-gt0-clause-refuses
 returns-then-matched-gt0-clause-refuses g c =
