@@ -1,6 +1,6 @@
 //! Rules that stand apart.
 ghost use Rattle.std.specs.Prelude.{◌≡◌};
-ghost use Rattle.combine_base.specs.Error.Errors.{Says};
+ghost use Rattle.combine_base.specs.Error.Errors.{AddsItems};
 ghost use Rattle.combine_base.specs.Parser.Meaning.{IsReading, IsSingle};
 ghost use Rattle.bench_grammar.specs.Apart.{Anything, RunsBehind, RunsOnce, SaysBehind, apart, apart_is_meaning, apart_means_one};
 
@@ -29,7 +29,7 @@ impl<'a, Input: Stream, O: Drop> Visitor<Input, O> for RunVisitor<'a, Input> {
 
     ghost ready = { λ s. Unit {0} };
 
-    ghost answers = { λ s r n. RunsBehind Input.step Input.Error.seen Input.steady Input.view Input.marks Input.failures r s.input n };
+    ghost answers = { λ s r n. RunsBehind Input.step Input.Error.observers Input.counts_failures Input.view Input.marks Input.failures r s.input n };
 
     #[inline(always)]
     fn visit<P: Parser<Input, Output = O> + Drop>(
@@ -54,7 +54,7 @@ impl<'a, Input: Stream, O: Drop> Visitor<Input, O> for ExplainVisitor<'a, Input:
 
     ghost ready = { λ s. Unit {0} };
 
-    ghost answers = { λ s r n. SaysBehind Input.Error.seen s.error n };
+    ghost answers = { λ s r n. SaysBehind Input.Error.observers s.error n };
 
     #[inline(always)]
     fn visit<P: Parser<Input, Output = O> + Drop>(
@@ -90,7 +90,7 @@ fn run_outlined<C: Call, Input: Stream<Token = u8>>(
 ) -> ParseResult<C::Output, Input::Error>
 where
     Input::Error: ParseError<u8, Input::Range, Input::Position>,
-    ensures { RunsOnce Input.step Input.Error.seen Input.steady Input.view Input.marks Input.failures (C.reading Input.Position Input.step) input.old input.new result }
+    ensures { RunsOnce Input.step Input.Error.observers Input.counts_failures Input.view Input.marks Input.failures (C.reading Input.Position Input.step) input.old input.new result }
 {
     let (answer, _input) = <C as Call>::accept::<Input, RunVisitor<'_, Input>>(
         alloc,
@@ -107,7 +107,7 @@ fn explain_outlined<C: Call, Input: Stream<Token = u8>>(
 )
 where
     Input::Error: ParseError<u8, Input::Range, Input::Position>,
-    ensures { Says Input.Error.seen ⊥ Anything error.old.error error.new.error }
+    ensures { AddsItems Input.Error.observers ⊥ Anything error.old.error error.new.error }
 {
     let _error = <C as Call>::accept::<Input, ExplainVisitor<'_, Input::Error>>(
         alloc,

@@ -24,7 +24,7 @@ pub(crate) struct SepBy<K>(PhantomData<(K,)>);
 impl<A: Drop, B: Drop, K: Collect<A>> Binary<A, B> for SepBy<K> {
     type Output = K::Collection;
 
-    ghost reading = { λ P step r s. separated step (appended K.Collection.held K.Collection.none K.Collection.more K.Collection.lean) r s };
+    ghost reading = { λ P step r s. separated step (appended K.Collection.held K.Collection.none K.Collection.more K.Collection.heapless) r s };
 
     #[inline(always)]
     fn build<
@@ -47,7 +47,7 @@ pub(crate) struct SepBy1<K>(PhantomData<(K,)>);
 impl<A: Drop, B: Drop, K: Collect<A>> Binary<A, B> for SepBy1<K> {
     type Output = K::Collection;
 
-    ghost reading = { λ P step r s. separated1 step (appended K.Collection.held K.Collection.none K.Collection.more K.Collection.lean) r s };
+    ghost reading = { λ P step r s. separated1 step (appended K.Collection.held K.Collection.none K.Collection.more K.Collection.heapless) r s };
 
     #[inline(always)]
     fn build<

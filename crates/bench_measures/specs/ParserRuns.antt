@@ -20,10 +20,10 @@ failure kinds.Reset = failures.Fault
 failure kinds.Lost = failures.Fault
 
 -- the value of a decision, and how many bytes were taken
-abbrev pub given : {V E : Type 0} → Answer V E → Result (V × ℕ) Failure
-given (answers.Accepted value taken committed) = Ok (value, taken)
-given (answers.Refused error committed) = Err failures.Refused
-given answers.More = Err failures.Fault
+abbrev pub measured_result : {V E : Type 0} → Answer V E → Result (V × ℕ) Failure
+measured_result (answers.Accepted value taken committed) = Ok (value, taken)
+measured_result (answers.Refused error committed) = Err failures.Refused
+measured_result answers.More = Err failures.Fault
 
 -- the number that stands for a failure
 abbrev pub code : Failure → ℕ
@@ -31,14 +31,14 @@ code failures.Refused = 18446744073709551615
 code failures.Fault = 18446744073709551614
 
 module _ {P T V : Type 0} (r : Reading P T V) (v : View P T) where
-  abbrev pub gives : Result (V × ℕ) Failure → Type 0
-  gives (Ok p) = (k : Bool) × r v (Accepted p.0 p.1 k)
-  gives (Err failures.Refused) = (k : Bool) × r v (Refused k)
-  gives (Err failures.Fault) = Unit {0}
+  abbrev pub gives_measured : Result (V × ℕ) Failure → Type 0
+  gives_measured (Ok p) = (k : Bool) × r v (Accepted p.0 p.1 k)
+  gives_measured (Err failures.Refused) = (k : Bool) × r v (Refused k)
+  gives_measured (Err failures.Fault) = Unit {0}
 
   -- an outcome of the reading, with the count of bytes that it says, unless there was a fault
-  pub record Gives (result : Result (V × ℕ) Failure) : Type 0 where
-    pub is : gives result
+  pub record GivesMeasured (result : Result (V × ℕ) Failure) : Type 0 where
+    pub is : gives_measured result
 
 -- no more bytes are taken than that
 abbrev pub is_within : {V : Type 0} → ℕ → Result (V × ℕ) Failure → Type 0
@@ -51,8 +51,8 @@ number f (Ok p) = f p.0 p.1
 number f (Err why) = code why
 
 -- what is answered for a parser of a reading: the number of an outcome of it
-pub record Answers {P T V : Type 0} (f : V → ℕ → ℕ) (r : Reading P T V) (v : View P T) (n : ℕ) : Type 0 where
+pub record AnswersNumber {P T V : Type 0} (f : V → ℕ → ℕ) (r : Reading P T V) (v : View P T) (n : ℕ) : Type 0 where
   pub given : Result (V × ℕ) Failure
   pub within : is_within (length v.unread) given
-  pub gives : Gives r v given
+  pub gives : GivesMeasured r v given
   pub is : n ≡ number f given

@@ -10,13 +10,13 @@ use Rattle.bench_grammar.specs.declared.run.Failure.{Failure}
 use Rattle.bench_grammar.specs.declared.run.Failure.TheVariants as no_value
 
 -- the value itself, or the number that stands for why there is none
-abbrev pub worth : Result ℕ Failure → ℕ
-worth (Ok value) = value
-worth (Err no_value.Refused) = code failures.Refused
-worth (Err no_value.Fault) = code failures.Fault
+abbrev pub program_worth : Result ℕ Failure → ℕ
+program_worth (Ok value) = value
+program_worth (Err no_value.Refused) = code failures.Refused
+program_worth (Err no_value.Fault) = code failures.Fault
 
 -- the number of an outcome of the grammar on all bytes
 pub record MeasuresProgram (bytes : List ℕ) (n : ℕ) : Type 0 where
   pub found : Result ℕ Failure
   pub evaluates : Evaluates (program Left one_less) (slice_view bytes) found
-  pub is : n ≡ worth found
+  pub is : n ≡ program_worth found

@@ -10,5 +10,5 @@ use Rattle.combine_choice_dispatch.specs.declared.variants.dispatch3.Dispatch3.{
 use Rattle.combine_choice_dispatch.specs.declared.variants.dispatch3.Dispatch3.TheVariants.{A, B, C}
 
 -- the parser behind a tag: of a small letter behind an `a`, of a digit behind a `1`, of any byte behind another
-abbrev pub behind : {Input : Type 0} → ℕ → Dispatch3 (ClassParser Input Lower) (ClassParser Input Digit) (Any Input)
-behind tag = if nat_eq tag 97 then A in_class_parser else (if nat_eq tag 49 then B in_class_parser else C any_parser)
+abbrev pub parser_after_tag : {Input : Type 0} → ℕ → Dispatch3 (ClassParser Input Lower) (ClassParser Input Digit) (Any Input)
+parser_after_tag tag = if nat_eq tag 97 then A in_class_parser else (if nat_eq tag 49 then B in_class_parser else C any_parser)

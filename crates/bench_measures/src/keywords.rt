@@ -1,6 +1,6 @@
 //! Eight keywords: what the measures of choices share.
-ghost use Rattle.bench_measures.specs.ParserRuns.{Answers};
-ghost use Rattle.bench_measures.specs.Measures.{taken};
+ghost use Rattle.bench_measures.specs.ParserRuns.{AnswersNumber};
+ghost use Rattle.bench_measures.specs.Measures.{taken_count};
 ghost use Rattle.diff_calls.specs.CallMeanings.{skipping};
 
 use crate::measure::count_taken;
@@ -37,7 +37,7 @@ pub(crate) fn skip_chosen<Input: Stream, R: Run<Input> + Drop, P: ChoiceParser<I
     alternatives: P,
 ) -> u64
     requires { P.lawful alternatives }
-    ensures { Answers taken (skipping Input.step (P.meaning alternatives).whole) (R.all run) result }
+    ensures { AnswersNumber taken_count (skipping Input.step (P.meaning alternatives).whole) (R.all run) result }
 {
     count_taken(run, skip_many(choice(alternatives)))
 }

@@ -38,7 +38,7 @@ impl Append<Message> for Tally {
 
     ghost more = { with_message };
 
-    ghost lean = { Unit {0} };
+    ghost heapless = { Unit {0} };
 
     #[inline]
     fn empty(alloc: Global) -> Tally {

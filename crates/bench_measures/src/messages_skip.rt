@@ -1,5 +1,5 @@
 //! Messages, skipped: `del WORD;` or `WORD=DIGITS;`.
-ghost use Rattle.bench_measures.specs.Measures.{Measures, messages_skip, taken};
+ghost use Rattle.bench_measures.specs.Measures.{Measures, messages_skip, taken_count};
 
 use crate::classes::{Decimal, Letter};
 use crate::delete_tag::DeleteTag;
@@ -25,7 +25,7 @@ type Skipped = SkipManyCall<OrCall<Delete, Set>>;
 /// Skips messages; answers how many bytes it took.
 #[unsafe(no_mangle)]
 pub extern "C" fn combine_bench_messages_skip(alloc: Global, bytes: &[u8], piece: usize) -> u64
-    ensures { Measures taken messages_skip bytes.now result }
+    ensures { Measures taken_count messages_skip bytes.now result }
 {
     measured::<Skipped, Taken>(alloc, bytes, piece)
 }

@@ -1,6 +1,6 @@
 //! `skip_many` of a byte and one of three parsers, by that byte.
 ghost use Rattle.std.specs.Prelude.{◌≡◌};
-ghost use Rattle.bench_measures.specs.TaggedParsers.{behind};
+ghost use Rattle.bench_measures.specs.TaggedParsers.{parser_after_tag};
 
 use crate::measure::count_taken;
 use crate::run::{Pieces, Run, Whole};
@@ -21,7 +21,7 @@ type Tagged<Input> = Dispatch3<Lower<Input>, Digit<Input>, Any<Input>>;
 /// The parser after that tag: of a small letter after an `a`, of a digit after a `1`, of any byte after another.
 #[inline(always)]
 fn tagged<Input>(tag: u8) -> Tagged<Input>
-    ensures { result ≡ behind tag }
+    ensures { result ≡ parser_after_tag tag }
 {
     match tag {
         b'a' => Dispatch3::A(lower()),
@@ -39,7 +39,7 @@ where
     let one = then(
         any(),
         |tag: u8| -> Tagged<Input>
-            ensures { result ≡ behind tag }
+            ensures { result ≡ parser_after_tag tag }
         { tagged(tag) },
     );
     count_taken(run, skip_many(one))

@@ -1,7 +1,7 @@
 //! The method forms of the constructors.
 ghost use Rattle.std.specs.Prelude.{◌≡◌};
 ghost use Rattle.combine_token.specs.Choice.Or.{or_parser};
-ghost use Rattle.combine_repeat_iterate.specs.IteratorValues.{Begins, may_go_on};
+ghost use Rattle.combine_repeat_iterate.specs.IteratorValues.{IsNewIter, may_go_on};
 ghost use Rattle.combine_combinator.specs.CombinatorParsers.{map_of, picked_of};
 ghost use Rattle.combine_combinator_function.specs.ChangeParsers.{and_then_of, flat_map_of, map_input_of};
 ghost use Rattle.combine_error.specs.ErrorParsers.{expected_of, message_of, silent_of};
@@ -227,7 +227,7 @@ pub trait ParserExt<Input: Stream>: Parser<Input> {
     where
         Self: Sized,
         requires ready { ⟦<Self as Calls<Input>>⟧.ready self state.old }
-        ensures begins { Begins result self (record {}) input.old state.old }
+        ensures begins { IsNewIter result self (record {}) input.old state.old }
         ensures ready { may_go_on ⟦<Self as Parser<Input>>⟧ Input.StreamOnce ⟦<FirstMode as ParseMode>⟧.first result }
         ensures same_input { result.input.ghost_name ≡ input.entry.ghost_name }
         ensures same_state { result.state.ghost_name ≡ state.entry.ghost_name }
@@ -247,7 +247,7 @@ pub trait ParserExt<Input: Stream>: Parser<Input> {
     where
         Self: Sized,
         requires ready { ⟦<Self as Calls<Input>>⟧.ready self state.old }
-        ensures begins { Begins result self mode input.old state.old }
+        ensures begins { IsNewIter result self mode input.old state.old }
         ensures ready { may_go_on ⟦<Self as Parser<Input>>⟧ Input.StreamOnce M.first result }
         ensures same_input { result.input.ghost_name ≡ input.entry.ghost_name }
         ensures same_state { result.state.ghost_name ≡ state.entry.ghost_name }

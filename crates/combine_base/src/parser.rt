@@ -85,7 +85,7 @@ pub trait Parser<Input: Stream>: Outputs<Input> {
     ghost use Rattle.combine_base.specs.Parser.Meaning.{Meaning, IsMeaning, IsSingle, MeansOne, MeansSame, begun_refuses};
     ghost use Rattle.combine_base.specs.Parser.Answer.{world};
     ghost use Rattle.combine_base.specs.Parser.AnswersCalls.{AnswersCall, ParsesCall, ResultsCall};
-    ghost use Rattle.combine_base.specs.Error.Errors.{Says};
+    ghost use Rattle.combine_base.specs.Error.Errors.{AddsItems};
     ghost use Rattle.combine_base.specs.Parser.Drivers.{Explains, Explained, Starts};
     ghost use Rattle.combine_base.specs.Parser.Reasons.{Reasoned, ReasonedCall};
     ghost use Rattle.combine_base.specs.Stream.Calls.{Passes};
@@ -136,8 +136,8 @@ pub trait Parser<Input: Stream>: Outputs<Input> {
         ensures valid { valid state.new }
         ensures same { MeansSame (meaning self.old) (meaning self.new) }
         ensures passes { Passes (Input.marks input.old) (Input.marks input.new) (Input.failures input.old) (Input.failures input.new) }
-        ensures answers { AnswersCall Input.StreamOnce Input.Error.seen Self.PartialState.is_default (meaning self.old) (M.first mode) state.old state.new input.old input.new result }
-        ensures refuses { ReasonedCall Input.Error.seen (meaning self.old) (M.first mode) state.old (Input.view input.old) (Input.view input.new) result };
+        ensures answers { AnswersCall Input.StreamOnce Input.Error.observers Self.PartialState.is_default (meaning self.old) (M.first mode) state.old state.new input.old input.new result }
+        ensures refuses { ReasonedCall Input.Error.observers (meaning self.old) (M.first mode) state.old (Input.view input.old) (Input.view input.new) result };
 
     /// Adds what this parser expected to an error, which is its own or that of a parser round it.
     ///
@@ -146,7 +146,7 @@ pub trait Parser<Input: Stream>: Outputs<Input> {
         requires { lawful self.old }
         ensures lawful { lawful self.new }
         ensures same { MeansSame (meaning self.old) (meaning self.new) }
-        ensures says { Says Input.Error.seen (meaning self.old).lean (meaning self.old).adds error.old.error error.new.error };
+        ensures says { AddsItems Input.Error.observers (meaning self.old).heapless (meaning self.old).adds error.old.error error.new.error };
 
     /// Returns how many parsers are run one after another, at most 255.
     fn parser_count(&self) -> ErrorOffset
@@ -167,7 +167,7 @@ pub trait Parser<Input: Stream>: Outputs<Input> {
         ensures lawful { lawful self.new }
         ensures same { MeansSame (meaning self.old) (meaning self.new) }
         ensures passes { Passes (Input.marks input.old) (Input.marks input.new) (Input.failures input.old) (Input.failures input.new) }
-        ensures explains { Explains Input.steady Input.step (Input.stands input.old start) (Input.view input.old) (Input.view input.new) (Input.failures input.old) (Input.failures input.new) Input.Error.seen (meaning self.old).lean (meaning self.old).adds error.old.error error.new.error result }
+        ensures explains { Explains Input.counts_failures Input.step (Input.stands input.old start) (Input.view input.old) (Input.view input.new) (Input.failures input.old) (Input.failures input.new) Input.Error.observers (meaning self.old).heapless (meaning self.old).adds error.old.error error.new.error result }
     {
         match token_at(start, input)? {
             Some(token) => {
@@ -197,8 +197,8 @@ pub trait Parser<Input: Stream>: Outputs<Input> {
         ensures valid { valid state.new }
         ensures same { MeansSame (meaning self.old) (meaning self.new) }
         ensures passes { Passes (Input.marks input.old) (Input.marks input.new) (Input.failures input.old) (Input.failures input.new) }
-        ensures answers { AnswersCall Input.StreamOnce Input.Error.seen Self.PartialState.is_default (meaning self.old) (M.first mode) state.old state.new input.old input.new result }
-        ensures explained { Explained Input.Error.seen (meaning self.old) (begun_refuses (meaning self.old) (M.first mode) state.old) (Input.view input.old) (Input.view input.new) result }
+        ensures answers { AnswersCall Input.StreamOnce Input.Error.observers Self.PartialState.is_default (meaning self.old) (M.first mode) state.old state.new input.old input.new result }
+        ensures explained { Explained Input.Error.observers (meaning self.old) (begun_refuses (meaning self.old) (M.first mode) state.old) (Input.view input.old) (Input.view input.new) result }
     {
         let start = input.checkpoint();
         let position = input.position();
@@ -226,8 +226,8 @@ pub trait Parser<Input: Stream>: Outputs<Input> {
         ensures valid { valid state.new }
         ensures same { MeansSame (meaning self.old) (meaning self.new) }
         ensures passes { Passes (Input.marks input.old) (Input.marks input.new) (Input.failures input.old) (Input.failures input.new) }
-        ensures answers { AnswersCall Input.StreamOnce Input.Error.seen Self.PartialState.is_default (meaning self.old) true state.old state.new input.old input.new result }
-        ensures refuses { ReasonedCall Input.Error.seen (meaning self.old) true state.old (Input.view input.old) (Input.view input.new) result }
+        ensures answers { AnswersCall Input.StreamOnce Input.Error.observers Self.PartialState.is_default (meaning self.old) true state.old state.new input.old input.new result }
+        ensures refuses { ReasonedCall Input.Error.observers (meaning self.old) true state.old (Input.view input.old) (Input.view input.new) result }
     {
         self.parse_mode(FirstMode, input, state)
     }
@@ -244,8 +244,8 @@ pub trait Parser<Input: Stream>: Outputs<Input> {
         ensures valid { valid state.new }
         ensures same { MeansSame (meaning self.old) (meaning self.new) }
         ensures passes { Passes (Input.marks input.old) (Input.marks input.new) (Input.failures input.old) (Input.failures input.new) }
-        ensures answers { AnswersCall Input.StreamOnce Input.Error.seen Self.PartialState.is_default (meaning self.old) false state.old state.new input.old input.new result }
-        ensures refuses { ReasonedCall Input.Error.seen (meaning self.old) false state.old (Input.view input.old) (Input.view input.new) result }
+        ensures answers { AnswersCall Input.StreamOnce Input.Error.observers Self.PartialState.is_default (meaning self.old) false state.old state.new input.old input.new result }
+        ensures refuses { ReasonedCall Input.Error.observers (meaning self.old) false state.old (Input.view input.old) (Input.view input.new) result }
     {
         self.parse_mode(PartialMode::default(), input, state)
     }
@@ -260,9 +260,9 @@ pub trait Parser<Input: Stream>: Outputs<Input> {
         ensures lawful { lawful self.new }
         ensures same { MeansSame (meaning self.old) (meaning self.new) }
         ensures passes { Passes (Input.marks input.old) (Input.marks input.new) (Input.failures input.old) (Input.failures input.new) }
-        ensures answers { Starts (world Input.step Input.Error.seen Input.steady Self.PartialState.is_default)
+        ensures answers { Starts (world Input.step Input.Error.observers Input.counts_failures Self.PartialState.is_default)
             (meaning self.old) (Input.view input.old) (Input.view input.new) (Input.failures input.old) (Input.failures input.new) result }
-        ensures refuses { Reasoned Input.Error.seen.kind (Input.view input.new).is_open ((meaning self.old).refuses (Input.view input.old) (Input.view input.new)) result }
+        ensures refuses { Reasoned Input.Error.observers.kind (Input.view input.new).is_open ((meaning self.old).refuses (Input.view input.old) (Input.view input.new)) result }
     {
         let mut state = Self::PartialState::default();
         self.parse_mode(FirstMode, input, &mut state)
@@ -282,9 +282,9 @@ pub trait Parser<Input: Stream>: Outputs<Input> {
         ensures lawful { lawful self.new }
         ensures same { MeansSame (meaning self.old) (meaning self.new) }
         ensures passes { Passes (Input.marks input.old) (Input.marks input.new) (Input.failures input.old) (Input.failures input.new) }
-        ensures answers { Starts (world Input.step Input.Error.seen Input.steady Self.PartialState.is_default)
+        ensures answers { Starts (world Input.step Input.Error.observers Input.counts_failures Self.PartialState.is_default)
             (meaning self.old) (Input.view input.old) (Input.view input.new) (Input.failures input.old) (Input.failures input.new) result }
-        ensures explained { Explained Input.Error.seen (meaning self.old) (meaning self.old).refuses (Input.view input.old) (Input.view input.new) result }
+        ensures explained { Explained Input.Error.observers (meaning self.old) (meaning self.old).refuses (Input.view input.old) (Input.view input.new) result }
     {
         let mut state = Self::PartialState::default();
         self.parse_explained(FirstMode, input, &mut state)
@@ -310,7 +310,7 @@ pub trait Parser<Input: Stream>: Outputs<Input> {
         ensures valid { valid state.new }
         ensures same { MeansSame (meaning self.old) (meaning self.new) }
         ensures passes { Passes (Input.marks input.old) (Input.marks input.new) (Input.failures input.old) (Input.failures input.new) }
-        ensures results { ResultsCall Input.StreamOnce Input.Error.seen Self.PartialState.is_default (meaning self.old) state.old state.new input.old input.new result }
+        ensures results { ResultsCall Input.StreamOnce Input.Error.observers Self.PartialState.is_default (meaning self.old) state.old state.new input.old input.new result }
     {
         self.parse_explained(PartialMode::default(), input, state)
             .without_commit()
@@ -342,7 +342,7 @@ pub trait Parser<Input: Stream>: Outputs<Input> {
         ensures lawful { lawful self.new }
         ensures same { MeansSame (meaning self.old) (meaning self.new) }
         ensures single { determined self.old → IsSingle (meaning self.old).whole }
-        ensures results { ParsesCall Input.StreamOnce Input.Error.seen Self.PartialState.is_default (meaning self.old) input result }
+        ensures results { ParsesCall Input.StreamOnce Input.Error.observers Self.PartialState.is_default (meaning self.old) input result }
     {
         let mut input = input;
         let mut state = Self::PartialState::default();

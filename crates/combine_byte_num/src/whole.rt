@@ -1,9 +1,9 @@
 //! The parser of a whole number, of whatever order, size and sign. Our own.
 ghost use Rattle.std.specs.Prelude.{◌≡◌, ◌<◌, ◌^◌};
-ghost use Rattle.combine_base.specs.Error.Errors.{Nothing};
+ghost use Rattle.combine_base.specs.Error.Errors.{AddsNothing};
 ghost use Rattle.combine_base.specs.Stream.Calls.{Passes};
 ghost use Rattle.combine_byte_num.specs.Numbers.{signed};
-ghost use Rattle.combine_byte_num.specs.WholeNumbers.{TooFew, number_parser, takes_number, takes_number_is_meaning, takes_number_means_one, worth};
+ghost use Rattle.combine_byte_num.specs.WholeNumbers.{EndsTooEarly, number_parser, takes_number, takes_number_is_meaning, takes_number_means_one, worth};
 
 use crate::order::Order;
 use combine_base::error::{ErrorOffset, ParseResult, Tracked};
@@ -168,7 +168,7 @@ fn too_few<V, Input: Stream>(
     input: &mut Input,
 ) -> ParseResult<V, Input::Error>
     ensures passes { Passes (Input.marks input.old) (Input.marks input.new) (Input.failures input.old) (Input.failures input.new) }
-    ensures back { TooFew Input.steady Input.step Input.Error.seen (Input.stands input.old start) position (Input.view input.old) (Input.view input.new) (Input.failures input.old) (Input.failures input.new) result }
+    ensures back { EndsTooEarly Input.counts_failures Input.step Input.Error.observers (Input.stands input.old start) position (Input.view input.old) (Input.view input.new) (Input.failures input.old) (Input.failures input.new) result }
 {
     if let Err(kind) = input.reset(start) {
         return ParseResult::CommitErr(input.new_error(kind, position));
@@ -189,7 +189,7 @@ impl<Input: Stream, O: Order<Input::Token>, N: Number> Parser<Input> for WholeNu
 
     ghost valid = { λ s. Unit {0} };
 
-    ghost meaning = { λ p. takes_number Input.Error.seen N.width (worth N.of_sum O.number) };
+    ghost meaning = { λ p. takes_number Input.Error.observers N.width (worth N.of_sum O.number) };
 
     ghost parts = { λ p. 1 };
 
@@ -228,7 +228,7 @@ impl<Input: Stream, O: Order<Input::Token>, N: Number> Parser<Input> for WholeNu
 
     ghost default_valid = { λ s d. tt };
 
-    ghost laws = { λ p l. takes_number_is_meaning Input.Error.seen N.width (worth N.of_sum O.number) _ _ };
+    ghost laws = { λ p l. takes_number_is_meaning Input.Error.observers N.width (worth N.of_sum O.number) _ _ };
 
-    ghost single = { λ p l d. takes_number_means_one Input.Error.seen N.width (worth N.of_sum O.number) _ };
+    ghost single = { λ p l d. takes_number_means_one Input.Error.observers N.width (worth N.of_sum O.number) _ };
 }

@@ -13,7 +13,7 @@ module _ {P T R E V S : Type 0} (text : List ℕ) where
     lost = m.lost;
     keeps = m.keeps;
     puts_back = m.puts_back;
-    lean = m.lean;
+    heapless = m.heapless;
     adds = Only (Expected (Fixed text));
     refuses = m.refuses;
     refuses_from = m.refuses_from;
@@ -32,7 +32,7 @@ module _ {P T R E V S : Type 0} (text : List ℕ) where
     lost = h.lost;
     keeps = h.keeps;
     puts_back = h.puts_back;
-    lean = h.lean;
+    heapless = h.heapless;
     adds = λ is. (λ p. p, λ p. p);
     refuses = h.refuses;
     refuses_from = h.refuses_from;
@@ -45,5 +45,5 @@ module _ {P T R E V S : Type 0} (text : List ℕ) where
     lost = λ s v. (λ p. p, λ p. p);
     keeps = (λ p. p, λ p. p);
     puts_back = (λ p. p, λ p. p);
-    lean = (λ p. p, λ p. p);
+    heapless = (λ p. p, λ p. p);
   }

@@ -11,7 +11,7 @@ use Rattle.combine_token.specs.Token.Stateless.{stateless, stateless_is_meaning,
 module _ {P T R E V S Z : Type 0} where
   -- it keeps no state, and on need of more it has taken nothing
   abbrev pub begun_again : Meaning P T R E V S → Meaning P T R E V Z
-  begun_again m = stateless m.whole ⊥ m.lean m.adds m.refuses
+  begun_again m = stateless m.whole ⊥ m.heapless m.adds m.refuses
 
   pub begun_again_means_same : (m m' : Meaning P T R E V S) → MeansSame m m' → MeansSame (begun_again m) (begun_again m')
   begun_again_means_same m m' h = record {
@@ -20,14 +20,14 @@ module _ {P T R E V S Z : Type 0} where
     lost = λ s v. (λ p. p, λ p. p);
     keeps = (λ p. p, λ p. p);
     puts_back = (λ p. p, λ p. p);
-    lean = h.lean;
+    heapless = h.heapless;
     adds = h.adds;
     refuses = h.refuses;
     refuses_from = λ s. h.refuses;
   }
 
 -- what a call answers that begins again: in first mode or not
-pub record BeginsAgain {P T R V S Z E : Type 0} (w : World P T Z E) (m : Meaning P T R E V S) (old new : View P T) (before after : Failures) (result : ParseResult V E) : Type 0 where
+pub record AnswersBegunAgain {P T R V S Z E : Type 0} (w : World P T Z E) (m : Meaning P T R E V S) (old new : View P T) (before after : Failures) (result : ParseResult V E) : Type 0 where
   pub answers : (first : Bool) (state left : Z) → w.fresh left → Answers w (begun_again m) (record { first = first; state = state; left = left; old = old; new = new; before = before; after = after }) result
 
 -- the second of two values
@@ -40,10 +40,10 @@ module _ {P T R E A B S Z : Type 0} where
   whole_pair m = mapped (begun_again m) is_second
 
   pub whole_pair_is_meaning : {fresh valid : S → Type 0} (fresh' valid' : Z → Type 0) (m : Meaning P T R E (A × B) S) → IsMeaning fresh valid m → IsMeaning fresh' valid' (whole_pair m)
-  whole_pair_is_meaning fresh' valid' m h = mapped_is_meaning fresh' valid' (begun_again m) is_second (stateless_is_meaning fresh' valid' m.whole ⊥ m.lean m.adds m.refuses h.whole)
+  whole_pair_is_meaning fresh' valid' m h = mapped_is_meaning fresh' valid' (begun_again m) is_second (stateless_is_meaning fresh' valid' m.whole ⊥ m.heapless m.adds m.refuses h.whole)
 
   pub whole_pair_means_one : {valid : S → Type 0} (valid' : Z → Type 0) (m : Meaning P T R E (A × B) S) → MeansOne valid m → MeansOne valid' (whole_pair m)
-  whole_pair_means_one valid' m h = mapped_means_one valid' (begun_again m) is_second (stateless_means_one valid' m.whole ⊥ m.lean m.adds m.refuses h.whole)
+  whole_pair_means_one valid' m h = mapped_means_one valid' (begun_again m) is_second (stateless_means_one valid' m.whole ⊥ m.heapless m.adds m.refuses h.whole)
 
   pub whole_pair_means_same : (m m' : Meaning P T R E (A × B) S) → MeansSame m m' → MeansSame (whole_pair m) (whole_pair m')
   whole_pair_means_same m m' h = mapped_means_same (begun_again m) (begun_again m') is_second (begun_again_means_same m m' h)

@@ -34,8 +34,8 @@ in_text_parser text fits = record { text = text; fits = fits; reads = record {} 
 abbrev pub fits_of_text : {Input F : Type 0} → TextParser Input F → F
 fits_of_text p = p.fits
 
-abbrev pub text_of : {Input F : Type 0} → TextParser Input F → Bor (List ℕ)
-text_of p = p.text
+abbrev pub text_of_parser : {Input F : Type 0} → TextParser Input F → Bor (List ℕ)
+text_of_parser p = p.text
 
 -- the bytes of a list, and how they are compared
 abbrev pub in_bytes_parser : {Input F : Type 0} → Bor (List ℕ) → F → BytesParser Input F
@@ -44,8 +44,8 @@ in_bytes_parser bytes fits = record { bytes = bytes; fits = fits; reads = record
 abbrev pub fits_of_bytes : {Input F : Type 0} → BytesParser Input F → F
 fits_of_bytes p = p.fits
 
-abbrev pub bytes_of : {Input F : Type 0} → BytesParser Input F → Bor (List ℕ)
-bytes_of p = p.bytes
+abbrev pub bytes_of_parser : {Input F : Type 0} → BytesParser Input F → Bor (List ℕ)
+bytes_of_parser p = p.bytes
 
 -- comparisons: a token equals the item, or a function says that it fits
 abbrev pub equal : Equal

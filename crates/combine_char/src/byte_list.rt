@@ -3,10 +3,10 @@ ghost use Rattle.std.specs.Prelude.{◌≡◌, ◌<◌, ◌^◌, None, length};
 ghost use Rattle.std.specs.Slice.Iter.{iter_rest};
 ghost use Rattle.combine_base.specs.Stream.Calls.{Passes};
 ghost use Rattle.combine_token.specs.Token.Lists.ListCalls.{AnswersListCall, ReasonedListCall};
-ghost use Rattle.combine_token.specs.Token.Lists.KnownLists.{listed};
+ghost use Rattle.combine_token.specs.Token.Lists.KnownLists.{listed_tokens};
 ghost use Rattle.combine_token.specs.Token.Lists.ListMeaning.{token_list, token_list_is_meaning, token_list_means_one};
 ghost use Rattle.combine_token.specs.Token.TokenParsers.{matched_before};
-ghost use Rattle.combine_char.specs.TextParsers.{bytes_of, fits_of_bytes, in_bytes_parser};
+ghost use Rattle.combine_char.specs.TextParsers.{bytes_of_parser, fits_of_bytes, in_bytes_parser};
 ghost use Rattle.combine_char.specs.SpelledLists.{SaysRange, listed_compares_once, listed_ends_once};
 
 use crate::fits::Fits;
@@ -88,7 +88,7 @@ where
 
     ghost valid = { λ s. Unit {0} };
 
-    ghost meaning = { λ p. token_list Input.Error.seen (listed (F.compares (fits_of_bytes p)) (bytes_of p).now) None (λ v. v ≡ bytes_of p) matched_before (Unit {0}) (SaysRange (Input.Range.shows (bytes_of p).now)) };
+    ghost meaning = { λ p. token_list Input.Error.observers (listed_tokens (F.compares (fits_of_bytes p)) (bytes_of_parser p).now) None (λ v. v ≡ bytes_of_parser p) matched_before (Unit {0}) (SaysRange (Input.Range.shows (bytes_of_parser p).now)) };
 
     ghost parts = { λ p. 1 };
 
@@ -116,9 +116,9 @@ where
 
     ghost default_valid = { λ s d. tt };
 
-    ghost laws = { λ p l. token_list_is_meaning Input.Error.seen _ _ _ _ _ _ _ _ (λ s d. d) };
+    ghost laws = { λ p l. token_list_is_meaning Input.Error.observers _ _ _ _ _ _ _ _ (λ s d. d) };
 
-    ghost single = { λ p l d. token_list_means_one Input.Error.seen _ _ _ _ _ _ (λ _. Unit {0}) (λ _. Unit {0}) (listed_ends_once _ _) (listed_compares_once _ _ (F.once (fits_of_bytes p) d)) };
+    ghost single = { λ p l d. token_list_means_one Input.Error.observers _ _ _ _ _ _ (λ _. Unit {0}) (λ _. Unit {0}) (listed_ends_once _ _) (listed_compares_once _ _ (F.single (fits_of_bytes p) d)) };
 }
 
 /// Makes one call of a parser of the bytes of a list.
@@ -134,8 +134,8 @@ where
     F: Fits<u8, Input::Token>,
     requires { F.ready fits.now }
     ensures passes { Passes (Input.marks input.old) (Input.marks input.new) (Input.failures input.old) (Input.failures input.new) }
-    ensures answers { AnswersListCall Input.StreamOnce Input.Error.seen (listed (F.compares fits.now) bytes.now) None (λ v. v ≡ bytes.entry) (Unit {0}) (M.first mode) state.old state.new input.old input.new result }
-    ensures refuses { ReasonedListCall Input.StreamOnce Input.Error.seen (listed (F.compares fits.now) bytes.now) None (M.first mode) state.old input.old input.new result }
+    ensures answers { AnswersListCall Input.StreamOnce Input.Error.observers (listed_tokens (F.compares fits.now) bytes.now) None (λ v. v ≡ bytes.entry) (Unit {0}) (M.first mode) state.old state.new input.old input.new result }
+    ensures refuses { ReasonedListCall Input.StreamOnce Input.Error.observers (listed_tokens (F.compares fits.now) bytes.now) None (M.first mode) state.old input.old input.new result }
 {
     let items = listed_items(bytes);
     match_list(

@@ -20,7 +20,7 @@ pub trait Fits<A, T> {
         requires { ready self.now }
         ensures { compares self.now item token result };
 
-    ghost once: { (f : Self) → determined f → (a : A) (t : T) → compares f a t true → compares f a t false → ⊥ };
+    ghost single: { (f : Self) → determined f → (a : A) (t : T) → compares f a t true → compares f a t false → ⊥ };
 }
 
 /// A token fits an item that it equals.
@@ -38,7 +38,7 @@ impl<T: PartialEq + Copy> Fits<T, T> for Equal {
         token == item
     }
 
-    ghost once = { λ f d a t p q. cc };
+    ghost single = { λ f d a t p q. cc };
 }
 
 /// A token fits an item if the function says so, which is given the item and the token.
@@ -56,5 +56,5 @@ impl<A, T, C: Fn(A, T) -> bool> Fits<A, T> for By<C> {
         (self.0)(item, token)
     }
 
-    ghost once = { λ f d a t p q. d.once a t p q };
+    ghost single = { λ f d a t p q. d.once a t p q };
 }

@@ -4,7 +4,7 @@ ghost use Rattle.combine_base.specs.Parser.Answer.{world};
 ghost use Rattle.combine_base.specs.Parser.Meaning.{MeansSame};
 ghost use Rattle.combine_base.specs.Parser.Reasons.{Reasoned};
 ghost use Rattle.combine_base.specs.Stream.Calls.{Passes};
-ghost use Rattle.combine_char.specs.Restart.{BeginsAgain, whole_pair, whole_pair_is_meaning, whole_pair_means_one};
+ghost use Rattle.combine_char.specs.Restart.{AnswersBegunAgain, whole_pair, whole_pair_is_meaning, whole_pair_means_one};
 ghost use Rattle.combine_char.specs.TextParsers.{pair_of, whole_pair_parser};
 
 use combine_base::error::{ErrorOffset, ParseResult, Tracked};
@@ -85,8 +85,8 @@ fn begin_again<Input: Stream, P: Parser<Input>>(
     ensures lawful { P.lawful part.new }
     ensures same { MeansSame (P.meaning part.old) (P.meaning part.new) }
     ensures passes { Passes (Input.marks input.old) (Input.marks input.new) (Input.failures input.old) (Input.failures input.new) }
-    ensures answers { BeginsAgain (world Input.step Input.Error.seen Input.steady ⟦<() as Default>⟧.is_default) (P.meaning part.old) (Input.view input.old) (Input.view input.new) (Input.failures input.old) (Input.failures input.new) result }
-    ensures refuses { Reasoned Input.Error.seen.kind (Input.view input.new).is_open ((P.meaning part.old).refuses (Input.view input.old) (Input.view input.new)) result }
+    ensures answers { AnswersBegunAgain (world Input.step Input.Error.observers Input.counts_failures ⟦<() as Default>⟧.is_default) (P.meaning part.old) (Input.view input.old) (Input.view input.new) (Input.failures input.old) (Input.failures input.new) result }
+    ensures refuses { Reasoned Input.Error.observers.kind (Input.view input.new).is_open ((P.meaning part.old).refuses (Input.view input.old) (Input.view input.new)) result }
 {
     let start = input.checkpoint();
     let position = input.position();

@@ -5,13 +5,13 @@ use Rattle.std.specs.declared.cmp.Ordering.{Ordering}
 use Rattle.std.proofs.Common.{inl, inr, ap, subst, sym, ◌∙◌}
 use Rattle.std.proofs.lemmas.List.Elements.{recursion_from_All}
 use Rattle.combine_base.specs.Stream.View.{View}
-use Rattle.combine_base.specs.Error.Errors.{Errors}
-use Rattle.combine_base.specs.Error.Items.{Item}
+use Rattle.combine_base.specs.Error.Errors.{Observers}
+use Rattle.combine_base.specs.Error.Items.{ErrorItem}
 use Rattle.combine_base.specs.Parser.Outcome.{Refused, Outcome, Accepted, Undecided}
 use Rattle.combine_base.specs.Parser.Meaning.{Meaning, Reading, Refusing, IsReading, IsSingle, IsMeaning, MeansOne, MeansSame, SameReasons, meant_same, refusals_same}
 use Rattle.combine_token.specs.Choice.Alternatives.{Together, together_both, together_assoc}
-use Rattle.combine_token.specs.Choice.Choices.{Agree, Either, refused, refused_is_reading, refused_is_single, either_is_reading, either_is_single, either_both, agree_self, Here, IsFirm, Later, either_assoc, either_last}
-use Rattle.combine_choice.specs.MergedErrors.{Joins, RefusesChoice, RefusesChoiceFrom, chosen_refuses, first_refuses, merges, on_refuses, one_commits, tried_refuses}
+use Rattle.combine_token.specs.Choice.Choices.{ReadingsAgree, OrElse, refused, refused_is_reading, refused_is_single, either_is_reading, either_is_single, either_both, agree_self, Here, IsFirm, Later, either_assoc, either_last}
+use Rattle.combine_choice.specs.MergedErrors.{Joins, RefusesChoice, RefusesChoiceFrom, chosen_refuses, alternative_refuses, merges, on_refuses, one_commits, tried_refuses}
 use Rattle.combine_choice.specs.declared.choice.slice.SliceState.{SliceState}
 use Rattle.combine_choice.specs.declared.choice.slice.SliceState.TheVariants.{Peek, At}
 use Rattle.std.proofs.lemmas.List.{append-nil}
@@ -23,19 +23,19 @@ slice_valid f (At i s) = f s
 
 module _ {X P T R E V S : Type 0} (m : X → Meaning P T R E V S) where
   -- the first that isn't refused peeked
-  abbrev pub first_of : List X → Reading P T V
-  first_of [] = refused
-  first_of (x ∷ xs) = Either ((m x).whole) (first_of xs)
+  abbrev pub first_alternative : List X → Reading P T V
+  first_alternative [] = refused
+  first_alternative (x ∷ xs) = OrElse ((m x).whole) (first_alternative xs)
 
   -- the running alternative goes on, and then the later ones; r where none runs
-  abbrev pub goes_on : Reading P T V → List X → S → Reading P T V
-  goes_on r [] s = r
-  goes_on r (x ∷ xs) s = Either ((m x).rest s) (first_of xs)
+  abbrev pub running_or_later : Reading P T V → List X → S → Reading P T V
+  running_or_later r [] s = r
+  running_or_later r (x ∷ xs) s = OrElse ((m x).rest s) (first_alternative xs)
 
   -- an index past the last alternative is the beginning
   abbrev pub chosen_rest : List X → SliceState S → Reading P T V
-  chosen_rest xs Peek = first_of xs
-  chosen_rest xs (At i s) = goes_on (first_of xs) (drop i xs) s
+  chosen_rest xs Peek = first_alternative xs
+  chosen_rest xs (At i s) = running_or_later (first_alternative xs) (drop i xs) s
 
   abbrev pub running_lost : List X → S → View P T → Type 0
   running_lost [] s v = ⊥
@@ -51,7 +51,7 @@ module _ {X P T R E V S : Type 0} (m : X → Meaning P T R E V S) where
   every f (x ∷ xs) = f (m x) × every f xs
 
   -- what the alternatives add to an error, in order
-  abbrev pub adds_all : List X → List (Item T R) → Type 0
+  abbrev pub adds_all : List X → List (ErrorItem T R) → Type 0
   adds_all [] is = is ≡ []
   adds_all (x ∷ xs) is = Together ((m x).adds) (adds_all xs) is
 
@@ -75,29 +75,29 @@ module _ {X P T R E V S : Type 0} (m : X → Meaning P T R E V S) where
   every_drop f (suc i) (x ∷ xs) h = every_drop f i xs h.1
 
   module _ (fresh valid : S → Type 0) where
-    first_reads : (xs : List X) → every (IsMeaning fresh valid) xs → IsReading (first_of xs)
+    first_reads : (xs : List X) → every (IsMeaning fresh valid) xs → IsReading (first_alternative xs)
     first_reads [] h = refused_is_reading
-    first_reads (x ∷ xs) h = either_is_reading ((m x).whole) (first_of xs) h.0.whole (first_reads xs h.1)
+    first_reads (x ∷ xs) h = either_is_reading ((m x).whole) (first_alternative xs) h.0.whole (first_reads xs h.1)
 
-    goes_reads : (r : Reading P T V) → IsReading r → (xs : List X) → every (IsMeaning fresh valid) xs → (s : S) → valid s → IsReading (goes_on r xs s)
+    goes_reads : (r : Reading P T V) → IsReading r → (xs : List X) → every (IsMeaning fresh valid) xs → (s : S) → valid s → IsReading (running_or_later r xs s)
     goes_reads r k [] h s d = k
-    goes_reads r k (x ∷ xs) h s d = either_is_reading ((m x).rest s) (first_of xs) (h.0.rest s d) (first_reads xs h.1)
+    goes_reads r k (x ∷ xs) h s d = either_is_reading ((m x).rest s) (first_alternative xs) (h.0.rest s d) (first_reads xs h.1)
 
     rest_reads : (xs : List X) → every (IsMeaning fresh valid) xs → (s : SliceState S) → slice_valid valid s → IsReading (chosen_rest xs s)
     rest_reads xs h Peek d = first_reads xs h
-    rest_reads xs h (At i s) d = goes_reads (first_of xs) (first_reads xs h) (drop i xs) (every_drop (IsMeaning fresh valid) i xs h) s d
+    rest_reads xs h (At i s) d = goes_reads (first_alternative xs) (first_reads xs h) (drop i xs) (every_drop (IsMeaning fresh valid) i xs h) s d
 
-    first_one : (xs : List X) → every (MeansOne valid) xs → IsSingle (first_of xs)
+    first_one : (xs : List X) → every (MeansOne valid) xs → IsSingle (first_alternative xs)
     first_one [] h = refused_is_single
-    first_one (x ∷ xs) h = either_is_single ((m x).whole) (first_of xs) h.0.whole (first_one xs h.1)
+    first_one (x ∷ xs) h = either_is_single ((m x).whole) (first_alternative xs) h.0.whole (first_one xs h.1)
 
-    goes_one : (r : Reading P T V) → IsSingle r → (xs : List X) → every (MeansOne valid) xs → (s : S) → valid s → IsSingle (goes_on r xs s)
+    goes_one : (r : Reading P T V) → IsSingle r → (xs : List X) → every (MeansOne valid) xs → (s : S) → valid s → IsSingle (running_or_later r xs s)
     goes_one r k [] h s d = k
-    goes_one r k (x ∷ xs) h s d = either_is_single ((m x).rest s) (first_of xs) (h.0.rest s d) (first_one xs h.1)
+    goes_one r k (x ∷ xs) h s d = either_is_single ((m x).rest s) (first_alternative xs) (h.0.rest s d) (first_one xs h.1)
 
     rest_one : (xs : List X) → every (MeansOne valid) xs → (s : SliceState S) → slice_valid valid s → IsSingle (chosen_rest xs s)
     rest_one xs h Peek d = first_one xs h
-    rest_one xs h (At i s) d = goes_one (first_of xs) (first_one xs h) (drop i xs) (every_drop (MeansOne valid) i xs h) s d
+    rest_one xs h (At i s) d = goes_one (first_alternative xs) (first_one xs h) (drop i xs) (every_drop (MeansOne valid) i xs h) s d
 
   -- alternatives that mean the same, each in its place
   abbrev pub AllSame : List X → List X → Type 0
@@ -110,21 +110,21 @@ module _ {X P T R E V S : Type 0} (m : X → Meaning P T R E V S) where
   same_drop (suc i) (x ∷ xs) [] h = absurd h
   same_drop (suc i) (x ∷ xs) (y ∷ ys) h = same_drop i xs ys h.1
 
-  first_same : (xs ys : List X) → AllSame xs ys → Agree (first_of xs) (first_of ys)
+  first_same : (xs ys : List X) → AllSame xs ys → ReadingsAgree (first_alternative xs) (first_alternative ys)
   first_same [] [] h = agree_self refused
   first_same [] (y ∷ ys) h = absurd h
   first_same (x ∷ xs) [] h = absurd h
-  first_same (x ∷ xs) (y ∷ ys) h = either_both ((m x).whole) ((m y).whole) (first_of xs) (first_of ys) h.0.whole (first_same xs ys h.1)
+  first_same (x ∷ xs) (y ∷ ys) h = either_both ((m x).whole) ((m y).whole) (first_alternative xs) (first_alternative ys) h.0.whole (first_same xs ys h.1)
 
-  goes_same : (r r' : Reading P T V) → Agree r r' → (xs ys : List X) → AllSame xs ys → (s : S) → Agree (goes_on r xs s) (goes_on r' ys s)
+  goes_same : (r r' : Reading P T V) → ReadingsAgree r r' → (xs ys : List X) → AllSame xs ys → (s : S) → ReadingsAgree (running_or_later r xs s) (running_or_later r' ys s)
   goes_same r r' k [] [] h s = k
   goes_same r r' k [] (y ∷ ys) h s = absurd h
   goes_same r r' k (x ∷ xs) [] h s = absurd h
-  goes_same r r' k (x ∷ xs) (y ∷ ys) h s = either_both ((m x).rest s) ((m y).rest s) (first_of xs) (first_of ys) (h.0.rest s) (first_same xs ys h.1)
+  goes_same r r' k (x ∷ xs) (y ∷ ys) h s = either_both ((m x).rest s) ((m y).rest s) (first_alternative xs) (first_alternative ys) (h.0.rest s) (first_same xs ys h.1)
 
-  rest_same : (xs ys : List X) → AllSame xs ys → (s : SliceState S) → Agree (chosen_rest xs s) (chosen_rest ys s)
+  rest_same : (xs ys : List X) → AllSame xs ys → (s : SliceState S) → ReadingsAgree (chosen_rest xs s) (chosen_rest ys s)
   rest_same xs ys h Peek = first_same xs ys h
-  rest_same xs ys h (At i s) = goes_same (first_of xs) (first_of ys) (first_same xs ys h) (drop i xs) (drop i ys) (same_drop i xs ys h) s
+  rest_same xs ys h (At i s) = goes_same (first_alternative xs) (first_alternative ys) (first_same xs ys h) (drop i xs) (drop i ys) (same_drop i xs ys h) s
 
   running_same : (xs ys : List X) → AllSame xs ys → (s : S) (v : View P T) → running_lost xs s v ↔ running_lost ys s v
   running_same [] [] h s v = (λ p. p, λ p. p)
@@ -145,7 +145,7 @@ module _ {X P T R E V S : Type 0} (m : X → Meaning P T R E V S) where
       let b = every_same f g xs ys h.1 in
       (λ p. (a.0 p.0, b.0 p.1), λ p. (a.1 p.0, b.1 p.1))
 
-  adds_same : (xs ys : List X) → AllSame xs ys → (is : List (Item T R)) → adds_all xs is ↔ adds_all ys is
+  adds_same : (xs ys : List X) → AllSame xs ys → (is : List (ErrorItem T R)) → adds_all xs is ↔ adds_all ys is
   adds_same [] [] h is = (λ p. p, λ p. p)
   adds_same [] (y ∷ ys) h is = absurd h
   adds_same (x ∷ xs) [] h is = absurd h
@@ -165,15 +165,15 @@ either {X} {X'} {Y} {Y'} f g = (there, back)
 beside : {X X' Y Y' : Type 0} → X ↔ X' → Y ↔ Y' → (X × Y) ↔ (X' × Y')
 beside f g = (λ p. (f.0 p.0, g.0 p.1), λ p. (f.1 p.0, g.1 p.1))
 
-module _ {X P T R E V S : Type 0} (errors : Errors T R P E) (cmp : P → P → Ordering) (m : X → Meaning P T R E V S) where
+module _ {X P T R E V S : Type 0} (errors : Observers T R P E) (cmp : P → P → Ordering) (m : X → Meaning P T R E V S) where
   abbrev pub choice_of : List X → Meaning P T R E V (SliceState S)
   choice_of xs = record {
-    whole = first_of m xs;
+    whole = first_alternative m xs;
     rest = chosen_rest m xs;
     lost = chosen_lost m xs;
     keeps = every m (λ a. a.keeps) xs;
     puts_back = every m (λ a. a.puts_back) xs;
-    lean = every m (λ a. a.lean) xs;
+    heapless = every m (λ a. a.heapless) xs;
     adds = adds_all m xs;
     refuses = RefusesChoice errors cmp m xs;
     refuses_from = RefusesChoiceFrom errors cmp m xs;
@@ -215,7 +215,7 @@ module _ {X P T R E V S : Type 0} (errors : Errors T R P E) (cmp : P → P → O
     λ p. (p.0, p.1, (joins_same x y h.0 so_far v p.1 p.0).1 p.2, (merges_same xs ys h.1 p.0 p.1 v w e).1 p.3),
   )
 
-  firsts_same : (q q' : Reading P T V) (r r' : Refusing P T E) → Agree q q' → SameReasons r r' → (xs ys : List X) → AllSame m xs ys → SameReasons (first_refuses errors cmp m q r xs) (first_refuses errors cmp m q' r' ys)
+  firsts_same : (q q' : Reading P T V) (r r' : Refusing P T E) → ReadingsAgree q q' → SameReasons r r' → (xs ys : List X) → AllSame m xs ys → SameReasons (alternative_refuses errors cmp m q r xs) (alternative_refuses errors cmp m q' r' ys)
   firsts_same q q' r r' a i xs ys h v w true e = either (meant_same q q' r r' a i v w true e) (beside (a v (Refused false)) (commits_same xs ys h v w e))
   firsts_same q q' r r' a i xs ys h v w false e = (
     λ p. (p.0, p.1, (meant_same q q' r r' a i v p.1 false p.0).0 p.2, (merges_same xs ys h p.0 p.1 v w e).0 p.3),
@@ -245,7 +245,7 @@ module _ {X P T R E V S : Type 0} (errors : Errors T R P E) (cmp : P → P → O
     lost = lost_same m xs ys h;
     keeps = every_same m (λ a. a.keeps) (λ x y k. k.keeps) xs ys h;
     puts_back = every_same m (λ a. a.puts_back) (λ x y k. k.puts_back) xs ys h;
-    lean = every_same m (λ a. a.lean) (λ x y k. k.lean) xs ys h;
+    heapless = every_same m (λ a. a.heapless) (λ x y k. k.heapless) xs ys h;
     adds = adds_same m xs ys h;
     refuses = λ v w k e. let i = tried_same xs ys h v w k e in (λ p. record { is = i.0 p.is }, λ p. record { is = i.1 p.is });
     refuses_from = λ s v w k e. let i = reasons_same xs ys h s v w k e in (λ p. record { is = i.0 p.is }, λ p. record { is = i.1 p.is });
@@ -260,15 +260,15 @@ not_firm (Refused k) e f = absurd (cc)
 not_firm Undecided e f = absurd (cc)
 
 module _ {P T V : Type 0} where
-  agree_more : (r q t : Reading P T V) → Agree r q → Agree q t → Agree r t
+  agree_more : (r q t : Reading P T V) → ReadingsAgree r q → ReadingsAgree q t → ReadingsAgree r t
   agree_more r q t i j v o = both_ways (i v o) (j v o)
 
-  skip : (q : Reading P T V) (v : View P T) (o : Outcome V) → Either refused q v o → q v o
+  skip : (q : Reading P T V) (v : View P T) (o : Outcome V) → OrElse refused q v o → q v o
   skip q v o (Here e f) = absurd (not_firm o e f)
   skip q v o (Later d p) = p
 
   -- no alternative, and then others
-  none_first : (q : Reading P T V) → Agree (Either refused q) q
+  none_first : (q : Reading P T V) → ReadingsAgree (OrElse refused q) q
   none_first q v o = (skip q v o, λ p. Later refl p)
 
 module _ {I : Type 0} where
@@ -285,13 +285,13 @@ module _ {I : Type 0} where
   )
 
 module _ {X P T R E V S : Type 0} (m : X → Meaning P T R E V S) where
-  first_append : (xs ys : List X) → Agree (Either (first_of m xs) (first_of m ys)) (first_of m (xs ++ ys))
-  first_append [] ys = none_first (first_of m ys)
+  first_append : (xs ys : List X) → ReadingsAgree (OrElse (first_alternative m xs) (first_alternative m ys)) (first_alternative m (xs ++ ys))
+  first_append [] ys = none_first (first_alternative m ys)
   first_append (x ∷ xs) ys =
       let a = (m x).whole in
-      let b = first_of m xs in
-      let c = first_of m ys in
-      agree_more (Either (Either a b) c) (Either a (Either b c)) (Either a (first_of m (xs ++ ys))) (either_assoc a b c) (either_both a a (Either b c) (first_of m (xs ++ ys)) (agree_self a) (first_append xs ys))
+      let b = first_alternative m xs in
+      let c = first_alternative m ys in
+      agree_more (OrElse (OrElse a b) c) (OrElse a (OrElse b c)) (OrElse a (first_alternative m (xs ++ ys))) (either_assoc a b c) (either_both a a (OrElse b c) (first_alternative m (xs ++ ys)) (agree_self a) (first_append xs ys))
 
   every_append : (f : Meaning P T R E V S → Type 0) (xs ys : List X) → (every m f xs × every m f ys) ↔ every m f (xs ++ ys)
   every_append f [] ys = (λ p. p.1, λ p. (tt, p))
@@ -299,32 +299,32 @@ module _ {X P T R E V S : Type 0} (m : X → Meaning P T R E V S) where
       let i = every_append f xs ys in
       (λ p. (p.0.0, i.0 (p.0.1, p.1)), λ p. ((p.0, (i.1 p.1).0), (i.1 p.1).1))
 
-  adds_append : (xs ys : List X) (is : List (Item T R)) → Together (adds_all m xs) (adds_all m ys) is ↔ adds_all m (xs ++ ys) is
+  adds_append : (xs ys : List X) (is : List (ErrorItem T R)) → Together (adds_all m xs) (adds_all m ys) is ↔ adds_all m (xs ++ ys) is
   adds_append [] ys is = adds_none (adds_all m ys) is
   adds_append (x ∷ xs) ys is =
       both_ways (together_assoc ((m x).adds) (adds_all m xs) (adds_all m ys) is) (together_both ((m x).adds) ((m x).adds) (Together (adds_all m xs) (adds_all m ys)) (adds_all m (xs ++ ys)) (λ js. (λ p. p, λ p. p)) (adds_append xs ys) is)
 
-module _ {X P T R E V S : Type 0} (errors : Errors T R P E) (cmp : P → P → Ordering) (m : X → Meaning P T R E V S) where
+module _ {X P T R E V S : Type 0} (errors : Observers T R P E) (cmp : P → P → Ordering) (m : X → Meaning P T R E V S) where
   -- one alternative is a choice of one
   pub one_starts : (x : X) → StartsSame (m x) (choice_of errors cmp m (x ∷ []))
   one_starts x = record {
     whole = λ v o. let i = either_last ((m x).whole) v o in (i.1, i.0);
     keeps = (λ p. (p, tt), λ p. p.0);
     puts_back = (λ p. (p, tt), λ p. p.0);
-    lean = (λ p. (p, tt), λ p. p.0);
+    heapless = (λ p. (p, tt), λ p. p.0);
     adds = adds_one ((m x).adds);
   }
 
   -- two choices are the choice of all their alternatives
   pub both_start : {S1 S2 : Type 0} {a : Meaning P T R E V S1} {b : Meaning P T R E V S2} (xs ys : List X) → StartsSame a (choice_of errors cmp m xs) → StartsSame b (choice_of errors cmp m ys) → StartsSame (either_of errors cmp a b) (choice_of errors cmp m (xs ++ ys))
   both_start {S1} {S2} {a} {b} xs ys h k =
-      let p = first_of m xs in
-      let q = first_of m ys in
-      let last = Either b.whole refused in
+      let p = first_alternative m xs in
+      let q = first_alternative m ys in
+      let last = OrElse b.whole refused in
       record {
-        whole = agree_more (Either a.whole last) (Either p q) (first_of m (xs ++ ys)) (either_both a.whole p last q h.whole (agree_more last b.whole q (either_last b.whole) k.whole)) (first_append m xs ys);
+        whole = agree_more (OrElse a.whole last) (OrElse p q) (first_alternative m (xs ++ ys)) (either_both a.whole p last q h.whole (agree_more last b.whole q (either_last b.whole) k.whole)) (first_append m xs ys);
         keeps = both_ways (λ i. (h.keeps.0 i.0, k.keeps.0 i.1), λ i. (h.keeps.1 i.0, k.keeps.1 i.1)) (every_append m (λ a. a.keeps) xs ys);
         puts_back = both_ways (λ i. (h.puts_back.0 i.0, k.puts_back.0 i.1), λ i. (h.puts_back.1 i.0, k.puts_back.1 i.1)) (every_append m (λ a. a.puts_back) xs ys);
-        lean = both_ways (λ i. (h.lean.0 i.0, k.lean.0 i.1), λ i. (h.lean.1 i.0, k.lean.1 i.1)) (every_append m (λ a. a.lean) xs ys);
+        heapless = both_ways (λ i. (h.heapless.0 i.0, k.heapless.0 i.1), λ i. (h.heapless.1 i.0, k.heapless.1 i.1)) (every_append m (λ a. a.heapless) xs ys);
         adds = λ is. both_ways (together_both a.adds (adds_all m xs) b.adds (adds_all m ys) h.adds k.adds is) (adds_append m xs ys is);
       }

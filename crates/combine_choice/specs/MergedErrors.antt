@@ -2,25 +2,25 @@
 use Rattle.std.specs.Prelude.{◌≡◌, ◌⊎◌, codes, List, [], ◌∷◌, drop, Bool, true, false}
 use Rattle.std.specs.declared.cmp.Ordering.{Ordering}
 use Rattle.combine_base.specs.Stream.View.{View}
-use Rattle.combine_base.specs.Error.Items.{Item, Message, Fixed}
-use Rattle.combine_base.specs.Error.Errors.{Errors, Joined, Only, later}
+use Rattle.combine_base.specs.Error.Items.{ErrorItem, Message, Fixed}
+use Rattle.combine_base.specs.Error.Errors.{Observers, JoinedErrors, Only, later_position}
 use Rattle.combine_base.specs.Parser.Meaning.{Meaning, MeantRefusal, Reading, Refusing, refusals}
 use Rattle.combine_base.specs.Parser.Outcome.{Refused}
-use Rattle.combine_base.specs.Refusals.{Saying}
+use Rattle.combine_base.specs.Refusals.{HasItems}
 use Rattle.combine_base.specs.declared.stream.Kind.TheVariants as kinds
 use Rattle.combine_token.specs.Token.TokenReasons.{peeked_only}
 use Rattle.combine_choice.specs.declared.choice.slice.SliceState.{SliceState}
 use Rattle.combine_choice.specs.declared.choice.slice.SliceState.TheVariants.{Peek, At}
 
-abbrev pub choice_is_empty : {T R : Type 0} → Item T R
+abbrev pub choice_is_empty : {T R : Type 0} → ErrorItem T R
 choice_is_empty = Message (Fixed (codes "parser choice is empty"))
 
-module _ {X P T R E V S : Type 0} (s : Errors T R P E) (cmp : P → P → Ordering) (m : X → Meaning P T R E V S) where
+module _ {X P T R E V S : Type 0} (s : Observers T R P E) (cmp : P → P → Ordering) (m : X → Meaning P T R E V S) where
   -- an error of those so far and one of the next alternative, which leaves the second view, make this one
   pub record Joins (so_far : E) (x : X) (v w : View P T) (both : E) : Type 0 where
     pub other : E
     pub refused : refusals (m x) v w false other
-    pub joined : Joined s (later cmp (s.position so_far) (s.position other)) so_far other both
+    pub joined : JoinedErrors s (later_position cmp (s.position so_far) (s.position other)) so_far other both
 
   -- one of the alternatives is refused committed, with such an error, and those before it peeked; they all begin afresh
   abbrev pub one_commits : List X → View P T → View P T → E → Type 0
@@ -33,19 +33,19 @@ module _ {X P T R E V S : Type 0} (s : Errors T R P E) (cmp : P → P → Orderi
   merges so_far left (x ∷ xs) v w e = (both : E) × (next : View P T) × Joins so_far x v next both × merges both next xs v w e
 
   -- one that has such outcomes, and such errors where it is meant to be refused so, and then others; where a later one is refused committed, it is refused peeked
-  abbrev pub first_refuses : Reading P T V → Refusing P T E → List X → Refusing P T E
-  first_refuses reads first xs v w true e = MeantRefusal reads first v w true e ⊎ (reads v (Refused false) × one_commits xs v w e)
-  first_refuses reads first xs v w false e = (own : E) × (left : View P T) × MeantRefusal reads first v left false own × merges own left xs v w e
+  abbrev pub alternative_refuses : Reading P T V → Refusing P T E → List X → Refusing P T E
+  alternative_refuses reads first xs v w true e = MeantRefusal reads first v w true e ⊎ (reads v (Refused false) × one_commits xs v w e)
+  alternative_refuses reads first xs v w false e = (own : E) × (left : View P T) × MeantRefusal reads first v left false own × merges own left xs v w e
 
   -- the first of those has such outcomes and errors; where there is none, nothing is taken
   abbrev pub tried_refuses : (X → Reading P T V) → (X → Refusing P T E) → List X → Refusing P T E
-  tried_refuses reads first [] v w committed e = peeked_only (λ e. (w ≡ v) × Saying s kinds.Refused v.position (Only choice_is_empty) e) committed e
-  tried_refuses reads first (x ∷ xs) v w committed e = first_refuses (reads x) (first x) xs v w committed e
+  tried_refuses reads first [] v w committed e = peeked_only (λ e. (w ≡ v) × HasItems s kinds.Refused v.position (Only choice_is_empty) e) committed e
+  tried_refuses reads first (x ∷ xs) v w committed e = alternative_refuses (reads x) (first x) xs v w committed e
 
   -- the running one goes on, and then the later ones; an index past the last alternative is the beginning
   abbrev pub on_refuses : List X → List X → S → Refusing P T E
   on_refuses xs [] k v w committed e = tried_refuses (λ x. (m x).whole) (λ x. (m x).refuses) xs v w committed e
-  on_refuses xs (y ∷ ys) k v w committed e = first_refuses ((m y).rest k) ((m y).refuses_from k) ys v w committed e
+  on_refuses xs (y ∷ ys) k v w committed e = alternative_refuses ((m y).rest k) ((m y).refuses_from k) ys v w committed e
 
   abbrev pub chosen_refuses : List X → SliceState S → Refusing P T E
   chosen_refuses xs Peek v w committed e = tried_refuses (λ x. (m x).whole) (λ x. (m x).refuses) xs v w committed e

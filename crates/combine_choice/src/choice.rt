@@ -39,7 +39,7 @@ pub trait ChoiceParser<Input: Stream>: ChoiceOutputs<Input> {
     ghost use Rattle.combine_base.specs.Parser.Meaning.{Meaning, IsMeaning, MeansOne, MeansSame};
     ghost use Rattle.combine_base.specs.Parser.AnswersCalls.{AnswersCall};
     ghost use Rattle.combine_base.specs.Parser.Reasons.{ReasonedCall};
-    ghost use Rattle.combine_base.specs.Error.Errors.{Says};
+    ghost use Rattle.combine_base.specs.Error.Errors.{AddsItems};
     ghost use Rattle.combine_base.specs.Stream.Calls.{Passes};
 
     /// What is kept while more input is needed: the running alternative and its state.
@@ -70,15 +70,15 @@ pub trait ChoiceParser<Input: Stream>: ChoiceOutputs<Input> {
         ensures valid { valid state.new }
         ensures same { MeansSame (meaning self.old) (meaning self.new) }
         ensures passes { Passes (Input.marks input.old) (Input.marks input.new) (Input.failures input.old) (Input.failures input.new) }
-        ensures answers { AnswersCall Input.StreamOnce Input.Error.seen Self.PartialState.is_default (meaning self.old) (M.first mode) state.old state.new input.old input.new result }
-        ensures refuses { ReasonedCall Input.Error.seen (meaning self.old) (M.first mode) state.old (Input.view input.old) (Input.view input.new) result };
+        ensures answers { AnswersCall Input.StreamOnce Input.Error.observers Self.PartialState.is_default (meaning self.old) (M.first mode) state.old state.new input.old input.new result }
+        ensures refuses { ReasonedCall Input.Error.observers (meaning self.old) (M.first mode) state.old (Input.view input.old) (Input.view input.new) result };
 
     /// Adds to an error what each alternative adds, in order.
     fn add_error_choice(&mut self, error: &mut Tracked<Input::Error>)
         requires { lawful self.old }
         ensures lawful { lawful self.new }
         ensures same { MeansSame (meaning self.old) (meaning self.new) }
-        ensures says { Says Input.Error.seen (meaning self.old).lean (meaning self.old).adds error.old.error error.new.error };
+        ensures says { AddsItems Input.Error.observers (meaning self.old).heapless (meaning self.old).adds error.old.error error.new.error };
 
     /// Chooses as from a default state, whatever the state held.
     final fn parse_first(
@@ -92,8 +92,8 @@ pub trait ChoiceParser<Input: Stream>: ChoiceOutputs<Input> {
         ensures valid { valid state.new }
         ensures same { MeansSame (meaning self.old) (meaning self.new) }
         ensures passes { Passes (Input.marks input.old) (Input.marks input.new) (Input.failures input.old) (Input.failures input.new) }
-        ensures answers { AnswersCall Input.StreamOnce Input.Error.seen Self.PartialState.is_default (meaning self.old) true state.old state.new input.old input.new result }
-        ensures refuses { ReasonedCall Input.Error.seen (meaning self.old) true state.old (Input.view input.old) (Input.view input.new) result }
+        ensures answers { AnswersCall Input.StreamOnce Input.Error.observers Self.PartialState.is_default (meaning self.old) true state.old state.new input.old input.new result }
+        ensures refuses { ReasonedCall Input.Error.observers (meaning self.old) true state.old (Input.view input.old) (Input.view input.new) result }
     {
         self.parse_mode_choice(FirstMode, input, state)
     }
@@ -110,8 +110,8 @@ pub trait ChoiceParser<Input: Stream>: ChoiceOutputs<Input> {
         ensures valid { valid state.new }
         ensures same { MeansSame (meaning self.old) (meaning self.new) }
         ensures passes { Passes (Input.marks input.old) (Input.marks input.new) (Input.failures input.old) (Input.failures input.new) }
-        ensures answers { AnswersCall Input.StreamOnce Input.Error.seen Self.PartialState.is_default (meaning self.old) false state.old state.new input.old input.new result }
-        ensures refuses { ReasonedCall Input.Error.seen (meaning self.old) false state.old (Input.view input.old) (Input.view input.new) result }
+        ensures answers { AnswersCall Input.StreamOnce Input.Error.observers Self.PartialState.is_default (meaning self.old) false state.old state.new input.old input.new result }
+        ensures refuses { ReasonedCall Input.Error.observers (meaning self.old) false state.old (Input.view input.old) (Input.view input.new) result }
     {
         self.parse_mode_choice(PartialMode::default(), input, state)
     }

@@ -3,11 +3,11 @@ use Rattle.std.specs.Prelude.{◌≡◌, Option, Some, None, ◌↔◌}
 use Rattle.combine_base.specs.Stream.View.{View}
 use Rattle.combine_base.specs.Parser.Outcome.{Outcome}
 use Rattle.combine_base.specs.Parser.Meaning.{Meaning, Reading, Refusing, IsReading, IsSingle, IsMeaning, MeansOne, MeansSame, SameReasons}
-use Rattle.combine_token.specs.Choice.Choices.{Agree}
+use Rattle.combine_token.specs.Choice.Choices.{ReadingsAgree}
 
-abbrev pub Holds : {S : Type 0} → (S → Type 0) → Option S → Type 0
-Holds valid None = Unit {0}
-Holds valid (Some s) = valid s
+abbrev pub HoldsState : {S : Type 0} → (S → Type 0) → Option S → Type 0
+HoldsState valid None = Unit {0}
+HoldsState valid (Some s) = valid s
 
 module _ {P T R E V S : Type 0} where
   abbrev pub held_rest : Meaning P T R E V S → Option S → Reading P T V
@@ -26,22 +26,22 @@ module _ {P T R E V S : Type 0} where
 module _ {P T R E V S S' : Type 0} (pick : S' → Option S) where
   -- what the parser means; a state that isn't its own is the beginning
   abbrev pub held : Meaning P T R E V S → Meaning P T R E V S'
-  held m = record { whole = m.whole; rest = λ s. held_rest m (pick s); lost = λ s v. held_lost m (pick s) v; keeps = m.keeps; puts_back = m.puts_back; lean = m.lean; adds = m.adds; refuses = m.refuses; refuses_from = λ s. held_refuses m (pick s) }
+  held m = record { whole = m.whole; rest = λ s. held_rest m (pick s); lost = λ s v. held_lost m (pick s) v; keeps = m.keeps; puts_back = m.puts_back; heapless = m.heapless; adds = m.adds; refuses = m.refuses; refuses_from = λ s. held_refuses m (pick s) }
 
-  module _ (fresh valid : S → Type 0) (fresh' valid' : S' → Type 0) (starts : (s : S') → fresh' s → Holds fresh (pick s)) (holds : (s : S') → valid' s → Holds valid (pick s)) (m : Meaning P T R E V S) where
-    reads : IsMeaning fresh valid m → (o : Option S) → Holds valid o → IsReading (held_rest m o)
+  module _ (fresh valid : S → Type 0) (fresh' valid' : S' → Type 0) (starts : (s : S') → fresh' s → HoldsState fresh (pick s)) (holds : (s : S') → valid' s → HoldsState valid (pick s)) (m : Meaning P T R E V S) where
+    reads : IsMeaning fresh valid m → (o : Option S) → HoldsState valid o → IsReading (held_rest m o)
     reads h None k = h.whole
     reads h (Some s) k = h.rest s k
 
-    start : IsMeaning fresh valid m → (o : Option S) → Holds fresh o → (v : View P T) (a : Outcome V) → held_rest m o v a ↔ m.whole v a
+    start : IsMeaning fresh valid m → (o : Option S) → HoldsState fresh o → (v : View P T) (a : Outcome V) → held_rest m o v a ↔ m.whole v a
     start h None d v a = (λ p. p, λ p. p)
     start h (Some s) d v a = h.start s v a d
 
-    found : IsMeaning fresh valid m → (o : Option S) → Holds fresh o → (v : View P T) → held_lost m o v → ⊥
+    found : IsMeaning fresh valid m → (o : Option S) → HoldsState fresh o → (v : View P T) → held_lost m o v → ⊥
     found h None d v i = i
     found h (Some s) d v i = h.found s v d i
 
-    reasons : IsMeaning fresh valid m → (o : Option S) → Holds fresh o → SameReasons (held_refuses m o) m.refuses
+    reasons : IsMeaning fresh valid m → (o : Option S) → HoldsState fresh o → SameReasons (held_refuses m o) m.refuses
     reasons h None d v w k e = (λ p. p, λ p. p)
     reasons h (Some s) d v w k e = h.reasons s d v w k e
 
@@ -54,14 +54,14 @@ module _ {P T R E V S S' : Type 0} (pick : S' → Option S) where
       reasons = λ s d. reasons h (pick s) (starts s d);
     }
 
-    one : MeansOne valid m → (o : Option S) → Holds valid o → IsSingle (held_rest m o)
+    one : MeansOne valid m → (o : Option S) → HoldsState valid o → IsSingle (held_rest m o)
     one h None k = h.whole
     one h (Some s) k = h.rest s k
 
     pub held_means_one : MeansOne valid m → MeansOne valid' (held m)
     held_means_one h = record { whole = h.whole; rest = λ s k. one h (pick s) (holds s k) }
 
-  rest_same : (m m' : Meaning P T R E V S) → MeansSame m m' → (s : Option S) → Agree (held_rest m s) (held_rest m' s)
+  rest_same : (m m' : Meaning P T R E V S) → MeansSame m m' → (s : Option S) → ReadingsAgree (held_rest m s) (held_rest m' s)
   rest_same m m' h None = h.whole
   rest_same m m' h (Some s) = h.rest s
 
@@ -80,16 +80,16 @@ module _ {P T R E V S S' : Type 0} (pick : S' → Option S) where
     lost = λ s. lost_same m m' h (pick s);
     keeps = h.keeps;
     puts_back = h.puts_back;
-    lean = h.lean;
+    heapless = h.heapless;
     adds = h.adds;
     refuses = h.refuses;
     refuses_from = λ s. reasons_same m m' h (pick s);
   }
 
 -- the state inside the one that is there
-abbrev pub within : {S S' : Type 0} → (S' → Option S) → Option S' → Option S
-within pick None = None
-within pick (Some s) = pick s
+abbrev pub state_within : {S S' : Type 0} → (S' → Option S) → Option S' → Option S
+state_within pick None = None
+state_within pick (Some s) = pick s
 
 -- A parser that is one of several as nested ones of two: its kept states are read as theirs.
 module _ {P T R E V S S' : Type 0} (nest : S' → S) where
@@ -104,9 +104,9 @@ module _ {P T R E V S S' : Type 0} (nest : S' → S) where
     nested_means_one h = held_means_one (λ s. Some (nest s)) valid valid (λ s. valid (nest s)) (λ s. valid (nest s)) (λ s d. d) (λ s k. k) m h
 
 -- a state to run from: the kept one, or a default one
-abbrev pub started : {S : Type 0} → (S → Type 0) → Option S → S → Type 0
-started fresh None s = fresh s
-started fresh (Some t) s = s ≡ t
+abbrev pub held_started : {S : Type 0} → (S → Type 0) → Option S → S → Type 0
+held_started fresh None s = fresh s
+held_started fresh (Some t) s = s ≡ t
 
 pub record Started {S : Type 0} (fresh : S → Type 0) (kept : Option S) (s : S) : Type 0 where
-  pub is : started fresh kept s
+  pub is : held_started fresh kept s

@@ -1,10 +1,10 @@
 -- the answers of a parser whose outcome is read off that of another by a table
 use Rattle.std.proofs.Common.{ℕ, ◌+◌, ◌≤◌, ◌≡◌, ◌⊎◌, inl, inr, List, Bool, true, false, refl, sym, ap, ◌∙◌, subst, arith}
 use Rattle.combine_base.specs.Stream.View.{View, Takes}
-use Rattle.combine_base.specs.Error.Items.{Item}
+use Rattle.combine_base.specs.Error.Items.{ErrorItem}
 use Rattle.combine_base.specs.Parser.Outcome.{Outcome, Accepted, Refused, Undecided}
 use Rattle.combine_base.specs.Parser.Meaning.{Meaning, Refusing, begun, begun_refuses}
-use Rattle.combine_base.specs.Parser.Answer.{Resumes, Run, World, Answers, Accepts, Refuses, Leaves, fails, ends, peeks}
+use Rattle.combine_base.specs.Parser.Answer.{Resumes, CallRecord, World, Answers, Accepts, Refuses, Leaves, fails, asks_or_refuses, peeks}
 use Rattle.combine_base.proofs.Errors.CallErrors.{around, settles, needs, need_of_more, same_mark}
 use Rattle.combine_base.proofs.Parsers.Progress.{takes_none, takes_more, resumes_none}
 use Rattle.combine_base.proofs.Errors.CallReasons.{reasons_fault, reasons_need}
@@ -17,13 +17,13 @@ use Rattle.combine_base.specs.declared.error.ParseResult.{ParseResult}
 use Rattle.combine_base.specs.declared.error.ParseResult.TheVariants.{PeekOk, CommitErr, PeekErr}
 use Rattle.combine_combinator.specs.Tables.{ByTable, by_table}
 use Rattle.combine_combinator.specs.Attempt.{refusing}
-use Rattle.combine_combinator.specs.ResetAnswers.{Back, PutBackFor, Stuck}
+use Rattle.combine_combinator.specs.ResetAnswers.{AnswersPutBack, PutBackFor, Stuck}
 
 -- a committed error that is a refusal
-pub committed_refusal : {P T R A S E : Type 0} (w : World P T S E) (m : Meaning P T R E A S) (r : Run P T S) (e : E) → ((w.kind e ≡ kinds.End) × (r.new.is_open ≡ true) → ⊥) → refusing (w.kind e) ≡ true → Answers w m r (CommitErr e) → Refuses w m r true
+pub committed_refusal : {P T R A S E : Type 0} (w : World P T S E) (m : Meaning P T R E A S) (r : CallRecord P T S) (e : E) → ((w.kind e ≡ kinds.End) × (r.new.is_open ≡ true) → ⊥) → refusing (w.kind e) ≡ true → Answers w m r (CommitErr e) → Refuses w m r true
 committed_refusal w m r e q i p = by_kind (w.kind e) refl i p.is
   where
-    at_end : (b : Bool) → r.old.is_open ≡ b → w.kind e ≡ kinds.End → ends w m r b → Refuses w m r true
+    at_end : (b : Bool) → r.old.is_open ≡ b → w.kind e ≡ kinds.End → asks_or_refuses w m r b → Refuses w m r true
     at_end true j o y = absurd (q (o, same_mark w m r e p ∙ j))
     at_end false j o y = y
 
@@ -35,18 +35,18 @@ committed_refusal w m r e q i p = by_kind (w.kind e) refl i p.is
     by_kind kinds.Reset o j y = absurd (cc)
     by_kind kinds.Lost o j y = absurd (cc)
 
-module _ {P T R A B S Z E : Type 0} (w : World P T S E) (fresh : Z → Type 0) (m : Meaning P T R E A S) (f : Outcome A → Outcome B) (adds : List (Item T R) → Type 0) (refuses : Refusing P T E) (s left : S) (first : Bool) (z z' : Z) (d : fresh z') (old mid new : View P T) (f0 f1 f2 : Failures) where
-  abbrev inner : Run P T S
+module _ {P T R A B S Z E : Type 0} (w : World P T S E) (fresh : Z → Type 0) (m : Meaning P T R E A S) (f : Outcome A → Outcome B) (adds : List (ErrorItem T R) → Type 0) (refuses : Refusing P T E) (s left : S) (first : Bool) (z z' : Z) (d : fresh z') (old mid new : View P T) (f0 f1 f2 : Failures) where
+  abbrev inner : CallRecord P T S
   inner = record { first = true; state = s; left = left; old = old; new = mid; before = f0; after = f1 }
 
   abbrev whole : Meaning P T R E B Z
   whole = by_table f m adds refuses
 
-  abbrev outer : Run P T Z
+  abbrev outer : CallRecord P T Z
   outer = record { first = first; state = z; left = z'; old = old; new = new; before = f0; after = f2 }
 
   abbrev put_back : Type 0
-  put_back = (new ≡ old) × (w.steady → f2 ≡ f1)
+  put_back = (new ≡ old) × (w.counts_failures → f2 ≡ f1)
 
   read : (first : Bool) (o : Outcome A) → m.whole old o → begun whole first z old (f o)
   read true o p = record { inner = o; meant = p; is = refl }
@@ -108,23 +108,23 @@ module _ {P T R A B S Z E : Type 0} (w : World P T S E) (fresh : Z → Type 0) (
   })
 
   -- the stream could not be put back
-  pub table_answers : (n : ℕ) → Takes w.step n old mid → f0.resets ≤ f1.resets → (marked : View P T → Type 0) → marked old → (answer result : ParseResult B E) → PutBackFor w.steady w.step w.kind marked mid new f1 f2 answer result → (put_back → Answers (around w fresh) whole outer answer) → Answers (around w fresh) whole outer result
+  pub table_answers : (n : ℕ) → Takes w.step n old mid → f0.resets ≤ f1.resets → (marked : View P T → Type 0) → marked old → (answer result : ParseResult B E) → PutBackFor w.counts_failures w.step w.kind marked mid new f1 f2 answer result → (put_back → Answers (around w fresh) whole outer answer) → Answers (around w fresh) whole outer result
   table_answers n t x marked i answer result p g = by_case p.is
     where
-      by_case : Back w.steady w.step w.kind marked mid new f1 f2 answer result ⊎ Stuck w.steady w.step w.kind marked mid new f1 f2 result → Answers (around w fresh) whole outer result
+      by_case : AnswersPutBack w.counts_failures w.step w.kind marked mid new f1 f2 answer result ⊎ Stuck w.counts_failures w.step w.kind marked mid new f1 f2 result → Answers (around w fresh) whole outer result
       by_case (inl b) = subst (Answers (around w fresh) whole outer) (sym b.is) (g (b.at old i, b.failures))
       by_case (inr b) = let c = b.resets in subst (Answers (around w fresh) whole outer) (sym b.is) (record { is = rw b.kind_is (omega arith, record { count = n + b.moves.count; taken = takes_more w.step n b.moves.count old mid new t b.moves.taken; state = d }) })
 
-  pub table_asks_back : (e : E) → f Undecided ≡ Undecided → (w.kind e ≡ kinds.End) × (mid.is_open ≡ true) → Answers w m inner (CommitErr e) → f0.resets ≤ f1.resets → (marked : View P T → Type 0) → marked old → (result : ParseResult B E) → PutBackFor w.steady w.step w.kind marked mid new f1 f2 (CommitErr e) result → Answers (around w fresh) whole outer result
+  pub table_asks_back : (e : E) → f Undecided ≡ Undecided → (w.kind e ≡ kinds.End) × (mid.is_open ≡ true) → Answers w m inner (CommitErr e) → f0.resets ≤ f1.resets → (marked : View P T → Type 0) → marked old → (result : ParseResult B E) → PutBackFor w.counts_failures w.step w.kind marked mid new f1 f2 (CommitErr e) result → Answers (around w fresh) whole outer result
   table_asks_back e t q p x marked i result b =
       let y = need_of_more w m inner e q.0 (sym (same_mark w m inner e p) ∙ q.1) p in
       table_answers y.count y.taken x marked i (CommitErr e) result b (table_asks e t q p)
 
-module _ {P T R A B S Z E : Type 0} (w : World P T S E) (fresh : Z → Type 0) (m : Meaning P T R E A S) (f : Outcome A → Outcome B) (adds : List (Item T R) → Type 0) (refuses : Refusing P T E) (s left : S) (first : Bool) (z z' : Z) (d : fresh z') (old mid : View P T) (f0 f1 : Failures) where
-  abbrev as_is : Run P T Z
+module _ {P T R A B S Z E : Type 0} (w : World P T S E) (fresh : Z → Type 0) (m : Meaning P T R E A S) (f : Outcome A → Outcome B) (adds : List (ErrorItem T R) → Type 0) (refuses : Refusing P T E) (s left : S) (first : Bool) (z z' : Z) (d : fresh z') (old mid : View P T) (f0 f1 : Failures) where
+  abbrev as_is : CallRecord P T Z
   as_is = record { first = first; state = z; left = z'; old = old; new = mid; before = f0; after = f1 }
 
-  abbrev called : Run P T S
+  abbrev called : CallRecord P T S
   called = record { first = true; state = s; left = left; old = old; new = mid; before = f0; after = f1 }
 
   abbrev table : Meaning P T R E B Z
@@ -152,7 +152,7 @@ module _ {P T R A B S Z E : Type 0} (w : World P T S E) (fresh : Z → Type 0) (
     is_open = refl;
     refuses = refused_too true t;
     leaves = left_by;
-    lean = λ x. x;
+    heapless = λ x. x;
     reads = λ x. x;
     resets = λ x. x;
     loses = λ x. absurd x;
@@ -182,20 +182,20 @@ module _ {P T R A B S Z E : Type 0} (w : World P T S E) (fresh : Z → Type 0) (
       by_kind kinds.Lost j y = absurd y
 
 -- the errors of refusals are the same from the start and from a state
-pub table_reasons : {P T R A B S Z V E : Type 0} (m : Meaning P T R E A S) (f : Outcome A → Outcome B) (adds : List (Item T R) → Type 0) (refuses : Refusing P T E) (first : Bool) (z : Z) (old new : View P T) {kind : E → Kind} {is_open : Bool} {result : ParseResult V E} → Reasoned kind is_open (refuses old new) result → Reasoned kind is_open (begun_refuses (by_table f m adds refuses) first z old new) result
+pub table_reasons : {P T R A B S Z V E : Type 0} (m : Meaning P T R E A S) (f : Outcome A → Outcome B) (adds : List (ErrorItem T R) → Type 0) (refuses : Refusing P T E) (first : Bool) (z : Z) (old new : View P T) {kind : E → Kind} {is_open : Bool} {result : ParseResult V E} → Reasoned kind is_open (refuses old new) result → Reasoned kind is_open (begun_refuses (by_table f m adds refuses) first z old new) result
 table_reasons m f adds refuses true z old new h = h
 table_reasons m f adds refuses false z old new h = h
 
 -- the error of what was answered with the stream put back, or could not be
-module _ {P T V E : Type 0} {steady : Type 0} {step : P → T → P} {kind : E → Kind} {marked : View P T → Type 0} {old new : View P T} {before after : Failures} {answer result : ParseResult V E} (says : Bool → E → Type 0) where
-  pub back_reasons : (v : View P T) → marked v → PutBackFor steady step kind marked old new before after answer result → (new ≡ v → Reasoned kind new.is_open says answer) → Reasoned kind new.is_open says result
+module _ {P T V E : Type 0} {counts_failures : Type 0} {step : P → T → P} {kind : E → Kind} {marked : View P T → Type 0} {old new : View P T} {before after : Failures} {answer result : ParseResult V E} (says : Bool → E → Type 0) where
+  pub back_reasons : (v : View P T) → marked v → PutBackFor counts_failures step kind marked old new before after answer result → (new ≡ v → Reasoned kind new.is_open says answer) → Reasoned kind new.is_open says result
   back_reasons v i h r = by_case h.is
     where
-      by_case : Back steady step kind marked old new before after answer result ⊎ Stuck steady step kind marked old new before after result → Reasoned kind new.is_open says result
+      by_case : AnswersPutBack counts_failures step kind marked old new before after answer result ⊎ Stuck counts_failures step kind marked old new before after result → Reasoned kind new.is_open says result
       by_case (inl b) = subst (Reasoned kind new.is_open says) (sym b.is) (r (b.at v i))
       by_case (inr b) = subst (Reasoned kind new.is_open says) (sym b.is) (reasons_fault kind new.is_open says b.error kinds.Reset b.kind_is tt)
 
 -- need of more is no refusal
-pub asks_reasons : {P T R A B S E : Type 0} {w : World P T S E} {m : Meaning P T R E A S} {r : Run P T S} {e : E} {marked : View P T → Type 0} {new : View P T} {before after : Failures} {result : ParseResult B E} (says : Bool → E → Type 0) → (w.kind e ≡ kinds.End) × (r.new.is_open ≡ true) → Answers w m r (CommitErr e) → marked r.old → PutBackFor w.steady w.step w.kind marked r.new new before after (CommitErr e) result → Reasoned w.kind new.is_open says result
+pub asks_reasons : {P T R A B S E : Type 0} {w : World P T S E} {m : Meaning P T R E A S} {r : CallRecord P T S} {e : E} {marked : View P T → Type 0} {new : View P T} {before after : Failures} {result : ParseResult B E} (says : Bool → E → Type 0) → (w.kind e ≡ kinds.End) × (r.new.is_open ≡ true) → Answers w m r (CommitErr e) → marked r.old → PutBackFor w.counts_failures w.step w.kind marked r.new new before after (CommitErr e) result → Reasoned w.kind new.is_open says result
 asks_reasons {w = w} {m = m} {r = r} {e = e} {new = new} says q p i h =
     back_reasons says r.old i h (λ j. reasons_need w.kind new.is_open says e q.0 (ap (λ (v : View _ _). v.is_open) j ∙ sym (same_mark w m r e p) ∙ q.1))

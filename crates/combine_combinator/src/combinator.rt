@@ -1,6 +1,6 @@
 //! Parsers that change the value of another parser, or keep a part of it, put its refusals back, or look ahead.
 ghost use Rattle.std.specs.Prelude.{◌≡◌, if◌then◌else◌};
-ghost use Rattle.combine_combinator.specs.Attempt.{IsFresh};
+ghost use Rattle.combine_combinator.specs.Attempt.{IsFreshTry};
 ghost use Rattle.combine_combinator.specs.CombinatorParsers.{attempt_of, look_ahead_of, map_of, no_partial_of, not_followed_by_of, picked_of};
 
 pub mod laws;
@@ -168,7 +168,7 @@ pub struct TryState<S> {
 }
 
 impl<S: Default> Default for TryState<S> {
-    ghost is_default = { IsFresh S.is_default };
+    ghost is_default = { IsFreshTry S.is_default };
 
     #[inline]
     fn default() -> Self {

@@ -1,8 +1,8 @@
 -- a function that runs a parser from its start has one outcome where that parser has one, and asks for no memory where it asks for none
 use Rattle.std.proofs.Common.{ℕ, ◌≡◌, ◌⊎◌, inl, inr, Bool, true, false, length, arith, ap, sym, subst, ◌∙◌, length-drop}
 use denote.Ref.{MutBor}
-use Rattle.combine_base.specs.Error.Errors.{Errors}
-use Rattle.combine_base.specs.Parser.Answer.{Run, World, answers, ends, fails, peeks, world}
+use Rattle.combine_base.specs.Error.Errors.{Observers}
+use Rattle.combine_base.specs.Parser.Answer.{CallRecord, World, answers, asks_or_refuses, fails, peeks, world}
 use Rattle.combine_base.specs.Parser.Drivers.{Starts, afresh}
 use Rattle.combine_base.specs.Parser.Meaning.{IsReading, IsSingle, Meaning}
 use Rattle.combine_base.specs.Parser.Outcome.{Accepted, IsDecided, Outcome, Refused}
@@ -12,11 +12,11 @@ use Rattle.combine_base.specs.declared.error.ParseResult.TheVariants.{CommitOk, 
 use Rattle.combine_base.specs.declared.stream.Failures.{Failures}
 use Rattle.combine_base.specs.declared.stream.Kind.{Kind}
 use Rattle.combine_base.specs.declared.stream.Kind.TheVariants as kinds
-use Rattle.combine_combinator_function.specs.Functions.{AnswersAt, AnswersWith, FunctionReading, GoesOn, NeedsNoMemory, answer_outcome, error_outcome}
+use Rattle.combine_combinator_function.specs.Functions.{AnswersAt, AnswersWith, FunctionReading, ExtendsOpen, NeedsNoMemory, answer_outcome, error_outcome}
 
-module _ {I P T R V E S : Type 0} (step : P → T → P) (errors : Errors T R P E) (steady : Type 0) (view : I → View P T) (failures : I → Failures) (fresh : S → Type 0) (m : Meaning P T R E V S) where
+module _ {I P T R V E S : Type 0} (step : P → T → P) (errors : Observers T R P E) (counts_failures : Type 0) (view : I → View P T) (failures : I → Failures) (fresh : S → Type 0) (m : Meaning P T R E V S) where
   abbrev here : World P T S E
-  here = world step errors steady fresh
+  here = world step errors counts_failures fresh
 
   abbrev RunsIt : I → ParseResult V E → I → Type 0
   RunsIt input y left = Starts here m (view input) (view left) (failures input) (failures left) y
@@ -29,10 +29,10 @@ module _ {I P T R V E S : Type 0} (step : P → T → P) (errors : Errors T R P 
       omega (arith, length-drop n old.unread, length-drop k old.unread)
 
   module _ (h : IsReading m.whole) (input left : I) (s l : S) where
-    abbrev call : Run P T S
+    abbrev call : CallRecord P T S
     call = afresh here m s l (view input) (view left) (failures input) (failures left)
 
-    at_end : (b : Bool) (o : Outcome V) → ends here m call b → error_outcome step errors.kind (view input) (view left) b kinds.End o → m.whole (view input) o
+    at_end : (b : Bool) (o : Outcome V) → asks_or_refuses here m call b → error_outcome step errors.kind (view input) (view left) b kinds.End o → m.whole (view input) o
     at_end true o x e = rw e x.meant
     at_end false o x e = rw e x.meant
 
@@ -65,7 +65,7 @@ module _ {I P T R V E S : Type 0} (step : P → T → P) (errors : Errors T R P 
         there : m.whole (view p.input) o
         there = let s = runs p.input p.left p.answer p.met in by_answer h p.input p.left s.state s.left p.answer o s.answers.is p.stands
 
-        by_place : (v ≡ view p.input) ⊎ (IsDecided o × GoesOn (view p.input) v) → m.whole v o
+        by_place : (v ≡ view p.input) ⊎ (IsDecided o × ExtendsOpen (view p.input) v) → m.whole v o
         by_place (inl q) = rw q there
         by_place (inr q) = subst (λ u. m.whole u o) (sym q.1.is) (h.stays (view p.input) q.1.more q.1.mark o q.1.is_open q.0 there)
 
@@ -73,7 +73,7 @@ module _ {I P T R V E S : Type 0} (step : P → T → P) (errors : Errors T R P 
     run_is_single = record { one = λ v o u p q. one.one v o u (meant v o p) (meant v u q) }
 
   module _ (given : I → ParseResult V E → I → Type 0) (runs : (input left : I) (y : ParseResult V E) → given input y left → RunsIt input y left) where
-    run_needs_no_memory : errors.frugal → m.lean → NeedsNoMemory step errors.kind view given
+    run_needs_no_memory : errors.never_allocates → m.heapless → NeedsNoMemory step errors.kind view given
     run_needs_no_memory f l = λ input left e p i.
         let s = runs input left (CommitErr e) p in
         let run = afresh here m s.state s.left (view input) (view left) (failures input) (failures left) in
@@ -87,7 +87,7 @@ module _ {I P T R V E S : Type 0} (step : P → T → P) (errors : Errors T R P 
       pub plain_is_single : IsReading m.whole → IsSingle m.whole → IsSingle (FunctionReading step errors.kind view (AnswersAt post into))
       plain_is_single h one = run_is_single h one (AnswersAt post into) plain_runs
 
-      pub plain_needs_no_memory : errors.frugal → m.lean → NeedsNoMemory step errors.kind view (AnswersAt post into)
+      pub plain_needs_no_memory : errors.never_allocates → m.heapless → NeedsNoMemory step errors.kind view (AnswersAt post into)
       plain_needs_no_memory = run_needs_no_memory (AnswersAt post into) plain_runs
 
     module _ {Env : Type 0} (clone : Env → Type 0) (post : Env → MutBor I → X → MutBor I → Type 0) (k : (e : Env) (shown after : MutBor I) (own : X) → clone e → post e shown own after → RunsIt shown.now (into own) after.now) where
@@ -97,5 +97,5 @@ module _ {I P T R V E S : Type 0} (step : P → T → P) (errors : Errors T R P 
       pub env_is_single : IsReading m.whole → IsSingle m.whole → IsSingle (FunctionReading step errors.kind view (AnswersWith clone post into))
       env_is_single h one = run_is_single h one (AnswersWith clone post into) env_runs
 
-      pub env_needs_no_memory : errors.frugal → m.lean → NeedsNoMemory step errors.kind view (AnswersWith clone post into)
+      pub env_needs_no_memory : errors.never_allocates → m.heapless → NeedsNoMemory step errors.kind view (AnswersWith clone post into)
       env_needs_no_memory = run_needs_no_memory (AnswersWith clone post into) env_runs

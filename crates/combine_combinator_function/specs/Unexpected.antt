@@ -1,8 +1,8 @@
 -- a parser that refuses everywhere, peeked
 use Rattle.std.specs.Prelude.{◌≡◌, List, Bool, true, false}
 use Rattle.combine_base.specs.Stream.View.{View, extended}
-use Rattle.combine_base.specs.Error.Errors.{Errors, New}
-use Rattle.combine_base.specs.Error.Items.{Item}
+use Rattle.combine_base.specs.Error.Errors.{Observers, New}
+use Rattle.combine_base.specs.Error.Items.{ErrorItem}
 use Rattle.combine_base.specs.Parser.Outcome.{Outcome, Accepted, Refused, Undecided, shape}
 use Rattle.combine_base.specs.Parser.Meaning.{Meaning, Reading, IsReading, IsMeaning, MeansOne}
 use Rattle.combine_base.specs.declared.stream.Kind.TheVariants as kinds
@@ -42,16 +42,16 @@ module _ {P T V : Type 0} where
   }
 
 -- its error is made where it is called, and says nothing by itself
-abbrev pub refuses_at : {T R P E : Type 0} → Errors T R P E → P → Bool → E → Type 0
-refuses_at s place true e = ⊥
-refuses_at s place false e = New s kinds.Refused place e
+abbrev pub refuses_here : {T R P E : Type 0} → Observers T R P E → P → Bool → E → Type 0
+refuses_here s place true e = ⊥
+refuses_here s place false e = New s kinds.Refused place e
 
 -- and nothing is taken
-pub record RefusesThere {T R P E : Type 0} (s : Errors T R P E) (v w : View P T) (committed : Bool) (e : E) : Type 0 where
+pub record RefusesThere {T R P E : Type 0} (s : Observers T R P E) (v w : View P T) (committed : Bool) (e : E) : Type 0 where
   pub stays : w ≡ v
-  pub is : refuses_at s v.position committed e
+  pub is : refuses_here s v.position committed e
 
-module _ {P T R E V S : Type 0} (s : Errors T R P E) (adds : List (Item T R) → Type 0) where
+module _ {P T R E V S : Type 0} (s : Observers T R P E) (adds : List (ErrorItem T R) → Type 0) where
   -- it takes no memory, and never asks for more
   abbrev pub refuses_all : Meaning P T R E V S
   refuses_all = stateless refused_there (Unit {0}) (Unit {0}) adds (RefusesThere s)

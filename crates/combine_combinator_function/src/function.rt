@@ -1,6 +1,6 @@
 //! Parsers that are functions of a stream.
 ghost use Rattle.std.specs.Prelude.{◌≡◌};
-ghost use Rattle.combine_combinator_function.specs.Functions.{env_parser_of, parser_of};
+ghost use Rattle.combine_combinator_function.specs.Functions.{env_parser_of, function_parser};
 
 pub mod types;
 
@@ -29,7 +29,7 @@ use types::{Called, EnvParser, FnParser, WithEnv, WithoutEnv};
 /// The function is an `Fn`, where the crate takes an `FnMut`. On need of more the crate's loses the tokens that it took.
 #[inline]
 pub fn parser<Input, F>(f: F) -> FnParser<Input, F>
-    ensures { result ≡ parser_of f }
+    ensures { result ≡ function_parser f }
 {
     Called {
         call: WithoutEnv(f),

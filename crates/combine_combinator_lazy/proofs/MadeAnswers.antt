@@ -2,17 +2,17 @@
 use Rattle.std.proofs.Common.{◌≡◌, ◌⊎◌, inl, inr, Bool, true, false, List, refl, sym, subst, arith}
 use denote.Ref.{MutBor}
 use Rattle.std.specs.Fn.{Shared, always_fn}
-use Rattle.combine_base.specs.Error.Errors.{Errors}
-use Rattle.combine_base.specs.Error.Items.{Item}
-use Rattle.combine_base.specs.Parser.Answer.{World, Run, Answers, Resumes, world}
+use Rattle.combine_base.specs.Error.Errors.{Observers}
+use Rattle.combine_base.specs.Error.Items.{ErrorItem}
+use Rattle.combine_base.specs.Parser.Answer.{World, CallRecord, Answers, Resumes, world}
 use Rattle.combine_base.specs.Parser.Drivers.{Starts}
 use Rattle.combine_base.specs.Parser.DriverAnswers.{NeedsMore}
 use Rattle.combine_base.specs.Parser.KeptParsers.{KeptOf}
 use Rattle.combine_base.specs.Parser.Meaning.{Meaning, Reading, IsMeaning}
 use Rattle.combine_base.specs.Parser.Reasons.{Reasoned, ReasonedCall}
-use Rattle.combine_base.specs.Sequence.Parts.{RunsFrom, run_from}
+use Rattle.combine_base.specs.Sequence.Parts.{RunsFrom, call_from}
 use Rattle.combine_base.specs.Stream.View.{View, extended}
-use Rattle.combine_base.proofs.Parsers.InnerCalls.{Inside, Keeps, inside_asks, inside_commits, inside_fails, inside_peeks, inside_refuses}
+use Rattle.combine_base.proofs.Parsers.InnerCalls.{InsideCall, KeepsAround, inside_asks, inside_commits, inside_fails, inside_peeks, inside_refuses}
 use Rattle.combine_base.proofs.Parsers.Progress.{Progress, after_none, takes_none}
 use Rattle.combine_base.proofs.Errors.MeantRefusals.{reasoned_into}
 use Rattle.combine_base.proofs.Parsers.SameMeanings.{same_more, same_none}
@@ -23,14 +23,14 @@ use Rattle.combine_base.specs.declared.parser.Parser as parser
 use Rattle.combine_base.specs.declared.stream.StreamOnce as stream
 use Rattle.combine_base.specs.declared.stream.Failures.{Failures}
 use Rattle.combine_combinator_lazy.specs.MadeCalls.{CalledMade}
-use Rattle.combine_combinator_lazy.specs.MadeParsers.{InPlace, Lasts, MadeAt, Makes, by_factory, is_unmade, made, made_rest, made_there, valid_made}
+use Rattle.combine_combinator_lazy.specs.MadeParsers.{MakerLeavesStream, Lasts, MadeAt, MakesWhere, by_factory, is_unmade, made_meaning, made_rest, made_there, valid_made}
 use Rattle.combine_combinator_lazy.specs.declared.combinator.made.Made.{Made}
 use Rattle.combine_combinator_lazy.specs.declared.combinator.made.MadeState.{MadeState}
 use Rattle.combine_combinator_lazy.specs.declared.combinator.made.MadeState.TheVariants.{Unmade, Kept}
 
 -- a kept parser that a call begins with is one that may be kept, and its state is valid
-pub kept_valid : {N U : Type 0} (kept : N → Type 0) (valid : U → Type 0) {first : Bool} {given : MadeState N U} {l : Made N U} → RunsFrom is_unmade first given (Kept l) → valid_made kept valid given → kept l.parser × valid l.state
-kept_valid {N} {U} kept valid {first} {given} {l} r v = by_mode first r
+pub made_kept_valid : {N U : Type 0} (kept : N → Type 0) (valid : U → Type 0) {first : Bool} {given : MadeState N U} {l : Made N U} → RunsFrom is_unmade first given (Kept l) → valid_made kept valid given → kept l.parser × valid l.state
+made_kept_valid {N} {U} kept valid {first} {given} {l} r v = by_mode first r
   where
     by_mode : (first : Bool) → RunsFrom is_unmade first given (Kept l) → kept l.parser × valid l.state
     by_mode true r = absurd (let e = r.afresh refl in cc)
@@ -41,7 +41,7 @@ module _ {I P T N C V F : Type 0} (view : I → View P T) (marks : I → C → V
   abbrev made_for : View P T → N → Type 0
   made_for = MadeAt view (λ i n l. g.post f (i, tt) (n, (l, tt)))
 
-  pub factory_makable : always_fn g f → InPlace view marks failures (λ i n l. g.post f (i, tt) (n, (l, tt))) → ((v : View P T) (n : N) → made_for v n → lawful n) → (v : View P T) (n : N) → made_for v n → by_factory view marks failures g lawful n
+  pub factory_makable : always_fn g f → MakerLeavesStream view marks failures (λ i n l. g.post f (i, tt) (n, (l, tt))) → ((v : View P T) (n : N) → made_for v n → lawful n) → (v : View P T) (n : N) → made_for v n → by_factory view marks failures g lawful n
   factory_makable h k every v n m = record {
     maker = f;
     is_callable = (h, k);
@@ -49,9 +49,9 @@ module _ {I P T N C V F : Type 0} (view : I → View P T) (marks : I → C → V
     made = (m.shown, m.left, m.met);
   }
 
-module _ {N Input V U Checkpoint T R P E : Type 0} (p : parser.Ghosts N Input U V Checkpoint T R P E) (i : stream.Ghosts Input T R P E) (seen : Errors T R P E) (fresh : U → Type 0) (makes : Makes P T N) (makable : N → Type 0) (adds : List (Item T R) → Type 0) where
+module _ {N Input V U Checkpoint T R P E : Type 0} (p : parser.Ghosts N Input U V Checkpoint T R P E) (i : stream.Ghosts Input T R P E) (observers : Observers T R P E) (fresh : U → Type 0) (makes : MakesWhere P T N) (makable : N → Type 0) (adds : List (ErrorItem T R) → Type 0) where
   abbrev all : Meaning P T R E V (MadeState N U)
-  all = made makes makable p.meaning adds
+  all = made_meaning makes makable p.meaning adds
 
   abbrev kept : N → Type 0
   kept = KeptOf p.lawful p.meaning makable
@@ -61,39 +61,39 @@ module _ {N Input V U Checkpoint T R P E : Type 0} (p : parser.Ghosts N Input U 
   makable_kept n l m = record { is_lawful = l; parser = n; is_given = m; same = same_none (p.meaning n) }
 
   abbrev own_world : World P T U E
-  own_world = world i.step seen i.steady fresh
+  own_world = world i.step observers i.counts_failures fresh
 
   abbrev all_world : World P T (MadeState N U) E
-  all_world = world i.step seen i.steady is_unmade
+  all_world = world i.step observers i.counts_failures is_unmade
 
   -- the state that is left is valid
-  pub leaves_valid : {input left : Input} {l : Made N U} {state : MadeState N U} {y : ParseResult V E} → kept l.parser → CalledMade p i seen fresh input left l state y → valid_made kept p.valid state
-  leaves_valid {input} {left} {l} {state} {y} d g = by_need g.leaves
+  pub made_leaves_valid : {input left : Input} {l : Made N U} {state : MadeState N U} {y : ParseResult V E} → kept l.parser → CalledMade p i observers fresh input left l state y → valid_made kept p.valid state
+  made_leaves_valid {input} {left} {l} {state} {y} d g = by_need g.leaves
     where
-      by_need : (NeedsMore seen.kind (i.view left).is_open y × (state ≡ Kept (record { parser = g.parser; state = g.stopped })) × p.valid g.stopped) ⊎ ((NeedsMore seen.kind (i.view left).is_open y → ⊥) × (state ≡ Unmade)) → valid_made kept p.valid state
+      by_need : (NeedsMore observers.kind (i.view left).is_open y × (state ≡ Kept (record { parser = g.parser; state = g.stopped })) × p.valid g.stopped) ⊎ ((NeedsMore observers.kind (i.view left).is_open y → ⊥) × (state ≡ Unmade)) → valid_made kept p.valid state
       by_need (inl j) = rw j.1 (record { is_lawful = g.lawful; parser = d.parser; is_given = d.is_given; same = same_more _ _ _ d.same g.same }, j.2)
       by_need (inr j) = rw j.1 tt
 
   -- Where the parser that was made stands for what the call begins from, the call answers what that parser does.
-  module _ {input left : Input} {l : Made N U} {state : MadeState N U} {y : ParseResult V E} (d : kept l.parser) (g : CalledMade p i seen fresh input left l state y) where
+  module _ {input left : Input} {l : Made N U} {state : MadeState N U} {y : ParseResult V E} (d : kept l.parser) (g : CalledMade p i observers fresh input left l state y) where
     abbrev here : Reading P T V
     here = (p.meaning l.parser).rest l.state
 
-    abbrev call : Run P T U
-    call = run_from l.state g.stopped (i.view input) (i.view left) (i.failures input) (i.failures left)
+    abbrev call : CallRecord P T U
+    call = call_from l.state g.stopped (i.view input) (i.view left) (i.failures input) (i.failures left)
 
     module _ (z : MadeState N U) (q : Progress own_world (made_rest makes makable p.meaning adds z) here (i.view input) (i.view input) (i.failures input) (i.failures input)) (none : q.count ≡ 0) (loses : (p.meaning l.parser).lost l.state (i.view input) → all.lost z (i.view input)) where
-      abbrev inside : Inside own_world is_unmade (p.meaning l.parser) all call false z state (i.view input) (i.failures input) false here
+      abbrev inside : InsideCall own_world is_unmade (p.meaning l.parser) all call false z state (i.view input) (i.failures input) false here
       inside = record {
         progress = q;
         reads = omega arith;
         resets = omega arith;
         refuses = λ k x. x;
-        lean = λ x. d.same.lean.0 (x d.parser d.is_given);
+        heapless = λ x. d.same.heapless.0 (x d.parser d.is_given);
         lost = λ e x. (refl, loses x);
       }
 
-      keeping : state ≡ Kept (record { parser = g.parser; state = g.stopped }) → Keeps own_world is_unmade (p.meaning l.parser) all call false z state (i.view input) (i.failures input) here q.count
+      keeping : state ≡ Kept (record { parser = g.parser; state = g.stopped }) → KeepsAround own_world is_unmade (p.meaning l.parser) all call false z state (i.view input) (i.failures input) here q.count
       keeping e = rw e record {
         undecided = λ x. x;
         resumes = λ n t x. record {
@@ -105,7 +105,7 @@ module _ {N Input V U Checkpoint T R P E : Type 0} (p : parser.Ghosts N Input U 
         puts_back = λ x. (d.same.puts_back.0 (x d.parser d.is_given), none);
       }
 
-      by_answer : (y : ParseResult V E) → Answers own_world (p.meaning l.parser) call y → (NeedsMore seen.kind (i.view left).is_open y × (state ≡ Kept (record { parser = g.parser; state = g.stopped })) × p.valid g.stopped) ⊎ ((NeedsMore seen.kind (i.view left).is_open y → ⊥) × (state ≡ Unmade)) → Answers all_world all (run_from z state (i.view input) (i.view left) (i.failures input) (i.failures left)) y
+      by_answer : (y : ParseResult V E) → Answers own_world (p.meaning l.parser) call y → (NeedsMore observers.kind (i.view left).is_open y × (state ≡ Kept (record { parser = g.parser; state = g.stopped })) × p.valid g.stopped) ⊎ ((NeedsMore observers.kind (i.view left).is_open y → ⊥) × (state ≡ Unmade)) → Answers all_world all (call_from z state (i.view input) (i.view left) (i.failures input) (i.failures left)) y
       by_answer (CommitOk a) w (inl j) = absurd j.0
       by_answer (CommitOk a) w (inr j) = inside_commits _ _ _ _ _ _ _ _ _ _ _ _ inside (λ x. j.1) (λ a. a) (λ a n k x. x) a w
       by_answer (PeekOk a) w (inl j) = absurd j.0
@@ -115,16 +115,16 @@ module _ {N Input V U Checkpoint T R P E : Type 0} (p : parser.Ghosts N Input U 
       by_answer (PeekErr t) w (inl j) = absurd j.0
       by_answer (PeekErr t) w (inr j) = inside_refuses _ _ _ _ _ _ _ _ _ _ _ _ inside (λ x. j.1) t w
 
-      answered : Answers all_world all (run_from z state (i.view input) (i.view left) (i.failures input) (i.failures left)) y
+      answered : Answers all_world all (call_from z state (i.view input) (i.view left) (i.failures input) (i.failures left)) y
       answered = by_answer y g.answers g.leaves
 
-  module _ {input left : Input} {l : Made N U} {state : MadeState N U} {y : ParseResult V E} (d : kept l.parser) (g : CalledMade p i seen fresh input left l state y) where
+  module _ {input left : Input} {l : Made N U} {state : MadeState N U} {y : ParseResult V E} (d : kept l.parser) (g : CalledMade p i observers fresh input left l state y) where
     -- a call that goes on with the parser that is kept
-    pub resumes_made : Answers all_world all (run_from (Kept l) state (i.view input) (i.view left) (i.failures input) (i.failures left)) y
+    pub resumes_made : Answers all_world all (call_from (Kept l) state (i.view input) (i.view left) (i.failures input) (i.failures left)) y
     resumes_made = answered d g (Kept l) (progress_here own_world ((p.meaning l.parser).rest l.state) ((p.meaning l.parser).rest l.state) (i.view input) (i.failures input) (λ v o x. x)) refl (λ x. x)
 
     -- a call that makes one
-    pub begins_made : Lasts makes → IsMeaning fresh p.valid (p.meaning l.parser) → fresh l.state → makes (i.view input) l.parser → Answers all_world all (run_from Unmade state (i.view input) (i.view left) (i.failures input) (i.failures left)) y
+    pub begins_made : Lasts makes → IsMeaning fresh p.valid (p.meaning l.parser) → fresh l.state → makes (i.view input) l.parser → Answers all_world all (call_from Unmade state (i.view input) (i.view left) (i.failures input) (i.failures left)) y
     begins_made lasts h f m = answered d g Unmade (record { count = 0; taken = takes_none i.step (i.view input); resumes = resumes; failures = λ s. refl }) refl (λ x. absurd (h.found l.state (i.view input) f x))
       where
         resumes : Resumes (made_rest makes makable p.meaning adds Unmade) ((p.meaning l.parser).rest l.state) 0 (i.view input) (i.view input)
@@ -134,23 +134,23 @@ module _ {N Input V U Checkpoint T R P E : Type 0} (p : parser.Ghosts N Input U 
         }
 
     -- and one that makes it, where the maker left the stream in place
-    pub begins_in_place : (old : View P T) (before : Failures) → i.view input ≡ old → i.failures input ≡ before → Lasts makes → IsMeaning fresh p.valid (p.meaning l.parser) → fresh l.state → makes old l.parser → Answers all_world all (run_from Unmade state old (i.view left) before (i.failures left)) y
-    begins_in_place old before e f lasts h k m = subst (λ v. Answers all_world all (run_from Unmade state v (i.view left) before (i.failures left)) y) e (subst (λ b. Answers all_world all (run_from Unmade state (i.view input) (i.view left) b (i.failures left)) y) f (begins_made lasts h k (subst (λ v. makes v l.parser) (sym e) m)))
+    pub begins_in_place : (old : View P T) (before : Failures) → i.view input ≡ old → i.failures input ≡ before → Lasts makes → IsMeaning fresh p.valid (p.meaning l.parser) → fresh l.state → makes old l.parser → Answers all_world all (call_from Unmade state old (i.view left) before (i.failures left)) y
+    begins_in_place old before e f lasts h k m = subst (λ v. Answers all_world all (call_from Unmade state v (i.view left) before (i.failures left)) y) e (subst (λ b. Answers all_world all (call_from Unmade state (i.view input) (i.view left) b (i.failures left)) y) f (begins_made lasts h k (subst (λ v. makes v l.parser) (sym e) m)))
 
     -- and the error of its refusal
-    pub reasons_made : IsMeaning fresh p.valid (p.meaning l.parser) → fresh l.state → makes (i.view input) l.parser → ReasonedCall seen all false Unmade (i.view input) (i.view left) y
+    pub reasons_made : IsMeaning fresh p.valid (p.meaning l.parser) → fresh l.state → makes (i.view input) l.parser → ReasonedCall observers all false Unmade (i.view input) (i.view left) y
     reasons_made h f m = reasoned_into (λ k e x. record { parser = l.parser; made = m; said = (h.reasons l.state f (i.view input) (i.view left) k e).0 x }) g.refuses
 
-    pub reasons_in_place : (old : View P T) → i.view input ≡ old → IsMeaning fresh p.valid (p.meaning l.parser) → fresh l.state → makes old l.parser → ReasonedCall seen all false Unmade old (i.view left) y
-    reasons_in_place old e h f m = subst (λ v. ReasonedCall seen all false Unmade v (i.view left) y) e (reasons_made h f (subst (λ v. makes v l.parser) (sym e) m))
+    pub reasons_in_place : (old : View P T) → i.view input ≡ old → IsMeaning fresh p.valid (p.meaning l.parser) → fresh l.state → makes old l.parser → ReasonedCall observers all false Unmade old (i.view left) y
+    reasons_in_place old e h f m = subst (λ v. ReasonedCall observers all false Unmade v (i.view left) y) e (reasons_made h f (subst (λ v. makes v l.parser) (sym e) m))
 
 -- the same as an answer of the parser that was made, from its start, where the maker left the stream in place
-module _ {N Input V U Checkpoint T R P E : Type 0} (p : parser.Ghosts N Input U V Checkpoint T R P E) (i : stream.Ghosts Input T R P E) (seen : Errors T R P E) (fresh : U → Type 0) {old asked left : Input} {n : N} {u : U} {state : MadeState N U} {y : ParseResult V E} (g : CalledMade p i seen fresh asked left (record { parser = n; state = u }) state y) (e : i.view asked ≡ i.view old) where
+module _ {N Input V U Checkpoint T R P E : Type 0} (p : parser.Ghosts N Input U V Checkpoint T R P E) (i : stream.Ghosts Input T R P E) (observers : Observers T R P E) (fresh : U → Type 0) {old asked left : Input} {n : N} {u : U} {state : MadeState N U} {y : ParseResult V E} (g : CalledMade p i observers fresh asked left (record { parser = n; state = u }) state y) (e : i.view asked ≡ i.view old) where
   abbrev around : World P T U E
-  around = world i.step seen i.steady fresh
+  around = world i.step observers i.counts_failures fresh
 
   abbrev from_view : View P T → Failures → Type 0
-  from_view v before = Answers around (p.meaning n) (run_from u g.stopped v (i.view left) before (i.failures left)) y
+  from_view v before = Answers around (p.meaning n) (call_from u g.stopped v (i.view left) before (i.failures left)) y
 
   pub starts_made : i.failures asked ≡ i.failures old → fresh u → IsMeaning fresh p.valid (p.meaning n) → Starts around (p.meaning n) (i.view old) (i.view left) (i.failures old) (i.failures left) y
   starts_made f d h = record {
@@ -159,5 +159,5 @@ module _ {N Input V U Checkpoint T R P E : Type 0} (p : parser.Ghosts N Input U 
     answers = in_mode around p.valid (p.meaning n) h true u u g.stopped (record { afresh = λ k. d; kept = λ k. refl }) (i.view old) (i.view left) (i.failures old) (i.failures left) y (subst (λ v. from_view v (i.failures old)) e (subst (from_view (i.view asked)) f g.answers));
   }
 
-  pub refuses_made : fresh u → IsMeaning fresh p.valid (p.meaning n) → Reasoned seen.kind (i.view left).is_open ((p.meaning n).refuses (i.view old) (i.view left)) y
-  refuses_made d h = subst (λ v. Reasoned seen.kind (i.view left).is_open ((p.meaning n).refuses v (i.view left)) y) e (reasoned_into (λ k x. (h.reasons u d (i.view asked) (i.view left) k x).0) g.refuses)
+  pub refuses_made : fresh u → IsMeaning fresh p.valid (p.meaning n) → Reasoned observers.kind (i.view left).is_open ((p.meaning n).refuses (i.view old) (i.view left)) y
+  refuses_made d h = subst (λ v. Reasoned observers.kind (i.view left).is_open ((p.meaning n).refuses v (i.view left)) y) e (reasoned_into (λ k x. (h.reasons u d (i.view asked) (i.view left) k x).0) g.refuses)

@@ -3,10 +3,10 @@ use Rattle.std.specs.Prelude.{◌≡◌, List, [], ◌++◌, Bool, true, false, 
 use Rattle.std.proofs.Common.{ap, sym, subst, ◌∙◌, append_assoc}
 use denote.Ref.{MutBor}
 use Rattle.std.specs.Fn.{Shared, always_fn}
-use Rattle.combine_base.specs.Stream.View.{View, Follows, extended}
+use Rattle.combine_base.specs.Stream.View.{View, MayFollow, extended}
 use Rattle.combine_base.specs.Stream.Advance.{extended_none, follows_none, open_follows}
 use Rattle.combine_base.specs.Stream.Calls.{Passes}
-use Rattle.combine_base.specs.Error.Items.{Item}
+use Rattle.combine_base.specs.Error.Items.{ErrorItem}
 use Rattle.combine_base.specs.Parser.Outcome.{Outcome, shape}
 use Rattle.combine_base.specs.Parser.KeptParsers.{KeptOf, means_one_as}
 use Rattle.combine_base.specs.Parser.Meaning.{Meaning, Reading, Refusing, IsReading, IsSingle, IsMeaning, MeansOne, SameReasons}
@@ -50,15 +50,15 @@ pub record MadeBySome {F N : Type 0} (callable : F → Type 0) (makes : F → N 
   pub made : makes maker n
 
 -- which parsers may be made where the stream is so
-abbrev pub Makes : Type 0 → Type 0 → Type 0 → Type 1
-Makes P T N = View P T → N → Type 0
+abbrev pub MakesWhere : Type 0 → Type 0 → Type 0 → Type 1
+MakesWhere P T N = View P T → N → Type 0
 
 -- what may be made stays so on a list that goes on
-abbrev pub Lasts : {P T N : Type 0} → Makes P T N → Type 0
-Lasts {P} {T} {N} makes = (v : View P T) (x : List T) (b : Bool) (n : N) → Follows v.is_open x b → makes v n → makes (extended x b v) n
+abbrev pub Lasts : {P T N : Type 0} → MakesWhere P T N → Type 0
+Lasts {P} {T} {N} makes = (v : View P T) (x : List T) (b : Bool) (n : N) → MayFollow v.is_open x b → makes v n → makes (extended x b v) n
 
 -- a maker that isn't given the stream
-abbrev pub at_any : {P T N : Type 0} → (N → Type 0) → Makes P T N
+abbrev pub at_any : {P T N : Type 0} → (N → Type 0) → MakesWhere P T N
 at_any answers v n = answers n
 
 pub at_any_lasts : {P T N : Type 0} (answers : N → Type 0) → Lasts {P = P} {T = T} (at_any answers)
@@ -66,7 +66,7 @@ at_any_lasts answers v x b n f m = m
 
 module _ {I P T N C V : Type 0} (view : I → View P T) (marks : I → C → V → Type 0) (failures : I → Failures) (post : MutBor I → N → MutBor I → Type 0) where
   -- a maker that leaves the stream in place
-  pub record InPlace : Type 0 where
+  pub record MakerLeavesStream : Type 0 where
     pub kept : (i : MutBor I) (n : N) (l : MutBor I) → post i n l → (view l.now ≡ view i.now) × Passes (marks i.now) (marks l.now) (failures i.now) (failures l.now) × (failures l.now ≡ failures i.now)
 
 -- made by a function of this type
@@ -76,7 +76,7 @@ by_lazy g lawful = MadeBySome (always_fn g) (λ f. g.post f tt) lawful
 module _ {I P T N C V F : Type 0} (view : I → View P T) (marks : I → C → V → Type 0) (failures : I → Failures) (g : Shared F (MutBor I × Unit {0}) (N × (MutBor I × Unit {0}))) where
   -- made for some stream by a function of this type that leaves each in place
   abbrev pub by_factory : (N → Type 0) → N → Type 0
-  by_factory lawful = MadeBySome (λ f. always_fn g f × InPlace view marks failures (λ i n l. g.post f (i, tt) (n, (l, tt)))) (λ f n. (i : MutBor I) × (l : MutBor I) × g.post f (i, tt) (n, (l, tt))) lawful
+  by_factory lawful = MadeBySome (λ f. always_fn g f × MakerLeavesStream view marks failures (λ i n l. g.post f (i, tt) (n, (l, tt)))) (λ f n. (i : MutBor I) × (l : MutBor I) × g.post f (i, tt) (n, (l, tt))) lawful
 
 module _ {I P T N : Type 0} (view : I → View P T) (post : MutBor I → N → MutBor I → Type 0) where
   -- answered for a stream that stands so, or for one that goes on so
@@ -86,7 +86,7 @@ module _ {I P T N : Type 0} (view : I → View P T) (post : MutBor I → N → M
     pub met : post shown n left
     pub more : List T
     pub mark : Bool
-    pub follows : Follows (view shown.now).is_open more mark
+    pub follows : MayFollow (view shown.now).is_open more mark
     pub is : v ≡ extended more mark (view shown.now)
 
   -- answered for this very stream, which is left so
@@ -103,7 +103,7 @@ module _ {I P T N : Type 0} (view : I → View P T) (post : MutBor I → N → M
   pub made_at_of_for : (input left : I) (n : N) → MadeFor input left n → MadeAt (view input) n
   made_at_of_for input left n m = subst (λ i. MadeAt (view i) n) m.given (made_there m.shown m.back n m.met)
 
-  follows_on : (a b c : Bool) (x y : List T) → Follows a x b → Follows b y c → Follows a (x ++ y) c
+  follows_on : (a b c : Bool) (x y : List T) → MayFollow a x b → MayFollow b y c → MayFollow a (x ++ y) c
   follows_on true b c x y f g = tt
   follows_on false true c x y f g = absurd (let e = f.1 in cc)
   follows_on false false c x y f g = (rw (f.0, g.0) refl, g.1)
@@ -120,14 +120,14 @@ module _ {I P T N : Type 0} (view : I → View P T) (post : MutBor I → N → M
   }
 
 -- parsers that may be made at one place have one outcome there, but for the value
-pub record MakesOne {P T V N : Type 0} (makes : Makes P T N) (means : N → Reading P T V) : Type 0 where
+pub record MakesOne {P T V N : Type 0} (makes : MakesWhere P T N) (means : N → Reading P T V) : Type 0 where
   pub one : (v : View P T) (n n' : N) → makes v n → makes v n' → (o o' : Outcome V) → means n v o → means n' v o' → shape o ≡ shape o'
 
 -- the items of a parser that may be answered
-abbrev pub Adds : {P T R E V N U : Type 0} → (N → Type 0) → (N → Meaning P T R E V U) → List (Item T R) → Type 0
+abbrev pub Adds : {P T R E V N U : Type 0} → (N → Type 0) → (N → Meaning P T R E V U) → List (ErrorItem T R) → Type 0
 Adds {N = N} answers means is = (n : N) × answers n × (means n).adds is
 
-module _ {P T R E V N U : Type 0} (makes : Makes P T N) (means : N → Meaning P T R E V U) where
+module _ {P T R E V N U : Type 0} (makes : MakesWhere P T N) (means : N → Meaning P T R E V U) where
   -- a parser that may be made there refuses so, from its start
   pub record RefusesAfresh (v w : View P T) (committed : Bool) (e : E) : Type 0 where
     pub parser : N
@@ -139,7 +139,7 @@ module _ {P T R E V N U : Type 0} (makes : Makes P T N) (means : N → Meaning P
   made_refuses Unmade v w committed e = RefusesAfresh v w committed e
   made_refuses (Kept k) v w committed e = (means k.parser).refuses_from k.state v w committed e
 
-module _ {P T R E V N U : Type 0} (makes : Makes P T N) (makable : N → Type 0) (means : N → Meaning P T R E V U) (adds : List (Item T R) → Type 0) where
+module _ {P T R E V N U : Type 0} (makes : MakesWhere P T N) (makable : N → Type 0) (means : N → Meaning P T R E V U) (adds : List (ErrorItem T R) → Type 0) where
   -- any parser that may be made there
   abbrev pub made_whole : Reading P T V
   made_whole v o = (n : N) × makes v n × (means n).whole v o
@@ -153,14 +153,14 @@ module _ {P T R E V N U : Type 0} (makes : Makes P T N) (makable : N → Type 0)
   made_lost (Kept k) v = (means k.parser).lost k.state v
 
   -- a kept parser means what one that is makable does
-  abbrev pub made : Meaning P T R E V (MadeState N U)
-  made = record {
+  abbrev pub made_meaning : Meaning P T R E V (MadeState N U)
+  made_meaning = record {
     whole = made_whole;
     rest = made_rest;
     lost = made_lost;
     keeps = (n : N) → makable n → (means n).keeps;
     puts_back = (n : N) → makable n → (means n).puts_back;
-    lean = (n : N) → makable n → (means n).lean;
+    heapless = (n : N) → makable n → (means n).heapless;
     adds = adds;
     refuses = RefusesAfresh makes means;
     refuses_from = made_refuses makes means;
@@ -195,7 +195,7 @@ module _ {P T R E V N U : Type 0} (makes : Makes P T N) (makable : N → Type 0)
       reasons Unmade d v w k e = (λ p. p, λ p. p)
       reasons (Kept l) d v w k e = absurd (cc)
 
-      pub made_is_meaning : IsMeaning is_unmade (valid_made kept valid) made
+      pub made_is_meaning : IsMeaning is_unmade (valid_made kept valid) made_meaning
       made_is_meaning = record { whole = whole_is_reading; rest = rest_is_reading; start = starts; found = finds; reasons = reasons }
 
     module _ {valid : U → Type 0} (singles : (n : N) → makable n → MeansOne valid (means n)) (one : MakesOne makes (λ n. (means n).whole)) where
@@ -206,5 +206,5 @@ module _ {P T R E V N U : Type 0} (makes : Makes P T N) (makable : N → Type 0)
       rest_is_single Unmade k = whole_is_single
       rest_is_single (Kept l) k = (means_one_as k.0.same (singles k.0.parser k.0.is_given)).rest l.state k.1
 
-      pub made_means_one : MeansOne (valid_made kept valid) made
+      pub made_means_one : MeansOne (valid_made kept valid) made_meaning
       made_means_one = record { whole = whole_is_single; rest = rest_is_single }

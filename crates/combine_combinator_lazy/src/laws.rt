@@ -20,7 +20,7 @@ pub fn make_and_parse<Input: Stream, N: Parser<Input> + Drop, F: Fn(&mut Input) 
     input: &mut Input,
 ) -> ParseResult<N::Output, Input::Error>
     requires { ⟦<Factory<F> as Parser<Input>>⟧.lawful factory.now }
-    ensures { ParsesMade N.Parser Input.StreamOnce Input.Error.seen N.PartialState.is_default (λ i n l. F.post (factory_maker factory.now) i n l) input.old input.new result }
+    ensures { ParsesMade N.Parser Input.StreamOnce Input.Error.observers N.PartialState.is_default (λ i n l. F.post (factory_maker factory.now) i n l) input.old input.new result }
 {
     let mut state = MadeState::Unmade;
     make_and_run(&factory.0, FirstMode, input, &mut state)

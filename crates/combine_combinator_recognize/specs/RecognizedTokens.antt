@@ -14,19 +14,19 @@ use Rattle.combine_combinator_recognize.specs.declared.combinator.types.Collecte
 use Rattle.combine_combinator_recognize.specs.declared.combinator.types.Recognize.{Recognize}
 use Rattle.combine_combinator_recognize.specs.declared.combinator.types.RecognizeState.{RecognizeState}
 
-abbrev pub recognize_of : {F Q : Type 0} → Global → Q → Recognize F Q
-recognize_of alloc parser = record { alloc = alloc; parser = parser; collects = record {} }
+abbrev pub recognize_collecting_of : {F Q : Type 0} → Global → Q → Recognize F Q
+recognize_collecting_of alloc parser = record { alloc = alloc; parser = parser; collects = record {} }
 
-abbrev pub parser_of : {F Q : Type 0} → Recognize F Q → Q
-parser_of p = p.parser
+abbrev pub recognize_part : {F Q : Type 0} → Recognize F Q → Q
+recognize_part p = p.parser
 
 -- a default state: no tokens are kept, and the part's state is a default one
-abbrev pub IsFresh : {F S : Type 0} → (S → Type 0) → RecognizeState F S → Type 0
-IsFresh fresh s = (s.collected ≡ Nothing) × fresh s.part
+abbrev pub IsFreshCollecting : {F S : Type 0} → (S → Type 0) → RecognizeState F S → Type 0
+IsFreshCollecting fresh s = (s.collected ≡ Nothing) × fresh s.part
 
 -- the part's state is valid
-abbrev pub HasValid : {F S : Type 0} → (S → Type 0) → RecognizeState F S → Type 0
-HasValid valid s = valid s.part
+abbrev pub HasValidCollecting : {F S : Type 0} → (S → Type 0) → RecognizeState F S → Type 0
+HasValidCollecting valid s = valid s.part
 
 -- what is held after these tokens, one after another
 abbrev pub all_more : {T Held : Type 0} → (Held → T → Held) → Held → List T → Held
@@ -38,23 +38,23 @@ abbrev pub collected_by : {F Held : Type 0} → (F → Held) → Held → Collec
 collected_by held none Nothing = none
 collected_by held none (Tokens f) = held f
 
-module _ {P T F Held : Type 0} (steady : Type 0) (step : P → T → P) (held : F → Held) (more : Held → T → Held) (lean : Type 0) (into : F) (start new : View P T) (before after : Failures) where
+module _ {P T F Held : Type 0} (counts_failures : Type 0) (step : P → T → P) (held : F → Held) (more : Held → T → Held) (heapless : Type 0) (into : F) (start new : View P T) (before after : Failures) where
   -- why tokens were not collected: a read or a reset failed, or a collection asked for memory
   abbrev pub hinders : Kind → Type 0
   hinders kinds.Read = before.reads < after.reads
   hinders kinds.Reset = before.resets < after.resets
-  hinders kinds.Memory = lean → ⊥
+  hinders kinds.Memory = heapless → ⊥
   hinders kinds.Refused = ⊥
   hinders kinds.End = ⊥
   hinders kinds.Lost = ⊥
 
-  abbrev pub collects : ℕ → Result F Kind → Type 0
-  collects n (Ok f) = (held f ≡ all_more more (held into) (take n start.unread)) × Takes step n start new × (steady → after ≡ before)
-  collects n (Err k) = hinders k × Moves step start new
+  abbrev pub collects_tokens : ℕ → Result F Kind → Type 0
+  collects_tokens n (Ok f) = (held f ≡ all_more more (held into) (take n start.unread)) × Takes step n start new × (counts_failures → after ≡ before)
+  collects_tokens n (Err k) = hinders k × Moves step start new
 
   -- the first n tokens were taken, and appended
-  pub record Collects (n : ℕ) (result : Result F Kind) : Type 0 where
-    pub is : collects n result
+  pub record CollectsTokens (n : ℕ) (result : Result F Kind) : Type 0 where
+    pub is : collects_tokens n result
 
 module _ {P T A F Held : Type 0} (held : F → Held) (none : Held) (more : Held → T → Held) where
   -- the tokens taken, appended to what is held, in place of the value
@@ -63,14 +63,14 @@ module _ {P T A F Held : Type 0} (held : F → Held) (none : Held) (more : Held 
   recognizes h r v (Refused k) = r v (Refused k)
   recognizes h r v Undecided = r v Undecided
 
-  abbrev pub recognized : {R E S : Type 0} → Type 0 → Meaning P T R E A S → Meaning P T R E F (RecognizeState F S)
-  recognized lean m = record {
+  abbrev pub recognized_collecting : {R E S : Type 0} → Type 0 → Meaning P T R E A S → Meaning P T R E F (RecognizeState F S)
+  recognized_collecting heapless m = record {
     whole = recognizes none m.whole;
     rest = λ s. recognizes (collected_by held none s.collected) (m.rest s.part);
     lost = λ s. m.lost s.part;
     keeps = m.keeps;
     puts_back = m.puts_back;
-    lean = m.lean × lean;
+    heapless = m.heapless × heapless;
     adds = m.adds;
     refuses = m.refuses;
     refuses_from = λ s. m.refuses_from s.part;
@@ -106,9 +106,9 @@ module _ {P T A F Held : Type 0} (held : F → Held) (none : Held) (more : Held 
   both_ways : (h : Held) (r t : Reading P T A) → ((v : View P T) (o : Outcome A) → r v o ↔ t v o) → (v : View P T) (o : Outcome F) → recognizes h r v o ↔ recognizes h t v o
   both_ways h r t i v o = (recognizes_into h r t (λ v o. (i v o).0) v o, recognizes_into h t r (λ v o. (i v o).1) v o)
 
-  module _ {R E S : Type 0} (lean : Type 0) where
-    pub recognized_is_meaning : {fresh valid : S → Type 0} {m : Meaning P T R E A S} → IsMeaning fresh valid m → IsMeaning (IsFresh fresh) (HasValid valid) (recognized lean m)
-    recognized_is_meaning {fresh} {valid} {m} h = record {
+  module _ {R E S : Type 0} (heapless : Type 0) where
+    pub recognized_collecting_is_meaning : {fresh valid : S → Type 0} {m : Meaning P T R E A S} → IsMeaning fresh valid m → IsMeaning (IsFreshCollecting fresh) (HasValidCollecting valid) (recognized_collecting heapless m)
+    recognized_collecting_is_meaning {fresh} {valid} {m} h = record {
       whole = recognizes_is_reading none m.whole h.whole;
       rest = λ s k. recognizes_is_reading (collected_by held none s.collected) (m.rest s.part) (h.rest s.part k);
       start = λ s v o d. rw d.0 (both_ways none (m.rest s.part) m.whole (λ v o. h.start s.part v o d.1) v o);
@@ -116,20 +116,20 @@ module _ {P T A F Held : Type 0} (held : F → Held) (none : Held) (more : Held 
       reasons = λ s d. h.reasons s.part d.1;
     }
 
-    pub recognized_means_one : {valid : S → Type 0} {m : Meaning P T R E A S} → MeansOne valid m → MeansOne (HasValid valid) (recognized lean m)
-    recognized_means_one {valid} {m} h = record {
+    pub recognized_collecting_means_one : {valid : S → Type 0} {m : Meaning P T R E A S} → MeansOne valid m → MeansOne (HasValidCollecting valid) (recognized_collecting heapless m)
+    recognized_collecting_means_one {valid} {m} h = record {
       whole = recognizes_is_single none m.whole h.whole;
       rest = λ s k. recognizes_is_single (collected_by held none s.collected) (m.rest s.part) (h.rest s.part k);
     }
 
-    pub recognized_means_same : {m m' : Meaning P T R E A S} → MeansSame m m' → MeansSame (recognized lean m) (recognized lean m')
-    recognized_means_same {m} {m'} h = record {
+    pub recognized_collecting_means_same : {m m' : Meaning P T R E A S} → MeansSame m m' → MeansSame (recognized_collecting heapless m) (recognized_collecting heapless m')
+    recognized_collecting_means_same {m} {m'} h = record {
       whole = both_ways none m.whole m'.whole h.whole;
       rest = λ s. both_ways (collected_by held none s.collected) (m.rest s.part) (m'.rest s.part) (h.rest s.part);
       lost = λ s. h.lost s.part;
       keeps = h.keeps;
       puts_back = h.puts_back;
-      lean = (λ x. (h.lean.0 x.0, x.1), λ x. (h.lean.1 x.0, x.1));
+      heapless = (λ x. (h.heapless.0 x.0, x.1), λ x. (h.heapless.1 x.0, x.1));
       adds = h.adds;
       refuses = h.refuses;
       refuses_from = λ s. h.refuses_from s.part;

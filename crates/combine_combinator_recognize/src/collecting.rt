@@ -2,7 +2,7 @@
 ghost use Rattle.std.specs.Prelude.{◌≡◌};
 ghost use Rattle.combine_base.specs.Stream.Calls.{Passes};
 ghost use Rattle.combine_base.specs.Stream.View.{Takes};
-ghost use Rattle.combine_combinator_recognize.specs.RecognizedTokens.{Collects};
+ghost use Rattle.combine_combinator_recognize.specs.RecognizedTokens.{CollectsTokens};
 
 use combine_base::repeat::Append;
 use combine_base::stream::{Kind, Stream};
@@ -19,7 +19,7 @@ fn collect_to<Input: Stream, F: Append<Input::Token>>(
     into: F,
 ) -> Result<F, Kind>
     ensures passes { Passes (Input.marks input.old) (Input.marks input.new) (Input.failures input.old) (Input.failures input.new) }
-    ensures collects { (n : _) (v : _) → Takes Input.step n (Input.view input.old) v → end ≡ v.position → Collects Input.steady Input.step F.held F.more F.lean into (Input.view input.old) (Input.view input.new) (Input.failures input.old) (Input.failures input.new) n result }
+    ensures collects { (n : _) (v : _) → Takes Input.step n (Input.view input.old) v → end ≡ v.position → CollectsTokens Input.counts_failures Input.step F.held F.more F.heapless into (Input.view input.old) (Input.view input.new) (Input.failures input.old) (Input.failures input.new) n result }
 {
     let mut into = into;
     'tokens: while input.position().cmp(&end).is_lt() {
@@ -43,7 +43,7 @@ pub fn collect_since<Input: Stream, F: Append<Input::Token>>(
     into: F,
 ) -> Result<F, Kind>
     ensures passes { Passes (Input.marks input.old) (Input.marks input.new) (Input.failures input.old) (Input.failures input.new) }
-    ensures collects { (n : _) (v : _) → Input.stands input.old start v → Takes Input.step n v (Input.view input.old) → Collects Input.steady Input.step F.held F.more F.lean into v (Input.view input.new) (Input.failures input.old) (Input.failures input.new) n result }
+    ensures collects { (n : _) (v : _) → Input.stands input.old start v → Takes Input.step n v (Input.view input.old) → CollectsTokens Input.counts_failures Input.step F.held F.more F.heapless into v (Input.view input.new) (Input.failures input.old) (Input.failures input.new) n result }
 {
     let end = input.position();
     input.reset(start)?;

@@ -1,6 +1,6 @@
 //! What a parser takes, in place of its value.
 ghost use Rattle.std.specs.Prelude.{◌≡◌};
-ghost use Rattle.combine_combinator_recognize.specs.RecognizedTokens.{recognize_of};
+ghost use Rattle.combine_combinator_recognize.specs.RecognizedTokens.{recognize_collecting_of};
 
 pub mod types;
 
@@ -35,7 +35,7 @@ use types::Recognize;
 /// On `b"-12;"` it returns `(b"-12", b";")`.
 #[inline]
 pub fn recognize<F, P>(alloc: Global, parser: P) -> Recognize<F, P>
-    ensures { result ≡ recognize_of alloc parser }
+    ensures { result ≡ recognize_collecting_of alloc parser }
 {
     Recognize {
         alloc,

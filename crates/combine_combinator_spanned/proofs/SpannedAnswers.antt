@@ -3,8 +3,8 @@ use Rattle.std.proofs.Common.{◌≡◌, inl, inr, Bool, true, false, Some, None
 use Rattle.std.specs.declared.cmp.Ordering.{Ordering}
 use Rattle.std.specs.declared.cmp.Ordering.TheVariants.{Less, Equal, Greater}
 use Rattle.std.specs.Ordering.{is_eq}
-use Rattle.combine_base.specs.Error.Errors.{Errors, Placed}
-use Rattle.combine_base.specs.Parser.Answer.{Answers, Leaves, Run, World, fails, peeks, world}
+use Rattle.combine_base.specs.Error.Errors.{Observers, MovesPosition}
+use Rattle.combine_base.specs.Parser.Answer.{Answers, Leaves, CallRecord, World, fails, peeks, world}
 use Rattle.combine_base.specs.Parser.DriverAnswers.{IsRefusal}
 use Rattle.combine_base.specs.Parser.Meaning.{Meaning, begun_refuses}
 use Rattle.combine_base.specs.Parser.Reasons.{Reasoned, ReasonedCall}
@@ -24,7 +24,7 @@ equal_is Equal e = refl
 equal_is Less e = absurd (cc)
 equal_is Greater e = absurd (cc)
 
-module _ {T R Q E : Type 0} (cmp : Q → Q → Ordering) (s : Errors T R (Span Q) E) where
+module _ {T R Q E : Type 0} (cmp : Q → Q → Ordering) (s : Observers T R (Span Q) E) where
   same_kind : (span : Span Q) (e e' : E) → Spans cmp s span e e' → s.kind e' ≡ s.kind e
   same_kind span e e' h = by_case h.is
     where
@@ -33,7 +33,7 @@ module _ {T R Q E : Type 0} (cmp : Q → Q → Ordering) (s : Errors T R (Span Q
       by_case (inr i) = rw i.1 refl
 
   -- an error that stands at one position is placed; one that stands at a longer span, or keeps none, stays
-  pub spans_at_one : (place span : Span Q) (e e' : E) → s.position e ≡ Some place → cmp place.start place.end ≡ Equal → Placed s span e e' → Spans cmp s span e e'
+  pub spans_at_one : (place span : Span Q) (e e' : E) → s.position e ≡ Some place → cmp place.start place.end ≡ Equal → MovesPosition s span e e' → Spans cmp s span e e'
   spans_at_one place span e e' i j p = record { is = inl (rw i j, p) }
 
   pub spans_further : (place span : Span Q) (e : E) → s.position e ≡ Some place → (cmp place.start place.end ≡ Equal → ⊥) → Spans cmp s span e e
@@ -42,12 +42,12 @@ module _ {T R Q E : Type 0} (cmp : Q → Q → Ordering) (s : Errors T R (Span Q
   pub spans_none : (span : Span Q) (e : E) → s.position e ≡ None → Spans cmp s span e e
   spans_none span e i = record { is = inr (λ a. rw i at a, refl) }
 
-  module _ {A S : Type 0} (step : Span Q → T → Span Q) (steady : Type 0) (fresh : S → Type 0) (m : Meaning (Span Q) T R E A S) (r : Run (Span Q) T S) (span : Span Q) where
+  module _ {A S : Type 0} (step : Span Q → T → Span Q) (counts_failures : Type 0) (fresh : S → Type 0) (m : Meaning (Span Q) T R E A S) (r : CallRecord (Span Q) T S) (span : Span Q) where
     abbrev here : World (Span Q) T S E
-    here = world step s steady fresh
+    here = world step s counts_failures fresh
 
     pub spanned_answers : (x y : ParseResult A E) → SpansAnswer cmp s span x y → Answers here m r x → Answers here (spanned cmp s step m) r y
-    spanned_answers x y t p = answers_alike here (spanned cmp s step m) m (record { whole = λ v o. (λ p. p, λ p. p); rest = λ s v o. (λ p. p, λ p. p); lost = λ s v. (λ p. p, λ p. p); keeps = (λ p. p, λ p. p); puts_back = (λ p. p, λ p. p); lean = (λ p. p, λ p. p) }) r y (by_case x y t.is p)
+    spanned_answers x y t p = answers_alike here (spanned cmp s step m) m (record { whole = λ v o. (λ p. p, λ p. p); rest = λ s v o. (λ p. p, λ p. p); lost = λ s v. (λ p. p, λ p. p); keeps = (λ p. p, λ p. p); puts_back = (λ p. p, λ p. p); heapless = (λ p. p, λ p. p) }) r y (by_case x y t.is p)
       where
         by_case : (x y : ParseResult A E) → spans_answer cmp s span x y → Answers here m r x → Answers here m r y
         by_case (CommitErr e) (CommitErr e') i p = record { is = subst (λ (k : Kind). fails here m r k) (sym (same_kind span e e' i)) p.is }
@@ -67,7 +67,7 @@ module _ {T R Q E : Type 0} (cmp : Q → Q → Ordering) (s : Errors T R (Span Q
   in_mode step m false z v w k e x = x
 
   -- the span is that from where the call began to where it left the stream: `from` and `to` are the positions there
-  module _ {A S : Type 0} (step : Span Q → T → Span Q) (steady : Type 0) (fresh : S → Type 0) (m : Meaning (Span Q) T R E A S) (r : Run (Span Q) T S) (from to : Span Q) (begins : from ≡ r.old.position) (ends : to ≡ r.new.position) where
+  module _ {A S : Type 0} (step : Span Q → T → Span Q) (counts_failures : Type 0) (fresh : S → Type 0) (m : Meaning (Span Q) T R E A S) (r : CallRecord (Span Q) T S) (from to : Span Q) (begins : from ≡ r.old.position) (ends : to ≡ r.new.position) where
     abbrev read : Span Q
     read = record { start = r.old.position.start; end = r.new.position.end }
 
@@ -78,7 +78,7 @@ module _ {T R Q E : Type 0} (cmp : Q → Q → Ordering) (s : Errors T R (Span Q
     reason = begun_refuses (spanned cmp s step m) r.first r.state r.old r.new
 
     abbrev around : World (Span Q) T S E
-    around = world step s steady fresh
+    around = world step s counts_failures fresh
 
     pub spanned_reasons : (x y : ParseResult A E) → SpansAnswer cmp s (record { start = from.start; end = to.end }) x y → Answers around m r x → ReasonedCall s m r.first r.state r.old r.new x → ReasonedCall s (spanned cmp s step m) r.first r.state r.old r.new y
     spanned_reasons x y t p q = by_case x y (rw (begins, ends) at t).is p q

@@ -2,7 +2,7 @@
 use Rattle.std.specs.Prelude.{ℕ, ◌≡◌, ◌⊎◌, Bool, Option, Some, None}
 use Rattle.std.specs.declared.cmp.Ordering.{Ordering}
 use Rattle.std.specs.declared.cmp.Ordering.TheVariants.{Equal}
-use Rattle.combine_base.specs.Error.Errors.{Errors, Placed}
+use Rattle.combine_base.specs.Error.Errors.{Observers, MovesPosition}
 use Rattle.combine_base.specs.Parser.Meaning.{Meaning, Refusing, SameReasons, IsMeaning, MeansOne, MeansSame}
 use Rattle.combine_base.specs.Stream.View.{View, Takes}
 use Rattle.combine_base.specs.declared.error.ParseResult.{ParseResult}
@@ -21,10 +21,10 @@ abbrev pub AtOne : {Q : Type 0} → (Q → Q → Ordering) → Option (Span Q) �
 AtOne cmp None = ⊥
 AtOne cmp (Some s) = cmp s.start s.end ≡ Equal
 
-module _ {T R Q E : Type 0} (cmp : Q → Q → Ordering) (s : Errors T R (Span Q) E) where
+module _ {T R Q E : Type 0} (cmp : Q → Q → Ordering) (s : Observers T R (Span Q) E) where
   -- it is made to stand at the span where it stands at one position; else it stays as it is
   abbrev pub spans : Span Q → E → E → Type 0
-  spans span old new = (AtOne cmp (s.position old) × Placed s span old new) ⊎ ((AtOne cmp (s.position old) → ⊥) × (new ≡ old))
+  spans span old new = (AtOne cmp (s.position old) × MovesPosition s span old new) ⊎ ((AtOne cmp (s.position old) → ⊥) × (new ≡ old))
 
   pub record Spans (span : Span Q) (old new : E) : Type 0 where
     pub is : spans span old new
@@ -59,7 +59,7 @@ module _ {T R Q E : Type 0} (cmp : Q → Q → Ordering) (s : Errors T R (Span Q
     module _ {A S : Type 0} where
       -- what the part means, with the errors of its refusals at spans
       abbrev pub spanned : Meaning (Span Q) T R E A S → Meaning (Span Q) T R E A S
-      spanned m = record { whole = m.whole; rest = m.rest; lost = m.lost; keeps = m.keeps; puts_back = m.puts_back; lean = m.lean; adds = m.adds; refuses = SpansReason m.refuses; refuses_from = λ s. SpansReason (m.refuses_from s) }
+      spanned m = record { whole = m.whole; rest = m.rest; lost = m.lost; keeps = m.keeps; puts_back = m.puts_back; heapless = m.heapless; adds = m.adds; refuses = SpansReason m.refuses; refuses_from = λ s. SpansReason (m.refuses_from s) }
 
       pub spanned_is_meaning : {fresh valid : S → Type 0} {m : Meaning (Span Q) T R E A S} → IsMeaning fresh valid m → IsMeaning fresh valid (spanned m)
       spanned_is_meaning {fresh} {valid} {m} h = record { whole = h.whole; rest = h.rest; start = h.start; found = h.found; reasons = λ s d. spans_same (m.refuses_from s) m.refuses (h.reasons s d) }
@@ -74,7 +74,7 @@ module _ {T R Q E : Type 0} (cmp : Q → Q → Ordering) (s : Errors T R (Span Q
         lost = h.lost;
         keeps = h.keeps;
         puts_back = h.puts_back;
-        lean = h.lean;
+        heapless = h.heapless;
         adds = h.adds;
         refuses = spans_same m.refuses m'.refuses h.refuses;
         refuses_from = λ s. spans_same (m.refuses_from s) (m'.refuses_from s) (h.refuses_from s);

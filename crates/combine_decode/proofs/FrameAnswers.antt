@@ -7,21 +7,21 @@ use Rattle.combine_base.specs.Parser.Outcome.{Outcome, Accepted, Refused, Undeci
 use Rattle.combine_base.specs.Sequence.JoinedOutcome.{joined}
 use Rattle.combine_base.specs.Sequence.Readings.{continues, sequel}
 use Rattle.combine_base.specs.Stream.View.{View, advanced}
-use Rattle.combine_decode.proofs.TokenTurns.{counts}
+use Rattle.combine_decode.proofs.TokenTurns.{takes_so_many}
 use Rattle.combine_decode.specs.Frames.{framed, length_read, short_of}
 use Rattle.combine_byte_num.specs.Numbers.{big_endian}
 use Rattle.combine_byte_num.specs.WholeNumbers.{whole_number}
 
-module _ {P N : Type 0} (step : P → ℕ → P) (made : ℕ → N) (means : N → Reading P ℕ (Vec ℕ)) (takes : (n : ℕ) (v : View P ℕ) (o : Outcome (Vec ℕ)) → means (made n) v o → counts step n (λ (m : Vec ℕ). m.items) ⊥ v o) where
+module _ {P N : Type 0} (step : P → ℕ → P) (made : ℕ → N) (means : N → Reading P ℕ (Vec ℕ)) (takes : (n : ℕ) (v : View P ℕ) (o : Outcome (Vec ℕ)) → means (made n) v o → takes_so_many step n (λ (m : Vec ℕ). m.items) ⊥ v o) where
   -- what is answered for a length
   abbrev bytes_read : ℕ → Reading P ℕ (Vec ℕ)
   bytes_read n v o = (p : N) × (p ≡ made n) × means p v o
 
-  abbrev pub composed : Reading P ℕ (Vec ℕ)
-  composed = sequel step (λ n m. m) (whole_number 2 big_endian) bytes_read
+  abbrev pub composed_frame : Reading P ℕ (Vec ℕ)
+  composed_frame = sequel step (λ n m. m) (whole_number 2 big_endian) bytes_read
 
   module _ (v : View P ℕ) where
-    behind : (a n : ℕ) (k : Bool) → 2 ≤ length v.unread → a ≡ length_read v.unread → n ≡ 2 → k ≡ true → (p o : Outcome (Vec ℕ)) → counts step a (λ (m : Vec ℕ). m.items) ⊥ (advanced step n v) p → o ≡ joined n k (λ m. m) p → framed v o
+    behind : (a n : ℕ) (k : Bool) → 2 ≤ length v.unread → a ≡ length_read v.unread → n ≡ 2 → k ≡ true → (p o : Outcome (Vec ℕ)) → takes_so_many step a (λ (m : Vec ℕ). m.items) ⊥ (advanced step n v) p → o ≡ joined n k (λ m. m) p → framed v o
     behind a n k w e f g (Accepted m i c) o h j = subst (framed v) (sym j) (record {
       two = w;
       enough = let b = h.0 in omega (arith, length-drop n v.unread);
@@ -53,5 +53,5 @@ module _ {P N : Type 0} (step : P → ℕ → P) (made : ℕ → N) (means : N �
         let s : short_of v.unread = omega arith in
         subst (framed v) (sym u) (w.1, s)
 
-    pub is_framed : (o : Outcome (Vec ℕ)) → composed v o → framed v o
+    pub is_framed : (o : Outcome (Vec ℕ)) → composed_frame v o → framed v o
     is_framed o x = after_length x.0 x.1 o x.2

@@ -3,7 +3,7 @@ use Rattle.std.proofs.Common.{ℕ, ◌+◌, ◌<◌, ◌≤◌, ◌≡◌, ◌�
 use Rattle.std.proofs.lemmas.List.{drop-append-le, drop-drop, length-append, length-drop}
 use Rattle.combine_base.specs.Parser.Outcome.{Outcome, Accepted, Refused, Undecided}
 use Rattle.combine_base.specs.Parser.Meaning.{Meaning, Reading}
-use Rattle.combine_base.specs.Parser.Sessions.{Course, Begins, BeginsAgain, Feeds, anew_by_stage, by_stage, left}
+use Rattle.combine_base.specs.Parser.Sessions.{Course, BeginsSession, BeginsAgain, Feeds, anew_by_stage, by_stage, left_of_session}
 use Rattle.combine_base.specs.Parser.Sessions as session
 use Rattle.combine_base.specs.declared.error.UnexpectedParse.{UnexpectedParse}
 use Rattle.combine_base.specs.declared.parser.answer.Answer.{Answer}
@@ -13,12 +13,12 @@ use Rattle.combine_base.specs.declared.parser.session.Stage.{Stage}
 use Rattle.combine_base.specs.declared.parser.session.Stage.TheVariants as stages
 use Rattle.combine_decode.specs.declared.decode.Batch.{Batch}
 use Rattle.combine_decode.specs.declared.decode.BatchEnd.TheVariants as ends
-use Rattle.combine_decode.specs.Messages.{After, Divides, Gives, Told, made, on_open, stops, told}
+use Rattle.combine_decode.specs.Messages.{After, DividesMessages, GivesMessages, AnswersMessage, made_reading, on_open, ends_messages, answers_message}
 
 module _ {P T R E V S : Type 0} (meaning : P → Meaning ℕ T R E V S) where
   -- a session of a parser that was made stands at the beginning of a message
-  pub begins : (valid : S → Type 0) (determined : P → Type 0) (makes : P → Type 0) (most : Option ℕ) (p : P) (c : Course P T S) → makes p → Begins meaning valid determined most p c → After (made meaning makes) meaning [] c
-  begins valid determined makes most p c m h = record {
+  pub message_begins : (valid : S → Type 0) (determined : P → Type 0) (makes : P → Type 0) (most : Option ℕ) (p : P) (c : Course P T S) → makes p → BeginsSession meaning valid determined most p c → After (made_reading meaning makes) meaning [] c
+  message_begins valid determined makes most p c m h = record {
     left = λ x o l. (p, m, (h.left x true o).0 l);
     within = let t = h.taken in omega arith;
     unread = h.unread ∙ (rw h.taken refl);
@@ -26,14 +26,14 @@ module _ {P T R E V S : Type 0} (meaning : P → Meaning ℕ T R E V S) where
   }
 
   module _ (valid : S → Type 0) (message : Reading ℕ T V) (l : List T) (c : Course P T S) (far : After message meaning l c) (piece : List T) (new : Course P T S) where
-    fed_now : (r : Result (Answer V UnexpectedParse) SessionError) → Feeds meaning valid c new piece true r → session.feeds meaning valid c new piece true r
-    fed_now r h = subst (λ s. by_stage meaning valid c new piece true (session.feeds meaning valid c new piece true) s r) far.stage h.is
+    fed_now : (r : Result (Answer V UnexpectedParse) SessionError) → Feeds meaning valid c new piece true r → session.feeds_session meaning valid c new piece true r
+    fed_now r h = subst (λ s. by_stage meaning valid c new piece true (session.feeds_session meaning valid c new piece true) s r) far.stage h.is
 
     -- what is unread then is what follows the tokens that were taken
     all_unread : c.seen.unread ++ piece ≡ drop c.seen.position (l ++ piece)
     all_unread = ap (λ us. us ++ piece) far.unread ∙ sym (drop-append-le c.seen.position l piece far.within)
 
-    module _ (h : session.Leaves meaning valid c new piece true) where
+    module _ (h : session.LeavesUnread meaning valid c new piece true) where
       left_within : new.seen.position ≤ length (l ++ piece)
       left_within =
           let a = h.within in
@@ -45,11 +45,11 @@ module _ {P T R E V S : Type 0} (meaning : P → Meaning ℕ T R E V S) where
       left_unread : new.seen.unread ≡ drop new.seen.position (l ++ piece)
       left_unread = h.unread ∙ ap (drop h.count) all_unread ∙ drop-drop h.count c.seen.position (l ++ piece) ∙ ap (λ n. drop n (l ++ piece)) (sym h.taken)
 
-    onward : ((x : List T) (m : Bool) (o : Outcome V) → left meaning new x m o → left meaning c (piece ++ x) m o) → (x : List T) (o : Outcome V) → left meaning new x true o → on_open message ((l ++ piece) ++ x) o
+    onward : ((x : List T) (m : Bool) (o : Outcome V) → left_of_session meaning new x m o → left_of_session meaning c (piece ++ x) m o) → (x : List T) (o : Outcome V) → left_of_session meaning new x true o → on_open message ((l ++ piece) ++ x) o
     onward f x o h = subst (λ z. on_open message z o) (sym (append_assoc l piece x)) (far.left (piece ++ x) o (f x true o h))
 
     -- what the session answered to the piece, as told of all tokens of the message
-    tells : (a : Answer V UnexpectedParse) → session.Parses meaning valid c new piece true (Ok a) → told message meaning (l ++ piece) new a
+    tells : (a : Answer V UnexpectedParse) → session.ParsesPiece meaning valid c new piece true (Ok a) → answers_message message meaning (l ++ piece) new a
     tells answers.More h = (
       far.left piece Undecided h.is.means.is,
       record {
@@ -67,41 +67,41 @@ module _ {P T R E V S : Type 0} (meaning : P → Meaning ℕ T R E V S) where
         (far.left piece (Refused k) h.is.means.is, omega (arith, length-drop new.seen.position (l ++ piece)))
 
     -- it is open where the parse was
-    stays_open : (a : Answer V UnexpectedParse) → session.Parses meaning valid c new piece true (Ok a) → new.seen.is_open ≡ true
+    stays_open : (a : Answer V UnexpectedParse) → session.ParsesPiece meaning valid c new piece true (Ok a) → new.seen.is_open ≡ true
     stays_open answers.More h = h.is.leaves.is_open
     stays_open (answers.Accepted v t k) h = h.is.leaves.is_open
     stays_open (answers.Refused e k) h = h.is.leaves.is_open
 
-    parses_told : (a : Answer V UnexpectedParse) → session.Parses meaning valid c new piece true (Ok a) → Told message meaning (l ++ piece) new a
+    parses_told : (a : Answer V UnexpectedParse) → session.ParsesPiece meaning valid c new piece true (Ok a) → AnswersMessage message meaning (l ++ piece) new a
     parses_told a h = record { is = tells a h; is_open = stays_open a h }
 
-    pub feeds_told : (a : Answer V UnexpectedParse) → Feeds meaning valid c new piece true (Ok a) → Told message meaning (l ++ piece) new a
+    pub feeds_told : (a : Answer V UnexpectedParse) → Feeds meaning valid c new piece true (Ok a) → AnswersMessage message meaning (l ++ piece) new a
     feeds_told a h = parses_told a (fed_now (Ok a) h).1
 
   -- a session that answered to a piece is open
   pub feeds_open : (valid : S → Type 0) (c new : Course P T S) (piece : List T) (a : Answer V UnexpectedParse) → Feeds meaning valid c new piece true (Ok a) → new.seen.is_open ≡ true
   feeds_open valid c new piece a h = by_its_stage c.stage h.is
     where
-      opened : (b : Answer V UnexpectedParse) → session.Parses meaning valid c new piece true (Ok b) → new.seen.is_open ≡ true
+      opened : (b : Answer V UnexpectedParse) → session.ParsesPiece meaning valid c new piece true (Ok b) → new.seen.is_open ≡ true
       opened answers.More i = i.is.leaves.is_open
       opened (answers.Accepted v t k) i = i.is.leaves.is_open
       opened (answers.Refused e k) i = i.is.leaves.is_open
 
-      by_its_stage : (s : Stage) → by_stage meaning valid c new piece true (session.feeds meaning valid c new piece true) s (Ok a) → new.seen.is_open ≡ true
+      by_its_stage : (s : Stage) → by_stage meaning valid c new piece true (session.feeds_session meaning valid c new piece true) s (Ok a) → new.seen.is_open ≡ true
       by_its_stage stages.Running i = opened a i.1
       by_its_stage stages.Decided i = absurd (let e = i.0 in cc)
       by_its_stage stages.Failed i = absurd (let e = i.0 in cc)
 
   -- a session that begins again with a parser that was made has what was unread of a message, and no other tokens
-  pub again_told : (valid : S → Type 0) (determined : P → Type 0) (makes : P → Type 0) (p : P) (old new : Course P T S) (a : Answer V UnexpectedParse) → makes p → old.seen.is_open ≡ true → BeginsAgain meaning valid determined p old new (Ok a) → Told (made meaning makes) meaning old.seen.unread new a × (new.limit ≡ old.limit)
+  pub again_told : (valid : S → Type 0) (determined : P → Type 0) (makes : P → Type 0) (p : P) (old new : Course P T S) (a : Answer V UnexpectedParse) → makes p → old.seen.is_open ≡ true → BeginsAgain meaning valid determined p old new (Ok a) → AnswersMessage (made_reading meaning makes) meaning old.seen.unread new a × (new.limit ≡ old.limit)
   again_told valid determined makes p old new a m o h = by_its_stage old.stage h.is
     where
-      begun : session.Anew meaning valid determined p old new (Ok a) → Told (made meaning makes) meaning old.seen.unread new a × (new.limit ≡ old.limit)
+      begun : session.Anew meaning valid determined p old new (Ok a) → AnswersMessage (made_reading meaning makes) meaning old.seen.unread new a × (new.limit ≡ old.limit)
       begun i =
-          let parsed : session.Parses meaning valid i.begun new old.seen.unread true (Ok a) = subst (λ b. session.Parses meaning valid i.begun new old.seen.unread b (Ok a)) o i.parses in
-          (parses_told valid (made meaning makes) [] i.begun (begins valid determined makes old.limit p i.begun m i.begins) old.seen.unread new a parsed, parsed.limit ∙ i.begins.limit)
+          let parsed : session.ParsesPiece meaning valid i.begun new old.seen.unread true (Ok a) = subst (λ b. session.ParsesPiece meaning valid i.begun new old.seen.unread b (Ok a)) o i.parses in
+          (parses_told valid (made_reading meaning makes) [] i.begun (message_begins valid determined makes old.limit p i.begun m i.begins) old.seen.unread new a parsed, parsed.limit ∙ i.begins.limit)
 
-      by_its_stage : (s : Stage) → anew_by_stage meaning valid determined p old new (Ok a) s → Told (made meaning makes) meaning old.seen.unread new a × (new.limit ≡ old.limit)
+      by_its_stage : (s : Stage) → anew_by_stage meaning valid determined p old new (Ok a) s → AnswersMessage (made_reading meaning makes) meaning old.seen.unread new a × (new.limit ≡ old.limit)
       by_its_stage stages.Running i = begun i
       by_its_stage stages.Decided i = begun i
       by_its_stage stages.Failed i = absurd (let e = i.0 in cc)
@@ -121,63 +121,63 @@ by_length b n e = (λ i. eqb-true n 0 (sym e ∙ i), λ i. e ∙ eq-eqb n 0 i)
 
 module _ {P T R E V S : Type 0} (message : Reading ℕ T V) (meaning : P → Meaning ℕ T R E V S) where
   -- the messages so far of these tokens, and what the session was told of those behind them
-  pub record SoFar (l : List T) (vs : List V) (c : Course P T S) (a : Answer V UnexpectedParse) (at : Bool) : Type 0 where
+  pub record GaveMessages (l : List T) (vs : List V) (c : Course P T S) (a : Answer V UnexpectedParse) (at : Bool) : Type 0 where
     pub behind : List T
-    pub divided : Divides message l vs behind
-    pub told : Told message meaning behind c a
+    pub divided : DividesMessages message l vs behind
+    pub told : AnswersMessage message meaning behind c a
     pub boundary : (at ≡ true) ↔ (length behind ≡ 0)
 
   -- one message more
-  one_more : (l : List T) (vs : List V) (behind : List T) (v : V) (t : ℕ) (k : Bool) → 0 < t → Divides message l vs behind → on_open message behind (Accepted v t k) → Divides message l (vs ++ v ∷ []) (drop t behind)
+  one_more : (l : List T) (vs : List V) (behind : List T) (v : V) (t : ℕ) (k : Bool) → 0 < t → DividesMessages message l vs behind → on_open message behind (Accepted v t k) → DividesMessages message l (vs ++ v ∷ []) (drop t behind)
   one_more l [] behind v t k i d h = (t, k, i, subst (λ z. on_open message z (Accepted v t k)) (sym d) h, ap (drop t) d)
   one_more l (w ∷ vs) behind v t k i d h = (d.0, d.1, d.2, d.3, one_more (drop d.0 l) vs behind v t k i d.4 h)
 
-  pub starts : (l : List T) (c : Course P T S) (a : Answer V UnexpectedParse) (at : Bool) → Told message meaning l c a → ((at ≡ true) ↔ (length l ≡ 0)) → SoFar l [] c a at
-  starts l c a at h b = record { behind = l; divided = refl; told = h; boundary = b }
+  pub messages_start : (l : List T) (c : Course P T S) (a : Answer V UnexpectedParse) (at : Bool) → AnswersMessage message meaning l c a → ((at ≡ true) ↔ (length l ≡ 0)) → GaveMessages l [] c a at
+  messages_start l c a at h b = record { behind = l; divided = refl; told = h; boundary = b }
 
   module _ (l : List T) (b : Batch V) (c : Course P T S) (at : Bool) where
-    pub gives_more : b.end ≡ ends.More → SoFar l b.messages.items c answers.More at → Gives message meaning l c at b
+    pub gives_more : b.end ≡ ends.More → GaveMessages l b.messages.items c answers.More at → GivesMessages message meaning l c at b
     gives_more e h = record {
       behind = h.behind;
       divided = h.divided;
-      stop = subst (stops (on_open message h.behind)) (sym e) h.told.is.0;
+      stop = subst (ends_messages (on_open message h.behind)) (sym e) h.told.is.0;
       goes_on = λ i. h.told.is.1;
       boundary = h.boundary;
     }
 
-    pub gives_refused : (e : UnexpectedParse) (k : Bool) → b.end ≡ ends.Refused k → SoFar l b.messages.items c (answers.Refused e k) at → Gives message meaning l c at b
+    pub gives_refused : (e : UnexpectedParse) (k : Bool) → b.end ≡ ends.Refused k → GaveMessages l b.messages.items c (answers.Refused e k) at → GivesMessages message meaning l c at b
     gives_refused x k e h = record {
       behind = h.behind;
       divided = h.divided;
-      stop = subst (stops (on_open message h.behind)) (sym e) h.told.is.0;
+      stop = subst (ends_messages (on_open message h.behind)) (sym e) h.told.is.0;
       goes_on = λ i. absurd (let j = sym e ∙ i in cc);
       boundary = h.boundary;
     }
 
-    pub gives_empty : (v : V) (t : ℕ) (k : Bool) → t ≡ 0 → b.end ≡ ends.EmptyMessage → SoFar l b.messages.items c (answers.Accepted v t k) at → Gives message meaning l c at b
+    pub gives_empty : (v : V) (t : ℕ) (k : Bool) → t ≡ 0 → b.end ≡ ends.EmptyMessage → GaveMessages l b.messages.items c (answers.Accepted v t k) at → GivesMessages message meaning l c at b
     gives_empty v t k z e h = record {
       behind = h.behind;
       divided = h.divided;
-      stop = subst (stops (on_open message h.behind)) (sym e) (v, k, subst (λ n. on_open message h.behind (Accepted v n k)) z h.told.is.0);
+      stop = subst (ends_messages (on_open message h.behind)) (sym e) (v, k, subst (λ n. on_open message h.behind (Accepted v n k)) z h.told.is.0);
       goes_on = λ i. absurd (let j = sym e ∙ i in cc);
       boundary = h.boundary;
     }
 
   -- the next session was fed what the last message left
-  pub further : (l : List T) (vs : List V) (c : Course P T S) (v : V) (t : ℕ) (k : Bool) (at : Bool) → SoFar l vs c (answers.Accepted v t k) at → 0 < t → (new : Course P T S) (a : Answer V UnexpectedParse) (next : Bool) → Told message meaning c.seen.unread new a → ((next ≡ true) ↔ (length c.seen.unread ≡ 0)) → SoFar l (vs ++ v ∷ []) new a next
-  further l vs c v t k at h i new a next told b = record {
+  pub next_message_fed : (l : List T) (vs : List V) (c : Course P T S) (v : V) (t : ℕ) (k : Bool) (at : Bool) → GaveMessages l vs c (answers.Accepted v t k) at → 0 < t → (new : Course P T S) (a : Answer V UnexpectedParse) (next : Bool) → AnswersMessage message meaning c.seen.unread new a → ((next ≡ true) ↔ (length c.seen.unread ≡ 0)) → GaveMessages l (vs ++ v ∷ []) new a next
+  next_message_fed l vs c v t k at h i new a next told b = record {
     behind = c.seen.unread;
-    divided = subst (Divides message l (vs ++ v ∷ [])) (sym h.told.is.2) (one_more l vs h.behind v t k i h.divided h.told.is.0);
+    divided = subst (DividesMessages message l (vs ++ v ∷ [])) (sym h.told.is.2) (one_more l vs h.behind v t k i h.divided h.told.is.0);
     told = told;
     boundary = b;
   }
 
   -- less is left to do
-  pub less_left : (l : List T) (c : Course P T S) (a : Answer V UnexpectedParse) → Told message meaning l c a → remaining (length c.seen.unread) a ≤ length l
-  less_left l c answers.More h = let e = ap length h.is.1.unread in omega (arith, length-drop c.seen.position l)
-  less_left l c (answers.Accepted v t k) h = by_test (nat_lt 0 t) refl (ap length h.is.2) h.is.1
+  pub less_to_decode : (l : List T) (c : Course P T S) (a : Answer V UnexpectedParse) → AnswersMessage message meaning l c a → remaining (length c.seen.unread) a ≤ length l
+  less_to_decode l c answers.More h = let e = ap length h.is.1.unread in omega (arith, length-drop c.seen.position l)
+  less_to_decode l c (answers.Accepted v t k) h = by_test (nat_lt 0 t) refl (ap length h.is.2) h.is.1
     where
       by_test : (b : Bool) → nat_lt 0 t ≡ b → length c.seen.unread ≡ length (drop t l) → t ≤ length l → length c.seen.unread + (if b then 1 else 0) ≤ length l
       by_test true i e w = let j = ltb-true 0 t i in omega (arith, length-drop t l)
       by_test false i e w = omega (arith, length-drop t l)
-  less_left l c (answers.Refused e k) h = h.is.1
+  less_to_decode l c (answers.Refused e k) h = h.is.1

@@ -6,13 +6,13 @@ use Rattle.combine_base.specs.Parser.Outcome.{Outcome, Accepted, Refused, Undeci
 use Rattle.combine_base.specs.Stream.View.{View, after_all}
 use Rattle.combine_token.specs.Token.OneToken.{of_function, one_token, satisfied}
 use Rattle.combine_repeat_turns.specs.Turns.Bounds.{bounded, judged, none_yet, refused_at}
-use Rattle.combine_repeat_turns.specs.Repeat.Repeated.{appended, never}
-use Rattle.combine_repeat_turns.specs.Turns.Blocks.{Block, Collecting, Collects, Divides, Folds, Goes, Rule, Stops, StopsHere, Turned, any_committed, taken, values}
+use Rattle.combine_repeat_turns.specs.Repeat.Repeated.{appended, no_value_ends}
+use Rattle.combine_repeat_turns.specs.Turns.Blocks.{Block, Collecting, HoldsCollected, DividesBlocks, FoldsAll, TakesBlock, Rule, StopsTurns, StopsHere, TurnsOutcome, any_committed, taken, values}
 use Rattle.combine_repeat_turns.specs.declared.turns.Bounds.TheVariants.{Counted}
 use Rattle.combine_repeat_turns.specs.declared.turns.TurnIndex.{TurnIndex}
 
 -- what tokens appended one by one make
-folds_to : {T : Type 0} (h xs i : List T) → Folds (λ us t ws. ws ≡ us ++ t ∷ []) h xs i → i ≡ h ++ xs
+folds_to : {T : Type 0} (h xs i : List T) → FoldsAll (λ us t ws. ws ≡ us ++ t ∷ []) h xs i → i ≡ h ++ xs
 folds_to h [] i f = sym f ∙ sym (append-nil h)
 folds_to h (x ∷ xs) i f = folds_to f.0 xs i f.2 ∙ ap (λ us. us ++ xs) f.1 ∙ append_assoc h (x ∷ []) xs
 
@@ -21,7 +21,7 @@ module _ {P T : Type 0} (step : P → T → P) (most : ℕ) where
   any_token = one_token (satisfied (of_function (λ t. true)))
 
   abbrev rule : Rule T TurnIndex
-  rule = bounded (Counted most most) never
+  rule = bounded (Counted most most) no_value_ends
 
   abbrev place : ℕ → Bool → TurnIndex
   place i g = record { number = i; begun = g }
@@ -53,9 +53,9 @@ module _ {P T : Type 0} (step : P → T → P) (most : ℕ) where
   no_token o p Undecided h = inr (refl, h)
 
   -- the turn that runs there stops them
-  stops_at : (i : ℕ) (g : Bool) → i < most → (p : P) (us : List T) (o : Bool) (l : Outcome (Unit {0})) (x : Outcome T) → any_token (view p us o) x → judged (Counted most most) never (place i g) x ≡ Stops l → stopped i o 0 (length us) l
+  stops_at : (i : ℕ) (g : Bool) → i < most → (p : P) (us : List T) (o : Bool) (l : Outcome (Unit {0})) (x : Outcome T) → any_token (view p us o) x → judged (Counted most most) no_value_ends (place i g) x ≡ StopsTurns l → stopped i o 0 (length us) l
   stops_at i g w p (t ∷ ts) o l x h j =
-      let goes : Goes ≡ Stops l = subst (λ z. judged (Counted most most) never (place i g) z ≡ Stops l) (first_token t ts o p x h) j in
+      let goes : TakesBlock ≡ StopsTurns l = subst (λ z. judged (Counted most most) no_value_ends (place i g) z ≡ StopsTurns l) (first_token t ts o p x h) j in
       absurd (cc)
   stops_at i g w p [] o l x h j = ⊎_elim refused undecided (no_token o p x h)
     where
@@ -64,15 +64,15 @@ module _ {P T : Type 0} (step : P → T → P) (most : ℕ) where
 
       refused : (x ≡ Refused false) × (o ≡ false) → stopped i o 0 0 l
       refused r =
-          let k : judged {A = T} (Counted most most) never (place i g) (Refused false) ≡ Stops l = subst (λ z. judged {A = T} (Counted most most) never (place i g) z ≡ Stops l) r.0 j in
-          let s : refused_at (not (nat_lt 0 (most - i))) false ≡ Stops l = k in
-          let n : Stops (Refused false) ≡ Stops l = subst (λ b. refused_at (not b) false ≡ Stops l) missing s in
+          let k : judged {A = T} (Counted most most) no_value_ends (place i g) (Refused false) ≡ StopsTurns l = subst (λ z. judged {A = T} (Counted most most) no_value_ends (place i g) z ≡ StopsTurns l) r.0 j in
+          let s : refused_at (not (nat_lt 0 (most - i))) false ≡ StopsTurns l = k in
+          let n : StopsTurns (Refused false) ≡ StopsTurns l = subst (λ b. refused_at (not b) false ≡ StopsTurns l) missing s in
           let e : Refused false ≡ l = cc in
           subst (λ z. stopped i o 0 0 z) e (refl, r.1, refl, omega arith)
 
       undecided : (x ≡ Undecided) × (o ≡ true) → stopped i o 0 0 l
       undecided r =
-          let k : Stops Undecided ≡ Stops l = subst (λ z. judged {A = T} (Counted most most) never (place i g) z ≡ Stops l) r.0 j in
+          let k : StopsTurns Undecided ≡ StopsTurns l = subst (λ z. judged {A = T} (Counted most most) no_value_ends (place i g) z ≡ StopsTurns l) r.0 j in
           let e : Undecided ≡ l = cc in
           subst (λ z. stopped i o 0 0 z) e (r.1, refl, omega arith)
 
@@ -95,7 +95,7 @@ module _ {P T : Type 0} (step : P → T → P) (most : ℕ) where
     stop = one_before i o (length bs) (length (b ∷ bs)) (length ts) (length (t ∷ ts)) (omega arith) (omega arith) l behind.stop;
   }
 
-  divided : (bs : List (Block T)) (i : ℕ) (g : Bool) (p : P) (us : List T) (o : Bool) (l : Outcome (Unit {0})) → i ≤ most → Divides step rule (λ _. any_token) l any_token (place i g) bs (view p us o) → Divided i us o bs l
+  divided : (bs : List (Block T)) (i : ℕ) (g : Bool) (p : P) (us : List T) (o : Bool) (l : Outcome (Unit {0})) → i ≤ most → DividesBlocks step rule (λ _. any_token) l any_token (place i g) bs (view p us o) → Divided i us o bs l
   divided [] i g p us o l w d = record { count = refl; tokens = refl; within = omega arith; kind = refl; stop = by_full (nat_lt i most) refl d }
     where
       by_full : (b : Bool) → nat_lt i most ≡ b → StopsHere step rule (λ _. any_token) l any_token (place i g) (view p us o) (not b) → stopped i o 0 (length us) l
@@ -106,23 +106,23 @@ module _ {P T : Type 0} (step : P → T → P) (most : ℕ) where
       let one : b.count ≡ 1 = d.1.1 in
       let runs = not_full (nat_lt i most) d.0 in
       let next : (if nat_lt i most then i + 1 else most) ≡ i + 1 = ap (λ z. if z then i + 1 else most) runs in
-      let rest : Divides step rule (λ _. any_token) l any_token (place (i + 1) false) bs (view (after_all step p (take b.count (t ∷ ts))) (drop b.count (t ∷ ts)) o) = subst (λ n. Divides step rule (λ _. any_token) l any_token (place n false) bs (view (after_all step p (take b.count (t ∷ ts))) (drop b.count (t ∷ ts)) o)) next d.3 in
+      let rest : DividesBlocks step rule (λ _. any_token) l any_token (place (i + 1) false) bs (view (after_all step p (take b.count (t ∷ ts))) (drop b.count (t ∷ ts)) o) = subst (λ n. DividesBlocks step rule (λ _. any_token) l any_token (place n false) bs (view (after_all step p (take b.count (t ∷ ts))) (drop b.count (t ∷ ts)) o)) next d.3 in
       let low = ltb-true i most runs in
       let behind = divided bs (i + 1) false (after_all step p (take b.count (t ∷ ts))) (drop b.count (t ∷ ts)) o l (omega arith) rest in
       one_more b bs i t ts o l one d.1.0.0 d.1.2 (subst (λ us. Divided (i + 1) us o bs l) (ap (λ n. drop n (t ∷ ts)) one) behind)
 
-  module _ {V : Type 0} (items : V → List T) (lean : Type 0) where
+  module _ {V : Type 0} (items : V → List T) (heapless : Type 0) where
     abbrev listed : Collecting T V
-    listed = appended items [] (λ xs x. xs ++ x ∷ []) lean
+    listed = appended items [] (λ xs x. xs ++ x ∷ []) heapless
 
     -- so many tokens and no more, committed if there is one
-    abbrev pub counts : View P T → Outcome V → Type 0
-    counts v (Accepted m n k) = (most ≤ length v.unread) × (items m ≡ take most v.unread) × (n ≡ most)
-    counts v (Refused k) = (v.is_open ≡ false) × (length v.unread < most)
-    counts v Undecided = (v.is_open ≡ true) × (length v.unread < most)
+    abbrev pub takes_so_many : View P T → Outcome V → Type 0
+    takes_so_many v (Accepted m n k) = (most ≤ length v.unread) × (items m ≡ take most v.unread) × (n ≡ most)
+    takes_so_many v (Refused k) = (v.is_open ≡ false) × (length v.unread < most)
+    takes_so_many v Undecided = (v.is_open ≡ true) × (length v.unread < most)
 
-    module _ (v : View P T) (bs : List (Block T)) (held : List T) (f : Folds (λ us t ws. ws ≡ us ++ t ∷ []) [] (values bs) held) where
-      by_last : (l : Outcome (Unit {0})) → Divided 0 v.unread v.is_open bs l → (o : Outcome V) → shape o ≡ after (taken bs) (false || any_committed bs) l → Collects listed o held → counts v o
+    module _ (v : View P T) (bs : List (Block T)) (held : List T) (f : FoldsAll (λ us t ws. ws ≡ us ++ t ∷ []) [] (values bs) held) where
+      by_last : (l : Outcome (Unit {0})) → Divided 0 v.unread v.is_open bs l → (o : Outcome V) → shape o ≡ after (taken bs) (false || any_committed bs) l → HoldsCollected listed o held → takes_so_many v o
       by_last (Accepted u z q) d (Accepted m n k) e c =
           let i : n ≡ taken bs + z = cc in
           let s = d.stop in
@@ -138,5 +138,5 @@ module _ {P T : Type 0} (step : P → T → P) (most : ℕ) where
       by_last Undecided d (Refused k) e c = absurd (cc)
       by_last Undecided d Undecided e c = let s = d.stop in (s.0, omega arith)
 
-    pub counted : (v : View P T) (o : Outcome V) → Turned step rule listed (λ _. any_token) any_token (none_yet []) v o → counts v o
-    counted v o h = by_last v h.blocks h.held h.folded h.last (divided h.blocks 0 false v.position v.unread v.is_open h.last (omega arith) h.divided) o h.joined h.collected
+    pub counted_tokens : (v : View P T) (o : Outcome V) → TurnsOutcome step rule listed (λ _. any_token) any_token (none_yet []) v o → takes_so_many v o
+    counted_tokens v o h = by_last v h.blocks h.held h.folded h.last (divided h.blocks 0 false v.position v.unread v.is_open h.last (omega arith) h.divided) o h.joined h.collected

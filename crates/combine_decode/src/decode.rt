@@ -1,7 +1,7 @@
 //! A decoder of messages, one after another.
 ghost use Rattle.std.specs.Prelude.{◌≡◌, ◌↔◌, [], true, length, None, MatchResult};
 ghost use Rattle.combine_decode.specs.Frames.{frame_of};
-ghost use Rattle.combine_decode.specs.Messages.{After, Drains, IsMade, Told, made};
+ghost use Rattle.combine_decode.specs.Messages.{After, Drains, IsMade, AnswersMessage, made_reading};
 ghost use Rattle.combine_base.specs.declared.stream.Kind.TheVariants as kinds;
 
 mod framing;
@@ -107,7 +107,7 @@ impl<F: Fn() -> P, P: Parser<fed::Stream<T>>, T: Copy + 'static> Model for Decod
 }
 
 impl<F: Fn() -> P, P: Parser<fed::Stream<T>>, T: Copy + 'static> Decoder<F, P, T> {
-    ghost use Rattle.combine_decode.specs.Decoders.{Decodes, Stands};
+    ghost use Rattle.combine_decode.specs.Decoders.{Decodes, DecoderGoesOn};
 
     /// Returns a decoder that was fed nothing yet, of messages that the maker's parsers read.
     ///
@@ -124,7 +124,7 @@ impl<F: Fn() -> P, P: Parser<fed::Stream<T>>, T: Copy + 'static> Decoder<F, P, T
         requires callable { F.IsAlwaysCallable maker }
         requires lawful { IsMade (F.post maker) P.lawful }
         ensures maker { result.maker ≡ maker }
-        ensures stands { Stands (λ f p. F.post f p) P.meaning [] result }
+        ensures stands { DecoderGoesOn (λ f p. F.post f p) P.meaning [] result }
     {
         let session = begin(alloc, &maker);
         Decoder {
@@ -147,7 +147,7 @@ impl<F: Fn() -> P, P: Parser<fed::Stream<T>>, T: Copy + 'static> Decoder<F, P, T
 }
 
 impl<F: Fn() -> P, P: Parser<fed::Stream<T>> + Drop, T: Copy + 'static> Decoder<F, P, T> {
-    ghost use Rattle.combine_decode.specs.Decoders.{Decodes, Stands};
+    ghost use Rattle.combine_decode.specs.Decoders.{Decodes, DecoderGoesOn};
 
     /// Feeds a piece, which may be empty, and returns all messages that it completes.
     ///
@@ -204,11 +204,11 @@ impl<F: Fn() -> P, P: Parser<fed::Stream<T>> + Drop, T: Copy + 'static> Decoder<
 }
 
 impl Phase {
-    ghost use Rattle.combine_decode.specs.Decoders.{checked};
+    ghost use Rattle.combine_decode.specs.Decoders.{checked_phase};
 
     /// Refuses where a decoder may not go on.
     fn check(self) -> Result<(), DecodeError>
-        ensures { result ≡ checked self }
+        ensures { result ≡ checked_phase self }
     {
         match self {
             Phase::Running => Ok(()),
@@ -257,7 +257,7 @@ fn begin<F: Fn() -> P, P: Parser<fed::Stream<T>>, T: Copy + 'static>(
 ) -> Session<P, T>
     requires callable { F.IsAlwaysCallable maker.now }
     requires lawful { IsMade (F.post maker.now) P.lawful }
-    ensures { After (made P.meaning (F.post maker.now)) P.meaning [] result × (result.limit ≡ None) }
+    ensures { After (made_reading P.meaning (F.post maker.now)) P.meaning [] result × (result.limit ≡ None) }
 {
     Session::new(alloc, maker())
 }
@@ -270,7 +270,7 @@ fn begin_next<F: Fn() -> P, P: Parser<fed::Stream<T>> + Drop, T: Copy + 'static>
     requires callable { F.IsAlwaysCallable maker.now }
     requires lawful { IsMade (F.post maker.now) P.lawful }
     requires is_open { session.old.seen.is_open ≡ true }
-    ensures { MatchResult result (λ a. Told (made P.meaning (F.post maker.now)) P.meaning session.old.seen.unread session.new a × (session.new.limit ≡ session.old.limit)) (λ k. k ≡ kinds.Memory) }
+    ensures { MatchResult result (λ a. AnswersMessage (made_reading P.meaning (F.post maker.now)) P.meaning session.old.seen.unread session.new a × (session.new.limit ≡ session.old.limit)) (λ k. k ≡ kinds.Memory) }
 {
     match session.begin_again(maker()) {
         Ok(answer) => Ok(answer),
@@ -289,7 +289,7 @@ fn drain<F: Fn() -> P, P: Parser<fed::Stream<T>> + Drop, T: Copy + 'static>(
     requires callable { F.IsAlwaysCallable maker.now }
     requires lawful { IsMade (F.post maker.now) P.lawful }
     requires is_open { session.old.seen.is_open ≡ true }
-    ensures { (tokens : _) → Told (made P.meaning (F.post maker.now)) P.meaning tokens session.old first → ((boundary.old ≡ true) ↔ (length tokens ≡ 0)) → Drains (made P.meaning (F.post maker.now)) P.meaning tokens session.old session.new boundary.new result }
+    ensures { (tokens : _) → AnswersMessage (made_reading P.meaning (F.post maker.now)) P.meaning tokens session.old first → ((boundary.old ≡ true) ↔ (length tokens ≡ 0)) → Drains (made_reading P.meaning (F.post maker.now)) P.meaning tokens session.old session.new boundary.new result }
 {
     let mut messages = Vec::new(alloc);
     let mut answer = first;

@@ -1,9 +1,9 @@
 //! Errors that keep what they are told, and streams whose parsers are refused with them.
 ghost use Rattle.std.specs.Prelude.{◌≡◌, ◌-◌, ◌<◌, not, ◌∷◌, [], true, length, map};
 ghost use Rattle.std.specs.List.{list_any};
-ghost use Rattle.combine_base.specs.Error.Errors.{Only, Says};
+ghost use Rattle.combine_base.specs.Error.Errors.{Only, AddsItems};
 ghost use Rattle.combine_base.specs.Error.Items.{in_role, shown};
-ghost use Rattle.combine_error.specs.Easy.{about_same, cleared_from, is_other, item_same, listed, said};
+ghost use Rattle.combine_error.specs.Easy.{about_same, cleared_from, is_other, item_same, listed_errors, said};
 
 use crate::info::copied;
 use combine_base::error::{DetailedError, Info, ParseError, Role, StreamError};
@@ -194,7 +194,7 @@ impl<T: Copy, R: Copy> StreamError<T, R> for Error<T, R> {
 impl<T: Copy + PartialEq, R: Copy + PartialEq, P: Ord + Copy> Errors<T, R, P> {
     // Puts the item at the end unless an equal one is there.
     fn put(&mut self, item: Error<T, R>)
-        ensures { Says (listed T.eq R.eq) (Unit {0}) (Only (said item)) self.old self.new }
+        ensures { AddsItems (listed_errors T.eq R.eq) (Unit {0}) (Only (said item)) self.old self.new }
     {
         if is_there(&item, self.errors.as_slice()) {
             return;
@@ -206,7 +206,7 @@ impl<T: Copy + PartialEq, R: Copy + PartialEq, P: Ord + Copy> Errors<T, R, P> {
     }
 
     fn put_all(&mut self, all: Vec<Error<T, R>>)
-        ensures { Says (listed T.eq R.eq) (Unit {0}) (λ is. is ≡ map said all.items) self.old self.new }
+        ensures { AddsItems (listed_errors T.eq R.eq) (Unit {0}) (λ is. is ≡ map said all.items) self.old self.new }
     {
         for item in all {
             self.put(item);
@@ -227,7 +227,7 @@ impl<T: Copy + PartialEq, R: Copy + PartialEq, P: Ord + Copy> DetailedError<T, R
     }
 
     fn add(&mut self, item: Error<T, R>)
-        ensures { Says (listed T.eq R.eq) (Unit {0}) (λ is. is ≡ said item ∷ []) self.old self.new }
+        ensures { AddsItems (listed_errors T.eq R.eq) (Unit {0}) (λ is. is ≡ said item ∷ []) self.old self.new }
     {
         self.put(item);
     }
@@ -237,7 +237,7 @@ impl<T: Copy + PartialEq, R: Copy + PartialEq, P: Ord + Copy> ParseError<T, R, P
     for Errors<T, R, P> {
     ghost use Rattle.combine_error.specs.Easy.{listed_apart};
 
-    ghost seen = { listed T.eq R.eq };
+    ghost observers = { listed_errors T.eq R.eq };
 
     ghost tells_apart = { listed_apart T.eq R.eq };
 

@@ -4,8 +4,8 @@ use Rattle.std.proofs.lemmas.Option.{slice_get_within}
 use Rattle.combine_expression.specs.declared.expression.Fixity.{Fixity}
 use Rattle.combine_expression.specs.declared.expression.Fixity.TheVariants as fixities
 use Rattle.combine_expression.specs.declared.expression.operands.Lowest.{Lowest}
-use Rattle.combine_expression.specs.Levels.{Thing, Prefix, Postfix, Infix, Expression, operand, higher, prefix, postfix, left, right, neither}
-use Rattle.combine_expression.specs.Shapes.{Kept, Shape, Slot, and_then, between, fit, fits, fits_behind, fits_in_front, holds_if, needs, reduce_to, sides_of, start, waits_if}
+use Rattle.combine_expression.specs.Levels.{Thing, Prefix, Postfix, Infix, IsExpression, operand, higher, prefix, postfix, infix_left, infix_right, infix_neither}
+use Rattle.combine_expression.specs.Shapes.{ReducedShape, Shape, Slot, and_then, infix_between, fit, fits, fits_behind, fits_in_front, holds_if, needs_level, reduce_to, sides_of, start, waits_if}
 
 is_le : (a b : ℕ) → a ≤ b → nat_le a b ≡ true
 is_le a b l = search rules
@@ -23,7 +23,7 @@ ends_so (Some s) = refl
 ask_cases : (p l a : ℕ) → p ≤ l → l ≤ a → (l ≡ p → p < a) → p < a
 ask_cases p l a b c h = grind arith
 
-pub stays : (p : ℕ) (ss : List Slot) (h : ℕ) → needs ss ≤ p → reduce_to p ss h ≡ record { slots = ss; level = h }
+pub stays : (p : ℕ) (ss : List Slot) (h : ℕ) → needs_level ss ≤ p → reduce_to p ss h ≡ record { slots = ss; level = h }
 stays p [] h l = refl
 stays p (s ∷ ss) h l = ap (λ b. cond b (reduce_to p ss s.level) (record { slots = s ∷ ss; level = h })) (not_lt p s.asks l)
 
@@ -44,14 +44,14 @@ module _ {O V : Type 0} (levels : List Fixity) where
   fits_one ts t s x e f = fits_append ts (t ∷ []) start ∙ ap (λ y. and_then y (fits {O = O} {V = V} levels (t ∷ []))) e ∙ ap (λ y. and_then y (fits {O = O} {V = V} levels [])) f ∙ ends_so x
 
 module _ (O V : Type 0) (levels : List Fixity) where
-  pub prefix_fits : (ss : List Slot) (p : ℕ) (o : O) → slice_get levels p ≡ Some fixities.Prefix → needs ss ≤ p → fit {O = O} {V = V} levels ss None (Prefix p o) ≡ Some (record { slots = record { level = p; asks = p } ∷ ss; held = None })
-  prefix_fits ss p o f l = ap (λ x. waits_if (fits_in_front x (needs ss) p) ss p p) f ∙ ap (λ b. waits_if b ss p p) (is_le (needs ss) p l)
+  pub prefix_fits : (ss : List Slot) (p : ℕ) (o : O) → slice_get levels p ≡ Some fixities.Prefix → needs_level ss ≤ p → fit {O = O} {V = V} levels ss None (Prefix p o) ≡ Some (record { slots = record { level = p; asks = p } ∷ ss; held = None })
+  prefix_fits ss p o f l = ap (λ x. waits_if (fits_in_front x (needs_level ss) p) ss p p) f ∙ ap (λ b. waits_if b ss p p) (is_le (needs_level ss) p l)
 
-  pub infix_fits : (ss : List Slot) (h p : ℕ) (o : O) (lowest : Lowest) (k : Kept) → sides_of p (slice_get levels p) ≡ Some lowest → reduce_to p ss h ≡ k → lowest.left ≤ k.level → fit {O = O} {V = V} levels ss (Some h) (Infix p o) ≡ Some (record { slots = record { level = p; asks = lowest.right } ∷ k.slots; held = None })
-  infix_fits ss h p o lowest k s r l = ap (λ x. between x (reduce_to p ss h) p) s ∙ ap (λ x. between (Some lowest) x p) r ∙ ap (λ b. waits_if b k.slots p lowest.right) (is_le lowest.left k.level l)
+  pub infix_fits : (ss : List Slot) (h p : ℕ) (o : O) (lowest : Lowest) (k : ReducedShape) → sides_of p (slice_get levels p) ≡ Some lowest → reduce_to p ss h ≡ k → lowest.left ≤ k.level → fit {O = O} {V = V} levels ss (Some h) (Infix p o) ≡ Some (record { slots = record { level = p; asks = lowest.right } ∷ k.slots; held = None })
+  infix_fits ss h p o lowest k s r l = ap (λ x. infix_between x (reduce_to p ss h) p) s ∙ ap (λ x. infix_between (Some lowest) x p) r ∙ ap (λ b. waits_if b k.slots p lowest.right) (is_le lowest.left k.level l)
 
-  pub postfix_fits : (ss : List Slot) (h p : ℕ) (o : O) (k : Kept) → slice_get levels p ≡ Some fixities.Postfix → reduce_to p ss h ≡ k → p ≤ k.level → fit {O = O} {V = V} levels ss (Some h) (Postfix p o) ≡ Some (record { slots = k.slots; held = Some p })
-  postfix_fits ss h p o k f r l = ap (λ x. holds_if (fits_behind x (reduce_to p ss h).level p) (reduce_to p ss h).slots p) f ∙ ap (λ (x : Kept). holds_if (nat_le p x.level) x.slots p) r ∙ ap (λ b. holds_if b k.slots p) (is_le p k.level l)
+  pub postfix_fits : (ss : List Slot) (h p : ℕ) (o : O) (k : ReducedShape) → slice_get levels p ≡ Some fixities.Postfix → reduce_to p ss h ≡ k → p ≤ k.level → fit {O = O} {V = V} levels ss (Some h) (Postfix p o) ≡ Some (record { slots = k.slots; held = Some p })
+  postfix_fits ss h p o k f r l = ap (λ x. holds_if (fits_behind x (reduce_to p ss h).level p) (reduce_to p ss h).slots p) f ∙ ap (λ (x : ReducedShape). holds_if (nat_le p x.level) x.slots p) r ∙ ap (λ b. holds_if b k.slots p) (is_le p k.level l)
 
 -- operators that wait of levels from this one on
 module _ (levels : List Fixity) where
@@ -127,20 +127,20 @@ module _ (levels : List Fixity) where
       let m : sides_of s.level (Some fixities.Postfix) ≡ Some lowest = subst (λ x. sides_of s.level x ≡ Some lowest) j g in
       absurd (cc)
 
-  reduces : (p : ℕ) (xs ss : List Slot) (h : ℕ) → all_ask p xs → needs ss ≤ p → reduce_to p (xs ++ ss) h ≡ record { slots = ss; level = last_level xs h }
+  reduces : (p : ℕ) (xs ss : List Slot) (h : ℕ) → all_ask p xs → needs_level ss ≤ p → reduce_to p (xs ++ ss) h ≡ record { slots = ss; level = last_level xs h }
   reduces p [] ss h a l = stays p ss h l
   reduces p (s ∷ xs) ss h a l = pops p s (xs ++ ss) h a.0 ∙ reduces p xs ss s.level a.1 l
 
 module _ {O V : Type 0} (levels : List Fixity) where
   -- what things come to that stand at a level
-  pub record Comes (ts : List (Thing O V)) (ss : List Slot) (q : ℕ) : Type 0 where
+  pub record FitsAtLevel (ts : List (Thing O V)) (ss : List Slot) (q : ℕ) : Type 0 where
     pub more : List Slot
     pub above : all_above levels q more
     pub held : ℕ
     pub at_least : q ≤ held
     pub is : fits levels ts (record { slots = ss; held = None }) ≡ Some (record { slots = more ++ ss; held = Some held })
 
-  under_prefix : (p : ℕ) (o : O) (r : List (Thing O V)) (q : ℕ) (ss : List Slot) → slice_get levels p ≡ Some fixities.Prefix → q ≤ p → needs ss ≤ p → Comes r (record { level = p; asks = p } ∷ ss) p → Comes (Prefix p o ∷ r) ss q
+  under_prefix : (p : ℕ) (o : O) (r : List (Thing O V)) (q : ℕ) (ss : List Slot) → slice_get levels p ≡ Some fixities.Prefix → q ≤ p → needs_level ss ≤ p → FitsAtLevel r (record { level = p; asks = p } ∷ ss) p → FitsAtLevel (Prefix p o ∷ r) ss q
   under_prefix p o r q ss f l n c = record {
     more = c.more ++ record { level = p; asks = p } ∷ [];
     above = one_more levels q c.more (record { level = p; asks = p }) (weaken levels q p c.more l c.above) (is_prefix f refl) l;
@@ -149,7 +149,7 @@ module _ {O V : Type 0} (levels : List Fixity) where
     is = ap (λ x. and_then x (fits {O = O} {V = V} levels r)) (prefix_fits O V levels ss p o f n) ∙ c.is ∙ ap (λ x. Some (record { slots = x; held = Some c.held })) (sym (append_assoc c.more (record { level = p; asks = p } ∷ []) ss));
   }
 
-  before_postfix : (p : ℕ) (o : O) (l : List (Thing O V)) (q : ℕ) (ss : List Slot) → slice_get levels p ≡ Some fixities.Postfix → q ≤ p → needs ss ≤ p → Comes l ss p → Comes (l ++ Postfix p o ∷ []) ss q
+  before_postfix : (p : ℕ) (o : O) (l : List (Thing O V)) (q : ℕ) (ss : List Slot) → slice_get levels p ≡ Some fixities.Postfix → q ≤ p → needs_level ss ≤ p → FitsAtLevel l ss p → FitsAtLevel (l ++ Postfix p o ∷ []) ss q
   before_postfix p o l q ss f i n c = record {
     more = [];
     above = tt;
@@ -158,7 +158,7 @@ module _ {O V : Type 0} (levels : List Fixity) where
     is = fits_append levels l (Postfix p o ∷ []) (record { slots = ss; held = None }) ∙ ap (λ x. and_then x (fits {O = O} {V = V} levels (Postfix p o ∷ []))) c.is ∙ ap (λ x. and_then x (fits {O = O} {V = V} levels [])) (postfix_fits O V levels (c.more ++ ss) c.held p o (record { slots = ss; level = last_level levels c.more c.held }) f (reduces levels p c.more ss c.held (same_ask levels p c.more (postfix_asks levels p f) c.above) n) (last_above levels p c.more c.held c.above c.at_least));
   }
 
-  between_infix : (p : ℕ) (lowest : Lowest) (o : O) (l r : List (Thing O V)) (q : ℕ) (ss : List Slot) → sides_of p (slice_get levels p) ≡ Some lowest → q ≤ p → needs ss ≤ p → (c : Comes l ss lowest.left) → all_ask levels p c.more → Comes r (record { level = p; asks = lowest.right } ∷ ss) lowest.right → Comes (l ++ Infix p o ∷ r) ss q
+  between_infix : (p : ℕ) (lowest : Lowest) (o : O) (l r : List (Thing O V)) (q : ℕ) (ss : List Slot) → sides_of p (slice_get levels p) ≡ Some lowest → q ≤ p → needs_level ss ≤ p → (c : FitsAtLevel l ss lowest.left) → all_ask levels p c.more → FitsAtLevel r (record { level = p; asks = lowest.right } ∷ ss) lowest.right → FitsAtLevel (l ++ Infix p o ∷ r) ss q
   between_infix p lowest o l r q ss s i n c a d =
       let k : p ≤ lowest.right = right_above levels (slice_get levels p) p lowest s in
       record {
@@ -170,7 +170,7 @@ module _ {O V : Type 0} (levels : List Fixity) where
       }
 
   module _ (changes : O → V → V → Type 0) (joins : O → V → V → V → Type 0) where
-    comes : (p : ℕ) (ts : List (Thing O V)) (v : V) → Expression levels changes joins p ts v → (q : ℕ) (ss : List Slot) → q ≤ p → q ≤ length levels → needs ss ≤ q → Comes ts ss q
+    comes : (p : ℕ) (ts : List (Thing O V)) (v : V) → IsExpression levels changes joins p ts v → (q : ℕ) (ss : List Slot) → q ≤ p → q ≤ length levels → needs_level ss ≤ q → FitsAtLevel ts ss q
     comes _ _ _ (operand p v) q ss a b c = record { more = []; above = tt; held = length levels; at_least = b; is = refl }
     comes _ _ _ (higher p ts v x) q ss a b c = comes (suc p) ts v x q ss (omega arith) b c
     comes _ _ _ (prefix p o r v w f x m) q ss a b c =
@@ -179,31 +179,31 @@ module _ {O V : Type 0} (levels : List Fixity) where
     comes _ _ _ (postfix p o l v w f x m) q ss a b c =
         let n = slice_get_within levels p fixities.Postfix f in
         before_postfix p o l q ss f a (omega arith) (comes p l v x p ss (omega arith) (omega arith) (omega arith))
-    comes _ _ _ (left p o l r u v w f x y m) q ss a b c =
+    comes _ _ _ (infix_left p o l r u v w f x y m) q ss a b c =
         let n = slice_get_within levels p fixities.Left f in
-        let d : Comes l ss p = comes p l u x p ss (omega arith) (omega arith) (omega arith) in
+        let d : FitsAtLevel l ss p = comes p l u x p ss (omega arith) (omega arith) (omega arith) in
         between_infix p (record { left = p; right = suc p }) o l r q ss (ap (sides_of p) f) a (omega arith) d (same_ask levels p d.more (left_asks levels p f) d.above) (comes (suc p) r v y (suc p) (record { level = p; asks = suc p } ∷ ss) (omega arith) (omega arith) (omega arith))
-    comes _ _ _ (right p o l r u v w f x y m) q ss a b c =
+    comes _ _ _ (infix_right p o l r u v w f x y m) q ss a b c =
         let n = slice_get_within levels p fixities.Right f in
-        let d : Comes l ss (suc p) = comes (suc p) l u x (suc p) ss (omega arith) (omega arith) (omega arith) in
+        let d : FitsAtLevel l ss (suc p) = comes (suc p) l u x (suc p) ss (omega arith) (omega arith) (omega arith) in
         between_infix p (record { left = suc p; right = p }) o l r q ss (ap (sides_of p) f) a (omega arith) d (higher_ask levels p d.more d.above) (comes p r v y p (record { level = p; asks = p } ∷ ss) (omega arith) (omega arith) (omega arith))
-    comes _ _ _ (neither p o l r u v w f x y m) q ss a b c =
+    comes _ _ _ (infix_neither p o l r u v w f x y m) q ss a b c =
         let n = slice_get_within levels p fixities.Neither f in
-        let d : Comes l ss (suc p) = comes (suc p) l u x (suc p) ss (omega arith) (omega arith) (omega arith) in
+        let d : FitsAtLevel l ss (suc p) = comes (suc p) l u x (suc p) ss (omega arith) (omega arith) (omega arith) in
         between_infix p (record { left = suc p; right = suc p }) o l r q ss (ap (sides_of p) f) a (omega arith) d (higher_ask levels p d.more d.above) (comes (suc p) r v y (suc p) (record { level = p; asks = suc p } ∷ ss) (omega arith) (omega arith) (omega arith))
 
     -- no expression begins with things that don't fit
-    pub no_misfit : (ts us : List (Thing O V)) (w : V) → fits levels ts start ≡ None → Expression levels changes joins 0 (ts ++ us) w → ⊥
+    pub no_misfit : (ts us : List (Thing O V)) (w : V) → fits levels ts start ≡ None → IsExpression levels changes joins 0 (ts ++ us) w → ⊥
     no_misfit ts us w e x =
-        let c : Comes (ts ++ us) [] 0 = comes 0 (ts ++ us) w x 0 [] (omega arith) (omega arith) (omega arith) in
+        let c : FitsAtLevel (ts ++ us) [] 0 = comes 0 (ts ++ us) w x 0 [] (omega arith) (omega arith) (omega arith) in
         let i : fits levels (ts ++ us) start ≡ None = fits_append levels ts us start ∙ ap (λ y. and_then y (fits {O = O} {V = V} levels us)) e in
         let j = c.is in
         cc
 
     -- none ends where an operand is awaited
-    pub no_open_end : (ts : List (Thing O V)) (s : Shape) (w : V) → fits levels ts start ≡ Some s → s.held ≡ None → Expression levels changes joins 0 ts w → ⊥
+    pub no_open_end : (ts : List (Thing O V)) (s : Shape) (w : V) → fits levels ts start ≡ Some s → s.held ≡ None → IsExpression levels changes joins 0 ts w → ⊥
     no_open_end ts s w e h x =
-        let c : Comes ts [] 0 = comes 0 ts w x 0 [] (omega arith) (omega arith) (omega arith) in
+        let c : FitsAtLevel ts [] 0 = comes 0 ts w x 0 [] (omega arith) (omega arith) (omega arith) in
         let j : s ≡ record { slots = c.more ++ []; held = Some c.held } = (let k = c.is in cc) in
         let i : s.held ≡ Some c.held = ap (λ (y : Shape). y.held) j in
         cc

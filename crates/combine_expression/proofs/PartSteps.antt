@@ -8,19 +8,19 @@ use Rattle.combine_expression.specs.declared.expression.operands.Operands.{Opera
 use Rattle.combine_expression.specs.declared.expression.operands.Fault.{Fault}
 use Rattle.combine_expression.specs.declared.expression.operands.Fault.TheVariants as faults
 use Rattle.combine_expression.specs.declared.expression.types.Part.{Part}
-use Rattle.combine_expression.specs.Levels.{Expression, Thing, Operand, Prefix, Postfix, Infix}
-use Rattle.combine_expression.specs.OpenExpressions.{EndsEarly, Follows, Misfits, StandsIn, blames}
-use Rattle.combine_expression.specs.ExpressionParts.{closed_as, closes, goes, part_takes, stayed_as}
+use Rattle.combine_expression.specs.Levels.{IsExpression, Thing, Operand, Prefix, Postfix, Infix}
+use Rattle.combine_expression.specs.OpenExpressions.{EndsEarly, AddsThing, Misfits, StandsIn, blames}
+use Rattle.combine_expression.specs.ExpressionParts.{closed_as, closes_part, takes_thing, part_takes, stayed_as}
 
 module _ {O V : Type 0} {N : ℕ} (changes : O → V → V → Type 0) (joins : O → V → V → V → Type 0) (refuses_operand : O → V → Type 0) (refuses_operands : O → V → V → Type 0) where
   abbrev follows_so : Part O V N → Thing O V → Result (Operands O V N) Fault → Type 0
-  follows_so p t r = MatchResult r (λ e. Follows changes joins p.operands e t) (blames refuses_operand refuses_operands (Misfits changes joins p.operands t))
+  follows_so p t r = MatchResult r (λ e. AddsThing changes joins p.operands e t) (blames refuses_operand refuses_operands (Misfits changes joins p.operands t))
 
   abbrev closes_so : Part O V N → Result V Fault → Type 0
-  closes_so p r = MatchResult r (λ v. (ts : List (Thing O V)) → StandsIn changes joins p.operands ts → Expression p.operands.levels changes joins 0 ts v) (blames refuses_operand refuses_operands (EndsEarly changes joins p.operands))
+  closes_so p r = MatchResult r (λ v. (ts : List (Thing O V)) → StandsIn changes joins p.operands ts → IsExpression p.operands.levels changes joins 0 ts v) (blames refuses_operand refuses_operands (EndsEarly changes joins p.operands))
 
-  next_goes : (p : Part O V N) (t : Thing O V) (r : Result (Operands O V N) Fault) (n : Next (Part O V N) V) → follows_so p t r → stayed_as p.in_brackets r n → goes changes joins refuses_operand refuses_operands p t n
-  next_goes p t (Ok e) (nexts.Stay q) f s = record { in_brackets = s.0; follows = subst (λ k. Follows changes joins p.operands k t) (sym s.1) f }
+  next_goes : (p : Part O V N) (t : Thing O V) (r : Result (Operands O V N) Fault) (n : Next (Part O V N) V) → follows_so p t r → stayed_as p.in_brackets r n → takes_thing changes joins refuses_operand refuses_operands p t n
+  next_goes p t (Ok e) (nexts.Stay q) f s = record { in_brackets = s.0; follows = subst (λ k. AddsThing changes joins p.operands k t) (sym s.1) f }
   next_goes p t (Ok e) (nexts.Open q r) f s = absurd s
   next_goes p t (Ok e) (nexts.Close v) f s = absurd s
   next_goes p t (Ok e) (nexts.Refuse m) f s = absurd s
@@ -31,8 +31,8 @@ module _ {O V : Type 0} {N : ℕ} (changes : O → V → V → Type 0) (joins : 
   next_goes p t (Err (faults.Misfit x)) (nexts.Refuse m) f s = inl f
   next_goes p t (Err (faults.Refused x)) (nexts.Refuse m) f s = inr f
 
-  next_closes : (p : Part O V N) (r : Result V Fault) (n : Next (Part O V N) V) → closes_so p r → closed_as r n → closes changes joins refuses_operand refuses_operands p n
-  next_closes p (Ok v) (nexts.Close w) f s = λ ts k. subst (λ x. Expression p.operands.levels changes joins 0 ts x) (sym s) (f ts k)
+  next_closes : (p : Part O V N) (r : Result V Fault) (n : Next (Part O V N) V) → closes_so p r → closed_as r n → closes_part changes joins refuses_operand refuses_operands p n
+  next_closes p (Ok v) (nexts.Close w) f s = λ ts k. subst (λ x. IsExpression p.operands.levels changes joins 0 ts x) (sym s) (f ts k)
   next_closes p (Ok v) (nexts.Open q r) f s = absurd s
   next_closes p (Ok v) (nexts.Stay q) f s = absurd s
   next_closes p (Ok v) (nexts.Refuse m) f s = absurd s
@@ -43,11 +43,11 @@ module _ {O V : Type 0} {N : ℕ} (changes : O → V → V → Type 0) (joins : 
   next_closes p (Err (faults.Misfit x)) (nexts.Refuse m) f s = inl f
   next_closes p (Err (faults.Refused x)) (nexts.Refuse m) f s = inr f
 
-  pub stayed_goes : {A : Type 0} (p : Part O V N) (t : Thing O V) (r : Result (Operands O V N) Fault) (x : Result (Next (Part O V N) V) A) → follows_so p t r → MatchResult x (stayed_as p.in_brackets r) (λ _. Unit {0}) → MatchResult x (goes changes joins refuses_operand refuses_operands p t) (λ _. Unit {0})
+  pub stayed_goes : {A : Type 0} (p : Part O V N) (t : Thing O V) (r : Result (Operands O V N) Fault) (x : Result (Next (Part O V N) V) A) → follows_so p t r → MatchResult x (stayed_as p.in_brackets r) (λ _. Unit {0}) → MatchResult x (takes_thing changes joins refuses_operand refuses_operands p t) (λ _. Unit {0})
   stayed_goes p t r (Ok n) f s = next_goes p t r n f s
   stayed_goes p t r (Err x) f s = tt
 
-  closed_closes : {A : Type 0} (p : Part O V N) (r : Result V Fault) (x : Result (Next (Part O V N) V) A) → closes_so p r → MatchResult x (closed_as r) (λ _. Unit {0}) → MatchResult x (closes changes joins refuses_operand refuses_operands p) (λ _. Unit {0})
+  closed_closes : {A : Type 0} (p : Part O V N) (r : Result V Fault) (x : Result (Next (Part O V N) V) A) → closes_so p r → MatchResult x (closed_as r) (λ _. Unit {0}) → MatchResult x (closes_part changes joins refuses_operand refuses_operands p) (λ _. Unit {0})
   closed_closes p r (Ok n) f s = next_closes p r n f s
   closed_closes p r (Err x) f s = tt
 

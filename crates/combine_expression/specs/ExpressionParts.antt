@@ -11,11 +11,11 @@ use Rattle.combine_expression.specs.declared.expression.operands.Fault.{Fault}
 use Rattle.combine_expression.specs.declared.expression.operands.Fault.TheVariants as faults
 use Rattle.combine_expression.specs.declared.expression.types.Outermost.{Outermost}
 use Rattle.combine_expression.specs.declared.expression.types.Part.{Part}
-use Rattle.combine_expression.specs.Levels.{Thing, Operand, Prefix, Postfix, Infix, Expression}
-use Rattle.combine_expression.specs.OpenExpressions.{EndsEarly, Follows, Misfits, OperatorRefuses, StandsIn}
+use Rattle.combine_expression.specs.Levels.{Thing, Operand, Prefix, Postfix, Infix, IsExpression}
+use Rattle.combine_expression.specs.OpenExpressions.{EndsEarly, AddsThing, Misfits, OperatorRefuses, StandsIn}
 
 -- a part of which nothing was read
-pub record Begins {O V : Type 0} {N : ℕ} (levels : List Fixity) (in_brackets : Bool) (part : Part O V N) : Type 0 where
+pub record BeginsPart {O V : Type 0} {N : ℕ} (levels : List Fixity) (in_brackets : Bool) (part : Part O V N) : Type 0 where
   pub has_levels : part.operands.levels ≡ levels
   pub pending : vec_items part.operands.pending ≡ []
   pub held : part.operands.held ≡ None
@@ -49,43 +49,43 @@ closed_as (Err (faults.Refused f)) (nexts.Refuse m) = Unit {0}
 
 module _ {O V : Type 0} {N : ℕ} (changes : O → V → V → Type 0) (joins : O → V → V → V → Type 0) (refuses_operand : O → V → Type 0) (refuses_operands : O → V → V → Type 0) where
   -- one comes of the other by one thing more
-  pub record Goes (from to : Part O V N) (t : Thing O V) : Type 0 where
+  pub record PartAddsThing (from to : Part O V N) (t : Thing O V) : Type 0 where
     pub in_brackets : to.in_brackets ≡ from.in_brackets
-    pub follows : Follows changes joins from.operands to.operands t
+    pub follows : AddsThing changes joins from.operands to.operands t
 
   -- one thing more, or a refusal: no expression begins with it, or an operator refuses
-  abbrev pub goes : Part O V N → Thing O V → Next (Part O V N) V → Type 0
-  goes p t (nexts.Stay q) = Goes p q t
-  goes p t (nexts.Open q r) = ⊥
-  goes p t (nexts.Close v) = ⊥
-  goes p t (nexts.Refuse m) = Misfits changes joins p.operands t ⊎ OperatorRefuses refuses_operand refuses_operands
+  abbrev pub takes_thing : Part O V N → Thing O V → Next (Part O V N) V → Type 0
+  takes_thing p t (nexts.Stay q) = PartAddsThing p q t
+  takes_thing p t (nexts.Open q r) = ⊥
+  takes_thing p t (nexts.Close v) = ⊥
+  takes_thing p t (nexts.Refuse m) = Misfits changes joins p.operands t ⊎ OperatorRefuses refuses_operand refuses_operands
 
   -- a part in brackets begins inside it
-  abbrev pub opens : Part O V N → Next (Part O V N) V → Type 0
-  opens p (nexts.Stay q) = ⊥
-  opens p (nexts.Open q r) = (q ≡ p) × Begins p.operands.levels true r
-  opens p (nexts.Close v) = ⊥
-  opens p (nexts.Refuse m) = ⊥
+  abbrev pub opens_part : Part O V N → Next (Part O V N) V → Type 0
+  opens_part p (nexts.Stay q) = ⊥
+  opens_part p (nexts.Open q r) = (q ≡ p) × BeginsPart p.operands.levels true r
+  opens_part p (nexts.Close v) = ⊥
+  opens_part p (nexts.Refuse m) = ⊥
 
   -- it is closed with the value of what was read of it, an expression of the lowest level; or that is none, or an operator refuses
-  abbrev pub closes : Part O V N → Next (Part O V N) V → Type 0
-  closes p (nexts.Stay q) = ⊥
-  closes p (nexts.Open q r) = ⊥
-  closes p (nexts.Close v) = (ts : List (Thing O V)) → StandsIn changes joins p.operands ts → Expression p.operands.levels changes joins 0 ts v
-  closes p (nexts.Refuse m) = EndsEarly changes joins p.operands ⊎ OperatorRefuses refuses_operand refuses_operands
+  abbrev pub closes_part : Part O V N → Next (Part O V N) V → Type 0
+  closes_part p (nexts.Stay q) = ⊥
+  closes_part p (nexts.Open q r) = ⊥
+  closes_part p (nexts.Close v) = (ts : List (Thing O V)) → StandsIn changes joins p.operands ts → IsExpression p.operands.levels changes joins 0 ts v
+  closes_part p (nexts.Refuse m) = EndsEarly changes joins p.operands ⊎ OperatorRefuses refuses_operand refuses_operands
 
   -- what comes of an item
   abbrev pub part_takes : Part O V N → Item O V → Next (Part O V N) V → Type 0
-  part_takes p (items.Operand v) n = goes p (Operand v) n
-  part_takes p (items.Prefix l o) n = goes p (Prefix l o) n
-  part_takes p (items.Postfix l o) n = goes p (Postfix l o) n
-  part_takes p (items.Infix l o) n = goes p (Infix l o) n
-  part_takes p items.Open n = opens p n
-  part_takes p items.Close n = closes p n
+  part_takes p (items.Operand v) n = takes_thing p (Operand v) n
+  part_takes p (items.Prefix l o) n = takes_thing p (Prefix l o) n
+  part_takes p (items.Postfix l o) n = takes_thing p (Postfix l o) n
+  part_takes p (items.Infix l o) n = takes_thing p (Infix l o) n
+  part_takes p items.Open n = opens_part p n
+  part_takes p items.Close n = closes_part p n
 
   -- what is in brackets is an operand, of its value
   abbrev pub part_joins : Part O V N → V → Next (Part O V N) V → Type 0
-  part_joins p v n = goes p (Operand v) n
+  part_joins p v n = takes_thing p (Operand v) n
 
 -- what makes the outermost part
 pub record MakesOutermost {O V : Type 0} {N : ℕ} (alloc : Global) (levels : List Fixity) (made : Outermost O V N) : Type 0 where

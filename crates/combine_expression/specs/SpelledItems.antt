@@ -6,35 +6,35 @@ use Rattle.combine_base.specs.Parser.Outcome.{Accepted}
 use Rattle.combine_base.specs.Parser.Meaning.{Meaning}
 use Rattle.combine_nested.specs.declared.nested.Next.{Next}
 use Rattle.combine_nested.specs.declared.nested.Next.TheVariants as nexts
-use Rattle.combine_nested.specs.NestedSteps.{Ends, Opened, Closed, nested_whole, opens as opens_within, settles}
+use Rattle.combine_nested.specs.NestedSteps.{FramesChange, Opened, Closed, nested_whole, opens_frame as opens_within, settles_frames}
 use Rattle.combine_expression.specs.declared.expression.Fixity.{Fixity}
 use Rattle.combine_expression.specs.declared.expression.Item.{Item}
 use Rattle.combine_expression.specs.declared.expression.Item.TheVariants as items
 use Rattle.combine_expression.specs.declared.expression.operands.Held.{Held}
 use Rattle.combine_expression.specs.declared.expression.operands.Pending.{Pending}
 use Rattle.combine_expression.specs.declared.expression.types.Part.{Part}
-use Rattle.combine_expression.specs.AcceptedSteps.{AcceptedSteps, last, more, steps_so}
-use Rattle.combine_expression.specs.Levels.{Expression, Thing, Operand, Prefix, Postfix, Infix}
-use Rattle.combine_expression.specs.ExpressionParts.{Begins, part_joins, part_takes}
+use Rattle.combine_expression.specs.AcceptedSteps.{AcceptedSteps, last_step, more_steps, steps_so}
+use Rattle.combine_expression.specs.Levels.{IsExpression, Thing, Operand, Prefix, Postfix, Infix}
+use Rattle.combine_expression.specs.ExpressionParts.{BeginsPart, part_joins, part_takes}
 use Rattle.combine_expression.specs.Shapes.{Shape, start}
-use Rattle.combine_expression.specs.OpenExpressions.{Follows, StandsIn, held_level, shape_of, shapes, stands}
+use Rattle.combine_expression.specs.OpenExpressions.{AddsThing, StandsIn, held_level, shape_of, shapes, stands}
 
 module _ {O V : Type 0} (levels : List Fixity) (changes : O → V → V → Type 0) (joins : O → V → V → V → Type 0) where
   -- items that are read one after another, and the things that they come to: what is in brackets is an operand, of its value
   pub data Spelled : List (Item O V) → List (Thing O V) → Type 0 where
-    nothing : Spelled [] []
+    no_item : Spelled [] []
     operand : (is : List (Item O V)) (ts : List (Thing O V)) (v : V) → Spelled is ts → Spelled (is ++ items.Operand v ∷ []) (ts ++ Operand v ∷ [])
     prefix : (is : List (Item O V)) (ts : List (Thing O V)) (l : ℕ) (o : O) → Spelled is ts → Spelled (is ++ items.Prefix l o ∷ []) (ts ++ Prefix l o ∷ [])
     postfix : (is : List (Item O V)) (ts : List (Thing O V)) (l : ℕ) (o : O) → Spelled is ts → Spelled (is ++ items.Postfix l o ∷ []) (ts ++ Postfix l o ∷ [])
-    between : (is : List (Item O V)) (ts : List (Thing O V)) (l : ℕ) (o : O) → Spelled is ts → Spelled (is ++ items.Infix l o ∷ []) (ts ++ Infix l o ∷ [])
-    brackets : (is js : List (Item O V)) (ts us : List (Thing O V)) (v : V) → Spelled is ts → Spelled js us → Expression levels changes joins 0 us v → Spelled (is ++ items.Open ∷ (js ++ items.Close ∷ [])) (ts ++ Operand v ∷ [])
+    infix_item : (is : List (Item O V)) (ts : List (Thing O V)) (l : ℕ) (o : O) → Spelled is ts → Spelled (is ++ items.Infix l o ∷ []) (ts ++ Infix l o ∷ [])
+    brackets : (is js : List (Item O V)) (ts us : List (Thing O V)) (v : V) → Spelled is ts → Spelled js us → IsExpression levels changes joins 0 us v → Spelled (is ++ items.Open ∷ (js ++ items.Close ∷ [])) (ts ++ Operand v ∷ [])
 
   -- items that are an expression of that value, and its end
   pub record Spells (is : List (Item O V)) (v : V) : Type 0 where
     pub before : List (Item O V)
     pub things : List (Thing O V)
     pub spelled : Spelled before things
-    pub is_expression : Expression levels changes joins 0 things v
+    pub is_expression : IsExpression levels changes joins 0 things v
     pub are : is ≡ before ++ items.Close ∷ []
 
   module _ {N : ℕ} where
@@ -55,7 +55,7 @@ module _ {O V : Type 0} (levels : List Fixity) (changes : O → V → V → Type
     read_more p q [] is js h r = h is r
     read_more p q (o ∷ ps) is js h r = (r.0, (r.1.0 ++ js, r.1.1, h r.1.0 r.1.2, ap (λ k. k ++ js) r.1.3 ∙ append_assoc r.0 (items.Open ∷ r.1.0) js))
 
-    goes_to : (p q : Part O V N) (t : Thing O V) (is : List (Item O V)) (i : List (Item O V)) → ((ts : List (Thing O V)) → Spelled is ts → Spelled (is ++ i) (ts ++ t ∷ [])) → Follows changes joins p.operands q.operands t → ReadOf p is → ReadOf q (is ++ i)
+    goes_to : (p q : Part O V N) (t : Thing O V) (is : List (Item O V)) (i : List (Item O V)) → ((ts : List (Thing O V)) → Spelled is ts → Spelled (is ++ i) (ts ++ t ∷ [])) → AddsThing changes joins p.operands q.operands t → ReadOf p is → ReadOf q (is ++ i)
     goes_to p q t is i h g r = record {
       things = r.things ++ t ∷ [];
       spelled = h r.things r.spelled;
@@ -63,7 +63,7 @@ module _ {O V : Type 0} (levels : List Fixity) (changes : O → V → V → Type
       has_levels = g.levels ∙ r.has_levels;
     }
 
-    begun : (p : Part O V N) (m : Bool) → Begins levels m p → StandsIn changes joins p.operands []
+    begun : (p : Part O V N) (m : Bool) → BeginsPart levels m p → StandsIn changes joins p.operands []
     begun p m b =
         let e : reverse (vec_items p.operands.pending) ≡ [] = ap reverse b.pending in
         let i : ◌≡◌ {A = Shape} start (shape_of p.operands) = ap (λ (k : List (Pending O V)). record { slots = shapes k; held = None }) (sym e) ∙ ap (λ (k : Option (Held V)). record { slots = shapes (reverse (vec_items p.operands.pending)); held = held_level k }) (sym b.held) in
@@ -72,8 +72,8 @@ module _ {O V : Type 0} (levels : List Fixity) (changes : O → V → V → Type
           fits = ap (λ (x : Shape). Some x) i;
         }
 
-    pub begins_so : (p : Part O V N) (m : Bool) → Begins levels m p → ReadOf p []
-    begins_so p m b = record { things = []; spelled = nothing; stands = begun p m b; has_levels = b.has_levels }
+    pub begins_so : (p : Part O V N) (m : Bool) → BeginsPart levels m p → ReadOf p []
+    begins_so p m b = record { things = []; spelled = no_item; stands = begun p m b; has_levels = b.has_levels }
 
 module _ {O V : Type 0} {N : ℕ} (levels : List Fixity) (changes : O → V → V → Type 0) (joins : O → V → V → V → Type 0) (refuses_operand : O → V → Type 0) (refuses_operands : O → V → V → Type 0) (depth : ℕ) where
   abbrev reads : Part O V N → List (Part O V N) → List (Item O V) → Type 0
@@ -85,8 +85,8 @@ module _ {O V : Type 0} {N : ℕ} (levels : List Fixity) (changes : O → V → 
   abbrev joins_value : Part O V N → V → Next (Part O V N) V → Type 0
   joins_value = part_joins changes joins refuses_operand refuses_operands
 
-  abbrev comes_to : List (Part O V N) → Next (Part O V N) V → Ends (Part O V N) V → Type 0
-  comes_to = settles depth joins_value
+  abbrev comes_to : List (Part O V N) → Next (Part O V N) V → FramesChange (Part O V N) V → Type 0
+  comes_to = settles_frames depth joins_value
 
   opened_so : (b : Bool) (p q r : Part O V N) (ps qs : List (Part O V N)) → opens_within depth joins_value b p q ps (Opened r qs) → (r ≡ q) × (qs ≡ p ∷ ps)
   opened_so true p q r ps qs e = (cc, cc)
@@ -100,7 +100,7 @@ module _ {O V : Type 0} {N : ℕ} (levels : List Fixity) (changes : O → V → 
   stays_so p ps before (items.Operand v) q t r = read_more levels changes joins p q ps before (items.Operand v ∷ []) (λ ks. goes_to levels changes joins p q (Operand v) ks (items.Operand v ∷ []) (λ ts. operand ks ts v) t.follows) r
   stays_so p ps before (items.Prefix l o) q t r = read_more levels changes joins p q ps before (items.Prefix l o ∷ []) (λ ks. goes_to levels changes joins p q (Prefix l o) ks (items.Prefix l o ∷ []) (λ ts. prefix ks ts l o) t.follows) r
   stays_so p ps before (items.Postfix l o) q t r = read_more levels changes joins p q ps before (items.Postfix l o ∷ []) (λ ks. goes_to levels changes joins p q (Postfix l o) ks (items.Postfix l o ∷ []) (λ ts. postfix ks ts l o) t.follows) r
-  stays_so p ps before (items.Infix l o) q t r = read_more levels changes joins p q ps before (items.Infix l o ∷ []) (λ ks. goes_to levels changes joins p q (Infix l o) ks (items.Infix l o ∷ []) (λ ts. between ks ts l o) t.follows) r
+  stays_so p ps before (items.Infix l o) q t r = read_more levels changes joins p q ps before (items.Infix l o ∷ []) (λ ks. goes_to levels changes joins p q (Infix l o) ks (items.Infix l o ∷ []) (λ ts. infix_item ks ts l o) t.follows) r
   stays_so p ps before items.Open q t r = absurd t
   stays_so p ps before items.Close q t r = absurd t
 
@@ -114,18 +114,18 @@ module _ {O V : Type 0} {N : ℕ} (levels : List Fixity) (changes : O → V → 
   open_so p ps before (items.Postfix l o) q s t r = absurd t
   open_so p ps before (items.Infix l o) q s t r = absurd t
   open_so p ps before items.Close q s t r = absurd t
-  open_so p ps before items.Open q s t r = (before, ([], subst (λ k. reads k ps before) (sym t.0) r, begins_so levels changes joins s true (subst (λ k. Begins k true s) (levels_of p ps before r) t.1), refl))
+  open_so p ps before items.Open q s t r = (before, ([], subst (λ k. reads k ps before) (sym t.0) r, begins_so levels changes joins s true (subst (λ k. BeginsPart k true s) (levels_of p ps before r) t.1), refl))
 
   -- what a part that is closed is worth
-  worth : (p : Part O V N) (i : Item O V) (v : V) → takes_item p i (nexts.Close v) → (i ≡ items.Close) × ((is : List (Item O V)) (r : ReadOf levels changes joins p is) → Expression levels changes joins 0 r.things v)
+  worth : (p : Part O V N) (i : Item O V) (v : V) → takes_item p i (nexts.Close v) → (i ≡ items.Close) × ((is : List (Item O V)) (r : ReadOf levels changes joins p is) → IsExpression levels changes joins 0 r.things v)
   worth p (items.Operand w) v t = absurd t
   worth p (items.Prefix l o) v t = absurd t
   worth p (items.Postfix l o) v t = absurd t
   worth p (items.Infix l o) v t = absurd t
   worth p items.Open v t = absurd t
-  worth p items.Close v t = (refl, λ is r. subst (λ k. Expression k changes joins 0 r.things v) r.has_levels (t r.things r.stands))
+  worth p items.Close v t = (refl, λ is r. subst (λ k. IsExpression k changes joins 0 r.things v) r.has_levels (t r.things r.stands))
 
-  module _ (p o : Part O V N) (ps : List (Part O V N)) (v : V) (worthy : (is : List (Item O V)) (r : ReadOf levels changes joins p is) → Expression levels changes joins 0 r.things v) where
+  module _ (p o : Part O V N) (ps : List (Part O V N)) (v : V) (worthy : (is : List (Item O V)) (r : ReadOf levels changes joins p is) → IsExpression levels changes joins 0 r.things v) where
     -- the value of a part in brackets is an operand of the part round it
     joined_to : (before : List (Item O V)) (x : Next (Part O V N) V) (q : Part O V N) (qs : List (Part O V N)) → joins_value o v x → comes_to ps x (Opened q qs) → reads p (o ∷ ps) before → reads q qs (before ++ items.Close ∷ [])
     joined_to before (nexts.Stay s) q qs j e r =
@@ -169,7 +169,7 @@ module _ {O V : Type 0} {N : ℕ} (levels : List Fixity) (changes : O → V → 
         before = before;
         things = r.things;
         spelled = r.spelled;
-        is_expression = subst (λ y. Expression levels changes joins 0 r.things y) a (k.1 before r);
+        is_expression = subst (λ y. IsExpression levels changes joins 0 r.things y) a (k.1 before r);
         are = ap (λ y. before ++ y ∷ []) k.0;
       }
   ends_at p (o ∷ ps) before i v w t e r = absurd (not_ended p o ps v (worth p i v t).1 e.0 w e.1 e.2)
@@ -185,8 +185,8 @@ module _ {O V : Type 0} {N : ℕ} (levels : List Fixity) (changes : O → V → 
     run_of = AcceptedSteps step depth roots answers takes_item joins_value some means
 
     spells_so : (p : Part O V N) (ps : List (Part O V N)) (v : View P T) (is : List (Item O V)) (w : V) → run_of p ps v is w → (before : List (Item O V)) → reads p ps before → Spells levels changes joins (before ++ is) w
-    spells_so _ _ _ _ _ (last p ps v i n c x w m t e) before r = last_so p ps before i x w t e r
-    spells_so _ _ _ _ _ (more p ps v i n c x q qs is w m t e a) before r =
+    spells_so _ _ _ _ _ (last_step p ps v i n c x w m t e) before r = last_so p ps before i x w t e r
+    spells_so _ _ _ _ _ (more_steps p ps v i n c x q qs is w m t e a) before r =
         let k = spells_so q qs (advanced step n v) is w a (before ++ i ∷ []) (next_so p ps before i x q qs t e r) in
         subst (λ y. Spells levels changes joins y w) (append_assoc before (i ∷ []) is) k
 
@@ -198,7 +198,7 @@ module _ {O V : Type 0} {N : ℕ} (levels : List Fixity) (changes : O → V → 
       pub run : run_of part [] v items w
       pub spells : Spells levels changes joins items w
 
-    pub accepted_is_expression : ((p : Part O V N) → roots p → Begins levels false p) → (v : View P T) (w : V) (n : ℕ) (c : Bool) → nested_whole step depth roots answers takes_item joins_value some means v (Accepted w n c) → ReadsExpression v w
+    pub accepted_is_expression : ((p : Part O V N) → roots p → BeginsPart levels false p) → (v : View P T) (w : V) (n : ℕ) (c : Bool) → nested_whole step depth roots answers takes_item joins_value some means v (Accepted w n c) → ReadsExpression v w
     accepted_is_expression h v w n c m =
         let k = steps_so step depth roots answers takes_item joins_value some means m.2.0 m.0 [] v w n c m.2.1 in
         record { part = m.0; root = m.1; items = k.items; run = k.accepted; spells = spells_so m.0 [] v k.items w k.accepted [] (begins_so levels changes joins m.0 false (h m.0 m.1)) }

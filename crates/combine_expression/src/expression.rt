@@ -3,7 +3,7 @@
 //! A language of expressions is a table of levels, of which the first binds least: each says where its operators stand, and how they group. An operand of an operator is an expression of that operator's level or a higher one, and on a side on which the operator doesn't group, of a higher one alone. So a grammar of one rule for each level is written as a table.
 ghost use Rattle.std.specs.Prelude.{◌≡◌};
 ghost use Rattle.combine_nested.specs.Asks.{if_else_of};
-ghost use Rattle.combine_nested.specs.NestedSteps.{asked_part, depth_part, root_part};
+ghost use Rattle.combine_nested.specs.NestedSteps.{step_asker, depth_part, root_part};
 ghost use Rattle.combine_expression.specs.ExpressionParts.{MakesOutermost};
 
 pub mod operands;
@@ -114,7 +114,7 @@ pub fn expression<O: Operator, A, B, C, const N: usize>(
 ) -> Expression<O, O::Value, A, B, C, N>
     ensures depth { depth_part result ≡ depth }
     ensures root { MakesOutermost alloc levels.entry (root_part result) }
-    ensures steps { asked_part result ≡ if_else_of record {} awaited (if_else_of record {} inside outside) }
+    ensures steps { step_asker result ≡ if_else_of record {} awaited (if_else_of record {} inside outside) }
 {
     let behind = if_else(InBrackets, inside, outside);
     let steps = if_else(Awaits, awaited, behind);

@@ -5,7 +5,7 @@ pub use Rattle.combine_facts.specs.PartReads.{eight, first_of, five, four, middl
 pub use Rattle.combine_facts.specs.Reads.{Reads, any_one, changed, either, maybe, nothing, one_of, one_where, tested, this_one}
 pub use Rattle.combine_facts.proofs.MapFacts.{mapped_reads}
 pub use Rattle.combine_facts.proofs.ChoiceFacts.{either_reads, optional_reads, or_reads}
-pub use Rattle.combine_facts.proofs.DriverFacts.{begins, begun_fed, more_fed, parse_reads, pieces_read, session_reads}
+pub use Rattle.combine_facts.proofs.DriverFacts.{outcome_says, begun_fed, more_fed, parse_reads, pieces_read, session_reads}
 pub use Rattle.combine_facts.proofs.TokenFacts.{any_reads, byte_reads, end_reads, given_reads, reads_as, reads_by, satisfied_reads, tested_reads, token_reads, where_reads}
 pub use Rattle.combine_facts.proofs.TupleFacts.{between_reads, eight_reads, five_reads, four_reads, seven_reads, six_reads, skip_reads, three_reads, two_reads, with_reads}
 pub use Rattle.combine_facts.proofs.TurnFacts.{all_where_reads, each_where, listed_reads, passed_reads, turns_reads, vec_reads, vec_where_reads}

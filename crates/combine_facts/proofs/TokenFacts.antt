@@ -4,7 +4,7 @@ use Rattle.std.proofs.Common.{arith, eqb-true, ap, sym, subst, ◌∙◌}
 use Rattle.combine_base.specs.Stream.View.{View}
 use Rattle.combine_base.specs.Parser.Outcome.{Outcome, Accepted}
 use Rattle.combine_base.specs.Parser.Meaning.{Reading}
-use Rattle.combine_token.specs.Token.PureValues.{given}
+use Rattle.combine_token.specs.Token.PureValues.{given_value}
 use Rattle.combine_token.specs.Token.OneToken.{ends_there, holds, of_function, of_token, one_token, one_token_at, satisfied}
 use Rattle.combine_facts.specs.Reads.{Reads, any_one, nothing, one_of, one_where, tested, this_one}
 
@@ -51,5 +51,5 @@ end_reads {P} {T} = record { one = λ v. at v.is_open v.unread }
     at o [] u n k w = subst (λ m. (m ≤ length {A = T} []) × nothing {T = T} (take m []) u) (sym w.2) (omega arith, refl)
     at o (t ∷ ts) u n k w = absurd w.0
 
-pub given_reads : {P T A : Type 0} (f : P → A → Type 0) → Reads {T = T} (given f) nothing
+pub given_reads : {P T A : Type 0} (f : P → A → Type 0) → Reads {T = T} (given_value f) nothing
 given_reads f = record { one = λ v a n k w. subst (λ m. (m ≤ length v.unread) × nothing (take m v.unread) a) (sym w.1) (omega arith, refl) }

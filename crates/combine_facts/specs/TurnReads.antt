@@ -1,6 +1,6 @@
 -- what the tokens of turns say of what is gathered of their values
 use Rattle.std.specs.Prelude.{ℕ, ◌≡◌, ◌≤◌, List, [], ◌∷◌, ◌++◌, Bool, true, None, Some, All, length, min}
-use Rattle.combine_repeat_turns.specs.Turns.Blocks.{Collecting, Folds}
+use Rattle.combine_repeat_turns.specs.Turns.Blocks.{Collecting, FoldsAll}
 use Rattle.combine_repeat_turns.specs.declared.turns.Bounds.{Bounds}
 use Rattle.combine_repeat_turns.specs.declared.turns.Bounds.TheVariants.{Unbounded, OwnFirst, Counted}
 
@@ -30,7 +30,7 @@ first_and_each {T} first says xs (a ∷ bs) = (ys : List T) × (zs : List T) × 
 
 -- what turns gather: values of which each is said by the tokens of its turn, so many, collected one after another
 abbrev pub gathers : {T A V : Type 0} (b : Bounds) (c : Collecting A V) → (List T → A → Type 0) → (List T → A → Type 0) → List T → V → Type 0
-gathers {A = A} b c first says xs v = (bs : List A) × first_and_each first says xs bs × so_many b (length bs) × Folds c.more c.none bs (c.held v)
+gathers {A = A} b c first says xs v = (bs : List A) × first_and_each first says xs bs × so_many b (length bs) × FoldsAll c.more c.none bs (c.held v)
 
 -- values that are appended to a collection, of which it is seen as a list
 abbrev pub listed : {T A V : Type 0} → Bounds → (V → List A) → (List T → A → Type 0) → List T → V → Type 0

@@ -1,14 +1,14 @@
 -- steps over frames have one outcome, where what comes of alike frames is alike
 use Rattle.std.specs.Prelude.{◌≡◌, ◌↔◌, ℕ, zero, suc, Bool, true, false, ◌||◌, nat_lt, List, [], ◌∷◌, length}
 use Rattle.std.proofs.Common.{sym, ◌∙◌, subst, ap, refl}
-use Rattle.combine_base.specs.Error.Errors.{Errors}
+use Rattle.combine_base.specs.Error.Errors.{Observers}
 use Rattle.combine_base.specs.Stream.View.{View, advanced}
 use Rattle.combine_base.specs.Parser.KeptParsers.{KeptOf}
 use Rattle.combine_base.specs.Parser.Outcome.{Outcome, Accepted, Refused, Undecided, shape}
 use Rattle.combine_base.specs.Parser.Meaning.{Meaning, Reading, IsSingle, MeansOne}
 use Rattle.combine_base.specs.Sequence.JoinedOutcome.{joined_one}
 use Rattle.combine_base.specs.Sequence.Readings.{continues, following_is_single}
-use Rattle.combine_nested.specs.NestedSteps.{Ends, Opened, Closed, Denied, TooDeep, answered, around, ended, goes_on, last_value, mark, marked, nested_rest, nested_whole, opens, runs, settles, stepping, steps, then, unchanged, valid_step, nesting}
+use Rattle.combine_nested.specs.NestedSteps.{FramesChange, Opened, Closed, Denied, TooDeep, answered_for_frame, frames_around, after_step, after_progress, last_value, mark_taken, marked_taken, nested_rest, nested_whole, opens_frame, runs, settles_frames, stepping, steps_at_most, after_item, unchanged, valid_steps, nesting}
 use Rattle.combine_nested.specs.declared.nested.Next.{Next}
 use Rattle.combine_nested.specs.declared.nested.Next.TheVariants as nexts
 use Rattle.combine_nested.specs.declared.nested.steps.NestedState.{NestedState}
@@ -28,7 +28,7 @@ module _ {F V : Type 0} (alike : F → F → Type 0) (alike_values : V → V →
   all_alike (f ∷ fs) (g ∷ gs) = alike f g × all_alike fs gs
   all_alike _ _ = ⊥
 
-  abbrev pub ends_alike : Ends F V → Ends F V → Type 0
+  abbrev pub ends_alike : FramesChange F V → FramesChange F V → Type 0
   ends_alike (Opened f fs) (Opened g gs) = alike f g × all_alike fs gs
   ends_alike (Closed v) (Closed w) = Unit {0}
   ends_alike (Denied text) (Denied other) = Unit {0}
@@ -42,7 +42,7 @@ module _ {F V : Type 0} (alike : F → F → Type 0) (alike_values : V → V →
   same_lengths (f ∷ fs) [] k = absurd k
 
 -- all values that are accepted of one view, with as many tokens, are alike
-pub record GivesOne {P T I : Type 0} (alike_items : I → I → Type 0) (r : Reading P T I) : Type 0 where
+pub record GivesAlike {P T I : Type 0} (alike_items : I → I → Type 0) (r : Reading P T I) : Type 0 where
   pub one : (v : View P T) (a a' : I) (n : ℕ) (c : Bool) → r v (Accepted a n c) → r v (Accepted a' n c) → alike_items a a'
 
 -- What comes of alike frames is alike, where they are given alike items or values; and they are given parsers that mean the same, whose items are alike.
@@ -50,8 +50,8 @@ pub record NestsOne {P T R E F I V N U : Type 0} (roots : F → Type 0) (answers
   pub same : (f : F) → alike f f
   pub root : (f g : F) → roots f → roots g → alike f g
   pub asks : (f g : F) → alike f g → (n m : N) → answers f n → answers g m → (v : View P T) (o : Outcome I) → (means n).whole v o ↔ (means m).whole v o
-  pub gives : (n : N) → some n → GivesOne alike_items (means n).whole
-  pub gives_on : (n : N) → some n → (s : U) → valid s → GivesOne alike_items ((means n).rest s)
+  pub gives : (n : N) → some n → GivesAlike alike_items (means n).whole
+  pub gives_on : (n : N) → some n → (s : U) → valid s → GivesAlike alike_items ((means n).rest s)
   pub take : (f g : F) → alike f g → (a b : I) → alike_items a b → (x y : Next F V) → takes f a x → takes g b y → nexts_alike alike alike_values x y
   pub join : (f g : F) → alike f g → (v w : V) → alike_values v w → (x y : Next F V) → joins f v x → joins g w y → nexts_alike alike alike_values x y
 
@@ -59,13 +59,13 @@ module _ {P T R E F I V N U : Type 0} (step : P → T → P) (depth : ℕ) {root
   abbrev alls : List F → List F → Type 0
   alls = all_alike alike alike_values
 
-  opens_one : (b b' : Bool) → b ≡ b' → (f g f' g' : F) → alike f g → alike f' g' → (fs gs : List F) → alls fs gs → (e e' : Ends F V) → opens depth joins b f f' fs e → opens depth joins b' g g' gs e' → ends_alike alike alike_values e e'
+  opens_one : (b b' : Bool) → b ≡ b' → (f g f' g' : F) → alike f g → alike f' g' → (fs gs : List F) → alls fs gs → (e e' : FramesChange F V) → opens_frame depth joins b f f' fs e → opens_frame depth joins b' g g' gs e' → ends_alike alike alike_values e e'
   opens_one true true q f g f' g' a a' fs gs k e e' w w' = rw (w, w') (a', (a, k))
   opens_one false false q f g f' g' a a' fs gs k e e' w w' = rw (w, w') tt
   opens_one true false q f g f' g' a a' fs gs k e e' w w' = absurd (cc)
   opens_one false true q f g f' g' a a' fs gs k e e' w w' = absurd (cc)
 
-  settles_one : (fs gs : List F) → alls fs gs → (x y : Next F V) → nexts_alike alike alike_values x y → (e e' : Ends F V) → settles depth joins fs x e → settles depth joins gs y e' → ends_alike alike alike_values e e'
+  settles_one : (fs gs : List F) → alls fs gs → (x y : Next F V) → nexts_alike alike alike_values x y → (e e' : FramesChange F V) → settles_frames depth joins fs x e → settles_frames depth joins gs y e' → ends_alike alike alike_values e e'
   settles_one fs gs k (nexts.Stay f) (nexts.Stay g) a e e' w w' = rw (w, w') (a, k)
   settles_one fs gs k (nexts.Open f f') (nexts.Open g g') a e e' w w' = opens_one (nat_lt (length fs) depth) (nat_lt (length gs) depth) (ap (λ n. nat_lt n depth) (same_lengths alike alike_values fs gs k)) f g f' g' a.0 a.1 fs gs k e e' w w'
   settles_one fs gs k (nexts.Refuse m) (nexts.Refuse n) a e e' w w' = rw (w, w') tt
@@ -94,7 +94,7 @@ module _ {P T R E F I V N U : Type 0} (step : P → T → P) (depth : ℕ) {root
   abbrev ReadAlike : Reading P T I → Reading P T I → Type 0
   ReadAlike r t = (v : View P T) (p q : Outcome I) → r v p → t v q → (shape p ≡ shape q) × items_alike p q
 
-  given_alike : (r : Reading P T I) → GivesOne alike_items r → (v : View P T) (p q : Outcome I) → shape p ≡ shape q → r v p → r v q → items_alike p q
+  given_alike : (r : Reading P T I) → GivesAlike alike_items r → (v : View P T) (p q : Outcome I) → shape p ≡ shape q → r v p → r v q → items_alike p q
   given_alike r k v (Accepted a n c) (Accepted b m d) e w w' =
       let i : m ≡ n = cc in
       let j : d ≡ c = cc in
@@ -110,13 +110,13 @@ module _ {P T R E F I V N U : Type 0} (step : P → T → P) (depth : ℕ) {root
 
   -- two bounded runs go on alike
   module _ (again other : F → List F → Reading P T V) (one : (f g : F) → alike f g → (fs gs : List F) → alls fs gs → (v : View P T) (o o' : Outcome V) → again f fs v o → other g gs v o' → shape o ≡ shape o') where
-    goes_one : (b b' : Bool) → b ≡ b' → (f g : F) → alike f g → (fs gs : List F) → alls fs gs → (v : View P T) (o o' : Outcome V) → goes_on step depth roots answers takes joins some means again b f fs v o → goes_on step depth roots answers takes joins some means other b' g gs v o' → shape o ≡ shape o'
+    goes_one : (b b' : Bool) → b ≡ b' → (f g : F) → alike f g → (fs gs : List F) → alls fs gs → (v : View P T) (o o' : Outcome V) → after_progress step depth roots answers takes joins some means again b f fs v o → after_progress step depth roots answers takes joins some means other b' g gs v o' → shape o ≡ shape o'
     goes_one true true q f g a fs gs k v o o' w w' = one f g a fs gs k v o o' w w'
     goes_one false false q f g a fs gs k v o o' w w' = ap shape w ∙ sym (ap shape w')
     goes_one true false q f g a fs gs k v o o' w w' = absurd (cc)
     goes_one false true q f g a fs gs k v o o' w w' = absurd (cc)
 
-    ended_one : (n m : ℕ) → n ≡ m → (took : Bool) (e e' : Ends F V) → ends_alike alike alike_values e e' → (v : View P T) (o o' : Outcome V) → ended step depth roots answers takes joins some means again n took e v o → ended step depth roots answers takes joins some means other m took e' v o' → shape o ≡ shape o'
+    ended_one : (n m : ℕ) → n ≡ m → (took : Bool) (e e' : FramesChange F V) → ends_alike alike alike_values e e' → (v : View P T) (o o' : Outcome V) → after_step step depth roots answers takes joins some means again n took e v o → after_step step depth roots answers takes joins some means other m took e' v o' → shape o ≡ shape o'
     ended_one n m q took (Opened f fs) (Opened g gs) a v o o' w w' =
         let l = same_lengths alike alike_values fs gs a.1 in
         goes_one (took || nat_lt (length fs) n) (took || nat_lt (length gs) m) (ap (λ x. took || nat_lt x n) l ∙ ap (λ x. took || nat_lt (length gs) x) q) f g a.0 fs gs a.1 v o o' w w'
@@ -138,17 +138,17 @@ module _ {P T R E F I V N U : Type 0} (step : P → T → P) (depth : ℕ) {root
 
     module _ (f g : F) (a : alike f g) (fs gs : List F) (k : alls fs gs) where
       abbrev then_again : I × Bool → Reading P T V
-      then_again = then step depth roots answers takes joins some means again f fs
+      then_again = after_item step depth roots answers takes joins some means again f fs
 
       abbrev then_other : I × Bool → Reading P T V
-      then_other = then step depth roots answers takes joins some means other g gs
+      then_other = after_item step depth roots answers takes joins some means other g gs
 
       then_one : (x y : I) → alike_items x y → (took : Bool) (v : View P T) (o o' : Outcome V) → then_again (x, took) v o → then_other (y, took) v o' → shape o ≡ shape o'
       then_one x y i took v o o' w w' =
           let e = settles_one fs gs k w.0 w'.0 (h.take f g a x y i w.0 w'.0 w.1 w'.1) w.2.0 w'.2.0 w.2.1 w'.2.1 in
           ended_one (length fs) (length gs) (same_lengths alike alike_values fs gs k) took w.2.0 w'.2.0 e v o o' w.2.2 w'.2.2
 
-      continues_one : (b : Bool) (v : View P T) (p q : Outcome I) (o o' : Outcome V) → shape p ≡ shape q → items_alike p q → continues step last_value then_again v (mark b p) o → continues step last_value then_other v (mark b q) o' → shape o ≡ shape o'
+      continues_one : (b : Bool) (v : View P T) (p q : Outcome I) (o o' : Outcome V) → shape p ≡ shape q → items_alike p q → continues step last_value then_again v (mark_taken b p) o → continues step last_value then_other v (mark_taken b q) o' → shape o ≡ shape o'
       continues_one b v (Accepted x n c) (Accepted y m d) o o' e i u w =
           let j : m ≡ n = cc in
           let l : d ≡ c = cc in
@@ -163,7 +163,7 @@ module _ {P T R E F I V N U : Type 0} (step : P → T → P) (depth : ℕ) {root
       continues_one b v Undecided (Refused d) o o' e i u w = absurd (cc)
       continues_one b v Undecided Undecided o o' e i u w = ap shape u ∙ sym (ap shape w)
 
-      stepping_one : (b : Bool) (r t : Reading P T I) → ReadAlike r t → (v : View P T) (o o' : Outcome V) → stepping step depth roots answers takes joins some means again (marked b r) f fs v o → stepping step depth roots answers takes joins some means other (marked b t) g gs v o' → shape o ≡ shape o'
+      stepping_one : (b : Bool) (r t : Reading P T I) → ReadAlike r t → (v : View P T) (o o' : Outcome V) → stepping step depth roots answers takes joins some means again (marked_taken b r) f fs v o → stepping step depth roots answers takes joins some means other (marked_taken b t) g gs v o' → shape o ≡ shape o'
       stepping_one b r t z v o o' w w' =
           let p = w.1.0 in
           let q = w'.1.0 in
@@ -172,12 +172,12 @@ module _ {P T R E F I V N U : Type 0} (step : P → T → P) (depth : ℕ) {root
 
   module _ (lawful : N → Type 0) (singles : (n : N) → some n → MeansOne valid (means n)) (every : (f : F) (n : N) → answers f n → some n) where
     abbrev steps_at : ℕ → F → List F → Reading P T V
-    steps_at n = steps step depth roots answers takes joins some means n
+    steps_at n = steps_at_most step depth roots answers takes joins some means n
 
     abbrev runs_at : F → List F → Reading P T V
     runs_at f fs = runs step depth roots answers takes joins some means f fs
 
-    answered_alike : (f g : F) → alike f g → ReadAlike (answered step depth roots answers takes joins some means f) (answered step depth roots answers takes joins some means g)
+    answered_alike : (f g : F) → alike f g → ReadAlike (answered_for_frame step depth roots answers takes joins some means f) (answered_for_frame step depth roots answers takes joins some means g)
     answered_alike f g a v p q w w' =
         let k = every f w.0 w.1 in
         let x = (h.asks f g a w.0 w'.0 w.1 w'.1 v q).1 w'.2 in
@@ -187,7 +187,7 @@ module _ {P T R E F I V N U : Type 0} (step : P → T → P) (depth : ℕ) {root
     steps_one : (n m : ℕ) (f g : F) → alike f g → (fs gs : List F) → alls fs gs → (v : View P T) (o o' : Outcome V) → steps_at n f fs v o → steps_at m g gs v o' → shape o ≡ shape o'
     steps_one zero m f g a fs gs k v o o' w w' = absurd w
     steps_one (suc n) zero f g a fs gs k v o o' w w' = absurd w'
-    steps_one (suc n) (suc m) f g a fs gs k v o o' w w' = stepping_one (steps_at n) (steps_at m) (steps_one n m) f g a fs gs k false (answered step depth roots answers takes joins some means f) (answered step depth roots answers takes joins some means g) (answered_alike f g a) v o o' w w'
+    steps_one (suc n) (suc m) f g a fs gs k v o o' w w' = stepping_one (steps_at n) (steps_at m) (steps_one n m) f g a fs gs k false (answered_for_frame step depth roots answers takes joins some means f) (answered_for_frame step depth roots answers takes joins some means g) (answered_alike f g a) v o o' w w'
 
     runs_one : (f g : F) → alike f g → (fs gs : List F) → alls fs gs → (v : View P T) (o o' : Outcome V) → runs_at f fs v o → runs_at g gs v o' → shape o ≡ shape o'
     runs_one f g a fs gs k v o o' w w' = steps_one w.0 w'.0 f g a fs gs k v o o' w.1 w'.1
@@ -206,13 +206,13 @@ module _ {P T R E F I V N U : Type 0} (step : P → T → P) (depth : ℕ) {root
         let e = ((singles k.parser k.is_given).rest s d).one v p q x y in
         (e, given_alike ((means k.parser).rest s) (h.gives_on k.parser k.is_given s d) v p q e x y)
 
-    rest_is_single : (z : NestedState F N U) → valid_step (KeptOf lawful means some) valid z → IsSingle (nested_rest step depth roots answers takes joins some means z)
+    rest_is_single : (z : NestedState F N U) → valid_steps (KeptOf lawful means some) valid z → IsSingle (nested_rest step depth roots answers takes joins some means z)
     rest_is_single states.Start d = whole_is_single
     rest_is_single (states.Running l) d =
         let r = (means l.parser).rest l.state in
         let top = l.frames.top in
-        let fs = around l.frames in
-        following_is_single l.committed unchanged (stepping step depth roots answers takes joins some means runs_at (marked l.begun r) top fs) (record { one = stepping_one runs_at runs_at runs_one top top (h.same top) fs fs (all_same fs) l.begun r r (kept_alike l.parser d.0 l.state d.1) })
+        let fs = frames_around l.frames in
+        following_is_single l.committed unchanged (stepping step depth roots answers takes joins some means runs_at (marked_taken l.begun r) top fs) (record { one = stepping_one runs_at runs_at runs_one top top (h.same top) fs fs (all_same fs) l.begun r r (kept_alike l.parser d.0 l.state d.1) })
 
-    pub nesting_means_one : (errors : Errors T R P E) → MeansOne (valid_step (KeptOf lawful means some) valid) (nesting step errors depth roots answers takes joins some means)
+    pub nesting_means_one : (errors : Observers T R P E) → MeansOne (valid_steps (KeptOf lawful means some) valid) (nesting step errors depth roots answers takes joins some means)
     nesting_means_one errors = record { whole = whole_is_single; rest = rest_is_single }

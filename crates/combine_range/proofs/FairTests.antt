@@ -10,7 +10,7 @@ use Rattle.std.specs.Char.{len_utf8}
 use Rattle.combine_stream.specs.Range.Ranges.{size_of}
 use Rattle.combine_stream.specs.Range.Measures.{ones}
 use Rattle.combine_stream.specs.Range.TextRanges.{text_of, size_encodes}
-use Rattle.combine_range.specs.WantedRanges.{begins_equal, Fair, Begins, given}
+use Rattle.combine_range.specs.WantedRanges.{begins_equal, Fair, BeginsWithWanted, equal_range}
 
 -- where tokens spell one list of items, tests of that list are fair
 pub fair_by_items : {T I R : Type 0} (items : R → List I) (spelling : List T → List I) (test : List I → Bool) → Fair {T = T} {R = R} (λ r ts. items r ≡ spelling ts) (λ r. test (items r))
@@ -18,7 +18,7 @@ fair_by_items items spelling test r q ts a b = ap test (a ∙ sym b)
 
 module _ {T : Type 0} (E : T → T → Bool) (r : Bor (List T)) where
   abbrev pub begins_slice : List T → Type 0
-  begins_slice us = Begins (λ t. 1) (λ (q : Bor (List T)) ts. q.now ≡ ts) (given (λ q. length q.now) (λ x y. pointwise E x.now y.now) r) us
+  begins_slice us = BeginsWithWanted (λ t. 1) (λ (q : Bor (List T)) ts. q.now ≡ ts) (equal_range (λ q. length q.now) (λ x y. pointwise E x.now y.now) r) us
 
   pub equal_of_begins : (us : List T) → begins_slice us → begins_equal E r.now us
   equal_of_begins us b = subst (λ n. pointwise E (take n us) r.now ≡ true) counted (subst (λ ts. pointwise E ts r.now ≡ true) b.spelled b.wanted)
@@ -43,7 +43,7 @@ module _ {T : Type 0} (E : T → T → Bool) (r : Bor (List T)) where
 
 module _ (r : Bor (List ℕ)) where
   abbrev pub begins_text : List ℕ → Type 0
-  begins_text cs = Begins len_utf8 (λ (q : Bor (List ℕ)) ts. text_of q.now ts) (given (λ q. length q.now) (λ x y. pointwise nat_eq x.now y.now) r) cs
+  begins_text cs = BeginsWithWanted len_utf8 (λ (q : Bor (List ℕ)) ts. text_of q.now ts) (equal_range (λ q. length q.now) (λ x y. pointwise nat_eq x.now y.now) r) cs
 
   -- the characters begin with those of the range
   pub chars_of_begins : IsUtf8 r.now → (cs : List ℕ) → begins_text cs → cs ≡ chars r.now ++ drop (length (chars r.now)) cs

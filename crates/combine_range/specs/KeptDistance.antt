@@ -2,7 +2,7 @@
 use Rattle.std.specs.Prelude.{ℕ, ◌<◌, ◌≡◌, ◌⊎◌, List, take, Result, Ok, Err}
 use Rattle.std.proofs.Common.{arith}
 use Rattle.combine_base.specs.Stream.View.{View, Takes, Moves}
-use Rattle.combine_base.specs.Error.Items.{Item}
+use Rattle.combine_base.specs.Error.Items.{ErrorItem}
 use Rattle.combine_base.specs.Parser.Drivers.{Broke}
 use Rattle.combine_base.specs.Parser.Meaning.{Meaning, Reading, Refusing, IsReading, IsSingle, IsMeaning, MeansOne}
 use Rattle.combine_base.specs.declared.stream.Kind.{Kind}
@@ -19,10 +19,10 @@ items_of d = d.items
 
 module _ {P T R E A : Type 0} where
   -- one reading for each distance, and the errors of its refusals; those of distance 0 are the whole's
-  abbrev pub kept : (T → ℕ) → (ℕ → Reading P T A) → (List (Item T R) → Type 0) → (ℕ → Refusing P T E) → Meaning P T R E A Distance
-  kept size read adds refuses = record { whole = read 0; rest = λ d. read d.items; lost = λ d v. size_of size v.unread < d.items; keeps = ⊥; puts_back = Unit {0}; lean = Unit {0}; adds = adds; refuses = refuses 0; refuses_from = λ d. refuses d.items }
+  abbrev pub kept : (T → ℕ) → (ℕ → Reading P T A) → (List (ErrorItem T R) → Type 0) → (ℕ → Refusing P T E) → Meaning P T R E A Distance
+  kept size read adds refuses = record { whole = read 0; rest = λ d. read d.items; lost = λ d v. size_of size v.unread < d.items; keeps = ⊥; puts_back = Unit {0}; heapless = Unit {0}; adds = adds; refuses = refuses 0; refuses_from = λ d. refuses d.items }
 
-  pub kept_is_meaning : (valid : Distance → Type 0) (size : T → ℕ) (read : ℕ → Reading P T A) (adds : List (Item T R) → Type 0) (refuses : ℕ → Refusing P T E) → ((d : ℕ) → IsReading (read d)) → IsMeaning (λ d. d.items ≡ 0) valid (kept size read adds refuses)
+  pub kept_is_meaning : (valid : Distance → Type 0) (size : T → ℕ) (read : ℕ → Reading P T A) (adds : List (ErrorItem T R) → Type 0) (refuses : ℕ → Refusing P T E) → ((d : ℕ) → IsReading (read d)) → IsMeaning (λ d. d.items ≡ 0) valid (kept size read adds refuses)
   kept_is_meaning valid size read adds refuses h = record {
     whole = h 0;
     rest = λ s k. h s.items;
@@ -31,7 +31,7 @@ module _ {P T R E A : Type 0} where
     reasons = λ s d v w k e. rw d (λ p. p, λ p. p);
   }
 
-  pub kept_means_one : (valid : Distance → Type 0) (size : T → ℕ) (read : ℕ → Reading P T A) (adds : List (Item T R) → Type 0) (refuses : ℕ → Refusing P T E) → ((d : ℕ) → IsSingle (read d)) → MeansOne valid (kept size read adds refuses)
+  pub kept_means_one : (valid : Distance → Type 0) (size : T → ℕ) (read : ℕ → Reading P T A) (adds : List (ErrorItem T R) → Type 0) (refuses : ℕ → Refusing P T E) → ((d : ℕ) → IsSingle (read d)) → MeansOne valid (kept size read adds refuses)
   kept_means_one valid size read adds refuses h = record { whole = h 0; rest = λ s k. h s.items }
 
 -- the answer where the kept distance was not passed over
@@ -55,11 +55,11 @@ module _ {V E : Type 0} (kind : E → Kind) where
     pub is : not_passed why result
 
 -- the n tokens since a checkpoint as a range, or a fault
-module _ {P T R : Type 0} (steady : Type 0) (step : P → T → P) (spells : R → List T → Type 0) (old new : View P T) (before after : Failures) (n : ℕ) where
+module _ {P T R : Type 0} (counts_failures : Type 0) (step : P → T → P) (spells : R → List T → Type 0) (old new : View P T) (before after : Failures) (n : ℕ) where
   pub record Handed (q : R) : Type 0 where
     pub spelled : spells q (take n old.unread)
     pub taken : Takes step n old new
-    pub failures : steady → after ≡ before
+    pub failures : counts_failures → after ≡ before
 
   abbrev pub hands : Result R Kind → Type 0
   hands (Ok q) = Handed q
@@ -69,29 +69,29 @@ module _ {P T R : Type 0} (steady : Type 0) (step : P → T → P) (spells : R �
     pub is : hands result
 
 -- the same as an answer: committed exactly if there are tokens
-module _ {P T R E : Type 0} (steady : Type 0) (step : P → T → P) (spells : R → List T → Type 0) (old new : View P T) (before after : Failures) (n : ℕ) (kind : E → Kind) where
-  abbrev pub hands_out : ParseResult R E → Type 0
-  hands_out (CommitOk q) = Handed steady step spells old new before after n q × (0 < n)
-  hands_out (PeekOk q) = Handed steady step spells old new before after n q × (n ≡ 0)
-  hands_out (CommitErr e) = Broke (kind e) before after × Moves step old new
-  hands_out (PeekErr t) = ⊥
+module _ {P T R E : Type 0} (counts_failures : Type 0) (step : P → T → P) (spells : R → List T → Type 0) (old new : View P T) (before after : Failures) (n : ℕ) (kind : E → Kind) where
+  abbrev pub hands_out_range : ParseResult R E → Type 0
+  hands_out_range (CommitOk q) = Handed counts_failures step spells old new before after n q × (0 < n)
+  hands_out_range (PeekOk q) = Handed counts_failures step spells old new before after n q × (n ≡ 0)
+  hands_out_range (CommitErr e) = Broke (kind e) before after × Moves step old new
+  hands_out_range (PeekErr t) = ⊥
 
-  pub record HandsOut (result : ParseResult R E) : Type 0 where
-    pub is : hands_out result
+  pub record HandsOutRange (result : ParseResult R E) : Type 0 where
+    pub is : hands_out_range result
 
 -- on need of more the stream is put back to where it stood n tokens before, and the state keeps the items of these; or it could not be put back
-module _ {P T : Type 0} (steady : Type 0) (step : P → T → P) (size : T → ℕ) (old new : View P T) (before after : Failures) (n : ℕ) where
-  pub record Back (left : Distance) : Type 0 where
+module _ {P T : Type 0} (counts_failures : Type 0) (step : P → T → P) (size : T → ℕ) (old new : View P T) (before after : Failures) (n : ℕ) where
+  pub record BackWithItems (left : Distance) : Type 0 where
     pub same : new ≡ old
-    pub failures : steady → after ≡ before
+    pub failures : counts_failures → after ≡ before
     pub kept : left.items ≡ size_of size (take n old.unread)
 
   module _ {V E : Type 0} (kind : E → Kind) (state left : Distance) where
-    abbrev pub keeps_distance : ParseResult V E → Type 0
-    keeps_distance (CommitOk v) = ⊥
-    keeps_distance (PeekOk v) = ⊥
-    keeps_distance (CommitErr e) = ((kind e ≡ kinds.End) × Back left) ⊎ ((left ≡ state) × Broke (kind e) before after × Moves step old new)
-    keeps_distance (PeekErr t) = ⊥
+    abbrev pub keeps_item_distance : ParseResult V E → Type 0
+    keeps_item_distance (CommitOk v) = ⊥
+    keeps_item_distance (PeekOk v) = ⊥
+    keeps_item_distance (CommitErr e) = ((kind e ≡ kinds.End) × BackWithItems left) ⊎ ((left ≡ state) × Broke (kind e) before after × Moves step old new)
+    keeps_item_distance (PeekErr t) = ⊥
 
-    pub record KeepsDistance (result : ParseResult V E) : Type 0 where
-      pub is : keeps_distance result
+    pub record KeepsItemDistance (result : ParseResult V E) : Type 0 where
+      pub is : keeps_item_distance result

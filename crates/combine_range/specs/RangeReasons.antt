@@ -2,33 +2,33 @@
 use Rattle.std.specs.Prelude.{ℕ, zero, suc, ◌<◌, ◌≡◌, ◌⊎◌, List, Bool, true, false}
 use Rattle.std.proofs.Common.{arith, inl, inr, sym, subst}
 use Rattle.combine_base.specs.Stream.View.{View, advanced}
-use Rattle.combine_base.specs.Error.Errors.{Errors, New, Only}
+use Rattle.combine_base.specs.Error.Errors.{Observers, New, Only}
 use Rattle.combine_base.specs.Error.Items.{end_of_input}
 use Rattle.combine_base.specs.Parser.Meaning.{Refusing, SameReasons}
-use Rattle.combine_base.specs.Refusals.{Saying}
+use Rattle.combine_base.specs.Refusals.{HasItems}
 use Rattle.combine_base.specs.declared.stream.Kind.TheVariants as kinds
 use Rattle.combine_token.specs.Token.TokenReasons.{refuses_one}
-use Rattle.combine_stream.specs.Range.Ranges.{Place, Inside, Longest, place_at_zero}
-use Rattle.combine_range.specs.Range.Lengths.{Unfit, Short, Split, Differs, No, Other}
-use Rattle.combine_range.specs.Range.UntilRange.{Missing}
+use Rattle.combine_stream.specs.Range.Ranges.{IsItemPlace, EndsInsideToken, Longest, place_at_zero}
+use Rattle.combine_range.specs.Range.Lengths.{UnfitLength, Short, Split, Differs, No, Other}
+use Rattle.combine_range.specs.Range.UntilRange.{NoneAhead}
 use Rattle.combine_range.specs.WantedRanges.{Wanted}
 
 -- no items end inside no token
-pub none_inside : {T : Type 0} (size : T → ℕ) (us : List T) (d : ℕ) → d ≡ 0 → Inside size us d → ⊥
+pub none_inside : {T : Type 0} (size : T → ℕ) (us : List T) (d : ℕ) → d ≡ 0 → EndsInsideToken size us d → ⊥
 none_inside size us d e h = h.none 0 (record { within = omega arith; items = sym e })
 
-module _ {T R P E : Type 0} (s : Errors T R P E) where
+module _ {T R P E : Type 0} (s : Observers T R P E) where
   module _ {Q : Type 0} (size : T → ℕ) (spells : Q → List T → Type 0) where
     -- of too few items the error says that the input ended; where the items end inside a token it says nothing
-    abbrev pub length_says : P → (n : ℕ) (v : View P T) → Unfit size spells n v → E → Type 0
-    length_says place n v (Short few ended) e = Saying s kinds.End place (Only end_of_input) e
+    abbrev pub length_says : P → (n : ℕ) (v : View P T) → UnfitLength size spells n v → E → Type 0
+    length_says place n v (Short few ended) e = HasItems s kinds.End place (Only end_of_input) e
     length_says place n v (Split inside) e = New s kinds.Refused place e
 
     -- The first n items are no range: refused peeked, where they begin, with an error that is made there.
     pub record RefusesLength (n : ℕ) (v w : View P T) (committed : Bool) (e : E) : Type 0 where
       pub peeked : committed ≡ false
       pub back : w ≡ v
-      pub unfit : Unfit size spells n v
+      pub unfit : UnfitLength size spells n v
       pub says : length_says v.position n v unfit e
 
     -- of another range the error says nothing
@@ -46,9 +46,9 @@ module _ {T R P E : Type 0} (s : Errors T R P E) where
     -- A wanted range stands nowhere behind d items, and the input has ended: refused peeked, with an error that says so and is made where the call began.
     pub record RefusesMissing (wanted : Wanted Q) (d : ℕ) (v w : View P T) (committed : Bool) (e : E) : Type 0 where
       pub peeked : committed ≡ false
-      pub missing : Missing size spells wanted d v
+      pub missing : NoneAhead size spells wanted d v
       pub ended : v.is_open ≡ false
-      pub says : Saying s kinds.End v.position (Only end_of_input) e
+      pub says : HasItems s kinds.End v.position (Only end_of_input) e
 
   -- An empty beginning, where none may be: refused peeked, where it stands, with an error that is made there and says that the input ended where nothing is left.
   pub record RefusesEmpty (f : T → Bool → Type 0) (d : ℕ) (v w : View P T) (committed : Bool) (e : E) : Type 0 where
@@ -68,7 +68,7 @@ module _ {T R P E : Type 0} (s : Errors T R P E) where
     pub record RefusesInside (d : ℕ) (v w : View P T) (committed : Bool) (e : E) : Type 0 where
       pub peeked : committed ≡ false
       pub back : w ≡ v
-      pub inside : Inside size v.unread d
+      pub inside : EndsInsideToken size v.unread d
       pub says : New s kinds.Refused v.position e
 
     abbrev pub refuses_kept : (ℕ → Refusing P T E) → ℕ → Refusing P T E
@@ -83,7 +83,7 @@ module _ {T R P E : Type 0} (s : Errors T R P E) where
       -- a part refuses so behind the distance that was read
       pub record RefusesPast (part : Refusing P T E) (d : ℕ) (v w : View P T) (committed : Bool) (e : E) : Type 0 where
         pub count : ℕ
-        pub place : Place size v.unread d count
+        pub place : IsItemPlace size v.unread d count
         pub refuses : part (advanced step count v) w committed e
 
       -- The errors of a parser that goes on behind the distance that was read: those of its part there, which are handed on; or that distance ends inside a token.
@@ -105,5 +105,5 @@ module _ {T R P E : Type 0} (s : Errors T R P E) where
       resumed_at_start filled part whole h d z v w k e = (λ x. by_case x.is, λ x. record { is = inl (record { count = 0; place = record { within = omega arith; items = sym z }; refuses = (h v w k e).1 x }) })
         where
           by_case : RefusesPast part d v w k e ⊎ RefusesInside d v w k e → whole v w k e
-          by_case (inl p) = let c = place_at_zero size filled v.unread p.count (subst (λ n. Place size v.unread n p.count) z p.place) in (h v w k e).0 (subst (λ n. part (advanced step n v) w k e) c p.refuses)
+          by_case (inl p) = let c = place_at_zero size filled v.unread p.count (subst (λ n. IsItemPlace size v.unread n p.count) z p.place) in (h v w k e).0 (subst (λ n. part (advanced step n v) w k e) c p.refuses)
           by_case (inr p) = absurd (none_inside size v.unread d z p.inside)

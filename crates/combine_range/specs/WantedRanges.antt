@@ -2,7 +2,7 @@
 use Rattle.std.specs.Prelude.{ℕ, ◌-◌, ◌+◌, ◌<◌, ◌≤◌, ◌≡◌, List, ◌++◌, Bool, true, take, drop, length}
 use Rattle.std.proofs.Common.{arith, ap, sym, subst, ◌∙◌}
 use Rattle.std.proofs.lemmas.List.{take-append-le, drop-append-le, drop-drop, take_all, length-append}
-use Rattle.combine_stream.specs.Range.Ranges.{size_of, Place, size_rises, size_take, place_within, place_stays, take_stays}
+use Rattle.combine_stream.specs.Range.Ranges.{size_of, IsItemPlace, size_rises, size_take, place_within, place_stays, take_stays}
 use Rattle.std.specs.Cmp.Lexicographic.{pointwise}
 
 -- what is asked of a range: its number of items, and a test
@@ -11,8 +11,8 @@ pub record Wanted (Range : Type 0) : Type 0 where
   pub test : Range → Bool
 
 -- the items of a given range, by a test for equality with it
-abbrev pub given : {R : Type 0} → (R → ℕ) → (R → R → Bool) → R → Wanted R
-given count eq r = record { items = count r; test = λ q. eq q r }
+abbrev pub equal_range : {R : Type 0} → (R → ℕ) → (R → R → Bool) → R → Wanted R
+equal_range count eq r = record { items = count r; test = λ q. eq q r }
 
 -- the test sees no more than the tokens
 abbrev pub Fair : {T R : Type 0} → (R → List T → Type 0) → (R → Bool) → Type 0
@@ -28,25 +28,25 @@ fewer_later size j i us h =
 
 module _ {T R : Type 0} (size : T → ℕ) (spells : R → List T → Type 0) (w : Wanted R) where
   -- a wanted range is the beginning of these tokens
-  pub record Begins (us : List T) : Type 0 where
+  pub record BeginsWithWanted (us : List T) : Type 0 where
     pub range : R
     pub count : ℕ
-    pub place : Place size us w.items count
+    pub place : IsItemPlace size us w.items count
     pub spelled : spells range (take count us)
     pub wanted : w.test range ≡ true
 
   -- k is the first place from b on where one begins
-  pub record First (b : ℕ) (us : List T) (k : ℕ) : Type 0 where
+  pub record IsFirstPlace (b : ℕ) (us : List T) (k : ℕ) : Type 0 where
     pub later : b ≤ k
     pub within : k ≤ length us
-    pub begins : Begins (drop k us)
-    pub none : (j : ℕ) → b ≤ j → j < k → Begins (drop j us) → ⊥
+    pub begins : BeginsWithWanted (drop k us)
+    pub none : (j : ℕ) → b ≤ j → j < k → BeginsWithWanted (drop j us) → ⊥
 
   -- none begins from b on
-  pub record Nowhere (b : ℕ) (us : List T) : Type 0 where
-    pub none : (j : ℕ) → b ≤ j → j ≤ length us → Begins (drop j us) → ⊥
+  pub record BeginsNowhere (b : ℕ) (us : List T) : Type 0 where
+    pub none : (j : ℕ) → b ≤ j → j ≤ length us → BeginsWithWanted (drop j us) → ⊥
 
-  pub begins_stays : (us x : List T) → Begins us → Begins (us ++ x)
+  pub begins_stays : (us x : List T) → BeginsWithWanted us → BeginsWithWanted (us ++ x)
   begins_stays us x b = record {
     range = b.range;
     count = b.count;
@@ -57,8 +57,8 @@ module _ {T R : Type 0} (size : T → ℕ) (spells : R → List T → Type 0) (w
 
   module _ (filled : (t : T) → 0 < size t) where
     -- where enough items stand, what follows changes nothing
-    pub begins_before : (us x : List T) → w.items ≤ size_of size us → Begins (us ++ x) → Begins us
-    begins_before us x h b =
+    pub begins_without_more : (us x : List T) → w.items ≤ size_of size us → BeginsWithWanted (us ++ x) → BeginsWithWanted us
+    begins_without_more us x h b =
         let k : b.count ≤ length us = by_order (λ z. let a = size_rises size filled (us ++ x) (length us) b.count z b.place.within in let d = ap (size_of size) (whole us x) in let e = b.place.items in omega arith) in
         record {
           range = b.range;
@@ -75,21 +75,21 @@ module _ {T R : Type 0} (size : T → ℕ) (spells : R → List T → Type 0) (w
         by_order d = omega arith
 
     -- what a place with enough items after it was found not to begin with, it doesn't begin with later
-    pub not_later : (us x : List T) (j : ℕ) → j ≤ length us → w.items ≤ size_of size (drop j us) → (Begins (drop j us) → ⊥) → Begins (drop j (us ++ x)) → ⊥
-    not_later us x j l e n b = n (begins_before (drop j us) x e (subst Begins (drop-append-le j us x l) b))
+    pub not_later : (us x : List T) (j : ℕ) → j ≤ length us → w.items ≤ size_of size (drop j us) → (BeginsWithWanted (drop j us) → ⊥) → BeginsWithWanted (drop j (us ++ x)) → ⊥
+    not_later us x j l e n b = n (begins_without_more (drop j us) x e (subst BeginsWithWanted (drop-append-le j us x l) b))
 
-    pub first_stays : (b : ℕ) (us x : List T) (k : ℕ) → First b us k → First b (us ++ x) k
+    pub first_stays : (b : ℕ) (us x : List T) (k : ℕ) → IsFirstPlace b us k → IsFirstPlace b (us ++ x) k
     first_stays b us x k p = record {
       later = p.later;
       within = let a = p.within in let b = length-append us x in omega arith;
-      begins = subst Begins (sym (drop-append-le k us x p.within)) (begins_stays (drop k us) x p.begins);
+      begins = subst BeginsWithWanted (sym (drop-append-le k us x p.within)) (begins_stays (drop k us) x p.begins);
       none = λ j g h. not_later us x j (let a = p.within in omega arith) (longer j k us (omega arith) (place_within size (drop k us) w.items p.begins.count p.begins.place)) (p.none j g h);
     }
       where
         longer : (j i : ℕ) (us : List T) → j ≤ i → w.items ≤ size_of size (drop i us) → w.items ≤ size_of size (drop j us)
         longer j i us h k = let a = fewer_later size j i us h in omega arith
 
-  pub one_first : (b : ℕ) (us : List T) (i j : ℕ) → First b us i → First b us j → i ≡ j
+  pub one_first : (b : ℕ) (us : List T) (i j : ℕ) → IsFirstPlace b us i → IsFirstPlace b us j → i ≡ j
   one_first b us i j p q = by_order (λ z. q.none i p.later z p.begins) (λ z. p.none j q.later z q.begins)
     where
       by_order : (i < j → ⊥) → (j < i → ⊥) → i ≡ j

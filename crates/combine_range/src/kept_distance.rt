@@ -3,7 +3,7 @@ ghost use Rattle.std.specs.Prelude.{◌≡◌, ◌↔◌, [], true, if◌then◌
 ghost use Rattle.combine_base.specs.Stream.View.{Takes};
 ghost use Rattle.combine_base.specs.Stream.Calls.{Passes};
 ghost use Rattle.combine_stream.specs.Range.Ranges.{UnconsRange};
-ghost use Rattle.combine_range.specs.KeptDistance.{Hands, HandsOut, KeepsDistance, NotPassed};
+ghost use Rattle.combine_range.specs.KeptDistance.{Hands, HandsOutRange, KeepsItemDistance, NotPassed};
 ghost use Rattle.combine_base.specs.Error.Errors.{New};
 ghost use Rattle.combine_token.specs.Token.TokenReasons.{refuses_one};
 ghost use Rattle.combine_range.specs.PeekedRefusals.{NoRange, PeeksSaying, RefusesPeeked, says_why};
@@ -31,7 +31,7 @@ pub fn pass_items<Input: RangeStream>(input: &mut Input, n: usize) -> Result<(),
 where
     Input::Range: Range,
     ensures passes { Passes (Input.marks input.old) (Input.marks input.new) (Input.failures input.old) (Input.failures input.new) }
-    ensures over { UnconsRange Input.steady Input.step Input.size (λ r ts. Unit {0}) (Input.view input.old) (Input.view input.new) (Input.failures input.old) (Input.failures input.new) n result }
+    ensures over { UnconsRange Input.counts_failures Input.step Input.size (λ r ts. Unit {0}) (Input.view input.old) (Input.view input.new) (Input.failures input.old) (Input.failures input.new) n result }
 {
     if n == 0 {
         return Ok(());
@@ -49,8 +49,8 @@ pub fn not_passed<O, Input: Stream>(
     why: Kind,
     position: Input::Position,
 ) -> ParseResult<O, Input::Error>
-    ensures answers { NotPassed Input.Error.seen.kind why result }
-    ensures says { PeeksSaying (New Input.Error.seen Kind.Refused position) result }
+    ensures answers { NotPassed Input.Error.observers.kind why result }
+    ensures says { PeeksSaying (New Input.Error.observers Kind.Refused position) result }
 {
     match why {
         Kind::Refused => ParseResult::PeekErr(Tracked::from(input.new_error(
@@ -88,7 +88,7 @@ pub fn keep_distance<O, Input: RangeStream>(
 where
     Input::Range: Range,
     ensures passes { Passes (Input.marks input.old) (Input.marks input.new) (Input.failures input.old) (Input.failures input.new) }
-    ensures keeps { (v : _) (n : _) → Input.stands input.old start v → Takes Input.step n v (Input.view input.old) → KeepsDistance Input.steady Input.step Input.size v (Input.view input.new) (Input.failures input.old) (Input.failures input.new) n Input.Error.seen.kind state.old state.new result }
+    ensures keeps { (v : _) (n : _) → Input.stands input.old start v → Takes Input.step n v (Input.view input.old) → KeepsItemDistance Input.counts_failures Input.step Input.size v (Input.view input.new) (Input.failures input.old) (Input.failures input.new) n Input.Error.observers.kind state.old state.new result }
 {
     let read = input.distance(&start);
     match input.reset(start) {
@@ -111,8 +111,8 @@ pub fn refused_here<O, Input: RangeStream>(
 where
     Input::Range: Range,
     requires { (Input.view input.now).is_open ≡ true → (Input.view input.now).unread ≡ [] → ⊥ }
-    ensures answers { RefusesPeeked Input.Error.seen.kind Input.Error.seen.frugal (Input.view input.now).is_open result }
-    ensures says { PeeksSaying (refuses_one Input.Error.seen position (Input.view input.now).unread) result }
+    ensures answers { RefusesPeeked Input.Error.observers.kind Input.Error.observers.never_allocates (Input.view input.now).is_open result }
+    ensures says { PeeksSaying (refuses_one Input.Error.observers position (Input.view input.now).unread) result }
 {
     if input.range().len() == 0 {
         return no_token(input, Kind::End, position);
@@ -129,8 +129,8 @@ pub fn no_range<O, Input: Stream>(
     why: Kind,
     position: Input::Position,
 ) -> ParseResult<O, Input::Error>
-    ensures answers { NoRange Input.Error.seen.kind Input.Error.seen.frugal (Input.view input.now).is_open why result }
-    ensures says { PeeksSaying (says_why Input.Error.seen position why) result }
+    ensures answers { NoRange Input.Error.observers.kind Input.Error.observers.never_allocates (Input.view input.now).is_open why result }
+    ensures says { PeeksSaying (says_why Input.Error.observers position why) result }
 {
     match why {
         Kind::Refused => ParseResult::PeekErr(Tracked::from(input.new_error(
@@ -155,7 +155,7 @@ where
     Input::Range: Range,
     ensures passes { Passes (Input.marks input.old) (Input.marks input.new) (Input.failures input.old) (Input.failures input.new) }
     ensures hands { (v : _) (n : _) → Input.stands input.old start v → Takes Input.step n v (Input.view input.old) →
-        Hands Input.steady Input.step Input.spells v (Input.view input.new) (Input.failures input.old) (Input.failures input.new) n result }
+        Hands Input.counts_failures Input.step Input.spells v (Input.view input.new) (Input.failures input.old) (Input.failures input.new) n result }
 {
     let n = input.distance(&start);
     if let Err(kind) = input.reset(start) {
@@ -176,7 +176,7 @@ pub fn hand_out<Input: RangeStream>(
 where
     Input::Range: Range,
     ensures passes { Passes (Input.marks input.old) (Input.marks input.new) (Input.failures input.old) (Input.failures input.new) }
-    ensures hands { (v : _) (n : _) → Input.stands input.old start v → Takes Input.step n v (Input.view input.old) → HandsOut Input.steady Input.step Input.spells v (Input.view input.new) (Input.failures input.old) (Input.failures input.new) n Input.Error.seen.kind result }
+    ensures hands { (v : _) (n : _) → Input.stands input.old start v → Takes Input.step n v (Input.view input.old) → HandsOutRange Input.counts_failures Input.step Input.spells v (Input.view input.new) (Input.failures input.old) (Input.failures input.new) n Input.Error.observers.kind result }
 {
     match range_since(start, input) {
         Ok(range) => {

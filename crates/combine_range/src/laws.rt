@@ -5,9 +5,9 @@ ghost use Rattle.std.specs.Str.{chars};
 ghost use Rattle.combine_base.specs.Parser.Outcome.{Accepted};
 ghost use Rattle.combine_base.specs.Stream.View.{View};
 ghost use Rattle.combine_range.specs.Range.RecognizedRange.{TakesExactly};
-ghost use Rattle.combine_range.specs.WantedRanges.{begins_equal, Begins, Fair, First, Nowhere, given};
+ghost use Rattle.combine_range.specs.WantedRanges.{begins_equal, BeginsWithWanted, Fair, IsFirstPlace, BeginsNowhere, equal_range};
 ghost use Rattle.combine_range.specs.Range.RangeParsers.{recognize_of};
-ghost use Rattle.combine_range.specs.RangeTests.{Fails, FirstTested, NoneTested};
+ghost use Rattle.combine_range.specs.RangeTests.{FailsTest, FirstTested, NoneTested};
 ghost use Rattle.combine_stream.specs.Range.Ranges.{size_of};
 
 use crate::range::types::Recognize;
@@ -26,8 +26,8 @@ pub fn tested_is_first<Input: RangeStream>(wanted: Input::Range)
 where
     Input::Range: Range + PartialEq,
     requires { Fair Input.spells (λ r. Input.Range.eq r wanted) }
-    ensures first { (b : ℕ) (us : List Input.Token) (k : ℕ) → FirstTested Input.size Input.spells (given Input.Range.count Input.Range.eq wanted) b us k → First Input.size Input.spells (given Input.Range.count Input.Range.eq wanted) b us k }
-    ensures none { (b : ℕ) (us : List Input.Token) → NoneTested Input.size Input.spells (given Input.Range.count Input.Range.eq wanted) b us → Nowhere Input.size Input.spells (given Input.Range.count Input.Range.eq wanted) b us }
+    ensures first { (b : ℕ) (us : List Input.Token) (k : ℕ) → FirstTested Input.size Input.spells (equal_range Input.Range.count Input.Range.eq wanted) b us k → IsFirstPlace Input.size Input.spells (equal_range Input.Range.count Input.Range.eq wanted) b us k }
+    ensures none { (b : ℕ) (us : List Input.Token) → NoneTested Input.size Input.spells (equal_range Input.Range.count Input.Range.eq wanted) b us → BeginsNowhere Input.size Input.spells (equal_range Input.Range.count Input.Range.eq wanted) b us }
 {}
 
 /// The law that slices of the same tokens compare alike.
@@ -42,20 +42,20 @@ pub fn texts_are_fair<'a>(wanted: &'a str)
 
 /// The law that tokens begin with a slice exactly if the first ones equal its own, pair by pair.
 pub fn slices_begin<'a, T: Copy + PartialEq>(wanted: &'a [T])
-    ensures { (us : List T) → Begins ⟦<&'a [T] as RangeStream>⟧.size ⟦<&'a [T] as RangeStream>⟧.spells (given ⟦<&'a [T] as Range>⟧.count ⟦<&'a [T] as PartialEq>⟧.eq wanted.entry) us ↔ begins_equal T.eq wanted.now us }
+    ensures { (us : List T) → BeginsWithWanted ⟦<&'a [T] as RangeStream>⟧.size ⟦<&'a [T] as RangeStream>⟧.spells (equal_range ⟦<&'a [T] as Range>⟧.count ⟦<&'a [T] as PartialEq>⟧.eq wanted.entry) us ↔ begins_equal T.eq wanted.now us }
 {}
 
 /// The law that characters begin with a text exactly if the first ones are its own.
 pub fn texts_begin<'a>(wanted: &'a str)
-    ensures { (cs : List ℕ) → Begins ⟦<&'a str as RangeStream>⟧.size ⟦<&'a str as RangeStream>⟧.spells (given ⟦<&'a str as Range>⟧.count ⟦<&'a str as PartialEq>⟧.eq wanted.entry) cs ↔ cs ≡ chars wanted.now ++ drop (length (chars wanted.now)) cs }
+    ensures { (cs : List ℕ) → BeginsWithWanted ⟦<&'a str as RangeStream>⟧.size ⟦<&'a str as RangeStream>⟧.spells (equal_range ⟦<&'a str as Range>⟧.count ⟦<&'a str as PartialEq>⟧.eq wanted.entry) cs ↔ cs ≡ chars wanted.now ++ drop (length (chars wanted.now)) cs }
 {}
 
 /// The law that another slice is seen at tokens exactly if they are enough and the first ones don't equal its own.
 pub fn slices_fail<'a, T: Copy + PartialEq>(wanted: &'a [T])
-    ensures { (us : List T) → Fails ⟦<&'a [T] as RangeStream>⟧.size ⟦<&'a [T] as RangeStream>⟧.spells (given ⟦<&'a [T] as Range>⟧.count ⟦<&'a [T] as PartialEq>⟧.eq wanted.entry) us ↔ ((length wanted.now ≤ length us) × (begins_equal T.eq wanted.now us → ⊥)) }
+    ensures { (us : List T) → FailsTest ⟦<&'a [T] as RangeStream>⟧.size ⟦<&'a [T] as RangeStream>⟧.spells (equal_range ⟦<&'a [T] as Range>⟧.count ⟦<&'a [T] as PartialEq>⟧.eq wanted.entry) us ↔ ((length wanted.now ≤ length us) × (begins_equal T.eq wanted.now us → ⊥)) }
 {}
 
 /// The law that another text is seen at characters exactly if they are enough bytes and the first ones aren't its own.
 pub fn texts_fail<'a>(wanted: &'a str)
-    ensures { (cs : List ℕ) → Fails ⟦<&'a str as RangeStream>⟧.size ⟦<&'a str as RangeStream>⟧.spells (given ⟦<&'a str as Range>⟧.count ⟦<&'a str as PartialEq>⟧.eq wanted.entry) cs ↔ ((length wanted.now ≤ size_of len_utf8 cs) × (cs ≡ chars wanted.now ++ drop (length (chars wanted.now)) cs → ⊥)) }
+    ensures { (cs : List ℕ) → FailsTest ⟦<&'a str as RangeStream>⟧.size ⟦<&'a str as RangeStream>⟧.spells (equal_range ⟦<&'a str as Range>⟧.count ⟦<&'a str as PartialEq>⟧.eq wanted.entry) cs ↔ ((length wanted.now ≤ size_of len_utf8 cs) × (cs ≡ chars wanted.now ++ drop (length (chars wanted.now)) cs → ⊥)) }
 {}

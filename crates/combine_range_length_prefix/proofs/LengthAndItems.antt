@@ -8,7 +8,7 @@ use Rattle.combine_base.specs.Sequence.Readings.{continues, sequel}
 use Rattle.combine_base.specs.Stream.View.{View, advanced}
 use Rattle.combine_combinator_function.specs.Changes.{changed_reading}
 use Rattle.combine_range_length_prefix.specs.Prefixes.{FitsNone, ReadsLength, prefixed}
-use Rattle.combine_combinator.specs.Tables.{ByTable, stays}
+use Rattle.combine_combinator.specs.Tables.{ByTable, same_outcome}
 use Rattle.combine_range.specs.Range.Lengths.{taking}
 
 module _ {P T A E R N : Type 0} (step : P → T → P) (size : T → ℕ) (spells : R → List T → Type 0) (turned : A → Result ℕ E → Type 0) (r : Reading P T A) (made : ℕ → N) (means : N → Reading P T R) (takes : (n : ℕ) (v : View P T) (o : Outcome R) → means (made n) v o ↔ taking size spells n v o) where
@@ -20,8 +20,8 @@ module _ {P T A E R N : Type 0} (step : P → T → P) (size : T → ℕ) (spell
   abbrev items_read : ℕ → Reading P T R
   items_read n v o = (p : N) × (p ≡ made n) × means p v o
 
-  abbrev pub composed : Reading P T R
-  composed = ByTable stays (sequel step (λ n q. q) length_read items_read)
+  abbrev pub composed_prefix : Reading P T R
+  composed_prefix = ByTable same_outcome (sequel step (λ n q. q) length_read items_read)
 
   abbrev is_prefixed : View P T → Outcome R → Type 0
   is_prefixed = prefixed step size spells turned r
@@ -48,11 +48,11 @@ module _ {P T A E R N : Type 0} (step : P → T → P) (size : T → ℕ) (spell
     after_length (Refused c) (inr x) o y = subst (is_prefixed v) (sym y) (inr (inl (record { value = x.value; count = x.count; accepted = x.accepted; none = x.denied })))
     after_length Undecided x o y = subst (is_prefixed v) (sym y) (inl x)
 
-    into : (o : Outcome R) → composed v o → is_prefixed v o
+    into : (o : Outcome R) → composed_prefix v o → is_prefixed v o
     into o x = subst (is_prefixed v) (sym x.is) (after_length x.meant.0 x.meant.1 x.inner x.meant.2)
 
     -- an outcome behind a length
-    outcome : (n k : ℕ) (c : Bool) → ReadsLength turned r v n k c → (p o : Outcome R) → o ≡ joined k c (λ q. q) p → taking size spells n (advanced step k v) p → composed v o
+    outcome : (n k : ℕ) (c : Bool) → ReadsLength turned r v n k c → (p o : Outcome R) → o ≡ joined k c (λ q. q) p → taking size spells n (advanced step k v) p → composed_prefix v o
     outcome n k c l p o e x = record { inner = o; meant = (Accepted n k c, (l.value, l.accepted, l.fits), (p, given n (advanced step k v) p x, e)); is = refl }
 
     abbrev refused : Bool → Outcome R
@@ -62,7 +62,7 @@ module _ {P T A E R N : Type 0} (step : P → T → P) (size : T → ℕ) (spell
     or_false true = refl
     or_false false = refl
 
-    back : (o : Outcome R) → is_prefixed v o → composed v o
+    back : (o : Outcome R) → is_prefixed v o → composed_prefix v o
     back (Accepted q n c) f = outcome f.length f.before f.committed f.read (Accepted q f.count (nat_lt 0 f.length)) (Accepted q n c) (let a = f.sum in let b = f.kind in cc) (f.first, refl)
     back (Refused c) (inl x) = record { inner = Refused c; meant = (Refused c, inl x, refl); is = refl }
     back (Refused c) (inr (inl x)) = record { inner = Refused c; meant = (Refused c, inr (record { value = x.value; count = x.count; accepted = x.accepted; denied = x.none }), refl); is = refl }
@@ -70,5 +70,5 @@ module _ {P T A E R N : Type 0} (step : P → T → P) (size : T → ℕ) (spell
     back Undecided (inl x) = record { inner = Undecided; meant = (Undecided, x, refl); is = refl }
     back Undecided (inr x) = outcome x.length x.before x.committed x.read Undecided Undecided refl x.waits
 
-    pub is_length_and_items : (o : Outcome R) → composed v o ↔ is_prefixed v o
+    pub is_length_and_items : (o : Outcome R) → composed_prefix v o ↔ is_prefixed v o
     is_length_and_items o = (into o, back o)

@@ -42,5 +42,5 @@ where
     Input::Range: Range,
     P::Output: TryInto<usize>,
     <P::Output as TryInto<usize>>::Error: Drop,
-    ensures { SameReasons (⟦<LengthPrefix<Input, P, Input::Range> as Parser<Input>>⟧.meaning (length_prefix_of p.now)).refuses (RefusesPrefixed Input.step Input.Error.seen Input.size Input.spells P.Output.try_into_gives (P.meaning p.now).whole (P.meaning p.now).refuses) }
+    ensures { SameReasons (⟦<LengthPrefix<Input, P, Input::Range> as Parser<Input>>⟧.meaning (length_prefix_of p.now)).refuses (RefusesPrefixed Input.step Input.Error.observers Input.size Input.spells P.Output.try_into_gives (P.meaning p.now).whole (P.meaning p.now).refuses) }
 {}

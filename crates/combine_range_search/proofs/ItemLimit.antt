@@ -13,9 +13,9 @@ last_place size filled us k n l h = by_order (λ g. let a = size_rises size fill
     by_order : (n < k → ⊥) → k ≤ n
     by_order x = omega arith
 
-module _ {P T R : Type 0} (steady : Type 0) (step : P → T → P) (size : T → ℕ) (filled : (t : T) → 0 < size t) (spells : R → List T → Type 0) (old mid new : View P T) (before f after : Failures) (items most : ℕ) (same : mid ≡ old) (failures : steady → f ≡ before) (few : items ≤ most) where
-  pub up_to : ((k : ℕ) → k ≤ length old.unread → size_of size (take k old.unread) ≤ most → size_of size (take k old.unread) ≤ items) → (q : R) → UnconsRange steady step size spells mid new f after items (Ok q) → UpTo steady step size old new before after most
-  up_to last q u = record {
+module _ {P T R : Type 0} (counts_failures : Type 0) (step : P → T → P) (size : T → ℕ) (filled : (t : T) → 0 < size t) (spells : R → List T → Type 0) (old mid new : View P T) (before f after : Failures) (items most : ℕ) (same : mid ≡ old) (failures : counts_failures → f ≡ before) (few : items ≤ most) where
+  pub up_to_items : ((k : ℕ) → k ≤ length old.unread → size_of size (take k old.unread) ≤ most → size_of size (take k old.unread) ≤ items) → (q : R) → UnconsRange counts_failures step size spells mid new f after items (Ok q) → UpTo counts_failures step size old new before after most
+  up_to_items last q u = record {
     count = u.is.0;
     taken = subst (λ v. Takes step u.is.0 v new) same u.is.2.taken;
     few = let a = items_here in omega arith;

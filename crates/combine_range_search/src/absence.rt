@@ -18,7 +18,7 @@ pub fn pass_up_to<Input: RangeStream>(input: &mut Input, most: usize) -> Result<
 where
     Input::Range: Range,
     ensures passes { Passes (Input.marks input.old) (Input.marks input.new) (Input.failures input.old) (Input.failures input.new) }
-    ensures over { PassesUpTo Input.steady Input.step Input.size (Input.view input.old) (Input.view input.new) (Input.failures input.old) (Input.failures input.new) most result }
+    ensures over { PassesUpTo Input.counts_failures Input.step Input.size (Input.view input.old) (Input.view input.new) (Input.failures input.old) (Input.failures input.new) most result }
 {
     let mut items = most.min(input.range().len());
     loop {
@@ -55,8 +55,8 @@ pub fn not_found<O, Input: Stream>(
     position: Input::Position,
 ) -> ParseResult<O, Input::Error>
     requires { (Input.view input.now).is_open ≡ false }
-    ensures refuses { RefusesAbsent Input.Error.seen.kind Input.Error.seen.frugal empty result }
-    ensures says { SaysAbsent Input.Error.seen position result }
+    ensures refuses { RefusesAbsent Input.Error.observers.kind Input.Error.observers.never_allocates empty result }
+    ensures says { SaysAbsent Input.Error.observers position result }
 {
     match no_token(input, Kind::End, position) {
         ParseResult::PeekErr(refusal) => {

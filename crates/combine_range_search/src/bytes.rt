@@ -1,7 +1,7 @@
 //! Streams of bytes, and searches for bytes.
 ghost use Rattle.std.specs.Prelude.{◌≡◌, ℕ, List, length};
 ghost use Rattle.combine_range.specs.WantedRanges.{Wanted};
-ghost use Rattle.combine_range_search.specs.Bytes.ByteSearch.{Finds, bytes_of, in_bytes, in_bytes_is_one, in_bytes_is_search};
+ghost use Rattle.combine_range_search.specs.Bytes.ByteSearch.{FindsBytes, encoded_bytes, in_bytes, in_bytes_is_one, in_bytes_is_search};
 
 use crate::find::{ByteTest, find_byte, find_bytes};
 use crate::search::{Searcher, TakeRange};
@@ -23,7 +23,7 @@ where
     ghost sized: { (t : Self.Token) → Self.RangeStream.size t ≡ length (encoded t) };
 
     /// The bytes of a range are those of its tokens.
-    ghost spelled: { (r : Self.Range) (ts : List Self.Token) → Self.RangeStream.spells r ts → Self.Range.bytes r ≡ bytes_of encoded ts };
+    ghost spelled: { (r : Self.Range) (ts : List Self.Token) → Self.RangeStream.spells r ts → Self.Range.bytes r ≡ encoded_bytes encoded ts };
 }
 
 impl<'a> ByteStream for &'a [u8] {
@@ -123,7 +123,7 @@ pub trait Pattern {
 
     /// Returns the first place where they stand.
     fn find(&self, bytes: &[u8]) -> Option<usize>
-        ensures { Finds (wanted self.now) bytes.now result };
+        ensures { FindsBytes (wanted self.now) bytes.now result };
 
     /// Returns how many bytes they are.
     fn len(&self) -> usize

@@ -1,6 +1,6 @@
 //! First places of bytes: blocks are looked through whole, so that the compiler compares many bytes at once, and the block that has one again, byte by byte.
 ghost use Rattle.std.specs.Prelude.{◌≡◌, ◌↔◌, ℕ, ◌<◌, Bool, length, false, true};
-ghost use Rattle.combine_range_search.specs.Bytes.ByteSearch.{Finds, Stands, a_byte, these_bytes};
+ghost use Rattle.combine_range_search.specs.Bytes.ByteSearch.{FindsBytes, BeginsWithBytes, a_byte, these_bytes};
 ghost use Rattle.combine_range_search.specs.Bytes.ByteScans.{FirstByte, Without, fails_all};
 ghost use Rattle.combine_stream.specs.Range.Ranges.{Longest};
 
@@ -70,7 +70,7 @@ pub fn first_byte<T: ByteTest>(bytes: &[u8], test: &T) -> usize
 /// Returns the first place of a byte that passes.
 #[inline(always)]
 pub fn find_byte<T: ByteTest>(bytes: &[u8], test: &T) -> Option<usize>
-    ensures { Finds (a_byte (T.passes test.now)) bytes.now result }
+    ensures { FindsBytes (a_byte (T.passes test.now)) bytes.now result }
 {
     let place = first_byte(bytes, test);
     if place < bytes.len() {
@@ -127,7 +127,7 @@ impl ByteTest for Three {
 // Returns whether the bytes begin with the needle.
 #[inline(always)]
 fn begins(bytes: &[u8], needle: &[u8]) -> bool
-    ensures { (result ≡ true) ↔ Stands (these_bytes needle.now) bytes.now }
+    ensures { (result ≡ true) ↔ BeginsWithBytes (these_bytes needle.now) bytes.now }
 {
     if bytes.len() < needle.len() {
         return false;
@@ -141,7 +141,7 @@ fn begins(bytes: &[u8], needle: &[u8]) -> bool
 /// An empty one stands at 0.
 #[inline]
 pub fn find_bytes(bytes: &[u8], needle: &[u8]) -> Option<usize>
-    ensures { Finds (these_bytes needle.now) bytes.now result }
+    ensures { FindsBytes (these_bytes needle.now) bytes.now result }
 {
     let Some((first, _others)) = needle.split_first() else {
         return Some(0);

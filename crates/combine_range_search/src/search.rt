@@ -1,6 +1,6 @@
 //! Searches for a place in what is unread, and the parser of what stands before it.
 ghost use Rattle.std.specs.Prelude.{◌≡◌, List};
-ghost use Rattle.combine_base.specs.Error.Errors.{Nothing};
+ghost use Rattle.combine_base.specs.Error.Errors.{AddsNothing};
 ghost use Rattle.combine_range.specs.KeptDistance.{kept, kept_is_meaning, kept_means_one};
 ghost use Rattle.combine_range_search.specs.Search.SearchReasons.{RefusesSearch};
 ghost use Rattle.combine_range_search.specs.Search.Searches.{IsOneSearch, IsSearch, Search, Searched, searching, searching_is_reading, searching_is_single};
@@ -26,9 +26,9 @@ pub enum TakeRange {
 }
 
 impl From<Option<usize>> for TakeRange {
-    ghost use Rattle.combine_range_search.specs.Search.TakeFn.{place_of};
+    ghost use Rattle.combine_range_search.specs.Search.TakeFn.{found_place};
 
-    ghost from_gives = { λ place answer. answer ≡ place_of place };
+    ghost from_gives = { λ place answer. answer ≡ found_place place };
 
     /// Turns `None` into what says nothing of what need not be searched again.
     #[inline]
@@ -92,7 +92,7 @@ where
 
     ghost valid = { λ s. Unit {0} };
 
-    ghost meaning = { λ p. kept Input.size (searching Input.size Input.spells (S.search p.searcher)) Nothing (RefusesSearch Input.Error.seen Input.step Input.size Input.spells (S.search p.searcher)) };
+    ghost meaning = { λ p. kept Input.size (searching Input.size Input.spells (S.search p.searcher)) AddsNothing (RefusesSearch Input.Error.observers Input.step Input.size Input.spells (S.search p.searcher)) };
 
     ghost parts = { λ p. 1 };
 

@@ -1,14 +1,14 @@
 -- operands and operators, folded from the right
 use Rattle.std.specs.Prelude.{◌≡◌, List, [], ◌∷◌, ◌++◌, Option, Some, None}
-use Rattle.combine_base.specs.Error.Errors.{Errors}
+use Rattle.combine_base.specs.Error.Errors.{Observers}
 use Rattle.combine_base.specs.Parser.ValueMap.{mapped}
 use Rattle.combine_base.specs.Parser.Meaning.{Meaning}
-use Rattle.combine_combinator.specs.Tables.{by_table, stays}
+use Rattle.combine_combinator.specs.Tables.{by_table, same_outcome}
 use Rattle.combine_repeat_turns.specs.Turns.Blocks.{Collecting}
 use Rattle.combine_repeat_turns.specs.Turns.Bounds.{gathered}
 use Rattle.combine_repeat_turns.specs.Turns.SoundValues.{KeepsSound, kept_sound}
 use Rattle.combine_repeat_sep.specs.Separated.{lead_good}
-use Rattle.combine_repeat_sep.specs.Elements.{joined}
+use Rattle.combine_repeat_sep.specs.Elements.{elements_meaning}
 use Rattle.combine_repeat_sep.specs.declared.separated.Element.{Element}
 use Rattle.combine_repeat_sep.specs.declared.separated.SeparatedState.{SeparatedState}
 use Rattle.combine_repeat_sep.specs.declared.separated.Element.TheVariants.{First, Then}
@@ -72,10 +72,10 @@ gives_right post z r = folded_right post (kept_operands z).0 (kept_operands z).1
 abbrev pub each_operand : {O V : Type 0} → Collecting (Element O V) (ChainOperands O V)
 each_operand = gathered (λ z. Some (kept_operands z)) None keeps_operand ⊥
 
-module _ {P T R E O V U W : Type 0} (step : P → T → P) (errors : Errors T R P E) where
+module _ {P T R E O V U W : Type 0} (step : P → T → P) (errors : Observers T R P E) where
   -- an operand, and then turns of an operator and an operand
   abbrev pub operands : Meaning P T R E V U → Meaning P T R E O W → Meaning P T R E (ChainOperands O V) (TurnsState (ChainOperands O V) (SeparatedState O W U))
-  operands = joined step errors (OwnFirst 1 None) each_operand
+  operands = elements_meaning step errors (OwnFirst 1 None) each_operand
 
   module _ (post : O → V → V → V → Type 0) where
     -- the same, folded from the right
@@ -84,4 +84,4 @@ module _ {P T R E O V U W : Type 0} (step : P → T → P) (errors : Errors T R 
 
     -- the same, of which each call begins again
     abbrev pub chainr1 : Meaning P T R E V U → Meaning P T R E O W → Meaning P T R E V (Unit {0})
-    chainr1 m s = by_table stays (right_fold m s) m.adds (right_fold m s).refuses
+    chainr1 m s = by_table same_outcome (right_fold m s) m.adds (right_fold m s).refuses

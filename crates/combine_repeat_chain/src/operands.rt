@@ -64,7 +64,7 @@ impl<V: Drop, O: Folds<V> + Drop> Gather<Element<O, V>> for EachOperand<O, V> {
 
     ghost sound = { held_good (λ f. O.callable f) };
 
-    ghost lean = { ⊥ };
+    ghost heapless = { ⊥ };
 
     #[inline(always)]
     fn gather(

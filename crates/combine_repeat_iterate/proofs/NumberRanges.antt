@@ -4,14 +4,14 @@ use Rattle.std.specs.Iterator.{at_most}
 use Rattle.std.specs.List.{range_with_len}
 use Rattle.std.specs.declared.ops.Range.{Range}
 use Rattle.std.specs.Range.{range_steps}
-use Rattle.combine_repeat_iterate.specs.ListedItems.{Lists, gives}
+use Rattle.combine_repeat_iterate.specs.ListedItems.{ListsItems, gives_items}
 
 -- a call gives the start, and moves it up by one
 abbrev pub range_calls : Range ℕ → Option ℕ → Range ℕ → Type 0
 range_calls = range_steps (λ a b. b - a) (λ a b. b ≡ a + 1)
 
 abbrev gives_range : List ℕ → Range ℕ → Type 0
-gives_range xs s = gives (λ s. Unit {0}) (λ s. at_most (s.end - s.start)) range_calls xs s
+gives_range xs s = gives_items (λ s. Unit {0}) (λ s. at_most (s.end - s.start)) range_calls xs s
 
 range_gives : (n a : ℕ) (s : Range ℕ) → s.start ≡ a → s.end - s.start ≡ n → gives_range (range_with_len a n) s
 range_gives zero a s i e = record {
@@ -45,5 +45,5 @@ module _ (clones makes : Range ℕ → Range ℕ → Type 0) (list : Range ℕ) 
   starts_there : (clone it : Range ℕ) → (clone.start ≡ list.start) × (clone.end ≡ list.end) × (it ≡ clone) → gives_range (range_with_len list.start (list.end - list.start)) it
   starts_there clone it e = rw e.2 (range_gives (list.end - list.start) list.start clone e.0 (rw (e.0, e.1) refl))
 
-  pub range_lists : (xs : List ℕ) × Lists (λ s. Unit {0}) (λ s. at_most (s.end - s.start)) range_calls clones makes list xs
+  pub range_lists : (xs : List ℕ) × ListsItems (λ s. Unit {0}) (λ s. at_most (s.end - s.start)) range_calls clones makes list xs
   range_lists = (range_with_len list.start (list.end - list.start), record { each = λ clone it i j. record { is = starts_there clone it (begins clone it i j) } })

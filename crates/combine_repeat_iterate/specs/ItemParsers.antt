@@ -1,12 +1,12 @@
 -- a parser for each item of a list, one after another, and their values collected
 use Rattle.std.specs.Prelude.{◌≡◌, List, [], ◌∷◌, false}
 use Rattle.std.proofs.Common.{sym, subst, arith}
-use Rattle.combine_base.specs.Error.Errors.{Errors}
+use Rattle.combine_base.specs.Error.Errors.{Observers}
 use Rattle.combine_base.specs.Stream.View.{View}
 use Rattle.combine_base.specs.Parser.Outcome.{Outcome, Accepted, Refused, Undecided, shape}
 use Rattle.combine_base.specs.Parser.KeptParsers.{KeptOf, means_one_as}
 use Rattle.combine_base.specs.Parser.Meaning.{Meaning, Reading, IsReading, IsSingle, IsMeaning, MeansOne, SameReasons}
-use Rattle.combine_base.specs.Sequence.Readings.{following, sequel, continues, following_is_reading, following_is_single, sequel_is_reading, sequel_is_single, FollowsOne}
+use Rattle.combine_base.specs.Sequence.Readings.{following, sequel, continues, following_is_reading, following_is_single, sequel_is_reading, sequel_is_single, SecondIsSingle}
 use Rattle.combine_repeat_iterate.specs.ItemErrors.{RefusesIterated}
 use Rattle.combine_repeat_iterate.specs.declared.repeat.items.RunningItem.{RunningItem}
 use Rattle.combine_repeat_iterate.specs.declared.repeat.items.IterateState.{IterateState}
@@ -26,7 +26,7 @@ abbrev pub unchanged : {C : Type 0} → C → C
 unchanged c = c
 
 -- any two parsers that may be answered for one item have one outcome, but for the value
-pub record AnswersOne {P T I N B : Type 0} (answers : I → N → Type 0) (means : N → Reading P T B) : Type 0 where
+pub record ItemAnswersOne {P T I N B : Type 0} (answers : I → N → Type 0) (means : N → Reading P T B) : Type 0 where
   pub one : (x : I) (n n' : N) → answers x n → answers x n' → (v : View P T) (o o' : Outcome B) → means n v o → means n' v o' → shape o ≡ shape o'
 
 -- a state is valid where the running item's parser is one that may be kept, its state is valid, and the iterator gives some items
@@ -38,31 +38,31 @@ module _ {C It I N U : Type 0} (kept : N → Type 0) (valid : U → Type 0) (at 
   valid_item states.Start = Unit {0}
   valid_item (states.Running l) = valid_running l
 
-  pub starts_valid : (z : IterateState C It N U) → begins_items z → valid_item z
-  starts_valid states.Start d = tt
-  starts_valid (states.Running l) d = absurd d
+  pub items_start_valid : (z : IterateState C It N U) → begins_items z → valid_item z
+  items_start_valid states.Start d = tt
+  items_start_valid (states.Running l) d = absurd d
 
-module _ {P T R E I N It B C H U : Type 0} (step : P → T → P) (errors : Errors T R P E) (answers : I → N → Type 0) (some : N → Type 0) (means : N → Meaning P T R E B U) (held : C → H) (none : H) (more : H → B → H) (at : It → List I → Type 0) (lists : List I → Type 0) (spared : Type 0) where
+module _ {P T R E I N It B C H U : Type 0} (step : P → T → P) (errors : Observers T R P E) (answers : I → N → Type 0) (some : N → Type 0) (means : N → Meaning P T R E B U) (held : C → H) (none : H) (more : H → B → H) (at : It → List I → Type 0) (lists : List I → Type 0) (spared : Type 0) where
   -- any parser that is answered for the item
-  abbrev pub answered : I → Reading P T B
-  answered x v o = (n : N) × answers x n × (means n).whole v o
+  abbrev pub answered_for_item : I → Reading P T B
+  answered_for_item x v o = (n : N) × answers x n × (means n).whole v o
 
   -- a collection that holds so much, nothing taken
   abbrev pub collected : H → Reading P T C
   collected h v o = (c : C) × (held c ≡ h) × (o ≡ Accepted c 0 false)
 
   -- What comes of these items, where so much is collected: where there are none, that collection; else, where the first one's parser is accepted, what comes of the others with its value collected, after it; else that parser's outcome.
-  abbrev pub each : H → List I → Reading P T C
-  each h [] = collected h
-  each h (x ∷ xs) = sequel step last_value (answered x) (λ b. each (more h b) xs)
+  abbrev pub each_item : H → List I → Reading P T C
+  each_item h [] = collected h
+  each_item h (x ∷ xs) = sequel step last_value (answered_for_item x) (λ b. each_item (more h b) xs)
 
   -- and where the first one's parser has this reading
   abbrev pub each_from : Reading P T B → H → List I → Reading P T C
-  each_from r h xs = sequel step last_value r (λ b. each (more h b) xs)
+  each_from r h xs = sequel step last_value r (λ b. each_item (more h b) xs)
 
-  abbrev pub rest_of : IterateState C It N U → Reading P T C
-  rest_of states.Start v o = (xs : List I) × lists xs × each none xs v o
-  rest_of (states.Running l) v o = (xs : List I) × at l.before.items xs × following l.before.committed unchanged (each_from ((means l.parser).rest l.state) (held l.before.values) xs) v o
+  abbrev pub iterated_rest : IterateState C It N U → Reading P T C
+  iterated_rest states.Start v o = (xs : List I) × lists xs × each_item none xs v o
+  iterated_rest (states.Running l) v o = (xs : List I) × at l.before.items xs × following l.before.committed unchanged (each_from ((means l.parser).rest l.state) (held l.before.values) xs) v o
 
   abbrev pub lost_of : IterateState C It N U → View P T → Type 0
   lost_of states.Start v = ⊥
@@ -71,12 +71,12 @@ module _ {P T R E I N It B C H U : Type 0} (step : P → T → P) (errors : Erro
   -- the parsers of the items of a list, one after another; some are those that may be answered by any function of the type
   abbrev pub iterated : Meaning P T R E C (IterateState C It N U)
   iterated = record {
-    whole = λ v o. (xs : List I) × lists xs × each none xs v o;
-    rest = rest_of;
+    whole = λ v o. (xs : List I) × lists xs × each_item none xs v o;
+    rest = iterated_rest;
     lost = lost_of;
     keeps = (n : N) → some n → (means n).keeps;
     puts_back = ⊥;
-    lean = ((n : N) → some n → (means n).lean) × spared;
+    heapless = ((n : N) → some n → (means n).heapless) × spared;
     adds = λ is. is ≡ [];
     refuses = RefusesIterated step answers means errors {C = C} at lists states.Start;
     refuses_from = RefusesIterated step answers means errors at lists;
@@ -91,7 +91,7 @@ module _ {P T R E I N It B C H U : Type 0} (step : P → T → P) (errors : Erro
   }
 
   module _ (lawful : N → Type 0) {fresh valid : U → Type 0} (laws : (n : N) → lawful n → IsMeaning fresh valid (means n)) (every : (x : I) (n : N) → answers x n → lawful n) where
-    pub answered_is_reading : (x : I) → IsReading (answered x)
+    pub answered_is_reading : (x : I) → IsReading (answered_for_item x)
     answered_is_reading x = record {
       ended = λ v e w. (laws w.0 (every x w.0 w.1)).whole.ended v e w.2;
       stays = λ v y m o e d w. (w.0, w.1, (laws w.0 (every x w.0 w.1)).whole.stays v y m o e d w.2);
@@ -99,15 +99,15 @@ module _ {P T R E I N It B C H U : Type 0} (step : P → T → P) (errors : Erro
       within = λ v b n k w. (laws w.0 (every x w.0 w.1)).whole.within v b n k w.2;
     }
 
-    pub each_is_reading : (xs : List I) (h : H) → IsReading (each h xs)
+    pub each_is_reading : (xs : List I) (h : H) → IsReading (each_item h xs)
     each_is_reading [] h = collected_is_reading h
-    each_is_reading (x ∷ xs) h = sequel_is_reading step last_value (answered x) (λ b. each (more h b) xs) (answered_is_reading x) (λ b. each_is_reading xs (more h b))
+    each_is_reading (x ∷ xs) h = sequel_is_reading step last_value (answered_for_item x) (λ b. each_item (more h b) xs) (answered_is_reading x) (λ b. each_is_reading xs (more h b))
 
     pub running_is_reading : (l : RunningItem C It N U) (xs : List I) → valid_running (KeptOf lawful means some) valid at l → IsReading (following l.before.committed unchanged (each_from ((means l.parser).rest l.state) (held l.before.values) xs))
     running_is_reading l xs d =
         let h = held l.before.values in
         let r = (means l.parser).rest l.state in
-        following_is_reading l.before.committed unchanged (each_from r h xs) (sequel_is_reading step last_value r (λ b. each (more h b) xs) ((laws l.parser d.0.is_lawful).rest l.state d.1) (λ b. each_is_reading xs (more h b)))
+        following_is_reading l.before.committed unchanged (each_from r h xs) (sequel_is_reading step last_value r (λ b. each_item (more h b) xs) ((laws l.parser d.0.is_lawful).rest l.state d.1) (λ b. each_is_reading xs (more h b)))
 
     whole_is_reading : IsReading iterated.whole
     whole_is_reading = record {
@@ -117,7 +117,7 @@ module _ {P T R E I N It B C H U : Type 0} (step : P → T → P) (errors : Erro
       within = λ v a n k w. (each_is_reading w.0 none).within v a n k w.2;
     }
 
-    rest_is_reading : (z : IterateState C It N U) → valid_item (KeptOf lawful means some) valid at z → IsReading (rest_of z)
+    rest_is_reading : (z : IterateState C It N U) → valid_item (KeptOf lawful means some) valid at z → IsReading (iterated_rest z)
     rest_is_reading states.Start d = whole_is_reading
     rest_is_reading (states.Running l) d = record {
       ended = λ v e w. (running_is_reading l w.0 d).ended v e w.2;
@@ -126,7 +126,7 @@ module _ {P T R E I N It B C H U : Type 0} (step : P → T → P) (errors : Erro
       within = λ v a n k w. (running_is_reading l w.0 d).within v a n k w.2;
     }
 
-    starts : (z : IterateState C It N U) (v : View P T) (o : Outcome C) → begins_items z → (rest_of z v o → iterated.whole v o) × (iterated.whole v o → rest_of z v o)
+    starts : (z : IterateState C It N U) (v : View P T) (o : Outcome C) → begins_items z → (iterated_rest z v o → iterated.whole v o) × (iterated.whole v o → iterated_rest z v o)
     starts states.Start v o d = (λ w. w, λ w. w)
     starts (states.Running l) v o d = absurd d
 
@@ -143,9 +143,9 @@ module _ {P T R E I N It B C H U : Type 0} (step : P → T → P) (errors : Erro
 
   -- what comes of the items, whatever is collected
   abbrev any_each : List I → Reading P T C
-  any_each xs v o = (h : H) × each h xs v o
+  any_each xs v o = (h : H) × each_item h xs v o
 
-  forgets : (r : Reading P T B) (h : H) (xs : List I) (v : View P T) (p : Outcome B) (o : Outcome C) → continues step last_value (λ b. each (more h b) xs) v p o → continues step last_value (λ b. any_each xs) v p o
+  forgets : (r : Reading P T B) (h : H) (xs : List I) (v : View P T) (p : Outcome B) (o : Outcome C) → continues step last_value (λ b. each_item (more h b) xs) v p o → continues step last_value (λ b. any_each xs) v p o
   forgets r h xs v (Accepted b n k) o u = (u.0, (more h b, u.1), u.2)
   forgets r h xs v (Refused k) o u = u
   forgets r h xs v Undecided o u = u
@@ -153,18 +153,18 @@ module _ {P T R E I N It B C H U : Type 0} (step : P → T → P) (errors : Erro
   pub from_any : (r : Reading P T B) (h : H) (xs : List I) (v : View P T) (o : Outcome C) → each_from r h xs v o → sequel step last_value r (λ b. any_each xs) v o
   from_any r h xs v o w = (w.0, w.1, forgets r h xs v w.0 o w.2)
 
-  one_follows : (r : Reading P T B) (xs : List I) → IsSingle (any_each xs) → FollowsOne step last_value r (λ b. any_each xs)
+  one_follows : (r : Reading P T B) (xs : List I) → IsSingle (any_each xs) → SecondIsSingle step last_value r (λ b. any_each xs)
   one_follows r xs h = record { one = λ v a a' n c w w' u o o' x x'. h.one u o o' x x' }
 
-  module _ (determined : AnswersOne answers (λ n. (means n).whole)) where
-    answered_is_single : (x : I) → IsSingle (answered x)
+  module _ (determined : ItemAnswersOne answers (λ n. (means n).whole)) where
+    answered_is_single : (x : I) → IsSingle (answered_for_item x)
     answered_is_single x = record { one = λ v o o' w w'. determined.one x w.0 w'.0 w.1 w'.1 v o o' w.2 w'.2 }
 
     each_is_single : (xs : List I) → IsSingle (any_each xs)
     each_is_single [] = record { one = λ v o o' w w'. let i = w.1.2 in let j = w'.1.2 in cc }
     each_is_single (x ∷ xs) =
-        let s = sequel_is_single step last_value (answered x) (λ b. any_each xs) (answered_is_single x) (one_follows (answered x) xs (each_is_single xs)) in
-        record { one = λ v o o' w w'. s.one v o o' (from_any (answered x) w.0 xs v o w.1) (from_any (answered x) w'.0 xs v o' w'.1) }
+        let s = sequel_is_single step last_value (answered_for_item x) (λ b. any_each xs) (answered_is_single x) (one_follows (answered_for_item x) xs (each_is_single xs)) in
+        record { one = λ v o o' w w'. s.one v o o' (from_any (answered_for_item x) w.0 xs v o w.1) (from_any (answered_for_item x) w'.0 xs v o' w'.1) }
 
     from_is_single : (r : Reading P T B) (h : H) (xs : List I) → IsSingle r → IsSingle (each_from r h xs)
     from_is_single r h xs k =
@@ -173,7 +173,7 @@ module _ {P T R E I N It B C H U : Type 0} (step : P → T → P) (errors : Erro
 
     module _ (lawful : N → Type 0) {valid : U → Type 0} (singles : (n : N) → some n → MeansOne valid (means n)) (listed : (xs ys : List I) → lists xs → lists ys → xs ≡ ys) (given : (it : It) (xs ys : List I) → at it xs → at it ys → xs ≡ ys) where
       whole_is_single : IsSingle iterated.whole
-      whole_is_single = record { one = λ v o o' w w'. (each_is_single w.0).one v o o' (none, w.2) (none, subst (λ xs. each none xs v o') (sym (listed w.0 w'.0 w.1 w'.1)) w'.2) }
+      whole_is_single = record { one = λ v o o' w w'. (each_is_single w.0).one v o o' (none, w.2) (none, subst (λ xs. each_item none xs v o') (sym (listed w.0 w'.0 w.1 w'.1)) w'.2) }
 
       running_is_single : (l : RunningItem C It N U) (xs : List I) → valid_running (KeptOf lawful means some) valid at l → IsSingle (following l.before.committed unchanged (each_from ((means l.parser).rest l.state) (held l.before.values) xs))
       running_is_single l xs d =
@@ -181,7 +181,7 @@ module _ {P T R E I N It B C H U : Type 0} (step : P → T → P) (errors : Erro
           let r = (means l.parser).rest l.state in
           following_is_single l.before.committed unchanged (each_from r h xs) (from_is_single r h xs ((means_one_as d.0.same (singles d.0.parser d.0.is_given)).rest l.state d.1))
 
-      rest_is_single : (z : IterateState C It N U) → valid_item (KeptOf lawful means some) valid at z → IsSingle (rest_of z)
+      rest_is_single : (z : IterateState C It N U) → valid_item (KeptOf lawful means some) valid at z → IsSingle (iterated_rest z)
       rest_is_single states.Start d = whole_is_single
       rest_is_single (states.Running l) d =
           let h = held l.before.values in

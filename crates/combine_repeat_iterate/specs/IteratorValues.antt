@@ -1,15 +1,15 @@
 -- what an iterator over a parser gives: the values of the blocks of the turns that are left, one after another
 use Rattle.std.specs.Prelude.{ℕ, ◌+◌, ◌<◌, ◌≡◌, List, [], ◌∷◌, length, Bool, true, false, Option, Some, None}
 use Rattle.std.specs.Iterator.{Count, at_most}
-use Rattle.combine_base.specs.Stream.View.{View, Takes, Follows, extended}
-use Rattle.combine_base.specs.Error.Errors.{Errors}
+use Rattle.combine_base.specs.Stream.View.{View, Takes, MayFollow, extended}
+use Rattle.combine_base.specs.Error.Errors.{Observers}
 use Rattle.combine_base.specs.Parser.Outcome.{Outcome, Accepted, Refused, Undecided}
 use Rattle.combine_base.specs.Parser.Meaning.{Meaning, begun}
 use Rattle.combine_base.specs.Parser.ParserCalls.{Ready}
 use Rattle.combine_base.specs.Sequence.Parts.{accepted_as}
 use Rattle.combine_repeat_turns.specs.Turns.Bounds.{bounded}
-use Rattle.combine_repeat_turns.specs.Repeat.Repeated.{never}
-use Rattle.combine_repeat_turns.specs.Turns.Blocks.{Block, Divides}
+use Rattle.combine_repeat_turns.specs.Repeat.Repeated.{no_value_ends}
+use Rattle.combine_repeat_turns.specs.Turns.Blocks.{Block, DividesBlocks}
 use Rattle.combine_repeat_turns.specs.declared.turns.Bounds.TheVariants.{Unbounded}
 use Rattle.combine_base.specs.declared.parser.Parser as parser
 use Rattle.combine_base.specs.declared.stream.StreamOnce as stream
@@ -17,7 +17,7 @@ use Rattle.combine_base.specs.declared.stream.Kind.{Kind}
 use Rattle.combine_base.specs.declared.stream.Kind.TheVariants as kinds
 use Rattle.combine_base.specs.declared.error.ParseResult.{ParseResult}
 use Rattle.combine_base.specs.declared.error.ParseResult.TheVariants.{CommitErr}
-use Rattle.combine_repeat_iterate.specs.IteratorTurn.{TurnCalled, place_of}
+use Rattle.combine_repeat_iterate.specs.IteratorTurn.{TurnCalled, iter_turn_place}
 use Rattle.combine_repeat_iterate.specs.declared.repeat.Iter.{Iter}
 use Rattle.combine_repeat_iterate.specs.declared.repeat.IterStage.{IterStage}
 use Rattle.combine_repeat_iterate.specs.declared.repeat.IterStage.TheVariants as stages
@@ -26,7 +26,7 @@ use Rattle.combine_repeat_iterate.specs.declared.repeat.IterStep.TheVariants.{Gi
 
 -- The turns that are left, of which the first begins afresh or goes on from a state: these blocks, as `many` divides the list, and then a place where the turns stop so. A turn that goes on is a block also if it takes nothing more.
 abbrev pub remains : {P T R E A S : Type 0} → (P → T → P) → Meaning P T R E A S → Bool → S → View P T → List (Block A) → Outcome (Unit {0}) → Type 0
-remains step m first s v bs l = Divides step (bounded Unbounded never) (λ _. m.whole) l (begun m first s) (place_of first) bs v
+remains step m first s v bs l = DividesBlocks step (bounded Unbounded no_value_ends) (λ _. m.whole) l (begun m first s) (iter_turn_place first) bs v
 
 -- these blocks, of which the first took n tokens more before
 abbrev pub longer : {A : Type 0} → ℕ → List (Block A) → List (Block A)
@@ -67,10 +67,10 @@ runs_at stages.Over = false
 runs_at (stages.Failed e) = false
 
 -- the stage after a turn
-abbrev pub stage_after : {A E : Type 0} → IterStep A E → IterStage E
-stage_after (Gives a) = stages.Running
-stage_after Over = stages.Over
-stage_after (Fails e) = stages.Failed e
+abbrev pub iter_stage_after : {A E : Type 0} → IterStep A E → IterStage E
+iter_stage_after (Gives a) = stages.Running
+iter_stage_after Over = stages.Over
+iter_stage_after (Fails e) = stages.Failed e
 
 -- the turns as an answer with that value, of which one gave a value or none
 abbrev pub answer_of : {V E : Type 0} → IterStage E → Bool → V → ParseResult V E
@@ -98,7 +98,7 @@ module _ {Self Input Mode Checkpoint Token Range Position Error Output State : T
   answer_with it v = answer_of it.stage it.given v
 
   -- a new iterator, which has given nothing
-  pub record Begins (it : Iter Input Self Mode Checkpoint Token Range Position Error State Output) (of : Self) (how : Mode) (on : Input) (from : State) : Type 0 where
+  pub record IsNewIter (it : Iter Input Self Mode Checkpoint Token Range Position Error State Output) (of : Self) (how : Mode) (on : Input) (from : State) : Type 0 where
     pub parser : it.parser ≡ of
     pub mode : it.mode ≡ how
     pub input : it.input.now ≡ on
@@ -122,36 +122,36 @@ module _ {Self Input Mode Checkpoint Token Range Position Error Output State : T
   abbrev pub left_with : Iter Input Self Mode Checkpoint Token Range Position Error State Output → List Token → Bool → List (Block Output) → Outcome (Unit {0}) → Type 0
   left_with it x b bs l = remains i.step (p.meaning it.parser) (first it.mode) it.state.now (extended x b (i.view it.input.now)) bs l
 
-  module _ (seen : Errors Token Range Position Error) (fresh : State → Type 0) where
+  module _ (observers : Observers Token Range Position Error) (fresh : State → Type 0) where
     -- a call in which a turn was run
-    pub record Runs (it new : Iter Input Self Mode Checkpoint Token Range Position Error State Output) (turn : IterStep Output Error) : Type 0 where
-      pub called : TurnCalled p i seen fresh it.parser new.parser it.input.now new.input.now (first it.mode) it.state.now new.state.now turn
-      pub stage : new.stage ≡ stage_after turn
+    pub record RunsIterTurn (it new : Iter Input Self Mode Checkpoint Token Range Position Error State Output) (turn : IterStep Output Error) : Type 0 where
+      pub called : TurnCalled p i observers fresh it.parser new.parser it.input.now new.input.now (first it.mode) it.state.now new.state.now turn
+      pub stage : new.stage ≡ iter_stage_after turn
 
     -- the turn is a block: its value is given, and what was left is that block and what is left now
     pub record GivesBlock (it new : Iter Input Self Mode Checkpoint Token Range Position Error State Output) (a : Output) : Type 0 where
-      pub runs : Runs it new (Gives a)
+      pub runs : RunsIterTurn it new (Gives a)
       pub mode : first new.mode ≡ true
       pub given : new.given ≡ true
       pub block : Block Output
       pub value : block.value ≡ a
       pub divided : (bs : List (Block Output)) (l : Outcome (Unit {0})) → left_of new bs l → left_of it (block ∷ bs) l
       -- and it stays one, whatever follows
-      pub stays : (x : List Token) (b : Bool) → Follows (i.view it.input.now).is_open x b → (bs : List (Block Output)) (l : Outcome (Unit {0})) → left_with new x b bs l → left_with it x b (block ∷ bs) l
+      pub stays : (x : List Token) (b : Bool) → MayFollow (i.view it.input.now).is_open x b → (bs : List (Block Output)) (l : Outcome (Unit {0})) → left_with new x b bs l → left_with it x b (block ∷ bs) l
 
     -- no block was left, and the turns stop as the stage says
     pub record EndsTurns (it new : Iter Input Self Mode Checkpoint Token Range Position Error State Output) : Type 0 where
       pub turn : IterStep Output Error
-      pub runs : Runs it new turn
+      pub runs : RunsIterTurn it new turn
       pub ended : runs_at new.stage ≡ false
       pub given : new.given ≡ it.given
-      pub divided : (l : Outcome (Unit {0})) → stage_stops seen.kind (i.view new.input.now).is_open new.stage l → left_of it [] l
+      pub divided : (l : Outcome (Unit {0})) → stage_stops observers.kind (i.view new.input.now).is_open new.stage l → left_of it [] l
       -- where they need more, they go on from the state that was lent
-      pub continues : (e : Error) → new.stage ≡ stages.Failed e → seen.kind e ≡ kinds.End → (i.view it.input.now).is_open ≡ true → Continues i.step (p.meaning it.parser) (first it.mode) it.state.now new.state.now (i.view it.input.now) (i.view new.input.now)
+      pub continues : (e : Error) → new.stage ≡ stages.Failed e → observers.kind e ≡ kinds.End → (i.view it.input.now).is_open ≡ true → Continues i.step (p.meaning it.parser) (first it.mode) it.state.now new.state.now (i.view it.input.now) (i.view new.input.now)
 
-    abbrev pub goes_on : Iter Input Self Mode Checkpoint Token Range Position Error State Output → Option Output → Iter Input Self Mode Checkpoint Token Range Position Error State Output → Type 0
-    goes_on it (Some a) new = GivesBlock it new a
-    goes_on it None new = EndsTurns it new
+    abbrev pub runs_next_turn : Iter Input Self Mode Checkpoint Token Range Position Error State Output → Option Output → Iter Input Self Mode Checkpoint Token Range Position Error State Output → Type 0
+    runs_next_turn it (Some a) new = GivesBlock it new a
+    runs_next_turn it None new = EndsTurns it new
 
     -- an iterator that ended gives nothing and changes nothing
     abbrev pub after_end : Iter Input Self Mode Checkpoint Token Range Position Error State Output → Option Output → Iter Input Self Mode Checkpoint Token Range Position Error State Output → Type 0
@@ -159,7 +159,7 @@ module _ {Self Input Mode Checkpoint Token Range Position Error Output State : T
     after_end it None new = new ≡ it
 
     abbrev pub next_at : IterStage Error → Iter Input Self Mode Checkpoint Token Range Position Error State Output → Option Output → Iter Input Self Mode Checkpoint Token Range Position Error State Output → Type 0
-    next_at stages.Running it result new = goes_on it result new
+    next_at stages.Running it result new = runs_next_turn it result new
     next_at stages.Over it result new = after_end it result new
     next_at (stages.Failed e) it result new = after_end it result new
 

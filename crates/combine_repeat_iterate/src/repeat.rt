@@ -1,12 +1,12 @@
 //! The values of a parser, one after another, and a parser for each item of a list.
 ghost use Rattle.std.specs.Prelude.{◌≡◌, ℕ};
 ghost use Rattle.combine_base.specs.Stream.View.{View, Takes};
-ghost use Rattle.combine_repeat_turns.specs.Turns.Bounds.{goes_at};
+ghost use Rattle.combine_repeat_turns.specs.Turns.Bounds.{is_block_at};
 ghost use Rattle.combine_repeat_turns.specs.declared.turns.Bounds.TheVariants.{Unbounded};
 ghost use Rattle.combine_base.specs.Error.Results.{standard};
 ghost use Rattle.combine_repeat_iterate.specs.ListedItems.{iterate_of};
-ghost use Rattle.combine_repeat_iterate.specs.IteratorTurn.{TurnCalled, place_of};
-ghost use Rattle.combine_repeat_iterate.specs.IteratorValues.{Begins, Nexts, answer_of, answer_with, at_most_left, may_go_on, runs_at};
+ghost use Rattle.combine_repeat_iterate.specs.IteratorTurn.{TurnCalled, iter_turn_place};
+ghost use Rattle.combine_repeat_iterate.specs.IteratorValues.{IsNewIter, Nexts, answer_of, answer_with, at_most_left, may_go_on, runs_at};
 
 mod items;
 pub mod types;
@@ -136,7 +136,7 @@ impl<'a, Input: Stream, P: Parser<Input>, M: ParseMode> Iter<'a, Input, P, M> {
         state: &'a mut P::PartialState,
     ) -> Iter<'a, Input, P, M>
         requires ready { ⟦<P as Calls<Input>>⟧.ready parser state.old }
-        ensures begins { Begins result parser mode input.old state.old }
+        ensures begins { IsNewIter result parser mode input.old state.old }
         ensures ready { may_go_on P.Parser Input.StreamOnce M.first result }
         ensures same_input { result.input.ghost_name ≡ input.entry.ghost_name }
         ensures same_state { result.state.ghost_name ≡ state.entry.ghost_name }
@@ -182,7 +182,7 @@ impl<'a, Input: Stream, P: Parser<Input> + Drop, M: ParseMode> Iterator for Iter
 
     ghost can_next = { may_go_on P.Parser Input.StreamOnce M.first };
 
-    ghost next_gives = { Nexts P.Parser Input.StreamOnce M.first Input.Error.seen P.PartialState.is_default };
+    ghost next_gives = { Nexts P.Parser Input.StreamOnce M.first Input.Error.observers P.PartialState.is_default };
 
     ghost remaining = { at_most_left P.Parser Input.StreamOnce M.first };
 
@@ -227,7 +227,7 @@ fn iter_step<Input: Stream, P: Parser<Input>, M: ParseMode>(
     state: &mut P::PartialState,
 ) -> IterStep<P::Output, Input::Error>
     requires { ⟦<P as Calls<Input>>⟧.ready parser.old state.old }
-    ensures { TurnCalled P.Parser Input.StreamOnce Input.Error.seen P.PartialState.is_default
+    ensures { TurnCalled P.Parser Input.StreamOnce Input.Error.observers P.PartialState.is_default
         parser.old parser.new input.old input.new (M.first mode) state.old state.new result }
 {
     let checkpoint = input.checkpoint();
@@ -259,7 +259,7 @@ fn is_block<Input: Stream>(
     since: Input::Checkpoint,
     input: &Input,
 ) -> bool
-    ensures { (n : ℕ) (v : View Input.Position Input.Token) → Input.stands input.now since v → Takes Input.step n v (Input.view input.now) → result ≡ goes_at Unbounded (place_of first) n committed }
+    ensures { (n : ℕ) (v : View Input.Position Input.Token) → Input.stands input.now since v → Takes Input.step n v (Input.view input.now) → result ≡ is_block_at Unbounded (iter_turn_place first) n committed }
 {
     committed && has_taken(!first, since, input)
 }

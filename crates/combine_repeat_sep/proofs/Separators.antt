@@ -6,8 +6,8 @@ use Rattle.combine_base.specs.Parser.DriverAnswers.{NeedsMore}
 use Rattle.combine_base.specs.Parser.Meaning.{Meaning}
 use Rattle.combine_base.specs.Parser.Outcome.{Accepted}
 use Rattle.combine_base.specs.Parser.Answer.{World, Answers}
-use Rattle.combine_base.specs.Error.Errors.{Errors}
-use Rattle.combine_base.specs.Sequence.Parts.{GoesOn, Runs, run_from}
+use Rattle.combine_base.specs.Error.Errors.{Observers}
+use Rattle.combine_base.specs.Sequence.Parts.{ContinuesSequence, RunsLastPart, call_from}
 use Rattle.combine_base.specs.declared.stream.Failures.{Failures}
 use Rattle.combine_base.specs.declared.error.ParseResult.{ParseResult}
 use Rattle.combine_base.specs.declared.error.ParseResult.TheVariants.{CommitOk, PeekOk, CommitErr, PeekErr}
@@ -44,9 +44,9 @@ module _ {O W U : Type 0} where
   begins_still fresh o (Separator x) d = tt
   begins_still fresh o (Part a k x) d = absurd d
 
-module _ {P T R O V W U E : Type 0} (w : World P T U E) (errors : Errors T R P E) (valid : U → Type 0) (start left : PairState O W U) (m : Meaning P T R E V U) (fresh : W → Type 0) (d : pair_begins fresh start) (old new : View P T) (before after : Failures) (result : ParseResult (O × V) E) where
+module _ {P T R O V W U E : Type 0} (w : World P T U E) (errors : Observers T R P E) (valid : U → Type 0) (start left : PairState O W U) (m : Meaning P T R E V U) (fresh : W → Type 0) (d : pair_begins fresh start) (old new : View P T) (before after : Failures) (result : ParseResult (O × V) E) where
   -- where the part ran, what stands before it is as it was
-  pub runs_still : (o : O) (c : Bool) (u : U) → Runs w errors valid (λ z. z ≡ start) pair_place m c (put_to o) (λ y. record { value = o; committed = c; state = y }) left old new before after result u → still o left
+  pub runs_still : (o : O) (c : Bool) (u : U) → RunsLastPart w errors valid (λ z. z ≡ start) pair_place m c (put_to o) (λ y. record { value = o; committed = c; state = y }) left old new before after result u → still o left
   runs_still o c u r = by_left r.leaves
     where
       by_left : (NeedsMore w.kind new.is_open r.answer × (pair_place left ≡ Last (record { value = o; committed = c; state = r.stopped })) × valid r.stopped) ⊎ ((NeedsMore w.kind new.is_open r.answer → ⊥) × (left ≡ start)) → still o left
@@ -67,7 +67,7 @@ module _ {P T R O V W U E : Type 0} (w : World P T U E) (errors : Errors T R P E
     given_start (Part a c y) b = absurd b
 
     -- and where the separator ran, what is kept of it is what it gave
-    pub led_rest : (kept : W) (answer : ParseResult O E) → Answers around s (run_from x stopped v u i j) answer → GoesOn w errors valid (λ z. z ≡ start) pair_place put_to m kept left old new before after result answer → LedBy s (Separator x) left
+    pub led_rest : (kept : W) (answer : ParseResult O E) → Answers around s (call_from x stopped v u i j) answer → ContinuesSequence w errors valid (λ z. z ≡ start) pair_place put_to m kept left old new before after result answer → LedBy s (Separator x) left
     led_rest kept (CommitOk a) p g = let r = g.is in record { is = given_still a p.is.count true p.is.meant left (runs_still a true r.state r.runs) }
     led_rest kept (PeekOk a) p g = let r = g.is in record { is = given_still a p.is.count false p.is.meant left (runs_still a false r.state r.runs) }
     led_rest kept (CommitErr e) p g = record { is = given_before kept left g.is.state }

@@ -8,7 +8,7 @@ use Rattle.combine_base.specs.Parser.Reasons.{Reasoned}
 use Rattle.combine_base.specs.Sequence.Parts.{joined_answer}
 use Rattle.combine_base.specs.declared.stream.Failures.{Failures}
 use Rattle.combine_base.specs.declared.error.ParseResult.{ParseResult}
-use Rattle.combine_base.specs.Error.Errors.{Errors}
+use Rattle.combine_base.specs.Error.Errors.{Observers}
 use Rattle.combine_base.specs.declared.stream.StreamOnce as stream
 use Rattle.combine_repeat_sep.specs.Pair.{pair, pair_begins}
 use Rattle.combine_repeat_sep.specs.Separated.{later_kept}
@@ -17,7 +17,7 @@ use Rattle.combine_repeat_sep.specs.declared.separated.SeparatedState.{Separated
 
 module _ {P T R A B S S' E : Type 0} (w : World P T S E) (m : Meaning P T R E A S) (valid : S → Type 0) (f : A → B) (keep : S → S') where
   -- the part was run so; on need of more its state is kept, and else what was there at the start
-  pub record Ran (first : Bool) (state : S) (start left : S') (old new : View P T) (before after : Failures) (result : ParseResult B E) : Type 0 where
+  pub record RanPart (first : Bool) (state : S) (start left : S') (old new : View P T) (before after : Failures) (result : ParseResult B E) : Type 0 where
     pub stopped : S
     pub answer : ParseResult A E
     pub answers : Answers w m (record { first = first; state = state; left = stopped; old = old; new = new; before = before; after = after }) answer
@@ -25,11 +25,11 @@ module _ {P T R A B S S' E : Type 0} (w : World P T S E) (m : Meaning P T R E A 
     pub is : result ≡ joined_answer false f answer
     pub leaves : (NeedsMore w.kind new.is_open answer × (left ≡ keep stopped) × valid stopped) ⊎ ((NeedsMore w.kind new.is_open answer → ⊥) × (left ≡ start))
 
-module _ {Input P T R E : Type 0} (i : stream.Ghosts Input T R P E) (seen : Errors T R P E) where
+module _ {Input P T R E : Type 0} (i : stream.Ghosts Input T R P E) (observers : Observers T R P E) where
   -- a part
   abbrev pub RanCall : {A B S S' : Type 0} (fresh : S → Type 0) (m : Meaning P T R E A S) (valid : S → Type 0) (f : A → B) (keep : S → S') (first : Bool) (state : S) (start left : S') (input after : Input) → ParseResult B E → Type 0
-  RanCall fresh m valid f keep first state start left input after result = Ran (world i.step seen i.steady fresh) m valid f keep first state start left (i.view input) (i.view after) (i.failures input) (i.failures after) result
+  RanCall fresh m valid f keep first state start left input after result = RanPart (world i.step observers i.counts_failures fresh) m valid f keep first state start left (i.view input) (i.view after) (i.failures input) (i.failures after) result
 
   -- a separator, and a part behind it
   abbrev pub RanLaterCall : {O V B W U : Type 0} (fresh : W → Type 0) (m : Meaning P T R E O W) (n : Meaning P T R E V U) (valid : PairState O W U → Type 0) (f : O × V → B) (state : PairState O W U) (start left : SeparatedState O W U) (input after : Input) → ParseResult B E → Type 0
-  RanLaterCall fresh m n valid f = RanCall (pair_begins fresh) (pair i.step seen m n) valid f later_kept false
+  RanLaterCall fresh m n valid f = RanCall (pair_begins fresh) (pair i.step observers m n) valid f later_kept false

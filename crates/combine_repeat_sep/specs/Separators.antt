@@ -1,7 +1,7 @@
 -- what separators give, and turns that begin with it
 use Rattle.std.specs.Prelude.{ℕ, Bool, false}
 use Rattle.std.proofs.Common.{sym, subst}
-use Rattle.combine_base.specs.Error.Errors.{Errors}
+use Rattle.combine_base.specs.Error.Errors.{Observers}
 use Rattle.combine_base.specs.Stream.View.{View}
 use Rattle.combine_base.specs.Parser.GivenValues.{GivesOnly, ReadsOnly}
 use Rattle.combine_base.specs.Parser.Meaning.{Meaning, Reading}
@@ -53,7 +53,7 @@ module _ {P T : Type 0} where
     sequel_good : ReadsOnly (sequel step put_to r q) (λ t. good t.0)
     sequel_good = record { one = λ v t n k w. continues_good v w.0 w.1 t n k w.2 }
 
-module _ {P T R E O V W U : Type 0} (step : P → T → P) (errors : Errors T R P E) {good : O → Type 0} {valid : W → Type 0} (part_valid : U → Type 0) {s : Meaning P T R E O W} (m : Meaning P T R E V U) (h : GivesOnly valid s good) where
+module _ {P T R E O V W U : Type 0} (step : P → T → P) (errors : Observers T R P E) {good : O → Type 0} {valid : W → Type 0} (part_valid : U → Type 0) {s : Meaning P T R E O W} (m : Meaning P T R E V U) (h : GivesOnly valid s good) where
   pair_gives : GivesOnly (led_valid good valid part_valid) (pair step errors s m) (λ t. good t.0)
   pair_gives = record { whole = sequel_good step good s.whole (λ _. m.whole) h.whole; rest = resting }
     where

@@ -31,7 +31,7 @@ impl<O: Drop, A, F: Append<A>> Gather<Element<O, A>> for EachElement<F> {
 
     ghost sound = { λ _. Unit {0} };
 
-    ghost lean = { F.lean };
+    ghost heapless = { F.heapless };
 
     #[inline(always)]
     fn gather(into: F, value: Element<O, A>) -> Result<F, AllocError> {
@@ -74,7 +74,7 @@ impl<V: Drop, O: Folds<V> + Drop> Gather<Element<O, V>> for Folded<V> {
 
     ghost sound = { λ _. Unit {0} };
 
-    ghost lean = { Unit {0} };
+    ghost heapless = { Unit {0} };
 
     #[inline(always)]
     fn gather(into: V, value: Element<O, V>) -> Result<V, AllocError> {

@@ -3,7 +3,7 @@
 //! They run as a tuple of two does, from a state of their own, whose parts a turn can take apart.
 ghost use Rattle.std.specs.Prelude.{◌≡◌, true};
 ghost use Rattle.combine_base.specs.Parser.Meaning.{MeansSame};
-ghost use Rattle.combine_base.specs.Sequence.SequenceCalls.{Follows};
+ghost use Rattle.combine_base.specs.Sequence.SequenceCalls.{FollowsParts};
 ghost use Rattle.combine_base.specs.Sequence.Parts.{CalledLast, CalledRest};
 ghost use Rattle.combine_repeat_sep.specs.Pair.{LedBy, pair_begins, pair_place, pair_valid, put_to};
 
@@ -54,7 +54,7 @@ pub fn parse_pair<Input: Stream, S: Parser<Input>, P: Parser<Input>, M: ParseMod
     requires fresh { pair_begins S.PartialState.is_default state.old }
     ensures lawful { S.lawful separator.new × P.lawful part.new }
     ensures parts { MeansSame (S.meaning separator.old) (S.meaning separator.new) × MeansSame (P.meaning part.old) (P.meaning part.new) }
-    ensures called { Follows pair_place put_to Input.StreamOnce Input.Error.seen S.PartialState.is_default S.valid P.Parser (S.meaning separator.old) (S.meaning separator.new) part.old part.new input.old input.new from state.new result }
+    ensures called { FollowsParts pair_place put_to Input.StreamOnce Input.Error.observers S.PartialState.is_default S.valid P.Parser (S.meaning separator.old) (S.meaning separator.new) part.old part.new input.old input.new from state.new result }
     ensures led { LedBy (S.meaning separator.old) from state.new }
 {
     match from {
@@ -82,7 +82,7 @@ fn parse_rest<Input: Stream, O: Drop, W: Drop, P: Parser<Input>, M: ParseMode>(
     state: &mut PairState<O, W, P::PartialState>,
 ) -> ParseResult<(O, P::Output), Input::Error>
     requires lawful { P.lawful part.old }
-    ensures { CalledRest P.Parser Input.StreamOnce Input.Error.seen P.PartialState.is_default (λ z. z ≡ state.old) pair_place put_to part.old part.new input.old input.new kept state.new result answer }
+    ensures { CalledRest P.Parser Input.StreamOnce Input.Error.observers P.PartialState.is_default (λ z. z ≡ state.old) pair_place put_to part.old part.new input.old input.new kept state.new result answer }
 {
     let (value, committed) = match answer {
         ParseResult::CommitOk(value) => (value, true),
@@ -116,7 +116,7 @@ fn parse_part<Input: Stream, O: Drop, W: Drop, P: Parser<Input>, M: ParseMode>(
 ) -> ParseResult<(O, P::Output), Input::Error>
     requires ready { ⟦<P as Calls<Input>>⟧.ready part.old kept }
     requires starts { M.first mode ≡ true → P.PartialState.is_default kept }
-    ensures { CalledLast P.Parser Input.StreamOnce Input.Error.seen P.PartialState.is_default (λ z. z ≡ state.old) pair_place put_to part.old part.new input.old input.new (record { value = value; committed = committed; state = kept }) state.new result }
+    ensures { CalledLast P.Parser Input.StreamOnce Input.Error.observers P.PartialState.is_default (λ z. z ≡ state.old) pair_place put_to part.old part.new input.old input.new (record { value = value; committed = committed; state = kept }) state.new result }
 {
     let mut kept = kept;
     match part.parse_explained(mode, input, &mut kept) {
@@ -145,7 +145,7 @@ fn resume_part<Input: Stream, O: Drop, W: Drop, P: Parser<Input>, M: ParseMode>(
 ) -> ParseResult<(O, P::Output), Input::Error>
     requires ready { ⟦<P as Calls<Input>>⟧.ready part.old kept }
     requires starts { M.first mode ≡ true → P.PartialState.is_default kept }
-    ensures { CalledLast P.Parser Input.StreamOnce Input.Error.seen P.PartialState.is_default (λ z. z ≡ state.old) pair_place put_to part.old part.new input.old input.new (record { value = value; committed = committed; state = kept }) state.new result }
+    ensures { CalledLast P.Parser Input.StreamOnce Input.Error.observers P.PartialState.is_default (λ z. z ≡ state.old) pair_place put_to part.old part.new input.old input.new (record { value = value; committed = committed; state = kept }) state.new result }
 {
     parse_part(value, committed, kept, part, mode, input, state)
 }

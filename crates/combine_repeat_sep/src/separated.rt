@@ -168,7 +168,7 @@ fn run_first<Input: Stream, P: Parser<Input>, O: Drop, W: Drop, M: ParseMode>(
     ensures lawful { P.lawful parser.new }
     ensures same { MeansSame (P.meaning parser.old) (P.meaning parser.new) }
     ensures passes { Passes (Input.marks input.old) (Input.marks input.new) (Input.failures input.old) (Input.failures input.new) }
-    ensures ran { RanCall Input.StreamOnce Input.Error.seen P.PartialState.is_default (P.meaning parser.old) P.valid first_element (λ s. SeparatedState.Part Lead.Nothing s) (M.first mode) kept state.old state.new input.old input.new result }
+    ensures ran { RanCall Input.StreamOnce Input.Error.observers P.PartialState.is_default (P.meaning parser.old) P.valid first_element (λ s. SeparatedState.Part Lead.Nothing s) (M.first mode) kept state.old state.new input.old input.new result }
 {
     let mut kept = kept;
     match parser.parse_mode(mode, input, &mut kept) {
@@ -200,9 +200,9 @@ fn run_later<Input: Stream, P: Parser<Input>, S: Parser<Input>, M: ParseMode>(
     requires starts { M.first mode ≡ true → pair_begins S.PartialState.is_default kept }
     ensures lawful { S.lawful separator.new × P.lawful parser.new }
     ensures parts { MeansSame (S.meaning separator.old) (S.meaning separator.new) × MeansSame (P.meaning parser.old) (P.meaning parser.new) }
-    ensures same { MeansSame (pair Input.step Input.Error.seen (S.meaning separator.old) (P.meaning parser.old)) (pair Input.step Input.Error.seen (S.meaning separator.new) (P.meaning parser.new)) }
+    ensures same { MeansSame (pair Input.step Input.Error.observers (S.meaning separator.old) (P.meaning parser.old)) (pair Input.step Input.Error.observers (S.meaning separator.new) (P.meaning parser.new)) }
     ensures passes { Passes (Input.marks input.old) (Input.marks input.new) (Input.failures input.old) (Input.failures input.new) }
-    ensures ran { RanLaterCall Input.StreamOnce Input.Error.seen S.PartialState.is_default (S.meaning separator.old) (P.meaning parser.old) (λ z. LedBy (S.meaning separator.old) kept z × pair_valid S.valid P.valid z) then_element kept state.old state.new input.old input.new result }
+    ensures ran { RanLaterCall Input.StreamOnce Input.Error.observers S.PartialState.is_default (S.meaning separator.old) (P.meaning parser.old) (λ z. LedBy (S.meaning separator.old) kept z × pair_valid S.valid P.valid z) then_element kept state.old state.new input.old input.new result }
 {
     let mut left = PairState::default();
     match parse_pair(separator, parser, mode, input, kept, &mut left) {
@@ -238,9 +238,9 @@ impl<Input: Stream, P: Parser<Input>, S: Parser<Input>, L: Leads<S::Output, P::O
 
     ghost valid = { separated_valid P.valid (led_valid L.good S.valid P.valid) };
 
-    ghost meaning = { λ p. first_then first_element then_element (P.meaning (part_of p)) (pair Input.step Input.Error.seen (S.meaning (separator_of p)) (P.meaning (part_of p))) };
+    ghost meaning = { λ p. first_then first_element then_element (P.meaning (part_of p)) (pair Input.step Input.Error.observers (S.meaning (separator_of p)) (P.meaning (part_of p))) };
 
-    ghost again = { λ p. later_turn then_element (pair Input.step Input.Error.seen (S.meaning (separator_of p)) (P.meaning (part_of p))) };
+    ghost again = { λ p. later_turn then_element (pair Input.step Input.Error.observers (S.meaning (separator_of p)) (P.meaning (part_of p))) };
 
     ghost ending = { λ _. false };
 
@@ -294,9 +294,9 @@ impl<Input: Stream, P: Parser<Input>, S: Parser<Input>, L: Leads<S::Output, P::O
 
     ghost default_valid = { λ s d. separated_default P.PartialState.is_default P.valid (led_valid L.good S.valid P.valid) P.default_valid s d };
 
-    ghost laws = { λ p l. then_is_turn first_element then_element (P.laws (part_of p) l.2) (led_is_meaning L.good S.valid P.valid (pair_is_meaning Input.step Input.Error.seen (S.laws (separator_of p) l.1) (P.laws (part_of p) l.2))) };
+    ghost laws = { λ p l. then_is_turn first_element then_element (P.laws (part_of p) l.2) (led_is_meaning L.good S.valid P.valid (pair_is_meaning Input.step Input.Error.observers (S.laws (separator_of p) l.1) (P.laws (part_of p) l.2))) };
 
-    ghost once = { λ p l d. then_once first_element then_element (P.single (part_of p) l.2 d.1) (led_means_one L.good S.valid P.valid (pair_means_one Input.step Input.Error.seen (S.single (separator_of p) l.1 d.0) (P.single (part_of p) l.2 d.1))) };
+    ghost single = { λ p l d. then_once first_element then_element (P.single (part_of p) l.2 d.1) (led_means_one L.good S.valid P.valid (pair_means_one Input.step Input.Error.observers (S.single (separator_of p) l.1 d.0) (P.single (part_of p) l.2 d.1))) };
 
-    ghost gives_only = { λ p l. separated_gives Input.step Input.Error.seen P.valid (P.meaning (part_of p)) l.0 };
+    ghost gives_only = { λ p l. separated_gives Input.step Input.Error.observers P.valid (P.meaning (part_of p)) l.0 };
 }

@@ -7,8 +7,8 @@ use Rattle.combine_repeat_turns.specs.declared.turns.turn_bounds.FirstThenMore.{
 abbrev pub repeat_ended_of : {F P S B : Type 0} → Global → B → P → S → RepeatEnded F P S B
 repeat_ended_of alloc bounds parser separator = record { alloc = alloc; bounds = bounds; turn = ended_of parser separator; collects = record {} }
 
-abbrev pub bounds_of : {F P S B : Type 0} → RepeatEnded F P S B → B
-bounds_of p = p.bounds
+abbrev pub sep_end_bounds : {F P S B : Type 0} → RepeatEnded F P S B → B
+sep_end_bounds p = p.bounds
 
 abbrev pub ended_by_part : {F P S B : Type 0} → RepeatEnded F P S B → P
 ended_by_part p = ended_part p.turn

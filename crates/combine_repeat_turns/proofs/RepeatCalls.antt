@@ -1,19 +1,19 @@
 -- one call of a repetition: where its turns begin, and each way out of them
 use Rattle.std.proofs.Common.{ℕ, ◌+◌, ◌-◌, ◌<◌, ◌≤◌, ◌≡◌, Bool, true, false, ◌&&◌, ◌||◌, not, if◌then◌else◌, nat_lt, Some, None, length, drop, arith, ap, sym, refl, ◌∙◌, length-drop, ltb-true, ltb-false, subst}
-use Rattle.combine_base.specs.Error.Errors.{Errors}
+use Rattle.combine_base.specs.Error.Errors.{Observers}
 use Rattle.combine_base.specs.Stream.View.{View, Takes}
 use Rattle.combine_base.specs.Parser.Outcome.{Outcome, Accepted, Refused}
 use Rattle.combine_base.specs.Parser.Meaning.{Meaning, IsReading, begun}
-use Rattle.combine_base.specs.Parser.Answer.{Run, World, Answers, Accepts, Asks}
+use Rattle.combine_base.specs.Parser.Answer.{CallRecord, World, Answers, Accepts, Asks}
 use Rattle.combine_base.specs.Sequence.Parts.{accepted_as}
 use Rattle.combine_base.proofs.Parsers.Progress.{progress_none, progress_outcome, takes_open, takes_more, takes_none}
 use Rattle.combine_base.proofs.Errors.CallErrors.{around, needs}
-use Rattle.combine_repeat_turns.specs.Turns.Blocks.{Goes, Stops, Collecting, SoFar, Turned}
+use Rattle.combine_repeat_turns.specs.Turns.Blocks.{TakesBlock, StopsTurns, Collecting, TurnsSoFar, TurnsOutcome}
 use Rattle.combine_repeat_turns.specs.Turns.Turn.{IsTurn, Start, called}
-use Rattle.combine_repeat_turns.specs.Turns.Bounds.{counted, full_at, goes_at, accepted_at, refused_at, next_of, bounded, fresh_turns, running_turn, kept_or, so_far, so_far_or, turns_from, bounded_is_rule}
-use Rattle.combine_repeat_turns.specs.Turns.OneTurn.{GoesOn, IsOver, Ended, PutBack, IsRefused, NeedsMore, HasFailed, InTurn, TakesNothing, Unstored, Untold, Unreset, halted, stopped_answer, stopped_state}
+use Rattle.combine_repeat_turns.specs.Turns.Bounds.{counted_to, full_at, is_block_at, accepted_at, refused_at, turn_after, bounded, fresh_turns, running_turn, kept_or, so_far, so_far_or, turns_from, bounded_is_rule}
+use Rattle.combine_repeat_turns.specs.Turns.OneTurn.{IsTurnBlock, AreTurnsOver, EndedByValue, EndedByRefusal, IsTurnRefused, TurnNeedsMore, HasTurnFailed, InTurn, TakesNothing, ValueUnstored, Untold, Unreset, turns_halted, stopped_answer, stopped_state}
 use Rattle.combine_repeat_turns.proofs.TurnSteps.{turned_full}
-use Rattle.combine_repeat_turns.proofs.TurnCalls.{Reaches, Ends, turn_accepts, turn_ends, turn_peeks, turn_told, turn_unstored, turn_unreset, turn_goes, turn_asks, turn_fails}
+use Rattle.combine_repeat_turns.proofs.TurnCalls.{ReachesTurn, EndsWithTurn, turn_accepts, turn_ends, turn_peeks, turn_told, turn_unstored, turn_unreset, turn_goes, turn_asks, turn_fails}
 use Rattle.combine_base.specs.declared.stream.Failures.{Failures}
 use Rattle.combine_base.specs.declared.error.Tracked.{Tracked}
 use Rattle.combine_base.specs.declared.error.ParseResult.{ParseResult}
@@ -42,11 +42,11 @@ is_not : (b : Bool) → not b ≡ false → b ≡ true
 is_not true e = refl
 is_not false e = absurd (cc)
 
-counted_one : (most n : ℕ) → nat_lt n most ≡ true → counted most n ≡ n + 1
+counted_one : (most n : ℕ) → nat_lt n most ≡ true → counted_to most n ≡ n + 1
 counted_one most n e = rw e refl
 
 -- after a turn there was one
-after_one : (most n : ℕ) → 1 ≤ most → nat_lt (counted most n) 1 ≡ false
+after_one : (most n : ℕ) → 1 ≤ most → nat_lt (counted_to most n) 1 ≡ false
 after_one most n h = by_test (nat_lt n most) refl
   where
     at_least : (i : ℕ) → 1 ≤ i → nat_lt i 1 ≡ false
@@ -68,7 +68,7 @@ at_least_one least = by_test (nat_lt least 1) refl
     by_test false e = let x = ltb-false least 1 e in omega arith
 
 -- a turn that is a block took a token, or it was one that needn't
-pub turns_run_out : {P T : Type 0} {step : P → T → P} (b : Bounds) (g : TurnIndex) (n : ℕ) (k : Bool) (u v : View P T) → Takes step n u v → full_at b g ≡ false → goes_at b g n k ≡ true → length v.unread + idle_turns b (next_of b g) < length u.unread + idle_turns b g
+pub turns_run_out : {P T : Type 0} {step : P → T → P} (b : Bounds) (g : TurnIndex) (n : ℕ) (k : Bool) (u v : View P T) → Takes step n u v → full_at b g ≡ false → is_block_at b g n k ≡ true → length v.unread + idle_turns b (turn_after b g) < length u.unread + idle_turns b g
 turns_run_out b g n k u v t f e = by_bounds b f e
   where
     fewer : length v.unread + n ≡ length u.unread
@@ -81,11 +81,11 @@ turns_run_out b g n k u v t f e = by_bounds b f e
     took k true e = let f = fewer in omega arith
     took k false e = let f = fewer in let p = ltb-true 0 n (both k (nat_lt 0 n) e) in omega arith
 
-    joined : (most : ℕ) → nat_lt (counted most g.number) 1 ≡ false → (i : Bool) → (if i then true else (k && (g.begun || nat_lt 0 n))) ≡ true → length v.unread + (if nat_lt (counted most g.number) 1 then 1 else 0) < length u.unread + (if i then 1 else (if g.begun then 1 else 0))
+    joined : (most : ℕ) → nat_lt (counted_to most g.number) 1 ≡ false → (i : Bool) → (if i then true else (k && (g.begun || nat_lt 0 n))) ≡ true → length v.unread + (if nat_lt (counted_to most g.number) 1 then 1 else 0) < length u.unread + (if i then 1 else (if g.begun then 1 else 0))
     joined most z true e = let f = fewer in rw z (omega arith)
     joined most z false e = rw z (took k g.begun e)
 
-    by_bounds : (b : Bounds) → full_at b g ≡ false → goes_at b g n k ≡ true → length v.unread + idle_turns b (next_of b g) < length u.unread + idle_turns b g
+    by_bounds : (b : Bounds) → full_at b g ≡ false → is_block_at b g n k ≡ true → length v.unread + idle_turns b (turn_after b g) < length u.unread + idle_turns b g
     by_bounds Unbounded f e = took k g.begun e
     by_bounds (OwnFirst least None) f e = joined (if nat_lt least 1 then 1 else least) (after_one (if nat_lt least 1 then 1 else least) g.number (at_least_one least)) (nat_lt g.number 1) e
     by_bounds (OwnFirst least (Some most)) f e =
@@ -97,31 +97,31 @@ turns_run_out b g n k u v t f e = by_bounds b f e
         let q = fewer in
         rw (counted_one most g.number i) (omega arith)
 
-pub judged_goes : (n : ℕ) (k e i : Bool) → e ≡ false → true ≡ i → accepted_at n k e i ≡ Goes
+pub judged_goes : (n : ℕ) (k e i : Bool) → e ≡ false → true ≡ i → accepted_at n k e i ≡ TakesBlock
 judged_goes n k e i x y = rw (x, sym y) refl
 
-judged_nothing : (n : ℕ) (k e i : Bool) → e ≡ false → false ≡ i → accepted_at n k e i ≡ Stops (Refused true)
+judged_nothing : (n : ℕ) (k e i : Bool) → e ≡ false → false ≡ i → accepted_at n k e i ≡ StopsTurns (Refused true)
 judged_nothing n k e i x y = rw (x, sym y) refl
 
-judged_ends : (n : ℕ) (k e i : Bool) → e ≡ true → accepted_at n k e i ≡ Stops (Accepted tt n k)
+judged_ends : (n : ℕ) (k e i : Bool) → e ≡ true → accepted_at n k e i ≡ StopsTurns (Accepted tt n k)
 judged_ends n k e i x = rw x refl
 
 pub resumed_valid : {S : Type 0} (valid : S → Type 0) (r s : S) → r ≡ s → valid s → valid r
 resumed_valid valid r s e d = rw e d
 
-module _ {P T R A V S E : Type 0} (w : World P T S E) (errors : Errors T R P E) (b : Bounds) (ending : A → Bool) (c : Collecting A V) (start : SoFar TurnIndex c.Held) (m : Meaning P T R E A S) (again : Start P T E A) where
+module _ {P T R A V S E : Type 0} (w : World P T S E) (errors : Observers T R P E) (b : Bounds) (ending : A → Bool) (c : Collecting A V) (start : TurnsSoFar TurnIndex c.Held) (m : Meaning P T R E A S) (again : Start P T E A) where
   -- a call that began so has come to a place where a turn begins so
-  abbrev pub Comes : Bool → TurnsState V S → View P T → Failures → Bool → Bool → S → View P T → Failures → TurnProgress V → Type 0
-  Comes first state old before later turn_first turn_state now failures t = Reaches w (fresh_turns w.fresh) (bounded b ending) (bounded_is_rule b ending) c (λ _. again.reads) (called m again later) (turns_from w.step errors b ending c start m again) first state old before turn_first turn_state now failures (so_far c.held t)
+  abbrev pub ReachesBoundedTurn : Bool → TurnsState V S → View P T → Failures → Bool → Bool → S → View P T → Failures → TurnProgress V → Type 0
+  ReachesBoundedTurn first state old before later turn_first turn_state now failures t = ReachesTurn w (fresh_turns w.fresh) (bounded b ending) (bounded_is_rule b ending) c (λ _. again.reads) (called m again later) (turns_from w.step errors b ending c start m again) first state old before turn_first turn_state now failures (so_far c.held t)
 
   -- in first mode the state of the turn that runs doesn't matter
-  pub comes_first : (first : Bool) (state : TurnsState V S) (running : S) (old : View P T) (before : Failures) (from t : TurnProgress V) → so_far c.held from ≡ start → t ≡ (if first then from else kept_or from state.earlier) → (first ≡ false → running ≡ running_turn state) → Comes first state old before false first running old before t
-  comes_first true state running old before from t e i j = record {
-    progress = rw (i, e) (progress_none w (Turned w.step (bounded b ending) c (λ _. again.reads) m.whole start) old before);
+  pub reaches_turn_first : (first : Bool) (state : TurnsState V S) (running : S) (old : View P T) (before : Failures) (from t : TurnProgress V) → so_far c.held from ≡ start → t ≡ (if first then from else kept_or from state.earlier) → (first ≡ false → running ≡ running_turn state) → ReachesBoundedTurn first state old before false first running old before t
+  reaches_turn_first true state running old before from t e i j = record {
+    progress = rw (i, e) (progress_none w (TurnsOutcome w.step (bounded b ending) c (λ _. again.reads) m.whole start) old before);
     lost = λ x. absurd (cc);
   }
-  comes_first false state running old before from t e i j = record {
-    progress = rw (i, j refl, kept state.earlier) (progress_none w (Turned w.step (bounded b ending) c (λ _. again.reads) (m.rest (running_turn state)) (so_far_or start c.held state.earlier)) old before);
+  reaches_turn_first false state running old before from t e i j = record {
+    progress = rw (i, j refl, kept state.earlier) (progress_none w (TurnsOutcome w.step (bounded b ending) c (λ _. again.reads) (m.rest (running_turn state)) (so_far_or start c.held state.earlier)) old before);
     lost = λ x l. (refl, subst (λ x. m.lost x old) (j refl) l);
   }
     where
@@ -130,9 +130,9 @@ module _ {P T R A V S E : Type 0} (w : World P T S E) (errors : Errors T R P E) 
       kept (Gathered t) = refl
 
   -- a call in first mode, whatever the state of its turn is
-  pub comes_afresh : (first : Bool) (state : TurnsState V S) (running : S) (old : View P T) (before : Failures) (from t : TurnProgress V) → first ≡ true → so_far c.held from ≡ start → t ≡ (if first then from else kept_or from state.earlier) → Comes first state old before false true running old before t
-  comes_afresh true state running old before from t f e i = comes_first true state running old before from t e i (λ x. absurd (cc))
-  comes_afresh false state running old before from t f e i = absurd (cc)
+  pub reaches_turn_afresh : (first : Bool) (state : TurnsState V S) (running : S) (old : View P T) (before : Failures) (from t : TurnProgress V) → first ≡ true → so_far c.held from ≡ start → t ≡ (if first then from else kept_or from state.earlier) → ReachesBoundedTurn first state old before false true running old before t
+  reaches_turn_afresh true state running old before from t f e i = reaches_turn_first true state running old before from t e i (λ x. absurd (cc))
+  reaches_turn_afresh false state running old before from t f e i = absurd (cc)
 
   turn_reads : (valid : S → Type 0) → IsTurn w.fresh valid m again → (later first : Bool) (s : S) → valid s → IsReading (begun (called m again later) first s)
   turn_reads valid h true true s k = h.later
@@ -140,51 +140,51 @@ module _ {P T R A V S E : Type 0} (w : World P T S E) (errors : Errors T R P E) 
   turn_reads valid h later false s k = h.meaning.rest s k
 
   -- a turn that is a block: the next one runs, in first mode
-  pub comes_on : (valid : S → Type 0) → IsTurn w.fresh valid m again → (first : Bool) (state : TurnsState V S) (old : View P T) (before : Failures) (later : Bool) (r : Run P T S) (t n : TurnProgress V) → Comes first state old before later r.first r.state r.old r.before t → full_at b t.index ≡ false → valid r.state → GoesOn w b ending c (called m again later) r t n → (s : S) → Comes first state old before true true s r.new r.after n
-  comes_on valid h first state old before later r t n z nf d g s =
-      let u : Run P T (TurnsState V S) = record { first = first; state = state; left = state; old = old; new = old; before = before; after = before } in
+  pub reaches_turn_on : (valid : S → Type 0) → IsTurn w.fresh valid m again → (first : Bool) (state : TurnsState V S) (old : View P T) (before : Failures) (later : Bool) (r : CallRecord P T S) (t n : TurnProgress V) → ReachesBoundedTurn first state old before later r.first r.state r.old r.before t → full_at b t.index ≡ false → valid r.state → IsTurnBlock w b ending c (called m again later) r t n → (s : S) → ReachesBoundedTurn first state old before true true s r.new r.after n
+  reaches_turn_on valid h first state old before later r t n z nf d g s =
+      let u : CallRecord P T (TurnsState V S) = record { first = first; state = state; left = state; old = old; new = old; before = before; after = before } in
       record {
-        progress = rw g.turns (turn_goes w (fresh_turns w.fresh) (bounded b ending) (bounded_is_rule b ending) c (λ _. again.reads) (called m again later) (turns_from w.step errors b ending c start m again) u r (so_far c.held t) z nf (turn_reads valid h later r.first r.state d) g.turn.0 g.turn.1 g.held g.judged.accepts (judged_goes g.judged.accepts.count g.turn.1 (ending g.turn.0) (goes_at b t.index g.judged.accepts.count g.turn.1) g.judged.on g.judged.says) g.more);
+        progress = rw g.turns (turn_goes w (fresh_turns w.fresh) (bounded b ending) (bounded_is_rule b ending) c (λ _. again.reads) (called m again later) (turns_from w.step errors b ending c start m again) u r (so_far c.held t) z nf (turn_reads valid h later r.first r.state d) g.turn.0 g.turn.1 g.held g.judged.accepts (judged_goes g.judged.accepts.count g.turn.1 (ending g.turn.0) (is_block_at b t.index g.judged.accepts.count g.turn.1) g.judged.on g.judged.says) g.more);
         lost = λ y. absurd (cc);
       }
 
-  accepted_answer : (u : Run P T (TurnsState V S)) (v : V) (k : Bool) → Accepts (around w (fresh_turns w.fresh)) (turns_from w.step errors b ending c start m again) u v k → Answers (around w (fresh_turns w.fresh)) (turns_from w.step errors b ending c start m again) u (accepted_as k v)
+  accepted_answer : (u : CallRecord P T (TurnsState V S)) (v : V) (k : Bool) → Accepts (around w (fresh_turns w.fresh)) (turns_from w.step errors b ending c start m again) u v k → Answers (around w (fresh_turns w.fresh)) (turns_from w.step errors b ending c start m again) u (accepted_as k v)
   accepted_answer u v true x = record { is = x }
   accepted_answer u v false x = record { is = x }
 
   -- no turn runs any more
-  pub comes_full : (u : Run P T (TurnsState V S)) (later turn_first : Bool) (s : S) (t : TurnProgress V) → Comes u.first u.state u.old u.before later turn_first s u.new u.after t → full_at b t.index ≡ true → fresh_turns w.fresh u.left → (result : ParseResult V E) → result ≡ accepted_as t.committed t.into → Answers (around w (fresh_turns w.fresh)) (turns_from w.step errors b ending c start m again) u result
-  comes_full u later turn_first s t z f l result e =
+  pub reaches_turn_full : (u : CallRecord P T (TurnsState V S)) (later turn_first : Bool) (s : S) (t : TurnProgress V) → ReachesBoundedTurn u.first u.state u.old u.before later turn_first s u.new u.after t → full_at b t.index ≡ true → fresh_turns w.fresh u.left → (result : ParseResult V E) → result ≡ accepted_as t.committed t.into → Answers (around w (fresh_turns w.fresh)) (turns_from w.step errors b ending c start m again) u result
+  reaches_turn_full u later turn_first s t z f l result e =
       let running = begun (called m again later) turn_first s in
       let p = z.progress in
       let o : Outcome V = Accepted t.into 0 t.committed in
       let y = turned_full w.step (bounded b ending) (bounded_is_rule b ending) c (λ _. again.reads) running (so_far c.held t) u.new o f refl refl in
       rw e (accepted_answer u t.into t.committed (record {
         count = p.count + 0;
-        meant = progress_outcome w (begun (turns_from w.step errors b ending c start m again) u.first u.state) (Turned w.step (bounded b ending) c (λ _. again.reads) running (so_far c.held t)) u.old u.new u.before u.after p o y;
+        meant = progress_outcome w (begun (turns_from w.step errors b ending c start m again) u.first u.state) (TurnsOutcome w.step (bounded b ending) c (λ _. again.reads) running (so_far c.held t)) u.old u.new u.before u.after p o y;
         taken = takes_more w.step p.count 0 u.old u.new u.new p.taken (takes_none w.step u.new);
         state = l;
         failures = p.failures;
       }))
 
-  module _ (u : Run P T (TurnsState V S)) (later : Bool) (r : Run P T S) (t : TurnProgress V) (z : Comes u.first u.state u.old u.before later r.first r.state r.old r.before t) (nf : full_at b t.index ≡ false) where
+  module _ (u : CallRecord P T (TurnsState V S)) (later : Bool) (r : CallRecord P T S) (t : TurnProgress V) (z : ReachesBoundedTurn u.first u.state u.old u.before later r.first r.state r.old r.before t) (nf : full_at b t.index ≡ false) where
     -- why no turn runs any more is what the call answers
     module _ (state : TurnsState V S) (cleared : state.earlier ≡ Nothing) (running : state.running ≡ r.left) (new : u.new ≡ r.new) (failures : u.after ≡ r.after) (reads : u.before.reads ≤ r.before.reads) (resets : u.before.resets ≤ r.before.resets) where
       settled : u.left ≡ state → w.fresh r.left → fresh_turns w.fresh u.left
       settled l d = rw l (cleared, rw running d)
 
-      ends : u.left ≡ state → Ends w (fresh_turns w.fresh) (bounded b ending) (bounded_is_rule b ending) c (λ _. again.reads) (called m again later) (turns_from w.step errors b ending c start m again) u r (so_far c.held t) z nf
+      ends : u.left ≡ state → EndsWithTurn w (fresh_turns w.fresh) (bounded b ending) (bounded_is_rule b ending) c (λ _. again.reads) (called m again later) (turns_from w.step errors b ending c start m again) u r (so_far c.held t) z nf
       ends l = record { new = new; state = settled l; failures = λ _. failures }
 
-      comes_over : (n : TurnProgress V) → IsOver w b ending c (called m again later) r t n → u.left ≡ state → Answers (around w (fresh_turns w.fresh)) (turns_from w.step errors b ending c start m again) u (accepted_as n.committed n.into)
-      comes_over n (PutBack i y v q) l = rw q (turn_ends w (fresh_turns w.fresh) (bounded b ending) (bounded_is_rule b ending) c (λ _. again.reads) (called m again later) (turns_from w.step errors b ending c start m again) u r (so_far c.held t) z nf t.into _ (ap (λ x. refused_at x false) i) refl refl y (new ∙ v) (settled l) (λ _. failures))
-      comes_over n (Ended x a i q) l = rw q (accepted_answer u t.into (t.committed || x.1) (turn_accepts w (fresh_turns w.fresh) (bounded b ending) (bounded_is_rule b ending) c (λ _. again.reads) (called m again later) (turns_from w.step errors b ending c start m again) u r (so_far c.held t) z nf (Accepted x.0 a.count x.1) a.count x.1 t.into a.meant (judged_ends a.count x.1 (ending x.0) (goes_at b t.index a.count x.1) i) refl (rw new a.taken) (settled l a.state) (λ _. failures) a.failures))
+      comes_over : (n : TurnProgress V) → AreTurnsOver w b ending c (called m again later) r t n → u.left ≡ state → Answers (around w (fresh_turns w.fresh)) (turns_from w.step errors b ending c start m again) u (accepted_as n.committed n.into)
+      comes_over n (EndedByRefusal i y v q) l = rw q (turn_ends w (fresh_turns w.fresh) (bounded b ending) (bounded_is_rule b ending) c (λ _. again.reads) (called m again later) (turns_from w.step errors b ending c start m again) u r (so_far c.held t) z nf t.into _ (ap (λ x. refused_at x false) i) refl refl y (new ∙ v) (settled l) (λ _. failures))
+      comes_over n (EndedByValue x a i q) l = rw q (accepted_answer u t.into (t.committed || x.1) (turn_accepts w (fresh_turns w.fresh) (bounded b ending) (bounded_is_rule b ending) c (λ _. again.reads) (called m again later) (turns_from w.step errors b ending c start m again) u r (so_far c.held t) z nf (Accepted x.0 a.count x.1) a.count x.1 t.into a.meant (judged_ends a.count x.1 (ending x.0) (is_block_at b t.index a.count x.1) i) refl (rw new a.taken) (settled l a.state) (λ _. failures) a.failures))
 
-      comes_refused : (n : TurnProgress V) (e : Tracked E) → IsRefused w b ending c (called m again later) r t n e → u.left ≡ state → Answers (around w (fresh_turns w.fresh)) (turns_from w.step errors b ending c start m again) u (stopped_answer (stop.Refused n e))
+      comes_refused : (n : TurnProgress V) (e : Tracked E) → IsTurnRefused w b ending c (called m again later) r t n e → u.left ≡ state → Answers (around w (fresh_turns w.fresh)) (turns_from w.step errors b ending c start m again) u (stopped_answer (stop.Refused n e))
       comes_refused n e p l = rw p.turns (turn_peeks w (fresh_turns w.fresh) (bounded b ending) (bounded_is_rule b ending) c (λ _. again.reads) (called m again later) (turns_from w.step errors b ending c start m again) u r (so_far c.held t) z nf e _ (ap (λ x. refused_at x false) p.missing) refl p.answers (ends l))
 
       -- the turns so far are kept, and the turn that runs
-      comes_more : (n : TurnProgress V) (e : E) → NeedsMore w b ending c (called m again later) r t n e → u.left ≡ record { earlier = Gathered n; running = state.running } → Answers (around w (fresh_turns w.fresh)) (turns_from w.step errors b ending c start m again) u (CommitErr e)
+      comes_more : (n : TurnProgress V) (e : E) → TurnNeedsMore w b ending c (called m again later) r t n e → u.left ≡ record { earlier = Gathered n; running = state.running } → Answers (around w (fresh_turns w.fresh)) (turns_from w.step errors b ending c start m again) u (CommitErr e)
       comes_more n e p l = needs w (fresh_turns w.fresh) (called m again later) (turns_from w.step errors b ending c start m again) r u e p.needs p.answers (takes_open w.step z.progress.count u.old r.old z.progress.taken) asks
         where
           asks : Asks w (called m again later) r → Asks (around w (fresh_turns w.fresh)) (turns_from w.step errors b ending c start m again) u
@@ -197,10 +197,10 @@ module _ {P T R A V S E : Type 0} (w : World P T S E) (errors : Errors T R P E) 
             failures = λ _. failures;
           })
 
-      comes_fails : (e : E) → HasFailed w b ending c (called m again later) r t e → u.left ≡ state → Answers (around w (fresh_turns w.fresh)) (turns_from w.step errors b ending c start m again) u (CommitErr e)
+      comes_fails : (e : E) → HasTurnFailed w b ending c (called m again later) r t e → u.left ≡ state → Answers (around w (fresh_turns w.fresh)) (turns_from w.step errors b ending c start m again) u (CommitErr e)
       comes_fails e (InTurn q p) l = turn_fails w (fresh_turns w.fresh) (bounded b ending) (bounded_is_rule b ending) c (λ _. again.reads) (called m again later) (turns_from w.step errors b ending c start m again) u r (so_far c.held t) z nf e q p (record {
         refused = refl;
-        lean = λ x. x.0;
+        heapless = λ x. x.0;
         new = new;
         state = settled l;
         failures = failures;
@@ -209,19 +209,19 @@ module _ {P T R A V S E : Type 0} (w : World P T S E) (errors : Errors T R P E) 
       })
       comes_fails e (TakesNothing x j y) l =
           let a = j.accepts in
-          turn_told w (fresh_turns w.fresh) (bounded b ending) (bounded_is_rule b ending) c (λ _. again.reads) (called m again later) (turns_from w.step errors b ending c start m again) u r (so_far c.held t) z nf (Accepted x.0 a.count x.1) e a.meant (judged_nothing a.count x.1 (ending x.0) (goes_at b t.index a.count x.1) j.on j.says) y (ends l) (record { count = a.count; taken = a.taken; state = a.state }) a.failures
-      comes_fails e (Unstored x a i y) l = turn_unstored w (fresh_turns w.fresh) (bounded b ending) (bounded_is_rule b ending) c (λ _. again.reads) (called m again later) (turns_from w.step errors b ending c start m again) u r (so_far c.held t) z nf e i (λ q. y q.1) (ends l) (record { count = a.count; taken = a.taken; state = a.state })
+          turn_told w (fresh_turns w.fresh) (bounded b ending) (bounded_is_rule b ending) c (λ _. again.reads) (called m again later) (turns_from w.step errors b ending c start m again) u r (so_far c.held t) z nf (Accepted x.0 a.count x.1) e a.meant (judged_nothing a.count x.1 (ending x.0) (is_block_at b t.index a.count x.1) j.on j.says) y (ends l) (record { count = a.count; taken = a.taken; state = a.state }) a.failures
+      comes_fails e (ValueUnstored x a i y) l = turn_unstored w (fresh_turns w.fresh) (bounded b ending) (bounded_is_rule b ending) c (λ _. again.reads) (called m again later) (turns_from w.step errors b ending c start m again) u r (so_far c.held t) z nf e i (λ q. y q.1) (ends l) (record { count = a.count; taken = a.taken; state = a.state })
       comes_fails e (Untold y i x) l = record { is = rw i (λ f q. x f, record { count = z.progress.count + y.leaves.count; taken = takes_more w.step z.progress.count y.leaves.count u.old r.old u.new z.progress.taken (rw new y.leaves.taken); state = settled l y.leaves.state }) }
       comes_fails e (Unreset i j y) l = turn_unreset w (fresh_turns w.fresh) (bounded b ending) (bounded_is_rule b ending) c (λ _. again.reads) (called m again later) (turns_from w.step errors b ending c start m again) u r (so_far c.held t) z nf e i (rw failures (omega arith)) (ends l) y
 
-      pub comes_stopped : (why : TurnStop V E) → halted w b ending c (called m again later) r t why → u.left ≡ stopped_state why state → Answers (around w (fresh_turns w.fresh)) (turns_from w.step errors b ending c start m again) u (stopped_answer why)
-      comes_stopped (stop.Over n) p l = comes_over n p l
-      comes_stopped (stop.Refused n e) p l = comes_refused n e p l
-      comes_stopped (stop.More n e) p l = comes_more n e p l
-      comes_stopped (stop.Failed e) p l = comes_fails e p l
+      pub reaches_turn_stopped : (why : TurnStop V E) → turns_halted w b ending c (called m again later) r t why → u.left ≡ stopped_state why state → Answers (around w (fresh_turns w.fresh)) (turns_from w.step errors b ending c start m again) u (stopped_answer why)
+      reaches_turn_stopped (stop.Over n) p l = comes_over n p l
+      reaches_turn_stopped (stop.Refused n e) p l = comes_refused n e p l
+      reaches_turn_stopped (stop.More n e) p l = comes_more n e p l
+      reaches_turn_stopped (stop.Failed e) p l = comes_fails e p l
 
-pub goes_out : {P T R A V S E : Type 0} (w : World P T S E) (b : Bounds) (ending : A → Bool) (c : Collecting A V) (m : Meaning P T R E A S) (r : Run P T S) (t n : TurnProgress V) → full_at b t.index ≡ false → GoesOn w b ending c m r t n → length r.new.unread + idle_turns b n.index < length r.old.unread + idle_turns b t.index
+pub goes_out : {P T R A V S E : Type 0} (w : World P T S E) (b : Bounds) (ending : A → Bool) (c : Collecting A V) (m : Meaning P T R E A S) (r : CallRecord P T S) (t n : TurnProgress V) → full_at b t.index ≡ false → IsTurnBlock w b ending c m r t n → length r.new.unread + idle_turns b n.index < length r.old.unread + idle_turns b t.index
 goes_out w b ending c m r t n nf g =
-    let e : n.index ≡ next_of b t.index = ap (λ (x : SoFar TurnIndex c.Held). x.mark) g.turns in
+    let e : n.index ≡ turn_after b t.index = ap (λ (x : TurnsSoFar TurnIndex c.Held). x.mark) g.turns in
     let a = g.judged.accepts in
     rw e (turns_run_out b t.index a.count g.turn.1 r.old r.new a.taken nf (sym g.judged.says))

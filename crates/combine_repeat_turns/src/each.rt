@@ -59,7 +59,7 @@ impl<Input: Stream, P: Parser<Input>> TurnParser<Input> for SameParser<P> {
 
     ghost laws = { λ p l. plain_is_turn (P.laws (plain_parser p) l) };
 
-    ghost once = { λ p l d. plain_once (P.single (plain_parser p) l d) };
+    ghost single = { λ p l d. plain_once (P.single (plain_parser p) l d) };
 
     ghost gives_only = { λ p l. gives_any };
 }
@@ -102,7 +102,7 @@ impl<A, F: Append<A>> Gather<A> for Each<F> {
 
     ghost sound = { λ _. Unit {0} };
 
-    ghost lean = { F.lean };
+    ghost heapless = { F.heapless };
 
     #[inline(always)]
     fn gather(into: F, value: A) -> Result<F, AllocError> {
@@ -154,7 +154,7 @@ impl<A: Drop> Gather<A> for Dropped {
 
     ghost sound = { λ _. Unit {0} };
 
-    ghost lean = { Unit {0} };
+    ghost heapless = { Unit {0} };
 
     #[inline(always)]
     fn gather(into: (), value: A) -> Result<(), AllocError> {

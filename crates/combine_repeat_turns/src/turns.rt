@@ -6,12 +6,12 @@ ghost use Rattle.combine_base.specs.Parser.Reasons.{ReasonedCall};
 ghost use Rattle.combine_base.specs.Stream.Calls.{Passes};
 ghost use Rattle.combine_base.specs.Error.Errors.{Only};
 ghost use Rattle.combine_base.specs.Error.Items.{Count, Message};
-ghost use Rattle.combine_base.specs.Refusals.{Saying, Told};
+ghost use Rattle.combine_base.specs.Refusals.{HasItems, IsRefusalOrMemory};
 ghost use Rattle.combine_base.specs.Sequence.Parts.{accepted_as, refused_as};
 ghost use Rattle.std.specs.Prelude.{None};
 ghost use Rattle.combine_repeat_turns.specs.Turns.OneTurn.{IsGathered, stopped_answer, stopped_state};
 ghost use Rattle.combine_repeat_turns.specs.Turns.SoundValues.{LeavesSound, kept_sound};
-ghost use Rattle.combine_repeat_turns.specs.Turns.Bounds.{FirstRefuses, JudgesRefusal, StepRefuses, turns_from, gathered, cut_at, counted, fresh_turns, kept_or, none_yet, running_turn, so_far};
+ghost use Rattle.combine_repeat_turns.specs.Turns.Bounds.{FirstRefuses, JudgesRefusal, TurnStepRefuses, turns_from, gathered, cut_at, counted_to, fresh_turns, kept_or, none_yet, running_turn, so_far};
 ghost use Rattle.combine_repeat_turns.specs.Turns.Turn.{TurnsSame, called, started};
 ghost use Rattle.combine_repeat_turns.specs.Turns.TurnCalls.{FirstTurnCall, HaltsCall, OneTurnCall, TurnsCall};
 ghost use Rattle.combine_repeat_turns.specs.declared.turns.Bounds.TheVariants.{OwnFirst};
@@ -34,7 +34,7 @@ pub trait TurnParser<Input: Stream> {
     ghost use Rattle.combine_base.specs.Parser.Meaning.{Meaning};
     ghost use Rattle.combine_base.specs.Parser.AnswersCalls.{AnswersCall};
     ghost use Rattle.combine_base.specs.Parser.Reasons.{ReasonedCall};
-    ghost use Rattle.combine_base.specs.Error.Errors.{Says};
+    ghost use Rattle.combine_base.specs.Error.Errors.{AddsItems};
     ghost use Rattle.combine_base.specs.Stream.Calls.{Passes};
     ghost use Rattle.combine_repeat_turns.specs.Turns.Turn.{Start, TurnsSame, TurnsOnce, TurnsGive, IsTurn, called};
 
@@ -77,15 +77,15 @@ pub trait TurnParser<Input: Stream> {
         ensures valid { valid state.new }
         ensures same { TurnsSame (meaning self.old) (again self.old) (meaning self.new) (again self.new) }
         ensures passes { Passes (Input.marks input.old) (Input.marks input.new) (Input.failures input.old) (Input.failures input.new) }
-        ensures answers { AnswersCall Input.StreamOnce Input.Error.seen Self.Running.is_default (called (meaning self.old) (again self.old) later) (M.first mode) state.old state.new input.old input.new result }
-        ensures refuses { ReasonedCall Input.Error.seen (called (meaning self.old) (again self.old) later) (M.first mode) state.old (Input.view input.old) (Input.view input.new) result };
+        ensures answers { AnswersCall Input.StreamOnce Input.Error.observers Self.Running.is_default (called (meaning self.old) (again self.old) later) (M.first mode) state.old state.new input.old input.new result }
+        ensures refuses { ReasonedCall Input.Error.observers (called (meaning self.old) (again self.old) later) (M.first mode) state.old (Input.view input.old) (Input.view input.new) result };
 
     /// Adds what the first turn adds.
     fn add_error(&mut self, error: &mut Tracked<Input::Error>)
         requires { lawful self.old }
         ensures lawful { lawful self.new }
         ensures same { TurnsSame (meaning self.old) (again self.old) (meaning self.new) (again self.new) }
-        ensures says { Says Input.Error.seen (meaning self.old).lean (meaning self.old).adds error.old.error error.new.error };
+        ensures says { AddsItems Input.Error.observers (meaning self.old).heapless (meaning self.old).adds error.old.error error.new.error };
 
     /// Returns whether this value ends the turns.
     fn is_last(value: &Self::Value) -> bool
@@ -95,7 +95,7 @@ pub trait TurnParser<Input: Stream> {
 
     ghost laws: { (p : Self) → lawful p → IsTurn Self.Running.is_default valid (meaning p) (again p) };
 
-    ghost once: { (p : Self) → lawful p → determined p → TurnsOnce valid ending (meaning p) (again p) };
+    ghost single: { (p : Self) → lawful p → determined p → TurnsOnce valid ending (meaning p) (again p) };
 
     ghost gives_only: { (p : Self) → lawful p → TurnsGive valid (meaning p) (again p) gives };
 }
@@ -128,12 +128,12 @@ pub trait Gather<A>: Gathers {
     ghost sound: { Held → Type 0 };
 
     /// Holds where it takes no memory.
-    ghost lean: { Type 0 };
+    ghost heapless: { Type 0 };
 
     /// Adds a value to what is gathered.
     fn gather(into: Self::Collection, value: A) -> Result<Self::Collection, AllocError>
         requires { able value }
-        ensures { MatchResult result (λ i. more (held into) value (held i)) (λ _. lean → ⊥) };
+        ensures { MatchResult result (λ i. more (held into) value (held i)) (λ _. heapless → ⊥) };
 
     ghost keeps_sound: { KeepsSound none more able sound };
 }
@@ -147,7 +147,7 @@ pub trait Collect<A>: Gather<A> {
 
     /// Returns an empty gathering, with room for so many values.
     fn empty(&self, room: usize) -> Result<Self::Collection, AllocError>
-        ensures { MatchResult result (λ i. Self.held i ≡ Self.none) (λ _. Self.lean → ⊥) };
+        ensures { MatchResult result (λ i. Self.held i ≡ Self.none) (λ _. Self.heapless → ⊥) };
 
     /// Returns whether what is gathered shows the values.
     fn keeps(&self) -> bool
@@ -166,7 +166,7 @@ pub trait Reduce<A>: Gather<A> {
 
     /// Makes what is gathered of the first value.
     fn begin(from: Self::Seed, value: A) -> Result<Self::Collection, AllocError>
-        ensures { MatchResult result (λ i. Self.more Self.none value (Self.held i)) (λ _. Self.lean → ⊥) };
+        ensures { MatchResult result (λ i. Self.more Self.none value (Self.held i)) (λ _. Self.heapless → ⊥) };
 }
 
 /// How many turns there are, for contracts: a type of `turn_bounds` says which are meant.
@@ -218,7 +218,7 @@ impl TurnIndex {
     /// Returns the place of the next turn.
     #[inline(always)]
     fn next(self, count_bound: usize) -> TurnIndex
-        ensures { result ≡ record { number = counted count_bound self.number; begun = false } }
+        ensures { result ≡ record { number = counted_to count_bound self.number; begun = false } }
     {
         if self.number < count_bound {
             return TurnIndex {
@@ -417,8 +417,8 @@ fn parse_turn<Input: Stream, P: TurnParser<Input>, M: ParseMode>(
     ensures valid { P.valid state.new }
     ensures same { TurnsSame (P.meaning parser.old) (P.again parser.old) (P.meaning parser.new) (P.again parser.new) }
     ensures passes { Passes (Input.marks input.old) (Input.marks input.new) (Input.failures input.old) (Input.failures input.new) }
-    ensures answers { AnswersCall Input.StreamOnce Input.Error.seen P.Running.is_default (called (P.meaning parser.old) (P.again parser.old) false) (M.first mode) state.old state.new input.old input.new result }
-    ensures refuses { ReasonedCall Input.Error.seen (called (P.meaning parser.old) (P.again parser.old) false) (M.first mode) state.old (Input.view input.old) (Input.view input.new) result }
+    ensures answers { AnswersCall Input.StreamOnce Input.Error.observers P.Running.is_default (called (P.meaning parser.old) (P.again parser.old) false) (M.first mode) state.old state.new input.old input.new result }
+    ensures refuses { ReasonedCall Input.Error.observers (called (P.meaning parser.old) (P.again parser.old) false) (M.first mode) state.old (Input.view input.old) (Input.view input.new) result }
 {
     if mode.is_first() {
         return Afresh { later: false }.enter(parser, input, state);
@@ -429,8 +429,8 @@ fn parse_turn<Input: Stream, P: TurnParser<Input>, M: ParseMode>(
 /// Makes the error of a refusal that says how many turns are missing.
 #[inline]
 fn too_few<Input: Stream>(input: &Input, position: Input::Position, missing: usize) -> Input::Error
-    ensures told { Told Input.Error.seen.kind Input.Error.seen.frugal result }
-    ensures says { Saying Input.Error.seen Kind.Refused position (Only (Message (Count missing))) result }
+    ensures told { IsRefusalOrMemory Input.Error.observers.kind Input.Error.observers.never_allocates result }
+    ensures says { HasItems Input.Error.observers Kind.Refused position (Only (Message (Count missing))) result }
 {
     let mut error = input.new_error(Kind::Refused, position);
     error.add_message(&Info::More(missing));
@@ -445,7 +445,7 @@ fn gather_turn<A, G: Gather<A>>(
     count_bound: usize,
 ) -> Result<TurnProgress<G::Collection>, AllocError>
     requires { G.able value }
-    ensures { MatchResult result (λ n. IsGathered G.held G.more turns value count_bound n) (λ _. G.lean → ⊥) }
+    ensures { MatchResult result (λ n. IsGathered G.held G.more turns value count_bound n) (λ _. G.heapless → ⊥) }
 {
     let TurnProgress {
         into,
@@ -470,8 +470,8 @@ fn judge_refusal<G: Gather<P::Value>, Input: Stream, P: TurnParser<Input>, B: Tu
     input: &mut Input,
 ) -> TurnStop<G::Collection, Input::Error>
     ensures passes { Passes (Input.marks input.old) (Input.marks input.new) (Input.failures input.old) (Input.failures input.new) }
-    ensures halted { (p : P) (later : Bool) → HaltsCall Input.StreamOnce Input.Error.seen P.Running.is_default (B.bounds bounds) P.ending (gathered G.held G.none G.more G.lean) (called (P.meaning p) (P.again p) later) (Input.stands input.old since) input.old input.new refusal turns result }
-    ensures refuses { (p : P) (later : Bool) → JudgesRefusal Input.step Input.Error.seen (B.bounds bounds) P.ending (called (P.meaning p) (P.again p) later) turns position refusal.error (Input.view input.old) (Input.view input.new) result }
+    ensures halted { (p : P) (later : Bool) → HaltsCall Input.StreamOnce Input.Error.observers P.Running.is_default (B.bounds bounds) P.ending (gathered G.held G.none G.more G.heapless) (called (P.meaning p) (P.again p) later) (Input.stands input.old since) input.old input.new refusal turns result }
+    ensures refuses { (p : P) (later : Bool) → JudgesRefusal Input.step Input.Error.observers (B.bounds bounds) P.ending (called (P.meaning p) (P.again p) later) turns position refusal.error (Input.view input.old) (Input.view input.new) result }
 {
     if is_enough(bounds, turns.index) {
         if let Err(kind) = input.reset(since) {
@@ -507,8 +507,8 @@ fn one_turn<G: Gather<P::Value>, Input: Stream, P: TurnParser<Input>, B: TurnBou
     ensures valid { P.valid running.new }
     ensures same { TurnsSame (P.meaning parser.old) (P.again parser.old) (P.meaning parser.new) (P.again parser.new) }
     ensures passes { Passes (Input.marks input.old) (Input.marks input.new) (Input.failures input.old) (Input.failures input.new) }
-    ensures turned { OneTurnCall Input.StreamOnce Input.Error.seen P.Running.is_default (B.bounds bounds) P.ending (gathered G.held G.none G.more G.lean) (called (P.meaning parser.old) (P.again parser.old) (C.later entry)) (C.first entry) running.old running.new input.old input.new turns result }
-    ensures refuses { StepRefuses Input.step Input.Error.seen (B.bounds bounds) P.ending (started (called (P.meaning parser.old) (P.again parser.old) (C.later entry)) (C.first entry) running.old) (Input.view input.old) (Input.view input.new) turns result }
+    ensures turned { OneTurnCall Input.StreamOnce Input.Error.observers P.Running.is_default (B.bounds bounds) P.ending (gathered G.held G.none G.more G.heapless) (called (P.meaning parser.old) (P.again parser.old) (C.later entry)) (C.first entry) running.old running.new input.old input.new turns result }
+    ensures refuses { TurnStepRefuses Input.step Input.Error.observers (B.bounds bounds) P.ending (started (called (P.meaning parser.old) (P.again parser.old) (C.later entry)) (C.first entry) running.old) (Input.view input.old) (Input.view input.new) turns result }
 {
     let since = input.checkpoint();
     let position = input.position();
@@ -568,8 +568,8 @@ fn first_turn<G: Reduce<P::Value>, Input: Stream, P: TurnParser<Input>, M: Parse
     ensures valid { P.valid running.new }
     ensures same { TurnsSame (P.meaning parser.old) (P.again parser.old) (P.meaning parser.new) (P.again parser.new) }
     ensures passes { Passes (Input.marks input.old) (Input.marks input.new) (Input.failures input.old) (Input.failures input.new) }
-    ensures turned { FirstTurnCall Input.StreamOnce Input.Error.seen P.Running.is_default (gathered G.held G.none G.more G.lean) G.none (called (P.meaning parser.old) (P.again parser.old) false) (M.first mode) running.old running.new input.old input.new result }
-    ensures refuses { FirstRefuses Input.Error.seen (started (called (P.meaning parser.old) (P.again parser.old) false) (M.first mode) running.old) (Input.view input.old) (Input.view input.new) result }
+    ensures turned { FirstTurnCall Input.StreamOnce Input.Error.observers P.Running.is_default (gathered G.held G.none G.more G.heapless) G.none (called (P.meaning parser.old) (P.again parser.old) false) (M.first mode) running.old running.new input.old input.new result }
+    ensures refuses { FirstRefuses Input.Error.observers (started (called (P.meaning parser.old) (P.again parser.old) false) (M.first mode) running.old) (Input.view input.old) (Input.view input.new) result }
 {
     let position = input.position();
     let (value, committed) = match parse_turn(parser, mode, input, running) {
@@ -639,8 +639,8 @@ pub fn take_turns<
     ensures valid { P.valid (running_turn state.new) }
     ensures same { TurnsSame (P.meaning parser.old) (P.again parser.old) (P.meaning parser.new) (P.again parser.new) }
     ensures passes { Passes (Input.marks input.old) (Input.marks input.new) (Input.failures input.old) (Input.failures input.new) }
-    ensures answers { TurnsCall Input.StreamOnce Input.Error.seen P.Running.is_default (B.bounds bounds) P.ending (gathered G.held G.none G.more G.lean) (so_far G.held start) (P.meaning parser.old) (P.again parser.old) (M.first mode) state.old state.new input.old input.new result }
-    ensures refuses { ReasonedCall Input.Error.seen (turns_from Input.step Input.Error.seen (B.bounds bounds) P.ending (gathered G.held G.none G.more G.lean) (so_far G.held start) (P.meaning parser.old) (P.again parser.old)) (M.first mode) state.old (Input.view input.old) (Input.view input.new) result }
+    ensures answers { TurnsCall Input.StreamOnce Input.Error.observers P.Running.is_default (B.bounds bounds) P.ending (gathered G.held G.none G.more G.heapless) (so_far G.held start) (P.meaning parser.old) (P.again parser.old) (M.first mode) state.old state.new input.old input.new result }
+    ensures refuses { ReasonedCall Input.Error.observers (turns_from Input.step Input.Error.observers (B.bounds bounds) P.ending (gathered G.held G.none G.more G.heapless) (so_far G.held start) (P.meaning parser.old) (P.again parser.old)) (M.first mode) state.old (Input.view input.old) (Input.view input.new) result }
 {
     let mut turns = state.begin(mode.is_first(), start);
     let mut later = false;
@@ -704,8 +704,8 @@ pub fn reduce_turns<G: Reduce<P::Value>, Input: Stream, P: TurnParser<Input>, M:
     ensures sound { LeavesSound (λ i. G.sound (G.held i)) state.new result }
     ensures same { TurnsSame (P.meaning parser.old) (P.again parser.old) (P.meaning parser.new) (P.again parser.new) }
     ensures passes { Passes (Input.marks input.old) (Input.marks input.new) (Input.failures input.old) (Input.failures input.new) }
-    ensures answers { TurnsCall Input.StreamOnce Input.Error.seen P.Running.is_default (OwnFirst 1 None) P.ending (gathered G.held G.none G.more G.lean) (none_yet G.none) (P.meaning parser.old) (P.again parser.old) (M.first mode) state.old state.new input.old input.new result }
-    ensures refuses { ReasonedCall Input.Error.seen (turns_from Input.step Input.Error.seen (OwnFirst 1 None) P.ending (gathered G.held G.none G.more G.lean) (none_yet G.none) (P.meaning parser.old) (P.again parser.old)) (M.first mode) state.old (Input.view input.old) (Input.view input.new) result }
+    ensures answers { TurnsCall Input.StreamOnce Input.Error.observers P.Running.is_default (OwnFirst 1 None) P.ending (gathered G.held G.none G.more G.heapless) (none_yet G.none) (P.meaning parser.old) (P.again parser.old) (M.first mode) state.old state.new input.old input.new result }
+    ensures refuses { ReasonedCall Input.Error.observers (turns_from Input.step Input.Error.observers (OwnFirst 1 None) P.ending (gathered G.held G.none G.more G.heapless) (none_yet G.none) (P.meaning parser.old) (P.again parser.old)) (M.first mode) state.old (Input.view input.old) (Input.view input.new) result }
 {
     let bounds = FirstThenMore::<1>;
     let mut turns: TurnProgress<G::Collection>;

@@ -1,7 +1,7 @@
 -- the parsers that the constructors build, and their parts; and repetitions up to a place beside one another
 use Rattle.std.specs.declared.alloc.Global.{Global}
 use Rattle.std.specs.declared.cmp.Ordering.{Ordering}
-use Rattle.combine_base.specs.Error.Errors.{Errors}
+use Rattle.combine_base.specs.Error.Errors.{Observers}
 use Rattle.combine_base.specs.Parser.Meaning.{Meaning}
 use Rattle.combine_combinator.specs.CombinatorParsers.{picked_of, picked_part}
 use Rattle.combine_combinator.specs.declared.combinator.values.Nothing.{Nothing}
@@ -70,19 +70,19 @@ blocks_end p = next_end p.turn
 abbrev pub blocks_part : {F A X Y : Type 0} → BlocksUntil F A X Y → X
 blocks_part p = next_part p.turn
 
-module _ {P T R E A B V S U : Type 0} (step : P → T → P) (errors : Errors T R P E) (cmp : P → P → Ordering) (c : Collecting (Option A) V) where
+module _ {P T R E A B V S U : Type 0} (step : P → T → P) (errors : Observers T R P E) (cmp : P → P → Ordering) (c : Collecting (Option A) V) where
   -- blocks of a parser, up to the first place where the other one isn't refused peeked
   abbrev pub repeat_until : Meaning P T R E A S → Meaning P T R E B U → Meaning P T R E V (UntilState V (OrState U S))
   repeat_until part end = until step errors c (next errors cmp end part)
 
 -- no value
-abbrev pub nothing : {A : Type 0} → A → Unit {0}
-nothing a = tt
+abbrev pub drops_value : {A : Type 0} → A → Unit {0}
+drops_value a = tt
 
-module _ {P T R E A B S U : Type 0} (step : P → T → P) (errors : Errors T R P E) (cmp : P → P → Ordering) where
+module _ {P T R E A B S U : Type 0} (step : P → T → P) (errors : Observers T R P E) (cmp : P → P → Ordering) where
   -- the blocks, their values dropped
   abbrev pub repeat_skip_until : Meaning P T R E A S → Meaning P T R E B U → Meaning P T R E Unit (UntilState Sink (OrState U S))
-  repeat_skip_until part end = mapped (repeat_until step errors cmp (some_dropped {V = Sink}) part end) (Picks nothing)
+  repeat_skip_until part end = mapped (repeat_until step errors cmp (some_dropped {V = Sink}) part end) (Picks drops_value)
 
   -- they take the same tokens, accepted or refused alike, and the first collects what the second drops
   abbrev pub RepeatOrSkip : {V : Type 0} → Collecting (Option A) V → Meaning P T R E A S → Meaning P T R E B U → Type 0

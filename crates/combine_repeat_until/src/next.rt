@@ -100,15 +100,15 @@ impl<Input: Stream, A: Drop, P: Parser<Input, Output = A>, E: Parser<Input>> Par
 
     ghost valid = { or_valid E.valid P.valid };
 
-    ghost meaning = { λ p. next Input.Error.seen Input.Position.cmp (E.meaning (next_end p)) (P.meaning (next_part p)) };
+    ghost meaning = { λ p. next Input.Error.observers Input.Position.cmp (E.meaning (next_end p)) (P.meaning (next_part p)) };
 
     ghost parts = { λ _. 1 };
 
     ghost default_valid = { λ s d. rw d tt };
 
-    ghost laws = { λ p l. next_is_meaning Input.Error.seen Input.Position.cmp (E.meaning (next_end p)) (P.meaning (next_part p)) (E.laws (next_end p) l.0) (P.laws (next_part p) l.1) };
+    ghost laws = { λ p l. next_is_meaning Input.Error.observers Input.Position.cmp (E.meaning (next_end p)) (P.meaning (next_part p)) (E.laws (next_end p) l.0) (P.laws (next_part p) l.1) };
 
-    ghost single = { λ p l d. next_means_one Input.Error.seen Input.Position.cmp E.PartialState.is_default E.valid P.PartialState.is_default P.valid (E.meaning (next_end p)) (P.meaning (next_part p)) (E.single (next_end p) l.0 d.0) (P.single (next_part p) l.1 d.1) };
+    ghost single = { λ p l d. next_means_one Input.Error.observers Input.Position.cmp E.PartialState.is_default E.valid P.PartialState.is_default P.valid (E.meaning (next_end p)) (P.meaning (next_part p)) (E.single (next_end p) l.0 d.0) (P.single (next_part p) l.1 d.1) };
 
     #[inline(always)]
     fn parse_mode<M: ParseMode>(

@@ -8,7 +8,7 @@ ghost use Rattle.combine_base.specs.Stream.Calls.{Passes};
 ghost use Rattle.combine_base.specs.Stream.View.{Takes, View};
 ghost use Rattle.combine_combinator.specs.Attempt.{losing};
 ghost use Rattle.combine_repeat_until.specs.Until.{blocks_so_far, some_appended, until_fresh, until_valid, until};
-ghost use Rattle.combine_repeat_until.specs.UntilTurn.{OneTurnCall, ComesTo, HandsOut, Keeps, KeepsRunning, RefusesTurn, Settled};
+ghost use Rattle.combine_repeat_until.specs.UntilTurn.{OneBlockCall, ReachesPlace, HandsOutBlocks, KeepsBlocks, KeepsRunning, RefusesTurn, SettlesBlocks};
 
 use combine_base::distance::{measure, pass_tokens};
 use combine_base::error::{ParseResult, Tracked, accepted_after};
@@ -78,7 +78,7 @@ impl<F> Blocks<F> {
     fn add<A>(self, value: A) -> Result<Blocks<F>, AllocError>
     where
         F: Append<A>,
-        ensures { MatchResult result (λ n. blocks_so_far F.held n ≡ record { mark = false; held = F.more (F.held self.into) value; committed = self.committed }) (λ _. F.lean → ⊥) }
+        ensures { MatchResult result (λ n. blocks_so_far F.held n ≡ record { mark = false; held = F.more (F.held self.into) value; committed = self.committed }) (λ _. F.heapless → ⊥) }
     {
         let Blocks {
             mut into,
@@ -157,7 +157,7 @@ impl<F: Drop, S: Default + Drop> UntilState<F, S> {
     /// Hands out what a call begins with: what is kept, unless it begins afresh.
     #[inline(always)]
     fn hand_out(&mut self, first: bool, into: F) -> KeptBlocks<F, S>
-        ensures out { HandsOut S.is_default into first self.old result }
+        ensures out { HandsOutBlocks S.is_default into first self.old result }
         ensures left { self.new ≡ UntilState.Begin }
     {
         match replace(self, UntilState::Begin) {
@@ -211,7 +211,7 @@ fn pass_to<Input: Stream>(
     beyond: u64,
 ) -> Result<Input::Checkpoint, Kind>
     ensures passes { Passes (Input.marks input.old) (Input.marks input.new) (Input.failures input.old) (Input.failures input.new) }
-    ensures comes { ComesTo Input.steady Input.step (Input.stands input.new) (Input.view input.old) (Input.view input.new) (Input.failures input.old) (Input.failures input.new) before beyond result }
+    ensures comes { ReachesPlace Input.counts_failures Input.step (Input.stands input.new) (Input.view input.old) (Input.view input.new) (Input.failures input.old) (Input.failures input.new) before beyond result }
 {
     if let Err(kind) = pass_tokens(input, before) {
         return Err(kind);
@@ -258,8 +258,8 @@ fn one_block<
     ensures valid { N.valid running.new }
     ensures same { MeansSame (N.meaning parser.old) (N.meaning parser.new) }
     ensures passes { Passes (Input.marks input.old) (Input.marks input.new) (Input.failures input.old) (Input.failures input.new) }
-    ensures turned { OneTurnCall Input.StreamOnce Input.Error.seen N.PartialState.is_default (N.meaning parser.old) (some_appended F.held F.none F.more F.lean) (M.first mode) running.old running.new input.old input.new (Input.stands input.old place) blocks result }
-    ensures refuses { RefusesTurn Input.Error.seen (N.meaning parser.old) (M.first mode) running.old blocks.begun (Input.view input.old) (Input.view input.new) result }
+    ensures turned { OneBlockCall Input.StreamOnce Input.Error.observers N.PartialState.is_default (N.meaning parser.old) (some_appended F.held F.none F.more F.heapless) (M.first mode) running.old running.new input.old input.new (Input.stands input.old place) blocks result }
+    ensures refuses { RefusesTurn Input.Error.observers (N.meaning parser.old) (M.first mode) running.old blocks.begun (Input.view input.old) (Input.view input.new) result }
 {
     let position = input.position();
     let since = input.checkpoint();
@@ -309,7 +309,7 @@ where
     F: Drop,
     S: Drop,
     ensures passes { Passes (Input.marks input.old) (Input.marks input.new) (Input.failures input.old) (Input.failures input.new) }
-    ensures keeps { Keeps Input.steady Input.step Input.Error.seen.kind (Input.stands input.old start) (Input.stands input.old place) (Input.view input.old) (Input.view input.new) (Input.failures input.old) (Input.failures input.new) blocks running need state.old state.new result }
+    ensures keeps { KeepsBlocks Input.counts_failures Input.step Input.Error.observers.kind (Input.stands input.old start) (Input.stands input.old place) (Input.view input.old) (Input.view input.new) (Input.failures input.old) (Input.failures input.new) blocks running need state.old state.new result }
     ensures left { KeepsRunning running state.old state.new }
 {
     let beyond = match measure(input, place) {
@@ -344,7 +344,7 @@ where
     F: Drop,
     S: Drop,
     ensures passes { Passes (Input.marks input.old) (Input.marks input.new) (Input.failures input.old) (Input.failures input.new) }
-    ensures settled { Settled Input.steady Input.step Input.Error.seen.kind (Input.stands input.old start) (Input.stands input.old place) (Input.view input.old) (Input.view input.new) (Input.failures input.old) (Input.failures input.new) running state.old state.new result why }
+    ensures settled { SettlesBlocks Input.counts_failures Input.step Input.Error.observers.kind (Input.stands input.old start) (Input.stands input.old place) (Input.view input.old) (Input.view input.new) (Input.failures input.old) (Input.failures input.new) running state.old state.new result why }
     ensures left { KeepsRunning running state.old state.new }
 {
     match why {
@@ -379,8 +379,8 @@ pub fn take_blocks<
     ensures valid { until_valid N.valid state.new }
     ensures same { MeansSame (N.meaning parser.old) (N.meaning parser.new) }
     ensures passes { Passes (Input.marks input.old) (Input.marks input.new) (Input.failures input.old) (Input.failures input.new) }
-    ensures answers { AnswersCall Input.StreamOnce Input.Error.seen until_fresh (until Input.step Input.Error.seen (some_appended F.held F.none F.more F.lean) (N.meaning parser.old)) (M.first mode) state.old state.new input.old input.new result }
-    ensures refuses { ReasonedCall Input.Error.seen (until Input.step Input.Error.seen (some_appended F.held F.none F.more F.lean) (N.meaning parser.old)) (M.first mode) state.old (Input.view input.old) (Input.view input.new) result }
+    ensures answers { AnswersCall Input.StreamOnce Input.Error.observers until_fresh (until Input.step Input.Error.observers (some_appended F.held F.none F.more F.heapless) (N.meaning parser.old)) (M.first mode) state.old state.new input.old input.new result }
+    ensures refuses { ReasonedCall Input.Error.observers (until Input.step Input.Error.observers (some_appended F.held F.none F.more F.heapless) (N.meaning parser.old)) (M.first mode) state.old (Input.view input.old) (Input.view input.new) result }
 {
     let start = input.checkpoint();
     let position = input.position();

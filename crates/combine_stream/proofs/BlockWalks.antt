@@ -3,7 +3,7 @@ use Rattle.std.proofs.Common.{ℕ, zero, suc, ◌+◌, ◌≤◌, ◌<◌, ◌�
 use Rattle.std.proofs.lemmas.List.{drop-drop, take-append-drop, length-take-le}
 use Rattle.combine_stream.specs.Range.Measures.{ones}
 use Rattle.combine_stream.specs.Range.Ranges.{Longest, LongestItems}
-use Rattle.combine_stream.proofs.TokenWalks.{Passed}
+use Rattle.combine_stream.proofs.TokenWalks.{PassesTest}
 
 module _ {T : Type 0} (f : T → Bool → Type 0) where
   -- the longest beginning of a block that ends inside it is that of all
@@ -26,15 +26,15 @@ module _ {T : Type 0} (f : T → Bool → Type 0) where
   pub few : (us : List T) (m : ℕ) → LongestItems (λ t. 1) f us m → m ≤ length us
   few us m l = let c = counted us m l in let w = l.place.within in omega arith
 
-  module _ (cs ds : List T) (n : ℕ) (p : Passed (λ t. 1) f cs ds n) where
+  module _ (cs ds : List T) (n : ℕ) (p : PassesTest (λ t. 1) f cs ds n) where
     passed_count : p.count ≡ n
     passed_count = let a = ones (take p.count cs) in let b = length-take-le p.count cs p.within in let c = p.items in omega arith
 
     left : length ds + p.count ≡ length cs
     left = let a = ap length p.tail in let b = length-drop p.count cs in let d = p.within in omega arith
 
-    pub within : (m : ℕ) → m ≤ length ds → n + m ≤ length cs
-    within m h = let e = left in let d = passed_count in omega arith
+    pub block_within : (m : ℕ) → m ≤ length ds → n + m ≤ length cs
+    block_within m h = let e = left in let d = passed_count in omega arith
 
     -- the rest is looked through
     pub passed_rest : (m : ℕ) → LongestItems (λ t. 1) f ds m → LongestItems (λ t. 1) f cs (n + m)
@@ -58,7 +58,7 @@ module _ {T : Type 0} (f : T → Bool → Type 0) where
           passed_rest m (record { count = l.count; longest = subst (λ us. Longest f us l.count) (take-append-drop k ds) (longest_inside (take k ds) (drop k ds) l.count (omega arith) l.longest); place = record { within = omega arith; items = omega arith } })
 
       -- a block that all passes
-      pub passed_block : (m < k → ⊥) → Passed (λ t. 1) f cs (drop k ds) (n + m)
+      pub passed_block : (m < k → ⊥) → PassesTest (λ t. 1) f cs (drop k ds) (n + m)
       passed_block i =
           let c = counted (take k ds) m l in
           let o = l.place.within in

@@ -11,17 +11,17 @@ use Rattle.combine_stream.specs.Range.Ranges.{size_of, size_take, size_rises}
 use Rattle.combine_stream.specs.Range.TextRanges.{Cut, text_measured}
 use Rattle.combine_stream.proofs.SliceLengths.{left_after}
 use Rattle.combine_stream.proofs.TextCuts.{text_size}
-use Rattle.combine_stream.specs.Position.Lines.{Fits, next_place}
+use Rattle.combine_stream.specs.Position.Lines.{CountsFit, next_place}
 use Rattle.combine_stream.specs.declared.position.text.SourcePosition.{SourcePosition}
 
-pub fits_next : (p : SourcePosition) (c n m : ℕ) → Fits p n → m + 1 ≤ n → Fits (next_place p c) m
+pub fits_next : (p : SourcePosition) (c n m : ℕ) → CountsFit p n → m + 1 ≤ n → CountsFit (next_place p c) m
 fits_next p c n m h l = by_test (nat_eq c 10)
   where
-    by_test : (b : Bool) → Fits (if b then record { line = p.line + 1; column = 1 } else record { line = p.line; column = p.column + 1 }) m
+    by_test : (b : Bool) → CountsFit (if b then record { line = p.line + 1; column = 1 } else record { line = p.line; column = p.column + 1 }) m
     by_test true = let a = h.0 in let b = h.1 in (omega arith, omega arith)
     by_test false = let a = h.0 in let b = h.1 in (omega arith, omega arith)
 
-pub fits_after : (p : SourcePosition) (cs : List ℕ) (n m : ℕ) → Fits p n → length cs + m ≤ n → Fits (after_all next_place p cs) m
+pub fits_after : (p : SourcePosition) (cs : List ℕ) (n m : ℕ) → CountsFit p n → length cs + m ≤ n → CountsFit (after_all next_place p cs) m
 fits_after p [] n m h l = let a = h.0 in let b = h.1 in (omega arith, omega arith)
 fits_after p (c ∷ cs) n m h l = fits_after (next_place p c) cs (length cs + m) m (fits_next p c n (length cs + m) h (omega arith)) (omega arith)
 
@@ -38,7 +38,7 @@ module _ (bytes front back : List ℕ) (n k : ℕ) (c : Cut bytes n k front back
   pub front_chars : IsUtf8 front → chars front ≡ take k (chars bytes)
   front_chars u = sym (chars_from_encodes (take k (chars bytes)) front u (sym c.spelled))
 
-  pub back_fits : (p : SourcePosition) → Fits p (length bytes) → IsUtf8 bytes → IsUtf8 front → Fits (after_all next_place p (chars front)) (length back)
+  pub back_fits : (p : SourcePosition) → CountsFit p (length bytes) → IsUtf8 bytes → IsUtf8 front → CountsFit (after_all next_place p (chars front)) (length back)
   back_fits p h u w = fits_after p (chars front) (length bytes) (length back) h (let a = few_chars front w in let b = front_size in let d = back_size in let e = front_within u in omega arith)
 
 pub bytes_apart : (from to : List ℕ) (k : ℕ) → IsUtf8 from → IsUtf8 to → chars to ≡ drop k (chars from) → length from - length to ≡ size_of len_utf8 (take k (chars from))

@@ -2,7 +2,7 @@
 use Rattle.std.proofs.Common.{ℕ, zero, suc, ◌+◌, ◌-◌, ◌≤◌, ◌≡◌, List, [], ◌∷◌, take, drop, length, arith, ap, sym, refl, ◌∙◌, false}
 use Rattle.std.proofs.lemmas.List.{length-drop}
 use Rattle.combine_base.specs.Stream.View.{View, Ahead, Takes, after_all}
-use Rattle.combine_stream.specs.Range.Ranges.{size_of, Place, size_take}
+use Rattle.combine_stream.specs.Range.Ranges.{size_of, IsItemPlace, size_take}
 use Rattle.combine_base.specs.Stream.Slices.{slice_view, one_less}
 use Rattle.combine_base.specs.declared.stream.slices.Left.{Left}
 
@@ -16,7 +16,7 @@ module _ {T : Type 0} where
   ones_take (suc n) [] h = absurd (omega arith)
   ones_take (suc n) (t ∷ ts) h = let e = ones_take n ts (omega arith) in omega arith
 
-  pub slice_place : (n : ℕ) (ts : List T) → n ≤ length ts → Place (λ t. 1) ts n n
+  pub slice_place : (n : ℕ) (ts : List T) → n ≤ length ts → IsItemPlace (λ t. 1) ts n n
   slice_place n ts h = record { within = h; items = ones_take n ts h }
 
   pub slice_takes : (n : ℕ) (xs ys : List T) → n ≤ length xs → ys ≡ drop n xs → Takes one_less n (slice_view xs) (slice_view ys)

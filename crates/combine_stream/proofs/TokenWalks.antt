@@ -11,18 +11,18 @@ use Rattle.combine_base.specs.declared.stream.Failures.{Failures}
 
 module _ {T : Type 0} (size : T → ℕ) (f : T → Bool → Type 0) where
   -- the tokens before ds pass the test, and are n items
-  pub record Passed (cs ds : List T) (n : ℕ) : Type 0 where
+  pub record PassesTest (cs ds : List T) (n : ℕ) : Type 0 where
     pub count : ℕ
     pub within : count ≤ length cs
     pub tail : ds ≡ drop count cs
     pub items : size_of size (take count cs) ≡ n
     pub longest : (j : ℕ) → Longest f ds j → Longest f cs (count + j)
 
-  pub passed_none : (cs : List T) → Passed cs cs 0
+  pub passed_none : (cs : List T) → PassesTest cs cs 0
   passed_none cs = record { count = 0; within = omega arith; tail = refl; items = refl; longest = λ j p. rw (zero-add j) p }
 
-  module _ (cs ds : List T) (n : ℕ) (p : Passed cs ds n) (t : T) (es : List T) (e : ds ≡ t ∷ es) where
-    pub passed_more : f t true → Passed cs es (n + size t)
+  module _ (cs ds : List T) (n : ℕ) (p : PassesTest cs ds n) (t : T) (es : List T) (e : ds ≡ t ∷ es) where
+    pub passed_more : f t true → PassesTest cs es (n + size t)
     passed_more h =
         let at : drop p.count cs ≡ t ∷ es = sym p.tail ∙ e in
         let long = ap length at in
@@ -47,7 +47,7 @@ module _ {T : Type 0} (size : T → ℕ) (f : T → Bool → Type 0) where
       place = record { within = p.within; items = p.items };
     }
 
-  pub passed_end : (cs ds : List T) (n : ℕ) → Passed cs ds n → ds ≡ [] → LongestItems size f cs n
+  pub passed_end : (cs ds : List T) (n : ℕ) → PassesTest cs ds n → ds ≡ [] → LongestItems size f cs n
   passed_end cs ds n p e = record {
     count = p.count;
     longest = subst (Longest f cs) {x = p.count + 0} {y = p.count} (omega arith) (p.longest 0 (subst (λ us. Longest f us 0) (sym e) refl));
@@ -55,10 +55,10 @@ module _ {T : Type 0} (size : T → ℕ) (f : T → Bool → Type 0) where
   }
 
 -- taking so many items as the longest beginning has takes that beginning
-pub while_by_range : {P T R : Type 0} (steady : Type 0) (step : P → T → P) (size : T → ℕ) (filled : (t : T) → 0 < size t) (spells : R → List T → Type 0) (f : T → Bool → Type 0) (u v : View P T) (before after : Failures) (n : ℕ) (r : Result R Kind) → LongestItems size f u.unread n → UnconsRange steady step size spells u v before after n r → UnconsWhile steady step size spells u v before after f r
-while_by_range {R = R} steady step size filled spells f u v before after n r l x = record { is = by_result r x.is }
+pub while_by_range : {P T R : Type 0} (counts_failures : Type 0) (step : P → T → P) (size : T → ℕ) (filled : (t : T) → 0 < size t) (spells : R → List T → Type 0) (f : T → Bool → Type 0) (u v : View P T) (before after : Failures) (n : ℕ) (r : Result R Kind) → LongestItems size f u.unread n → UnconsRange counts_failures step size spells u v before after n r → UnconsWhile counts_failures step size spells u v before after f r
+while_by_range {R = R} counts_failures step size filled spells f u v before after n r l x = record { is = by_result r x.is }
   where
-    fails : (k : Kind) → unconses_range steady step size spells u v before after n (Err k) → unconses_while steady step size spells u v before after f (Err k)
+    fails : (k : Kind) → unconses_range counts_failures step size spells u v before after n (Err k) → unconses_while counts_failures step size spells u v before after f (Err k)
     fails kinds.Refused h = absurd (h.0.none l.count l.place)
     fails kinds.End h = absurd (let a = place_within size u.unread n l.count l.place in let b = h.0 in omega arith)
     fails kinds.Memory h = absurd h
@@ -66,6 +66,6 @@ while_by_range {R = R} steady step size filled spells f u v before after n r l x
     fails kinds.Reset h = absurd h
     fails kinds.Lost h = absurd h
 
-    by_result : (r : Result R Kind) → unconses_range steady step size spells u v before after n r → unconses_while steady step size spells u v before after f r
+    by_result : (r : Result R Kind) → unconses_range counts_failures step size spells u v before after n r → unconses_while counts_failures step size spells u v before after f r
     by_result (Ok q) h = (h.0, subst (Longest f u.unread) (one_place size filled u.unread n l.count h.0 l.place h.1) l.longest, h.2)
     by_result (Err k) h = fails k h

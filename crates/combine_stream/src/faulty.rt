@@ -13,41 +13,41 @@ use combine_base::stream::{Failures, Kind, Positioned, ResetStream, Stream, Stre
 /// A stream whose reads and resets never fail. Our own.
 pub trait Unfailing: ResetStream {
     /// The counts of failures stand.
-    ghost calm: { (s t : Self) → Self.failures s ≡ Self.failures t };
+    ghost never_fails: { (s t : Self) → Self.failures s ≡ Self.failures t };
 }
 
 impl<'a, T: Copy> Unfailing for &'a [T] {
     ghost use Rattle.std.specs.Prelude.{refl};
 
-    ghost calm = { λ s t. refl };
+    ghost never_fails = { λ s t. refl };
 }
 
 impl<'a> Unfailing for &'a str {
     ghost use Rattle.std.specs.Prelude.{refl};
 
-    ghost calm = { λ s t. refl };
+    ghost never_fails = { λ s t. refl };
 }
 
 impl<T: Copy + 'static> Unfailing for fed::Stream<T> {
     ghost use Rattle.std.specs.Prelude.{refl};
 
-    ghost calm = { λ s t. refl };
+    ghost never_fails = { λ s t. refl };
 }
 
 impl<'a, T: Copy> Unfailing for SliceStream<'a, T> {
     ghost use Rattle.std.specs.Prelude.{refl};
 
-    ghost calm = { λ s t. refl };
+    ghost never_fails = { λ s t. refl };
 }
 
 impl<'a> Unfailing for TextStream<'a> {
     ghost use Rattle.std.specs.Prelude.{refl};
 
-    ghost calm = { λ s t. refl };
+    ghost never_fails = { λ s t. refl };
 }
 
 impl<S: Unfailing> Unfailing for MaybePartialStream<S> {
-    ghost calm = { λ s t. S.calm s.0 t.0 };
+    ghost never_fails = { λ s t. S.never_fails s.0 t.0 };
 }
 
 // A call that is to fail, of those of one sort.
@@ -167,7 +167,7 @@ impl<S: Unfailing> StreamOnce for Faulty<S> {
 
     ghost failures = { failures_of };
 
-    ghost steady = { Unit {0} };
+    ghost counts_failures = { Unit {0} };
 
     ghost moves = { λ s n h k. S.moves s.inner n h k };
 

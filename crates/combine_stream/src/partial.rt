@@ -32,7 +32,7 @@ impl<S: StreamOnce> StreamOnce for MaybePartialStream<S> {
 
     ghost failures = { λ s. S.failures s.0 };
 
-    ghost steady = { S.steady };
+    ghost counts_failures = { S.counts_failures };
 
     ghost moves = { λ s n h k. S.moves s.0 n h k };
 

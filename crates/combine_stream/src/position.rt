@@ -94,7 +94,7 @@ pub trait Windowed: DefaultPositioned + Copy {
     ghost ordered: { (s : Self) (c d : ℕ) → places s c → places s d → index s c ≤ index s d → c ≤ d };
 
     /// Neither reads nor resets fail.
-    ghost calm: { (s t : Self.Located) → Self.Located.failures s ≡ Self.Located.failures t };
+    ghost never_fails: { (s t : Self.Located) → Self.Located.failures s ≡ Self.Located.failures t };
 }
 
 /// Makes streams that count their position: `Stream::new(input)`.

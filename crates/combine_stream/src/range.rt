@@ -51,7 +51,7 @@ where
     /// - `End` if fewer are unread, and `Refused` if the n-th is inside a token; nothing has changed.
     /// - `Read` if the read fails; its count rises, and an end of the unread tokens is left.
     fn uncons_range(&mut self, n: usize) -> Result<Self::Range, Kind>
-        ensures read { UnconsRange Self.steady Self.step size spells (Self.view self.old) (Self.view self.new) (Self.failures self.old) (Self.failures self.new) n result }
+        ensures read { UnconsRange Self.counts_failures Self.step size spells (Self.view self.old) (Self.view self.new) (Self.failures self.old) (Self.failures self.new) n result }
         ensures passes { Passes (Self.marks self.old) (Self.marks self.new) (Self.failures self.old) (Self.failures self.new) };
 
     /// Takes the longest beginning whose tokens pass the test; it may be empty.
@@ -61,7 +61,7 @@ where
     /// `Read` as for `uncons_range`.
     fn uncons_while<F: Maps<Self::Token, bool>>(&mut self, f: &F) -> Result<Self::Range, Kind>
         requires { (t : Self.Token) → F.callable f.now t }
-        ensures read { UnconsWhile Self.steady Self.step size spells (Self.view self.old) (Self.view self.new) (Self.failures self.old) (Self.failures self.new) (F.answers f.now) result }
+        ensures read { UnconsWhile Self.counts_failures Self.step size spells (Self.view self.old) (Self.view self.new) (Self.failures self.old) (Self.failures self.new) (F.answers f.now) result }
         ensures passes { Passes (Self.marks self.old) (Self.marks self.new) (Self.failures self.old) (Self.failures self.new) };
 
     /// Returns the number of items that were taken since the checkpoint was made.

@@ -1,7 +1,7 @@
 -- whether cuts fit, one after another
 use Rattle.std.proofs.Common.{ℕ, zero, suc, ◌+◌, ◌<◌, ◌≤◌, ◌≡◌, ◌↔◌, List, true, false, length, get_or, arith, ap, sym, subst, refl, ⊎_elim}
 use Rattle.std.proofs.Math.Nat.{eq-or-lt_of_le}
-use Rattle.combine_stream_cuts.specs.Cuts.{Fit}
+use Rattle.combine_stream_cuts.specs.Cuts.{CutsFit}
 use Rattle.combine_stream_cuts.proofs.CutRuns.{last_cut}
 
 -- the first n cuts fit, and this is the last of them
@@ -23,7 +23,7 @@ module _ (is_place : ℕ → Type 0) (cuts : List ℕ) where
       let c : at n ≡ at (i + 1) = ap (at) {x = n} {y = i + 1} (omega arith) in
       omega arith
 
-  fall : (n latest : ℕ) → latest ≡ last_cut at n → n < length cuts → get_or cuts n 0 < latest → Fit is_place cuts → ⊥
+  fall : (n latest : ℕ) → latest ≡ last_cut at n → n < length cuts → get_or cuts n 0 < latest → CutsFit is_place cuts → ⊥
   fall zero latest b h l g = omega arith
   fall (suc k) latest b h l g =
       let a = g.rising k (omega arith) in
@@ -38,11 +38,11 @@ module _ (is_place : ℕ → Type 0) (cuts : List ℕ) where
       behind = sym (ap (last_cut at) {x = n + 1} {y = suc n} (omega arith));
     }
 
-    pub fit_falls : n < length cuts → get_or cuts n 0 < latest → (false ≡ true) ↔ Fit is_place cuts
+    pub fit_falls : n < length cuts → get_or cuts n 0 < latest → (false ≡ true) ↔ CutsFit is_place cuts
     fit_falls h l = (λ z. absurd (cc), λ g. absurd (fall n latest f.behind h l g))
 
-    pub fit_misplaced : n < length cuts → (is_place (get_or cuts n 0) → ⊥) → (false ≡ true) ↔ Fit is_place cuts
+    pub fit_misplaced : n < length cuts → (is_place (get_or cuts n 0) → ⊥) → (false ≡ true) ↔ CutsFit is_place cuts
     fit_misplaced h d = (λ z. absurd (cc), λ g. absurd (d (g.placed n h)))
 
-    pub fit_all : length cuts ≤ n → (true ≡ true) ↔ Fit is_place cuts
+    pub fit_all : length cuts ≤ n → (true ≡ true) ↔ CutsFit is_place cuts
     fit_all h = (λ z. record { rising = λ i l. f.rising i (omega arith); placed = λ i l. f.placed i (omega arith) }, λ g. refl)

@@ -3,7 +3,7 @@
 
 ghost use Rattle.std.specs.Prelude.{◌≡◌, ◌↔◌, ℕ, ◌<◌, ◌≤◌, get_or, length, true};
 ghost use Rattle.combine_base.specs.Parser.Meaning.{IsSingle, MeansSame};
-ghost use Rattle.combine_stream_cuts.specs.Cuts.{Fit, RunsCuts, WindowCall};
+ghost use Rattle.combine_stream_cuts.specs.Cuts.{CutsFit, RunsCuts, WindowCall};
 
 use combine_base::error::{ParseError, ParseResult};
 use combine_base::parser::{Answer, Parser, judge};
@@ -15,7 +15,7 @@ use combine_stream::position::{DefaultPositioned, Stream, Windowed};
 ///
 /// No cut then passes the end, and none is inside a character.
 pub fn cuts_fit<S: Windowed>(whole: S, cuts: &[usize]) -> bool
-    ensures { (result ≡ true) ↔ Fit (S.places whole) cuts.now }
+    ensures { (result ≡ true) ↔ CutsFit (S.places whole) cuts.now }
 {
     let mut last = 0;
     for cut in cuts {
@@ -68,7 +68,7 @@ fn parse_window<S: Windowed, P: Parser<MaybePartialStream<S::Located>>>(
     ensures place { S.places whole result.0.place }
     ensures index { S.index whole result.0.place ≡ result.0.taken }
     ensures position { (⟦<MaybePartialStream<S::Located> as StreamOnce>⟧.view result.0.stream).position ≡ S.DefaultPositioned.behind whole result.0.taken }
-    ensures parses { WindowCall S.Located.StreamOnce S.Located.Error.seen P.PartialState.is_default (S.DefaultPositioned.whole whole).position (P.meaning parser.old) state.old state.new (S.DefaultPositioned.whole whole).unread run.taken (S.index whole to) is_open result.0.taken result.1 }
+    ensures parses { WindowCall S.Located.StreamOnce S.Located.Error.observers P.PartialState.is_default (S.DefaultPositioned.whole whole).position (P.meaning parser.old) state.old state.new (S.DefaultPositioned.whole whole).unread run.taken (S.index whole to) is_open result.0.taken result.1 }
 {
     let Run {
         mut stream,
@@ -125,11 +125,11 @@ pub fn parse_cuts<S: Windowed, P: Parser<MaybePartialStream<S::Located>>>(
     cuts: &[usize],
 ) -> Result<(usize, Answer<P::Output, <S::Located as StreamOnce>::Error>), Kind>
     requires lawful { P.lawful parser.old }
-    requires fit { Fit (S.places whole) cuts.now }
+    requires fit { CutsFit (S.places whole) cuts.now }
     ensures lawful { P.lawful parser.new }
     ensures same { MeansSame (P.meaning parser.old) (P.meaning parser.new) }
     ensures single { P.determined parser.old → IsSingle (P.meaning parser.old).whole }
-    ensures runs { RunsCuts S.Located.Error.seen.frugal (S.DefaultPositioned.whole whole).position (P.meaning parser.old) (S.DefaultPositioned.whole whole).unread (length cuts.now) (λ i. S.index whole (get_or cuts.now i 0)) result }
+    ensures runs { RunsCuts S.Located.Error.observers.never_allocates (S.DefaultPositioned.whole whole).position (P.meaning parser.old) (S.DefaultPositioned.whole whole).unread (length cuts.now) (λ i. S.index whole (get_or cuts.now i 0)) result }
 {
     let mut state = P::PartialState::default();
     let stream = Stream::new(whole);

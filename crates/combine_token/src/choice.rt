@@ -123,9 +123,9 @@ pub fn after_refusal<O, T: Copy, R: Copy, P: Ord, E: ParseError<T, R, P>>(
     first: Tracked<E>,
     answer: ParseResult<O, E>,
 ) -> ParseResult<O, E>
-    requires first { IsFault (E.seen.kind first.error) → ⊥ }
-    requires later { PeeksNoFault E.seen.kind answer }
-    ensures { AfterRefusal E.seen P.cmp first.error answer result }
+    requires first { IsFault (E.observers.kind first.error) → ⊥ }
+    requires later { PeeksNoFault E.observers.kind answer }
+    ensures { AfterRefusal E.observers P.cmp first.error answer result }
 {
     match answer {
         ParseResult::CommitOk(value) => ParseResult::CommitOk(value),

@@ -21,7 +21,7 @@ impl<A: Drop, const N: usize> Append<A> for CappedCount<N> {
 
     ghost more = { λ taken _. taken + 1 };
 
-    ghost lean = { ⊥ };
+    ghost heapless = { ⊥ };
 
     fn empty(_alloc: Global) -> CappedCount<N> {
         CappedCount { taken: 0 }

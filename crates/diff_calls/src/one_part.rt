@@ -1,7 +1,7 @@
 //! Constructors over one parser, and their calls.
 ghost use Rattle.std.specs.Prelude.{◌≡◌};
 ghost use Rattle.combine_base.specs.Parser.ValueMap.{mapped_reading};
-ghost use Rattle.diff_calls.specs.CallMeanings.{maybe, put_back, single};
+ghost use Rattle.diff_calls.specs.CallMeanings.{maybe_reading, attempted_reading, single};
 
 use crate::{Unary, UnaryCall, Visitor};
 use combine_base::error::ParseError;
@@ -31,7 +31,7 @@ pub struct Attempt;
 impl<A: Drop> Unary<A> for Attempt {
     type Output = A;
 
-    ghost reading = { λ P step r. put_back step r };
+    ghost reading = { λ P step r. attempted_reading step r };
 
     #[inline(always)]
     fn build<Input: Stream<Token = u8>, P: Parser<Input, Output = A> + Drop, V: Visitor<Input, A>>(
@@ -53,7 +53,7 @@ pub struct Optional;
 impl<A: Drop> Unary<A> for Optional {
     type Output = Option<A>;
 
-    ghost reading = { λ P step r. maybe r };
+    ghost reading = { λ P step r. maybe_reading r };
 
     #[inline(always)]
     fn build<

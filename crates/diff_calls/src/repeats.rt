@@ -88,7 +88,7 @@ pub struct Many<K>(PhantomData<(K,)>);
 impl<A: Drop, K: Collect<A>> Unary<A> for Many<K> {
     type Output = K::Collection;
 
-    ghost reading = { λ P step r. collecting step (appended K.Collection.held K.Collection.none K.Collection.more K.Collection.lean) r };
+    ghost reading = { λ P step r. collecting step (appended K.Collection.held K.Collection.none K.Collection.more K.Collection.heapless) r };
 
     #[inline(always)]
     fn build<
@@ -110,7 +110,7 @@ pub struct Many1<K>(PhantomData<(K,)>);
 impl<A: Drop, K: Collect<A>> Unary<A> for Many1<K> {
     type Output = K::Collection;
 
-    ghost reading = { λ P step r. collecting1 step (appended K.Collection.held K.Collection.none K.Collection.more K.Collection.lean) r };
+    ghost reading = { λ P step r. collecting1 step (appended K.Collection.held K.Collection.none K.Collection.more K.Collection.heapless) r };
 
     #[inline(always)]
     fn build<

@@ -1,6 +1,6 @@
 //! Choices and tuples, and their calls.
 ghost use Rattle.std.specs.Prelude.{◌≡◌};
-ghost use Rattle.diff_calls.specs.CallMeanings.{either, pair, triple};
+ghost use Rattle.diff_calls.specs.CallMeanings.{first_of_two, pair_reading, triple};
 
 use crate::{Binary, BinaryCall, Ternary, TernaryCall, Visitor};
 use combine_base::error::ParseError;
@@ -25,7 +25,7 @@ pub struct Or;
 impl<A: Drop> Binary<A, A> for Or {
     type Output = A;
 
-    ghost reading = { λ P step r q. either r q };
+    ghost reading = { λ P step r q. first_of_two r q };
 
     #[inline(always)]
     fn build<
@@ -48,7 +48,7 @@ pub struct Tuple2;
 impl<A: Drop, B: Drop> Binary<A, B> for Tuple2 {
     type Output = (A, B);
 
-    ghost reading = { λ P step r q. pair step r q };
+    ghost reading = { λ P step r q. pair_reading step r q };
 
     #[inline(always)]
     fn build<

@@ -186,7 +186,7 @@ impl Append<u8> for Full {
 
     ghost more = { λ taken _. taken + 1 };
 
-    ghost lean = { ⊥ };
+    ghost heapless = { ⊥ };
 
     fn empty(_alloc: Global) -> Full {
         Full

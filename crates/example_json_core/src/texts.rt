@@ -32,7 +32,7 @@ impl Append<u8> for Word {
 
     ghost more = { λ _ _. tt };
 
-    ghost lean = { ⊥ };
+    ghost heapless = { ⊥ };
 
     fn empty(_alloc: Global) -> Word {
         Word {
@@ -142,7 +142,7 @@ impl Append<Piece> for Text {
 
     ghost more = { λ _ _. tt };
 
-    ghost lean = { ⊥ };
+    ghost heapless = { ⊥ };
 
     fn empty(alloc: Global) -> Text {
         Text {

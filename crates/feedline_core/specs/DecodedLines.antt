@@ -4,7 +4,7 @@ use Rattle.std.specs.Global.{Vec}
 use Rattle.std.specs.Io.KnownBytes.{Appends}
 use Rattle.combine_base.specs.Parser.Meaning.{Meaning, Reading}
 use Rattle.combine_base.specs.declared.stream.Kind.TheVariants as kinds
-use Rattle.combine_decode.specs.Decoders.{Decodes, Decoding, Stands}
+use Rattle.combine_decode.specs.Decoders.{Decodes, Decoding, DecoderGoesOn}
 use Rattle.combine_decode.specs.Messages.{Messages}
 use Rattle.combine_decode.specs.declared.decode.Batch.{Batch}
 use Rattle.combine_decode.specs.declared.decode.BatchEnd.{BatchEnd}
@@ -44,7 +44,7 @@ module _ {F P R E S : Type 0} (makes : F → P → Type 0) (meaning : P → Mean
   -- a decoder that may go on, for which the piece is not too long
   pub record HasRoom (d : Decoding F P ℕ S) (piece : List ℕ) : Type 0 where
     pub behind : List ℕ
-    pub stands : Stands makes meaning behind d
+    pub stands : DecoderGoesOn makes meaning behind d
     pub fits : length behind + length piece < 2 ^ 64
 
   -- a piece is fed, and the lines of the messages that it completes are written

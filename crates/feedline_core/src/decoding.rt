@@ -4,7 +4,7 @@ ghost use Rattle.std.specs.Io.KnownBytes.{Appends};
 ghost use Rattle.combine_base.specs.Parser.Pieces.{concatenated};
 ghost use Rattle.combine_decode.specs.Decoders.{Decodes};
 ghost use Rattle.combine_decode.specs.Frames.{frame_of};
-ghost use Rattle.combine_decode.specs.Messages.{IsMade, made};
+ghost use Rattle.combine_decode.specs.Messages.{IsMade, made_reading};
 ghost use Rattle.feedline_core.specs.DecodedLines.{DecodesInput, HasRoom, IsRefusedGrowth, WritesBatch};
 ghost use Rattle.feedline_core.specs.Frames as frames;
 ghost use Rattle.feedline_core.specs.Lines.{end_line};
@@ -50,7 +50,7 @@ fn decode<F: Fn() -> P + Drop, P: Parser<fed::Stream<u8>, Output = Vec<u8>> + Dr
     requires callable { F.IsAlwaysCallable maker }
     requires lawful { IsMade (F.post maker) P.lawful }
     requires fits { length (concatenated (map (λ p. p.now) pieces.now)) < 2 ^ 64 }
-    ensures { DecodesInput (made P.meaning (F.post maker)) (concatenated (map (λ p. p.now) pieces.now)) (W.contents out.old) (W.contents out.new) result }
+    ensures { DecodesInput (made_reading P.meaning (F.post maker)) (concatenated (map (λ p. p.now) pieces.now)) (W.contents out.old) (W.contents out.new) result }
 {
     let mut decoder = Decoder::new(alloc, maker);
     'pieces: for (index, piece) in pieces.iter().enumerate() {

@@ -1,6 +1,6 @@
 //! Parsers that are functions of a stream.
 ghost use Rattle.combine_base.specs.Error.Results.{from_standard};
-ghost use Rattle.tests_combinator.specs.Nests.{byte, byte_pair};
+ghost use Rattle.tests_combinator.specs.Nests.{nest_byte, byte_pair};
 ghost use Rattle.combine_combinator_function.specs.Once.{RunsOnce};
 
 use combine_base::error::{ParseError, ParseResult, StdParseResult, UnexpectedParse};
@@ -20,7 +20,7 @@ const REFUSED: UnexpectedParse = UnexpectedParse(Kind::Refused);
 fn this<Input: Stream<Token = u8>>(wanted: u8, input: &mut Input) -> StdParseResult<u8, Input>
 where
     Input::Error: ParseError<u8, Input::Range, Input::Position>,
-    ensures { RunsOnce Input.step Input.Error.seen Input.steady Input.view Input.marks Input.failures (byte wanted) input.old input.new (from_standard result) }
+    ensures { RunsOnce Input.step Input.Error.observers Input.counts_failures Input.view Input.marks Input.failures (nest_byte wanted) input.old input.new (from_standard result) }
 {
     token(wanted).parse_stream(input).into_result()
 }
@@ -29,7 +29,7 @@ where
 fn ab<Input: Stream<Token = u8>>(input: &mut Input) -> StdParseResult<(u8, u8), Input>
 where
     Input::Error: ParseError<u8, Input::Range, Input::Position>,
-    ensures { RunsOnce Input.step Input.Error.seen Input.steady Input.view Input.marks Input.failures (byte_pair Input.step 97 98) input.old input.new (from_standard result) }
+    ensures { RunsOnce Input.step Input.Error.observers Input.counts_failures Input.view Input.marks Input.failures (byte_pair Input.step 97 98) input.old input.new (from_standard result) }
 {
     (token(b'a'), token(b'b')).parse_stream(input).into_result()
 }

@@ -25,7 +25,7 @@ where
 
     /// Want of memory, which says that `b` was expected.
     fn want_of_memory(alloc: Global) -> Self::Error
-        ensures { Self.Error.seen.kind result ≡ kinds.Memory };
+        ensures { Self.Error.observers.kind result ≡ kinds.Memory };
 
     /// The lines that an error says, a line for each item.
     fn lines(alloc: Global, error: &Self::Error) -> Result<String, AllocError>;
@@ -118,7 +118,7 @@ where
 {
     let pair = (token('a'), token('b'));
     let none = move |_read: char| -> Result<u8, Input::Error>
-        ensures { IfErr result (λ e. Input.Error.seen.kind e ≡ kinds.Memory) }
+        ensures { IfErr result (λ e. Input.Error.observers.kind e ≡ kinds.Memory) }
     { Err(Input::want_of_memory(alloc)) };
     let starving = flat_map(any(), none);
     Ok([

@@ -1,6 +1,6 @@
 -- parsers of which a caller's functions are asked have one outcome, where those answer from their arguments alone
 use Rattle.std.proofs.Common.{ℕ, ◌≡◌, ◌∙◌, Bool, true, List, [], ◌∷◌, ap, sym, subst}
-use Rattle.combine_base.specs.Error.Errors.{Nothing}
+use Rattle.combine_base.specs.Error.Errors.{AddsNothing}
 use Rattle.combine_base.specs.Error.NoItems.{no_items}
 use Rattle.combine_base.specs.Parser.Meaning.{IsSingle, Reading}
 use Rattle.combine_base.specs.Parser.Outcome.{Accepted}
@@ -22,7 +22,7 @@ pub any_decides : {P T B : Type 0} (step : P → T → P) (gives : P → T → B
 any_decides step gives denies apart = record { one = λ v a b n m k c p q z g d. apart _ a z g (subst denies (sym (any_at v.is_open v.unread a b n m k c p q)) d) }
 
 -- the one parser that is answered for a number
-pub one_for_number : {P T N A B : Type 0} (width : ℕ) (value : List T → A) {means : N → Reading P T B} (made : A → N) → ((a : A) → IsSingle (means (made a))) → second.AnswersOne (whole_number width value) (λ a n. n ≡ made a) means
+pub one_for_number : {P T N A B : Type 0} (width : ℕ) (value : List T → A) {means : N → Reading P T B} (made : A → N) → ((a : A) → IsSingle (means (made a))) → second.ValueAnswersOne (whole_number width value) (λ a n. n ≡ made a) means
 one_for_number width value {means} made h = record {
   one = λ v a b n c x y p q i j u o z w d.
       let e : a ≡ b = x.1 ∙ sym y.1 in
@@ -30,7 +30,7 @@ one_for_number width value {means} made h = record {
 }
 
 -- so many of any tokens, collected
-pub counted_is_single : {P T V : Type 0} (step : P → T → P) (c : Collecting T V) (n : ℕ) → IsSingle (count_min_max {R = Unit {0}} {S = Unit {0}} step no_items c n n (takes_one no_items (satisfied (of_function (λ t. true))) (Unit {0}) Nothing)).whole
+pub counted_is_single : {P T V : Type 0} (step : P → T → P) (c : Collecting T V) (n : ℕ) → IsSingle (count_min_max {R = Unit {0}} {S = Unit {0}} step no_items c n n (takes_one no_items (satisfied (of_function (λ t. true))) (Unit {0}) AddsNothing)).whole
 counted_is_single step c n =
     let any = satisfied (of_function (λ t. true)) in
-    (repeated_means_one {R = Unit {0}} {S = Unit {0}} step no_items (Counted n n) c (λ s. Unit {0}) (takes_one no_items any (Unit {0}) Nothing) (takes_one_means_one no_items any (Unit {0}) Nothing (λ s. Unit {0}) (satisfied_is_test _ (of_function_is_predicate (λ t. true))))).whole
+    (repeated_means_one {R = Unit {0}} {S = Unit {0}} step no_items (Counted n n) c (λ s. Unit {0}) (takes_one no_items any (Unit {0}) AddsNothing) (takes_one_means_one no_items any (Unit {0}) AddsNothing (λ s. Unit {0}) (satisfied_is_test _ (of_function_is_predicate (λ t. true))))).whole

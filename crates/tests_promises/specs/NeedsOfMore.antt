@@ -18,13 +18,13 @@ is_fault_kind kinds.Read = Unit {0}
 is_fault_kind kinds.Reset = Unit {0}
 is_fault_kind kinds.Lost = Unit {0}
 
-abbrev pub IsFault : {V E : Type 0} → (E → Kind) → ParseResult V E → Type 0
-IsFault kind (CommitOk v) = ⊥
-IsFault kind (PeekOk v) = ⊥
-IsFault kind (CommitErr e) = is_fault_kind (kind e)
-IsFault kind (PeekErr t) = ⊥
+abbrev pub IsFaultAnswer : {V E : Type 0} → (E → Kind) → ParseResult V E → Type 0
+IsFaultAnswer kind (CommitOk v) = ⊥
+IsFaultAnswer kind (PeekOk v) = ⊥
+IsFaultAnswer kind (CommitErr e) = is_fault_kind (kind e)
+IsFaultAnswer kind (PeekErr t) = ⊥
 
 -- More is asked for where the reading is undecided, and nowhere else. A fault may come anywhere.
 pub record AsksExactly {P T V E : Type 0} (kind : E → Kind) (r : Reading P T V) (old new : View P T) (result : ParseResult V E) : Type 0 where
   pub nowhere_else : NeedsMore kind new.is_open result → r old Undecided
-  pub there : r old Undecided → NeedsMore kind new.is_open result ⊎ IsFault kind result
+  pub there : r old Undecided → NeedsMore kind new.is_open result ⊎ IsFaultAnswer kind result

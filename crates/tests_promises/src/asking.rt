@@ -21,7 +21,7 @@ fn call_afresh<Input: Stream, P: Parser<Input> + Drop>(
 ) -> ParseResult<P::Output, Input::Error>
     requires lawful { P.lawful parser }
     requires determined { P.determined parser }
-    ensures { AsksExactly Input.Error.seen.kind (P.meaning parser).whole (Input.view input.old) (Input.view input.new) result }
+    ensures { AsksExactly Input.Error.observers.kind (P.meaning parser).whole (Input.view input.old) (Input.view input.new) result }
 {
     let mut parser = parser;
     let mut state = P::PartialState::default();

@@ -17,7 +17,7 @@ use combine::stream::{Stream, fed};
 fn this<Input: Stream<Token = u8>>(wanted: u8, input: &mut Input) -> StdParseResult<u8, Input>
 where
     Input::Error: ParseError<u8, Input::Range, Input::Position>,
-    ensures { Starts (world Input.step Input.Error.seen Input.steady (λ _. Unit {0})) (⟦<Token<Input, u8> as Parser<Input>>⟧.meaning (token_parser wanted)) (Input.view input.old) (Input.view input.new) (Input.failures input.old) (Input.failures input.new) (from_standard result) }
+    ensures { Starts (world Input.step Input.Error.observers Input.counts_failures (λ _. Unit {0})) (⟦<Token<Input, u8> as Parser<Input>>⟧.meaning (token_parser wanted)) (Input.view input.old) (Input.view input.new) (Input.failures input.old) (Input.failures input.new) (from_standard result) }
 {
     token(wanted).parse_stream(input).into_result()
 }
@@ -26,7 +26,7 @@ where
 fn an_a<Input: Stream<Token = u8>>(input: &mut Input) -> StdParseResult<u8, Input>
 where
     Input::Error: ParseError<u8, Input::Range, Input::Position>,
-    ensures { Starts (world Input.step Input.Error.seen Input.steady (λ _. Unit {0})) (⟦<Token<Input, u8> as Parser<Input>>⟧.meaning (token_parser 97)) (Input.view input.old) (Input.view input.new) (Input.failures input.old) (Input.failures input.new) (from_standard result) }
+    ensures { Starts (world Input.step Input.Error.observers Input.counts_failures (λ _. Unit {0})) (⟦<Token<Input, u8> as Parser<Input>>⟧.meaning (token_parser 97)) (Input.view input.old) (Input.view input.new) (Input.failures input.old) (Input.failures input.new) (from_standard result) }
 {
     this(b'a', input)
 }

@@ -23,7 +23,7 @@ impl<A: Drop, const N: usize> Append<A> for Room<N> {
 
     ghost more = { λ taken _. taken + 1 };
 
-    ghost lean = { ⊥ };
+    ghost heapless = { ⊥ };
 
     fn empty(_alloc: Global) -> Room<N> {
         Room { taken: 0 }

@@ -1,18 +1,18 @@
 -- a peeked refusal that was put back and explained, or could not be
 use Rattle.std.proofs.Common.{◌≡◌, ◌<◌, ◌≤◌, ◌+◌, ◌⊎◌, inl, inr, List, Bool, true, false, ap, sym, subst, arith, refl, ◌∙◌, Err}
 use Rattle.combine_base.specs.Stream.View.{View, Takes, Moves}
-use Rattle.combine_base.specs.Error.Items.{Item}
-use Rattle.combine_base.specs.Error.Errors.{Errors, Says, Added, Unstored}
+use Rattle.combine_base.specs.Error.Items.{ErrorItem}
+use Rattle.combine_base.specs.Error.Errors.{Observers, AddsItems, Added, Unstored}
 use Rattle.combine_base.specs.Parser.Meaning.{Meaning, MeansSame, Refusing}
 use Rattle.combine_base.specs.Parser.Drivers.{AtToken, Explained, Broke, LooksAt}
 use Rattle.combine_base.specs.Sequence.PartErrors.{at_token_into, says_into}
 use Rattle.combine_base.specs.Stream.Calls.{TakesToken}
-use Rattle.combine_base.specs.Parser.Answer.{Run, World, Answers, Refuses, Leaves, fails, peeks, world}
+use Rattle.combine_base.specs.Parser.Answer.{CallRecord, World, Answers, Refuses, Leaves, fails, peeks, world}
 use Rattle.combine_base.specs.Refusals.{Peeked}
 use Rattle.combine_base.specs.Parser.DriverAnswers.{IsRefusal}
 use Rattle.combine_base.specs.Parser.Reasons.{Reasoned}
 use Rattle.combine_base.proofs.Errors.CallErrors.{peeked_refusal}
-use Rattle.combine_base.proofs.Streams.Distances.{takes_token}
+use Rattle.combine_base.proofs.Streams.Distances.{takes_one_token}
 use Rattle.combine_base.proofs.Parsers.Progress.{takes_more, takes_none, moves_more}
 use Rattle.combine_base.specs.declared.stream.Kind.{Kind}
 use Rattle.combine_base.specs.declared.stream.Kind.TheVariants as kinds
@@ -21,16 +21,16 @@ use Rattle.combine_base.specs.declared.error.Tracked.{Tracked}
 use Rattle.combine_base.specs.declared.error.ParseResult.{ParseResult}
 use Rattle.combine_base.specs.declared.error.ParseResult.TheVariants.{CommitOk, PeekOk, CommitErr, PeekErr}
 
-module _ {P T R V S E : Type 0} (s : Errors T R P E) (m m' : Meaning P T R E V S) (h : MeansSame m m') (refuses : Refusing P T E) (old left new : View P T) (e own : E) where
+module _ {P T R V S E : Type 0} (s : Observers T R P E) (m m' : Meaning P T R E V S) (h : MeansSame m m') (refuses : Refusing P T E) (old left new : View P T) (e own : E) where
   -- the parser means the same after its call
-  as_before : Says s m'.lean (AtToken m'.adds old.unread) e own → Says s m.lean (AtToken m.adds old.unread) e own
-  as_before = says_into s m'.lean m.lean (AtToken m'.adds old.unread) (AtToken m.adds old.unread) e own h.lean.0 (λ is. at_token_into m'.adds m.adds (λ js. (h.adds js).1) old.unread is)
+  as_before : AddsItems s m'.heapless (AtToken m'.adds old.unread) e own → AddsItems s m.heapless (AtToken m.adds old.unread) e own
+  as_before = says_into s m'.heapless m.heapless (AtToken m'.adds old.unread) (AtToken m.adds old.unread) e own h.heapless.0 (λ is. at_token_into m'.adds m.adds (λ js. (h.adds js).1) old.unread is)
 
-  pub explained_by : refuses old left false e → (result : ParseResult V E) → new ≡ old → Says s m'.lean (AtToken m'.adds old.unread) e own → Peeked s.kind own result → Explained s m refuses old new result
+  pub explained_by : refuses old left false e → (result : ParseResult V E) → new ≡ old → AddsItems s m'.heapless (AtToken m'.adds old.unread) e own → Peeked s.kind own result → Explained s m refuses old new result
   explained_by w (CommitOk v) b a p = absurd p.is
   explained_by w (PeekOk v) b a p = absurd p.is
   explained_by w (CommitErr x) b a p = record { is = λ i. absurd (subst (IsRefusal new.is_open) (ap s.kind p.is.0 ∙ p.is.1) i) }
-  explained_by w (PeekErr t) b a p = record { is = record { own = e; left = left; refused = w; back = b; says = subst (λ x. Says s m.lean (AtToken m.adds old.unread) e x) (sym p.is.0) (as_before a) } }
+  explained_by w (PeekErr t) b a p = record { is = record { own = e; left = left; refused = w; back = b; says = subst (λ x. AddsItems s m.heapless (AtToken m.adds old.unread) e x) (sym p.is.0) (as_before a) } }
 
 -- the error of a refusal, by which kind of answer it is
 module _ {V E : Type 0} (kind : E → Kind) (is_open : Bool) (refuses : Bool → E → Type 0) where
@@ -41,15 +41,15 @@ module _ {V E : Type 0} (kind : E → Kind) (is_open : Bool) (refuses : Bool →
   reason_peeked t h = h false t.error (record { is = refl })
 
 -- the stream was put back, the token there was read, and the stream could not be put back again
-pub look_unreset : {P T : Type 0} (steady : Type 0) (step : P → T → P) (marked : View P T → Type 0) (old there read new : View P T) (f0 f1 f2 f3 : Failures) (t : T) (k : Kind) → ((v : View P T) → marked v → there ≡ v) → TakesToken steady step there read f1 f2 t → (k ≡ kinds.Reset) × Moves step read new × (f2.resets < f3.resets) → f0.resets ≤ f2.resets → LooksAt steady step marked old new f0 f3 (Err k)
-look_unreset {P} {T} steady step marked old there read new f0 f1 f2 f3 t k back taken unreset i =
+pub look_unreset : {P T : Type 0} (counts_failures : Type 0) (step : P → T → P) (marked : View P T → Type 0) (old there read new : View P T) (f0 f1 f2 f3 : Failures) (t : T) (k : Kind) → ((v : View P T) → marked v → there ≡ v) → TakesToken counts_failures step there read f1 f2 t → (k ≡ kinds.Reset) × Moves step read new × (f2.resets < f3.resets) → f0.resets ≤ f2.resets → LooksAt counts_failures step marked old new f0 f3 (Err k)
+look_unreset {P} {T} counts_failures step marked old there read new f0 f1 f2 f3 t k back taken unreset i =
     let j = unreset.2 in
-    let one : (v : View P T) → marked v → Takes step 1 v read = λ v h. subst (λ x. Takes step 1 x read) (back v h) (takes_token step steady there read f1 f2 t taken) in
+    let one : (v : View P T) → marked v → Takes step 1 v read = λ v h. subst (λ x. Takes step 1 x read) (back v h) (takes_one_token step counts_failures there read f1 f2 t taken) in
     record { is = (rw unreset.0 (omega arith), λ v h. inr (moves_more step 1 v read new (one v h) unreset.1)) }
 
 -- the stream could not be put back, or its first token could not be read
-module _ {P T R V S E : Type 0} (w : World P T S E) (m : Meaning P T R E V S) (r : Run P T S) (new : View P T) (after : Failures) where
-  abbrev then : Run P T S
+module _ {P T R V S E : Type 0} (w : World P T S E) (m : Meaning P T R E V S) (r : CallRecord P T S) (new : View P T) (after : Failures) where
+  abbrev then : CallRecord P T S
   then = record { first = r.first; state = r.state; left = r.left; old = r.old; new = new; before = r.before; after = after }
 
   pub unexplained : (t : Tracked E) (k : Kind) (e : E) → Answers w m r (PeekErr t) → Broke k r.after after → Moves w.step r.new new ⊎ Moves w.step r.old new → r.before.reads ≤ r.after.reads → r.before.resets ≤ r.after.resets → w.kind e ≡ k → Answers w m then (CommitErr e)
@@ -71,11 +71,11 @@ module _ {P T R V S E : Type 0} (w : World P T S E) (m : Meaning P T R E V S) (r
       by_kind kinds.Lost h = absurd h
 
 -- the stream was put back, and the error was made to say what was expected
-module _ {P T R V S E : Type 0} (step : P → T → P) (s : Errors T R P E) (steady : Type 0) (fresh : S → Type 0) (m : Meaning P T R E V S) (r : Run P T S) (new : View P T) (after : Failures) (back : new ≡ r.old) (unbroken : steady → after ≡ r.after) where
+module _ {P T R V S E : Type 0} (step : P → T → P) (s : Observers T R P E) (counts_failures : Type 0) (fresh : S → Type 0) (m : Meaning P T R E V S) (r : CallRecord P T S) (new : View P T) (after : Failures) (back : new ≡ r.old) (unbroken : counts_failures → after ≡ r.after) where
   abbrev explained_world : World P T S E
-  explained_world = world step s steady fresh
+  explained_world = world step s counts_failures fresh
 
-  abbrev explained_run : Run P T S
+  abbrev explained_run : CallRecord P T S
   explained_run = then explained_world m r new after
 
   refuses_back : Refuses explained_world m r false → Refuses explained_world m explained_run false
@@ -89,16 +89,16 @@ module _ {P T R V S E : Type 0} (step : P → T → P) (s : Errors T R P E) (ste
   peeks_back kinds.Reset p = p
   peeks_back kinds.Lost p = p
 
-  pub explained_answers : (t : Tracked E) (own : E) (lean : Type 0) (adds : List (Item T R) → Type 0) → (m.lean → lean) → Answers explained_world m r (PeekErr t) → Says s lean adds t.error own → (result : ParseResult V E) → Peeked s.kind own result → Answers explained_world m explained_run result
-  explained_answers t own lean adds g p a (CommitOk v) q = absurd q.is
-  explained_answers t own lean adds g p a (PeekOk v) q = absurd q.is
-  explained_answers t own lean adds g p a (CommitErr e) q = record { is = rw (q.is.0, q.is.1) (λ f l. by_case a.is f l, (refuses_back (peeked_refusal explained_world m r (s.kind t.error) p.is)).leaves) }
+  pub explained_answers : (t : Tracked E) (own : E) (heapless : Type 0) (adds : List (ErrorItem T R) → Type 0) → (m.heapless → heapless) → Answers explained_world m r (PeekErr t) → AddsItems s heapless adds t.error own → (result : ParseResult V E) → Peeked s.kind own result → Answers explained_world m explained_run result
+  explained_answers t own heapless adds g p a (CommitOk v) q = absurd q.is
+  explained_answers t own heapless adds g p a (PeekOk v) q = absurd q.is
+  explained_answers t own heapless adds g p a (CommitErr e) q = record { is = rw (q.is.0, q.is.1) (λ f l. by_case a.is f l, (refuses_back (peeked_refusal explained_world m r (s.kind t.error) p.is)).leaves) }
     where
-      by_case : ((is : List (Item T R)) × adds is × Added s is t.error own) ⊎ Unstored s lean t.error own → s.frugal → m.lean → ⊥
+      by_case : ((is : List (ErrorItem T R)) × adds is × Added s is t.error own) ⊎ Unstored s heapless t.error own → s.never_allocates → m.heapless → ⊥
       by_case (inl k) f l = subst (λ x. peeks explained_world m r x) (sym k.2.kind ∙ q.is.1) p.is
       by_case (inr u) f l = u.memory f (g l)
-  explained_answers t own lean adds g p a (PeekErr u) q = record { is = rw q.is.0 (by_case a.is) }
+  explained_answers t own heapless adds g p a (PeekErr u) q = record { is = rw q.is.0 (by_case a.is) }
     where
-      by_case : ((is : List (Item T R)) × adds is × Added s is t.error own) ⊎ Unstored s lean t.error own → peeks explained_world m explained_run (s.kind own)
+      by_case : ((is : List (ErrorItem T R)) × adds is × Added s is t.error own) ⊎ Unstored s heapless t.error own → peeks explained_world m explained_run (s.kind own)
       by_case (inl k) = rw k.2.kind (peeks_back (s.kind t.error) p.is)
       by_case (inr x) = absurd (q.is.1 x.kind)

@@ -3,9 +3,9 @@ use Rattle.std.proofs.Common.{◌≡◌, ◌≤◌, ◌⊎◌, inl, inr, Bool, t
 use Rattle.combine_base.specs.Stream.View.{View}
 use Rattle.combine_base.specs.Parser.Outcome.{Outcome}
 use Rattle.combine_base.specs.Parser.Meaning.{Meaning, Reading, IsMeaning, begun}
-use Rattle.combine_base.specs.Parser.Answer.{Run, World, Answers}
-use Rattle.combine_base.specs.Sequence.Parts.{RunsFrom, run_from}
-use Rattle.combine_base.proofs.Parsers.InnerCalls.{outer, Inside, Keeps, inside_commits, inside_peeks, inside_asks, inside_fails, inside_refuses}
+use Rattle.combine_base.specs.Parser.Answer.{CallRecord, World, Answers}
+use Rattle.combine_base.specs.Sequence.Parts.{RunsFrom, call_from}
+use Rattle.combine_base.proofs.Parsers.InnerCalls.{outer, InsideCall, KeepsAround, inside_commits, inside_peeks, inside_asks, inside_fails, inside_refuses}
 use Rattle.combine_base.proofs.Parsers.Progress.{Progress, takes_none, resumes_none}
 use Rattle.combine_base.specs.declared.stream.Kind.{Kind}
 use Rattle.combine_base.specs.declared.stream.Kind.TheVariants as kinds
@@ -43,13 +43,13 @@ module _ {P T V S E : Type 0} (w : World P T S E) where
         failures = λ s. refl;
       }
 
-module _ {P T R V S E : Type 0} (w : World P T S E) (m : Meaning P T R E V S) (r : Run P T S) (first : Bool) (state : S) (old : View P T) (before : Failures) where
+module _ {P T R V S E : Type 0} (w : World P T S E) (m : Meaning P T R E V S) (r : CallRecord P T S) (first : Bool) (state : S) (old : View P T) (before : Failures) where
   -- A call from one state, on one view, that becomes a call from another some tokens later: what answers there answers the whole.
   module _ (p : Progress w (begun m first state) (begun m r.first r.state) old r.old before r.before) (none : m.puts_back → p.count ≡ 0) (reads : before.reads ≤ r.before.reads) (resets : before.resets ≤ r.before.resets) (lost : r.first ≡ false → m.lost r.state r.old → (first ≡ false) × m.lost state old) where
-    abbrev inside : Inside w w.fresh m m r first state r.left old before false (begun m r.first r.state)
-    inside = record { progress = p; reads = reads; resets = resets; refuses = λ k x. x; lean = λ x. x; lost = lost }
+    abbrev inside : InsideCall w w.fresh m m r first state r.left old before false (begun m r.first r.state)
+    inside = record { progress = p; reads = reads; resets = resets; refuses = λ k x. x; heapless = λ x. x; lost = lost }
 
-    keeping : Keeps w w.fresh m m r first state r.left old before (begun m r.first r.state) p.count
+    keeping : KeepsAround w w.fresh m m r first state r.left old before (begun m r.first r.state) p.count
     keeping = record { undecided = λ x. x; resumes = λ n t x. x; found = λ v x. x; keeps = λ x. x; puts_back = λ x. (x, none x) }
 
     error : (e : E) → Answers w m r (CommitErr e) → Answers w m (outer w w.fresh m m r first state r.left old before) (CommitErr e)
@@ -80,9 +80,9 @@ module _ {P T R V S E : Type 0} (w : World P T S E) (valid : S → Type 0) (m : 
   lost_from false given s k v l = (refl, subst (λ x. m.lost x v) (k.kept refl) l)
 
   -- what a call from a state answers, whatever the mode
-  pub at_rest : (r : Run P T S) → (r.first ≡ true → w.fresh r.state) → (x : ParseResult V E) → Answers w m r x → Answers w m (run_from r.state r.left r.old r.new r.before r.after) x
+  pub at_rest : (r : CallRecord P T S) → (r.first ≡ true → w.fresh r.state) → (x : ParseResult V E) → Answers w m r x → Answers w m (call_from r.state r.left r.old r.new r.before r.after) x
   at_rest r d x a = becomes w m r false r.state r.old r.before (progress_here w (m.rest r.state) (begun m r.first r.state) r.old r.before (to_rest r.first r.state d)) (λ k. refl) (omega arith) (omega arith) (λ e l. (refl, l)) x a
 
   -- and what it answers in its mode, from the state that it was given
-  pub in_mode : (first : Bool) (given s left : S) → RunsFrom w.fresh first given s → (old new : View P T) (before after : Failures) (x : ParseResult V E) → Answers w m (run_from s left old new before after) x → Answers w m (record { first = first; state = given; left = left; old = old; new = new; before = before; after = after }) x
-  in_mode first given s left k old new before after x a = becomes w m (run_from s left old new before after) first given old before (progress_here w (begun m first given) (m.rest s) old before (from_rest first given s k)) (λ k. refl) (omega arith) (omega arith) (λ e l. lost_from first given s k old l) x a
+  pub in_mode : (first : Bool) (given s left : S) → RunsFrom w.fresh first given s → (old new : View P T) (before after : Failures) (x : ParseResult V E) → Answers w m (call_from s left old new before after) x → Answers w m (record { first = first; state = given; left = left; old = old; new = new; before = before; after = after }) x
+  in_mode first given s left k old new before after x a = becomes w m (call_from s left old new before after) first given old before (progress_here w (begun m first given) (m.rest s) old before (from_rest first given s k)) (λ k. refl) (omega arith) (omega arith) (λ e l. lost_from first given s k old l) x a

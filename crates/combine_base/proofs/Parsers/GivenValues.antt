@@ -3,7 +3,7 @@ use Rattle.std.specs.Prelude.{ℕ, Bool, true, false}
 use Rattle.combine_base.specs.Stream.View.{View}
 use Rattle.combine_base.specs.Parser.Outcome.{Accepted}
 use Rattle.combine_base.specs.Parser.Meaning.{Meaning, MeansSame, begun}
-use Rattle.combine_base.specs.Parser.Answer.{World, Run, Answers}
+use Rattle.combine_base.specs.Parser.Answer.{World, CallRecord, Answers}
 use Rattle.combine_base.specs.Parser.GivenValues.{GivesOnly}
 use Rattle.combine_base.specs.declared.error.ParseResult.TheVariants.{CommitOk, PeekOk}
 
@@ -12,7 +12,7 @@ module _ {Position Token Range Error Value State : Type 0} (valid : State → Ty
   begun_good h true s k v a n c p = h.whole.one v a n c p
   begun_good h false s k v a n c p = (h.rest s k).one v a n c p
 
-  module _ {E : Type 0} (w : World Position Token State E) (r : Run Position Token State) (a : Value) where
+  module _ {E : Type 0} (w : World Position Token State E) (r : CallRecord Position Token State) (a : Value) where
     pub good_ok : GivesOnly valid m good → valid r.state → Answers w m r (CommitOk a) → good a
     good_ok h k x = begun_good h r.first r.state k r.old a x.is.count true x.is.meant
 

@@ -3,7 +3,7 @@ use Rattle.std.proofs.Common.{ℕ, ◌+◌, ◌-◌, ◌≤◌, ◌≡◌, Bool,
 use Rattle.combine_base.specs.Stream.View.{View, Takes}
 use Rattle.combine_base.specs.Parser.Outcome.{Outcome, Accepted, Refused, Undecided, after, or_true, or_false}
 use Rattle.combine_base.specs.Parser.Meaning.{Meaning, Reading, begun}
-use Rattle.combine_base.specs.Parser.Answer.{Resumes, Run, World, Answers, Accepts, Refuses, Asks, Leaves, answers, fails, peeks, ends, loses}
+use Rattle.combine_base.specs.Parser.Answer.{Resumes, CallRecord, World, Answers, Accepts, Refuses, Asks, Leaves, answers, fails, peeks, asks_or_refuses, loses}
 use Rattle.combine_base.specs.Sequence.Parts.{accepted_as, refused_as}
 use Rattle.combine_base.proofs.Errors.CallErrors.{around, Settles, settles, needs}
 use Rattle.combine_base.proofs.Parsers.Progress.{Progress, progress_outcome, takes_more, takes_open, resumes_more}
@@ -13,30 +13,30 @@ use Rattle.combine_base.specs.declared.stream.Failures.{Failures}
 use Rattle.combine_base.specs.declared.error.Tracked.{Tracked}
 use Rattle.combine_base.specs.declared.error.ParseResult.TheVariants.{CommitOk, PeekOk, CommitErr, PeekErr}
 
-module _ {P T R A B S S' E : Type 0} (w : World P T S E) (fresh : S' → Type 0) (m : Meaning P T R E A S) (m' : Meaning P T R E B S') (r : Run P T S) (first : Bool) (state left : S') (old : View P T) (before : Failures) where
+module _ {P T R A B S S' E : Type 0} (w : World P T S E) (fresh : S' → Type 0) (m : Meaning P T R E A S) (m' : Meaning P T R E B S') (r : CallRecord P T S) (first : Bool) (state left : S') (old : View P T) (before : Failures) where
   -- the call around: it began before, and ends where the one inside does
-  abbrev pub outer : Run P T S'
+  abbrev pub outer : CallRecord P T S'
   outer = record { first = first; state = state; left = left; old = old; new = r.new; before = before; after = r.after }
 
   -- What is left of the call around, where the one inside begins, has this reading; c says that something was committed before.
-  pub record Inside (c : Bool) (here : Reading P T B) : Type 0 where
+  pub record InsideCall (c : Bool) (here : Reading P T B) : Type 0 where
     pub progress : Progress w (begun m' first state) here old r.old before r.before
     pub reads : before.reads ≤ r.before.reads
     pub resets : before.resets ≤ r.before.resets
     -- what the one inside refuses is refused
     pub refuses : (k : Bool) → begun m r.first r.state r.old (Refused k) → here r.old (Refused (c || k))
-    pub lean : m'.lean → m.lean
+    pub heapless : m'.heapless → m.heapless
     pub lost : r.first ≡ false → m.lost r.state r.old → (first ≡ false) × m'.lost state old
 
   -- and what the one inside leaves on need of more is what the call around leaves
-  pub record Keeps (here : Reading P T B) (count : ℕ) : Type 0 where
+  pub record KeepsAround (here : Reading P T B) (count : ℕ) : Type 0 where
     pub undecided : begun m r.first r.state r.old Undecided → here r.old Undecided
     pub resumes : (n : ℕ) → Takes w.step n r.old r.new → Resumes (begun m r.first r.state) (m.rest r.left) n r.old r.new → Resumes here (m'.rest left) n r.old r.new
     pub found : (v : View P T) → m'.lost left v → m.lost r.left v
     pub keeps : m'.keeps → m.keeps
     pub puts_back : m'.puts_back → m.puts_back × (count ≡ 0)
 
-  module _ (c : Bool) (here : Reading P T B) (z : Inside c here) where
+  module _ (c : Bool) (here : Reading P T B) (z : InsideCall c here) where
     meant : (o : Outcome B) → here r.old o → begun m' first state old (after z.progress.count false o)
     meant o p = progress_outcome w (begun m' first state) here old r.old before r.before z.progress o p
 
@@ -56,7 +56,7 @@ module _ {P T R A B S S' E : Type 0} (w : World P T S E) (fresh : S' → Type 0)
         is_open = same_open;
         refuses = λ p. subst (Refuses (around w fresh) m' outer) (or_true c) (refuses true p);
         leaves = leaves;
-        lean = z.lean;
+        heapless = z.heapless;
         reads = λ h. let i = z.reads in omega arith;
         resets = λ h. let i = z.resets in omega arith;
         loses = losing r.first first refl refl;
@@ -79,7 +79,7 @@ module _ {P T R A B S S' E : Type 0} (w : World P T S E) (fresh : S' → Type 0)
 
           committed : c ≡ true → (k : Kind) → peeks w m r k → fails (around w fresh) m' outer k
           committed i kinds.Refused y = refusal true i y
-          committed i kinds.End y = subst (ends (around w fresh) m' outer) (sym (sym same_open ∙ y.0)) (refusal true i y.1)
+          committed i kinds.End y = subst (asks_or_refuses (around w fresh) m' outer) (sym (sym same_open ∙ y.0)) (refusal true i y.1)
           committed i kinds.Memory y = absurd y
           committed i kinds.Read y = absurd y
           committed i kinds.Reset y = absurd y
@@ -122,7 +122,7 @@ module _ {P T R A B S S' E : Type 0} (w : World P T S E) (fresh : S' → Type 0)
             by_commitment false i = kind false i
 
     -- need of more
-    module _ (k : Keeps here z.progress.count) where
+    module _ (k : KeepsAround here z.progress.count) where
       counts : (n : ℕ) → n ≡ length r.old.unread → z.progress.count + n ≡ length old.unread
       counts n e =
           let a : length r.old.unread ≡ length old.unread - z.progress.count = rw z.progress.taken.rest (length-drop z.progress.count old.unread) in

@@ -6,9 +6,9 @@ use Rattle.std.proofs.Math.Seq.{take-append-add}
 use Rattle.std.proofs.lemmas.List.{append-nil, take_more, take-append-drop, take-append-le, drop-append-le, drop-drop, take_all, length-append, length-drop, length-take-le}
 use Rattle.combine_base.specs.Parser.Outcome.{Outcome, Accepted, Refused, Undecided, IsDecided, decided_shape}
 use Rattle.combine_base.specs.Parser.Meaning.{Meaning, IsReading, IsSingle, MeansSame}
-use Rattle.combine_base.specs.Parser.Sessions.{Course, left, Begins, Feeds, Ends, by_stage}
+use Rattle.combine_base.specs.Parser.Sessions.{Course, left_of_session, BeginsSession, Feeds, EndsSession, by_stage}
 use Rattle.combine_base.specs.Parser.Sessions as session
-use Rattle.combine_base.specs.Parser.Pieces.{concatenated, on, Decides, decides, undecided_at, Asked, Decided, ParsesPieces, refusal_kind}
+use Rattle.combine_base.specs.Parser.Pieces.{concatenated, on, Decides, decides, undecided_at, AsksAfterFirst, Decided, ParsesPieces, refusal_kind}
 use Rattle.combine_base.specs.Parser.DriverAnswers.{IsRefusal}
 use Rattle.combine_base.specs.declared.stream.Kind.{Kind}
 use Rattle.combine_base.specs.declared.stream.Kind.TheVariants as kinds
@@ -37,9 +37,9 @@ module _ {T : Type 0} where
 
 module _ {P T R E A S : Type 0} (meaning : P → Meaning ℕ T R E A S) (m : Meaning ℕ T R E A S) where
   -- a session that was fed these pieces, and asked for more after each
-  pub record SoFar (fed : List (List T)) (c : Course P T S) : Type 0 where
+  pub record AskedAfterPieces (fed : List (List T)) (c : Course P T S) : Type 0 where
     -- whatever follows, each outcome of what is left is one on all tokens
-    pub left : (x : List T) (b : Bool) (o : Outcome A) → left meaning c x b o → on m.whole (concatenated fed ++ x) b o
+    pub left : (x : List T) (b : Bool) (o : Outcome A) → left_of_session meaning c x b o → on m.whole (concatenated fed ++ x) b o
     pub asked : (i : ℕ) → i < length fed → undecided_at m.whole fed i
     pub stage : c.stage ≡ stages.Running
     -- what is unread is what follows the tokens that were taken
@@ -48,11 +48,11 @@ module _ {P T R E A S : Type 0} (meaning : P → Meaning ℕ T R E A S) (m : Mea
     pub kept : m.keeps → c.seen.unread ≡ []
     pub same : MeansSame m (meaning c.parser)
 
-  module _ (valid : S → Type 0) (fed : List (List T)) (c : Course P T S) (far : SoFar fed c) (piece : List T) (new : Course P T S) where
+  module _ (valid : S → Type 0) (fed : List (List T)) (c : Course P T S) (far : AskedAfterPieces fed c) (piece : List T) (new : Course P T S) where
     abbrev now : List (List T)
     now = fed ++ piece ∷ []
 
-    here : (o : Outcome A) → left meaning c piece true o → on m.whole (concatenated now) true o
+    here : (o : Outcome A) → left_of_session meaning c piece true o → on m.whole (concatenated now) true o
     here o h = subst (λ z. on m.whole z true o) (sym (concatenated_more fed piece)) (far.left piece true o h)
 
     -- how many tokens were fed before
@@ -63,7 +63,7 @@ module _ {P T R E A S : Type 0} (meaning : P → Meaning ℕ T R E A S) (m : Mea
     all_unread = ap (λ us. us ++ piece) far.unread ∙ sym (drop-append-le c.seen.position (concatenated fed) piece far.within) ∙ ap (drop c.seen.position) (sym (concatenated_more fed piece))
 
     -- after a parse of the piece, what is unread is what follows the tokens that were taken
-    module _ (l : session.Leaves meaning valid c new piece true) where
+    module _ (l : session.LeavesUnread meaning valid c new piece true) where
       left_within : new.seen.position ≤ length (concatenated now)
       left_within =
           let a = l.within in
@@ -76,16 +76,16 @@ module _ {P T R E A S : Type 0} (meaning : P → Meaning ℕ T R E A S) (m : Mea
       pub left_unread : new.seen.unread ≡ drop new.seen.position (concatenated now)
       left_unread = l.unread ∙ ap (drop l.count) all_unread ∙ drop-drop l.count c.seen.position (concatenated now) ∙ ap (λ n. drop n (concatenated now)) (sym l.taken)
 
-    fed_now : (r : Result (Answer A UnexpectedParse) SessionError) → Feeds meaning valid c new piece true r → session.feeds meaning valid c new piece true r
-    fed_now r h = subst (λ s. by_stage meaning valid c new piece true (session.feeds meaning valid c new piece true) s r) far.stage h.is
+    fed_now : (r : Result (Answer A UnexpectedParse) SessionError) → Feeds meaning valid c new piece true r → session.feeds_session meaning valid c new piece true r
+    fed_now r h = subst (λ s. by_stage meaning valid c new piece true (session.feeds_session meaning valid c new piece true) s r) far.stage h.is
 
     -- the limit stays
     pub limit_stays : Feeds meaning valid c new piece true (Ok answers.More) → new.limit ≡ c.limit
     limit_stays h = (fed_now _ h).1.limit
 
     -- the session asked for more after this piece
-    pub further : Feeds meaning valid c new piece true (Ok answers.More) → SoFar now new
-    further h =
+    pub asked_after_piece : Feeds meaning valid c new piece true (Ok answers.More) → AskedAfterPieces now new
+    asked_after_piece h =
         let p = (fed_now _ h).1 in
         let e : (x : List T) → concatenated fed ++ (piece ++ x) ≡ concatenated now ++ x = λ x. sym (append_assoc (concatenated fed) piece x) ∙ ap (λ z. z ++ x) (sym (concatenated_more fed piece)) in
         record {
@@ -119,7 +119,7 @@ module _ {P T R E A S : Type 0} (meaning : P → Meaning ℕ T R E A S) (m : Mea
           let a = subst (λ z. on m.whole z false o) (sym (concatenated_append now rest)) (stays o d h (concatenated rest) false) in
           record { is = a; only = λ s p q. s.one _ p o q a }
 
-      asked_before : (o : Outcome A) → IsDecided o → on m.whole (concatenated now) true o → Asked m.whole whole (length fed)
+      asked_before : (o : Outcome A) → IsDecided o → on m.whole (concatenated now) true o → AsksAfterFirst m.whole whole (length fed)
       asked_before o d h = record { within = omega (arith, long); here = before; only = later; stopped = λ k. (o, d, subst (λ z. on m.whole z true o) (sym (ap concatenated first)) h) }
         where
           long : length whole ≡ length fed + 1 + length rest
@@ -143,17 +143,17 @@ module _ {P T R E A S : Type 0} (meaning : P → Meaning ℕ T R E A S) (m : Mea
                     absurd (decided_shape o d (s.one _ o Undecided (stays o d h (concatenated (take (i + 1 - length now) rest)) true) (subst (λ z. on m.whole z true Undecided) e u)))
               ]
 
-      answered : (a : Answer A UnexpectedParse) (o : Outcome A) → (Decides m.whole (concatenated whole) o → decides m.whole (concatenated whole) a) → IsDecided o → left meaning c piece true o → Decided m.whole whole (length fed) a
+      answered : (a : Answer A UnexpectedParse) (o : Outcome A) → (Decides m.whole (concatenated whole) o → decides m.whole (concatenated whole) a) → IsDecided o → left_of_session meaning c piece true o → Decided m.whole whole (length fed) a
       answered a o f d h = record { answer = f (decided_on_all o d (here o h)); asked = asked_before o d (here o h) }
 
       -- the session decided at this piece, and so it is whatever pieces follow
-      pub stops : (a : Answer A UnexpectedParse) → a ≢ answers.More → Feeds meaning valid c new piece true (Ok a) → Decided m.whole whole (length fed) a
-      stops answers.More d h = absurd (d refl)
-      stops (answers.Accepted v t k) d h = answered (answers.Accepted v t k) (Accepted v t k) (λ x. x) tt (fed_now _ h).1.is.means.is
-      stops (answers.Refused e k) d h = answered (answers.Refused e k) (Refused k) (λ x. x) tt (fed_now _ h).1.is.means.is
+      pub decided_at_piece : (a : Answer A UnexpectedParse) → a ≢ answers.More → Feeds meaning valid c new piece true (Ok a) → Decided m.whole whole (length fed) a
+      decided_at_piece answers.More d h = absurd (d refl)
+      decided_at_piece (answers.Accepted v t k) d h = answered (answers.Accepted v t k) (Accepted v t k) (λ x. x) tt (fed_now _ h).1.is.means.is
+      decided_at_piece (answers.Refused e k) d h = answered (answers.Refused e k) (Refused k) (λ x. x) tt (fed_now _ h).1.is.means.is
 
-  module _ (valid : S → Type 0) (fed : List (List T)) (c : Course P T S) (far : SoFar fed c) (new : Course P T S) where
-    last : (o : Outcome A) → left meaning c [] false o → Decides m.whole (concatenated fed) o
+  module _ (valid : S → Type 0) (fed : List (List T)) (c : Course P T S) (far : AskedAfterPieces fed c) (new : Course P T S) where
+    last : (o : Outcome A) → left_of_session meaning c [] false o → Decides m.whole (concatenated fed) o
     last o h =
         let a = subst (λ z. on m.whole z false o) (append-nil (concatenated fed)) (far.left [] false o h) in
         record { is = a; only = λ s p q. s.one _ p o q a }
@@ -161,18 +161,18 @@ module _ {P T R E A S : Type 0} (meaning : P → Meaning ℕ T R E A S) (m : Mea
     ended : (a : Answer A UnexpectedParse) → decides m.whole (concatenated fed) a → Decided m.whole fed (length fed) a
     ended a h = record { answer = h; asked = record { within = omega arith; here = far.asked; only = λ s i k u. k; stopped = λ k. absurd (omega arith) } }
 
-    ended_now : (r : Result (Answer A UnexpectedParse) SessionError) → Ends meaning valid c new [] false r → session.ends meaning valid c new [] false r
-    ended_now r h = subst (λ s. by_stage meaning valid c new [] false (session.ends meaning valid c new [] false) s r) far.stage h.is
+    ended_now : (r : Result (Answer A UnexpectedParse) SessionError) → EndsSession meaning valid c new [] false r → session.ends_session meaning valid c new [] false r
+    ended_now r h = subst (λ s. by_stage meaning valid c new [] false (session.ends_session meaning valid c new [] false) s r) far.stage h.is
 
     -- the session decided at the end
-    pub ends : (a : Answer A UnexpectedParse) → Ends meaning valid c new [] false (Ok a) → Decided m.whole fed (length fed) a
-    ends answers.More h = absurd (let e = (ended_now _ h).is.is_open in cc)
-    ends (answers.Accepted v t k) h = ended (answers.Accepted v t k) (last (Accepted v t k) (ended_now _ h).is.means.is)
-    ends (answers.Refused e k) h = ended (answers.Refused e k) (last (Refused k) (ended_now _ h).is.means.is)
+    pub decided_at_end : (a : Answer A UnexpectedParse) → EndsSession meaning valid c new [] false (Ok a) → Decided m.whole fed (length fed) a
+    decided_at_end answers.More h = absurd (let e = (ended_now _ h).is.is_open in cc)
+    decided_at_end (answers.Accepted v t k) h = ended (answers.Accepted v t k) (last (Accepted v t k) (ended_now _ h).is.means.is)
+    decided_at_end (answers.Refused e k) h = ended (answers.Refused e k) (last (Refused k) (ended_now _ h).is.means.is)
 
 -- nothing is fed yet
-pub at_first : {P T R E A S : Type 0} {most : Option ℕ} (meaning : P → Meaning ℕ T R E A S) (valid : S → Type 0) (determined : P → Type 0) (p : P) (c : Course P T S) → Begins meaning valid determined most p c → SoFar meaning (meaning p) [] c
-at_first meaning valid determined p c h = record {
+pub before_any_piece : {P T R E A S : Type 0} {most : Option ℕ} (meaning : P → Meaning ℕ T R E A S) (valid : S → Type 0) (determined : P → Type 0) (p : P) (c : Course P T S) → BeginsSession meaning valid determined most p c → AskedAfterPieces meaning (meaning p) [] c
+before_any_piece meaning valid determined p c h = record {
   left = λ x b o. (h.left x b o).0;
   asked = λ i k. absurd (omega arith);
   stage = h.stage;
@@ -192,7 +192,7 @@ open_kind kinds.Reset h = h
 open_kind kinds.Lost h = h
 
 -- in a loop over the pieces, of which the first n were fed
-module _ {P T R E A S : Type 0} (meaning : P → Meaning ℕ T R E A S) (m : Meaning ℕ T R E A S) (valid : S → Type 0) (pieces : List (List T)) (n : ℕ) (c : Course P T S) (far : SoFar meaning m (take n pieces) c) where
+module _ {P T R E A S : Type 0} (meaning : P → Meaning ℕ T R E A S) (m : Meaning ℕ T R E A S) (valid : S → Type 0) (pieces : List (List T)) (n : ℕ) (c : Course P T S) (far : AskedAfterPieces meaning m (take n pieces) c) where
   module _ (piece : List T) (within : n < length pieces) (at : get_or pieces n piece ≡ piece) (new : Course P T S) where
     next : take n pieces ++ piece ∷ [] ≡ take (n + 1) pieces
     next = ap (λ x. take n pieces ++ x ∷ []) (sym at) ∙ sym (take_more pieces n piece within)
@@ -200,12 +200,12 @@ module _ {P T R E A S : Type 0} (meaning : P → Meaning ℕ T R E A S) (m : Mea
     all : (take n pieces ++ piece ∷ []) ++ drop (n + 1) pieces ≡ pieces
     all = ap (λ xs. xs ++ drop (n + 1) pieces) next ∙ take-append-drop (n + 1) pieces
 
-    pub further_at : Feeds meaning valid c new piece true (Ok answers.More) → SoFar meaning m (take (n + 1) pieces) new
-    further_at h = subst (λ xs. SoFar meaning m xs new) next (further meaning m valid (take n pieces) c far piece new h)
+    pub further_at : Feeds meaning valid c new piece true (Ok answers.More) → AskedAfterPieces meaning m (take (n + 1) pieces) new
+    further_at h = subst (λ xs. AskedAfterPieces meaning m xs new) next (asked_after_piece meaning m valid (take n pieces) c far piece new h)
 
     pub stops_at : IsReading m.whole → (a : Answer A UnexpectedParse) → a ≢ answers.More → Feeds meaning valid c new piece true (Ok a) → Decided m.whole pieces n a
     stops_at law a d h =
-        let s = stops meaning m valid (take n pieces) c far piece new law (drop (n + 1) pieces) a d h in
+        let s = decided_at_piece meaning m valid (take n pieces) c far piece new law (drop (n + 1) pieces) a d h in
         let e = length-take-le n pieces (omega arith) in
         subst (λ xs. Decided m.whole xs n a) all (subst (λ i. Decided m.whole ((take n pieces ++ piece ∷ []) ++ drop (n + 1) pieces) i a) e s)
 
@@ -227,34 +227,34 @@ module _ {P T R E A S : Type 0} (meaning : P → Meaning ℕ T R E A S) (m : Mea
     kind_at (answers.Refused e k) h = open_kind e.0 (fed_now meaning m valid (take n pieces) c far piece new _ h).1.is.kind
 
     -- the answer to all pieces, where the session decided at this one
-    pub decides_at : IsReading m.whole → (a : Answer A UnexpectedParse) → a ≢ answers.More → Feeds meaning valid c new piece true (Ok a) → ParsesPieces m.whole m.lean pieces (Ok a)
+    pub decides_at : IsReading m.whole → (a : Answer A UnexpectedParse) → a ≢ answers.More → Feeds meaning valid c new piece true (Ok a) → ParsesPieces m.whole m.heapless pieces (Ok a)
     decides_at law a d h = record { is = ((stops_at law a d h).answer, kind_at a h) }
 
     -- why there is none, where it failed at this one and had no limit
-    pub fails_at : c.limit ≡ None → (e : SessionError) → Feeds meaning valid c new piece true (Err e) → ParsesPieces m.whole m.lean pieces (Err e)
-    fails_at none errors.Memory h = record { is = tt }
-    fails_at none (errors.Fault k) h = let f = (fed_now meaning m valid (take n pieces) c far piece new _ h).1.is in record { is = (f.memory, λ l. f.wanted (far.same.lean.0 l)) }
-    fails_at none errors.TooLong h = let most = no_longer in ⊎_elim (λ long. record { is = omega arith }) (λ over. absurd (let x = rw none at over in cc)) (fed_now meaning m valid (take n pieces) c far piece new _ h).0.why
-    fails_at none errors.Closed h = absurd (fed_now meaning m valid (take n pieces) c far piece new _ h)
-    fails_at none errors.Failed h = absurd (fed_now meaning m valid (take n pieces) c far piece new _ h)
+    pub fails_at_piece : c.limit ≡ None → (e : SessionError) → Feeds meaning valid c new piece true (Err e) → ParsesPieces m.whole m.heapless pieces (Err e)
+    fails_at_piece none errors.Memory h = record { is = tt }
+    fails_at_piece none (errors.Fault k) h = let f = (fed_now meaning m valid (take n pieces) c far piece new _ h).1.is in record { is = (f.memory, λ l. f.wanted (far.same.heapless.0 l)) }
+    fails_at_piece none errors.TooLong h = let most = no_longer in ⊎_elim (λ long. record { is = omega arith }) (λ over. absurd (let x = rw none at over in cc)) (fed_now meaning m valid (take n pieces) c far piece new _ h).0.why
+    fails_at_piece none errors.Closed h = absurd (fed_now meaning m valid (take n pieces) c far piece new _ h)
+    fails_at_piece none errors.Failed h = absurd (fed_now meaning m valid (take n pieces) c far piece new _ h)
 
   module _ (all_fed : n ≡ length pieces) (new : Course P T S) where
-    far_all : SoFar meaning m pieces c
-    far_all = subst (λ xs. SoFar meaning m xs c) (take_all n pieces (omega arith)) far
+    far_all : AskedAfterPieces meaning m pieces c
+    far_all = subst (λ xs. AskedAfterPieces meaning m xs c) (take_all n pieces (omega arith)) far
 
-    pub ends_at : (a : Answer A UnexpectedParse) → Ends meaning valid c new [] false (Ok a) → Decided m.whole pieces n a
-    ends_at a h = subst (λ i. Decided m.whole pieces i a) (sym all_fed) (ends meaning m valid pieces c far_all new a h)
+    pub decided_after_pieces : (a : Answer A UnexpectedParse) → EndsSession meaning valid c new [] false (Ok a) → Decided m.whole pieces n a
+    decided_after_pieces a h = subst (λ i. Decided m.whole pieces i a) (sym all_fed) (decided_at_end meaning m valid pieces c far_all new a h)
 
-    kind_at_end : (a : Answer A UnexpectedParse) → Ends meaning valid c new [] false (Ok a) → refusal_kind a
+    kind_at_end : (a : Answer A UnexpectedParse) → EndsSession meaning valid c new [] false (Ok a) → refusal_kind a
     kind_at_end answers.More h = tt
     kind_at_end (answers.Accepted v t k) h = tt
     kind_at_end (answers.Refused e k) h = (ended_now meaning m valid (take n pieces) c far new _ h).is.kind
 
     -- the answer at the end
-    pub answers_at_end : (r : Result (Answer A UnexpectedParse) SessionError) → Ends meaning valid c new [] false r → ParsesPieces m.whole m.lean pieces r
-    answers_at_end (Ok a) h = record { is = ((ends_at a h).answer, kind_at_end a h) }
+    pub answers_at_end : (r : Result (Answer A UnexpectedParse) SessionError) → EndsSession meaning valid c new [] false r → ParsesPieces m.whole m.heapless pieces r
+    answers_at_end (Ok a) h = record { is = ((decided_after_pieces a h).answer, kind_at_end a h) }
     answers_at_end (Err errors.Memory) h = record { is = tt }
-    answers_at_end (Err (errors.Fault k)) h = let f = (ended_now meaning m valid (take n pieces) c far new _ h).is in record { is = (f.memory, λ l. f.wanted (far.same.lean.0 l)) }
+    answers_at_end (Err (errors.Fault k)) h = let f = (ended_now meaning m valid (take n pieces) c far new _ h).is in record { is = (f.memory, λ l. f.wanted (far.same.heapless.0 l)) }
     answers_at_end (Err errors.TooLong) h = absurd (ended_now meaning m valid (take n pieces) c far new _ h)
     answers_at_end (Err errors.Closed) h = absurd (ended_now meaning m valid (take n pieces) c far new _ h)
     answers_at_end (Err errors.Failed) h = absurd (ended_now meaning m valid (take n pieces) c far new _ h)

@@ -3,7 +3,7 @@ use Rattle.std.proofs.Common.{Bool, true, false, arith}
 use Rattle.combine_base.specs.Stream.View.{View, extended}
 use Rattle.combine_base.specs.Parser.Outcome.{Outcome, Accepted, Refused, Undecided, after}
 use Rattle.combine_base.specs.Parser.Meaning.{Meaning, Alike, MeansSame, begun}
-use Rattle.combine_base.specs.Parser.Answer.{Run, World, Answers, Accepts, Refuses, Asks, fails, peeks, ends, loses}
+use Rattle.combine_base.specs.Parser.Answer.{CallRecord, World, Answers, Accepts, Refuses, Asks, fails, peeks, asks_or_refuses, loses}
 use Rattle.combine_base.specs.Stream.Calls.{Passes}
 use Rattle.combine_base.specs.declared.stream.Kind.{Kind}
 use Rattle.combine_base.specs.declared.stream.Kind.TheVariants as kinds
@@ -23,7 +23,7 @@ passes_more a b d f g h p q = record {
 
 module _ {P T R E A S : Type 0} where
   pub same_none : (m : Meaning P T R E A S) → MeansSame m m
-  same_none m = record { whole = λ v o. (λ p. p, λ p. p); rest = λ s v o. (λ p. p, λ p. p); lost = λ s v. (λ p. p, λ p. p); keeps = (λ p. p, λ p. p); puts_back = (λ p. p, λ p. p); lean = (λ p. p, λ p. p); adds = λ is. (λ p. p, λ p. p); refuses = λ v w i e. (λ p. p, λ p. p); refuses_from = λ s v w i e. (λ p. p, λ p. p) }
+  same_none m = record { whole = λ v o. (λ p. p, λ p. p); rest = λ s v o. (λ p. p, λ p. p); lost = λ s v. (λ p. p, λ p. p); keeps = (λ p. p, λ p. p); puts_back = (λ p. p, λ p. p); heapless = (λ p. p, λ p. p); adds = λ is. (λ p. p, λ p. p); refuses = λ v w i e. (λ p. p, λ p. p); refuses_from = λ s v w i e. (λ p. p, λ p. p) }
 
   pub same_more : (a b c : Meaning P T R E A S) → MeansSame a b → MeansSame b c → MeansSame a c
   same_more a b c h k = record {
@@ -32,7 +32,7 @@ module _ {P T R E A S : Type 0} where
     lost = λ s v. (λ p. (k.lost s v).0 ((h.lost s v).0 p), λ p. (h.lost s v).1 ((k.lost s v).1 p));
     keeps = (λ p. k.keeps.0 (h.keeps.0 p), λ p. h.keeps.1 (k.keeps.1 p));
     puts_back = (λ p. k.puts_back.0 (h.puts_back.0 p), λ p. h.puts_back.1 (k.puts_back.1 p));
-    lean = (λ p. k.lean.0 (h.lean.0 p), λ p. h.lean.1 (k.lean.1 p));
+    heapless = (λ p. k.heapless.0 (h.heapless.0 p), λ p. h.heapless.1 (k.heapless.1 p));
     adds = λ is. (λ p. (k.adds is).0 ((h.adds is).0 p), λ p. (h.adds is).1 ((k.adds is).1 p));
     refuses = λ v w i e. (λ p. (k.refuses v w i e).0 ((h.refuses v w i e).0 p), λ p. (h.refuses v w i e).1 ((k.refuses v w i e).1 p));
     refuses_from = λ s v w i e. (λ p. (k.refuses_from s v w i e).0 ((h.refuses_from s v w i e).0 p), λ p. (h.refuses_from s v w i e).1 ((k.refuses_from s v w i e).1 p));
@@ -42,7 +42,7 @@ module _ {P T R E A S : Type 0} where
   begun_back m m' h true s v o p = (h.whole v o).1 p
   begun_back m m' h false s v o p = (h.rest s v o).1 p
 
-module _ {P T R A S E : Type 0} (w : World P T S E) (m m' : Meaning P T R E A S) (h : Alike m m') (r : Run P T S) where
+module _ {P T R A S E : Type 0} (w : World P T S E) (m m' : Meaning P T R E A S) (h : Alike m m') (r : CallRecord P T S) where
   accepts : (a : A) (k : Bool) → Accepts w m' r a k → Accepts w m r a k
   accepts a k p = record { count = p.count; meant = begun_back m m' h r.first r.state r.old (Accepted a p.count k) p.meant; taken = p.taken; state = p.state; failures = p.failures }
 
@@ -65,7 +65,7 @@ module _ {P T R A S E : Type 0} (w : World P T S E) (m m' : Meaning P T R E A S)
     failures = p.failures;
   }
 
-  at_end : (b : Bool) → ends w m' r b → ends w m r b
+  at_end : (b : Bool) → asks_or_refuses w m' r b → asks_or_refuses w m r b
   at_end true p = asks p
   at_end false p = refuses true p
 
@@ -76,7 +76,7 @@ module _ {P T R A S E : Type 0} (w : World P T S E) (m m' : Meaning P T R E A S)
   failing : (k : Kind) → fails w m' r k → fails w m r k
   failing kinds.Refused p = refuses true p
   failing kinds.End p = at_end r.old.is_open p
-  failing kinds.Memory p = (λ f l. p.0 f (h.lean.0 l), p.1)
+  failing kinds.Memory p = (λ f l. p.0 f (h.heapless.0 l), p.1)
   failing kinds.Read p = p
   failing kinds.Reset p = p
   failing kinds.Lost p = losing r.first p
@@ -95,6 +95,6 @@ module _ {P T R A S E : Type 0} (w : World P T S E) (m m' : Meaning P T R E A S)
   answers_alike (CommitErr e) p = record { is = failing (w.kind e) p.is }
   answers_alike (PeekErr e) p = record { is = peeking (w.kind e.error) p.is }
 
-module _ {P T R A S E : Type 0} (w : World P T S E) (m m' : Meaning P T R E A S) (h : MeansSame m m') (r : Run P T S) where
+module _ {P T R A S E : Type 0} (w : World P T S E) (m m' : Meaning P T R E A S) (h : MeansSame m m') (r : CallRecord P T S) where
   pub answers_same : (result : ParseResult A E) → Answers w m' r result → Answers w m r result
-  answers_same = answers_alike w m m' (record { whole = h.whole; rest = h.rest; lost = h.lost; keeps = h.keeps; puts_back = h.puts_back; lean = h.lean }) r
+  answers_same = answers_alike w m m' (record { whole = h.whole; rest = h.rest; lost = h.lost; keeps = h.keeps; puts_back = h.puts_back; heapless = h.heapless }) r

@@ -1,7 +1,7 @@
 -- what is left of a sequence when one of its parts has stopped
 use Rattle.std.proofs.Common.{ℕ, ◌≡◌, ◌<◌, List, Bool, true, false, refl, sym, ◌∙◌, ap, subst, arith, add-zero}
 use Rattle.combine_base.specs.Stream.View.{View, Takes, advanced, extended}
-use Rattle.combine_base.specs.Stream.Advance.{advanced_extended, advanced_twice, stands}
+use Rattle.combine_base.specs.Stream.Advance.{advanced_extended, advanced_twice, decided_stays}
 use Rattle.combine_base.specs.Parser.Outcome.{Outcome, Accepted, Refused, Undecided, after, IsCommitted}
 use Rattle.combine_base.specs.Sequence.JoinedOutcome.{joined, joined_later, joined_since, joined_committed, joined_commits}
 use Rattle.combine_base.specs.Parser.Meaning.{Reading, IsReading}
@@ -50,6 +50,6 @@ module _ {P T A B C : Type 0} (step : P → T → P) (f : A → B → C) (q : A 
 
     pub accepted_resumes : Resumes (sequel step f r q) (following c (f a) (q a)) n old new
     accepted_resumes = record {
-      gives = λ x b o j u. (Accepted a n c, stands r h old x b (Accepted a n c) j tt w, (u.0, subst (λ y. q a y u.0) (there x b) u.1, ap (after n false) u.2 ∙ joined_later 0 c (f a) n u.0 ∙ ap (λ i. joined i c (f a) u.0) (add-zero n)));
+      gives = λ x b o j u. (Accepted a n c, decided_stays r h old x b (Accepted a n c) j tt w, (u.0, subst (λ y. q a y u.0) (there x b) u.1, ap (after n false) u.2 ∙ joined_later 0 c (f a) n u.0 ∙ ap (λ i. joined i c (f a) u.0) (add-zero n)));
       committed = λ x b o j l u. subst IsCommitted (sym u.2) (committed_last l c refl u.0);
     }

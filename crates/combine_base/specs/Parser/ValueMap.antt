@@ -11,7 +11,7 @@ module _ {P T A B : Type 0} where
   mapped_reading r f v Undecided = r v Undecided
 
   abbrev pub mapped : {R E S : Type 0} → Meaning P T R E A S → (A → B → Type 0) → Meaning P T R E B S
-  mapped m f = record { whole = mapped_reading m.whole f; rest = λ s. mapped_reading (m.rest s) f; lost = m.lost; keeps = m.keeps; puts_back = m.puts_back; lean = m.lean; adds = m.adds; refuses = m.refuses; refuses_from = m.refuses_from }
+  mapped m f = record { whole = mapped_reading m.whole f; rest = λ s. mapped_reading (m.rest s) f; lost = m.lost; keeps = m.keeps; puts_back = m.puts_back; heapless = m.heapless; adds = m.adds; refuses = m.refuses; refuses_from = m.refuses_from }
 
   -- an outcome of the mapped reading stands on one of the reading, of the same shape
   abbrev under : (r : Reading P T A) (f : A → B → Type 0) (v : View P T) (o : Outcome B) → mapped_reading r f v o → (i : Outcome A) × r v i × shape i ≡ shape o
@@ -66,7 +66,7 @@ module _ {P T A B : Type 0} where
     lost = h.lost;
     keeps = h.keeps;
     puts_back = h.puts_back;
-    lean = h.lean;
+    heapless = h.heapless;
     adds = h.adds;
     refuses = h.refuses;
     refuses_from = h.refuses_from;

@@ -68,7 +68,7 @@ joined_one i c f g p p' o o' e w w' =
     ap shape w ∙ shape_joined i c f p ∙ ap (after i c) e ∙ sym (shape_joined i c g p') ∙ sym (ap shape w')
 
 -- what is peeked in all is peeked in each part
-pub neither : (c d : Bool) → false ≡ (c || d) → (c ≡ false) × (d ≡ false)
-neither false false e = (refl, refl)
-neither false true e = absurd (cc)
-neither true d e = absurd (cc)
+pub neither_committed : (c d : Bool) → false ≡ (c || d) → (c ≡ false) × (d ≡ false)
+neither_committed false false e = (refl, refl)
+neither_committed false true e = absurd (cc)
+neither_committed true d e = absurd (cc)

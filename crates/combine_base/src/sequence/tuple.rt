@@ -246,7 +246,7 @@ impl<Input: Stream, A: Parser<Input>, B: Parser<Input>> Parser<Input> for (A, B)
 
     ghost valid = { valid_2 A.valid B.valid };
 
-    ghost meaning = { λ p. tuple_2 Input.step Input.Error.seen (A.meaning p.0) (B.meaning p.1) };
+    ghost meaning = { λ p. tuple_2 Input.step Input.Error.observers (A.meaning p.0) (B.meaning p.1) };
 
     ghost parts = { λ p. min (A.parts p.0 + B.parts p.1) 255 };
 
@@ -273,9 +273,9 @@ impl<Input: Stream, A: Parser<Input>, B: Parser<Input>> Parser<Input> for (A, B)
 
     ghost default_valid = { begins_valid_2 B.valid A.default_valid };
 
-    ghost laws = { λ p l. tuple_2_is_meaning Input.step Input.Error.seen (A.laws p.0 l.0) (B.laws p.1 l.1) };
+    ghost laws = { λ p l. tuple_2_is_meaning Input.step Input.Error.observers (A.laws p.0 l.0) (B.laws p.1 l.1) };
 
-    ghost single = { λ p l d. tuple_2_means_one Input.step Input.Error.seen (A.single p.0 l.0 d.0) (B.single p.1 l.1 d.1) };
+    ghost single = { λ p l d. tuple_2_means_one Input.step Input.Error.observers (A.single p.0 l.0 d.0) (B.single p.1 l.1 d.1) };
 }
 
 impl<Input, A: Outputs<Input>, B: Outputs<Input>, C: Outputs<Input>> Outputs<Input> for (A, B, C) {
@@ -292,7 +292,7 @@ impl<Input: Stream, A: Parser<Input>, B: Parser<Input>, C: Parser<Input>> Parser
 
     ghost valid = { valid_3 A.valid B.valid C.valid };
 
-    ghost meaning = { λ p. tuple_3 Input.step Input.Error.seen (A.meaning p.0) (B.meaning p.1) (C.meaning p.2) };
+    ghost meaning = { λ p. tuple_3 Input.step Input.Error.observers (A.meaning p.0) (B.meaning p.1) (C.meaning p.2) };
 
     ghost parts = { λ p. min (A.parts p.0 + B.parts p.1 + C.parts p.2) 255 };
 
@@ -330,9 +330,9 @@ impl<Input: Stream, A: Parser<Input>, B: Parser<Input>, C: Parser<Input>> Parser
 
     ghost default_valid = { begins_valid_3 B.valid C.valid A.default_valid };
 
-    ghost laws = { λ p l. tuple_3_is_meaning Input.step Input.Error.seen (A.laws p.0 l.0) (B.laws p.1 l.1) (C.laws p.2 l.2) };
+    ghost laws = { λ p l. tuple_3_is_meaning Input.step Input.Error.observers (A.laws p.0 l.0) (B.laws p.1 l.1) (C.laws p.2 l.2) };
 
-    ghost single = { λ p l d. tuple_3_means_one Input.step Input.Error.seen (A.single p.0 l.0 d.0) (B.single p.1 l.1 d.1) (C.single p.2 l.2 d.2) };
+    ghost single = { λ p l d. tuple_3_means_one Input.step Input.Error.observers (A.single p.0 l.0 d.0) (B.single p.1 l.1 d.1) (C.single p.2 l.2 d.2) };
 }
 
 impl<Input, A: Outputs<Input>, B: Outputs<Input>, C: Outputs<Input>, D: Outputs<Input>> Outputs<
@@ -352,7 +352,7 @@ impl<Input: Stream, A: Parser<Input>, B: Parser<Input>, C: Parser<Input>, D: Par
 
     ghost valid = { valid_4 A.valid B.valid C.valid D.valid };
 
-    ghost meaning = { λ p. tuple_4 Input.step Input.Error.seen (A.meaning p.0) (B.meaning p.1) (C.meaning p.2) (D.meaning p.3) };
+    ghost meaning = { λ p. tuple_4 Input.step Input.Error.observers (A.meaning p.0) (B.meaning p.1) (C.meaning p.2) (D.meaning p.3) };
 
     ghost parts = { λ p. min (A.parts p.0 + B.parts p.1 + C.parts p.2 + D.parts p.3) 255 };
 
@@ -394,7 +394,7 @@ impl<Input: Stream, A: Parser<Input>, B: Parser<Input>, C: Parser<Input>, D: Par
 
     ghost default_valid = { begins_valid_4 B.valid C.valid D.valid A.default_valid };
 
-    ghost laws = { λ p l. tuple_4_is_meaning Input.step Input.Error.seen (A.laws p.0 l.0) (B.laws p.1 l.1) (C.laws p.2 l.2) (D.laws p.3 l.3) };
+    ghost laws = { λ p l. tuple_4_is_meaning Input.step Input.Error.observers (A.laws p.0 l.0) (B.laws p.1 l.1) (C.laws p.2 l.2) (D.laws p.3 l.3) };
 
-    ghost single = { λ p l d. tuple_4_means_one Input.step Input.Error.seen (A.single p.0 l.0 d.0) (B.single p.1 l.1 d.1) (C.single p.2 l.2 d.2) (D.single p.3 l.3 d.3) };
+    ghost single = { λ p l d. tuple_4_means_one Input.step Input.Error.observers (A.single p.0 l.0 d.0) (B.single p.1 l.1 d.1) (C.single p.2 l.2 d.2) (D.single p.3 l.3 d.3) };
 }

@@ -34,7 +34,7 @@ impl<Input: Stream, C: Class<Input::Token>> Parser<Input> for ClassParser<Input,
 
     ghost valid = { λ s. Unit {0} };
 
-    ghost meaning = { λ p. takes_one Input.Error.seen (satisfied (of_function C.members)) (Unit {0}) (Only (Expected (Fixed C.bytes))) };
+    ghost meaning = { λ p. takes_one Input.Error.observers (satisfied (of_function C.members)) (Unit {0}) (Only (Expected (Fixed C.bytes))) };
 
     ghost parts = { λ p. 1 };
 
@@ -66,7 +66,7 @@ impl<Input: Stream, C: Class<Input::Token>> Parser<Input> for ClassParser<Input,
 
     ghost default_valid = { λ s d. tt };
 
-    ghost laws = { λ p l. takes_one_is_meaning Input.Error.seen (satisfied (of_function C.members)) _ _ _ _ };
+    ghost laws = { λ p l. takes_one_is_meaning Input.Error.observers (satisfied (of_function C.members)) _ _ _ _ };
 
-    ghost single = { λ p l d. takes_one_means_one Input.Error.seen (satisfied (of_function C.members)) _ _ _ (satisfied_is_test _ (of_function_is_predicate C.members)) };
+    ghost single = { λ p l d. takes_one_means_one Input.Error.observers (satisfied (of_function C.members)) _ _ _ (satisfied_is_test _ (of_function_is_predicate C.members)) };
 }

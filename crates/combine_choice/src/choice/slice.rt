@@ -1,13 +1,13 @@
 //! Choices over the alternatives of a slice or an array.
 ghost use Rattle.std.specs.Prelude.{◌≡◌, ◌<◌, length, true};
 ghost use Rattle.std.specs.List.{All};
-ghost use Rattle.combine_base.specs.Error.Errors.{Says};
+ghost use Rattle.combine_base.specs.Error.Errors.{AddsItems};
 ghost use Rattle.combine_base.specs.Parser.AnswersCalls.{AnswersCall};
 ghost use Rattle.combine_base.specs.Parser.Meaning.{MeansSame};
 ghost use Rattle.combine_base.specs.Parser.Reasons.{ReasonedCall};
 ghost use Rattle.combine_base.specs.Stream.Calls.{Passes};
 ghost use Rattle.combine_choice.specs.ListChoice.{choice_of, slice_valid};
-ghost use Rattle.combine_choice.specs.SliceCalls.{NoAlternative, Resumes, ChoseFrom, TurnCall};
+ghost use Rattle.combine_choice.specs.SliceCalls.{NoAlternative, ResumesAlternative, ChoseFrom, TurnCall};
 
 use super::{ChoiceOutputs, ChoiceParser};
 use combine_base::error::{ParseResult, Tracked};
@@ -63,8 +63,8 @@ fn take_turn<Input: Stream, P: Parser<Input>, M: ParseMode>(
     ensures valid { slice_valid P.valid state.new }
     ensures same { MeansSame (P.meaning alternative.old) (P.meaning alternative.new) }
     ensures passes { Passes (Input.marks input.old) (Input.marks input.new) (Input.failures input.old) (Input.failures input.new) }
-    ensures turn { TurnCall Input.StreamOnce Input.Error.seen P.Parser P.PartialState.is_default index alternative.old (M.first mode) kept state.new input.old input.new result }
-    ensures refuses { ReasonedCall Input.Error.seen (P.meaning alternative.old) (M.first mode) kept (Input.view input.old) (Input.view input.new) result }
+    ensures turn { TurnCall Input.StreamOnce Input.Error.observers P.Parser P.PartialState.is_default index alternative.old (M.first mode) kept state.new input.old input.new result }
+    ensures refuses { ReasonedCall Input.Error.observers (P.meaning alternative.old) (M.first mode) kept (Input.view input.old) (Input.view input.new) result }
 {
     let mut kept = kept;
     let answer = alternative.parse_mode(mode, input, &mut kept);
@@ -89,7 +89,7 @@ fn choose<Input: Stream, P: Parser<Input>, M: ParseMode>(
     requires valid { P.valid kept }
     requires fresh { M.first mode ≡ true → P.PartialState.is_default kept }
     requires state { state.old ≡ SliceState.Peek }
-    ensures { ChoseFrom Input.StreamOnce Input.Error.seen Input.Position.cmp P.Parser index (M.first mode) kept alternatives.old alternatives.new state.new input.old input.new result }
+    ensures { ChoseFrom Input.StreamOnce Input.Error.observers Input.Position.cmp P.Parser index (M.first mode) kept alternatives.old alternatives.new state.new input.old input.new result }
 {
     let start = input.checkpoint();
     let position = input.position();
@@ -130,14 +130,14 @@ fn resume<Input: Stream, P: Parser<Input>, M: ParseMode>(
     requires valid { P.valid kept }
     requires fresh { M.first mode ≡ true → P.PartialState.is_default kept }
     requires state { state.old ≡ SliceState.Peek }
-    ensures { ChoseFrom Input.StreamOnce Input.Error.seen Input.Position.cmp P.Parser index (M.first mode) kept alternatives.old alternatives.new state.new input.old input.new result }
+    ensures { ChoseFrom Input.StreamOnce Input.Error.observers Input.Position.cmp P.Parser index (M.first mode) kept alternatives.old alternatives.new state.new input.old input.new result }
 {
     choose(alternatives, index, mode, input, kept, state)
 }
 
 /// Refuses a choice among no alternatives.
 fn no_alternative<O, Input: Stream>(input: &Input) -> ParseResult<O, Input::Error>
-    ensures { NoAlternative Input.Error.seen (Input.view input.now).position result }
+    ensures { NoAlternative Input.Error.observers (Input.view input.now).position result }
 {
     let error = refusal_saying(input, input.position(), "parser choice is empty");
     peeked(Tracked::from(error))
@@ -148,7 +148,7 @@ fn no_alternative<O, Input: Stream>(input: &Input) -> ParseResult<O, Input::Erro
 /// That is `Peek` where the call begins afresh, also where no alternative has that index.
 #[inline(always)]
 fn running<S: Drop, M: ParseMode>(kept: SliceState<S>, count: usize, mode: M) -> SliceState<S>
-    ensures { Resumes (M.first mode) kept count result }
+    ensures { ResumesAlternative (M.first mode) kept count result }
 {
     if mode.is_first() {
         return SliceState::Peek;
@@ -176,10 +176,10 @@ fn parse_slice<Input: Stream, P: Parser<Input>, M: ParseMode>(
     requires valid { slice_valid P.valid state.old }
     ensures lawful { All P.lawful alternatives.new }
     ensures valid { slice_valid P.valid state.new }
-    ensures same { MeansSame (choice_of Input.Error.seen Input.Position.cmp P.meaning alternatives.old) (choice_of Input.Error.seen Input.Position.cmp P.meaning alternatives.new) }
+    ensures same { MeansSame (choice_of Input.Error.observers Input.Position.cmp P.meaning alternatives.old) (choice_of Input.Error.observers Input.Position.cmp P.meaning alternatives.new) }
     ensures passes { Passes (Input.marks input.old) (Input.marks input.new) (Input.failures input.old) (Input.failures input.new) }
-    ensures answers { AnswersCall Input.StreamOnce Input.Error.seen (λ s. s ≡ SliceState.Peek) (choice_of Input.Error.seen Input.Position.cmp P.meaning alternatives.old) (M.first mode) state.old state.new input.old input.new result }
-    ensures refuses { ReasonedCall Input.Error.seen (choice_of Input.Error.seen Input.Position.cmp P.meaning alternatives.old) (M.first mode) state.old (Input.view input.old) (Input.view input.new) result }
+    ensures answers { AnswersCall Input.StreamOnce Input.Error.observers (λ s. s ≡ SliceState.Peek) (choice_of Input.Error.observers Input.Position.cmp P.meaning alternatives.old) (M.first mode) state.old state.new input.old input.new result }
+    ensures refuses { ReasonedCall Input.Error.observers (choice_of Input.Error.observers Input.Position.cmp P.meaning alternatives.old) (M.first mode) state.old (Input.view input.old) (Input.view input.new) result }
 {
     let kept = replace(state, SliceState::Peek);
     if alternatives.is_empty() {
@@ -210,8 +210,8 @@ fn add_errors<Input: Stream, P: Parser<Input>>(
 )
     requires { All P.lawful alternatives.old }
     ensures lawful { All P.lawful alternatives.new }
-    ensures same { MeansSame (choice_of Input.Error.seen Input.Position.cmp P.meaning alternatives.old) (choice_of Input.Error.seen Input.Position.cmp P.meaning alternatives.new) }
-    ensures says { Says Input.Error.seen (choice_of Input.Error.seen Input.Position.cmp P.meaning alternatives.old).lean (choice_of Input.Error.seen Input.Position.cmp P.meaning alternatives.old).adds error.old.error error.new.error }
+    ensures same { MeansSame (choice_of Input.Error.observers Input.Position.cmp P.meaning alternatives.old) (choice_of Input.Error.observers Input.Position.cmp P.meaning alternatives.new) }
+    ensures says { AddsItems Input.Error.observers (choice_of Input.Error.observers Input.Position.cmp P.meaning alternatives.old).heapless (choice_of Input.Error.observers Input.Position.cmp P.meaning alternatives.old).adds error.old.error error.new.error }
 {
     for at in 0..alternatives.len() {
         alternatives[at].add_error(error);
@@ -235,13 +235,13 @@ impl<'a, Input: Stream, P: Parser<Input>> ChoiceParser<Input> for Slice<'a, P> {
 
     ghost valid = { slice_valid P.valid };
 
-    ghost meaning = { λ p. choice_of Input.Error.seen Input.Position.cmp P.meaning p.0.now };
+    ghost meaning = { λ p. choice_of Input.Error.observers Input.Position.cmp P.meaning p.0.now };
 
     ghost default_valid = { λ s d. rw d tt };
 
-    ghost laws = { λ p l. chosen_is_meaning Input.Error.seen Input.Position.cmp P.meaning P.PartialState.is_default P.valid p.0.now (every_all P.meaning P.lawful (IsMeaning P.PartialState.is_default P.valid) P.laws p.0.now l) };
+    ghost laws = { λ p l. chosen_is_meaning Input.Error.observers Input.Position.cmp P.meaning P.PartialState.is_default P.valid p.0.now (every_all P.meaning P.lawful (IsMeaning P.PartialState.is_default P.valid) P.laws p.0.now l) };
 
-    ghost single = { λ p l d. chosen_means_one Input.Error.seen Input.Position.cmp P.meaning P.PartialState.is_default P.valid p.0.now (every_both P.meaning P.lawful P.determined (MeansOne P.valid) P.single p.0.now l d) };
+    ghost single = { λ p l d. chosen_means_one Input.Error.observers Input.Position.cmp P.meaning P.PartialState.is_default P.valid p.0.now (every_both P.meaning P.lawful P.determined (MeansOne P.valid) P.single p.0.now l d) };
 
     #[inline(always)]
     fn parse_mode_choice<M: ParseMode>(
@@ -276,13 +276,13 @@ impl<Input: Stream, P: Parser<Input>, const N: usize> ChoiceParser<Input> for [P
 
     ghost valid = { slice_valid P.valid };
 
-    ghost meaning = { λ p. choice_of Input.Error.seen Input.Position.cmp P.meaning p };
+    ghost meaning = { λ p. choice_of Input.Error.observers Input.Position.cmp P.meaning p };
 
     ghost default_valid = { λ s d. rw d tt };
 
-    ghost laws = { λ p l. chosen_is_meaning Input.Error.seen Input.Position.cmp P.meaning P.PartialState.is_default P.valid p (every_all P.meaning P.lawful (IsMeaning P.PartialState.is_default P.valid) P.laws p l) };
+    ghost laws = { λ p l. chosen_is_meaning Input.Error.observers Input.Position.cmp P.meaning P.PartialState.is_default P.valid p (every_all P.meaning P.lawful (IsMeaning P.PartialState.is_default P.valid) P.laws p l) };
 
-    ghost single = { λ p l d. chosen_means_one Input.Error.seen Input.Position.cmp P.meaning P.PartialState.is_default P.valid p (every_both P.meaning P.lawful P.determined (MeansOne P.valid) P.single p l d) };
+    ghost single = { λ p l d. chosen_means_one Input.Error.observers Input.Position.cmp P.meaning P.PartialState.is_default P.valid p (every_both P.meaning P.lawful P.determined (MeansOne P.valid) P.single p l d) };
 
     #[inline(always)]
     fn parse_mode_choice<M: ParseMode>(

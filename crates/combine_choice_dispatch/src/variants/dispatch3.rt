@@ -1,5 +1,5 @@
 //! A parser that is one of three.
-ghost use Rattle.combine_choice_dispatch.specs.HeldParser.{Started, within};
+ghost use Rattle.combine_choice_dispatch.specs.HeldParser.{Started, state_within};
 ghost use Rattle.combine_choice_dispatch.specs.Halves.{nest_3};
 ghost use Rattle.combine_choice_dispatch.specs.Variants2.{pick_left, pick_right};
 
@@ -40,7 +40,7 @@ impl<A: Default + Drop, B: Default + Drop, C: Default + Drop> Dispatch3<A, B, C>
 
     #[inline(always)]
     fn start_b(&mut self) -> B
-        ensures { Started B.is_default (within pick_left (pick_right (nest_3 self.old))) result }
+        ensures { Started B.is_default (state_within pick_left (pick_right (nest_3 self.old))) result }
     {
         match self {
             Dispatch3::B(kept) => take(kept),
@@ -50,7 +50,7 @@ impl<A: Default + Drop, B: Default + Drop, C: Default + Drop> Dispatch3<A, B, C>
 
     #[inline(always)]
     fn start_c(&mut self) -> C
-        ensures { Started C.is_default (within pick_right (pick_right (nest_3 self.old))) result }
+        ensures { Started C.is_default (state_within pick_right (pick_right (nest_3 self.old))) result }
     {
         match self {
             Dispatch3::C(kept) => take(kept),

@@ -1,5 +1,5 @@
 //! A parser that is one of four.
-ghost use Rattle.combine_choice_dispatch.specs.HeldParser.{Started, within};
+ghost use Rattle.combine_choice_dispatch.specs.HeldParser.{Started, state_within};
 ghost use Rattle.combine_choice_dispatch.specs.Halves.{nest_4};
 ghost use Rattle.combine_choice_dispatch.specs.Variants2.{pick_left, pick_right};
 
@@ -36,7 +36,7 @@ impl<A: Default + Drop, B: Default + Drop, C: Default + Drop, D: Default + Drop>
 > {
     #[inline(always)]
     fn start_a(&mut self) -> A
-        ensures { Started A.is_default (within pick_left (pick_left (nest_4 self.old))) result }
+        ensures { Started A.is_default (state_within pick_left (pick_left (nest_4 self.old))) result }
     {
         match self {
             Dispatch4::A(kept) => take(kept),
@@ -46,7 +46,7 @@ impl<A: Default + Drop, B: Default + Drop, C: Default + Drop, D: Default + Drop>
 
     #[inline(always)]
     fn start_b(&mut self) -> B
-        ensures { Started B.is_default (within pick_right (pick_left (nest_4 self.old))) result }
+        ensures { Started B.is_default (state_within pick_right (pick_left (nest_4 self.old))) result }
     {
         match self {
             Dispatch4::B(kept) => take(kept),
@@ -56,7 +56,7 @@ impl<A: Default + Drop, B: Default + Drop, C: Default + Drop, D: Default + Drop>
 
     #[inline(always)]
     fn start_c(&mut self) -> C
-        ensures { Started C.is_default (within pick_left (pick_right (nest_4 self.old))) result }
+        ensures { Started C.is_default (state_within pick_left (pick_right (nest_4 self.old))) result }
     {
         match self {
             Dispatch4::C(kept) => take(kept),
@@ -66,7 +66,7 @@ impl<A: Default + Drop, B: Default + Drop, C: Default + Drop, D: Default + Drop>
 
     #[inline(always)]
     fn start_d(&mut self) -> D
-        ensures { Started D.is_default (within pick_right (pick_right (nest_4 self.old))) result }
+        ensures { Started D.is_default (state_within pick_right (pick_right (nest_4 self.old))) result }
     {
         match self {
             Dispatch4::D(kept) => take(kept),

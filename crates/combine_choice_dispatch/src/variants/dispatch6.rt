@@ -1,5 +1,5 @@
 //! A parser that is one of six.
-ghost use Rattle.combine_choice_dispatch.specs.HeldParser.{Started, within};
+ghost use Rattle.combine_choice_dispatch.specs.HeldParser.{Started, state_within};
 ghost use Rattle.combine_choice_dispatch.specs.Halves.{nest_6};
 ghost use Rattle.combine_choice_dispatch.specs.Variants2.{pick_left, pick_right};
 
@@ -41,7 +41,7 @@ impl<
 > Dispatch6<A, B, C, D, E, F> {
     #[inline(always)]
     fn start_a(&mut self) -> A
-        ensures { Started A.is_default (within pick_left (pick_left (nest_6 self.old))) result }
+        ensures { Started A.is_default (state_within pick_left (pick_left (nest_6 self.old))) result }
     {
         match self {
             Dispatch6::A(kept) => take(kept),
@@ -55,7 +55,7 @@ impl<
 
     #[inline(always)]
     fn start_b(&mut self) -> B
-        ensures { Started B.is_default (within pick_left (within pick_right (pick_left (nest_6 self.old)))) result }
+        ensures { Started B.is_default (state_within pick_left (state_within pick_right (pick_left (nest_6 self.old)))) result }
     {
         match self {
             Dispatch6::B(kept) => take(kept),
@@ -69,7 +69,7 @@ impl<
 
     #[inline(always)]
     fn start_c(&mut self) -> C
-        ensures { Started C.is_default (within pick_right (within pick_right (pick_left (nest_6 self.old)))) result }
+        ensures { Started C.is_default (state_within pick_right (state_within pick_right (pick_left (nest_6 self.old)))) result }
     {
         match self {
             Dispatch6::C(kept) => take(kept),
@@ -83,7 +83,7 @@ impl<
 
     #[inline(always)]
     fn start_d(&mut self) -> D
-        ensures { Started D.is_default (within pick_left (pick_right (nest_6 self.old))) result }
+        ensures { Started D.is_default (state_within pick_left (pick_right (nest_6 self.old))) result }
     {
         match self {
             Dispatch6::D(kept) => take(kept),
@@ -97,7 +97,7 @@ impl<
 
     #[inline(always)]
     fn start_e(&mut self) -> E
-        ensures { Started E.is_default (within pick_left (within pick_right (pick_right (nest_6 self.old)))) result }
+        ensures { Started E.is_default (state_within pick_left (state_within pick_right (pick_right (nest_6 self.old)))) result }
     {
         match self {
             Dispatch6::E(kept) => take(kept),
@@ -111,7 +111,7 @@ impl<
 
     #[inline(always)]
     fn start_f(&mut self) -> F
-        ensures { Started F.is_default (within pick_right (within pick_right (pick_right (nest_6 self.old)))) result }
+        ensures { Started F.is_default (state_within pick_right (state_within pick_right (pick_right (nest_6 self.old)))) result }
     {
         match self {
             Dispatch6::F(kept) => take(kept),

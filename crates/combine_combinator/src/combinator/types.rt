@@ -1,6 +1,6 @@
 //! The parsers that the functions of `combinator` return.
 ghost use Rattle.std.specs.Prelude.{◌≡◌};
-ghost use Rattle.combine_combinator.specs.Attempt.{HasValid, attempted, attempted_is_meaning, attempted_means_one, losing, refusing, KeepsDistance, PutsBack};
+ghost use Rattle.combine_combinator.specs.Attempt.{HasValidTry, attempted, attempted_is_meaning, attempted_means_one, losing, refusing, KeepsTokenDistance, PutsBack};
 ghost use Rattle.combine_combinator.specs.CombinatorParsers.{attempt_part, map_function, map_of, map_part};
 ghost use Rattle.combine_base.specs.Parser.GivenValues.{GivesOnly};
 ghost use Rattle.combine_base.specs.Parser.ValueMap.{mapped, mapped_is_meaning, mapped_means_one};
@@ -106,7 +106,7 @@ impl<Input: Stream, P: Parser<Input>> Parser<Input> for Try<P> {
 
     ghost determined = { λ p. P.determined (attempt_part p) };
 
-    ghost valid = { HasValid P.valid };
+    ghost valid = { HasValidTry P.valid };
 
     ghost meaning = { λ p. attempted Input.step (P.meaning (attempt_part p)) };
 
@@ -192,7 +192,7 @@ fn put_back<O, Input: Stream, S: Default + Drop>(
     state: &mut S,
 ) -> ParseResult<O, Input::Error>
     ensures passes { Passes (Input.marks input.old) (Input.marks input.new) (Input.failures input.old) (Input.failures input.new) }
-    ensures back { PutsBack Input.steady Input.step (Input.stands input.old start) (Input.view input.old) (Input.view input.new) (Input.failures input.old) (Input.failures input.new) Input.Error.seen.kind S.is_default state.old state.new refusal result }
+    ensures back { PutsBack Input.counts_failures Input.step (Input.stands input.old start) (Input.view input.old) (Input.view input.new) (Input.failures input.old) (Input.failures input.new) Input.Error.observers.kind S.is_default state.old state.new refusal result }
 {
     match input.reset(start) {
         Ok(()) => ParseResult::PeekErr(refusal),
@@ -209,7 +209,7 @@ fn keep_distance<O, Input: Stream, S: Default + Drop>(
     state: &mut TryState<S>,
 ) -> ParseResult<O, Input::Error>
     ensures passes { Passes (Input.marks input.old) (Input.marks input.new) (Input.failures input.old) (Input.failures input.new) }
-    ensures keeps { KeepsDistance Input.steady Input.step (Input.stands input.old start) (Input.view input.old) (Input.view input.new) (Input.failures input.old) (Input.failures input.new) Input.Error.seen.kind S.is_default state.old state.new need result }
+    ensures keeps { KeepsTokenDistance Input.counts_failures Input.step (Input.stands input.old start) (Input.view input.old) (Input.view input.new) (Input.failures input.old) (Input.failures input.new) Input.Error.observers.kind S.is_default state.old state.new need result }
 {
     match measure(input, start) {
         Ok(distance) => {
@@ -228,7 +228,7 @@ fn fault<O, Input: Stream, S: Default + Drop>(
     position: Input::Position,
     state: &mut S,
 ) -> ParseResult<O, Input::Error>
-    ensures error { (e : Input.Error) × (result ≡ ParseResult.CommitErr e) × (Input.Error.seen.kind e ≡ why) }
+    ensures error { (e : Input.Error) × (result ≡ ParseResult.CommitErr e) × (Input.Error.observers.kind e ≡ why) }
     ensures fresh { S.is_default state.new }
 {
     *state = S::default();

@@ -1,7 +1,7 @@
 //! A parser whose value is changed, or refused.
 ghost use Rattle.std.specs.Prelude.{◌≡◌};
 ghost use Rattle.combine_base.specs.Parser.GivenValues.{GivesOnly};
-ghost use Rattle.combine_combinator_function.specs.Changes.{ChangesOne, changed, changed_is_meaning, changed_means_one, spares};
+ghost use Rattle.combine_combinator_function.specs.Changes.{ChangesOne, changed_meaning, changed_is_meaning, changed_means_one, spares};
 ghost use Rattle.combine_combinator_function.specs.ChangeParsers.{changed_of, changed_part, change_part};
 
 use combine_base::error::{ErrorOffset, ParseResult, Tracked};
@@ -52,7 +52,7 @@ pub trait ValueChange<Input: Stream, A> {
         ensures passes { Passes (Input.marks input.old) (Input.marks input.new) (Input.failures input.old) (Input.failures input.new) }
         ensures view { Input.view input.new ≡ Input.view input.old }
         ensures failures { Input.failures input.new ≡ Input.failures input.old }
-        ensures changes { Changes Input.Error.seen (gives self.now (Input.view input.old).position value) (denies self.now value) (starves self.now value) (says self.now began value) result };
+        ensures changes { Changes Input.Error.observers (gives self.now (Input.view input.old).position value) (denies self.now value) (starves self.now value) (says self.now began value) result };
 
     /// Returns as how many parsers a parser counts, of whose part that is the count.
     fn count(part: ErrorOffset) -> ErrorOffset
@@ -97,7 +97,7 @@ impl<Input: Stream, P: Parser<Input>, B: Drop, C: ValueChange<Input, P::Output, 
 
     ghost valid = { P.valid };
 
-    ghost meaning = { λ p. changed Input.step (C.gives (change_part p)) (C.denies (change_part p)) (C.says (change_part p)) (GivesOnly P.valid (P.meaning (changed_part p)) (spares (C.starves (change_part p)))) (P.meaning (changed_part p)) };
+    ghost meaning = { λ p. changed_meaning Input.step (C.gives (change_part p)) (C.denies (change_part p)) (C.says (change_part p)) (GivesOnly P.valid (P.meaning (changed_part p)) (spares (C.starves (change_part p)))) (P.meaning (changed_part p)) };
 
     ghost parts = { λ p. C.counted (P.parts (changed_part p)) };
 

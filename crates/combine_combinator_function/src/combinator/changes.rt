@@ -2,7 +2,7 @@
 ghost use Rattle.std.specs.Prelude.{◌≡◌, ◌⊎◌, Result, Ok, Err};
 ghost use Rattle.std.specs.Str.{IsUtf8};
 ghost use Rattle.combine_base.specs.declared.stream.Kind.TheVariants as kinds;
-ghost use Rattle.combine_combinator_function.specs.Changes.{AnsweredItem, AnsweredKind, ErrorKinds, GivesAt, InPlace, ItemKinds, MadeOf, MadeSaying, Misread, unreadable};
+ghost use Rattle.combine_combinator_function.specs.Changes.{AnsweredItem, AnsweredKind, ErrorKinds, GivesAt, AnswerLeavesStream, ItemKinds, MadeOf, MadeSaying, Misread, unreadable};
 
 use super::changed::ValueChange;
 use super::text::StrLike;
@@ -19,13 +19,13 @@ impl<Input: Stream, A, B: Drop, F: Fn(A) -> Result<B, Input::Error>> ValueChange
     for FlatMapFn<F> {
     type Output = B;
 
-    ghost callable = { λ f a. F.pre f.0 a × ErrorKinds Input.Error.seen.kind (F.post f.0 a) };
+    ghost callable = { λ f a. F.pre f.0 a × ErrorKinds Input.Error.observers.kind (F.post f.0 a) };
 
     ghost gives = { λ f at a b. F.post f.0 a (Ok b) };
 
-    ghost denies = { λ f a. AnsweredKind Input.Error.seen.kind (F.post f.0) kinds.Refused a };
+    ghost denies = { λ f a. AnsweredKind Input.Error.observers.kind (F.post f.0) kinds.Refused a };
 
-    ghost starves = { λ f a. AnsweredKind Input.Error.seen.kind (F.post f.0) kinds.Memory a };
+    ghost starves = { λ f a. AnsweredKind Input.Error.observers.kind (F.post f.0) kinds.Memory a };
 
     ghost says = { λ f at a e. F.post f.0 a (Err e) };
 
@@ -74,7 +74,7 @@ where
 
     ghost starves = { λ f a. AnsweredItem Input.Error.StreamError.kind (F.post f.0) E.converts kinds.Memory a };
 
-    ghost says = { λ f at a. MadeOf Input.Error.seen Input.Error.StreamError.items (F.post f.0) E.converts at a };
+    ghost says = { λ f at a. MadeOf Input.Error.observers Input.Error.StreamError.items (F.post f.0) E.converts at a };
 
     ghost counted = { λ n. n };
 
@@ -110,7 +110,7 @@ pub struct MapInputFn<F>(pub(super) F);
 impl<Input: Stream, A, B: Drop, F: Fn(A, &mut Input) -> B> ValueChange<Input, A> for MapInputFn<F> {
     type Output = B;
 
-    ghost callable = { λ f a. ((i : _) → F.pre f.0 a i) × InPlace Input.view Input.marks Input.failures (λ i b l. F.post f.0 a i b l) };
+    ghost callable = { λ f a. ((i : _) → F.pre f.0 a i) × AnswerLeavesStream Input.view Input.marks Input.failures (λ i b l. F.post f.0 a i b l) };
 
     ghost gives = { λ f. GivesAt Input.view (λ a i b l. F.post f.0 a i b l) };
 
@@ -158,7 +158,7 @@ where
 
     ghost starves = { λ f a. ⊥ };
 
-    ghost says = { λ f at a. MadeSaying Input.Error.seen (unreadable T.from_str_gives (A.bytes a)) at };
+    ghost says = { λ f at a. MadeSaying Input.Error.observers (unreadable T.from_str_gives (A.bytes a)) at };
 
     ghost counted = { λ n. 1 };
 

@@ -62,7 +62,7 @@ impl<Input: Stream, V: Drop> Parser<Input>
 
     ghost valid = { λ s. Unit {0} };
 
-    ghost meaning = { λ p. refuses_all Input.Error.seen (Only (SaysUnexpected (shown (unexpected_info p)))) };
+    ghost meaning = { λ p. refuses_all Input.Error.observers (Only (SaysUnexpected (shown (unexpected_info p)))) };
 
     ghost parts = { λ p. 1 };
 

@@ -105,13 +105,13 @@ impl<Input: Stream, C: Call<Input>> Outputs<Input> for Called<Input, C> {
 impl<Input: Stream, C: Call<Input>> Parser<Input> for Called<Input, C> {
     type PartialState = ();
 
-    ghost lawful = { λ p. C.callable (call_of p) × IsFunction Input.step Input.Error.seen.kind Input.view (C.answers (call_of p)) Input.marks Input.failures Input.steady };
+    ghost lawful = { λ p. C.callable (call_of p) × IsFunction Input.step Input.Error.observers.kind Input.view (C.answers (call_of p)) Input.marks Input.failures Input.counts_failures };
 
-    ghost determined = { λ p. IsSingle (FunctionReading Input.step Input.Error.seen.kind Input.view (C.answers (call_of p))) };
+    ghost determined = { λ p. IsSingle (FunctionReading Input.step Input.Error.observers.kind Input.view (C.answers (call_of p))) };
 
     ghost valid = { λ s. Unit {0} };
 
-    ghost meaning = { λ p. as_function Input.step Input.Error.seen.kind Input.view (C.answers (call_of p)) (C.infallible (call_of p) × NeedsNoMemory Input.step Input.Error.seen.kind Input.view (C.answers (call_of p))) };
+    ghost meaning = { λ p. as_function Input.step Input.Error.observers.kind Input.view (C.answers (call_of p)) (C.infallible (call_of p) × NeedsNoMemory Input.step Input.Error.observers.kind Input.view (C.answers (call_of p))) };
 
     ghost parts = { λ p. 1 };
 
@@ -154,7 +154,7 @@ impl<Input: Stream, C: Call<Input>> Parser<Input> for Called<Input, C> {
 
     ghost default_valid = { λ s d. tt };
 
-    ghost laws = { λ p l. as_function_is_meaning Input.step Input.Error.seen.kind Input.view (C.answers (call_of p)) _ _ _ };
+    ghost laws = { λ p l. as_function_is_meaning Input.step Input.Error.observers.kind Input.view (C.answers (call_of p)) _ _ _ };
 
-    ghost single = { λ p l d. as_function_means_one Input.step Input.Error.seen.kind Input.view (C.answers (call_of p)) _ _ d };
+    ghost single = { λ p l d. as_function_means_one Input.step Input.Error.observers.kind Input.view (C.answers (call_of p)) _ _ d };
 }

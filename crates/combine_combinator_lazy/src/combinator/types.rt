@@ -1,9 +1,9 @@
 //! The parsers that the functions of this module return.
 ghost use Rattle.std.specs.Prelude.{◌≡◌};
-ghost use Rattle.combine_base.specs.Error.Errors.{Nothing};
+ghost use Rattle.combine_base.specs.Error.Errors.{AddsNothing};
 ghost use Rattle.combine_base.specs.Parser.KeptParsers.{KeptOf};
 ghost use Rattle.combine_base.specs.Stream.View.{View};
-ghost use Rattle.combine_combinator_lazy.specs.MadeParsers.{Adds, InPlace, MadeAt, MakesOne, at_any, at_any_lasts, by_factory, by_lazy, factory_maker, is_unmade_valid, lazy_maker, made, made_at_lasts, made_is_meaning, made_means_one, valid_made};
+ghost use Rattle.combine_combinator_lazy.specs.MadeParsers.{Adds, MakerLeavesStream, MadeAt, MakesOne, at_any, at_any_lasts, by_factory, by_lazy, factory_maker, is_unmade_valid, lazy_maker, made_meaning, made_at_lasts, made_is_meaning, made_means_one, valid_made};
 
 pub use super::made::{Made, MadeState};
 use super::made::{make_and_run, resume_made, run_made};
@@ -88,7 +88,7 @@ impl<Input: Stream, N: Parser<Input> + Drop, F: Fn() -> N> Parser<Input> for Laz
 
     ghost valid = { valid_made (KeptOf N.lawful N.meaning (by_lazy F.Fn N.lawful)) N.valid };
 
-    ghost meaning = { λ p. made (at_any (F.post (lazy_maker p))) (by_lazy F.Fn N.lawful) N.meaning (Adds (F.post (lazy_maker p)) N.meaning) };
+    ghost meaning = { λ p. made_meaning (at_any (F.post (lazy_maker p))) (by_lazy F.Fn N.lawful) N.meaning (Adds (F.post (lazy_maker p)) N.meaning) };
 
     ghost parts = { λ p. 1 };
 
@@ -144,13 +144,13 @@ where
 impl<Input: Stream, N: Parser<Input> + Drop, F: Fn(&mut Input) -> N> Parser<Input> for Factory<F> {
     type PartialState = MadeState<N, N::PartialState>;
 
-    ghost lawful = { λ p. F.IsAlwaysCallable (factory_maker p) × InPlace Input.view Input.marks Input.failures (λ i n l. F.post (factory_maker p) i n l) × ((v : View Input.Position Input.Token) (n : N) → MadeAt Input.view (λ i n l. F.post (factory_maker p) i n l) v n → N.lawful n) };
+    ghost lawful = { λ p. F.IsAlwaysCallable (factory_maker p) × MakerLeavesStream Input.view Input.marks Input.failures (λ i n l. F.post (factory_maker p) i n l) × ((v : View Input.Position Input.Token) (n : N) → MadeAt Input.view (λ i n l. F.post (factory_maker p) i n l) v n → N.lawful n) };
 
     ghost determined = { λ p. ((n : N) → by_factory Input.view Input.marks Input.failures F.Fn N.lawful n → N.determined n) × MakesOne (MadeAt Input.view (λ i n l. F.post (factory_maker p) i n l)) (λ n. (N.meaning n).whole) };
 
     ghost valid = { valid_made (KeptOf N.lawful N.meaning (by_factory Input.view Input.marks Input.failures F.Fn N.lawful)) N.valid };
 
-    ghost meaning = { λ p. made (MadeAt Input.view (λ i n l. F.post (factory_maker p) i n l)) (by_factory Input.view Input.marks Input.failures F.Fn N.lawful) N.meaning Nothing };
+    ghost meaning = { λ p. made_meaning (MadeAt Input.view (λ i n l. F.post (factory_maker p) i n l)) (by_factory Input.view Input.marks Input.failures F.Fn N.lawful) N.meaning AddsNothing };
 
     ghost parts = { λ p. 1 };
 

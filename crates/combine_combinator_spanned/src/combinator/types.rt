@@ -14,7 +14,7 @@ pub struct Spanned<P>(pub(super) P);
 // Makes an error that stands at one position stand at that span.
 #[inline]
 fn set_span<T, R, Q: Ord + Copy, E: DetailedError<T, R, Span<Q>>>(error: &mut E, span: Span<Q>)
-    ensures { Spans Q.cmp E.seen span error.old error.new }
+    ensures { Spans Q.cmp E.observers span error.old error.new }
 {
     if let Some(place) = error.position() {
         if place.start.cmp(&place.end).is_eq() {
@@ -29,7 +29,7 @@ fn at_span<O, T, R, Q: Ord + Copy, E: DetailedError<T, R, Span<Q>>>(
     answer: ParseResult<O, E>,
     span: Span<Q>,
 ) -> ParseResult<O, E>
-    ensures { SpansAnswer Q.cmp E.seen span answer result }
+    ensures { SpansAnswer Q.cmp E.observers span answer result }
 {
     match answer {
         ParseResult::CommitErr(error) => {
@@ -64,15 +64,15 @@ where
 
     ghost valid = { P.valid };
 
-    ghost meaning = { λ p. spanned Q.cmp Input.Error.seen Input.step (P.meaning (spanned_part p)) };
+    ghost meaning = { λ p. spanned Q.cmp Input.Error.observers Input.step (P.meaning (spanned_part p)) };
 
     ghost parts = { λ p. 1 };
 
     ghost default_valid = { P.default_valid };
 
-    ghost laws = { λ p l. spanned_is_meaning Q.cmp Input.Error.seen Input.step (P.laws (spanned_part p) l) };
+    ghost laws = { λ p l. spanned_is_meaning Q.cmp Input.Error.observers Input.step (P.laws (spanned_part p) l) };
 
-    ghost single = { λ p l d. spanned_means_one Q.cmp Input.Error.seen Input.step (P.single (spanned_part p) l d) };
+    ghost single = { λ p l d. spanned_means_one Q.cmp Input.Error.observers Input.step (P.single (spanned_part p) l d) };
 
     #[inline(always)]
     fn parse_mode<M: ParseMode>(

@@ -5,7 +5,7 @@ ghost use Rattle.combine_base.specs.Parser.Outcome.{Outcome};
 ghost use Rattle.combine_base.specs.Stream.View.{View};
 ghost use Rattle.combine_decode.specs.Frames.{frame_of, framed};
 ghost use Rattle.combine_decode.specs.MessageLaws.{AreOne, CutsAgree, GoOn};
-ghost use Rattle.combine_decode.specs.Messages.{IsMade, SharesMeaning, made};
+ghost use Rattle.combine_decode.specs.Messages.{IsMade, SharesMeaning, made_reading};
 
 use crate::decode::types::Frame;
 use combine_base::error::ParseError;
@@ -16,7 +16,7 @@ use std::alloc::Global;
 /// The law that the messages of tokens with more after them begin with those of the tokens, and go on with those of what was left and the rest.
 pub fn messages_go_on<F: Fn() -> P, P: Parser<fed::Stream<T>>, T: Copy + 'static>(maker: &F)
     requires { IsMade (F.post maker.now) P.lawful }
-    ensures { GoOn (made P.meaning (F.post maker.now)) }
+    ensures { GoOn (made_reading P.meaning (F.post maker.now)) }
 {}
 
 /// The law that tokens have one division into messages, and one end, where the maker's parsers share one meaning that has one outcome.
@@ -26,7 +26,7 @@ pub fn messages_are_one<F: Fn() -> P, P: Parser<fed::Stream<T>>, T: Copy + 'stat
     requires lawful { IsMade (F.post maker.now) P.lawful }
     requires determined { IsMade (F.post maker.now) P.determined }
     requires shared { SharesMeaning P.meaning (F.post maker.now) }
-    ensures { AreOne (made P.meaning (F.post maker.now)) }
+    ensures { AreOne (made_reading P.meaning (F.post maker.now)) }
 {}
 
 /// The law that however the same tokens are cut into pieces, there are as many messages, and the same end, where the maker's parsers share one meaning that has one outcome.
@@ -34,7 +34,7 @@ pub fn cuts_agree<F: Fn() -> P, P: Parser<fed::Stream<T>>, T: Copy + 'static>(ma
     requires lawful { IsMade (F.post maker.now) P.lawful }
     requires determined { IsMade (F.post maker.now) P.determined }
     requires shared { SharesMeaning P.meaning (F.post maker.now) }
-    ensures { CutsAgree (made P.meaning (F.post maker.now)) }
+    ensures { CutsAgree (made_reading P.meaning (F.post maker.now)) }
 {}
 
 /// The law that the value of `frame` is exactly the bytes after a length, as many as it says.

@@ -1,6 +1,6 @@
 //! Messages of pieces, decoded as one input.
 ghost use Rattle.std.specs.Prelude.{◌≡◌, ◌++◌, map, MatchResult};
-ghost use Rattle.combine_decode.specs.Messages.{IsMade, made};
+ghost use Rattle.combine_decode.specs.Messages.{IsMade, made_reading};
 ghost use Rattle.combine_decode.specs.DecodedPieces.{DecodesPieces, FeedsMore};
 
 use crate::decode::{Batch, BatchEnd, DecodeError, Decoder};
@@ -46,7 +46,7 @@ pub fn decode_pieces<F: Fn() -> P + Drop, P: Parser<fed::Stream<T>> + Drop, T: C
 ) -> Result<Batch<P::Output>, DecodeError>
     requires callable { F.IsAlwaysCallable maker }
     requires lawful { IsMade (F.post maker) P.lawful }
-    ensures { DecodesPieces (made P.meaning (F.post maker)) (map (λ p. p.now) pieces.now) result }
+    ensures { DecodesPieces (made_reading P.meaning (F.post maker)) (map (λ p. p.now) pieces.now) result }
 {
     let mut decoder = Decoder::new(alloc, maker);
     let mut messages = Vec::new(alloc);

@@ -1,7 +1,7 @@
 //! The driver whose errors keep items.
 ghost use Rattle.combine_base.specs.Parser.Meaning.{IsSingle, MeansSame};
 ghost use Rattle.combine_base.specs.Parser.AnswersCalls.{ParsesCall};
-ghost use Rattle.combine_error.specs.Easy.{listed};
+ghost use Rattle.combine_error.specs.Easy.{listed_errors};
 
 use crate::easy::{Errors, Stream as EasyStream};
 use combine_base::parser::Parser;
@@ -51,7 +51,7 @@ where
         ensures lawful { Self.lawful self.new }
         ensures same { MeansSame (Self.meaning self.old) (Self.meaning self.new) }
         ensures single { Self.determined self.old → IsSingle (Self.meaning self.old).whole }
-        ensures results { ParsesCall S.StreamOnce (listed S.Token.eq S.Range.eq) Self.PartialState.is_default (Self.meaning self.old) input result }
+        ensures results { ParsesCall S.StreamOnce (listed_errors S.Token.eq S.Range.eq) Self.PartialState.is_default (Self.meaning self.old) input result }
     {
         match self.parse(EasyStream::new(alloc, input)) {
             Ok((value, left)) => Ok((value, left.into_inner())),

@@ -1,8 +1,8 @@
 //! An expression that isn't over: the operators that wait for operands, and the operand that they wait for.
 ghost use Rattle.std.specs.Prelude.{◌≡◌, [], ◌∷◌, ◌++◌, MatchResult, None, length, reverse, slice_get, vec_items};
-ghost use Rattle.combine_expression.specs.Levels.{Expression, Infix, Operand, Postfix, Prefix};
+ghost use Rattle.combine_expression.specs.Levels.{IsExpression, Infix, Operand, Postfix, Prefix};
 ghost use Rattle.combine_expression.specs.Shapes.{fits_behind, fits_in_front, sides_of};
-ghost use Rattle.combine_expression.specs.OpenExpressions.{EndsEarly, Follows, Holds, Misfits, Reduced, ReducedAbove, StandsIn, asked, blames, makes_of, operator_refuses};
+ghost use Rattle.combine_expression.specs.OpenExpressions.{EndsEarly, AddsThing, HoldsOperand, Misfits, Reduced, ReducedAbove, StandsIn, asked_level, blames, makes_of, operator_refuses};
 
 use super::{Fixity, Operator};
 use std::alloc::{AllocError, Global};
@@ -79,7 +79,7 @@ fn fixity_at(levels: &[Fixity], level: usize) -> Option<Fixity>
 
 /// Returns whether an operator of a level is a prefix operator that fits where such a level is asked for.
 fn is_prefix(levels: &[Fixity], asked: usize, level: usize) -> bool
-    ensures { result ≡ fits_in_front (slice_get levels.now level) asked level }
+    ensures { result ≡ fits_in_front (slice_get levels.now level) asked_level level }
 {
     let Some(fixity) = fixity_at(levels, level) else {
         return false;
@@ -126,7 +126,7 @@ fn sides(levels: &[Fixity], level: usize) -> Option<Lowest>
 
 /// Returns the lowest level that the awaited operand may have.
 fn asked_by<O, V>(pending: &Vec<Pending<O, V>>) -> usize
-    ensures { result ≡ asked (reverse (vec_items pending.now)) }
+    ensures { result ≡ asked_level (reverse (vec_items pending.now)) }
 {
     match pending.as_slice().last() {
         Some(innermost) => innermost.asks,
@@ -202,7 +202,7 @@ fn reduce_all<O: Operator>(
     pending: Vec<Pending<O, O::Value>>,
     held: Held<O::Value>,
 ) -> Result<O::Value, Fault>
-    ensures { MatchResult result (λ v. (levels : _) (ts : _) → Holds levels O.changes O.joins (reverse (vec_items pending)) held ts → Expression levels O.changes O.joins 0 ts v) (blames O.refuses_operand O.refuses_operands ⊥) }
+    ensures { MatchResult result (λ v. (levels : _) (ts : _) → HoldsOperand levels O.changes O.joins (reverse (vec_items pending)) held ts → IsExpression levels O.changes O.joins 0 ts v) (blames O.refuses_operand O.refuses_operands ⊥) }
 {
     let mut pending = pending;
     let mut held = held;
@@ -230,7 +230,7 @@ impl<O, V, const N: usize> Operands<O, V, N> {
 impl<O: Operator, const N: usize> Operands<O, O::Value, N> {
     /// Reads the operand that is awaited.
     pub(super) fn operand(self, value: O::Value) -> Result<Self, Fault>
-        ensures { MatchResult result (λ r. Follows O.changes O.joins self r (Operand value)) (blames O.refuses_operand O.refuses_operands (Misfits O.changes O.joins self (Operand value))) }
+        ensures { MatchResult result (λ r. AddsThing O.changes O.joins self r (Operand value)) (blames O.refuses_operand O.refuses_operands (Misfits O.changes O.joins self (Operand value))) }
     {
         let Operands {
             levels,
@@ -250,7 +250,7 @@ impl<O: Operator, const N: usize> Operands<O, O::Value, N> {
 
     /// Reads a prefix operator in front of the operand that is awaited.
     pub(super) fn prefix(self, level: usize, operator: O) -> Result<Self, Fault>
-        ensures { MatchResult result (λ r. Follows O.changes O.joins self r (Prefix level operator)) (blames O.refuses_operand O.refuses_operands (Misfits O.changes O.joins self (Prefix level operator))) }
+        ensures { MatchResult result (λ r. AddsThing O.changes O.joins self r (Prefix level operator)) (blames O.refuses_operand O.refuses_operands (Misfits O.changes O.joins self (Prefix level operator))) }
     {
         let Operands {
             levels,
@@ -281,7 +281,7 @@ impl<O: Operator, const N: usize> Operands<O, O::Value, N> {
 
     /// Reads an infix operator after an operand.
     pub(super) fn infix(self, level: usize, operator: O) -> Result<Self, Fault>
-        ensures { MatchResult result (λ r. Follows O.changes O.joins self r (Infix level operator)) (blames O.refuses_operand O.refuses_operands (Misfits O.changes O.joins self (Infix level operator))) }
+        ensures { MatchResult result (λ r. AddsThing O.changes O.joins self r (Infix level operator)) (blames O.refuses_operand O.refuses_operands (Misfits O.changes O.joins self (Infix level operator))) }
     {
         let Operands {
             levels,
@@ -316,7 +316,7 @@ impl<O: Operator, const N: usize> Operands<O, O::Value, N> {
 
     /// Reads a postfix operator after an operand.
     pub(super) fn postfix(self, level: usize, operator: O) -> Result<Self, Fault>
-        ensures { MatchResult result (λ r. Follows O.changes O.joins self r (Postfix level operator)) (blames O.refuses_operand O.refuses_operands (Misfits O.changes O.joins self (Postfix level operator))) }
+        ensures { MatchResult result (λ r. AddsThing O.changes O.joins self r (Postfix level operator)) (blames O.refuses_operand O.refuses_operands (Misfits O.changes O.joins self (Postfix level operator))) }
     {
         let Operands {
             levels,
@@ -346,7 +346,7 @@ impl<O: Operator, const N: usize> Operands<O, O::Value, N> {
 
     /// Returns the value, where nothing more follows.
     pub(super) fn close(self) -> Result<O::Value, Fault>
-        ensures { MatchResult result (λ v. (ts : _) → StandsIn O.changes O.joins self ts → Expression self.levels O.changes O.joins 0 ts v) (blames O.refuses_operand O.refuses_operands (EndsEarly O.changes O.joins self)) }
+        ensures { MatchResult result (λ v. (ts : _) → StandsIn O.changes O.joins self ts → IsExpression self.levels O.changes O.joins 0 ts v) (blames O.refuses_operand O.refuses_operands (EndsEarly O.changes O.joins self)) }
     {
         let Operands {
             levels: _,

@@ -1,6 +1,6 @@
 //! What an expression's parser is made of.
 ghost use Rattle.std.specs.Prelude.{◌≡◌, MatchResult};
-ghost use Rattle.combine_expression.specs.ExpressionParts.{Begins, MakesOutermost, closed_as, part_joins, part_takes, stayed_as};
+ghost use Rattle.combine_expression.specs.ExpressionParts.{BeginsPart, MakesOutermost, closed_as, part_joins, part_takes, stayed_as};
 
 use super::operands::{Fault, Operands};
 use super::{Fixity, Item, Operator};
@@ -27,7 +27,7 @@ pub struct Part<O, V, const N: usize> {
 
 impl<O: Drop, V: Drop, const N: usize> Part<O, V, N> {
     fn new(alloc: Global, levels: [Fixity; N], in_brackets: bool) -> Part<O, V, N>
-        ensures { Begins levels.entry in_brackets result }
+        ensures { BeginsPart levels.entry in_brackets result }
     {
         Part {
             alloc,
@@ -147,7 +147,7 @@ impl<O: Drop, V: Drop, const N: usize> Makes for Outermost<O, V, N> {
 
     ghost callable = { λ _. Unit {0} };
 
-    ghost makes = { λ r p. Begins r.levels false p };
+    ghost makes = { λ r p. BeginsPart r.levels false p };
 
     #[inline]
     fn make(&self) -> Part<O, V, N> {

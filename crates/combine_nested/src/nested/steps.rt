@@ -1,7 +1,7 @@
 //! One step's parser, run, and what becomes of the frames.
 ghost use Rattle.std.specs.Prelude.{◌≡◌, ◌||◌, true, MatchResult, reverse, vec_items};
-ghost use Rattle.combine_nested.specs.NestedSteps.{around, begins_steps, settles};
-ghost use Rattle.combine_nested.specs.StepCalls.{CalledStep, Denies, TakesItem, ends_of, item_did};
+ghost use Rattle.combine_nested.specs.NestedSteps.{frames_around, begins_steps, settles_frames};
+ghost use Rattle.combine_nested.specs.StepCalls.{CalledStep, Denies, TakesItem, ends_of, step_item_did};
 
 use super::{Frame, Next};
 use combine_base::error::{ParseResult, Tracked, accepted_after, refused_after};
@@ -74,7 +74,7 @@ pub(super) fn settle<F: Frame>(
     outer: Vec<F>,
     next: Next<F, F::Value>,
 ) -> Result<Settled<F, F::Value>, AllocError>
-    ensures { MatchResult result (λ r. settles depth F.joins (reverse (vec_items outer)) next (ends_of r)) (λ _. Unit {0}) }
+    ensures { MatchResult result (λ r. settles_frames depth F.joins (reverse (vec_items outer)) next (ends_of r)) (λ _. Unit {0}) }
 {
     let mut outer = outer;
     let mut next = next;
@@ -105,7 +105,7 @@ fn take_item<F: Frame>(
     frames: Frames<F>,
     item: F::Item,
 ) -> Result<Settled<F, F::Value>, AllocError>
-    ensures { MatchResult result (λ r. TakesItem depth F.takes F.joins frames.top (around frames) item (ends_of r)) (λ _. Unit {0}) }
+    ensures { MatchResult result (λ r. TakesItem depth F.takes F.joins frames.top (frames_around frames) item (ends_of r)) (λ _. Unit {0}) }
 {
     let Frames { top, outer } = frames;
     settle(depth, outer, top.take(item)?)
@@ -125,7 +125,7 @@ fn denied<V, Input: Stream>(
     committed: bool,
     message: &'static str,
 ) -> ParseResult<V, Input::Error>
-    ensures { Denies Input.Error.seen position message.now committed result }
+    ensures { Denies Input.Error.observers position message.now committed result }
 {
     let error = refusal_saying(input, position, message);
     if committed {
@@ -144,7 +144,7 @@ fn finish_step<Input: Stream, F: Frame>(
     committed: bool,
     took: bool,
 ) -> Did<F, F::Value, Input::Error>
-    ensures { item_did depth F.takes F.joins Input.Error.seen position frames committed took item result }
+    ensures { step_item_did depth F.takes F.joins Input.Error.observers position frames committed took item result }
 {
     let before = frames.outer.len();
     match take_item(depth, frames, item) {
@@ -183,7 +183,7 @@ pub(super) fn run_step<
     requires ready { ⟦<N as Calls<Input>>⟧.ready from.parser from.state }
     requires starts { M.first mode ≡ true → N.PartialState.is_default from.state }
     requires fresh { begins_steps state.old }
-    ensures { CalledStep N.Parser Input.StreamOnce Input.Error.seen N.PartialState.is_default depth F.takes F.joins input.old input.new from state.new result }
+    ensures { CalledStep N.Parser Input.StreamOnce Input.Error.observers N.PartialState.is_default depth F.takes F.joins input.old input.new from state.new result }
 {
     let RunningStep {
         frames,

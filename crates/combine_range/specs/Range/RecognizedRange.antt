@@ -2,45 +2,45 @@
 use Rattle.std.specs.Prelude.{ℕ, ◌+◌, ◌<◌, ◌≤◌, ◌≡◌, ◌++◌, Bool, true, false, nat_lt, List, length, take, refl, ◌↔◌}
 use Rattle.std.proofs.Common.{arith, ap, sym, subst, ◌∙◌, length-drop, ltb-false}
 use Rattle.std.proofs.lemmas.List.{take-append-le}
-use Rattle.combine_base.specs.Error.Errors.{Errors}
+use Rattle.combine_base.specs.Error.Errors.{Observers}
 use Rattle.combine_base.specs.Stream.View.{View, advanced, extended}
 use Rattle.combine_base.specs.Stream.Advance.{advanced_extended}
 use Rattle.combine_base.specs.Parser.Outcome.{Outcome, Accepted, Refused, Undecided, shape, IsDecided}
 use Rattle.combine_base.specs.Parser.Meaning.{Meaning, Reading, IsReading, IsSingle, IsMeaning, MeansOne, MeansSame}
-use Rattle.combine_stream.specs.Range.Ranges.{size_of, Place, Inside, one_place, place_stays, inside_stays}
+use Rattle.combine_stream.specs.Range.Ranges.{size_of, IsItemPlace, EndsInsideToken, one_place, place_stays, inside_stays}
 use Rattle.combine_base.specs.declared.error.ParseResult.{ParseResult}
 use Rattle.combine_base.specs.declared.error.ParseResult.TheVariants.{CommitOk, PeekOk, CommitErr, PeekErr}
 use Rattle.combine_range.specs.RangeReasons.{RefusesResumed, resumed_at_start, resumed_same}
 use Rattle.combine_range.specs.declared.range.recognized.RecognizeState.{RecognizeState}
 
 -- a default state: no distance is kept, and the part's state is a default one
-abbrev pub IsFresh : {S : Type 0} → (S → Type 0) → RecognizeState S → Type 0
-IsFresh fresh s = (s.distance ≡ 0) × fresh s.part
+abbrev pub IsFreshRecognizing : {S : Type 0} → (S → Type 0) → RecognizeState S → Type 0
+IsFreshRecognizing fresh s = (s.distance ≡ 0) × fresh s.part
 
 -- the part's state is valid
-abbrev pub HasValid : {S : Type 0} → (S → Type 0) → RecognizeState S → Type 0
-HasValid valid s = valid s.part
+abbrev pub HasValidRecognizing : {S : Type 0} → (S → Type 0) → RecognizeState S → Type 0
+HasValidRecognizing valid s = valid s.part
 
 module _ {P T : Type 0} (size : T → ℕ) (step : P → T → P) where
   -- the kept distance is longer than the input, or the part's own is
-  pub data Loses (d : ℕ) (lost : View P T → Type 0) (v : View P T) : Type 0 where
-    Short : (short : size_of size v.unread < d) → Loses d lost v
-    Deeper : (k : ℕ) (place : Place size v.unread d k) (deeper : lost (advanced step k v)) → Loses d lost v
+  pub data LosesRecognizing (d : ℕ) (lost : View P T → Type 0) (v : View P T) : Type 0 where
+    Short : (short : size_of size v.unread < d) → LosesRecognizing d lost v
+    Deeper : (k : ℕ) (place : IsItemPlace size v.unread d k) (deeper : lost (advanced step k v)) → LosesRecognizing d lost v
 
-  loses_into : (d : ℕ) (l l' : View P T → Type 0) → ((v : View P T) → l v → l' v) → (v : View P T) → Loses d l v → Loses d l' v
+  loses_into : (d : ℕ) (l l' : View P T → Type 0) → ((v : View P T) → l v → l' v) → (v : View P T) → LosesRecognizing d l v → LosesRecognizing d l' v
   loses_into d l l' i v (Short p) = Short p
   loses_into d l l' i v (Deeper k p q) = Deeper k p (i _ q)
 
-  never_lost : (d : ℕ) (l : View P T → Type 0) → ((v : View P T) → l v → ⊥) → (v : View P T) → d ≡ 0 → Loses d l v → ⊥
+  never_lost : (d : ℕ) (l : View P T → Type 0) → ((v : View P T) → l v → ⊥) → (v : View P T) → d ≡ 0 → LosesRecognizing d l v → ⊥
   never_lost d l i v e (Short p) = omega arith
   never_lost d l i v e (Deeper k p q) = i _ q
 
 -- an answer with a value beside its own
-abbrev pub beside : {R V E : Type 0} → V → ParseResult R E → ParseResult (R × V) E
-beside value (CommitOk q) = CommitOk (q, value)
-beside value (PeekOk q) = PeekOk (q, value)
-beside value (CommitErr e) = CommitErr e
-beside value (PeekErr t) = PeekErr t
+abbrev pub beside_value : {R V E : Type 0} → V → ParseResult R E → ParseResult (R × V) E
+beside_value value (CommitOk q) = CommitOk (q, value)
+beside_value value (PeekOk q) = PeekOk (q, value)
+beside_value value (CommitErr e) = CommitErr e
+beside_value value (PeekErr t) = PeekErr t
 
 abbrev pub slice_shape : ℕ → Outcome (Unit {0}) → Outcome (Unit {0})
 slice_shape n (Accepted a m c) = Accepted tt (n + m) (nat_lt 0 (n + m))
@@ -60,18 +60,18 @@ module _ {P T V R : Type 0} (size : T → ℕ) (spells : R → List T → Type 0
   sliced us n Undecided (Refused e) = ⊥
   sliced us n Undecided Undecided = Unit {0}
 
-  pub record Goes (d : ℕ) (r : Reading P T V) (v : View P T) (o : Outcome (R × V)) : Type 0 where
+  pub record RecognizesOn (d : ℕ) (r : Reading P T V) (v : View P T) (o : Outcome (R × V)) : Type 0 where
     pub before : ℕ
-    pub place : Place size v.unread d before
+    pub place : IsItemPlace size v.unread d before
     pub inner : Outcome V
     pub meant : r (advanced step before v) inner
     pub is : sliced v.unread before inner o
 
   -- d items are passed over first; where there are fewer there is no outcome
   pub data Recognizes (d : ℕ) (r : Reading P T V) (v : View P T) (o : Outcome (R × V)) : Type 0 where
-    On : (goes : Goes d r v o) → Recognizes d r v o
+    On : (goes : RecognizesOn d r v o) → Recognizes d r v o
     -- the kept distance ends inside a token: no call keeps such a one
-    Split : (split : Inside size v.unread d) (is : o ≡ Refused false) → Recognizes d r v o
+    Split : (split : EndsInsideToken size v.unread d) (is : o ≡ Refused false) → Recognizes d r v o
 
   shape_of : (us : List T) (n : ℕ) (i : Outcome V) (o : Outcome (R × V)) → sliced us n i o → shape o ≡ slice_shape n (shape i)
   shape_of us n (Accepted a m c) (Accepted p k e) h = let x = h.2 in let y = h.3 in rw (y, x) refl
@@ -102,7 +102,7 @@ module _ {P T V R : Type 0} (size : T → ℕ) (spells : R → List T → Type 0
   decided_in us n Undecided Undecided h d = d
 
   module _ (filled : (t : T) → 0 < size t) (d : ℕ) (r : Reading P T V) where
-    goes_within : IsReading r → (v : View P T) (p : R × V) (k : ℕ) (e : Bool) → Goes d r v (Accepted p k e) → k ≤ length v.unread
+    goes_within : IsReading r → (v : View P T) (p : R × V) (k : ℕ) (e : Bool) → RecognizesOn d r v (Accepted p k e) → k ≤ length v.unread
     goes_within h v p k e g =
         let i = accepted_in v.unread g.before g.inner p k e g.is in
         let z = h.within (advanced step g.before v) p.1 i.0 i.1 (subst (r (advanced step g.before v)) i.2 g.meant) in
@@ -121,8 +121,8 @@ module _ {P T V R : Type 0} (size : T → ℕ) (spells : R → List T → Type 0
     sliced_more us x n Undecided (Refused e) l h = absurd h
     sliced_more us x n Undecided Undecided l h = tt
 
-    sliced_stays : IsReading r → (v : View P T) (x : List T) (o : Outcome (R × V)) (g : Goes d r v o) → sliced (v.unread ++ x) g.before g.inner o
-    sliced_stays h v x o g = sliced_more v.unread x g.before g.inner o (λ p k e i. goes_within h v p k e (subst (Goes d r v) i g)) g.is
+    sliced_stays : IsReading r → (v : View P T) (x : List T) (o : Outcome (R × V)) (g : RecognizesOn d r v o) → sliced (v.unread ++ x) g.before g.inner o
+    sliced_stays h v x o g = sliced_more v.unread x g.before g.inner o (λ p k e i. goes_within h v p k e (subst (RecognizesOn d r v) i g)) g.is
 
     recognizes_ended : IsReading r → (v : View P T) → v.is_open ≡ false → Recognizes d r v Undecided → ⊥
     recognizes_ended h v e (On g) = h.ended (advanced step g.before v) e (subst (r (advanced step g.before v)) (undecided_in v.unread g.before g.inner g.is) g.meant)
@@ -167,22 +167,22 @@ module _ {P T V R : Type 0} (size : T → ℕ) (spells : R → List T → Type 0
   recognizes_both : (d : ℕ) (r r' : Reading P T V) → ((v : View P T) (o : Outcome V) → r v o ↔ r' v o) → (v : View P T) (o : Outcome (R × V)) → Recognizes d r v o ↔ Recognizes d r' v o
   recognizes_both d r r' i v o = (recognizes_into d r r' (λ v o. (i v o).0) v o, recognizes_into d r' r (λ v o. (i v o).1) v o)
 
-module _ {P T V R S E : Type 0} (errors : Errors T R P E) (size : T → ℕ) (spells : R → List T → Type 0) (step : P → T → P) where
+module _ {P T V R S E : Type 0} (errors : Observers T R P E) (size : T → ℕ) (spells : R → List T → Type 0) (step : P → T → P) where
   abbrev pub recognized : Meaning P T R E V S → Meaning P T R E (R × V) (RecognizeState S)
   recognized m = record {
     whole = Recognizes size spells step 0 m.whole;
     rest = λ s. Recognizes size spells step s.distance (m.rest s.part);
-    lost = λ s. Loses size step s.distance (m.lost s.part);
+    lost = λ s. LosesRecognizing size step s.distance (m.lost s.part);
     keeps = ⊥;
     puts_back = Unit {0};
-    lean = m.lean;
+    heapless = m.heapless;
     adds = m.adds;
     refuses = m.refuses;
     refuses_from = λ s. RefusesResumed errors size step (m.refuses_from s.part) s.distance;
   }
 
   module _ (filled : (t : T) → 0 < size t) where
-    pub recognized_is_meaning : (fresh valid : S → Type 0) (m : Meaning P T R E V S) → IsMeaning fresh valid m → IsMeaning (IsFresh fresh) (HasValid valid) (recognized m)
+    pub recognized_is_meaning : (fresh valid : S → Type 0) (m : Meaning P T R E V S) → IsMeaning fresh valid m → IsMeaning (IsFreshRecognizing fresh) (HasValidRecognizing valid) (recognized m)
     recognized_is_meaning fresh valid m h = record {
       whole = recognizes_is_reading size spells step filled 0 m.whole h.whole;
       rest = λ s k. recognizes_is_reading size spells step filled s.distance (m.rest s.part) (h.rest s.part k);
@@ -191,7 +191,7 @@ module _ {P T V R S E : Type 0} (errors : Errors T R P E) (size : T → ℕ) (sp
       reasons = λ s d. resumed_at_start errors size step filled (m.refuses_from s.part) m.refuses (h.reasons s.part d.1) s.distance d.0;
     }
 
-    pub recognized_means_one : (valid : S → Type 0) (m : Meaning P T R E V S) → MeansOne valid m → MeansOne (HasValid valid) (recognized m)
+    pub recognized_means_one : (valid : S → Type 0) (m : Meaning P T R E V S) → MeansOne valid m → MeansOne (HasValidRecognizing valid) (recognized m)
     recognized_means_one valid m h = record {
       whole = record { one = recognizes_one size spells step filled 0 m.whole h.whole };
       rest = λ s k. record { one = recognizes_one size spells step filled s.distance (m.rest s.part) (h.rest s.part k) };
@@ -204,7 +204,7 @@ module _ {P T V R S E : Type 0} (errors : Errors T R P E) (size : T → ℕ) (sp
     lost = λ s v. (loses_into size step s.distance (m.lost s.part) (m'.lost s.part) (λ v. (h.lost s.part v).0) v, loses_into size step s.distance (m'.lost s.part) (m.lost s.part) (λ v. (h.lost s.part v).1) v);
     keeps = (λ k. k, λ k. k);
     puts_back = (λ k. k, λ k. k);
-    lean = h.lean;
+    heapless = h.heapless;
     adds = h.adds;
     refuses = h.refuses;
     refuses_from = λ s. resumed_same errors size step (m.refuses_from s.part) (m'.refuses_from s.part) (h.refuses_from s.part) s.distance;

@@ -44,8 +44,8 @@ where
     Input::Range: Range,
     requires { (t : Input.Token) → F.callable test.now t }
     ensures passes { Passes (Input.marks input.old) (Input.marks input.new) (Input.failures input.old) (Input.failures input.new) }
-    ensures answers { AnswersCall Input.StreamOnce Input.Error.seen ⟦<Distance as Default>⟧.is_default (takes_beginning Input.Error.seen Input.size Input.spells (F.answers test.now) some) first state.old state.new input.old input.new result }
-    ensures refuses { ReasonedCall Input.Error.seen (takes_beginning Input.Error.seen Input.size Input.spells (F.answers test.now) some) first state.old (Input.view input.old) (Input.view input.new) result }
+    ensures answers { AnswersCall Input.StreamOnce Input.Error.observers ⟦<Distance as Default>⟧.is_default (takes_beginning Input.Error.observers Input.size Input.spells (F.answers test.now) some) first state.old state.new input.old input.new result }
+    ensures refuses { ReasonedCall Input.Error.observers (takes_beginning Input.Error.observers Input.size Input.spells (F.answers test.now) some) first state.old (Input.view input.old) (Input.view input.new) result }
 {
     let start = input.checkpoint();
     let position = input.position();
@@ -90,7 +90,7 @@ where
 
     ghost valid = { λ s. Unit {0} };
 
-    ghost meaning = { λ p. takes_beginning Input.Error.seen Input.size Input.spells (F.answers p.predicate) SOME };
+    ghost meaning = { λ p. takes_beginning Input.Error.observers Input.size Input.spells (F.answers p.predicate) SOME };
 
     ghost parts = { λ p. 1 };
 

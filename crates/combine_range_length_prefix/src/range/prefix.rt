@@ -31,7 +31,7 @@ where
 
     ghost starves = { λ c a. ⊥ };
 
-    ghost says = { λ c at a. MadeSaying Input.Error.seen (out_of_range A.try_into_gives a) at };
+    ghost says = { λ c at a. MadeSaying Input.Error.observers (out_of_range A.try_into_gives a) at };
 
     ghost counted = { λ n. n };
 

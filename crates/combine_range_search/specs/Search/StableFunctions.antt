@@ -4,8 +4,8 @@ use Rattle.std.proofs.Common.{ap, sym, subst, ◌∙◌}
 use Rattle.combine_base.specs.Stream.View.{View}
 use Rattle.combine_base.specs.Parser.Outcome.{Outcome, Accepted, Refused, Undecided}
 use Rattle.combine_stream.specs.Range.Ranges.{size_of}
-use Rattle.combine_range_search.specs.Search.TakeFn.{Answered, Went, asking, finds, found_now, misses, missing_now}
-use Rattle.combine_range_search.specs.Search.Searches.{Search, IsOneSearch, FoundAt, Missing, Beyond, Torn, Waits, Nowhere, Far, Unfit, Absent, Short, Inner, Split, searching}
+use Rattle.combine_range_search.specs.Search.TakeFn.{FunctionAnswered, SkipsItems, asking, finds_by_asking, found_now, misses, missing_now}
+use Rattle.combine_range_search.specs.Search.Searches.{Search, IsOneSearch, FoundAt, FindsNothing, Beyond, Torn, WaitsForFind, Nowhere, Far, UnfitSearch, Absent, Short, Inner, Split, searching}
 use Rattle.combine_range_search.specs.declared.search.TakeRange.{TakeRange}
 use Rattle.combine_range_search.specs.declared.search.TakeRange.TheVariants.{Found, NotFound}
 
@@ -47,17 +47,17 @@ module _ {T R : Type 0} (size : T → ℕ) (spells : R → List T → Type 0) (a
     pub again : (us x : List T) (n k : ℕ) → f us ≡ NotFound n → k ≤ length (us ++ x) → size_of size (take k (us ++ x)) ≤ n → FindsAlike (size_of size (take k (us ++ x))) (f (drop k (us ++ x))) (f (us ++ x))
 
   module _ (h : Stable) where
-    answered : (us : List T) (t : TakeRange) (p : Answered size spells answers us t) → f p.read ≡ t
+    answered : (us : List T) (t : TakeRange) (p : FunctionAnswered size spells answers us t) → f p.read ≡ t
     answered us t p = sym (h.answers_by p.range p.read t p.spelled p.answered)
 
-    passed : (us : List T) (k : ℕ) → Went size spells answers us k → FindsAlike (size_of size (take k us)) (f (drop k us)) (f us)
+    passed : (us : List T) (k : ℕ) → SkipsItems size spells answers us k → FindsAlike (size_of size (take k us)) (f (drop k us)) (f us)
     passed us k p =
         let a = p.answered in
         subst (λ vs. FindsAlike (size_of size (take k vs)) (f (drop k vs)) (f vs)) (sym a.all)
         (h.again a.read a.behind p.hint k (answered us (NotFound p.hint) a) (subst (λ vs. k ≤ length vs) a.all p.within) (subst (λ vs. size_of size (take k vs) ≤ p.hint) a.all p.few))
 
     -- a place that is found after any askings is the one that is found in all
-    finds_whole : (n : ℕ) (us : List T) (i : ℕ) → finds size spells answers n us i → f us ≡ Found i
+    finds_whole : (n : ℕ) (us : List T) (i : ℕ) → finds_by_asking size spells answers n us i → f us ≡ Found i
     finds_whole zero us i p = ap f p.all ∙ h.stays p.read p.behind i (answered us (Found i) p)
     finds_whole (suc n) us i p = later (size_of size (take p.count us)) p.more (f (drop p.count us)) (f us) (passed us p.count p.went).is (finds_whole n (drop p.count us) p.more p.found) ∙ ap Found (sym p.place)
 
@@ -90,7 +90,7 @@ module _ {T : Type 0} (size : T → ℕ) (s u : Search T) (found : (us : List T)
   found_at : (us : List T) (i : ℕ) → FoundAt size s d us i → FoundAt size u d us i
   found_at us i p = record { from = p.from; place = p.place; found = found (drop p.from us) i p.found }
 
-  missing_at : (us : List T) → Missing size s d us → Missing size u d us
+  missing_at : (us : List T) → FindsNothing size s d us → FindsNothing size u d us
   missing_at us p = record { from = p.from; place = p.place; missing = missing (drop p.from us) p.missing }
 
   beyond : (us : List T) → Beyond size s d us → Beyond size u d us
@@ -99,11 +99,11 @@ module _ {T : Type 0} (size : T → ℕ) (s u : Search T) (found : (us : List T)
   torn : (us : List T) → Torn size s d us → Torn size u d us
   torn us p = record { items = p.items; found = found_at us p.items p.found; inside = p.inside }
 
-  waits : (us : List T) → Waits size s d us → Waits size u d us
+  waits : (us : List T) → WaitsForFind size s d us → WaitsForFind size u d us
   waits us (Nowhere m) = Nowhere (missing_at us m)
   waits us (Far b) = Far (beyond us b)
 
-  unfit : {P R : Type 0} (spells : R → List T → Type 0) (v : View P T) (c : Bool) → Unfit size spells s d v c → Unfit size spells u d v c
+  unfit : {P R : Type 0} (spells : R → List T → Type 0) (v : View P T) (c : Bool) → UnfitSearch size spells s d v c → UnfitSearch size spells u d v c
   unfit spells v c (Absent m o e) = Absent (missing_at v.unread m) o e
   unfit spells v c (Short b o e) = Short (beyond v.unread b) o e
   unfit spells v c (Inner t e) = Inner (torn v.unread t) e

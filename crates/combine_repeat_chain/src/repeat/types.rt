@@ -7,7 +7,7 @@ ghost use Rattle.combine_repeat_chain.specs.ChainParsers.{right_operator, right_
 ghost use Rattle.combine_repeat_chain.specs.Chains.{nothing_good, each_operand, kept_good, operands, right_fold};
 ghost use Rattle.combine_repeat_sep.specs.Elements.{joined_is_meaning, joined_means_one};
 ghost use Rattle.combine_repeat_sep.specs.Separated.{separated_default, separated_valid};
-ghost use Rattle.combine_repeat_turns.specs.Turns.Bounds.{begun_valid, running_turn};
+ghost use Rattle.combine_repeat_turns.specs.Turns.Bounds.{fresh_turns_valid, running_turn};
 
 use crate::operands::{ChainOperands, EachOperand};
 use combine_base::error::{ErrorOffset, ParseResult, Tracked};
@@ -64,15 +64,15 @@ where
 
     ghost valid = { λ s. separated_valid P.valid (led_valid (λ f. S.Output.callable f) S.valid P.valid) (running_turn s) × kept_good (λ f. S.Output.callable f) s };
 
-    ghost meaning = { λ p. right_fold Input.step Input.Error.seen (λ f x y r. S.Output.answers f x y r) (P.meaning (right_part p)) (S.meaning (right_operator p)) };
+    ghost meaning = { λ p. right_fold Input.step Input.Error.observers (λ f x y r. S.Output.answers f x y r) (P.meaning (right_part p)) (S.meaning (right_operator p)) };
 
     ghost parts = { λ _. 1 };
 
-    ghost default_valid = { λ s d. (begun_valid _ _ (separated_default _ _ _ P.default_valid) s d, nothing_good (λ f. S.Output.callable f) s d.0) };
+    ghost default_valid = { λ s d. (fresh_turns_valid _ _ (separated_default _ _ _ P.default_valid) s d, nothing_good (λ f. S.Output.callable f) s d.0) };
 
-    ghost laws = { λ p l. mapped_is_meaning _ _ _ _ (fewer_is_meaning (λ s d. d.0) (joined_is_meaning Input.step Input.Error.seen (OwnFirst 1 None) each_operand (λ f. S.Output.callable f) _ _ _ _ _ _ (P.laws (right_part p) l.2) (S.laws (right_operator p) l.1))) };
+    ghost laws = { λ p l. mapped_is_meaning _ _ _ _ (fewer_is_meaning (λ s d. d.0) (joined_is_meaning Input.step Input.Error.observers (OwnFirst 1 None) each_operand (λ f. S.Output.callable f) _ _ _ _ _ _ (P.laws (right_part p) l.2) (S.laws (right_operator p) l.1))) };
 
-    ghost single = { λ p l d. mapped_means_one _ _ _ (fewer_means_one (λ s d. d.0) (joined_means_one Input.step Input.Error.seen (OwnFirst 1 None) each_operand (λ f. S.Output.callable f) _ _ _ _ (P.single (right_part p) l.2 d.1) (S.single (right_operator p) l.1 d.0))) };
+    ghost single = { λ p l d. mapped_means_one _ _ _ (fewer_means_one (λ s d. d.0) (joined_means_one Input.step Input.Error.observers (OwnFirst 1 None) each_operand (λ f. S.Output.callable f) _ _ _ _ (P.single (right_part p) l.2 d.1) (S.single (right_operator p) l.1 d.0))) };
 
     #[inline(always)]
     fn parse_mode<M: ParseMode>(

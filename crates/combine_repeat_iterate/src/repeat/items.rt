@@ -79,7 +79,7 @@ fn store<B, C: Append<B>, I: Drop>(
     value: B,
     committed: bool,
 ) -> Result<CollectedItems<C, I>, AllocError>
-    ensures { MatchResult result (Stores C.held C.more before value committed) (λ _. C.lean → ⊥) }
+    ensures { MatchResult result (Stores C.held C.more before value committed) (λ _. C.heapless → ⊥) }
 {
     let CollectedItems {
         mut values,
@@ -113,8 +113,8 @@ fn call_item<Input: Stream, N: Parser<Input>, M: ParseMode>(
     ensures valid { N.valid state.new }
     ensures same { MeansSame (N.meaning parser.old) (N.meaning parser.new) }
     ensures passes { Passes (Input.marks input.old) (Input.marks input.new) (Input.failures input.old) (Input.failures input.new) }
-    ensures answers { AnswersCall Input.StreamOnce Input.Error.seen N.PartialState.is_default (N.meaning parser.old) (M.first mode) state.old state.new input.old input.new result }
-    ensures refuses { Reasoned Input.Error.seen.kind (Input.view input.new).is_open (item_refuses Input.Error.seen (N.meaning parser.old) (begun_refuses (N.meaning parser.old) (M.first mode) state.old) (Input.view input.old) (Input.view input.new) is_begun) result }
+    ensures answers { AnswersCall Input.StreamOnce Input.Error.observers N.PartialState.is_default (N.meaning parser.old) (M.first mode) state.old state.new input.old input.new result }
+    ensures refuses { Reasoned Input.Error.observers.kind (Input.view input.new).is_open (item_refuses Input.Error.observers (N.meaning parser.old) (begun_refuses (N.meaning parser.old) (M.first mode) state.old) (Input.view input.old) (Input.view input.new) is_begun) result }
 {
     if is_begun {
         return parser.parse_explained(mode, input, state);
@@ -141,7 +141,7 @@ pub(super) fn parse_item<
     requires ready { ⟦<N as Calls<Input>>⟧.ready from.parser from.state }
     requires starts { M.first mode ≡ true → N.PartialState.is_default from.state }
     requires fresh { begins_items state.old }
-    ensures { CalledItem N.Parser Input.StreamOnce Input.Error.seen N.PartialState.is_default C.held C.more C.lean input.old input.new from state.new result }
+    ensures { CalledItem N.Parser Input.StreamOnce Input.Error.observers N.PartialState.is_default C.held C.more C.heapless input.old input.new from state.new result }
 {
     let RunningItem {
         before,
@@ -192,7 +192,7 @@ pub(super) fn resume_item<
     requires ready { ⟦<N as Calls<Input>>⟧.ready from.parser from.state }
     requires starts { M.first mode ≡ true → N.PartialState.is_default from.state }
     requires fresh { begins_items state.old }
-    ensures { CalledItem N.Parser Input.StreamOnce Input.Error.seen N.PartialState.is_default C.held C.more C.lean input.old input.new from state.new result }
+    ensures { CalledItem N.Parser Input.StreamOnce Input.Error.observers N.PartialState.is_default C.held C.more C.heapless input.old input.new from state.new result }
 {
     parse_item(mode, input, from, state)
 }

@@ -2,7 +2,7 @@
 ghost use Rattle.std.specs.Prelude.{Some};
 ghost use Rattle.combine_base.specs.Parser.Meaning.{MeansSame};
 ghost use Rattle.combine_repeat_sep.specs.Elements.{SepBy1IsOneThenTurns, sep_by, sep_by1, sep_count_min_max};
-ghost use Rattle.combine_repeat_sep.specs.SeparatedParsers.{least_of, most_of, separated_part, separated_separator};
+ghost use Rattle.combine_repeat_sep.specs.SeparatedParsers.{sep_min, sep_max, sep_part, sep_separator};
 ghost use Rattle.combine_repeat_turns.specs.Repeat.Repeated.{appended};
 
 use crate::repeat::types::{SepBy, SepBy1, SepCountMinMax};
@@ -17,7 +17,7 @@ pub fn sep_by1_is_one_then_turns<F, Input: Stream, P: Parser<Input>, S: Parser<I
 )
 where
     F: Append<P::Output>,
-    ensures { SepBy1IsOneThenTurns Input.step Input.Error.seen (appended F.held F.none F.more F.lean) (P.meaning parser.now) (S.meaning separator.now) }
+    ensures { SepBy1IsOneThenTurns Input.step Input.Error.observers (appended F.held F.none F.more F.heapless) (P.meaning parser.now) (S.meaning separator.now) }
 {}
 
 /// The law that the parser of `sep_count_min_max` means at least and at most so many elements, with separators between them.
@@ -26,7 +26,7 @@ pub fn sep_count_min_max_is_turns<F, Input: Stream, P: Parser<Input>, S: Parser<
 )
 where
     F: Append<P::Output>,
-    ensures { MeansSame (⟦<SepCountMinMax<F, P, S> as Parser<Input>>⟧.meaning parser.now) (sep_count_min_max Input.step Input.Error.seen (appended F.held F.none F.more F.lean) (least_of parser.now) (Some (most_of parser.now)) (P.meaning (separated_part parser.now)) (S.meaning (separated_separator parser.now))) }
+    ensures { MeansSame (⟦<SepCountMinMax<F, P, S> as Parser<Input>>⟧.meaning parser.now) (sep_count_min_max Input.step Input.Error.observers (appended F.held F.none F.more F.heapless) (sep_min parser.now) (Some (sep_max parser.now)) (P.meaning (sep_part parser.now)) (S.meaning (sep_separator parser.now))) }
 {}
 
 /// The law that the parser of `sep_by` means any number of elements.
@@ -35,7 +35,7 @@ pub fn sep_by_is_turns<F, Input: Stream, P: Parser<Input>, S: Parser<Input>>(
 )
 where
     F: Append<P::Output>,
-    ensures { MeansSame (⟦<SepBy<F, P, S> as Parser<Input>>⟧.meaning parser.now) (sep_by Input.step Input.Error.seen (appended F.held F.none F.more F.lean) (P.meaning (separated_part parser.now)) (S.meaning (separated_separator parser.now))) }
+    ensures { MeansSame (⟦<SepBy<F, P, S> as Parser<Input>>⟧.meaning parser.now) (sep_by Input.step Input.Error.observers (appended F.held F.none F.more F.heapless) (P.meaning (sep_part parser.now)) (S.meaning (sep_separator parser.now))) }
 {}
 
 /// The law that the parser of `sep_by1` means at least one element.
@@ -44,5 +44,5 @@ pub fn sep_by1_is_turns<F, Input: Stream, P: Parser<Input>, S: Parser<Input>>(
 )
 where
     F: Append<P::Output>,
-    ensures { MeansSame (⟦<SepBy1<F, P, S> as Parser<Input>>⟧.meaning parser.now) (sep_by1 Input.step Input.Error.seen (appended F.held F.none F.more F.lean) (P.meaning (separated_part parser.now)) (S.meaning (separated_separator parser.now))) }
+    ensures { MeansSame (⟦<SepBy1<F, P, S> as Parser<Input>>⟧.meaning parser.now) (sep_by1 Input.step Input.Error.observers (appended F.held F.none F.more F.heapless) (P.meaning (sep_part parser.now)) (S.meaning (sep_separator parser.now))) }
 {}

@@ -1,11 +1,11 @@
 //! The parsers of turns with a separator, and the names of the first for the functions of this module.
 ghost use Rattle.std.specs.Prelude.{◌≡◌, if◌then◌else◌};
 ghost use Rattle.combine_base.specs.Parser.GivenValues.{GivesOnly};
-ghost use Rattle.combine_repeat_turns.specs.Turns.Bounds.{begun_valid, is_unbounded, running_turn};
+ghost use Rattle.combine_repeat_turns.specs.Turns.Bounds.{fresh_turns_valid, is_unbounded, running_turn};
 ghost use Rattle.combine_repeat_turns.specs.Repeat.Repeated.{appended};
 ghost use Rattle.combine_repeat_sep.specs.Pair.{led_valid};
-ghost use Rattle.combine_repeat_sep.specs.SeparatedParsers.{bounds_of, chained_operator, chained_part, repeat_separated_of, separated_part, separated_separator};
-ghost use Rattle.combine_repeat_sep.specs.Elements.{chainl1, elements, folded, joined, joined_is_meaning, joined_means_one};
+ghost use Rattle.combine_repeat_sep.specs.SeparatedParsers.{sep_bounds, chained_operator, chained_part, repeat_separated_of, sep_part, sep_separator};
+ghost use Rattle.combine_repeat_sep.specs.Elements.{chainl1, elements, folded, elements_meaning, joined_is_meaning, joined_means_one};
 ghost use Rattle.combine_repeat_sep.specs.Separated.{any_lead, separated_default, separated_fresh, separated_valid};
 
 use crate::elements::{EachElement, Folded};
@@ -73,21 +73,21 @@ impl<Input: Stream, P: Parser<Input>, S: Parser<Input>, F: Append<P::Output>, B:
 > for RepeatSeparated<F, P, S, B> {
     type PartialState = TurnsState<F, SeparatedState<S::Output, S::PartialState, P::PartialState>>;
 
-    ghost lawful = { λ p. S.lawful (separated_separator p) × P.lawful (separated_part p) };
+    ghost lawful = { λ p. S.lawful (sep_separator p) × P.lawful (sep_part p) };
 
-    ghost determined = { λ p. S.determined (separated_separator p) × P.determined (separated_part p) };
+    ghost determined = { λ p. S.determined (sep_separator p) × P.determined (sep_part p) };
 
     ghost valid = { λ s. separated_valid P.valid (led_valid any_lead S.valid P.valid) (running_turn s) };
 
-    ghost meaning = { λ p. joined Input.step Input.Error.seen (B.bounds (bounds_of p)) (elements (appended F.held F.none F.more F.lean)) (P.meaning (separated_part p)) (S.meaning (separated_separator p)) };
+    ghost meaning = { λ p. elements_meaning Input.step Input.Error.observers (B.bounds (sep_bounds p)) (elements (appended F.held F.none F.more F.heapless)) (P.meaning (sep_part p)) (S.meaning (sep_separator p)) };
 
-    ghost parts = { λ p. if is_unbounded (B.bounds (bounds_of p)) then P.parts (separated_part p) else 1 };
+    ghost parts = { λ p. if is_unbounded (B.bounds (sep_bounds p)) then P.parts (sep_part p) else 1 };
 
-    ghost default_valid = { begun_valid (separated_fresh P.PartialState.is_default) (separated_valid P.valid (led_valid any_lead S.valid P.valid)) (separated_default P.PartialState.is_default P.valid (led_valid any_lead S.valid P.valid) P.default_valid) };
+    ghost default_valid = { fresh_turns_valid (separated_fresh P.PartialState.is_default) (separated_valid P.valid (led_valid any_lead S.valid P.valid)) (separated_default P.PartialState.is_default P.valid (led_valid any_lead S.valid P.valid) P.default_valid) };
 
-    ghost laws = { λ p l. joined_is_meaning Input.step Input.Error.seen (B.bounds (bounds_of p)) (elements (appended F.held F.none F.more F.lean)) any_lead _ _ _ _ _ _ (P.laws (separated_part p) l.1) (S.laws (separated_separator p) l.0) };
+    ghost laws = { λ p l. joined_is_meaning Input.step Input.Error.observers (B.bounds (sep_bounds p)) (elements (appended F.held F.none F.more F.heapless)) any_lead _ _ _ _ _ _ (P.laws (sep_part p) l.1) (S.laws (sep_separator p) l.0) };
 
-    ghost single = { λ p l d. joined_means_one Input.step Input.Error.seen (B.bounds (bounds_of p)) (elements (appended F.held F.none F.more F.lean)) any_lead _ _ _ _ (P.single (separated_part p) l.1 d.1) (S.single (separated_separator p) l.0 d.0) };
+    ghost single = { λ p l d. joined_means_one Input.step Input.Error.observers (B.bounds (sep_bounds p)) (elements (appended F.held F.none F.more F.heapless)) any_lead _ _ _ _ (P.single (sep_part p) l.1 d.1) (S.single (sep_separator p) l.0 d.0) };
 
     #[inline(always)]
     fn parse_mode<M: ParseMode>(
@@ -149,15 +149,15 @@ where
 
     ghost valid = { λ s. separated_valid P.valid (led_valid (λ f. S.Output.callable f) S.valid P.valid) (running_turn s) };
 
-    ghost meaning = { λ p. chainl1 Input.step Input.Error.seen (λ f x y r. S.Output.answers f x y r) (P.meaning (chained_part p)) (S.meaning (chained_operator p)) };
+    ghost meaning = { λ p. chainl1 Input.step Input.Error.observers (λ f x y r. S.Output.answers f x y r) (P.meaning (chained_part p)) (S.meaning (chained_operator p)) };
 
     ghost parts = { λ _. 1 };
 
-    ghost default_valid = { begun_valid (separated_fresh P.PartialState.is_default) (separated_valid P.valid (led_valid (λ f. S.Output.callable f) S.valid P.valid)) (separated_default P.PartialState.is_default P.valid (led_valid (λ f. S.Output.callable f) S.valid P.valid) P.default_valid) };
+    ghost default_valid = { fresh_turns_valid (separated_fresh P.PartialState.is_default) (separated_valid P.valid (led_valid (λ f. S.Output.callable f) S.valid P.valid)) (separated_default P.PartialState.is_default P.valid (led_valid (λ f. S.Output.callable f) S.valid P.valid) P.default_valid) };
 
-    ghost laws = { λ p l. joined_is_meaning Input.step Input.Error.seen (OwnFirst 1 None) (folded (λ f x y r. S.Output.answers f x y r)) (λ f. S.Output.callable f) _ _ _ _ _ _ (P.laws (chained_part p) l.2) (S.laws (chained_operator p) l.1) };
+    ghost laws = { λ p l. joined_is_meaning Input.step Input.Error.observers (OwnFirst 1 None) (folded (λ f x y r. S.Output.answers f x y r)) (λ f. S.Output.callable f) _ _ _ _ _ _ (P.laws (chained_part p) l.2) (S.laws (chained_operator p) l.1) };
 
-    ghost single = { λ p l d. joined_means_one Input.step Input.Error.seen (OwnFirst 1 None) (folded (λ f x y r. S.Output.answers f x y r)) (λ f. S.Output.callable f) _ _ _ _ (P.single (chained_part p) l.2 d.1) (S.single (chained_operator p) l.1 d.0) };
+    ghost single = { λ p l d. joined_means_one Input.step Input.Error.observers (OwnFirst 1 None) (folded (λ f x y r. S.Output.answers f x y r)) (λ f. S.Output.callable f) _ _ _ _ (P.single (chained_part p) l.2 d.1) (S.single (chained_operator p) l.1 d.0) };
 
     #[inline(always)]
     fn parse_mode<M: ParseMode>(

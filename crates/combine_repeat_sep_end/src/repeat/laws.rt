@@ -15,7 +15,7 @@ pub fn sep_end_by_is_turns<F, Input: Stream, P: Parser<Input>, S: Parser<Input>>
 )
 where
     F: Append<P::Output>,
-    ensures { MeansSame (⟦<SepEndBy<F, P, S> as Parser<Input>>⟧.meaning parser.now) (sep_end_by Input.step Input.Error.seen (appended F.held F.none F.more F.lean) (P.meaning (ended_by_part parser.now)) (S.meaning (ended_by_separator parser.now))) }
+    ensures { MeansSame (⟦<SepEndBy<F, P, S> as Parser<Input>>⟧.meaning parser.now) (sep_end_by Input.step Input.Error.observers (appended F.held F.none F.more F.heapless) (P.meaning (ended_by_part parser.now)) (S.meaning (ended_by_separator parser.now))) }
 {}
 
 /// The law that the parser of `sep_end_by1` means at least one element, and a separator that may stand after the last.
@@ -24,5 +24,5 @@ pub fn sep_end_by1_is_turns<F, Input: Stream, P: Parser<Input>, S: Parser<Input>
 )
 where
     F: Append<P::Output>,
-    ensures { MeansSame (⟦<SepEndBy1<F, P, S> as Parser<Input>>⟧.meaning parser.now) (sep_end_by1 Input.step Input.Error.seen (appended F.held F.none F.more F.lean) (P.meaning (ended_by_part parser.now)) (S.meaning (ended_by_separator parser.now))) }
+    ensures { MeansSame (⟦<SepEndBy1<F, P, S> as Parser<Input>>⟧.meaning parser.now) (sep_end_by1 Input.step Input.Error.observers (appended F.held F.none F.more F.heapless) (P.meaning (ended_by_part parser.now)) (S.meaning (ended_by_separator parser.now))) }
 {}

@@ -3,8 +3,8 @@ ghost use Rattle.std.specs.Prelude.{◌≡◌};
 ghost use Rattle.combine_repeat_sep.specs.Pair.{pair_valid};
 ghost use Rattle.combine_repeat_sep.specs.Separated.{separated_default, separated_fresh, separated_valid};
 ghost use Rattle.combine_repeat_sep_end.specs.SepEnd.{sep_end, sep_end_is_meaning, sep_end_means_one};
-ghost use Rattle.combine_repeat_sep_end.specs.SepEndParsers.{bounds_of, ended_by_part, ended_by_separator, repeat_ended_of};
-ghost use Rattle.combine_repeat_turns.specs.Turns.Bounds.{begun_valid, running_turn};
+ghost use Rattle.combine_repeat_sep_end.specs.SepEndParsers.{sep_end_bounds, ended_by_part, ended_by_separator, repeat_ended_of};
+ghost use Rattle.combine_repeat_turns.specs.Turns.Bounds.{fresh_turns_valid, running_turn};
 ghost use Rattle.combine_repeat_turns.specs.Repeat.Repeated.{appended};
 
 use crate::ended::{EachSome, Ended};
@@ -68,15 +68,15 @@ impl<Input: Stream, P: Parser<Input>, S: Parser<Input>, F: Append<P::Output>, B:
 
     ghost valid = { λ s. separated_valid P.valid (pair_valid S.valid P.valid) (running_turn s) };
 
-    ghost meaning = { λ p. sep_end Input.step Input.Error.seen (B.bounds (bounds_of p)) (appended F.held F.none F.more F.lean) (P.meaning (ended_by_part p)) (S.meaning (ended_by_separator p)) };
+    ghost meaning = { λ p. sep_end Input.step Input.Error.observers (B.bounds (sep_end_bounds p)) (appended F.held F.none F.more F.heapless) (P.meaning (ended_by_part p)) (S.meaning (ended_by_separator p)) };
 
     ghost parts = { λ _. 1 };
 
-    ghost default_valid = { begun_valid (separated_fresh P.PartialState.is_default) (separated_valid P.valid (pair_valid S.valid P.valid)) (separated_default P.PartialState.is_default P.valid (pair_valid S.valid P.valid) P.default_valid) };
+    ghost default_valid = { fresh_turns_valid (separated_fresh P.PartialState.is_default) (separated_valid P.valid (pair_valid S.valid P.valid)) (separated_default P.PartialState.is_default P.valid (pair_valid S.valid P.valid) P.default_valid) };
 
-    ghost laws = { λ p l. sep_end_is_meaning Input.step Input.Error.seen (B.bounds (bounds_of p)) (appended F.held F.none F.more F.lean) _ _ _ _ _ _ (P.laws (ended_by_part p) l.1) (S.laws (ended_by_separator p) l.0) };
+    ghost laws = { λ p l. sep_end_is_meaning Input.step Input.Error.observers (B.bounds (sep_end_bounds p)) (appended F.held F.none F.more F.heapless) _ _ _ _ _ _ (P.laws (ended_by_part p) l.1) (S.laws (ended_by_separator p) l.0) };
 
-    ghost single = { λ p l d. sep_end_means_one Input.step Input.Error.seen (B.bounds (bounds_of p)) (appended F.held F.none F.more F.lean) P.valid S.valid (P.meaning (ended_by_part p)) (S.meaning (ended_by_separator p)) (P.single (ended_by_part p) l.1 d.1) (S.single (ended_by_separator p) l.0 d.0) };
+    ghost single = { λ p l d. sep_end_means_one Input.step Input.Error.observers (B.bounds (sep_end_bounds p)) (appended F.held F.none F.more F.heapless) P.valid S.valid (P.meaning (ended_by_part p)) (S.meaning (ended_by_separator p)) (P.single (ended_by_part p) l.1 d.1) (S.single (ended_by_separator p) l.0 d.0) };
 
     #[inline(always)]
     fn parse_mode<M: ParseMode>(

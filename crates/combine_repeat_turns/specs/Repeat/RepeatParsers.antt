@@ -18,8 +18,8 @@ repeat_of gather parser bounds = record { gather = gather; turn = record { 0 = p
 abbrev pub repeated_by : {G P B : Type 0} → Repeat G P B → P
 repeated_by p = p.turn.0
 
-abbrev pub bounds_of : {G P B : Type 0} → Repeat G P B → B
-bounds_of p = p.bounds
+abbrev pub repeat_bounds : {G P B : Type 0} → Repeat G P B → B
+repeat_bounds p = p.bounds
 
 -- each value appended
 abbrev pub each_of : {F : Type 0} → Global → Each F
@@ -35,8 +35,8 @@ count_min_max_of alloc least most parser = repeat_of (each_of alloc) parser (bet
 abbrev pub skip_count_min_max_of : {P : Type 0} → ℕ → ℕ → P → Repeat Dropped P MinToMax
 skip_count_min_max_of least most parser = repeat_of (record {}) parser (between_of least most)
 
-abbrev pub least_of : {G P : Type 0} → Repeat G P MinToMax → ℕ
-least_of p = (bounds_of p).min
+abbrev pub repeat_min : {G P : Type 0} → Repeat G P MinToMax → ℕ
+repeat_min p = (repeat_bounds p).min
 
-abbrev pub most_of : {G P : Type 0} → Repeat G P MinToMax → ℕ
-most_of p = (bounds_of p).max
+abbrev pub repeat_max : {G P : Type 0} → Repeat G P MinToMax → ℕ
+repeat_max p = (repeat_bounds p).max

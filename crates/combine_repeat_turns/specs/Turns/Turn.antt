@@ -11,7 +11,7 @@ pub record Start (P T E A : Type 0) : Type 1 where
   pub refuses : Refusing P T E
 
 -- it begins the same
-pub record StartsSame {P T E A : Type 0} (s s' : Start P T E A) : Type 0 where
+pub record TurnStartsSame {P T E A : Type 0} (s s' : Start P T E A) : Type 0 where
   pub reads : (v : View P T) (o : Outcome A) → s.reads v o ↔ s'.reads v o
   pub refuses : SameReasons s.refuses s'.refuses
 
@@ -34,7 +34,7 @@ module _ {P T R E A S : Type 0} where
   turn_start m again false = from_start m
 
   abbrev pub called : Meaning P T R E A S → Start P T E A → Bool → Meaning P T R E A S
-  called m again later = record { whole = (turn_start m again later).reads; rest = m.rest; lost = m.lost; keeps = m.keeps; puts_back = m.puts_back; lean = m.lean; adds = m.adds; refuses = (turn_start m again later).refuses; refuses_from = m.refuses_from }
+  called m again later = record { whole = (turn_start m again later).reads; rest = m.rest; lost = m.lost; keeps = m.keeps; puts_back = m.puts_back; heapless = m.heapless; adds = m.adds; refuses = (turn_start m again later).refuses; refuses_from = m.refuses_from }
 
   pub record IsTurn (fresh valid : S → Type 0) (m : Meaning P T R E A S) (again : Start P T E A) : Type 0 where
     pub meaning : IsMeaning fresh valid m
@@ -42,7 +42,7 @@ module _ {P T R E A S : Type 0} where
 
   pub record TurnsSame (m : Meaning P T R E A S) (again : Start P T E A) (m' : Meaning P T R E A S) (again' : Start P T E A) : Type 0 where
     pub meaning : MeansSame m m'
-    pub later : StartsSame again again'
+    pub later : TurnStartsSame again again'
 
 -- each value that a turn gives is good: from the start, as the first turn or a later one, and from each valid state
 pub record TurnsGive {P T R E A S : Type 0} (valid : S → Type 0) (m : Meaning P T R E A S) (again : Start P T E A) (good : A → Type 0) : Type 0 where
@@ -57,17 +57,17 @@ gives_any = record {
 }
 
 -- one outcome but for its value, and all values that it may have end the turns, or none of them
-pub record EndsOnce {P T A : Type 0} (ending : A → Bool) (r : Reading P T A) : Type 0 where
+pub record EndsTurnsOnce {P T A : Type 0} (ending : A → Bool) (r : Reading P T A) : Type 0 where
   pub one : (v : View P T) (o o' : Outcome A) → r v o → r v o' → shape o ≡ shape o'
   pub ends : (v : View P T) (a a' : A) (n : ℕ) (k : Bool) → r v (Accepted a n k) → r v (Accepted a' n k) → ending a ≡ ending a'
 
 pub record TurnsOnce {P T R E A S : Type 0} (valid : S → Type 0) (ending : A → Bool) (m : Meaning P T R E A S) (again : Start P T E A) : Type 0 where
-  pub whole : EndsOnce ending m.whole
-  pub rest : (s : S) → valid s → EndsOnce ending (m.rest s)
-  pub later : EndsOnce ending again.reads
+  pub whole : EndsTurnsOnce ending m.whole
+  pub rest : (s : S) → valid s → EndsTurnsOnce ending (m.rest s)
+  pub later : EndsTurnsOnce ending again.reads
 
 module _ {P T A : Type 0} where
-  pub never_ends : {r : Reading P T A} → IsSingle r → EndsOnce (λ _. false) r
+  pub never_ends : {r : Reading P T A} → IsSingle r → EndsTurnsOnce (λ _. false) r
   never_ends h = record { one = h.one; ends = λ v a a' n k p q. refl }
 
 -- the same parser in each turn, whose values don't end the turns

@@ -1,8 +1,8 @@
 //! The parser of turns, and its names for the functions of this module.
 ghost use Rattle.std.specs.Prelude.{◌≡◌, ◌&&◌, if◌then◌else◌};
-ghost use Rattle.combine_repeat_turns.specs.Turns.Bounds.{begun_valid, gathered, is_unbounded, running_turn};
+ghost use Rattle.combine_repeat_turns.specs.Turns.Bounds.{fresh_turns_valid, gathered, is_unbounded, running_turn};
 ghost use Rattle.combine_repeat_turns.specs.Repeat.Repeated.{repeated_is_meaning, repeated_means_one, repeated};
-ghost use Rattle.combine_repeat_turns.specs.Repeat.RepeatParsers.{bounds_of, repeat_of, repeated_by};
+ghost use Rattle.combine_repeat_turns.specs.Repeat.RepeatParsers.{repeat_bounds, repeat_of, repeated_by};
 
 use crate::each::{Dropped, Each, SameParser};
 use crate::turns::turn_bounds::{MinToMax, TurnBounds};
@@ -53,7 +53,7 @@ fn without_room<O, Input: Stream, S: Default + Drop>(
     input: &Input,
     state: &mut S,
 ) -> ParseResult<O, Input::Error>
-    ensures error { (e : Input.Error) × (result ≡ ParseResult.CommitErr e) × (Input.Error.seen.kind e ≡ Kind.Memory) }
+    ensures error { (e : Input.Error) × (result ≡ ParseResult.CommitErr e) × (Input.Error.observers.kind e ≡ Kind.Memory) }
     ensures fresh { S.is_default state.new }
 {
     *state = S::default();
@@ -74,15 +74,15 @@ impl<Input: Stream, P: Parser<Input>, G: Collect<P::Output>, B: TurnBounds> Pars
 
     ghost valid = { λ s. P.valid (running_turn s) };
 
-    ghost meaning = { λ p. repeated Input.step Input.Error.seen (B.bounds (bounds_of p)) (gathered G.held G.none G.more G.lean) (P.meaning (repeated_by p)) };
+    ghost meaning = { λ p. repeated Input.step Input.Error.observers (B.bounds (repeat_bounds p)) (gathered G.held G.none G.more G.heapless) (P.meaning (repeated_by p)) };
 
-    ghost parts = { λ p. if is_unbounded (B.bounds (bounds_of p)) && G.keeps then P.parts (repeated_by p) else 1 };
+    ghost parts = { λ p. if is_unbounded (B.bounds (repeat_bounds p)) && G.keeps then P.parts (repeated_by p) else 1 };
 
-    ghost default_valid = { begun_valid P.PartialState.is_default P.valid P.default_valid };
+    ghost default_valid = { fresh_turns_valid P.PartialState.is_default P.valid P.default_valid };
 
-    ghost laws = { λ p l. repeated_is_meaning Input.step Input.Error.seen (B.bounds (bounds_of p)) (gathered G.held G.none G.more G.lean) P.PartialState.is_default P.valid (P.meaning (repeated_by p)) (P.laws (repeated_by p) l) };
+    ghost laws = { λ p l. repeated_is_meaning Input.step Input.Error.observers (B.bounds (repeat_bounds p)) (gathered G.held G.none G.more G.heapless) P.PartialState.is_default P.valid (P.meaning (repeated_by p)) (P.laws (repeated_by p) l) };
 
-    ghost single = { λ p l d. repeated_means_one Input.step Input.Error.seen (B.bounds (bounds_of p)) (gathered G.held G.none G.more G.lean) P.valid (P.meaning (repeated_by p)) (P.single (repeated_by p) l d) };
+    ghost single = { λ p l d. repeated_means_one Input.step Input.Error.observers (B.bounds (repeat_bounds p)) (gathered G.held G.none G.more G.heapless) P.valid (P.meaning (repeated_by p)) (P.single (repeated_by p) l d) };
 
     #[inline(always)]
     fn parse_mode<M: ParseMode>(

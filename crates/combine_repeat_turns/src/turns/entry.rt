@@ -34,8 +34,8 @@ pub trait Entry {
         ensures valid { P.valid state.new }
         ensures same { TurnsSame (P.meaning parser.old) (P.again parser.old) (P.meaning parser.new) (P.again parser.new) }
         ensures passes { Passes (Input.marks input.old) (Input.marks input.new) (Input.failures input.old) (Input.failures input.new) }
-        ensures answers { AnswersCall Input.StreamOnce Input.Error.seen P.Running.is_default (called (P.meaning parser.old) (P.again parser.old) (later self)) (first self) state.old state.new input.old input.new result }
-        ensures refuses { ReasonedCall Input.Error.seen (called (P.meaning parser.old) (P.again parser.old) (later self)) (first self) state.old (Input.view input.old) (Input.view input.new) result };
+        ensures answers { AnswersCall Input.StreamOnce Input.Error.observers P.Running.is_default (called (P.meaning parser.old) (P.again parser.old) (later self)) (first self) state.old state.new input.old input.new result }
+        ensures refuses { ReasonedCall Input.Error.observers (called (P.meaning parser.old) (P.again parser.old) (later self)) (first self) state.old (Input.view input.old) (Input.view input.new) result };
 }
 
 /// A turn that begins afresh, with a state of its own, which is stored on need of more alone.

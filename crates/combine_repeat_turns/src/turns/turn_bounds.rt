@@ -1,7 +1,7 @@
 //! Bounds of turns: a type each, so that what some turns don't need isn't compiled with them.
 ghost use Rattle.std.specs.Prelude.{◌≡◌, ℕ};
 ghost use Rattle.combine_base.specs.Stream.View.{View, Takes};
-ghost use Rattle.combine_repeat_turns.specs.Turns.Bounds.{between, enough, goes_joined, joined_between, takes_token};
+ghost use Rattle.combine_repeat_turns.specs.Turns.Bounds.{counted_bounds, enough, is_joined_block, joined_between, takes_token};
 
 use crate::turns::{Bounds, TurnIndex};
 use combine_base::stream::{Stream, has_taken};
@@ -10,7 +10,7 @@ use combine_base::stream::{Stream, has_taken};
 pub trait TurnBounds: Copy {
     ghost use Rattle.std.specs.Prelude.{◌≡◌, ℕ};
     ghost use Rattle.combine_base.specs.Stream.View.{View, Takes};
-    ghost use Rattle.combine_repeat_turns.specs.Turns.Bounds.{full_at, goes_at, is_unbounded, limit, missing, owns};
+    ghost use Rattle.combine_repeat_turns.specs.Turns.Bounds.{full_at, is_block_at, is_unbounded, limit, missing_turns, owns};
     ghost use Rattle.combine_repeat_turns.specs.declared.turns.Bounds.{Bounds};
 
     /// What they are.
@@ -33,7 +33,7 @@ pub trait TurnBounds: Copy {
 
     /// Returns how many turns are still missing.
     fn missing(self, index: TurnIndex) -> usize
-        ensures { result ≡ missing (bounds self) index };
+        ensures { result ≡ missing_turns (bounds self) index };
 
     /// Returns whether a refusal of this turn is its own result.
     fn keeps_refusal(self, index: TurnIndex) -> bool
@@ -47,7 +47,7 @@ pub trait TurnBounds: Copy {
         since: Input::Checkpoint,
         input: &Input,
     ) -> bool
-        ensures { (n : ℕ) (v : View Input.Position Input.Token) → Input.stands input.now since v → Takes Input.step n v (Input.view input.now) → result ≡ goes_at (bounds self) index n committed };
+        ensures { (n : ℕ) (v : View Input.Position Input.Token) → Input.stands input.now since v → Takes Input.step n v (Input.view input.now) → result ≡ is_block_at (bounds self) index n committed };
 }
 
 /// Returns whether no turn is missing.
@@ -131,7 +131,7 @@ fn is_first_or_takes_token<Input: Stream>(
     since: Input::Checkpoint,
     input: &Input,
 ) -> bool
-    ensures { (n : ℕ) (v : View Input.Position Input.Token) → Input.stands input.now since v → Takes Input.step n v (Input.view input.now) → result ≡ goes_joined index n committed }
+    ensures { (n : ℕ) (v : View Input.Position Input.Token) → Input.stands input.now since v → Takes Input.step n v (Input.view input.now) → result ≡ is_joined_block index n committed }
 {
     if index.number < 1 {
         return true;
@@ -257,7 +257,7 @@ pub struct MinToMax {
 }
 
 impl TurnBounds for MinToMax {
-    ghost bounds = { between };
+    ghost bounds = { counted_bounds };
 
     #[inline(always)]
     fn count_bound(self) -> usize {

@@ -2,7 +2,7 @@
 ghost use Rattle.std.specs.Prelude.{◌≡◌, true};
 ghost use Rattle.combine_base.specs.Parser.GivenValues.{GivesOnly, gives_as};
 ghost use Rattle.combine_base.specs.Parser.KeptParsers.{KeptOf};
-ghost use Rattle.combine_sequence.specs.Then.{AnsweredBySome, AsksOne, answered_of, asked_part, asks_lawful, first_part, some_lawful, starts_first, starts_valid, then, then_is_meaning, then_means_one, valid_step, CalledAnswered};
+ghost use Rattle.combine_sequence.specs.Then.{AnsweredBySome, AsksOne, answered_of, then_asker, asks_lawful, first_part, some_lawful, starts_first, answered_starts_valid, then_meaning, then_is_meaning, then_means_one, valid_answered, CalledAnswered};
 
 pub(super) mod next_parser;
 pub(super) mod state;
@@ -63,21 +63,21 @@ impl<
 > Parser<Input> for Answered<P, K, B> {
     type PartialState = AnsweredState<P::PartialState, V, N, N::PartialState>;
 
-    ghost lawful = { λ p. P.lawful (first_part p) × GivesOnly P.valid (P.meaning (first_part p)) (asks_lawful K.callable K.answers N.lawful (asked_part p)) };
+    ghost lawful = { λ p. P.lawful (first_part p) × GivesOnly P.valid (P.meaning (first_part p)) (asks_lawful K.callable K.answers N.lawful (then_asker p)) };
 
-    ghost determined = { λ p. P.determined (first_part p) × ((n : N) → AnsweredBySome K.callable K.answers N.lawful P.lawful P.valid P.meaning n → N.determined n) × AsksOne P.valid (P.meaning (first_part p)) (K.answers (asked_part p)) (λ n. (N.meaning n).whole) };
+    ghost determined = { λ p. P.determined (first_part p) × ((n : N) → AnsweredBySome K.callable K.answers N.lawful P.lawful P.valid P.meaning n → N.determined n) × AsksOne P.valid (P.meaning (first_part p)) (K.answers (then_asker p)) (λ n. (N.meaning n).whole) };
 
-    ghost valid = { valid_step P.valid (KeptOf N.lawful N.meaning (AnsweredBySome K.callable K.answers N.lawful P.lawful P.valid P.meaning)) N.valid };
+    ghost valid = { valid_answered P.valid (KeptOf N.lawful N.meaning (AnsweredBySome K.callable K.answers N.lawful P.lawful P.valid P.meaning)) N.valid };
 
-    ghost meaning = { λ p. then Input.step Input.Error.seen K.keeps V.joined (K.answers (asked_part p)) (AnsweredBySome K.callable K.answers N.lawful P.lawful P.valid P.meaning) (P.meaning (first_part p)) N.meaning };
+    ghost meaning = { λ p. then_meaning Input.step Input.Error.observers K.keeps V.joined (K.answers (then_asker p)) (AnsweredBySome K.callable K.answers N.lawful P.lawful P.valid P.meaning) (P.meaning (first_part p)) N.meaning };
 
     ghost parts = { λ _. 1 };
 
-    ghost default_valid = { starts_valid (KeptOf N.lawful N.meaning (AnsweredBySome K.callable K.answers N.lawful P.lawful P.valid P.meaning)) N.valid P.default_valid };
+    ghost default_valid = { answered_starts_valid (KeptOf N.lawful N.meaning (AnsweredBySome K.callable K.answers N.lawful P.lawful P.valid P.meaning)) N.valid P.default_valid };
 
-    ghost laws = { λ p l. then_is_meaning Input.step Input.Error.seen K.keeps V.joined (K.answers (asked_part p)) (AnsweredBySome K.callable K.answers N.lawful P.lawful P.valid P.meaning) N.lawful (P.laws (first_part p) l.0) N.laws (gives_as (λ a h. h.1) l.1) };
+    ghost laws = { λ p l. then_is_meaning Input.step Input.Error.observers K.keeps V.joined (K.answers (then_asker p)) (AnsweredBySome K.callable K.answers N.lawful P.lawful P.valid P.meaning) N.lawful (P.laws (first_part p) l.0) N.laws (gives_as (λ a h. h.1) l.1) };
 
-    ghost single = { λ p l d. then_means_one Input.step Input.Error.seen K.keeps V.joined _ _ N.lawful (P.single (first_part p) l.0 d.0) (λ n i. N.single n (some_lawful K.callable K.answers N.lawful P.lawful P.valid P.meaning n i) (d.1 n i)) d.2 };
+    ghost single = { λ p l d. then_means_one Input.step Input.Error.observers K.keeps V.joined _ _ N.lawful (P.single (first_part p) l.0 d.0) (λ n i. N.single n (some_lawful K.callable K.answers N.lawful P.lawful P.valid P.meaning n i) (d.1 n i)) d.2 };
 
     #[inline(always)]
     fn parse_mode<M: ParseMode>(
@@ -141,7 +141,7 @@ fn parse_answered<
     requires ready { ⟦<N as Calls<Input>>⟧.ready from.parser from.state }
     requires starts { M.first mode ≡ true → N.PartialState.is_default from.state }
     requires fresh { starts_first S.is_default state.old }
-    ensures { CalledAnswered N.Parser Input.StreamOnce Input.Error.seen N.PartialState.is_default S.is_default V.joined input.old input.new from state.new result }
+    ensures { CalledAnswered N.Parser Input.StreamOnce Input.Error.observers N.PartialState.is_default S.is_default V.joined input.old input.new from state.new result }
 {
     let AnsweredProgress {
         value,
@@ -185,7 +185,7 @@ fn resume_answered<
     requires ready { ⟦<N as Calls<Input>>⟧.ready from.parser from.state }
     requires starts { M.first mode ≡ true → N.PartialState.is_default from.state }
     requires fresh { starts_first S.is_default state.old }
-    ensures { CalledAnswered N.Parser Input.StreamOnce Input.Error.seen N.PartialState.is_default S.is_default V.joined input.old input.new from state.new result }
+    ensures { CalledAnswered N.Parser Input.StreamOnce Input.Error.observers N.PartialState.is_default S.is_default V.joined input.old input.new from state.new result }
 {
     parse_answered(mode, input, from, state)
 }

@@ -14,7 +14,7 @@ pub fn with_has_the_second_value<
     P: Parser<Input>,
     Q: Parser<Input, Output = P::Output>,
 >(p: &P, q: &Q)
-    ensures { MeansSame (⟦<With<P, Q, P::Output> as Parser<Input>>⟧.meaning (picked_of (p.now, q.now))) (second_value Input.step Input.Error.seen (P.meaning p.now) (Q.meaning q.now)) }
+    ensures { MeansSame (⟦<With<P, Q, P::Output> as Parser<Input>>⟧.meaning (picked_of (p.now, q.now))) (second_value Input.step Input.Error.observers (P.meaning p.now) (Q.meaning q.now)) }
 {}
 
 /// The law that `skip` is the pair, with its first value.
@@ -24,7 +24,7 @@ pub fn skip_has_the_first_value<
     P: Parser<Input>,
     Q: Parser<Input, Output = P::Output>,
 >(p: &P, q: &Q)
-    ensures { MeansSame (⟦<Skip<P, Q, P::Output> as Parser<Input>>⟧.meaning (picked_of (p.now, q.now))) (first_value Input.step Input.Error.seen (P.meaning p.now) (Q.meaning q.now)) }
+    ensures { MeansSame (⟦<Skip<P, Q, P::Output> as Parser<Input>>⟧.meaning (picked_of (p.now, q.now))) (first_value Input.step Input.Error.observers (P.meaning p.now) (Q.meaning q.now)) }
 {}
 
 /// The law that `between` is the triple of the left, the inner and the right parser, with its second value.
@@ -35,5 +35,5 @@ pub fn between_has_the_inner_value<
     R: Parser<Input, Output = L::Output>,
     P: Parser<Input, Output = L::Output>,
 >(l: &L, r: &R, p: &P)
-    ensures { MeansSame (⟦<Between<L, R, P, L::Output> as Parser<Input>>⟧.meaning (picked_of (l.now, p.now, r.now))) (middle_value Input.step Input.Error.seen (L.meaning l.now) (P.meaning p.now) (R.meaning r.now)) }
+    ensures { MeansSame (⟦<Between<L, R, P, L::Output> as Parser<Input>>⟧.meaning (picked_of (l.now, p.now, r.now))) (middle_value Input.step Input.Error.observers (L.meaning l.now) (P.meaning p.now) (R.meaning r.now)) }
 {}

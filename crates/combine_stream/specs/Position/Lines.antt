@@ -11,8 +11,8 @@ abbrev pub next_place : SourcePosition → ℕ → SourcePosition
 next_place p c = if nat_eq c 10 then record { line = p.line + 1; column = 1 } else record { line = p.line; column = p.column + 1 }
 
 -- so many characters more can be counted
-abbrev pub Fits : SourcePosition → ℕ → Type 0
-Fits p n = (p.line + n < 2 ^ 64) × (p.column + n < 2 ^ 64)
+abbrev pub CountsFit : SourcePosition → ℕ → Type 0
+CountsFit p n = (p.line + n < 2 ^ 64) × (p.column + n < 2 ^ 64)
 
 -- the first character, and what is left behind it
 pub record StepsOn (text : List ℕ) (at : SourcePosition) (c : ℕ) (rest : List ℕ) (now : SourcePosition) : Type 0 where
@@ -20,9 +20,9 @@ pub record StepsOn (text : List ℕ) (at : SourcePosition) (c : ℕ) (rest : Lis
   pub place : now ≡ next_place at c
 
 -- how many line feeds there are
-abbrev pub feeds : List ℕ → ℕ
-feeds [] = 0
-feeds (c ∷ cs) = if nat_eq c 10 then suc (feeds cs) else feeds cs
+abbrev pub line_feeds : List ℕ → ℕ
+line_feeds [] = 0
+line_feeds (c ∷ cs) = if nat_eq c 10 then suc (line_feeds cs) else line_feeds cs
 
 -- whether there is one
 abbrev pub has_feed : List ℕ → Bool
@@ -35,5 +35,5 @@ last_line [] = []
 last_line (c ∷ cs) = if has_feed (c ∷ cs) then last_line cs else c ∷ cs
 
 -- the place behind the first n characters: a line for each line feed, a column for each character behind the last, both from 1
-abbrev pub behind : List ℕ → ℕ → SourcePosition
-behind cs n = record { line = 1 + feeds (take n cs); column = 1 + length (last_line (take n cs)) }
+abbrev pub place_behind : List ℕ → ℕ → SourcePosition
+place_behind cs n = record { line = 1 + line_feeds (take n cs); column = 1 + length (last_line (take n cs)) }

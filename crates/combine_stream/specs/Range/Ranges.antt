@@ -13,7 +13,7 @@ size_of size [] = 0
 size_of size (t ∷ ts) = size t + size_of size ts
 
 -- the first n items are the first k tokens
-pub record Place {Token : Type 0} (size : Token → ℕ) (us : List Token) (n k : ℕ) : Type 0 where
+pub record IsItemPlace {Token : Type 0} (size : Token → ℕ) (us : List Token) (n k : ℕ) : Type 0 where
   pub within : k ≤ length us
   pub items : size_of size (take k us) ≡ n
 
@@ -27,24 +27,24 @@ Longest f (t ∷ ts) (suc k) = f t true × Longest f ts k
 pub record LongestItems {Token : Type 0} (size : Token → ℕ) (f : Token → Bool → Type 0) (us : List Token) (n : ℕ) : Type 0 where
   pub count : ℕ
   pub longest : Longest f us count
-  pub place : Place size us n count
+  pub place : IsItemPlace size us n count
 
 -- the first n items end inside a token
-pub record Inside {Token : Type 0} (size : Token → ℕ) (us : List Token) (n : ℕ) : Type 0 where
+pub record EndsInsideToken {Token : Type 0} (size : Token → ℕ) (us : List Token) (n : ℕ) : Type 0 where
   pub enough : n ≤ size_of size us
-  pub none : (k : ℕ) → Place size us n k → ⊥
+  pub none : (k : ℕ) → IsItemPlace size us n k → ⊥
 
-module _ {Position Token Range : Type 0} (steady : Type 0) (step : Position → Token → Position) (size : Token → ℕ) (spells : Range → List Token → Type 0) (old new : View Position Token) (before after : Failures) where
+module _ {Position Token Range : Type 0} (counts_failures : Type 0) (step : Position → Token → Position) (size : Token → ℕ) (spells : Range → List Token → Type 0) (old new : View Position Token) (before after : Failures) where
   -- the first k tokens are taken, and handed out as a range
   pub record TakesRange (r : Range) (k : ℕ) : Type 0 where
     pub taken : Takes step k old new
     pub spelled : spells r (take k old.unread)
-    pub failures : steady → after ≡ before
+    pub failures : counts_failures → after ≡ before
 
   -- nothing is taken
-  pub record Stays : Type 0 where
+  pub record TakesNoItem : Type 0 where
     pub same : new ≡ old
-    pub failures : steady → after ≡ before
+    pub failures : counts_failures → after ≡ before
 
   -- a read that failed, and may have taken tokens
   pub record FailsRead : Type 0 where
@@ -53,15 +53,15 @@ module _ {Position Token Range : Type 0} (steady : Type 0) (step : Position → 
     pub rose : before.reads < after.reads
 
   abbrev pub no_range : ℕ → Kind → Type 0
-  no_range n kinds.End = (size_of size old.unread < n) × Stays
-  no_range n kinds.Refused = Inside size old.unread n × Stays
+  no_range n kinds.End = (size_of size old.unread < n) × TakesNoItem
+  no_range n kinds.Refused = EndsInsideToken size old.unread n × TakesNoItem
   no_range n kinds.Read = FailsRead
   no_range n kinds.Memory = ⊥
   no_range n kinds.Reset = ⊥
   no_range n kinds.Lost = ⊥
 
   abbrev pub unconses_range : ℕ → Result Range Kind → Type 0
-  unconses_range n (Ok r) = (k : ℕ) × Place size old.unread n k × TakesRange r k
+  unconses_range n (Ok r) = (k : ℕ) × IsItemPlace size old.unread n k × TakesRange r k
   unconses_range n (Err k) = no_range n k
 
   pub record UnconsRange (n : ℕ) (result : Result Range Kind) : Type 0 where
@@ -91,7 +91,7 @@ module _ {T : Type 0} (size : T → ℕ) where
     size_rises (t ∷ us) (suc j) zero h l = absurd (omega arith)
     size_rises (t ∷ us) (suc j) (suc k) h l = let a = size_rises us j k (omega arith) (omega arith) in omega arith
 
-    pub one_place : (us : List T) (n j k : ℕ) → Place size us n j → Place size us n k → j ≡ k
+    pub one_place : (us : List T) (n j k : ℕ) → IsItemPlace size us n j → IsItemPlace size us n k → j ≡ k
     one_place us n j k p q =
         let a = size_rises us j k in
         let b = size_rises us k j in
@@ -101,32 +101,32 @@ module _ {T : Type 0} (size : T → ℕ) where
         let f = q.within in
         by_order (not_less j k p q) (not_less k j q p)
       where
-        not_less : (j k : ℕ) → Place size us n j → Place size us n k → j < k → ⊥
+        not_less : (j k : ℕ) → IsItemPlace size us n j → IsItemPlace size us n k → j < k → ⊥
         not_less j k p q h = let a = size_rises us j k h q.within in let c = p.items in let d = q.items in omega arith
 
         by_order : (j < k → ⊥) → (k < j → ⊥) → j ≡ k
         by_order x y = omega arith
 
-  pub place_within : (us : List T) (n k : ℕ) → Place size us n k → n ≤ size_of size us
+  pub place_within : (us : List T) (n k : ℕ) → IsItemPlace size us n k → n ≤ size_of size us
   place_within us n k p = let a = p.items in let b = size_take k us in omega arith
 
-  pub no_items : ((t : T) → 0 < size t) → (us : List T) → size_of size us ≡ 0 → us ≡ []
-  no_items filled [] e = refl
-  no_items filled (t ∷ us) e = absurd (let a = filled t in omega arith)
+  pub no_tokens_of_no_items : ((t : T) → 0 < size t) → (us : List T) → size_of size us ≡ 0 → us ≡ []
+  no_tokens_of_no_items filled [] e = refl
+  no_tokens_of_no_items filled (t ∷ us) e = absurd (let a = filled t in omega arith)
 
   -- a place stays one, whatever follows
-  pub place_stays : (us x : List T) (n k : ℕ) → Place size us n k → Place size (us ++ x) n k
+  pub place_stays : (us x : List T) (n k : ℕ) → IsItemPlace size us n k → IsItemPlace size (us ++ x) n k
   place_stays us x n k p = record {
     within = let a = p.within in let b = length-append us x in omega arith;
     items = ap (size_of size) (take-append-le k us x p.within) ∙ p.items;
   }
 
-  pub take_stays : (us x : List T) (n k : ℕ) → Place size us n k → take k (us ++ x) ≡ take k us
+  pub take_stays : (us x : List T) (n k : ℕ) → IsItemPlace size us n k → take k (us ++ x) ≡ take k us
   take_stays us x n k p = take-append-le k us x p.within
 
   module _ (filled : (t : T) → 0 < size t) where
     -- there is no more room inside a token, whatever follows
-    pub inside_stays : (us x : List T) (n : ℕ) → Inside size us n → Inside size (us ++ x) n
+    pub inside_stays : (us x : List T) (n : ℕ) → EndsInsideToken size us n → EndsInsideToken size (us ++ x) n
     inside_stays us x n p = record {
       enough = let a = p.enough in let b = size_append us x in omega arith;
       none = λ k q. p.none k (record {
@@ -138,7 +138,7 @@ module _ {T : Type 0} (size : T → ℕ) where
         whole : take (length us) (us ++ x) ≡ us
         whole = take-append-le (length us) us x (omega arith) ∙ take_all (length us) us (omega arith)
 
-        not_past : (k : ℕ) → Place size (us ++ x) n k → length us < k → ⊥
+        not_past : (k : ℕ) → IsItemPlace size (us ++ x) n k → length us < k → ⊥
         not_past k q h =
             let a = size_rises filled (us ++ x) (length us) k h q.within in
             let b = ap (size_of size) whole in
@@ -146,13 +146,13 @@ module _ {T : Type 0} (size : T → ℕ) where
             let d = p.enough in
             omega arith
 
-        short : (k : ℕ) → Place size (us ++ x) n k → k ≤ length us
+        short : (k : ℕ) → IsItemPlace size (us ++ x) n k → k ≤ length us
         short k q = let a = not_past k q in by_order a
           where
             by_order : (length us < k → ⊥) → k ≤ length us
             by_order a = omega arith
 
-    pub place_at_zero : (us : List T) (k : ℕ) → Place size us 0 k → k ≡ 0
+    pub place_at_zero : (us : List T) (k : ℕ) → IsItemPlace size us 0 k → k ≡ 0
     place_at_zero us k p = one_place filled us 0 k 0 p (record { within = omega arith; items = refl })
 
 module _ {T : Type 0} (f : T → Bool → Type 0) where

@@ -8,7 +8,7 @@ use Rattle.std.specs.Char.{len_utf8}
 use Rattle.std.specs.Str.{chars}
 use Rattle.combine_base.specs.Stream.View.{Takes}
 use Rattle.combine_base.specs.Stream.Texts.{text_view, less_char}
-use Rattle.combine_stream.specs.Range.Ranges.{size_of, Place, Inside}
+use Rattle.combine_stream.specs.Range.Ranges.{size_of, IsItemPlace, EndsInsideToken}
 use Rattle.combine_base.specs.declared.stream.Kind.{Kind}
 use Rattle.combine_base.specs.declared.stream.Kind.TheVariants as kinds
 
@@ -25,14 +25,14 @@ char_filled c = let b = (len_utf8_bounds c).0 in omega arith
 
 -- the first n bytes are the first k characters, and the rest is left
 pub record Cut (bytes : List ℕ) (n k : ℕ) (front back : List ℕ) : Type 0 where
-  pub place : Place len_utf8 (chars bytes) n k
+  pub place : IsItemPlace len_utf8 (chars bytes) n k
   pub spelled : text_of front (take k (chars bytes))
   pub taken : Takes less_char k (text_view bytes) (text_view back)
 
 -- why the first n bytes are no text
 abbrev pub uncut : List ℕ → ℕ → Kind → Type 0
 uncut bytes n kinds.End = size_of len_utf8 (chars bytes) < n
-uncut bytes n kinds.Refused = Inside len_utf8 (chars bytes) n
+uncut bytes n kinds.Refused = EndsInsideToken len_utf8 (chars bytes) n
 uncut bytes n kinds.Memory = ⊥
 uncut bytes n kinds.Read = ⊥
 uncut bytes n kinds.Reset = ⊥

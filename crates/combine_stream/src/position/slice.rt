@@ -75,7 +75,7 @@ impl<'a, T: Copy> Windowed for &'a [T] {
 
     ghost ordered = { λ s c d p q l. l };
 
-    ghost calm = { λ s t. refl };
+    ghost never_fails = { λ s t. refl };
 
     #[inline]
     fn has_place(self, place: usize) -> bool {
@@ -133,7 +133,7 @@ impl<'a, T: Copy> StreamOnce for SliceStream<'a, T> {
 
     ghost failures = { λ _. record { reads = 0; resets = 0 } };
 
-    ghost steady = { Unit {0} };
+    ghost counts_failures = { Unit {0} };
 
     ghost moves = { λ s n h k. count_moves (indexed_view s) n h k };
 

@@ -5,7 +5,7 @@ ghost use Rattle.std.specs.Str.{IsCharBoundary, IsUtf8, chars};
 ghost use Rattle.combine_base.specs.Stream.View.{after_all};
 ghost use Rattle.combine_stream.specs.Range.Ranges.{size_of};
 ghost use Rattle.combine_stream.specs.Range.TextRanges.{Cut, uncut};
-ghost use Rattle.combine_stream.specs.Position.Lines.{Fits, StepsOn, behind, first_place, next_place};
+ghost use Rattle.combine_stream.specs.Position.Lines.{CountsFit, StepsOn, place_behind, first_place, next_place};
 ghost use Rattle.combine_stream.specs.Range.TextWindows.{index_of};
 
 use crate::position::{DefaultPositioned, Windowed};
@@ -56,7 +56,7 @@ impl SourcePosition {
     // Returns the position after a character.
     #[inline(always)]
     fn after(self, character: char) -> SourcePosition
-        requires { Fits self 1 }
+        requires { CountsFit self 1 }
         ensures { result ≡ next_place self character }
     {
         if character == '\n' {
@@ -72,7 +72,7 @@ impl SourcePosition {
     #[cold]
     #[inline(never)]
     fn next_line(self) -> SourcePosition
-        requires { Fits self 1 }
+        requires { CountsFit self 1 }
         ensures { result ≡ record { line = self.line + 1; column = 1 } }
     {
         SourcePosition {
@@ -95,13 +95,13 @@ pub struct TextStream<'a> {
 
 impl<'a> DefaultPositioned for &'a str {
     ghost use Rattle.combine_stream.specs.Position.CountedPositions.{place_counts};
-    ghost use Rattle.combine_stream.specs.Position.Lines.{behind};
+    ghost use Rattle.combine_stream.specs.Position.Lines.{place_behind};
 
     type Located = TextStream<'a>;
 
     ghost whole = { λ s. record { position = first_place; unread = chars s.now; is_open = false } };
 
-    ghost behind = { λ s n. behind (chars s.now) n };
+    ghost behind = { λ s n. place_behind (chars s.now) n };
 
     ghost counts = { λ s n h. place_counts n (chars s.now) };
 
@@ -127,7 +127,7 @@ impl<'a> Windowed for &'a str {
 
     ghost ordered = { λ s c d p q l. index_orders s.now c d p.0 p.1 q.1 l };
 
-    ghost calm = { λ s t. refl };
+    ghost never_fails = { λ s t. refl };
 
     #[inline]
     fn has_place(self, place: usize) -> bool {
@@ -181,7 +181,7 @@ impl<'a> StreamOnce for TextStream<'a> {
 
     ghost failures = { λ _. record { reads = 0; resets = 0 } };
 
-    ghost steady = { Unit {0} };
+    ghost counts_failures = { Unit {0} };
 
     ghost moves = { λ s n h k. placed_moves s.place n (chars s.rest.now) h k };
 
@@ -294,7 +294,7 @@ impl<'a> RangeStream for TextStream<'a> {
 // Returns the first character, and what is left after it.
 #[inline(always)]
 fn step_on<'a>(rest: &'a str, place: SourcePosition) -> Option<(char, TextStream<'a>)>
-    requires { Fits place (length rest.now) }
+    requires { CountsFit place (length rest.now) }
     ensures { MatchOption result (chars rest.now ≡ []) (λ p. StepsOn rest.now place p.0 p.1.rest.now p.1.place) }
 {
     match split_first(rest) {
@@ -312,7 +312,7 @@ fn step_on<'a>(rest: &'a str, place: SourcePosition) -> Option<(char, TextStream
 // Returns the same place, whose characters are fewer than 2^64.
 #[inline(always)]
 fn here<'a>(rest: &'a str, place: SourcePosition) -> TextStream<'a>
-    requires { Fits place (length rest.now) }
+    requires { CountsFit place (length rest.now) }
     ensures rest { result.rest.now ≡ rest.now }
     ensures place { result.place ≡ place }
     ensures short { length (chars rest.now) < 2 ^ 64 }
@@ -322,7 +322,7 @@ fn here<'a>(rest: &'a str, place: SourcePosition) -> TextStream<'a>
 
 // Returns the place after a text.
 fn place_after(place: SourcePosition, text: &str) -> SourcePosition
-    requires { Fits place (length text.now) }
+    requires { CountsFit place (length text.now) }
     ensures place { result ≡ after_all next_place place (chars text.now) }
     ensures text { IsUtf8 text.now }
 {
@@ -342,7 +342,7 @@ fn place_after(place: SourcePosition, text: &str) -> SourcePosition
 // Makes a place in a text.
 #[inline(always)]
 fn put<'a>(rest: &'a str, place: SourcePosition) -> TextStream<'a>
-    requires { Fits place (length rest.now) }
+    requires { CountsFit place (length rest.now) }
     ensures rest { result.rest.now ≡ rest.now }
     ensures place { result.place ≡ place }
 {
@@ -356,7 +356,7 @@ fn take_range<'a>(
     place: SourcePosition,
     n: usize,
 ) -> Result<(&'a str, TextStream<'a>), Kind>
-    requires { Fits place (length rest.now) }
+    requires { CountsFit place (length rest.now) }
     ensures { MatchResult result (λ p. (k : ℕ) × Cut rest.now n k p.0.now p.1.rest.now × (p.1.place ≡ after_all next_place place (take k (chars rest.now)))) (λ why. uncut rest.now n why) }
 {
     match cut(rest, n) {
@@ -412,7 +412,7 @@ fn part_of<'a>(text: &'a str, from: usize, to: usize, place: SourcePosition) -> 
     requires from { IsCharBoundary text.now from }
     requires to { IsCharBoundary text.now to }
     requires order { from ≤ to }
-    requires place { place ≡ behind (chars text.now) (index_of text.now from) }
+    requires place { place ≡ place_behind (chars text.now) (index_of text.now from) }
     ensures rest { chars result.rest.now ≡ drop (index_of text.now from) (take (index_of text.now to) (chars text.now)) }
     ensures place { result.place ≡ place }
 {

@@ -1,11 +1,11 @@
 -- the alternatives of a choice, tried in order: each answer of one is an answer of the choice, or the next is tried
 use Rattle.std.proofs.Common.{ℕ, ◌<◌, ◌≤◌, ◌≡◌, inl, inr, List, [], Bool, true, false, length, arith, ap, sym, subst, refl, ◌∙◌}
-use Rattle.combine_base.specs.Stream.View.{View, Takes, extended, Follows}
-use Rattle.combine_base.specs.Stream.Advance.{extended_none, follows_none, stands}
+use Rattle.combine_base.specs.Stream.View.{View, Takes, extended, MayFollow}
+use Rattle.combine_base.specs.Stream.Advance.{extended_none, follows_none, decided_stays}
 use Rattle.combine_base.specs.Parser.Outcome.{Outcome, Accepted, Refused, Undecided, after, IsCommitted}
 use Rattle.combine_base.specs.Parser.DriverAnswers.{NeedsMore}
 use Rattle.combine_base.specs.Parser.Meaning.{Meaning, Reading, IsReading, IsMeaning, begun}
-use Rattle.combine_base.specs.Parser.Answer.{Run, World, Answers, Accepts, Refuses, Asks, Leaves, peeks, loses}
+use Rattle.combine_base.specs.Parser.Answer.{CallRecord, World, Answers, Accepts, Refuses, Asks, Leaves, peeks, loses}
 use Rattle.combine_base.specs.Stream.Calls.{Passes}
 use Rattle.combine_base.proofs.Errors.CallErrors.{around, Settles, settles, needs, peeked_refusal}
 use Rattle.combine_base.proofs.Parsers.Progress.{after_none, takes_none}
@@ -16,7 +16,7 @@ use Rattle.combine_base.specs.declared.stream.Failures.{Failures}
 use Rattle.combine_base.specs.declared.error.Tracked.{Tracked}
 use Rattle.combine_base.specs.declared.error.ParseResult.{ParseResult}
 use Rattle.combine_base.specs.declared.error.ParseResult.TheVariants.{CommitOk, PeekOk, CommitErr, PeekErr}
-use Rattle.combine_token.specs.Choice.Choices.{Either, Here, Later, IsFirm, refused, either_into, firm_or}
+use Rattle.combine_token.specs.Choice.Choices.{OrElse, Here, Later, IsFirm, refused, either_into, firm_or}
 
 firm_after : {V : Type 0} (n : ℕ) (o : Outcome V) → IsFirm o → IsFirm (after n false o)
 firm_after n (Accepted v i k) f = f
@@ -43,20 +43,20 @@ module _ {P T R V S S' E : Type 0} (w : World P T S E) (fresh : S' → Type 0) (
   -- a choice that began so tries an alternative so, with the stream where the choice began; q is what the later alternatives mean
   pub record Tries (first : Bool) (state : S) (now : View P T) (so_far : Failures) (began : Bool) (given : S') (old : View P T) (before : Failures) : Type 0 where
     pub same : now ≡ old
-    pub gives : (x : List T) (b : Bool) (o : Outcome V) → Follows old.is_open x b → Either (begun m first state) q (extended x b old) o → begun m' began given (extended x b old) o
-    pub failures : w.steady → so_far ≡ before
+    pub gives : (x : List T) (b : Bool) (o : Outcome V) → MayFollow old.is_open x b → OrElse (begun m first state) q (extended x b old) o → begun m' began given (extended x b old) o
+    pub failures : w.counts_failures → so_far ≡ before
     pub reads : before.reads ≤ so_far.reads
     pub resets : before.resets ≤ so_far.resets
     pub keeps : m'.keeps → m.keeps
     pub puts_back : m'.puts_back → m.puts_back
-    pub lean : m'.lean → m.lean
+    pub heapless : m'.heapless → m.heapless
     pub lost : first ≡ false → m.lost state now → (began ≡ false) × m'.lost given old
 
-  module _ (r : Run P T S) (u : Run P T S') (z : Tries r.first r.state r.old r.before u.first u.state u.old u.before) where
+  module _ (r : CallRecord P T S) (u : CallRecord P T S') (z : Tries r.first r.state r.old r.before u.first u.state u.old u.before) where
     -- an outcome of what is left to try is one of the choice
-    tried : (o : Outcome V) → Either (begun m r.first r.state) q u.old o → begun m' u.first u.state u.old o
+    tried : (o : Outcome V) → OrElse (begun m r.first r.state) q u.old o → begun m' u.first u.state u.old o
     tried o p =
-        let At : View P T → Type 0 = λ x. Either (begun m r.first r.state) q x o in
+        let At : View P T → Type 0 = λ x. OrElse (begun m r.first r.state) q x o in
         let To : View P T → Type 0 = λ x. begun m' u.first u.state x o in
         subst To (extended_none u.old) (z.gives [] u.old.is_open o (follows_none T u.old.is_open) (subst At (sym (extended_none u.old)) p))
 
@@ -68,7 +68,7 @@ module _ {P T R V S S' E : Type 0} (w : World P T S E) (fresh : S' → Type 0) (
     later o p i = tried o (Later (subst (λ x. begun m r.first r.state x (Refused false)) z.same p.meant) i)
 
     -- what the later ones accept, after a peeked refusal that was put back
-    pub tries_falls : (v : V) → q u.old (Accepted v 0 false) → (e : Tracked E) → Answers w m r (PeekErr e) → u.new ≡ u.old → (w.steady → u.after ≡ r.after) → fresh u.left → Answers (around w fresh) m' u (PeekOk v)
+    pub tries_falls : (v : V) → q u.old (Accepted v 0 false) → (e : Tracked E) → Answers w m r (PeekErr e) → u.new ≡ u.old → (w.counts_failures → u.after ≡ r.after) → fresh u.left → Answers (around w fresh) m' u (PeekOk v)
     tries_falls v i e p n f l =
         let y = peeked_refusal w m r (w.kind e.error) p.is in
         record { is = record { count = 0; meant = later (Accepted v 0 false) y i; taken = rw n (takes_none w.step u.old); state = l; failures = λ s. f s ∙ y.failures s ∙ z.failures s } }
@@ -98,7 +98,7 @@ module _ {P T R V S S' E : Type 0} (w : World P T S E) (fresh : S' → Type 0) (
         is_open = ap (λ (x : View P T). x.is_open) z.same;
         refuses = λ p. record { meant = here (Refused true) refl p.meant; leaves = leaves (l p.leaves) p.leaves; failures = λ s. f ∙ p.failures s ∙ z.failures s };
         leaves = λ p. leaves (l p) p;
-        lean = z.lean;
+        heapless = z.heapless;
         reads = λ h. let i = z.reads in rw f (omega arith);
         resets = λ h. let i = z.resets in rw f (omega arith);
         loses = losing r.first u.first refl refl;
@@ -114,7 +114,7 @@ module _ {P T R V S S' E : Type 0} (w : World P T S E) (fresh : S' → Type 0) (
       tries_fails e i p l = settles w fresh m m' r u e i p (settling l)
 
       -- need of more: the state left holds the running alternative
-      asks : ((v : View P T) (o : Outcome V) → m'.rest u.left v o → Either (m.rest r.left) q v o) → ((v : View P T) → m'.lost u.left v → m.lost r.left v) → Asks w m r → Asks (around w fresh) m' u
+      asks : ((v : View P T) (o : Outcome V) → m'.rest u.left v o → OrElse (m.rest r.left) q v o) → ((v : View P T) → m'.lost u.left v → m.lost r.left v) → Asks w m r → Asks (around w fresh) m' u
       asks g l p = record {
         is_open = ap (λ (x : View P T). x.is_open) (sym z.same) ∙ p.is_open;
         count = p.count;
@@ -127,17 +127,17 @@ module _ {P T R V S S' E : Type 0} (w : World P T S E) (fresh : S' → Type 0) (
         failures = λ s. f ∙ p.failures s ∙ z.failures s;
       }
         where
-          follows : (x : List T) (b : Bool) → Follows u.old.is_open x b → Follows r.old.is_open x b
+          follows : (x : List T) (b : Bool) → MayFollow u.old.is_open x b → MayFollow r.old.is_open x b
           follows x b j = rw z.same j
 
           back : (x : List T) (b : Bool) (o : Outcome V) → begun m r.first r.state (extended x b r.old) o → begun m r.first r.state (extended x b u.old) o
           back x b o i = subst (λ y. begun m r.first r.state (extended x b y) o) z.same i
 
           -- after a token was taken it isn't refused peeked
-          stays : (x : List T) (b : Bool) → Follows u.old.is_open x b → m.rest r.left (extended x b r.new) (Refused false) → 0 < p.count → ⊥
+          stays : (x : List T) (b : Bool) → MayFollow u.old.is_open x b → m.rest r.left (extended x b r.new) (Refused false) → 0 < p.count → ⊥
           stays x b j d h = let y = p.resumes.committed x b (Refused false) (follows x b j) h d in cc
 
-          giving : (x : List T) (b : Bool) (o : Outcome V) → Follows u.old.is_open x b → Either (m.rest r.left) q (extended x b r.new) o → begun m' u.first u.state (extended x b u.old) (after p.count false o)
+          giving : (x : List T) (b : Bool) (o : Outcome V) → MayFollow u.old.is_open x b → OrElse (m.rest r.left) q (extended x b r.new) o → begun m' u.first u.state (extended x b u.old) (after p.count false o)
           giving x b o j (Here i k) = z.gives x b (after p.count false o) j (Here (back x b _ (p.resumes.gives x b o (follows x b j) i)) (firm_after p.count o k))
           giving x b o j (Later d i) =
               let none = stays x b j d in
@@ -147,11 +147,11 @@ module _ {P T R V S S' E : Type 0} (w : World P T S E) (fresh : S' → Type 0) (
               let a : after p.count false o ≡ o = ap (λ k. after k false o) e ∙ after_none o in
               rw a (z.gives x b o j (Later c (subst (λ y. q (extended x b y) o) t i)))
 
-          committing : (x : List T) (b : Bool) (o : Outcome V) → Follows u.old.is_open x b → 0 < p.count → Either (m.rest r.left) q (extended x b r.new) o → IsCommitted o
+          committing : (x : List T) (b : Bool) (o : Outcome V) → MayFollow u.old.is_open x b → 0 < p.count → OrElse (m.rest r.left) q (extended x b r.new) o → IsCommitted o
           committing x b o j h (Here i k) = p.resumes.committed x b o (follows x b j) h i
           committing x b o j h (Later d i) = absurd (stays x b j d h)
 
-      pub tries_asks : (e : E) → (w.kind e ≡ kinds.End) × (r.new.is_open ≡ true) → Answers w m r (CommitErr e) → ((v : View P T) (o : Outcome V) → m'.rest u.left v o → Either (m.rest r.left) q v o) → ((v : View P T) → m'.lost u.left v → m.lost r.left v) → Answers (around w fresh) m' u (CommitErr e)
+      pub tries_asks : (e : E) → (w.kind e ≡ kinds.End) × (r.new.is_open ≡ true) → Answers w m r (CommitErr e) → ((v : View P T) (o : Outcome V) → m'.rest u.left v o → OrElse (m.rest r.left) q v o) → ((v : View P T) → m'.lost u.left v → m.lost r.left v) → Answers (around w fresh) m' u (CommitErr e)
       tries_asks e i p g l = needs w fresh m m' r u e i p (ap (λ (x : View P T). x.is_open) z.same) (asks g l)
 
       -- the last alternative was refused peeked
@@ -177,14 +177,14 @@ module _ {P T R V S S' E : Type 0} (w : World P T S E) (fresh : S' → Type 0) (
       tries_ends (PeekErr e) i g l p = tries_peeks e g p (λ y. l)
 
       -- need of more of it
-      pub tries_needs : (answer : ParseResult V E) → NeedsMore w.kind r.new.is_open answer → Answers w m r answer → ((v : View P T) (o : Outcome V) → m'.rest u.left v o → Either (m.rest r.left) q v o) → ((v : View P T) → m'.lost u.left v → m.lost r.left v) → Answers (around w fresh) m' u answer
+      pub tries_needs : (answer : ParseResult V E) → NeedsMore w.kind r.new.is_open answer → Answers w m r answer → ((v : View P T) (o : Outcome V) → m'.rest u.left v o → OrElse (m.rest r.left) q v o) → ((v : View P T) → m'.lost u.left v → m.lost r.left v) → Answers (around w fresh) m' u answer
       tries_needs (CommitOk v) i p g l = absurd i
       tries_needs (PeekOk v) i p g l = absurd i
       tries_needs (CommitErr e) i p g l = tries_asks e i p g l
       tries_needs (PeekErr e) i p g l = absurd i
 
 -- the choice begins with this alternative
-pub tries_start : {P T R V S S' E : Type 0} (w : World P T S E) (fresh : S' → Type 0) (m : Meaning P T R E V S) (q : Reading P T V) (m' : Meaning P T R E V S') (valid : S → Type 0) → IsMeaning w.fresh valid m → (first : Bool) (s : S) (given : S') → (first ≡ true → w.fresh s) → ((v : View P T) (o : Outcome V) → Either (m.rest s) q v o → m'.rest given v o) → ((v : View P T) → m.lost s v → m'.lost given v) → (m'.keeps → m.keeps) → (m'.puts_back → m.puts_back) → (m'.lean → m.lean) → (v : View P T) (f : Failures) → Tries w fresh m q m' first s v f false given v f
+pub tries_start : {P T R V S S' E : Type 0} (w : World P T S E) (fresh : S' → Type 0) (m : Meaning P T R E V S) (q : Reading P T V) (m' : Meaning P T R E V S') (valid : S → Type 0) → IsMeaning w.fresh valid m → (first : Bool) (s : S) (given : S') → (first ≡ true → w.fresh s) → ((v : View P T) (o : Outcome V) → OrElse (m.rest s) q v o → m'.rest given v o) → ((v : View P T) → m.lost s v → m'.lost given v) → (m'.keeps → m.keeps) → (m'.puts_back → m.puts_back) → (m'.heapless → m.heapless) → (v : View P T) (f : Failures) → Tries w fresh m q m' first s v f false given v f
 tries_start w fresh m q m' valid h first s given d g l k b e v f = record {
   same = refl;
   gives = λ x c o j i. g _ o (either_into (begun m first s) (m.rest s) q q (begun_rest w.fresh valid m h first s d) (λ v o i. i) _ o i);
@@ -193,29 +193,29 @@ tries_start w fresh m q m' valid h first s given d g l k b e v f = record {
   resets = omega arith;
   keeps = k;
   puts_back = b;
-  lean = e;
+  heapless = e;
   lost = λ i j. (refl, l v j);
 }
 
 -- an alternative was refused peeked and the stream put back: the next is tried
-module _ {P T R V S S' S'' E : Type 0} (w : World P T S E) (fresh : S' → Type 0) (m : Meaning P T R E V S) (q : Reading P T V) (m' : Meaning P T R E V S') (fresh2 valid2 : S'' → Type 0) (m2 : Meaning P T R E V S'') (q2 : Reading P T V) (h : IsMeaning fresh2 valid2 m2) (r : Run P T S) (began : Bool) (given : S') (old : View P T) (before : Failures) (z : Tries w fresh m q m' r.first r.state r.old r.before began given old before) where
-  pub tries_next : {C : Type 0} {a d : C → View P T → Type 0} → IsReading (begun m r.first r.state) → (e : Tracked E) → Answers w m r (PeekErr e) → ((v : View P T) (o : Outcome V) → Either m2.whole q2 v o → q v o) → (m'.keeps → m2.keeps) → (m'.puts_back → m2.puts_back) → (m'.lean → m2.lean) → (first : Bool) (s : S'') → fresh2 s → (now : View P T) (so_far : Failures) → now ≡ r.old → (w.steady → so_far ≡ r.after) → Passes a d r.before so_far → Tries (around w fresh2) fresh m2 q2 m' first s now so_far began given old before
+module _ {P T R V S S' S'' E : Type 0} (w : World P T S E) (fresh : S' → Type 0) (m : Meaning P T R E V S) (q : Reading P T V) (m' : Meaning P T R E V S') (fresh2 valid2 : S'' → Type 0) (m2 : Meaning P T R E V S'') (q2 : Reading P T V) (h : IsMeaning fresh2 valid2 m2) (r : CallRecord P T S) (began : Bool) (given : S') (old : View P T) (before : Failures) (z : Tries w fresh m q m' r.first r.state r.old r.before began given old before) where
+  pub tries_next : {C : Type 0} {a d : C → View P T → Type 0} → IsReading (begun m r.first r.state) → (e : Tracked E) → Answers w m r (PeekErr e) → ((v : View P T) (o : Outcome V) → OrElse m2.whole q2 v o → q v o) → (m'.keeps → m2.keeps) → (m'.puts_back → m2.puts_back) → (m'.heapless → m2.heapless) → (first : Bool) (s : S'') → fresh2 s → (now : View P T) (so_far : Failures) → now ≡ r.old → (w.counts_failures → so_far ≡ r.after) → Passes a d r.before so_far → Tries (around w fresh2) fresh m2 q2 m' first s now so_far began given old before
   tries_next y e p i ke pu le first s d now so_far n f a =
       let c = peeked_refusal w m r (w.kind e.error) p.is in
       record {
         same = n ∙ z.same;
-        gives = λ x b o j k. z.gives x b o j (Later (stands (begun m r.first r.state) y old x b (Refused false) j tt (subst (λ x. begun m r.first r.state x (Refused false)) z.same c.meant)) (i _ o (either_into (begun m2 first s) m2.whole q2 q2 (begun_whole fresh2 valid2 m2 h first s d) (λ v o i. i) _ o k)));
+        gives = λ x b o j k. z.gives x b o j (Later (decided_stays (begun m r.first r.state) y old x b (Refused false) j tt (subst (λ x. begun m r.first r.state x (Refused false)) z.same c.meant)) (i _ o (either_into (begun m2 first s) m2.whole q2 q2 (begun_whole fresh2 valid2 m2 h first s d) (λ v o i. i) _ o k)));
         failures = λ s. f s ∙ c.failures s ∙ z.failures s;
         reads = let k = z.reads in let l = a.reads in omega arith;
         resets = let k = z.resets in let l = a.resets in omega arith;
         keeps = ke;
         puts_back = pu;
-        lean = le;
+        heapless = le;
         lost = λ j k. absurd (h.found s now d k);
       }
 
 -- the alternative's own state is the choice's
-module _ {P T R V S E : Type 0} (w : World P T S E) (m m' : Meaning P T R E V S) (q : Reading P T V) (g : (s : S) (v : View P T) (o : Outcome V) → m'.rest s v o → Either (m.rest s) q v o) (i : (s : S) (v : View P T) → m'.lost s v → m.lost s v) (r : Run P T S) (u : Run P T S) (z : Tries w w.fresh m q m' r.first r.state r.old r.before u.first u.state u.old u.before) (n : u.new ≡ r.new) (l : u.left ≡ r.left) (f : u.after ≡ r.after) where
+module _ {P T R V S E : Type 0} (w : World P T S E) (m m' : Meaning P T R E V S) (q : Reading P T V) (g : (s : S) (v : View P T) (o : Outcome V) → m'.rest s v o → OrElse (m.rest s) q v o) (i : (s : S) (v : View P T) → m'.lost s v → m.lost s v) (r : CallRecord P T S) (u : CallRecord P T S) (z : Tries w w.fresh m q m' r.first r.state r.old r.before u.first u.state u.old u.before) (n : u.new ≡ r.new) (l : u.left ≡ r.left) (f : u.after ≡ r.after) where
   left_fresh : w.fresh r.left → w.fresh u.left
   left_fresh d = rw l d
 
@@ -228,13 +228,13 @@ module _ {P T R V S E : Type 0} (w : World P T S E) (m m' : Meaning P T R E V S)
   pub own_error : (e : E) → Answers w m r (CommitErr e) → Answers w m' u (CommitErr e)
   own_error e p =
       elim (need_or_not (w.kind e) r.new.is_open) [
-        | inl y ↦ tries_asks w w.fresh m q m' r u z n f e y p (λ v o j. subst (λ s. Either (m.rest s) q v o) l (g u.left v o j)) (λ v j. subst (λ s. m.lost s v) l (i u.left v j))
+        | inl y ↦ tries_asks w w.fresh m q m' r u z n f e y p (λ v o j. subst (λ s. OrElse (m.rest s) q v o) l (g u.left v o j)) (λ v j. subst (λ s. m.lost s v) l (i u.left v j))
         | inr y ↦ tries_fails w w.fresh m q m' r u z n f e y p (λ k. left_fresh k.state)
       ]
 
 -- an answer of a choice from one state is one from another
-module _ {P T R V S E : Type 0} (w : World P T S E) (m : Meaning P T R E V S) (r : Run P T S) (u : Run P T S) (z : Tries w w.fresh m refused m r.first r.state r.old r.before u.first u.state u.old u.before) (n : u.new ≡ r.new) (l : u.left ≡ r.left) (f : u.after ≡ r.after) where
-  alone : (s : S) (v : View P T) (o : Outcome V) → m.rest s v o → Either (m.rest s) refused v o
+module _ {P T R V S E : Type 0} (w : World P T S E) (m : Meaning P T R E V S) (r : CallRecord P T S) (u : CallRecord P T S) (z : Tries w w.fresh m refused m r.first r.state r.old r.before u.first u.state u.old u.before) (n : u.new ≡ r.new) (l : u.left ≡ r.left) (f : u.after ≡ r.after) where
+  alone : (s : S) (v : View P T) (o : Outcome V) → m.rest s v o → OrElse (m.rest s) refused v o
   alone s v o i = firm_or (m.rest s) v o i
 
   pub tries_answers : (result : ParseResult V E) → Answers w m r result → Answers w m u result

@@ -2,7 +2,7 @@
 use Rattle.std.proofs.Common.{◌≡◌, inl, inr, Bool, true, false, subst}
 use Rattle.std.specs.declared.cmp.Ordering.{Ordering}
 use Rattle.combine_base.specs.Stream.View.{View}
-use Rattle.combine_base.specs.Error.Errors.{Errors, Joined, later}
+use Rattle.combine_base.specs.Error.Errors.{Observers, JoinedErrors, later_position}
 use Rattle.combine_base.specs.Parser.Meaning.{Meaning, IsMeaning, MeantRefusal, Refusing, begun, begun_refuses, refusals, refusals_begin, refusals_from}
 use Rattle.combine_base.specs.Parser.Reasons.{Reasoned}
 use Rattle.combine_base.proofs.Errors.CallReasons.{reasons_fault, reasons_hand_on, reasons_ok, reasons_peek_ok, reasons_peeked}
@@ -14,7 +14,7 @@ use Rattle.combine_base.specs.declared.error.ParseResult.TheVariants.{CommitOk, 
 use Rattle.combine_token.specs.Choice.Alternatives.{AfterRefusal, refuses_both}
 use Rattle.combine_token.specs.Choice.Or.{either_of}
 use Rattle.combine_token.specs.Token.TokenReasons.{RefusesOr, or_into}
-use Rattle.combine_token.specs.Choice.FirstAlternative.{begins}
+use Rattle.combine_token.specs.Choice.FirstAlternative.{first_begins_in}
 use Rattle.combine_token.specs.declared.choice.OrState.{OrState}
 use Rattle.combine_token.specs.declared.choice.OrState.TheVariants.{Peek, A, B}
 
@@ -22,9 +22,9 @@ use Rattle.combine_token.specs.declared.choice.OrState.TheVariants.{Peek, A, B}
 abbrev pub begun_refusals : {P T R E V S : Type 0} → Meaning P T R E V S → Bool → S → Refusing P T E
 begun_refusals m first s = MeantRefusal (begun m first s) (begun_refuses m first s)
 
-module _ {P T R V S S' E : Type 0} (s : Errors T R P E) (cmp : P → P → Ordering) {fresh valid : S → Type 0} {fresh' valid' : S' → Type 0} {a : Meaning P T R E V S} {b : Meaning P T R E V S'} (h : IsMeaning fresh valid a) (k : IsMeaning fresh' valid' b) where
+module _ {P T R V S S' E : Type 0} (s : Observers T R P E) (cmp : P → P → Ordering) {fresh valid : S → Type 0} {fresh' valid' : S' → Type 0} {a : Meaning P T R E V S} {b : Meaning P T R E V S'} (h : IsMeaning fresh valid a) (k : IsMeaning fresh' valid' b) where
   -- where the first began so, behind it the second
-  from_first : (first : Bool) (given : OrState S S') (q : S) → begins fresh first given q → (v w : View P T) (c : Bool) (e : E) → RefusesOr s cmp (begun a first q) (begun_refusals a first q) (refusals b) v w c e → begun_refuses (either_of s cmp a b) first given v w c e
+  from_first : (first : Bool) (given : OrState S S') (q : S) → first_begins_in fresh first given q → (v w : View P T) (c : Bool) (e : E) → RefusesOr s cmp (begun a first q) (begun_refusals a first q) (refusals b) v w c e → begun_refuses (either_of s cmp a b) first given v w c e
   from_first true given q d v w c e p = p
   from_first false Peek q d v w c e p = or_into s cmp (a.rest q) a.whole (refusals_from a q) (refusals a) (refusals b) (refusals b) (λ v o. (h.start q v o d).0) (λ v w c e. (refusals_begin h q d v w c e).0) (λ v w c e x. x) v w c e p
   from_first false (A t) q d v w c e p = subst (λ z. RefusesOr s cmp (a.rest z) (refusals_from a z) (refusals b) v w c e) d p
@@ -35,7 +35,7 @@ module _ {P T R V S S' E : Type 0} (s : Errors T R P E) (cmp : P → P → Order
   afresh true l d v w c e p = p
   afresh false l d v w c e p = (refusals_begin k l d v w c e).0 p
 
-  module _ (first : Bool) (given : OrState S S') (q : S) (d : begins fresh first given q) (old new : View P T) where
+  module _ (first : Bool) (given : OrState S S') (q : S) (d : first_begins_in fresh first given q) (old new : View P T) where
     abbrev here : Bool → E → Type 0
     here = begun_refuses (either_of s cmp a b) first given old new
 
@@ -51,7 +51,7 @@ module _ {P T R V S S' E : Type 0} (s : Errors T R P E) (cmp : P → P → Order
       second_commits : (e : E) → begun_refusals b first l old new true e → here true e
       second_commits e x = from_first first given q d old new true e (record { is = inr (own.meant, afresh first l i old new true e x) })
 
-      both_peek : (u e : E) → begun_refusals b first l old new false u → Joined s (later cmp (s.position t.error) (s.position u)) t.error u e → here false e
+      both_peek : (u e : E) → begun_refusals b first l old new false u → JoinedErrors s (later_position cmp (s.position t.error) (s.position u)) t.error u e → here false e
       both_peek u e x j = from_first first given q d old new false e (record { is = record { own = t.error; other = u; left = mid; refused_first = own; refused_second = afresh first l i old new false u x; joined = j } })
 
       merging : (u : Tracked E) (result : ParseResult V E) → begun_refusals b first l old new false u.error → refuses_both s cmp t.error u.error result → Reasoned s.kind new.is_open here result

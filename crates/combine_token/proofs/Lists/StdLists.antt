@@ -12,8 +12,8 @@ use Rattle.std.proofs.lemmas.List.{nil_from_length}
 use Rattle.std.proofs.lemmas.Str.{chars-nil, chars-encodes, encodes-chars}
 use Rattle.std.proofs.lemmas.Iterator.{YieldsList-from_slice, YieldsList-from_chars}
 use Rattle.combine_token.specs.Token.Lists.IteratedLists.{IsIterated}
-use Rattle.combine_token.specs.Token.Lists.KnownLists.{Lists}
-use Rattle.combine_token.proofs.Lists.GivenItems.{Gives, gives_all}
+use Rattle.combine_token.specs.Token.Lists.KnownLists.{ListGives}
+use Rattle.combine_token.proofs.Lists.GivenItems.{CanGive, can_give_all}
 use Rattle.combine_token.proofs.Lists.ListClones.{is_iterated}
 use lib.Utf8.{scalar, scalars, encodes}
 
@@ -23,24 +23,24 @@ module _ {I A B : Type 0} (steps : I → Option A → I → Type 0) (rest : I �
   gives_rest [] s e = λ x j k. let i = some s j x k in cc
   gives_rest (y ∷ ys) s e = (λ j k. let i = none s j k in cc, λ x j k. let i = some s j x k in (cc, gives_rest ys j (cc)))
 
-  pub rest_lists : {L : Type 0} (clones : L → L → Type 0) (makes : L → I → Type 0) (list : L) (ys : List B) → ((clone : L) (start : I) → clones list clone → makes clone start → rest start ≡ ys) → Lists clones makes steps list v ys
+  pub rest_lists : {L : Type 0} (clones : L → L → Type 0) (makes : L → I → Type 0) (list : L) (ys : List B) → ((clone : L) (start : I) → clones list clone → makes clone start → rest start ≡ ys) → ListGives clones makes steps list v ys
   rest_lists clones makes list ys begins = record { each = λ clone start i j. record { runs = gives_rest ys start (begins clone start i j) } }
 
 -- a slice, an array behind a reference, or the iterator of one
 module _ {L A : Type 0} (clones : L → L → Type 0) (makes : L → Iter A → Type 0) (list : L) (xs : List A) (begins : (clone : L) (start : Iter A) → clones list clone → makes clone start → iter_rest start ≡ xs) where
-  pub slice_lists : Lists clones makes iter_steps list (λ x. x.now) xs
+  pub slice_lists : ListGives clones makes iter_steps list (λ x. x.now) xs
   slice_lists = record { each = λ clone start i j. YieldsList-from_slice xs (begins clone start i j) }
 
   pub slice_is_iterated : length xs < 2 ^ 64 → IsIterated clones makes iter_steps list (λ s. Unit {0}) (λ s. at_most (length (iter_rest s)))
   slice_is_iterated d = is_iterated clones makes iter_steps list (λ x. x.now) xs slice_lists (λ s. Unit {0}) (λ s. at_most (length (iter_rest s))) (λ clone start i j. (tt, tt, rw (begins clone start i j) d))
 
 module _ {L A : Type 0} (clones : L → L → Type 0) (makes : L → Iter A → Type 0) (list : L) (xs : List A) (clone : L) (start : Iter A) (i : clones list clone) (j : makes clone start) where
-  pub slice_gives : iter_rest start ≡ xs → Gives clones makes iter_steps list (λ x. x.now) xs
-  slice_gives = gives_all iter_steps (λ x. x.now) (λ s ys. iter_rest s ≡ ys) (λ s y ys e. (record { ref_ptr = (0, 0); now = y }, record { rest = record { ref_ptr = (0, 0); now = ys } }, refl, e, refl)) (λ s e. (s, (ap length e, refl))) clones makes list xs clone start i j
+  pub slice_gives : iter_rest start ≡ xs → CanGive clones makes iter_steps list (λ x. x.now) xs
+  slice_gives = can_give_all iter_steps (λ x. x.now) (λ s ys. iter_rest s ≡ ys) (λ s y ys e. (record { ref_ptr = (0, 0); now = y }, record { rest = record { ref_ptr = (0, 0); now = ys } }, refl, e, refl)) (λ s e. (s, (ap length e, refl))) clones makes list xs clone start i j
 
 -- an array, by value
 module _ {L A : Type 0} (n : ℕ) (clones : L → L → Type 0) (makes : L → IntoIter A n → Type 0) (list : L) (xs : List A) (begins : (clone : L) (start : IntoIter A n) → clones list clone → makes clone start → array_into_iter_items start ≡ xs) where
-  pub array_lists : Lists clones makes array_steps list (λ x. x) xs
+  pub array_lists : ListGives clones makes array_steps list (λ x. x) xs
   array_lists = rest_lists array_steps array_into_iter_items (λ x. x) (λ s t x k. k) (λ s t k. nil_from_length _ k.0) clones makes list xs begins
 
   pub array_is_iterated : length xs < 2 ^ 64 → IsIterated clones makes array_steps list (λ s. Unit {0}) (λ s. at_most (length (array_into_iter_items s)))
@@ -48,7 +48,7 @@ module _ {L A : Type 0} (n : ℕ) (clones : L → L → Type 0) (makes : L → I
 
 -- the characters of a text
 module _ {L : Type 0} (clones : L → L → Type 0) (makes : L → Chars → Type 0) (list : L) (bs : List ℕ) (text : IsUtf8 bs) (begins : (clone : L) (start : Chars) → clones list clone → makes clone start → chars_rest start ≡ bs) where
-  pub chars_lists : Lists clones makes chars_steps list (λ c. c) (chars bs)
+  pub chars_lists : ListGives clones makes chars_steps list (λ c. c) (chars bs)
   chars_lists = record { each = λ clone start i j. YieldsList-from_chars bs text (begins clone start i j) }
 
   pub chars_is_iterated : length bs < 2 ^ 64 → IsIterated clones makes chars_steps list (λ s. Unit {0}) (λ s. at_most (length (chars_rest s)))
@@ -73,8 +73,8 @@ no_char s h =
     (s, ((sym l, refl), λ d. absurd (omega arith), e))
 
 module _ {L : Type 0} (clones : L → L → Type 0) (makes : L → Chars → Type 0) (list : L) (bs : List ℕ) (text : IsUtf8 bs) (clone : L) (start : Chars) (i : clones list clone) (j : makes clone start) where
-  pub chars_gives : chars_rest start ≡ bs → Gives clones makes chars_steps list (λ c. c) (chars bs)
+  pub chars_gives : chars_rest start ≡ bs → CanGive clones makes chars_steps list (λ c. c) (chars bs)
   chars_gives e =
       let c = sym (chars-encodes text.0 text.1.0) ∙ ap chars text.1.1 in
       let s : scalars (chars bs) ≡ true = subst (λ cs. scalars cs ≡ true) c text.1.0 in
-      gives_all chars_steps (λ c. c) Spells next_char no_char clones makes list (chars bs) clone start i j (s, encodes-chars bs text ∙ sym e)
+      can_give_all chars_steps (λ c. c) Spells next_char no_char clones makes list (chars bs) clone start i j (s, encodes-chars bs text ∙ sym e)

@@ -17,22 +17,22 @@ firm_shape Undecided f e = cc
 
 module _ {P T V : Type 0} where
   -- two readings have the same outcomes
-  abbrev pub Agree : Reading P T V → Reading P T V → Type 0
-  Agree r q = (v : View P T) (o : Outcome V) → r v o ↔ q v o
+  abbrev pub ReadingsAgree : Reading P T V → Reading P T V → Type 0
+  ReadingsAgree r q = (v : View P T) (o : Outcome V) → r v o ↔ q v o
 
-  pub agree_self : (r : Reading P T V) → Agree r r
+  pub agree_self : (r : Reading P T V) → ReadingsAgree r r
   agree_self r v o = (λ p. p, λ p. p)
 
-  agree_back : (r q : Reading P T V) → Agree r q → Agree q r
+  agree_back : (r q : Reading P T V) → ReadingsAgree r q → ReadingsAgree q r
   agree_back r q i v o = ((i v o).1, (i v o).0)
 
-  agree_more : (r q t : Reading P T V) → Agree r q → Agree q t → Agree r t
+  agree_more : (r q t : Reading P T V) → ReadingsAgree r q → ReadingsAgree q t → ReadingsAgree r t
   agree_more r q t i j v o = (λ p. (j v o).0 ((i v o).0 p), λ p. (i v o).1 ((j v o).1 p))
 
   -- one alternative, and what the later ones mean
-  pub data Either (r q : Reading P T V) (v : View P T) (o : Outcome V) : Type 0 where
-    Here : (meant : r v o) (firm : IsFirm o) → Either r q v o
-    Later : (refused : r v (Refused false)) (meant : q v o) → Either r q v o
+  pub data OrElse (r q : Reading P T V) (v : View P T) (o : Outcome V) : Type 0 where
+    Here : (meant : r v o) (firm : IsFirm o) → OrElse r q v o
+    Later : (refused : r v (Refused false)) (meant : q v o) → OrElse r q v o
 
   -- no alternative is left
   abbrev pub refused : Reading P T V
@@ -50,80 +50,80 @@ module _ {P T V : Type 0} where
   refused_is_single = record { one = λ v o o' p q. cc }
 
   module _ (r q : Reading P T V) where
-    either_ended : IsReading r → IsReading q → (v : View P T) → v.is_open ≡ false → Either r q v Undecided → ⊥
+    either_ended : IsReading r → IsReading q → (v : View P T) → v.is_open ≡ false → OrElse r q v Undecided → ⊥
     either_ended h k v e (Here m f) = h.ended v e m
     either_ended h k v e (Later d m) = k.ended v e m
 
-    either_stays : IsReading r → IsReading q → (v : View P T) (x : List T) (b : Bool) (o : Outcome V) → v.is_open ≡ true → IsDecided o → Either r q v o → Either r q (extended x b v) o
+    either_stays : IsReading r → IsReading q → (v : View P T) (x : List T) (b : Bool) (o : Outcome V) → v.is_open ≡ true → IsDecided o → OrElse r q v o → OrElse r q (extended x b v) o
     either_stays h k v x b o e d (Here m f) = Here (h.stays v x b o e d m) f
     either_stays h k v x b o e d (Later n m) = Later (h.stays v x b (Refused false) e tt n) (k.stays v x b o e d m)
 
-    either_peeked : IsReading r → IsReading q → (v : View P T) (a : V) (n : ℕ) → Either r q v (Accepted a n false) → n ≡ 0
+    either_peeked : IsReading r → IsReading q → (v : View P T) (a : V) (n : ℕ) → OrElse r q v (Accepted a n false) → n ≡ 0
     either_peeked h k v a n (Here m f) = h.peeked v a n m
     either_peeked h k v a n (Later d m) = k.peeked v a n m
 
-    either_within : IsReading r → IsReading q → (v : View P T) (a : V) (n : ℕ) (c : Bool) → Either r q v (Accepted a n c) → n ≤ length v.unread
+    either_within : IsReading r → IsReading q → (v : View P T) (a : V) (n : ℕ) (c : Bool) → OrElse r q v (Accepted a n c) → n ≤ length v.unread
     either_within h k v a n c (Here m f) = h.within v a n c m
     either_within h k v a n c (Later d m) = k.within v a n c m
 
-    pub either_is_reading : IsReading r → IsReading q → IsReading (Either r q)
+    pub either_is_reading : IsReading r → IsReading q → IsReading (OrElse r q)
     either_is_reading h k = record { ended = either_ended h k; stays = either_stays h k; peeked = either_peeked h k; within = either_within h k }
 
-    either_one : IsSingle r → IsSingle q → (v : View P T) (o o' : Outcome V) → Either r q v o → Either r q v o' → shape o ≡ shape o'
+    either_one : IsSingle r → IsSingle q → (v : View P T) (o o' : Outcome V) → OrElse r q v o → OrElse r q v o' → shape o ≡ shape o'
     either_one h k v o o' (Here m f) (Here n g) = h.one v o o' m n
     either_one h k v o o' (Here m f) (Later d n) = absurd (firm_shape o f (h.one v o (Refused false) m d))
     either_one h k v o o' (Later d m) (Here n g) = absurd (firm_shape o' g (h.one v o' (Refused false) n d))
     either_one h k v o o' (Later d m) (Later c n) = k.one v o o' m n
 
-    pub either_is_single : IsSingle r → IsSingle q → IsSingle (Either r q)
+    pub either_is_single : IsSingle r → IsSingle q → IsSingle (OrElse r q)
     either_is_single h k = record { one = either_one h k }
 
   -- alternatives that allow more
-  pub either_into : (r r' q q' : Reading P T V) → ((v : View P T) (o : Outcome V) → r v o → r' v o) → ((v : View P T) (o : Outcome V) → q v o → q' v o) → (v : View P T) (o : Outcome V) → Either r q v o → Either r' q' v o
+  pub either_into : (r r' q q' : Reading P T V) → ((v : View P T) (o : Outcome V) → r v o → r' v o) → ((v : View P T) (o : Outcome V) → q v o → q' v o) → (v : View P T) (o : Outcome V) → OrElse r q v o → OrElse r' q' v o
   either_into r r' q q' i j v o (Here m f) = Here (i v o m) f
   either_into r r' q q' i j v o (Later d m) = Later (i v (Refused false) d) (j v o m)
 
-  pub either_both : (r r' q q' : Reading P T V) → Agree r r' → Agree q q' → Agree (Either r q) (Either r' q')
+  pub either_both : (r r' q q' : Reading P T V) → ReadingsAgree r r' → ReadingsAgree q q' → ReadingsAgree (OrElse r q) (OrElse r' q')
   either_both r r' q q' i j v o = (either_into r r' q q' (λ v o. (i v o).0) (λ v o. (j v o).0) v o, either_into r' r q' q (λ v o. (i v o).1) (λ v o. (j v o).1) v o)
 
   -- the last alternative means what it means alone
-  pub firm_or : (r : Reading P T V) (v : View P T) (o : Outcome V) → r v o → Either r refused v o
+  pub firm_or : (r : Reading P T V) (v : View P T) (o : Outcome V) → r v o → OrElse r refused v o
   firm_or r v (Accepted a n k) p = Here p tt
   firm_or r v (Refused true) p = Here p refl
   firm_or r v (Refused false) p = Later p refl
   firm_or r v Undecided p = Here p tt
 
-  pub last_is : (r : Reading P T V) (v : View P T) (o : Outcome V) → Either r refused v o → r v o
+  pub last_is : (r : Reading P T V) (v : View P T) (o : Outcome V) → OrElse r refused v o → r v o
   last_is r v o (Here m f) = m
   last_is r v o (Later d e) = rw e d
 
-  pub either_last : (r : Reading P T V) → Agree (Either r refused) r
+  pub either_last : (r : Reading P T V) → ReadingsAgree (OrElse r refused) r
   either_last r v o = (last_is r v o, firm_or r v o)
 
-  two_last : (a b : Reading P T V) → Agree (Either a (Either b refused)) (Either a b)
-  two_last a b = either_both a a (Either b refused) b (agree_self a) (either_last b)
+  two_last : (a b : Reading P T V) → ReadingsAgree (OrElse a (OrElse b refused)) (OrElse a b)
+  two_last a b = either_both a a (OrElse b refused) b (agree_self a) (either_last b)
 
   -- a choice of a choice is one choice
-  regroup : (a b c : Reading P T V) (v : View P T) (o : Outcome V) → Either (Either a b) c v o → Either a (Either b c) v o
+  regroup : (a b c : Reading P T V) (v : View P T) (o : Outcome V) → OrElse (OrElse a b) c v o → OrElse a (OrElse b c) v o
   regroup a b c v o (Here (Here m f) g) = Here m f
   regroup a b c v o (Here (Later d m) g) = Later d (Here m g)
   regroup a b c v o (Later (Here m f) n) = absurd (cc)
   regroup a b c v o (Later (Later d m) n) = Later d (Later m n)
 
-  ungroup : (a b c : Reading P T V) (v : View P T) (o : Outcome V) → Either a (Either b c) v o → Either (Either a b) c v o
+  ungroup : (a b c : Reading P T V) (v : View P T) (o : Outcome V) → OrElse a (OrElse b c) v o → OrElse (OrElse a b) c v o
   ungroup a b c v o (Here m f) = Here (Here m f) f
   ungroup a b c v o (Later d (Here m f)) = Here (Later d m) f
   ungroup a b c v o (Later d (Later e m)) = Later (Later d e) m
 
-  pub either_assoc : (a b c : Reading P T V) → Agree (Either (Either a b) c) (Either a (Either b c))
+  pub either_assoc : (a b c : Reading P T V) → ReadingsAgree (OrElse (OrElse a b) c) (OrElse a (OrElse b c))
   either_assoc a b c v o = (regroup a b c v o, ungroup a b c v o)
 
   -- the same, each list of alternatives with its end
-  pub either_lists_assoc : (a b c : Reading P T V) → Agree (Either (Either a (Either b refused)) (Either c refused)) (Either a (Either (Either b (Either c refused)) refused))
+  pub either_lists_assoc : (a b c : Reading P T V) → ReadingsAgree (OrElse (OrElse a (OrElse b refused)) (OrElse c refused)) (OrElse a (OrElse (OrElse b (OrElse c refused)) refused))
   either_lists_assoc a b c =
-      let ab = Either a (Either b refused) in
-      let bc = Either b (Either c refused) in
-      let left = either_both ab (Either a b) (Either c refused) c (two_last a b) (either_last c) in
-      let last = agree_more (Either bc refused) bc (Either b c) (either_last bc) (two_last b c) in
-      let right = either_both a a (Either bc refused) (Either b c) (agree_self a) last in
-      agree_more (Either ab (Either c refused)) (Either (Either a b) c) (Either a (Either bc refused)) left (agree_more (Either (Either a b) c) (Either a (Either b c)) (Either a (Either bc refused)) (either_assoc a b c) (agree_back (Either a (Either bc refused)) (Either a (Either b c)) right))
+      let ab = OrElse a (OrElse b refused) in
+      let bc = OrElse b (OrElse c refused) in
+      let left = either_both ab (OrElse a b) (OrElse c refused) c (two_last a b) (either_last c) in
+      let last = agree_more (OrElse bc refused) bc (OrElse b c) (either_last bc) (two_last b c) in
+      let right = either_both a a (OrElse bc refused) (OrElse b c) (agree_self a) last in
+      agree_more (OrElse ab (OrElse c refused)) (OrElse (OrElse a b) c) (OrElse a (OrElse bc refused)) left (agree_more (OrElse (OrElse a b) c) (OrElse a (OrElse b c)) (OrElse a (OrElse bc refused)) (either_assoc a b c) (agree_back (OrElse a (OrElse bc refused)) (OrElse a (OrElse b c)) right))

@@ -4,7 +4,7 @@ use Rattle.std.proofs.Common.{arith}
 use Rattle.combine_base.specs.Parser.Outcome.{Accepted}
 use Rattle.combine_base.specs.Parser.Meaning.{Meaning, Reading, IsReading, IsSingle, IsMeaning, MeansOne, MeansSame}
 use Rattle.combine_base.specs.Parser.ValueMap.{mapped, mapped_is_meaning, mapped_means_one, mapped_means_same}
-use Rattle.combine_token.specs.Choice.Choices.{Either, either_is_reading, either_is_single, either_both, agree_self}
+use Rattle.combine_token.specs.Choice.Choices.{OrElse, either_is_reading, either_is_single, either_both, agree_self}
 use Rattle.combine_token.specs.declared.choice.types.Optional.{Optional}
 
 -- this parser, or no value
@@ -14,12 +14,12 @@ optional_parser p = record { 0 = p }
 module _ {P T R E V S : Type 0} where
   abbrev pub otherwise : Meaning P T R E V S → Reading P T V → Meaning P T R E V S
   otherwise m q = record {
-    whole = Either m.whole q;
-    rest = λ s. Either (m.rest s) q;
+    whole = OrElse m.whole q;
+    rest = λ s. OrElse (m.rest s) q;
     lost = m.lost;
     keeps = m.keeps;
     puts_back = m.puts_back;
-    lean = m.lean;
+    heapless = m.heapless;
     adds = m.adds;
     refuses = m.refuses;
     refuses_from = m.refuses_from;
@@ -44,7 +44,7 @@ module _ {P T R E V S : Type 0} where
     lost = h.lost;
     keeps = h.keeps;
     puts_back = h.puts_back;
-    lean = h.lean;
+    heapless = h.heapless;
     adds = h.adds;
     refuses = h.refuses;
     refuses_from = h.refuses_from;
@@ -55,10 +55,10 @@ is_some a b = b ≡ Some a
 
 module _ {P T A : Type 0} where
   -- nothing is taken, and there is no value
-  abbrev pub nothing : Reading P T (Option A)
-  nothing v o = o ≡ Accepted None 0 false
+  abbrev pub nothing_taken : Reading P T (Option A)
+  nothing_taken v o = o ≡ Accepted None 0 false
 
-  nothing_is_reading : IsReading nothing
+  nothing_is_reading : IsReading nothing_taken
   nothing_is_reading = record {
     ended = λ v e p. cc;
     stays = λ v x b o e d p. p;
@@ -69,13 +69,13 @@ module _ {P T A : Type 0} where
   module _ {R E S : Type 0} where
     -- the choice of the parser with its value, and of no value
     abbrev pub optional : Meaning P T R E A S → Meaning P T R E (Option A) S
-    optional m = otherwise (mapped m is_some) nothing
+    optional m = otherwise (mapped m is_some) nothing_taken
 
     pub optional_is_meaning : (fresh valid : S → Type 0) (m : Meaning P T R E A S) → IsMeaning fresh valid m → IsMeaning fresh valid (optional m)
-    optional_is_meaning fresh valid m h = otherwise_is_meaning fresh valid (mapped m is_some) nothing (mapped_is_meaning fresh valid m is_some h) nothing_is_reading
+    optional_is_meaning fresh valid m h = otherwise_is_meaning fresh valid (mapped m is_some) nothing_taken (mapped_is_meaning fresh valid m is_some h) nothing_is_reading
 
     pub optional_means_one : (valid : S → Type 0) (m : Meaning P T R E A S) → MeansOne valid m → MeansOne valid (optional m)
-    optional_means_one valid m h = otherwise_means_one valid (mapped m is_some) nothing (mapped_means_one valid m is_some h) (record { one = λ v o o' p q. cc })
+    optional_means_one valid m h = otherwise_means_one valid (mapped m is_some) nothing_taken (mapped_means_one valid m is_some h) (record { one = λ v o o' p q. cc })
 
     pub optional_means_same : (m m' : Meaning P T R E A S) → MeansSame m m' → MeansSame (optional m) (optional m')
-    optional_means_same m m' h = otherwise_means_same (mapped m is_some) (mapped m' is_some) nothing (mapped_means_same m m' is_some h)
+    optional_means_same m m' h = otherwise_means_same (mapped m is_some) (mapped m' is_some) nothing_taken (mapped_means_same m m' is_some h)

@@ -2,8 +2,8 @@
 use Rattle.std.specs.Prelude.{ℕ, ◌≡◌, ◌≤◌, List, [], ◌∷◌, ◌++◌, length, Bool, true, false, Option, Some, None, refl}
 use Rattle.std.proofs.Common.{arith}
 use Rattle.combine_base.specs.Stream.View.{View}
-use Rattle.combine_base.specs.Error.Items.{Item}
-use Rattle.combine_base.specs.Error.Errors.{Errors, Nothing}
+use Rattle.combine_base.specs.Error.Items.{ErrorItem}
+use Rattle.combine_base.specs.Error.Errors.{Observers, AddsNothing}
 use Rattle.combine_base.specs.Parser.Outcome.{Outcome, Accepted, Refused, Undecided, IsDecided, shape}
 use Rattle.combine_base.specs.Parser.Meaning.{Meaning, Reading, IsReading, IsSingle, IsMeaning, MeansOne}
 use Rattle.combine_base.specs.Parser.Answer.{World, Answers}
@@ -11,7 +11,7 @@ use Rattle.combine_base.specs.declared.stream.Failures.{Failures}
 use Rattle.combine_base.specs.declared.error.ParseResult.{ParseResult}
 use Rattle.combine_base.specs.declared.error.ParseResult.TheVariants.{CommitOk, PeekOk, CommitErr, PeekErr}
 use Rattle.combine_token.specs.Token.TokenReasons.{RefusesToken}
-use Rattle.combine_token.specs.Token.Stateless.{never, stateless, stateless_is_meaning, stateless_means_one}
+use Rattle.combine_token.specs.Token.Stateless.{never_refused, stateless, stateless_is_meaning, stateless_means_one}
 
 -- nothing is both accepted and refused
 pub record IsTest {I B : Type 0} (f : I → Option B → Type 0) : Type 0 where
@@ -130,27 +130,27 @@ module _ {P T B : Type 0} where
   pub one_token_is_single : (f : Option T → Option B → Type 0) → IsTest f → IsSingle (one_token f)
   one_token_is_single f h = record { one = λ v o o'. one_shape f h v.is_open v.unread o o' }
 
-module _ {P T R E B S : Type 0} (errors : Errors T R P E) (f : Option T → Option B → Type 0) (lean : Type 0) (adds : List (Item T R) → Type 0) where
+module _ {P T R E B S : Type 0} (errors : Observers T R P E) (f : Option T → Option B → Type 0) (heapless : Type 0) (adds : List (ErrorItem T R) → Type 0) where
   -- more is asked for only where nothing is unread
   abbrev pub takes_one : Meaning P T R E B S
-  takes_one = stateless (one_token f) (Unit {0}) lean adds (RefusesToken errors)
+  takes_one = stateless (one_token f) (Unit {0}) heapless adds (RefusesToken errors)
 
   pub takes_one_is_meaning : (fresh valid : S → Type 0) → IsMeaning fresh valid takes_one
-  takes_one_is_meaning fresh valid = stateless_is_meaning fresh valid (one_token f) (Unit {0}) lean adds (RefusesToken errors) (one_token_is_reading f)
+  takes_one_is_meaning fresh valid = stateless_is_meaning fresh valid (one_token f) (Unit {0}) heapless adds (RefusesToken errors) (one_token_is_reading f)
 
   pub takes_one_means_one : (valid : S → Type 0) → IsTest f → MeansOne valid takes_one
-  takes_one_means_one valid h = stateless_means_one valid (one_token f) (Unit {0}) lean adds (RefusesToken errors) (one_token_is_single f h)
+  takes_one_means_one valid h = stateless_means_one valid (one_token f) (Unit {0}) heapless adds (RefusesToken errors) (one_token_is_single f h)
 
 -- a peeked refusal leaves the stream as it was
-abbrev pub PutBack : {P T B E : Type 0} → View P T → View P T → ParseResult B E → Type 0
-PutBack old new (CommitOk b) = Unit {0}
-PutBack old new (PeekOk b) = Unit {0}
-PutBack old new (CommitErr e) = Unit {0}
-PutBack old new (PeekErr t) = new ≡ old
+abbrev pub PeekedLeaves : {P T B E : Type 0} → View P T → View P T → ParseResult B E → Type 0
+PeekedLeaves old new (CommitOk b) = Unit {0}
+PeekedLeaves old new (PeekOk b) = Unit {0}
+PeekedLeaves old new (CommitErr e) = Unit {0}
+PeekedLeaves old new (PeekErr t) = new ≡ old
 
 -- what a call answers that reads one token under a test: what a parser does that takes no memory, in first mode or not, and from any state
 pub record ReadsToken {P T B S E : Type 0} (w : World P T S E) (f : Option T → Option B → Type 0) (old new : View P T) (before after : Failures) (result : ParseResult B E) : Type 0 where
-  pub answers : (first : Bool) (state left : S) → w.fresh left → Answers w (stateless {R = Unit {0}} {E = E} (one_token f) (Unit {0}) (Unit {0}) Nothing never) (record { first = first; state = state; left = left; old = old; new = new; before = before; after = after }) result
+  pub answers : (first : Bool) (state left : S) → w.fresh left → Answers w (stateless {R = Unit {0}} {E = E} (one_token f) (Unit {0}) (Unit {0}) AddsNothing never_refused) (record { first = first; state = state; left = left; old = old; new = new; before = before; after = after }) result
 
 -- the same under a predicate
 pub record ReadsTokenIf {P T S E : Type 0} (w : World P T S E) (p : T → Bool → Type 0) (old new : View P T) (before after : Failures) (result : ParseResult T E) : Type 0 where

@@ -2,31 +2,31 @@
 use Rattle.std.specs.Prelude.{◌≡◌, List, Bool, false}
 use Rattle.std.proofs.Common.{arith}
 use Rattle.combine_base.specs.Stream.View.{View, extended}
-use Rattle.combine_base.specs.Error.Items.{Item}
+use Rattle.combine_base.specs.Error.Items.{ErrorItem}
 use Rattle.combine_base.specs.Parser.Outcome.{Outcome, Accepted, Refused, Undecided, shape}
 use Rattle.combine_base.specs.Parser.Meaning.{Meaning, Reading, IsReading, IsSingle, IsMeaning, MeansOne}
-use Rattle.combine_token.specs.Token.Stateless.{never, stateless, stateless_is_meaning, stateless_means_one}
+use Rattle.combine_token.specs.Token.Stateless.{never_refused, stateless, stateless_is_meaning, stateless_means_one}
 
 module _ {P T B : Type 0} (f : P → B → Type 0) where
   -- accepted everywhere, peeked
-  abbrev pub given : Reading P T B
-  given v (Accepted b n k) = f v.position b × (n ≡ 0) × (k ≡ false)
-  given v (Refused k) = ⊥
-  given v Undecided = ⊥
+  abbrev pub given_value : Reading P T B
+  given_value v (Accepted b n k) = f v.position b × (n ≡ 0) × (k ≡ false)
+  given_value v (Refused k) = ⊥
+  given_value v Undecided = ⊥
 
-  one_shape : (v : View P T) (o o' : Outcome B) → given v o → given v o' → shape o ≡ shape o'
+  one_shape : (v : View P T) (o o' : Outcome B) → given_value v o → given_value v o' → shape o ≡ shape o'
   one_shape v (Accepted b n k) (Accepted b' n' k') p q = cc
   one_shape v (Accepted b n k) (Refused k') p q = absurd q
   one_shape v (Accepted b n k) Undecided p q = absurd q
   one_shape v (Refused k) o' p q = absurd p
   one_shape v Undecided o' p q = absurd p
 
-  stays_at : (v : View P T) (x : List T) (m : Bool) (o : Outcome B) → given v o → given (extended x m v) o
+  stays_at : (v : View P T) (x : List T) (m : Bool) (o : Outcome B) → given_value v o → given_value (extended x m v) o
   stays_at v x m (Accepted b n k) p = p
   stays_at v x m (Refused k) p = p
   stays_at v x m Undecided p = p
 
-  pub given_is_reading : IsReading given
+  pub given_is_reading : IsReading given_value
   given_is_reading = record {
     ended = λ v e p. p;
     stays = λ v x m o e d p. stays_at v x m o p;
@@ -34,15 +34,15 @@ module _ {P T B : Type 0} (f : P → B → Type 0) where
     within = λ v b n k p. let e = p.1 in omega arith;
   }
 
-  pub given_is_single : IsSingle given
+  pub given_is_single : IsSingle given_value
   given_is_single = record { one = one_shape }
 
-module _ {P T R E B S : Type 0} (f : P → B → Type 0) (lean : Type 0) (adds : List (Item T R) → Type 0) where
-  abbrev pub gives : Meaning P T R E B S
-  gives = stateless (given f) (Unit {0}) lean adds never
+module _ {P T R E B S : Type 0} (f : P → B → Type 0) (heapless : Type 0) (adds : List (ErrorItem T R) → Type 0) where
+  abbrev pub given_meaning : Meaning P T R E B S
+  given_meaning = stateless (given_value f) (Unit {0}) heapless adds never_refused
 
-  pub gives_is_meaning : (fresh valid : S → Type 0) → IsMeaning fresh valid gives
-  gives_is_meaning fresh valid = stateless_is_meaning fresh valid (given f) (Unit {0}) lean adds never (given_is_reading f)
+  pub gives_is_meaning : (fresh valid : S → Type 0) → IsMeaning fresh valid given_meaning
+  gives_is_meaning fresh valid = stateless_is_meaning fresh valid (given_value f) (Unit {0}) heapless adds never_refused (given_is_reading f)
 
-  pub gives_means_one : (valid : S → Type 0) → MeansOne valid gives
-  gives_means_one valid = stateless_means_one valid (given f) (Unit {0}) lean adds never (given_is_single f)
+  pub gives_means_one : (valid : S → Type 0) → MeansOne valid given_meaning
+  gives_means_one valid = stateless_means_one valid (given_value f) (Unit {0}) heapless adds never_refused (given_is_single f)

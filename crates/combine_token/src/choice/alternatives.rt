@@ -53,7 +53,7 @@ pub trait Alternatives<Input: Stream> {
         requires lawful { lawful self.old }
         requires valid { valid state.old }
         ensures lent { same self.old self.new }
-        ensures chose { ChoseCall Input.StreamOnce Input.Error.seen Self.State.is_default (lawful self.new) valid (meaning self.old) (meaning self.new) (M.first mode) state.old state.new input.old input.new result };
+        ensures chose { ChoseCall Input.StreamOnce Input.Error.observers Self.State.is_default (lawful self.new) valid (meaning self.old) (meaning self.new) (M.first mode) state.old state.new input.old input.new result };
 
     ghost default_valid: { (s : Self.State) → Self.State.is_default s → valid s };
 
@@ -104,7 +104,7 @@ fn choose_first_half<Input: Stream, L: Alternatives<Input>, S: Default + Drop, M
     requires lawful { L.lawful half.old }
     requires valid { first_valid L.valid state.old }
     ensures lent { L.same half.old half.new }
-    ensures tried { TriedCall Input.StreamOnce Input.Error.seen L.State.is_default S.is_default L.valid (L.lawful half.new) (L.meaning half.old) (L.meaning half.new) (M.first mode) state.old state.new input.old input.new result }
+    ensures tried { TriedCall Input.StreamOnce Input.Error.observers L.State.is_default S.is_default L.valid (L.lawful half.new) (L.meaning half.old) (L.meaning half.new) (M.first mode) state.old state.new input.old input.new result }
 {
     let mut kept = match begin(state, mode) {
         Ok(kept) => kept,
@@ -128,9 +128,9 @@ fn choose_second_half<Input: Stream, R: Alternatives<Input>, S: Drop, M: ParseMo
 ) -> ParseResult<R::Output, Input::Error>
     requires lawful { R.lawful half.old }
     requires valid { R.valid kept }
-    requires refused { NoFault Input.Error.seen.kind refused }
+    requires refused { NoFault Input.Error.observers.kind refused }
     ensures lent { R.same half.old half.new }
-    ensures followed { FollowedCall Input.StreamOnce Input.Error.seen Input.Position.cmp R.State.is_default R.valid (R.lawful half.new) (R.meaning half.old) (R.meaning half.new) (M.first mode) kept state.old state.new refused input.old input.new result }
+    ensures followed { FollowedCall Input.StreamOnce Input.Error.observers Input.Position.cmp R.State.is_default R.valid (R.lawful half.new) (R.meaning half.old) (R.meaning half.new) (M.first mode) kept state.old state.new refused input.old input.new result }
 {
     let mut kept = kept;
     let answer = half.choose::<_, SecondHalf>(mode, input, &mut kept);
@@ -153,7 +153,7 @@ impl<
 
     ghost valid = { or_valid L.valid R.valid };
 
-    ghost meaning = { λ p. either_of Input.Error.seen Input.Position.cmp (L.meaning p.0) (R.meaning p.1) };
+    ghost meaning = { λ p. either_of Input.Error.observers Input.Position.cmp (L.meaning p.0) (R.meaning p.1) };
 
     ghost same = { λ p q. L.same p.0 q.0 × R.same p.1 q.1 };
 
@@ -176,5 +176,5 @@ impl<
 
     ghost unchanged = { λ p. (L.unchanged p.0, R.unchanged p.1) };
 
-    ghost laws = { λ p l. or_is_meaning Input.Error.seen Input.Position.cmp L.State.is_default L.valid R.State.is_default R.valid _ _ (L.laws p.0 l.0) (R.laws p.1 l.1) };
+    ghost laws = { λ p l. or_is_meaning Input.Error.observers Input.Position.cmp L.State.is_default L.valid R.State.is_default R.valid _ _ (L.laws p.0 l.0) (R.laws p.1 l.1) };
 }

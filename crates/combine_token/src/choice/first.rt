@@ -1,7 +1,7 @@
 //! The first part of a choice, and what follows it. Our own: what `or` and the choices over tuples are made of.
 ghost use Rattle.std.specs.Prelude.{◌≡◌, false};
 ghost use Rattle.combine_base.specs.Stream.Calls.{Passes};
-ghost use Rattle.combine_token.specs.Choice.FirstAlternative.{GoesOn, RunsOn, Settled, Settles};
+ghost use Rattle.combine_token.specs.Choice.FirstAlternative.{JudgesFirst, RunsAlternative, SettlesLater, MayFollowRefusal};
 
 use super::{OrState, after_refusal};
 use combine_base::error::{ParseResult, Tracked};
@@ -24,7 +24,7 @@ pub fn begin<S: Default + Drop, T: Drop, M: ParseMode>(
     state: &mut OrState<S, T>,
     mode: M,
 ) -> Result<S, T>
-    ensures begun { RunsOn S.is_default (M.first mode) state.old result }
+    ensures begun { RunsAlternative S.is_default (M.first mode) state.old result }
     ensures left { state.new ≡ OrState.Peek }
 {
     let kept = replace(state, OrState::Peek);
@@ -52,7 +52,7 @@ pub fn settle_first<O, Input: Stream, S: Drop, T: Default + Drop>(
 ) -> FirstResult<O, T, Input::Error>
     requires fresh { state.old ≡ OrState.Peek }
     ensures passes { Passes (Input.marks input.old) (Input.marks input.new) (Input.failures input.old) (Input.failures input.new) }
-    ensures goes { GoesOn Input.step Input.Error.seen.kind Input.steady T.is_default (Input.stands input.old start) kept state.new (Input.view input.old) (Input.view input.new) (Input.failures input.old) (Input.failures input.new) answer result }
+    ensures goes { JudgesFirst Input.step Input.Error.observers.kind Input.counts_failures T.is_default (Input.stands input.old start) kept state.new (Input.view input.old) (Input.view input.new) (Input.failures input.old) (Input.failures input.new) answer result }
 {
     match answer {
         ParseResult::CommitOk(value) => FirstResult::Done(ParseResult::CommitOk(value)),
@@ -81,8 +81,8 @@ pub fn settle_second<O, Input: Stream, S: Drop, T: Drop>(
     answer: ParseResult<O, Input::Error>,
     state: &mut OrState<S, T>,
 ) -> ParseResult<O, Input::Error>
-    requires { Settles Input.Error.seen.kind refused answer }
-    ensures { Settled Input.Error.seen Input.Position.cmp (Input.view input.now).is_open refused kept state.old state.new answer result }
+    requires { MayFollowRefusal Input.Error.observers.kind refused answer }
+    ensures { SettlesLater Input.Error.observers Input.Position.cmp (Input.view input.now).is_open refused kept state.old state.new answer result }
 {
     if asks_for_more(input, &answer) {
         *state = OrState::B(kept);

@@ -1,8 +1,8 @@
 //! Tokens that a list has among its items, and tokens that it hasn't.
 ghost use Rattle.std.specs.Prelude.{◌≡◌};
 ghost use Rattle.std.specs.Iterator.{IsFinite};
-ghost use Rattle.combine_base.specs.Error.Errors.{Says};
-ghost use Rattle.combine_token.specs.Token.Among.{ExpectsEach, Finds};
+ghost use Rattle.combine_base.specs.Error.Errors.{AddsItems};
+ghost use Rattle.combine_token.specs.Token.Among.{ExpectsEach, FindsAmong};
 ghost use Rattle.combine_token.specs.Token.TokenParsers.{none_of_parser, one_of_parser};
 
 pub mod types;
@@ -73,7 +73,7 @@ where
     I::Item: Copy + PartialEq,
     requires can { I.can_next items }
     requires ends { IsFinite (I.remaining items) }
-    ensures { Finds I.next_gives (λ x. I.Item.eq x token) items result }
+    ensures { FindsAmong I.next_gives (λ x. I.Item.eq x token) items result }
 {
     'items: for item in items {
         if item == token {
@@ -89,7 +89,7 @@ where
     I::Item: Copy,
     requires can { I.can_next items }
     requires ends { IsFinite (I.remaining items) }
-    ensures { Says E.seen (Unit {0}) (ExpectsEach I.next_gives items) error.old error.new }
+    ensures { AddsItems E.observers (Unit {0}) (ExpectsEach I.next_gives items) error.old error.new }
 {
     'items: for item in items {
         error.add_expected(&Info::Token(item));

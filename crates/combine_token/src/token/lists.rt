@@ -92,8 +92,8 @@ where
     requires callable { C.IsAlwaysCallable cmp.now }
     requires list { IsIterated T.is_clone T.into_iter_gives T.IntoIter.next_gives list.now T.IntoIter.can_next T.IntoIter.remaining }
     ensures passes { Passes (Input.marks input.old) (Input.marks input.new) (Input.failures input.old) (Input.failures input.new) }
-    ensures answers { MatchesCall Input.StreamOnce Input.Error.seen T.Clone T.IntoIterator T.IntoIter.Iterator list.now C.Fn cmp.now V.Clone value.now expected.entry (M.first mode) state.old state.new input.old input.new result }
-    ensures refuses { MismatchesCall Input.StreamOnce Input.Error.seen T.Clone T.IntoIterator T.IntoIter.Iterator list.now C.Fn cmp.now expected.entry (M.first mode) state.old input.old input.new result }
+    ensures answers { MatchesCall Input.StreamOnce Input.Error.observers T.Clone T.IntoIterator T.IntoIter.Iterator list.now C.Fn cmp.now V.Clone value.now expected.entry (M.first mode) state.old state.new input.old input.new result }
+    ensures refuses { MismatchesCall Input.StreamOnce Input.Error.observers T.Clone T.IntoIterator T.IntoIter.Iterator list.now C.Fn cmp.now expected.entry (M.first mode) state.old input.old input.new result }
 {
     let mut matched = state.begin(!mode.is_first());
     let start = input.checkpoint();

@@ -2,7 +2,7 @@
 ghost use Rattle.combine_base.specs.Parser.Answer.{world};
 ghost use Rattle.combine_base.specs.Parser.Reasons.{Reasoned};
 ghost use Rattle.combine_base.specs.Stream.Calls.{Passes};
-ghost use Rattle.combine_token.specs.Token.OneToken.{holds, of_token, PutBack, ReadsToken, ReadsTokenIf};
+ghost use Rattle.combine_token.specs.Token.OneToken.{holds, of_token, PeekedLeaves, ReadsToken, ReadsTokenIf};
 ghost use Rattle.combine_token.specs.Token.TokenReasons.{RefusesToken};
 
 pub use crate::token::lists::match_list;
@@ -30,9 +30,9 @@ pub fn one_token<B, Input: Stream, F: FnOnce(Option<Input::Token>) -> Option<B>>
 ) -> ParseResult<B, Input::Error>
     requires { F.IsAlwaysCallable test }
     ensures passes { Passes (Input.marks input.old) (Input.marks input.new) (Input.failures input.old) (Input.failures input.new) }
-    ensures reads { ReadsToken (world Input.step Input.Error.seen Input.steady ⟦<() as Default>⟧.is_default) (F.post test) (Input.view input.old) (Input.view input.new) (Input.failures input.old) (Input.failures input.new) result }
-    ensures back { PutBack (Input.view input.old) (Input.view input.new) result }
-    ensures refuses { Reasoned Input.Error.seen.kind (Input.view input.new).is_open (RefusesToken Input.Error.seen (Input.view input.old) (Input.view input.new)) result }
+    ensures reads { ReadsToken (world Input.step Input.Error.observers Input.counts_failures ⟦<() as Default>⟧.is_default) (F.post test) (Input.view input.old) (Input.view input.new) (Input.failures input.old) (Input.failures input.new) result }
+    ensures back { PeekedLeaves (Input.view input.old) (Input.view input.new) result }
+    ensures refuses { Reasoned Input.Error.observers.kind (Input.view input.new).is_open (RefusesToken Input.Error.observers (Input.view input.old) (Input.view input.new)) result }
 {
     let start = input.checkpoint();
     let position = input.position();
@@ -70,9 +70,9 @@ pub fn token_map<B, Input: Stream, F: FnOnce(Input::Token) -> Option<B>>(
 ) -> ParseResult<B, Input::Error>
     requires { F.IsAlwaysCallable function }
     ensures passes { Passes (Input.marks input.old) (Input.marks input.new) (Input.failures input.old) (Input.failures input.new) }
-    ensures reads { ReadsToken (world Input.step Input.Error.seen Input.steady ⟦<() as Default>⟧.is_default) (of_token (F.post function)) (Input.view input.old) (Input.view input.new) (Input.failures input.old) (Input.failures input.new) result }
-    ensures back { PutBack (Input.view input.old) (Input.view input.new) result }
-    ensures refuses { Reasoned Input.Error.seen.kind (Input.view input.new).is_open (RefusesToken Input.Error.seen (Input.view input.old) (Input.view input.new)) result }
+    ensures reads { ReadsToken (world Input.step Input.Error.observers Input.counts_failures ⟦<() as Default>⟧.is_default) (of_token (F.post function)) (Input.view input.old) (Input.view input.new) (Input.failures input.old) (Input.failures input.new) result }
+    ensures back { PeekedLeaves (Input.view input.old) (Input.view input.new) result }
+    ensures refuses { Reasoned Input.Error.observers.kind (Input.view input.new).is_open (RefusesToken Input.Error.observers (Input.view input.old) (Input.view input.new)) result }
 {
     one_token(
         |first: Option<Input::Token>| -> Option<B>
@@ -96,9 +96,9 @@ pub fn token_if<Input: Stream, F: FnOnce(Input::Token) -> bool>(
 ) -> ParseResult<Input::Token, Input::Error>
     requires { F.IsAlwaysCallable predicate }
     ensures passes { Passes (Input.marks input.old) (Input.marks input.new) (Input.failures input.old) (Input.failures input.new) }
-    ensures reads { ReadsTokenIf (world Input.step Input.Error.seen Input.steady ⟦<() as Default>⟧.is_default) (F.post predicate) (Input.view input.old) (Input.view input.new) (Input.failures input.old) (Input.failures input.new) result }
-    ensures back { PutBack (Input.view input.old) (Input.view input.new) result }
-    ensures refuses { Reasoned Input.Error.seen.kind (Input.view input.new).is_open (RefusesToken Input.Error.seen (Input.view input.old) (Input.view input.new)) result }
+    ensures reads { ReadsTokenIf (world Input.step Input.Error.observers Input.counts_failures ⟦<() as Default>⟧.is_default) (F.post predicate) (Input.view input.old) (Input.view input.new) (Input.failures input.old) (Input.failures input.new) result }
+    ensures back { PeekedLeaves (Input.view input.old) (Input.view input.new) result }
+    ensures refuses { Reasoned Input.Error.observers.kind (Input.view input.new).is_open (RefusesToken Input.Error.observers (Input.view input.old) (Input.view input.new)) result }
 {
     token_map(
         |token: Input::Token| -> Option<Input::Token>

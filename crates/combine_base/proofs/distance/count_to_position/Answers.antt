@@ -1,6 +1,6 @@
 use Rattle.std.proofs.Common.{◌∙◌, arith}
 use Rattle.std.proofs.lemmas.Result.{err_from_is_err_and}
-use Rattle.combine_base.proofs.Streams.Distances.{takes_token, count_stopped, not_yet, reached}
+use Rattle.combine_base.proofs.Streams.Distances.{takes_one_token, count_stopped, not_yet, position_reached}
 use Rattle.combine_base.proofs.Parsers.Progress.{takes_more}
 use Rattle.combine_base.proofs.Parsers.SameMeanings.{passes_more}
 use Rattle.combine_base.proofs.distance.count_to_position.Goals as goal
@@ -22,7 +22,7 @@ tokens-preserved g c =
     let u = c.in_ok-uncons.ensures.read.is in
     record {
       passes = passes_more _ _ _ _ _ _ i.passes c.uncons.ensures.passes;
-      taken = takes_more _ _ _ _ _ _ i.taken (takes_token _ _ _ _ _ _ _ u);
+      taken = takes_more _ _ _ _ _ _ i.taken (takes_one_token _ _ _ _ _ _ _ u);
       short = i.short;
       failures = λ s. u.failures s ∙ i.failures s;
       before = λ n v t e.
@@ -41,5 +41,5 @@ returns-clause-counts g c n v t e =
     let l = c.cmp.ensures in
     let m = c.is_lt.ensures in
     let q = c.tokens-test.false in
-    let k = reached g.Input.Position.Ord.cmp g.Input.StreamOnce.step g.Input.StreamOnce.view g.met.Input.Position.Ord.total g.met.Input.StreamOnce.moves _ n _ c.tokens.input v i.taken t (i.before n v t e) (cc) in
+    let k = position_reached g.Input.Position.Ord.cmp g.Input.StreamOnce.step g.Input.StreamOnce.view g.met.Input.Position.Ord.total g.met.Input.StreamOnce.moves _ n _ c.tokens.input v i.taken t (i.before n v t e) (cc) in
     record { is = (k, rw (← k) i.taken, i.failures) }

@@ -1,6 +1,6 @@
 use Rattle.std.proofs.Common.{◌∙◌}
 use Rattle.std.proofs.lemmas.Result.{err_from_is_err_and}
-use Rattle.combine_base.proofs.Streams.Distances.{takes_token, over_stopped}
+use Rattle.combine_base.proofs.Streams.Distances.{takes_one_token, over_stopped}
 use Rattle.combine_base.proofs.Parsers.Progress.{takes_more}
 use Rattle.combine_base.proofs.Parsers.SameMeanings.{passes_more}
 use Rattle.combine_base.proofs.distance.pass_tokens.Goals as goal
@@ -15,6 +15,6 @@ tokens-preserved g c =
     let t = c.in_ok-uncons.ensures.read.is in
     record {
       passes = passes_more _ _ _ _ _ _ c.tokens.invariant.passes c.uncons.ensures.passes;
-      taken = takes_more _ _ _ _ _ _ c.tokens.invariant.taken (takes_token _ _ _ _ _ _ _ t);
+      taken = takes_more _ _ _ _ _ _ c.tokens.invariant.taken (takes_one_token _ _ _ _ _ _ _ t);
       failures = λ s. t.failures s ∙ c.tokens.invariant.failures s;
     }

@@ -20,4 +20,4 @@ returns-clause-refuses g c =
     let compares = g.F.Fits.compares c.args.fits.now in
     let items = c.characters-items.result in
     let text = c.args.text.now in
-    spelled_reasons g.Input.Error.ParseError.seen _ _ _ (chars_within items text k.valid k.rest compares) _ _ _ _ _ c.match_list.ensures.refuses
+    spelled_reasons g.Input.Error.ParseError.observers _ _ _ (chars_within items text k.valid k.rest compares) _ _ _ _ _ c.match_list.ensures.refuses

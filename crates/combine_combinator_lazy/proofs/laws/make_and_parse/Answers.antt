@@ -13,6 +13,6 @@ returns g c =
       asked = run.asked;
       parser = run.parser;
       made = run.made;
-      answers = starts_made g.N.Parser g.Input.StreamOnce g.Input.Error.ParseError.seen g.N.PartialState.Default.is_default run.called run.view run.failures run.is_default (g.met.N.Parser.laws _ lawful);
-      refuses = refuses_made g.N.Parser g.Input.StreamOnce g.Input.Error.ParseError.seen g.N.PartialState.Default.is_default run.called run.view run.is_default (g.met.N.Parser.laws _ lawful);
+      answers = starts_made g.N.Parser g.Input.StreamOnce g.Input.Error.ParseError.observers g.N.PartialState.Default.is_default run.called run.view run.failures run.is_default (g.met.N.Parser.laws _ lawful);
+      refuses = refuses_made g.N.Parser g.Input.StreamOnce g.Input.Error.ParseError.observers g.N.PartialState.Default.is_default run.called run.view run.is_default (g.met.N.Parser.laws _ lawful);
     }

@@ -10,7 +10,7 @@ invariant-tokens g l = record {
   count : ℕ;
   taken : Takes g.Input.StreamOnce.step count (g.Input.StreamOnce.view l.fn.input) (g.Input.StreamOnce.view l.input);
   held : g.F.Append.held l.into ≡ all_more g.F.Append.more (g.F.Append.held l.fn.into) (take count (g.Input.StreamOnce.view l.fn.input).unread);
-  failures : g.Input.StreamOnce.steady → g.Input.StreamOnce.failures l.input ≡ g.Input.StreamOnce.failures l.fn.input;
+  failures : g.Input.StreamOnce.counts_failures → g.Input.StreamOnce.failures l.input ≡ g.Input.StreamOnce.failures l.fn.input;
   before : (n : ℕ) (v : View _ _) → Takes g.Input.StreamOnce.step n (g.Input.StreamOnce.view l.fn.input) v → l.end ≡ v.position → count ≤ n;
 }
 

@@ -1,7 +1,7 @@
 use Rattle.std.proofs.Common.{arith, refl}
 use Rattle.combine_base.proofs.Parsers.SameMeanings.{passes_none}
 use Rattle.combine_stream.specs.Range.Ranges.{size_take}
-use Rattle.combine_range_search.proofs.ItemLimit.{up_to}
+use Rattle.combine_range_search.proofs.ItemLimit.{up_to_items}
 use Rattle.combine_range_search.proofs.absence.pass_up_to.Goals as goal
 
 pub loop-range-init : goal.loop-range-init
@@ -21,4 +21,4 @@ loop-range-init g c =
 pub returns-in-Ok-clause-over : goal.returns-in-Ok-clause-over
 returns-in-Ok-clause-over g c =
     let i = c.loop-range.invariant in
-    record { is = up_to _ _ _ g.met.Input.RangeStream.filled _ _ _ _ _ _ _ _ _ i.same i.failures i.few i.last _ c.in-Ok.ensures.read }
+    record { is = up_to_items _ _ _ g.met.Input.RangeStream.filled _ _ _ _ _ _ _ _ _ i.same i.failures i.few i.last _ c.in-Ok.ensures.read }

@@ -1,6 +1,6 @@
 use Rattle.std.proofs.Common.{false, true, refl, sym, ◌∙◌}
 use Rattle.combine_base.proofs.Errors.MeantRefusals.{reasoned_meant}
-use Rattle.combine_repeat_turns.specs.Turns.OneTurn.{Ended, TakesNothing, Unstored}
+use Rattle.combine_repeat_turns.specs.Turns.OneTurn.{EndedByValue, TakesNothing, ValueUnstored}
 use Rattle.combine_repeat_turns.specs.Turns.Bounds.{Idle, Own}
 use Rattle.combine_repeat_turns.proofs.OneTurn.{judged_by, accepts_by, gathered_on, needs_on}
 use Rattle.combine_repeat_turns.proofs.SoundValues.{turn_able}
@@ -22,8 +22,8 @@ returns-then-needs_more-clause-turned g c =
 pub returns-then-is_last-clause-turned : goal.returns-then-is_last-clause-turned
 returns-then-is_last-clause-turned g c =
     elim c.match-enter.branch [
-      | in-CommitOk w ↦ record { is = Ended c.match-enter.value (accepts_by _ _ _ _ _ _ w.value-is w.in-CommitOk.ensures.answers.is) (sym c.is_last.ensures ∙ c.if-is_last.true) c.or_committed.ensures }
-      | in-PeekOk w ↦ record { is = Ended c.match-enter.value (accepts_by _ _ _ _ _ _ w.value-is w.in-PeekOk.ensures.answers.is) (sym c.is_last.ensures ∙ c.if-is_last.true) c.or_committed.ensures }
+      | in-CommitOk w ↦ record { is = EndedByValue c.match-enter.value (accepts_by _ _ _ _ _ _ w.value-is w.in-CommitOk.ensures.answers.is) (sym c.is_last.ensures ∙ c.if-is_last.true) c.or_committed.ensures }
+      | in-PeekOk w ↦ record { is = EndedByValue c.match-enter.value (accepts_by _ _ _ _ _ _ w.value-is w.in-PeekOk.ensures.answers.is) (sym c.is_last.ensures ∙ c.if-is_last.true) c.or_committed.ensures }
     ]
 
 pub returns-then-not-accepts_turn-clause-turned : goal.returns-then-not-accepts_turn-clause-turned
@@ -56,8 +56,8 @@ returns-in-Ok-clause-turned g c =
 pub returns-in-Err-clause-turned : goal.returns-in-Err-clause-turned
 returns-in-Err-clause-turned g c =
     elim c.match-enter.branch [
-      | in-CommitOk w ↦ record { is = Unstored _ (accepts_by _ _ _ _ _ _ w.value-is w.in-CommitOk.ensures.answers.is) c.new_error.ensures.kind c.in-Err.ensures }
-      | in-PeekOk w ↦ record { is = Unstored _ (accepts_by _ _ _ _ _ _ w.value-is w.in-PeekOk.ensures.answers.is) c.new_error.ensures.kind c.in-Err.ensures }
+      | in-CommitOk w ↦ record { is = ValueUnstored _ (accepts_by _ _ _ _ _ _ w.value-is w.in-CommitOk.ensures.answers.is) c.new_error.ensures.kind c.in-Err.ensures }
+      | in-PeekOk w ↦ record { is = ValueUnstored _ (accepts_by _ _ _ _ _ _ w.value-is w.in-PeekOk.ensures.answers.is) c.new_error.ensures.kind c.in-Err.ensures }
     ]
 
 pub returns-then-not-accepts_turn-clause-refuses : goal.returns-then-not-accepts_turn-clause-refuses

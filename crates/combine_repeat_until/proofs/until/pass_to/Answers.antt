@@ -7,7 +7,7 @@ pub returns-in-Err-pass_tokens-clause-comes : goal.returns-in-Err-pass_tokens-cl
 returns-in-Err-pass_tokens-clause-comes g c =
     let a = c.in_default.ensures in
     let b = c.in-Err-pass_tokens.ensures.over.is in
-    record { is = (stops_later g.Input.StreamOnce.steady _ c.args.before c.args.beyond (g.Input.StreamOnce.view c.args.input.now) (g.Input.StreamOnce.view c.pass_tokens.new.input) (g.Input.StreamOnce.view c.pass_tokens-2.new.input) (g.Input.StreamOnce.failures c.args.input.now) (g.Input.StreamOnce.failures c.pass_tokens.new.input) (g.Input.StreamOnce.failures c.pass_tokens-2.new.input) _ a.over.is.0 a.passes.reads b.0, moves_more _ _ _ _ _ a.over.is.0 b.1) }
+    record { is = (stops_later g.Input.StreamOnce.counts_failures _ c.args.before c.args.beyond (g.Input.StreamOnce.view c.args.input.now) (g.Input.StreamOnce.view c.pass_tokens.new.input) (g.Input.StreamOnce.view c.pass_tokens-2.new.input) (g.Input.StreamOnce.failures c.args.input.now) (g.Input.StreamOnce.failures c.pass_tokens.new.input) (g.Input.StreamOnce.failures c.pass_tokens-2.new.input) _ a.over.is.0 a.passes.reads b.0, moves_more _ _ _ _ _ a.over.is.0 b.1) }
 
 pub returns-clause-comes : goal.returns-clause-comes
 returns-clause-comes g c =

@@ -4,13 +4,13 @@ use Rattle.std.proofs.Common.{arith, sym, ltb-false, length-append, inl, inr}
 use Rattle.std.proofs.lemmas.List.{take-append-le, drop-append-le}
 use Rattle.std.proofs.lemmas.Bool.{cases_lt, cases_order}
 use Rattle.std.proofs.Math.ListN.{drop_of_length-le}
-use Rattle.combine_base.specs.Error.Errors.{Errors}
-use Rattle.combine_base.specs.Error.Items.{Item}
+use Rattle.combine_base.specs.Error.Errors.{Observers}
+use Rattle.combine_base.specs.Error.Items.{ErrorItem}
 use Rattle.combine_base.specs.Parser.Outcome.{Outcome, Accepted, Refused, Undecided, IsDecided, shape}
 use Rattle.combine_base.specs.Parser.Meaning.{Meaning, IsReading, IsSingle, IsMeaning, MeansOne}
 use Rattle.combine_base.specs.declared.error.Info.{Info}
 use Rattle.combine_token.specs.Token.TokenReasons.{RefusesList}
-use Rattle.combine_token.specs.Token.Lists.TokenLists.{TokenList, EndsOnce, ComparesOnce, Matched, all_fit, stops, matching_at, matching}
+use Rattle.combine_token.specs.Token.Lists.TokenLists.{TokenList, ListEndsOnce, ComparesOnce, Matched, all_fit, mismatch_at, matching_at, matching}
 
 module _ {T : Type 0} (l : TokenList T) where
   matched_longer : (n i : ℕ) (us x : List T) → Matched l n i us → Matched l n i (us ++ x)
@@ -18,12 +18,12 @@ module _ {T : Type 0} (l : TokenList T) where
       let e = h.enough in
       record { enough = omega (arith, length-append us x); each = rw (take-append-le i us x e) h.each }
 
-  stops_longer : (n : ℕ) (b m : Bool) (us x : List T) → b ≡ true → stops l n b us → stops l n m (us ++ x)
+  stops_longer : (n : ℕ) (b m : Bool) (us x : List T) → b ≡ true → mismatch_at l n b us → mismatch_at l n m (us ++ x)
   stops_longer n b m [] x e h = absurd (cc)
   stops_longer n b m (t ∷ ts) x e h = h
 
   -- where fewer tokens than fit were passed, the next one doesn't stop the match
-  goes_on : ComparesOnce l → (i c n : ℕ) (b : Bool) (us : List T) → i < c → c ≤ length us → all_fit l n (take c us) → stops l (n + i) b (drop i us) → ⊥
+  goes_on : ComparesOnce l → (i c n : ℕ) (b : Bool) (us : List T) → i < c → c ≤ length us → all_fit l n (take c us) → mismatch_at l (n + i) b (drop i us) → ⊥
   goes_on h i c n b [] d e f s = omega arith
   goes_on h i zero n b (t ∷ ts) d e f s = omega arith
   goes_on h zero (suc c) n b (t ∷ ts) d e f s = let z : n + 0 ≡ n = omega arith in h.one n t f.0 (rw z at s)
@@ -40,12 +40,12 @@ module _ {T V : Type 0} (l : TokenList T) (gives : V → Type 0) (n : ℕ) where
   none_of_none : (m c : ℕ) → c ≡ m - n → false ≡ nat_lt 0 m → c ≡ 0
   none_of_none m c e d = let z = ltb-false 0 m (sym d) in omega arith
 
-  module _ (h : EndsOnce l) (f : ComparesOnce l) (b : Bool) (us : List T) where
+  module _ (h : ListEndsOnce l) (f : ComparesOnce l) (b : Bool) (us : List T) where
     -- a refusal at one place, where more tokens fit
-    never_stops : (i c : ℕ) → i < c → Matched l n c us → stops l (n + i) b (drop i us) → ⊥
+    never_stops : (i c : ℕ) → i < c → Matched l n c us → mismatch_at l (n + i) b (drop i us) → ⊥
     never_stops i c d g s = goes_on l f i c n b us d g.enough g.each s
 
-    one_place : (i j : ℕ) → Matched l n i us → Matched l n j us → stops l (n + i) b (drop i us) → stops l (n + j) b (drop j us) → i ≡ j
+    one_place : (i j : ℕ) → Matched l n i us → Matched l n j us → mismatch_at l (n + i) b (drop i us) → mismatch_at l (n + j) b (drop j us) → i ≡ j
     one_place i j p q s t = by_order (cases_order i j)
       where
         by_order : (i ≡ j) ⊎ ((i < j) ⊎ (j < i)) → i ≡ j
@@ -54,7 +54,7 @@ module _ {T V : Type 0} (l : TokenList T) (gives : V → Type 0) (n : ℕ) where
         by_order (inr (inr d)) = absurd (never_stops j i d p t)
 
     -- all that is unread fits, and more may follow
-    not_all : (i : ℕ) → b ≡ true → Matched l n (length us) us → Matched l n i us → stops l (n + i) b (drop i us) → ⊥
+    not_all : (i : ℕ) → b ≡ true → Matched l n (length us) us → Matched l n i us → mismatch_at l (n + i) b (drop i us) → ⊥
     not_all i e f p s = by_order (cases_lt i (length us))
       where
         by_order : (i < length us) ⊎ (length us ≤ i) → ⊥
@@ -81,10 +81,10 @@ module _ {P T V : Type 0} (l : TokenList T) (gives : V → Type 0) (n : ℕ) whe
     within = λ v a c k p. p.3.enough;
   }
 
-  pub matching_is_single : EndsOnce l → ComparesOnce l → IsSingle (matching l {P = P} gives n)
+  pub matching_is_single : ListEndsOnce l → ComparesOnce l → IsSingle (matching l {P = P} gives n)
   matching_is_single h f = record { one = λ v o o' p q. one_shape l gives n h f v.is_open v.unread o o' p q }
 
-module _ {P T R E V S : Type 0} (errors : Errors T R P E) (l : TokenList T) (expected : Option (Info T R)) (gives : V → Type 0) (matched : S → ℕ) (lean : Type 0) (adds : List (Item T R) → Type 0) where
+module _ {P T R E V S : Type 0} (errors : Observers T R P E) (l : TokenList T) (expected : Option (Info T R)) (gives : V → Type 0) (matched : S → ℕ) (heapless : Type 0) (adds : List (ErrorItem T R) → Type 0) where
   -- the list from its beginning, or from a state after as many items as it counts; expected is what the error of a mismatch says was expected
   abbrev pub token_list : Meaning P T R E V S
   token_list = record {
@@ -93,7 +93,7 @@ module _ {P T R E V S : Type 0} (errors : Errors T R P E) (l : TokenList T) (exp
     lost = λ s v. ⊥;
     keeps = Unit {0};
     puts_back = ⊥;
-    lean = lean;
+    heapless = heapless;
     adds = adds;
     refuses = RefusesList errors l expected 0;
     refuses_from = λ s. RefusesList errors l expected (matched s);
@@ -109,5 +109,5 @@ module _ {P T R E V S : Type 0} (errors : Errors T R P E) (l : TokenList T) (exp
       reasons = λ s d v w k x. let e = h s d in rw e (λ p. p, λ p. p);
     }
 
-    pub token_list_means_one : EndsOnce l → ComparesOnce l → MeansOne valid token_list
+    pub token_list_means_one : ListEndsOnce l → ComparesOnce l → MeansOne valid token_list
     token_list_means_one h f = record { whole = matching_is_single l gives 0 h f; rest = λ s k. matching_is_single l gives (matched s) h f }

@@ -13,7 +13,7 @@ pub record TokenList (T : Type 0) : Type 1 where
   pub ends : ℕ → Type 0
 
 -- the list ends once, and no item stands there or behind
-pub record EndsOnce {T : Type 0} (l : TokenList T) : Type 0 where
+pub record ListEndsOnce {T : Type 0} (l : TokenList T) : Type 0 where
   pub before : (k m : ℕ) → l.has k → l.ends m → k < m
   pub one : (m m' : ℕ) → l.ends m → l.ends m' → m ≡ m'
 
@@ -33,14 +33,14 @@ module _ {T : Type 0} (l : TokenList T) where
     pub each : all_fit n (take i us)
 
   -- a token that doesn't fit the item at place n, or the end of an ended list
-  abbrev pub stops : ℕ → Bool → List T → Type 0
-  stops n is_open [] = is_open ≡ false
-  stops n is_open (t ∷ ts) = l.fits n t false
+  abbrev pub mismatch_at : ℕ → Bool → List T → Type 0
+  mismatch_at n is_open [] = is_open ≡ false
+  mismatch_at n is_open (t ∷ ts) = l.fits n t false
 
   -- The items from place n on are matched. An acceptance or a refusal is committed if an item was matched, those before place n counted.
   abbrev pub matching_at : {V : Type 0} → (V → Type 0) → ℕ → Bool → List T → Outcome V → Type 0
   matching_at gives n is_open us (Accepted value count k) = (m : ℕ) × l.ends m × (count ≡ m - n) × Matched n count us × (k ≡ nat_lt 0 m) × gives value
-  matching_at gives n is_open us (Refused k) = (i : ℕ) × l.has (n + i) × Matched n i us × stops (n + i) is_open (drop i us) × (k ≡ nat_lt 0 (n + i))
+  matching_at gives n is_open us (Refused k) = (i : ℕ) × l.has (n + i) × Matched n i us × mismatch_at (n + i) is_open (drop i us) × (k ≡ nat_lt 0 (n + i))
   matching_at gives n is_open us Undecided = (is_open ≡ true) × l.has (n + length us) × Matched n (length us) us
 
   module _ {P V : Type 0} where

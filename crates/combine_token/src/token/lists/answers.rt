@@ -6,7 +6,7 @@ ghost use Rattle.combine_base.specs.Error.Errors.{New};
 ghost use Rattle.combine_base.specs.Parser.Reasons.{Reasoned};
 ghost use Rattle.combine_base.specs.Stream.Calls.{Passes};
 ghost use Rattle.combine_token.specs.Token.Lists.IteratedLists.{Gave, GaveAll};
-ghost use Rattle.combine_token.specs.Token.Lists.ListAnswers.{Accepted, FindsNone, Mismatch, PutBack};
+ghost use Rattle.combine_token.specs.Token.Lists.ListAnswers.{AcceptsList, FindsNone, Mismatch, PutsBackList};
 ghost use Rattle.combine_token.specs.Token.TokenReasons.{SaysEnded, peeked_only};
 
 use combine_base::error::{Info, ParseError, ParseResult, Tracked, accepted_after, refused_after};
@@ -39,7 +39,7 @@ pub(super) fn accepted<V: Clone, Input: Stream>(
     position: Input::Position,
     input: &Input,
 ) -> ParseResult<V, Input::Error>
-    ensures { Accepted Input.Error.seen.kind (V.is_clone value.now) (V.is_infallible value.now) committed result }
+    ensures { AcceptsList Input.Error.observers.kind (V.is_clone value.now) (V.is_infallible value.now) committed result }
 {
     match value.clone() {
         Ok(value) => accepted_after(committed, value),
@@ -54,7 +54,7 @@ pub(super) fn mismatch<Input: Stream>(
     position: Input::Position,
     input: &Input,
 ) -> Input::Error
-    ensures { Mismatch Input.Error.seen position token (option_copied expected.entry) result }
+    ensures { Mismatch Input.Error.observers position token (option_copied expected.entry) result }
 {
     let mut error = input.new_error(Kind::Refused, position);
     add_unexpected_token(&mut error, token);
@@ -70,8 +70,8 @@ pub(super) fn put_back<O, Input: Stream>(
     position: Input::Position,
     input: &mut Input,
 ) -> ParseResult<O, Input::Error>
-    ensures back { PutBack Input.steady Input.step Input.Error.seen.kind (Input.stands input.old start) (Input.view input.old) (Input.view input.new) (Input.failures input.old) (Input.failures input.new) result }
-    ensures refuses { Reasoned Input.Error.seen.kind (Input.view input.new).is_open (peeked_only (New Input.Error.seen Kind.Refused position)) result }
+    ensures back { PutsBackList Input.counts_failures Input.step Input.Error.observers.kind (Input.stands input.old start) (Input.view input.old) (Input.view input.new) (Input.failures input.old) (Input.failures input.new) result }
+    ensures refuses { Reasoned Input.Error.observers.kind (Input.view input.new).is_open (peeked_only (New Input.Error.observers Kind.Refused position)) result }
     ensures passes { Passes (Input.marks input.old) (Input.marks input.new) (Input.failures input.old) (Input.failures input.new) }
 {
     if let Err(kind) = input.reset(start) {
@@ -87,8 +87,8 @@ pub(super) fn no_more<O, Input: Stream>(
     position: Input::Position,
     input: &Input,
 ) -> ParseResult<O, Input::Error>
-    ensures finds { FindsNone Input.Error.seen.kind Input.Error.seen.frugal (Input.view input.now).is_open committed why result }
-    ensures refuses { why ≡ Kind.End → Reasoned Input.Error.seen.kind (Input.view input.now).is_open (SaysEnded Input.Error.seen position committed) result }
+    ensures finds { FindsNone Input.Error.observers.kind Input.Error.observers.never_allocates (Input.view input.now).is_open committed why result }
+    ensures refuses { why ≡ Kind.End → Reasoned Input.Error.observers.kind (Input.view input.now).is_open (SaysEnded Input.Error.observers position committed) result }
 {
     match no_token::<O, Input>(input, why, position) {
         ParseResult::PeekErr(refusal) => refused_after(committed, refusal),

@@ -1,11 +1,11 @@
 //! The parsers of lists of tokens, and their state.
 ghost use Rattle.std.specs.Prelude.{◌≡◌, not, if◌then◌else◌, MatchResult, None, Some};
-ghost use Rattle.combine_base.specs.Error.Errors.{Nothing, Only};
+ghost use Rattle.combine_base.specs.Error.Errors.{AddsNothing, Only};
 ghost use Rattle.combine_base.specs.Error.Items.{Expected, shown};
 ghost use Rattle.combine_token.specs.Token.Lists.ListAnswers.{NoText};
 ghost use Rattle.combine_token.specs.Token.Lists.TokenLists.{ComparesOnce};
 ghost use Rattle.combine_token.specs.Token.Lists.ListMeaning.{token_list, token_list_is_meaning, token_list_means_one};
-ghost use Rattle.combine_token.specs.Token.Lists.IteratedLists.{IsIterated, iterated, iterated_ends_once};
+ghost use Rattle.combine_token.specs.Token.Lists.IteratedLists.{IsIterated, iterated_tokens, iterated_ends_once};
 
 use crate::token::lists::match_list;
 use combine_base::error::{ErrorOffset, Info, ParseError, ParseResult, Tracked};
@@ -88,19 +88,19 @@ where
 
     ghost lawful = { λ p. C.IsAlwaysCallable p.cmp × IsIterated T.is_clone T.into_iter_gives T.IntoIter.next_gives p.tokens T.IntoIter.can_next T.IntoIter.remaining };
 
-    ghost determined = { λ p. ComparesOnce (iterated T.is_clone T.into_iter_gives T.IntoIter.next_gives p.tokens (λ x t b. C.post p.cmp x t b)) };
+    ghost determined = { λ p. ComparesOnce (iterated_tokens T.is_clone T.into_iter_gives T.IntoIter.next_gives p.tokens (λ x t b. C.post p.cmp x t b)) };
 
     ghost valid = { λ s. Unit {0} };
 
-    ghost meaning = { λ p. token_list Input.Error.seen (iterated T.is_clone T.into_iter_gives T.IntoIter.next_gives p.tokens (λ x t b. C.post p.cmp x t b)) (Some p.expected) (T.is_clone p.tokens) (λ s. s.matched) (T.is_infallible p.tokens) (Only (Expected (shown p.expected))) };
+    ghost meaning = { λ p. token_list Input.Error.observers (iterated_tokens T.is_clone T.into_iter_gives T.IntoIter.next_gives p.tokens (λ x t b. C.post p.cmp x t b)) (Some p.expected) (T.is_clone p.tokens) (λ s. s.matched) (T.is_infallible p.tokens) (Only (Expected (shown p.expected))) };
 
     ghost parts = { λ _. 1 };
 
     ghost default_valid = { λ s d. tt };
 
-    ghost laws = { λ p l. token_list_is_meaning Input.Error.seen _ _ _ _ _ _ _ _ (λ s d. d) };
+    ghost laws = { λ p l. token_list_is_meaning Input.Error.observers _ _ _ _ _ _ _ _ (λ s d. d) };
 
-    ghost single = { λ p l d. token_list_means_one Input.Error.seen _ _ _ _ _ _ (λ _. Unit {0}) (λ _. Unit {0}) (iterated_ends_once _ _ _ _ _ _ _ l.1) d };
+    ghost single = { λ p l d. token_list_means_one Input.Error.observers _ _ _ _ _ _ (λ _. Unit {0}) (λ _. Unit {0}) (iterated_ends_once _ _ _ _ _ _ _ l.1) d };
 
     #[inline(always)]
     fn parse_mode<M: ParseMode>(
@@ -155,19 +155,19 @@ where
 
     ghost lawful = { λ p. C.IsAlwaysCallable p.cmp × IsIterated T.is_clone T.into_iter_gives T.IntoIter.next_gives p.tokens T.IntoIter.can_next T.IntoIter.remaining };
 
-    ghost determined = { λ p. ComparesOnce (iterated T.is_clone T.into_iter_gives T.IntoIter.next_gives p.tokens (λ x t b. C.post p.cmp x t b)) };
+    ghost determined = { λ p. ComparesOnce (iterated_tokens T.is_clone T.into_iter_gives T.IntoIter.next_gives p.tokens (λ x t b. C.post p.cmp x t b)) };
 
     ghost valid = { λ s. Unit {0} };
 
-    ghost meaning = { λ p. token_list Input.Error.seen (iterated T.is_clone T.into_iter_gives T.IntoIter.next_gives p.tokens (λ x t b. C.post p.cmp x t b)) None (T.is_clone p.tokens) (λ s. s.matched) (T.is_infallible p.tokens) Nothing };
+    ghost meaning = { λ p. token_list Input.Error.observers (iterated_tokens T.is_clone T.into_iter_gives T.IntoIter.next_gives p.tokens (λ x t b. C.post p.cmp x t b)) None (T.is_clone p.tokens) (λ s. s.matched) (T.is_infallible p.tokens) AddsNothing };
 
     ghost parts = { λ _. 1 };
 
     ghost default_valid = { λ s d. tt };
 
-    ghost laws = { λ p l. token_list_is_meaning Input.Error.seen _ _ _ _ _ _ _ _ (λ s d. d) };
+    ghost laws = { λ p l. token_list_is_meaning Input.Error.observers _ _ _ _ _ _ _ _ (λ s d. d) };
 
-    ghost single = { λ p l d. token_list_means_one Input.Error.seen _ _ _ _ _ _ (λ _. Unit {0}) (λ _. Unit {0}) (iterated_ends_once _ _ _ _ _ _ _ l.1) d };
+    ghost single = { λ p l d. token_list_means_one Input.Error.observers _ _ _ _ _ _ (λ _. Unit {0}) (λ _. Unit {0}) (iterated_ends_once _ _ _ _ _ _ _ l.1) d };
 
     #[inline(always)]
     fn parse_mode<M: ParseMode>(

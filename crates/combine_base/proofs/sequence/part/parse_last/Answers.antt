@@ -41,7 +41,7 @@ returns-in-PeekOk g c =
 
 pub returns-then-needs_more : goal.returns-then-needs_more
 returns-then-needs_more g c =
-    let around = world g.Input.StreamOnce.step g.Input.Error.ParseError.seen g.Input.StreamOnce.steady g.P.PartialState.Default.is_default in
+    let around = world g.Input.StreamOnce.step g.Input.Error.ParseError.observers g.Input.StreamOnce.counts_failures g.P.PartialState.Default.is_default in
     let call = c.in-CommitErr.ensures in
     record {
       lawful = call.lawful;

@@ -10,4 +10,4 @@ pub returns-clause-answers : goal.returns-clause-answers
 returns-clause-answers g c = answers_alike _ _ _ (named_alike _ _) _ _ c.parse_mode.ensures.answers
 
 pub returns-clause-refuses : goal.returns-clause-refuses
-returns-clause-refuses g c = named_reasons g.Input.Error.ParseError.seen g.N.Text.bytes (g.P.Parser.meaning c.args.self.now.parser) (g.M.ParseMode.first c.args.mode) c.args.state.now _ _ _ c.parse_mode.ensures.refuses
+returns-clause-refuses g c = named_reasons g.Input.Error.ParseError.observers g.N.Text.bytes (g.P.Parser.meaning c.args.self.now.parser) (g.M.ParseMode.first c.args.mode) c.args.state.now _ _ _ c.parse_mode.ensures.refuses

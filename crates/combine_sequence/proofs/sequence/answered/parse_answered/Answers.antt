@@ -45,7 +45,7 @@ returns-in-PeekOk g c =
 pub returns-then-needs_more : goal.returns-then-needs_more
 returns-then-needs_more g c =
     let call = c.parse_explained.ensures in
-    let around = world g.Input.StreamOnce.step g.Input.Error.ParseError.seen g.Input.StreamOnce.steady g.N.PartialState.Default.is_default in
+    let around = world g.Input.StreamOnce.step g.Input.Error.ParseError.observers g.Input.StreamOnce.counts_failures g.N.PartialState.Default.is_default in
     record {
       parser = _;
       lawful = call.lawful;

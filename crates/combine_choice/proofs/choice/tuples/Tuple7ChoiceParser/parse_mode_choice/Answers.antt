@@ -9,7 +9,7 @@ returns-clause-valid g c = c.choose.ensures.chose.valid
 
 pub returns-clause-same : goal.returns-clause-same
 returns-clause-same g c =
-    let s = g.Input.Error.ParseError.seen in
+    let s = g.Input.Error.ParseError.observers in
     let k = g.Input.Position.Ord.cmp in
     carried_8 (λ x0 x1 x2 x3 x4 x5 x6 u0. MeansSame (either_of s k (either_of s k (g.A.Parser.meaning c.args.self.now.0) (either_of s k (g.B.Parser.meaning c.args.self.now.1) (g.C.Parser.meaning c.args.self.now.2))) (either_of s k (either_of s k (g.D.Parser.meaning c.args.self.now.3) (g.E.Parser.meaning c.args.self.now.4)) (either_of s k (g.F.Parser.meaning c.args.self.now.5) (g.G.Parser.meaning c.args.self.now.6)))) (either_of s k (either_of s k (g.A.Parser.meaning x0) (either_of s k (g.B.Parser.meaning x1) (g.C.Parser.meaning x2))) (either_of s k (either_of s k (g.D.Parser.meaning x3) (g.E.Parser.meaning x4)) (either_of s k (g.F.Parser.meaning x5) (g.G.Parser.meaning x6))))) (search rules) (search rules) (search rules) (search rules) (search rules) (search rules) (search rules) no_value c.choose.ensures.chose.same
 

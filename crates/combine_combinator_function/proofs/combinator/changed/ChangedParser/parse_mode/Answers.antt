@@ -90,45 +90,45 @@ returns-in-PeekErr-clause-lawful g c =
 pub returns-in-Ok-clause-answers : goal.returns-in-Ok-clause-answers
 returns-in-Ok-clause-answers g c =
     let k = change_part c.args.self.now in
-    commit_value g.Input.Error.ParseError.seen _ _ _ g.P.Parser.valid (g.C.ValueChange.gives k) (g.C.ValueChange.denies k) (g.C.ValueChange.starves k) (g.C.ValueChange.says k) _ _ _ _ c.change.ensures.view c.change.ensures.failures _ _ _ c.in-CommitOk.ensures.answers c.in-Ok.ensures.changes
+    commit_value g.Input.Error.ParseError.observers _ _ _ g.P.Parser.valid (g.C.ValueChange.gives k) (g.C.ValueChange.denies k) (g.C.ValueChange.starves k) (g.C.ValueChange.says k) _ _ _ _ c.change.ensures.view c.change.ensures.failures _ _ _ c.in-CommitOk.ensures.answers c.in-Ok.ensures.changes
 
 pub returns-in-Ok-change-clause-answers : goal.returns-in-Ok-change-clause-answers
 returns-in-Ok-change-clause-answers g c =
     let k = change_part c.args.self.now in
-    peek_value g.Input.Error.ParseError.seen _ _ _ g.P.Parser.valid (g.C.ValueChange.gives k) (g.C.ValueChange.denies k) (g.C.ValueChange.starves k) (g.C.ValueChange.says k) _ _ _ _ c.change-in-PeekOk.ensures.view c.change-in-PeekOk.ensures.failures _ _ _ c.in-PeekOk.ensures.answers c.in-Ok-change.ensures.changes
+    peek_value g.Input.Error.ParseError.observers _ _ _ g.P.Parser.valid (g.C.ValueChange.gives k) (g.C.ValueChange.denies k) (g.C.ValueChange.starves k) (g.C.ValueChange.says k) _ _ _ _ c.change-in-PeekOk.ensures.view c.change-in-PeekOk.ensures.failures _ _ _ c.in-PeekOk.ensures.answers c.in-Ok-change.ensures.changes
 
 pub returns-in-Err-clause-answers : goal.returns-in-Err-clause-answers
 returns-in-Err-clause-answers g c =
     let k = change_part c.args.self.now in
-    commit_denial g.Input.Error.ParseError.seen _ _ _ g.P.Parser.valid (g.C.ValueChange.gives k) (g.C.ValueChange.denies k) (g.C.ValueChange.starves k) (g.C.ValueChange.says k) _ _ _ _ c.change.ensures.view c.change.ensures.failures _ _ c.requires.valid _ c.in-CommitOk.ensures.answers c.in-Err.ensures.changes
+    commit_denial g.Input.Error.ParseError.observers _ _ _ g.P.Parser.valid (g.C.ValueChange.gives k) (g.C.ValueChange.denies k) (g.C.ValueChange.starves k) (g.C.ValueChange.says k) _ _ _ _ c.change.ensures.view c.change.ensures.failures _ _ c.requires.valid _ c.in-CommitOk.ensures.answers c.in-Err.ensures.changes
 
 pub returns-in-Err-change-clause-answers : goal.returns-in-Err-change-clause-answers
 returns-in-Err-change-clause-answers g c =
     let k = change_part c.args.self.now in
     let refused = rw c.from.ensures at c.peeked.ensures in
-    peek_denial g.Input.Error.ParseError.seen _ _ _ g.P.Parser.valid (g.C.ValueChange.gives k) (g.C.ValueChange.denies k) (g.C.ValueChange.starves k) (g.C.ValueChange.says k) _ _ _ _ c.change-in-PeekOk.ensures.view c.change-in-PeekOk.ensures.failures _ _ c.requires.valid _ _ c.in-PeekOk.ensures.answers c.in-Err-change.ensures.changes refused
+    peek_denial g.Input.Error.ParseError.observers _ _ _ g.P.Parser.valid (g.C.ValueChange.gives k) (g.C.ValueChange.denies k) (g.C.ValueChange.starves k) (g.C.ValueChange.says k) _ _ _ _ c.change-in-PeekOk.ensures.view c.change-in-PeekOk.ensures.failures _ _ c.requires.valid _ _ c.in-PeekOk.ensures.answers c.in-Err-change.ensures.changes refused
 
 pub returns-in-CommitErr-clause-refuses : goal.returns-in-CommitErr-clause-refuses
 returns-in-CommitErr-clause-refuses g c =
     let k = change_part c.args.self.now in
     let m = g.P.Parser.meaning (changed_part c.args.self.now) in
-    part_error g.Input.Error.ParseError.seen g.Input.StreamOnce.step (g.C.ValueChange.gives k) (g.C.ValueChange.denies k) (g.C.ValueChange.says k) (GivesOnly g.P.Parser.valid m (spares (g.C.ValueChange.starves k))) m _ _ _ _ _ c.in-CommitErr.ensures.answers c.in-CommitErr.ensures.refuses
+    part_error g.Input.Error.ParseError.observers g.Input.StreamOnce.step (g.C.ValueChange.gives k) (g.C.ValueChange.denies k) (g.C.ValueChange.says k) (GivesOnly g.P.Parser.valid m (spares (g.C.ValueChange.starves k))) m _ _ _ _ _ c.in-CommitErr.ensures.answers c.in-CommitErr.ensures.refuses
 
 pub returns-in-PeekErr-clause-refuses : goal.returns-in-PeekErr-clause-refuses
 returns-in-PeekErr-clause-refuses g c =
     let k = change_part c.args.self.now in
     let m = g.P.Parser.meaning (changed_part c.args.self.now) in
-    part_refusal g.Input.Error.ParseError.seen g.Input.StreamOnce.step (g.C.ValueChange.gives k) (g.C.ValueChange.denies k) (g.C.ValueChange.says k) (GivesOnly g.P.Parser.valid m (spares (g.C.ValueChange.starves k))) m _ _ _ _ _ c.in-PeekErr.ensures.answers c.in-PeekErr.ensures.refuses
+    part_refusal g.Input.Error.ParseError.observers g.Input.StreamOnce.step (g.C.ValueChange.gives k) (g.C.ValueChange.denies k) (g.C.ValueChange.says k) (GivesOnly g.P.Parser.valid m (spares (g.C.ValueChange.starves k))) m _ _ _ _ _ c.in-PeekErr.ensures.answers c.in-PeekErr.ensures.refuses
 
 pub returns-in-Err-clause-refuses : goal.returns-in-Err-clause-refuses
 returns-in-Err-clause-refuses g c =
     let k = change_part c.args.self.now in
     let m = g.P.Parser.meaning (changed_part c.args.self.now) in
-    value_error g.Input.Error.ParseError.seen g.Input.StreamOnce.step (g.C.ValueChange.gives k) (g.C.ValueChange.denies k) (g.C.ValueChange.says k) (GivesOnly g.P.Parser.valid m (spares (g.C.ValueChange.starves k))) m _ _ _ _ _ _ _ _ _ _ c.change.ensures.view _ _ _ _ _ (rw c.position-began.ensures at c.in-Err.ensures.changes) c.in-CommitOk.ensures.answers
+    value_error g.Input.Error.ParseError.observers g.Input.StreamOnce.step (g.C.ValueChange.gives k) (g.C.ValueChange.denies k) (g.C.ValueChange.says k) (GivesOnly g.P.Parser.valid m (spares (g.C.ValueChange.starves k))) m _ _ _ _ _ _ _ _ _ _ c.change.ensures.view _ _ _ _ _ (rw c.position-began.ensures at c.in-Err.ensures.changes) c.in-CommitOk.ensures.answers
 
 pub returns-in-Err-change-clause-refuses : goal.returns-in-Err-change-clause-refuses
 returns-in-Err-change-clause-refuses g c =
     let k = change_part c.args.self.now in
     let m = g.P.Parser.meaning (changed_part c.args.self.now) in
     let refused = rw c.from.ensures at c.peeked.ensures in
-    value_refusal g.Input.Error.ParseError.seen g.Input.StreamOnce.step (g.C.ValueChange.gives k) (g.C.ValueChange.denies k) (g.C.ValueChange.says k) (GivesOnly g.P.Parser.valid m (spares (g.C.ValueChange.starves k))) m _ _ _ _ _ _ _ _ _ _ c.change-in-PeekOk.ensures.view _ _ _ _ _ (rw c.position-began.ensures at c.in-Err-change.ensures.changes) c.in-PeekOk.ensures.answers _ refused
+    value_refusal g.Input.Error.ParseError.observers g.Input.StreamOnce.step (g.C.ValueChange.gives k) (g.C.ValueChange.denies k) (g.C.ValueChange.says k) (GivesOnly g.P.Parser.valid m (spares (g.C.ValueChange.starves k))) m _ _ _ _ _ _ _ _ _ _ c.change-in-PeekOk.ensures.view _ _ _ _ _ (rw c.position-began.ensures at c.in-Err-change.ensures.changes) c.in-PeekOk.ensures.answers _ refused

@@ -4,21 +4,21 @@ use Rattle.combine_base.proofs.Errors.MeantRefusals.{reasoned_accepted, reasoned
 use Rattle.combine_base.proofs.Parsers.ValueMap.{mapped_err, mapped_ok, mapped_peek_err, mapped_peek_ok}
 use Rattle.combine_base.specs.Parser.ValueMap.{mapped_means_same}
 use Rattle.combine_repeat_turns.specs.Turns.Bounds.{turns_means_same}
-use Rattle.combine_repeat_turns.specs.Repeat.Repeated.{never}
+use Rattle.combine_repeat_turns.specs.Repeat.Repeated.{no_value_ends}
 use Rattle.combine_repeat_turns.specs.declared.turns.Bounds.TheVariants.{OwnFirst}
 use Rattle.combine_repeat_chain.proofs.repeat.types.RightFoldParser.parse_mode.Goals as goal
 
 pub returns-in-CommitOk-clause-same : goal.returns-in-CommitOk-clause-same
-returns-in-CommitOk-clause-same g c = mapped_means_same _ _ _ (turns_means_same _ _ (OwnFirst 1 None) never _ _ _ _ _ _ c.reduce_turns.ensures.same)
+returns-in-CommitOk-clause-same g c = mapped_means_same _ _ _ (turns_means_same _ _ (OwnFirst 1 None) no_value_ends _ _ _ _ _ _ c.reduce_turns.ensures.same)
 
 pub returns-in-PeekOk-clause-same : goal.returns-in-PeekOk-clause-same
-returns-in-PeekOk-clause-same g c = mapped_means_same _ _ _ (turns_means_same _ _ (OwnFirst 1 None) never _ _ _ _ _ _ c.reduce_turns.ensures.same)
+returns-in-PeekOk-clause-same g c = mapped_means_same _ _ _ (turns_means_same _ _ (OwnFirst 1 None) no_value_ends _ _ _ _ _ _ c.reduce_turns.ensures.same)
 
 pub returns-in-CommitErr-clause-same : goal.returns-in-CommitErr-clause-same
-returns-in-CommitErr-clause-same g c = mapped_means_same _ _ _ (turns_means_same _ _ (OwnFirst 1 None) never _ _ _ _ _ _ c.reduce_turns.ensures.same)
+returns-in-CommitErr-clause-same g c = mapped_means_same _ _ _ (turns_means_same _ _ (OwnFirst 1 None) no_value_ends _ _ _ _ _ _ c.reduce_turns.ensures.same)
 
 pub returns-in-PeekErr-clause-same : goal.returns-in-PeekErr-clause-same
-returns-in-PeekErr-clause-same g c = mapped_means_same _ _ _ (turns_means_same _ _ (OwnFirst 1 None) never _ _ _ _ _ _ c.reduce_turns.ensures.same)
+returns-in-PeekErr-clause-same g c = mapped_means_same _ _ _ (turns_means_same _ _ (OwnFirst 1 None) no_value_ends _ _ _ _ _ _ c.reduce_turns.ensures.same)
 
 pub returns-in-CommitErr-clause-answers : goal.returns-in-CommitErr-clause-answers
 returns-in-CommitErr-clause-answers g c = mapped_err _ _ _ _ _ c.in-CommitErr.ensures.answers

@@ -10,25 +10,25 @@ returns-in-Done-clause-chose g c =
     let l = c.requires.lawful in
     let h = (g.met.L.Alternatives.laws _ l.0) in
     let k = (g.met.R.Alternatives.laws _ l.1) in
-    ended_chose g.Input.StreamOnce.step g.Input.Error.ParseError.seen g.Input.StreamOnce.steady g.Input.Position.Ord.cmp h k _ _ _ _ _ _ _ l.1 _ c.in-Done.ensures.tried
+    ended_chose g.Input.StreamOnce.step g.Input.Error.ParseError.observers g.Input.StreamOnce.counts_failures g.Input.Position.Ord.cmp h k _ _ _ _ _ _ _ l.1 _ c.in-Done.ensures.tried
 
 pub choose_second_half-requires-clause-valid : goal.choose_second_half-requires-clause-valid
 choose_second_half-requires-clause-valid g c =
     let l = c.requires.lawful in
     let h = (g.met.L.Alternatives.laws _ l.0) in
     let k = (g.met.R.Alternatives.laws _ l.1) in
-    ready g.Input.StreamOnce.step g.Input.Error.ParseError.seen g.Input.StreamOnce.steady g.Input.Position.Ord.cmp h k _ _ _ _ _ _ _ _ _ c.in-RunsLater.ensures.tried g.met.R.Alternatives.default_valid c.requires.valid
+    ready g.Input.StreamOnce.step g.Input.Error.ParseError.observers g.Input.StreamOnce.counts_failures g.Input.Position.Ord.cmp h k _ _ _ _ _ _ _ _ _ c.in-RunsLater.ensures.tried g.met.R.Alternatives.default_valid c.requires.valid
 
 pub choose_second_half-requires-clause-refused : goal.choose_second_half-requires-clause-refused
 choose_second_half-requires-clause-refused g c =
     let l = c.requires.lawful in
     let h = (g.met.L.Alternatives.laws _ l.0) in
     let k = (g.met.R.Alternatives.laws _ l.1) in
-    is_no_fault g.Input.StreamOnce.step g.Input.Error.ParseError.seen g.Input.StreamOnce.steady g.Input.Position.Ord.cmp h k _ _ _ _ _ _ _ _ _ c.in-RunsLater.ensures.tried
+    is_no_fault g.Input.StreamOnce.step g.Input.Error.ParseError.observers g.Input.StreamOnce.counts_failures g.Input.Position.Ord.cmp h k _ _ _ _ _ _ _ _ _ c.in-RunsLater.ensures.tried
 
 pub returns-in-RunsLater-clause-chose : goal.returns-in-RunsLater-clause-chose
 returns-in-RunsLater-clause-chose g c =
     let l = c.requires.lawful in
     let h = (g.met.L.Alternatives.laws _ l.0) in
     let k = (g.met.R.Alternatives.laws _ l.1) in
-    gone_chose g.Input.StreamOnce.step g.Input.Error.ParseError.seen g.Input.StreamOnce.steady g.Input.Position.Ord.cmp h k _ _ _ _ _ _ _ _ _ c.in-RunsLater.ensures.tried _ _ _ _ c.choose_second_half.ensures.followed
+    gone_chose g.Input.StreamOnce.step g.Input.Error.ParseError.observers g.Input.StreamOnce.counts_failures g.Input.Position.Ord.cmp h k _ _ _ _ _ _ _ _ _ c.in-RunsLater.ensures.tried _ _ _ _ c.choose_second_half.ensures.followed

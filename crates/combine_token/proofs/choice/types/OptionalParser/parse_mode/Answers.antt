@@ -46,7 +46,7 @@ pub returns-in-PeekOk-clause-refuses : goal.returns-in-PeekOk-clause-refuses
 returns-in-PeekOk-clause-refuses g c = reasons_peek_ok _ _ _ _
 
 pub returns-in-CommitErr-clause-refuses : goal.returns-in-CommitErr-clause-refuses
-returns-in-CommitErr-clause-refuses g c = optional_reasons g.Input.Error.ParseError.seen.kind _ (g.P.Parser.meaning c.args.self.now.0) (g.M.ParseMode.first c.args.mode) c.args.state.now _ _ _ c.in-CommitErr.ensures.refuses
+returns-in-CommitErr-clause-refuses g c = optional_reasons g.Input.Error.ParseError.observers.kind _ (g.P.Parser.meaning c.args.self.now.0) (g.M.ParseMode.first c.args.mode) c.args.state.now _ _ _ c.in-CommitErr.ensures.refuses
 
 pub returns-in-Ok-clause-refuses : goal.returns-in-Ok-clause-refuses
 returns-in-Ok-clause-refuses g c = reasons_peek_ok _ _ _ _

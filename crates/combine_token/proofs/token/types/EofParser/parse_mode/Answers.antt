@@ -14,4 +14,4 @@ pub returns-clause-same : goal.returns-clause-same
 returns-clause-same g c = same_none _
 
 pub returns-clause-refuses : goal.returns-clause-refuses
-returns-clause-refuses g c = token_reasons g.Input.Error.ParseError.seen ends_there (Unit {0}) (Only (Expected (Fixed (codes "end of input")))) (g.M.ParseMode.first c.args.mode) c.args.state.now _ _ _ c.one_token.ensures.refuses
+returns-clause-refuses g c = token_reasons g.Input.Error.ParseError.observers ends_there (Unit {0}) (Only (Expected (Fixed (codes "end of input")))) (g.M.ParseMode.first c.args.mode) c.args.state.now _ _ _ c.one_token.ensures.refuses

@@ -13,4 +13,4 @@ pub returns-clause-same : goal.returns-clause-same
 returns-clause-same g c = same_none _
 
 pub returns-clause-refuses : goal.returns-clause-refuses
-returns-clause-refuses g c = token_reasons g.Input.Error.ParseError.seen (satisfied (of_function (λ t. g.Input.Token.PartialEq.eq t c.args.self.now.token))) (Unit {0}) (Only (Expected (OfToken c.args.self.now.token))) (g.M.ParseMode.first c.args.mode) c.args.state.now _ _ _ c.token_if.ensures.refuses
+returns-clause-refuses g c = token_reasons g.Input.Error.ParseError.observers (satisfied (of_function (λ t. g.Input.Token.PartialEq.eq t c.args.self.now.token))) (Unit {0}) (Only (Expected (OfToken c.args.self.now.token))) (g.M.ParseMode.first c.args.mode) c.args.state.now _ _ _ c.token_if.ensures.refuses

@@ -14,7 +14,7 @@ pub returns-clause-answers : goal.returns-clause-answers
 returns-clause-answers g c = takes_if _ _ _ (among g.T.Clone.is_clone g.T.IntoIterator.into_iter_gives g.T.IntoIter.Iterator.next_gives c.args.self.now.tokens g.Input.Token.PartialEq.eq) _ _ _ tt _ c.token_if.ensures.reads (λ t b e. (c.into_iter-items.result, record { clone = c.in-Ok.list; is_clone = c.in-Ok.ensures.cases; made = c.into_iter-items.ensures.into_iter_gives }, e))
 
 pub returns-clause-refuses : goal.returns-clause-refuses
-returns-clause-refuses g c = token_reasons g.Input.Error.ParseError.seen (satisfied (among g.T.Clone.is_clone g.T.IntoIterator.into_iter_gives g.T.IntoIter.Iterator.next_gives c.args.self.now.tokens g.Input.Token.PartialEq.eq)) (g.T.Clone.is_infallible c.args.self.now.tokens) (expects_each g.T.Clone.is_clone g.T.IntoIterator.into_iter_gives g.T.IntoIter.Iterator.next_gives c.args.self.now.tokens) (g.M.ParseMode.first c.args.mode) c.args.state.now _ _ _ c.token_if.ensures.refuses
+returns-clause-refuses g c = token_reasons g.Input.Error.ParseError.observers (satisfied (among g.T.Clone.is_clone g.T.IntoIterator.into_iter_gives g.T.IntoIter.Iterator.next_gives c.args.self.now.tokens g.Input.Token.PartialEq.eq)) (g.T.Clone.is_infallible c.args.self.now.tokens) (expects_each g.T.Clone.is_clone g.T.IntoIterator.into_iter_gives g.T.IntoIter.Iterator.next_gives c.args.self.now.tokens) (g.M.ParseMode.first c.args.mode) c.args.state.now _ _ _ c.token_if.ensures.refuses
 
 pub returns-in-Err-clause-same : goal.returns-in-Err-clause-same
 returns-in-Err-clause-same g c = same_none _
