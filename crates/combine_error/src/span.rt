@@ -31,7 +31,7 @@ pub trait SpannedError<T, R, P: Ord + Copy>: ParseError<T, R, P> {
     ///
     /// The kind and the items stay.
     fn at_span(self, span: Span<P>) -> Self::Spanned
-        ensures { AtSpan Self.seen Self.Spanned.observers span self result };
+        ensures { AtSpan Self.observers Self.Spanned.observers span self result };
 }
 
 impl<T: Copy, R: Copy, P: Ord + Copy> SpannedError<T, R, P> for UnexpectedParse {
