@@ -4,5 +4,5 @@ use Rattle.example_head.proofs.value.Goals as goal
 
 pub returns : goal.returns
 returns c =
-    let is = ap (λ p. p.part.0.0.0.token) (rw c.token.ensures at rw c.skip_many.ensures at c.with.ensures) in
+    let is = ap (λ p. p.part.0.turn.0.token) (rw c.token.ensures at rw c.skip_many.ensures at c.with.ensures) in
     record { is = subst (λ b. parsed (with (skip_many_syntax (token b)) (many1_syntax alpha_num_syntax)) c.args.input.now c.parse.result) is c.parse.ensures.results }
