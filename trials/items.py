@@ -482,3 +482,19 @@ class Names:
             module = queue.pop(0)
             queue += module.modules.values()
             yield from ((it, module) for it in module.items if it.kind == "impl")
+
+
+def offered(names, module):
+    """The public names of a module, each with the module that it is named from, and with what it means."""
+    for name, inside in module.modules.items():
+        if inside.public:
+            yield name, module, inside
+    for item in module.items:
+        if item.public and item.kind != "macro_rules":
+            yield item.name, module, (item, module)
+    for name, (path, public) in module.uses.items():
+        if public:
+            source = next((it for it in names.of_path(path[:-1], module) if isinstance(it, Module) and it.public), module)
+            targets = names.of_path(path, module)
+            macros = [it for it in targets if not isinstance(it, Module) and it[0].kind == "macro_rules"]
+            yield from ((name, source, it) for it in macros or targets)

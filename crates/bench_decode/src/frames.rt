@@ -1,4 +1,4 @@
-//! Frames behind their length, in two bytes, each collected.
+//! Frames after their length, in two bytes, each collected.
 
 use crate::decoder::ByDecoder;
 use crate::messages::{Way, number};

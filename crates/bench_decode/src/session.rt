@@ -1,4 +1,4 @@
-//! By a loop over a session, which begins again behind each message.
+//! By a loop over a session, which begins again after each message.
 ghost use Rattle.std.specs.Prelude.{length};
 ghost use Rattle.combine_decode.specs.Messages.{IsMade};
 
@@ -95,7 +95,7 @@ fn feed<
     let Ok(mut answer) = session.feed(piece) else {
         return Err(Failure::Fault);
     };
-    // One may end here, and behind it as many as there are bytes left, at most.
+    // One may end here, and after it as many as there are bytes left, at most.
     'messages: for _message in 0..=session.unread().len() {
         let Answer::Accepted {
             value,

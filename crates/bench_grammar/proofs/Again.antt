@@ -1,61 +1,61 @@
 -- a run from which nothing goes on, and a call that begins again since such a run was put back
 use Rattle.std.proofs.Common.{◌+◌, ◌≡◌, ◌⊎◌, inl, inr, List, Bool, true, false, Ok, Err, arith, sym, subst, refl, ◌∙◌}
 use Rattle.std.proofs.lemmas.Bool.{false≢true}
-use Rattle.combine_base.specs.Error.Errors.{Added, Errors, Says, Unstored}
-use Rattle.combine_base.specs.Error.Items.{Item}
-use Rattle.combine_base.specs.Parser.Answer.{Answers, Asks, Run, World, ends, world}
+use Rattle.combine_base.specs.Error.Errors.{Added, Observers, AddsItems, Unstored}
+use Rattle.combine_base.specs.Error.Items.{ErrorItem}
+use Rattle.combine_base.specs.Parser.Answer.{Answers, Asks, CallRecord, World, asks_or_refuses, world}
 use Rattle.combine_base.specs.Parser.Drivers.{Starts, afresh}
-use Rattle.combine_base.specs.Parser.Judged.{NeedsMore}
+use Rattle.combine_base.specs.Parser.DriverAnswers.{NeedsMore}
 use Rattle.combine_base.specs.Parser.Meaning.{Meaning, Reading}
 use Rattle.combine_base.specs.Stream.Calls.{ResetTo}
 use Rattle.combine_base.specs.Stream.View.{View}
-use Rattle.combine_base.proofs.Calls.{need_of_more, same_mark, unreset}
-use Rattle.combine_base.proofs.Inside.{Inside, Keeps, inside_asks, inside_commits, inside_fails, inside_peeks, inside_refuses}
-use Rattle.combine_base.proofs.Progress.{progress_none, takes_more}
-use Rattle.combine_base.proofs.Starting.{need_or_not, progress_here}
+use Rattle.combine_base.proofs.Errors.CallErrors.{need_of_more, same_mark, unreset}
+use Rattle.combine_base.proofs.Parsers.InnerCalls.{InsideCall, KeepsAround, inside_asks, inside_commits, inside_fails, inside_peeks, inside_refuses}
+use Rattle.combine_base.proofs.Parsers.Progress.{progress_none, takes_more}
+use Rattle.combine_base.proofs.Parsers.CallStarts.{need_or_not, progress_here}
 use Rattle.combine_base.specs.declared.error.ParseResult.{ParseResult}
 use Rattle.combine_base.specs.declared.error.ParseResult.TheVariants.{CommitOk, PeekOk, CommitErr, PeekErr}
 use Rattle.combine_base.specs.declared.stream.Failures.{Failures}
 use Rattle.combine_base.specs.declared.stream.Kind.{Kind}
 use Rattle.combine_base.specs.declared.stream.Kind.TheVariants as kinds
-use Rattle.combine_token.proofs.Stateless.{asks, into_begun}
+use Rattle.combine_token.proofs.Tokens.Stateless.{stateless_asks, into_begun}
 use Rattle.bench_grammar.specs.Apart.{Anything, RunsOnce, any_error, apart, once, once_world}
 
 -- whatever items were added
-module _ {T R P E : Type 0} (s : Errors T R P E) (lean : Type 0) (adds : List (Item T R) → Type 0) (old new : E) where
-  pub says_anything : Says s lean adds old new → Says s ⊥ Anything old new
+module _ {T R P E : Type 0} (s : Observers T R P E) (heapless : Type 0) (adds : List (ErrorItem T R) → Type 0) (old new : E) where
+  pub says_anything : AddsItems s heapless adds old new → AddsItems s ⊥ Anything old new
   says_anything h = record { is = by_case h.is }
     where
-      by_case : ((is : List (Item T R)) × adds is × Added s is old new) ⊎ Unstored s lean old new → ((is : List (Item T R)) × Anything is × Added s is old new) ⊎ Unstored s ⊥ old new
+      by_case : ((is : List (ErrorItem T R)) × adds is × Added s is old new) ⊎ Unstored s heapless old new → ((is : List (ErrorItem T R)) × Anything is × Added s is old new) ⊎ Unstored s ⊥ old new
       by_case (inl x) = inl (x.0, tt, x.2)
       by_case (inr x) = inr (record { kind = x.kind; position = x.position; memory = λ f l. l })
 
 -- a parser that is run from its start
-module _ {P T R E A S : Type 0} (step : P → T → P) (s : Errors T R P E) (steady : Type 0) (fresh : S → Type 0) (m : Meaning P T R E A S) (old new : View P T) (before after : Failures) where
+module _ {P T R E A S : Type 0} (step : P → T → P) (s : Observers T R P E) (counts_failures : Type 0) (fresh : S → Type 0) (m : Meaning P T R E A S) (old new : View P T) (before after : Failures) where
   abbrev w : World P T S E
-  w = world step s steady fresh
+  w = world step s counts_failures fresh
 
   abbrev w1 : World P T Bool E
-  w1 = once_world step s steady
+  w1 = once_world step s counts_failures
 
   abbrev whole : Meaning P T R E A Bool
   whole = once {R = R} {E = E} m.whole
 
   module _ (from to : S) where
-    abbrev part : Run P T S
+    abbrev part : CallRecord P T S
     part = afresh w m from to old new before after
 
-    inside : (left : Bool) → Inside w (λ b. b ≡ false) m whole part true false left old before false m.whole
+    inside : (left : Bool) → InsideCall w (λ b. b ≡ false) m whole part true false left old before false m.whole
     inside left = record {
       progress = progress_none w m.whole old before;
       reads = omega arith;
       resets = omega arith;
       refuses = λ k x. x;
-      lean = λ l. absurd l;
+      heapless = λ l. absurd l;
       lost = λ e l. absurd (false≢true (sym e));
     }
 
-    keeping : Keeps w (λ b. b ≡ false) m whole part true false true old before m.whole (inside true).progress.count
+    keeping : KeepsAround w (λ b. b ≡ false) m whole part true false true old before m.whole (inside true).progress.count
     keeping = record {
       undecided = λ x. x;
       resumes = λ n t x. record { gives = λ y b o j k. absurd k; committed = λ y b o j l k. absurd k };
@@ -77,34 +77,34 @@ module _ {P T R E A S : Type 0} (step : P → T → P) (s : Errors T R P E) (ste
   run_once from to (CommitErr e) a = let x = fails_once from to e a in record { state = false; left = x.0; answers = x.1 }
   run_once from to (PeekErr t) a = record { state = false; left = false; answers = inside_refuses _ _ _ _ _ _ _ _ _ _ _ _ (inside from to false) (λ k. refl) t a }
 
-module _ {I P T R E C S V : Type 0} (step : P → T → P) (s : Errors T R P E) (steady : Type 0) (view : I → View P T) (marks : I → C → View P T → Type 0) (failures : I → Failures) (fresh : S → Type 0) (read : Reading P T V) (first : Bool) (state left : S) (d : fresh left) (input mid : I) where
+module _ {I P T R E C S V : Type 0} (step : P → T → P) (s : Observers T R P E) (counts_failures : Type 0) (view : I → View P T) (marks : I → C → View P T → Type 0) (failures : I → Failures) (fresh : S → Type 0) (read : Reading P T V) (first : Bool) (state left : S) (d : fresh left) (input mid : I) where
   abbrev here : World P T S E
-  here = world step s steady fresh
+  here = world step s counts_failures fresh
 
   abbrev here1 : World P T Bool E
-  here1 = once_world step s steady
+  here1 = once_world step s counts_failures
 
   abbrev m : Meaning P T R E V S
   m = apart read
 
-  abbrev ran : Bool → Bool → Run P T Bool
+  abbrev ran : Bool → Bool → CallRecord P T Bool
   ran from to = afresh here1 (once {R = R} {E = E} read) from to (view input) (view mid) (failures input) (failures mid)
 
-  abbrev run : View P T → Failures → Run P T S
+  abbrev run : View P T → Failures → CallRecord P T S
   run new later = record { first = first; state = state; left = left; old = view input; new = new; before = failures input; after = later }
 
-  as_run : (from to : Bool) → Inside here1 fresh (once {R = R} {E = E} read) m (ran from to) first state left (view input) (failures input) false read
+  as_run : (from to : Bool) → InsideCall here1 fresh (once {R = R} {E = E} read) m (ran from to) first state left (view input) (failures input) false read
   as_run from to = record {
     progress = progress_here here1 _ read (view input) (failures input) (λ v o p. into_begun read ⊥ ⊥ (Anything {R = R}) (any_error {E = E}) first state v o p);
     reads = omega arith;
     resets = omega arith;
     refuses = λ k x. x;
-    lean = λ l. l;
+    heapless = λ l. l;
     lost = λ e l. absurd (false≢true (sym e));
   }
 
   abbrev Runs : ParseResult V E → Type 0
-  Runs = RunsOnce step s steady view marks failures read input mid
+  Runs = RunsOnce step s counts_failures view marks failures read input mid
 
   -- no need of more
   pub again : (y : ParseResult V E) → (NeedsMore s.kind (view mid).is_open y → ⊥) → Runs y → Answers here m (run (view mid) (failures mid)) y
@@ -121,12 +121,12 @@ module _ {I P T R E C S V : Type 0} (step : P → T → P) (s : Errors T R P E) 
       asked : Asks here1 (once {R = R} {E = E} read) (ran x.answers.state x.answers.left)
       asked = need_of_more here1 (once {R = R} {E = E} read) (ran x.answers.state x.answers.left) e q.0 is_open x.answers.answers
 
-      put_back : ResetTo steady step marked (view mid) new (failures mid) later (Ok tt) → Answers here m (run new later) (CommitErr e)
+      put_back : ResetTo counts_failures step marked (view mid) new (failures mid) later (Ok tt) → Answers here m (run new later) (CommitErr e)
       put_back b =
-          let a = asks here read ⊥ ⊥ (Anything {R = R}) (any_error {E = E}) (run new later) is_open asked.meant (λ z. absurd z) (b.is.0 (view input) i) (λ z. b.is.1 z ∙ asked.failures z) in
-          record { is = rw q.0 (subst (ends here m (run new later)) (sym is_open) a) }
+          let a = stateless_asks here read ⊥ ⊥ (Anything {R = R}) (any_error {E = E}) (run new later) is_open asked.meant (λ z. absurd z) (b.is.0 (view input) i) (λ z. b.is.1 z ∙ asked.failures z) in
+          record { is = rw q.0 (subst (asks_or_refuses here m (run new later)) (sym is_open) a) }
 
-      stuck : (k : Kind) → ResetTo steady step marked (view mid) new (failures mid) later (Err k) → (f : E) → s.kind f ≡ k → Answers here m (run new later) (CommitErr f)
+      stuck : (k : Kind) → ResetTo counts_failures step marked (view mid) new (failures mid) later (Err k) → (f : E) → s.kind f ≡ k → Answers here m (run new later) (CommitErr f)
       stuck k b f j =
           let n = b.is.1 in
           let c = b.is.2 in
@@ -134,14 +134,14 @@ module _ {I P T R E C S V : Type 0} (step : P → T → P) (s : Errors T R P E) 
           unreset here m (run new later) f (j ∙ b.is.0) (record { count = asked.count + n.count; taken = takes_more step asked.count n.count (view input) (view mid) new asked.taken n.taken; state = d }) (omega arith)
 
     -- need of more, put back
-    pub again_back : (y : ParseResult V E) → NeedsMore s.kind (view mid).is_open y → Runs y → ResetTo steady step marked (view mid) new (failures mid) later (Ok tt) → Answers here m (run new later) y
+    pub again_back : (y : ParseResult V E) → NeedsMore s.kind (view mid).is_open y → Runs y → ResetTo counts_failures step marked (view mid) new (failures mid) later (Ok tt) → Answers here m (run new later) y
     again_back (CommitOk v) q x b = absurd q
     again_back (PeekOk v) q x b = absurd q
     again_back (CommitErr e) q x b = put_back e q x b
     again_back (PeekErr t) q x b = absurd q
 
     -- it could not be put back
-    pub again_stuck : (y : ParseResult V E) → NeedsMore s.kind (view mid).is_open y → Runs y → (k : Kind) → ResetTo steady step marked (view mid) new (failures mid) later (Err k) → (f : E) → s.kind f ≡ k → Answers here m (run new later) (CommitErr f)
+    pub again_stuck : (y : ParseResult V E) → NeedsMore s.kind (view mid).is_open y → Runs y → (k : Kind) → ResetTo counts_failures step marked (view mid) new (failures mid) later (Err k) → (f : E) → s.kind f ≡ k → Answers here m (run new later) (CommitErr f)
     again_stuck (CommitOk v) q x k b f j = absurd q
     again_stuck (PeekOk v) q x k b f j = absurd q
     again_stuck (CommitErr e) q x k b f j = stuck e q x k b f j

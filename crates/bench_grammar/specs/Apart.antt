@@ -1,8 +1,8 @@
 -- a rule that stands apart: its parser is run once by a function, from which nothing goes on
 use Rattle.std.specs.Prelude.{◌≡◌, List, Bool, true, false}
 use Rattle.std.specs.Borrow.{MutBor}
-use Rattle.combine_base.specs.Error.Errors.{Errors, Nothing, Says}
-use Rattle.combine_base.specs.Error.Items.{Item}
+use Rattle.combine_base.specs.Error.Errors.{Observers, AddsNothing, AddsItems}
+use Rattle.combine_base.specs.Error.Items.{ErrorItem}
 use Rattle.combine_base.specs.Parser.Answer.{World, world}
 use Rattle.combine_base.specs.Parser.Drivers.{Starts}
 use Rattle.combine_base.specs.Parser.Meaning.{IsMeaning, IsReading, IsSingle, Meaning, MeansOne, Reading, Refusing}
@@ -11,10 +11,10 @@ use Rattle.combine_base.specs.Stream.View.{View}
 use Rattle.combine_base.specs.declared.error.ParseResult.{ParseResult}
 use Rattle.combine_base.specs.declared.error.Tracked.{Tracked}
 use Rattle.combine_base.specs.declared.stream.Failures.{Failures}
-use Rattle.combine_token.specs.Stateless.{stateless, stateless_is_meaning, stateless_means_one}
+use Rattle.combine_token.specs.Token.Stateless.{stateless, stateless_is_meaning, stateless_means_one}
 
 -- whatever items
-abbrev pub Anything : {T R : Type 0} → List (Item T R) → Type 0
+abbrev pub Anything : {T R : Type 0} → List (ErrorItem T R) → Type 0
 Anything is = Unit {0}
 
 -- whatever error
@@ -27,11 +27,11 @@ unless_stopped read true v o = ⊥
 unless_stopped read false v o = read v o
 
 abbrev pub once : {P T R E V : Type 0} → Reading P T V → Meaning P T R E V Bool
-once read = record { whole = read; rest = unless_stopped read; lost = λ s v. ⊥; keeps = ⊥; puts_back = ⊥; lean = ⊥; adds = Nothing; refuses = any_error; refuses_from = λ s. any_error }
+once read = record { whole = read; rest = unless_stopped read; lost = λ s v. ⊥; keeps = ⊥; puts_back = ⊥; heapless = ⊥; adds = AddsNothing; refuses = any_error; refuses_from = λ s. any_error }
 
-module _ {P T R E : Type 0} (step : P → T → P) (errors : Errors T R P E) (steady : Type 0) where
+module _ {P T R E : Type 0} (step : P → T → P) (errors : Observers T R P E) (counts_failures : Type 0) where
   abbrev pub once_world : World P T Bool E
-  once_world = world step errors steady (λ s. s ≡ false)
+  once_world = world step errors counts_failures (λ s. s ≡ false)
 
   module _ {I C : Type 0} (view : I → View P T) (marks : I → C → View P T → Type 0) (failures : I → Failures) where
     -- such a run, and what it answers
@@ -44,10 +44,10 @@ module _ {P T R E : Type 0} (step : P → T → P) (errors : Errors T R P E) (st
       pub runs : RunsOnce read input.now answered.1.now answered.0
       pub same_reference : answered.1.ghost_name ≡ input.ghost_name
 
-module _ {P T R E : Type 0} (errors : Errors T R P E) where
+module _ {P T R E : Type 0} (errors : Observers T R P E) where
   -- some items were added to the error, which is given back behind its own reference
   pub record SaysBehind (error back : MutBor (Tracked E)) : Type 0 where
-    pub says : Says errors ⊥ Anything error.now.error back.now.error
+    pub says : AddsItems errors ⊥ Anything error.now.error back.now.error
     pub same_reference : back.ghost_name ≡ error.ghost_name
 
 -- each call begins again, for which it may take memory

@@ -1,5 +1,5 @@
 pub mod Apart
 pub mod Calls
-pub mod Evaluated
+pub mod ProgramValues
 pub mod Folds
 pub mod Rules

@@ -1,6 +1,6 @@
 //! `choice`, and its calls.
 ghost use Rattle.std.specs.Prelude.{◌≡◌};
-ghost use Rattle.diff_calls.specs.Parsers.{either};
+ghost use Rattle.diff_calls.specs.CallMeanings.{first_of_two};
 
 use combine_base::error::ParseError;
 use combine_base::parser::Parser;
@@ -18,7 +18,7 @@ pub(crate) struct Choice;
 impl<A: Drop> Ternary<A, A, A> for Choice {
     type Output = A;
 
-    ghost reading = { λ P step r q t. either r (either q t) };
+    ghost reading = { λ P step r q t. first_of_two r (first_of_two q t) };
 
     #[inline(always)]
     fn build<

@@ -1,6 +1,6 @@
 //! Single bytes, and texts of rules.
 ghost use Rattle.std.specs.Prelude.{ℕ, ◌≡◌, ◌==◌, codes, not};
-ghost use Rattle.diff_calls.specs.Parsers.{one_where};
+ghost use Rattle.diff_calls.specs.CallMeanings.{token_where};
 
 use combine_base::error::ParseError;
 use combine_base::stream::Stream;
@@ -16,7 +16,7 @@ pub(crate) struct InClassCall<C>(PhantomData<(C,)>);
 impl<C: TextClass<u8> + Drop> Call for InClassCall<C> {
     type Output = u8;
 
-    ghost reading = { λ P step. one_where C.members };
+    ghost reading = { λ P step. token_where C.members };
 
     #[inline(always)]
     fn accept<Input: Stream<Token = u8>, V: Visitor<Input, u8>>(

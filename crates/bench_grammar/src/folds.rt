@@ -1,6 +1,6 @@
 //! Numbers that the items of a repetition are folded into.
 ghost use Rattle.std.specs.Prelude.{ℕ, ◌≡◌};
-ghost use Rattle.bench_grammar.specs.Folds.{with_digit, with_item, plus, times};
+ghost use Rattle.bench_grammar.specs.Folds.{with_digit, tally_with, plus, times};
 
 use combine_base::repeat::Append;
 use diff_calls::{Change, Collect};
@@ -38,7 +38,7 @@ impl<F: Fold> Append<u64> for Folded<F> {
 
     ghost more = { F.goes_on };
 
-    ghost lean = { Unit {0} };
+    ghost heapless = { Unit {0} };
 
     #[inline]
     fn empty(alloc: Global) -> Folded<F> {
@@ -64,7 +64,7 @@ impl<F: Fold> Append<u8> for Folded<F> {
 
     ghost more = { F.goes_on };
 
-    ghost lean = { Unit {0} };
+    ghost heapless = { Unit {0} };
 
     #[inline]
     fn empty(alloc: Global) -> Folded<F> {
@@ -86,11 +86,11 @@ impl<F: Fold> Append<u8> for Folded<F> {
 pub(crate) struct InFold<F>(PhantomData<(F,)>);
 
 impl<F: Fold> Collect<u64> for InFold<F> {
-    type Into = Folded<F>;
+    type Collection = Folded<F>;
 }
 
 impl<F: Fold> Collect<u8> for InFold<F> {
-    type Into = Folded<F>;
+    type Collection = Folded<F>;
 }
 
 /// The number itself.
@@ -137,7 +137,7 @@ pub(crate) struct Tally;
 impl Fold for Tally {
     ghost begins = { 0 };
 
-    ghost goes_on = { with_item };
+    ghost goes_on = { tally_with };
 
     #[inline(always)]
     fn first() -> u64 {

@@ -3,11 +3,11 @@
 //! Statements are evaluated as they are read; numbers are of 64 bits and wrap. The rules stand in `rules`, what they mean in `specs/Rules`.
 #![tactic(auto)]
 
-mod apart;
 mod choices;
 mod classes;
 mod folds;
 mod named;
+mod outlined;
 mod rules;
 mod run;
 mod separated;

@@ -3,11 +3,11 @@ ghost use Rattle.std.specs.Prelude.{◌≡◌};
 ghost use Rattle.bench_grammar.specs.Folds.{both};
 ghost use Rattle.bench_grammar.specs.Rules.{binding, command, group, list, literal, name, number, program, sum, term, text};
 
-use crate::apart::ApartCall;
 use crate::choices::ChoiceCall;
 use crate::classes::{InClassCall, NameText, NumberText, Unquoted};
 use crate::folds::{Decimal, InFold, Product, Tally, Total, Value};
 use crate::named::ExpectedCall;
+use crate::outlined::OutlinedCall;
 use crate::separated::{SepBy1Call, SepByCall};
 use combine_base::error::ParseError;
 use combine_base::stream::Stream;
@@ -160,7 +160,7 @@ impl Call for Group {
             MapCall<
                 SepBy1Call<
                     InFold<Total>,
-                    OrCall<ApartCall<Literal>, ApartCall<Name>>,
+                    OrCall<OutlinedCall<Literal>, OutlinedCall<Name>>,
                     TokenCall<b'+'>,
                 >,
                 Value,
@@ -189,7 +189,7 @@ impl Call for Term {
         <MapCall<
             SepBy1Call<
                 InFold<Product>,
-                ChoiceCall<ApartCall<Literal>, ApartCall<Group>, ApartCall<Name>>,
+                ChoiceCall<OutlinedCall<Literal>, OutlinedCall<Group>, OutlinedCall<Name>>,
                 TokenCall<b'*'>,
             >,
             Value,
@@ -215,7 +215,7 @@ impl Call for Sum {
         Input::Error: ParseError<u8, Input::Range, Input::Position>,
     {
         <MapCall<
-            SepBy1Call<InFold<Total>, ApartCall<Term>, TokenCall<b'+'>>,
+            SepBy1Call<InFold<Total>, OutlinedCall<Term>, TokenCall<b'+'>>,
             Value,
         > as Call>::accept(alloc, visitor)
     }
@@ -239,7 +239,7 @@ impl Call for Binding {
         Input::Error: ParseError<u8, Input::Range, Input::Position>,
     {
         <MapCall<
-            Tuple4Call<WithCall<Let, Name>, TokenCall<b'='>, ApartCall<Sum>, TokenCall<b';'>>,
+            Tuple4Call<WithCall<Let, Name>, TokenCall<b'='>, OutlinedCall<Sum>, TokenCall<b';'>>,
             Bound,
         > as Call>::accept(alloc, visitor)
     }
@@ -268,7 +268,7 @@ impl Call for Command {
                 BetweenCall<
                     TokenCall<b'('>,
                     TokenCall<b')'>,
-                    MapCall<SepByCall<InFold<Tally>, ApartCall<Sum>, TokenCall<b','>>, Value>,
+                    MapCall<SepByCall<InFold<Tally>, OutlinedCall<Sum>, TokenCall<b','>>, Value>,
                 >,
                 TokenCall<b';'>,
             >,
@@ -295,7 +295,7 @@ impl Call for Program {
         Input::Error: ParseError<u8, Input::Range, Input::Position>,
     {
         <MapCall<
-            ManyCall<InFold<Tally>, OrCall<ApartCall<Binding>, ApartCall<Command>>>,
+            ManyCall<InFold<Tally>, OrCall<OutlinedCall<Binding>, OutlinedCall<Command>>>,
             Value,
         > as Call>::accept(alloc, visitor)
     }

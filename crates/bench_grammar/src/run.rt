@@ -3,7 +3,7 @@ ghost use Rattle.std.specs.Prelude.{◌≡◌};
 ghost use Rattle.combine_base.specs.Parser.Meaning.{Reading};
 ghost use Rattle.combine_base.specs.Stream.Slices.{one_less, slice_view};
 ghost use Rattle.combine_base.specs.declared.stream.slices.Left.{Left};
-ghost use Rattle.bench_grammar.specs.Evaluated.{Evaluates, failure};
+ghost use Rattle.bench_grammar.specs.ProgramValues.{Evaluates, failure};
 ghost use Rattle.bench_grammar.specs.Rules.{program};
 
 use crate::rules::Program;
@@ -51,7 +51,7 @@ struct OverEasy<'a> {
 
 impl<'a> Visitor<&'a [u8], u64> for OverSlice<'a> {
     ghost use Rattle.combine_base.specs.Stream.Slices.{slice_view};
-    ghost use Rattle.bench_grammar.specs.Evaluated.{Evaluates};
+    ghost use Rattle.bench_grammar.specs.ProgramValues.{Evaluates};
 
     type Answer = Result<u64, Failure>;
 
@@ -71,7 +71,7 @@ impl<'a> Visitor<&'a [u8], u64> for OverSlice<'a> {
 
 impl<'a> Visitor<easy::Stream<&'a [u8]>, u64> for OverEasy<'a> {
     ghost use Rattle.combine_base.specs.Stream.Slices.{slice_view};
-    ghost use Rattle.bench_grammar.specs.Evaluated.{Evaluates};
+    ghost use Rattle.bench_grammar.specs.ProgramValues.{Evaluates};
 
     type Answer = Result<u64, Failure>;
 

@@ -1,6 +1,6 @@
 //! Elements with separators, and their calls.
 ghost use Rattle.std.specs.Prelude.{◌≡◌};
-ghost use Rattle.combine_repeat_turns.specs.Counts.{appended};
+ghost use Rattle.combine_repeat_turns.specs.Repeat.Repeated.{appended};
 ghost use Rattle.bench_grammar.specs.Calls.{separated, separated1};
 
 use combine_base::error::ParseError;
@@ -22,21 +22,21 @@ pub(crate) type SepBy1Call<K, C, S> = BinaryCall<SepBy1<K>, C, S>;
 pub(crate) struct SepBy<K>(PhantomData<(K,)>);
 
 impl<A: Drop, B: Drop, K: Collect<A>> Binary<A, B> for SepBy<K> {
-    type Output = K::Into;
+    type Output = K::Collection;
 
-    ghost reading = { λ P step r s. separated step (appended K.Into.held K.Into.none K.Into.more K.Into.lean) r s };
+    ghost reading = { λ P step r s. separated step (appended K.Collection.held K.Collection.none K.Collection.more K.Collection.heapless) r s };
 
     #[inline(always)]
     fn build<
         Input: Stream<Token = u8>,
         P: Parser<Input, Output = A> + Drop,
         Q: Parser<Input, Output = B> + Drop,
-        V: Visitor<Input, K::Into>,
+        V: Visitor<Input, K::Collection>,
     >(alloc: Global, first: P, second: Q, visitor: V) -> V::Answer
     where
         Input::Error: ParseError<u8, Input::Range, Input::Position>,
     {
-        visitor.visit(sep_by::<K::Into, _, _>(alloc, first, second))
+        visitor.visit(sep_by::<K::Collection, _, _>(alloc, first, second))
     }
 }
 
@@ -45,20 +45,20 @@ impl<A: Drop, B: Drop, K: Collect<A>> Binary<A, B> for SepBy<K> {
 pub(crate) struct SepBy1<K>(PhantomData<(K,)>);
 
 impl<A: Drop, B: Drop, K: Collect<A>> Binary<A, B> for SepBy1<K> {
-    type Output = K::Into;
+    type Output = K::Collection;
 
-    ghost reading = { λ P step r s. separated1 step (appended K.Into.held K.Into.none K.Into.more K.Into.lean) r s };
+    ghost reading = { λ P step r s. separated1 step (appended K.Collection.held K.Collection.none K.Collection.more K.Collection.heapless) r s };
 
     #[inline(always)]
     fn build<
         Input: Stream<Token = u8>,
         P: Parser<Input, Output = A> + Drop,
         Q: Parser<Input, Output = B> + Drop,
-        V: Visitor<Input, K::Into>,
+        V: Visitor<Input, K::Collection>,
     >(alloc: Global, first: P, second: Q, visitor: V) -> V::Answer
     where
         Input::Error: ParseError<u8, Input::Range, Input::Position>,
     {
-        visitor.visit(sep_by1::<K::Into, _, _>(alloc, first, second))
+        visitor.visit(sep_by1::<K::Collection, _, _>(alloc, first, second))
     }
 }

@@ -1,1 +1,1 @@
-mod Feeding
+mod FedBytes

@@ -1,5 +1,5 @@
-pub mod Given
+pub mod ParserRuns
 pub mod Measures
 pub mod Programs
-pub mod Tagged
+pub mod TaggedParsers
 pub mod Tally

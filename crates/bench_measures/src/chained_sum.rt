@@ -1,6 +1,6 @@
 //! `chainl1` of digits with `+` between them.
 ghost use Rattle.std.specs.Prelude.{ℕ};
-ghost use Rattle.bench_measures.specs.Measures.{value};
+ghost use Rattle.bench_measures.specs.Measures.{the_value};
 
 use crate::measure::{Number, numbered};
 use crate::run::{Pieces, Run, Whole};
@@ -17,7 +17,7 @@ use std::alloc::Global;
 struct Value;
 
 impl Number<u64> for Value {
-    ghost number_of = { value };
+    ghost number_of = { the_value };
 
     #[inline(always)]
     fn number(value: u64, _taken: u64) -> u64 {

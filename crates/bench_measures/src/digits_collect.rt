@@ -13,12 +13,12 @@ use std::alloc::Global;
 struct DigitCall;
 
 impl Call for DigitCall {
-    ghost use Rattle.diff_calls.specs.Parsers.{one_where};
-    ghost use Rattle.combine_char.specs.Bytes.{digit};
+    ghost use Rattle.diff_calls.specs.CallMeanings.{token_where};
+    ghost use Rattle.combine_char.specs.Bytes.{is_digit_byte};
 
     type Output = u8;
 
-    ghost reading = { λ P step. one_where digit };
+    ghost reading = { λ P step. token_where is_digit_byte };
 
     #[inline(always)]
     fn accept<Input: Stream<Token = u8>, V: Visitor<Input, u8>>(

@@ -1,6 +1,6 @@
 //! Statements of the grammar of `bench_grammar`, evaluated: over a slice, and with errors that keep items.
 ghost use Rattle.std.specs.Prelude.{◌≡◌};
-ghost use Rattle.bench_measures.specs.Programs.{MeasuresProgram, worth};
+ghost use Rattle.bench_measures.specs.Programs.{MeasuresProgram, program_worth};
 
 use crate::run::Failure;
 use bench_grammar::{Failure as NoValue, evaluate, evaluate_easy};
@@ -8,7 +8,7 @@ use std::alloc::Global;
 
 /// The number of what was found.
 fn number(found: Result<u64, NoValue>) -> u64
-    ensures { result ≡ worth found }
+    ensures { result ≡ program_worth found }
 {
     match found {
         Ok(value) => value,

@@ -1,7 +1,7 @@
 //! Eight keywords: what the measures of choices share.
-ghost use Rattle.bench_measures.specs.Given.{Answers};
-ghost use Rattle.bench_measures.specs.Measures.{taken};
-ghost use Rattle.diff_calls.specs.Parsers.{skipping};
+ghost use Rattle.bench_measures.specs.ParserRuns.{AnswersNumber};
+ghost use Rattle.bench_measures.specs.Measures.{taken_count};
+ghost use Rattle.diff_calls.specs.CallMeanings.{skipping};
 
 use crate::measure::count_taken;
 use crate::run::Run;
@@ -37,7 +37,7 @@ pub(crate) fn skip_chosen<Input: Stream, R: Run<Input> + Drop, P: ChoiceParser<I
     alternatives: P,
 ) -> u64
     requires { P.lawful alternatives }
-    ensures { Answers taken (skipping Input.step (P.meaning alternatives).whole) (R.all run) result }
+    ensures { AnswersNumber taken_count (skipping Input.step (P.meaning alternatives).whole) (R.all run) result }
 {
     count_taken(run, skip_many(choice(alternatives)))
 }

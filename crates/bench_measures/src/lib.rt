@@ -4,7 +4,7 @@
 mod chained_sum;
 mod classes;
 mod counted_frames;
-mod del;
+mod delete_tag;
 mod digits_collect;
 mod grammar;
 mod keywords;

@@ -14,7 +14,7 @@ fn number(place: SourcePosition) -> u64 {
     place.line.wrapping_mul(1 << 32).wrapping_add(place.column)
 }
 
-/// Passes over a text; answers the number of the place behind it. What isn't UTF-8 is refused.
+/// Passes over a text; answers the number of the place after it. What isn't UTF-8 is refused.
 #[unsafe(no_mangle)]
 pub extern "C" fn combine_bench_lines_and_columns(
     alloc: Global,

@@ -10,7 +10,7 @@ use combine_repeat_until::repeat::take_until;
 use combine_token::token::token;
 use std::alloc::Global;
 
-/// How many bytes text takes, and the markers behind it, by that run.
+/// How many bytes text takes, and the markers after it, by that run.
 #[inline(always)]
 fn take_marked<Input: Stream<Token = u8>, R: Run<Input> + Drop>(alloc: Global, run: R) -> u64
 where

@@ -1,8 +1,8 @@
 //! What an export answers: the number of what its parser gives.
 ghost use Rattle.std.specs.Prelude.{◌≡◌, ℕ};
 ghost use Rattle.combine_base.specs.Parser.Meaning.{Reading};
-ghost use Rattle.bench_measures.specs.Given.{Answers, number};
-ghost use Rattle.bench_measures.specs.Measures.{Measures, how_many, taken};
+ghost use Rattle.bench_measures.specs.ParserRuns.{AnswersNumber, number};
+ghost use Rattle.bench_measures.specs.Measures.{Measures, how_many, taken_count};
 
 use crate::run::{Given, Pieces, Run, Whole};
 use combine_base::error::ParseError;
@@ -17,7 +17,7 @@ pub(crate) trait Number<O: Drop> {
     ghost number_of: { O → ℕ → ℕ };
 
     fn number(value: O, taken: u64) -> u64
-        ensures { result ≡ number_of value taken };
+        ensures { result ≡ number_of value taken_count };
 }
 
 /// How many bytes were taken.
@@ -25,7 +25,7 @@ pub(crate) trait Number<O: Drop> {
 pub(crate) struct Taken;
 
 impl<O: Drop> Number<O> for Taken {
-    ghost number_of = { taken };
+    ghost number_of = { taken_count };
 
     #[inline(always)]
     fn number(_value: O, taken: u64) -> u64 {
@@ -58,7 +58,7 @@ impl<Input: Stream, O: Drop, R: Run<Input> + Drop, N: Number<O>> Visitor<Input, 
 
     ghost ready = { λ s. Unit {0} };
 
-    ghost answers = { λ s r n. Answers N.number_of r (R.all s.run) n };
+    ghost answers = { λ s r n. AnswersNumber N.number_of r (R.all s.run) n };
 
     #[inline(always)]
     fn visit<P: Parser<Input, Output = O> + Drop>(self, parser: P) -> u64 {
@@ -86,7 +86,7 @@ pub(crate) fn numbered<
     P: Parser<Input> + Drop,
 >(run: R, parser: P) -> u64
     requires { P.lawful parser }
-    ensures { Answers N.number_of (P.meaning parser).whole (R.all run) result }
+    ensures { AnswersNumber N.number_of (P.meaning parser).whole (R.all run) result }
 {
     number_of::<P::Output, N>(run.run(parser))
 }
@@ -98,7 +98,7 @@ pub(crate) fn count_taken<Input: Stream, R: Run<Input> + Drop, P: Parser<Input> 
     parser: P,
 ) -> u64
     requires { P.lawful parser }
-    ensures { Answers taken (P.meaning parser).whole (R.all run) result }
+    ensures { AnswersNumber taken_count (P.meaning parser).whole (R.all run) result }
 {
     numbered::<Taken, Input, R, P>(run, parser)
 }
@@ -111,7 +111,7 @@ fn measured_by<Input: Stream<Token = u8>, R: Run<Input> + Drop, C: Call, N: Numb
 ) -> u64
 where
     Input::Error: ParseError<u8, Input::Range, Input::Position>,
-    ensures { Answers N.number_of (C.reading Input.Position Input.step) (R.all run) result }
+    ensures { AnswersNumber N.number_of (C.reading Input.Position Input.step) (R.all run) result }
 {
     let runs = Runs::<R, N> {
         run,

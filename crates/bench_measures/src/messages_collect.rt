@@ -3,7 +3,7 @@ ghost use Rattle.std.specs.Prelude.{◌≡◌, ℕ, ◌+◌};
 ghost use Rattle.bench_measures.specs.Measures.{Measures, messages_collect, sum};
 
 use crate::classes::{Decimal, Letter};
-use crate::del::Del;
+use crate::delete_tag::DeleteTag;
 use crate::measure::{Number, measured};
 use combine_base::repeat::Append;
 use diff_calls::{
@@ -38,7 +38,7 @@ impl Append<Message> for Tally {
 
     ghost more = { with_message };
 
-    ghost lean = { Unit {0} };
+    ghost heapless = { Unit {0} };
 
     #[inline]
     fn empty(alloc: Global) -> Tally {
@@ -56,7 +56,7 @@ impl Append<Message> for Tally {
 }
 
 impl Collect<Message> for Tally {
-    type Into = Tally;
+    type Collection = Tally;
 }
 
 impl Tally {
@@ -85,7 +85,7 @@ type Word = Many1Call<InVec, SatisfyCall<Letter>>;
 type Digits = Many1Call<InVec, SatisfyCall<Decimal>>;
 
 /// `del WORD;`
-type Delete = MapCall<Tuple3Call<Del, Word, TokenCall<b';'>>, Deleted>;
+type Delete = MapCall<Tuple3Call<DeleteTag, Word, TokenCall<b';'>>, Deleted>;
 
 /// `WORD=DIGITS;`
 type Set = MapCall<Tuple4Call<Word, TokenCall<b'='>, Digits, TokenCall<b';'>>, Made>;

@@ -1,7 +1,7 @@
 //! Runs a parser over bytes, whole or in pieces.
 ghost use Rattle.std.specs.Prelude.{◌≡◌, ◌<◌, ◌++◌, ℕ, false, length};
 ghost use Rattle.combine_base.specs.Stream.View.{View};
-ghost use Rattle.bench_measures.specs.Given.{Gives, given, is_within, failure, code};
+ghost use Rattle.bench_measures.specs.ParserRuns.{GivesMeasured, measured_result, is_within, failure, code};
 
 use combine_base::error::UnexpectedParse;
 use combine_base::parser::{Answer, Parser, Session};
@@ -39,7 +39,7 @@ pub(crate) trait Run<Input: Stream> {
     fn run<P: Parser<Input> + Drop>(self, parser: P) -> Given<P::Output>
         requires { P.lawful parser }
         ensures within { is_within (length (all self).unread) result }
-        ensures gives { Gives (P.meaning parser).whole (all self) result };
+        ensures gives { GivesMeasured (P.meaning parser).whole (all self) result };
 }
 
 /// All bytes at once, as a slice.
@@ -109,7 +109,7 @@ fn cut(bytes: &[u8], size: usize) -> (&[u8], &[u8])
 /// What a decision gives.
 #[inline]
 fn decided<O>(answer: Answer<O, UnexpectedParse>) -> Given<O>
-    ensures { result ≡ given answer }
+    ensures { result ≡ measured_result answer }
 {
     match answer {
         Answer::Accepted { value, taken, .. } => Ok((value, taken)),

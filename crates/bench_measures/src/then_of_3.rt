@@ -1,6 +1,6 @@
 //! `skip_many` of a byte and one of three parsers, by that byte.
 ghost use Rattle.std.specs.Prelude.{◌≡◌};
-ghost use Rattle.bench_measures.specs.Tagged.{behind};
+ghost use Rattle.bench_measures.specs.TaggedParsers.{parser_after_tag};
 
 use crate::measure::count_taken;
 use crate::run::{Pieces, Run, Whole};
@@ -15,13 +15,13 @@ use combine_token::token::any;
 use combine_token::token::types::Any;
 use std::alloc::Global;
 
-/// The parsers behind tags.
+/// The parsers after tags.
 type Tagged<Input> = Dispatch3<Lower<Input>, Digit<Input>, Any<Input>>;
 
-/// The parser behind that tag: of a small letter behind an `a`, of a digit behind a `1`, of any byte behind another.
+/// The parser after that tag: of a small letter after an `a`, of a digit after a `1`, of any byte after another.
 #[inline(always)]
 fn tagged<Input>(tag: u8) -> Tagged<Input>
-    ensures { result ≡ behind tag }
+    ensures { result ≡ parser_after_tag tag }
 {
     match tag {
         b'a' => Dispatch3::A(lower()),
@@ -30,7 +30,7 @@ fn tagged<Input>(tag: u8) -> Tagged<Input>
     }
 }
 
-/// How many bytes tags and what stands behind them take, by that run.
+/// How many bytes tags and what stands after them take, by that run.
 #[inline(always)]
 fn skip_tagged<Input: Stream<Token = u8>, R: Run<Input> + Drop>(run: R) -> u64
 where
@@ -39,13 +39,13 @@ where
     let one = then(
         any(),
         |tag: u8| -> Tagged<Input>
-            ensures { result ≡ behind tag }
+            ensures { result ≡ parser_after_tag tag }
         { tagged(tag) },
     );
     count_taken(run, skip_many(one))
 }
 
-/// Skips tags and what stands behind them; answers how many bytes it took.
+/// Skips tags and what stands after them; answers how many bytes it took.
 #[unsafe(no_mangle)]
 pub extern "C" fn combine_bench_then_of_3(alloc: Global, bytes: &[u8], piece: usize) -> u64 {
     if piece == 0 {

@@ -1,5 +1,5 @@
 //! `skip_many` of a tuple of 2.
-ghost use Rattle.bench_measures.specs.Measures.{Measures, tuple_of_2, taken};
+ghost use Rattle.bench_measures.specs.Measures.{Measures, tuple_of_2, taken_count};
 
 use crate::classes::{Decimal, Letter};
 use crate::measure::{Taken, measured};
@@ -11,7 +11,7 @@ type Skipped = SkipManyCall<Tuple2Call<SatisfyCall<Letter>, SatisfyCall<Decimal>
 /// Skips pairs of a letter and a digit; answers how many bytes it took.
 #[unsafe(no_mangle)]
 pub extern "C" fn combine_bench_tuple_of_2(alloc: Global, bytes: &[u8], piece: usize) -> u64
-    ensures { Measures taken tuple_of_2 bytes.now result }
+    ensures { Measures taken_count tuple_of_2 bytes.now result }
 {
     measured::<Skipped, Taken>(alloc, bytes, piece)
 }

@@ -1,4 +1,4 @@
-//! `skip_many` of words by `take_while1`, with a `;` behind each, over a slice or window by window.
+//! `skip_many` of words by `take_while1`, with a `;` after each, over a slice or window by window.
 ghost use Rattle.std.specs.Prelude.{◌≡◌};
 ghost use Rattle.std.specs.Char.{is_ascii_lowercase};
 

@@ -1,6 +1,13 @@
 //! Parser combinators that are proved: the parser layer of combine, for Rattle.
 //!
-//! Everything stands under the crate's module names: streams in `stream`, answers and errors in `error`, errors that people can read in `easy`, the protocol, its drivers and sessions in `parser`, decoders of messages in `decode`, grammars that nest in `nested`, expressions of operators in `expression`, and the constructors in `parser::{token, char, byte, range, choice, sequence, combinator, repeat, function, error}`. `ParserExt` has the method forms. `struct_parser!` makes a struct of the values of several parsers, and `choice!` is the choice of as many as are wanted.
+//! Everything stands under the crate's module names:
+//!
+//! - Streams in `stream`, results and errors in `error`, errors that people can read in `easy`.
+//! - The protocol, its drivers and sessions in `parser`, and decoders of messages in `decode`.
+//! - Grammars that nest in `nested`, and expressions of operators in `expression`.
+//! - The constructors in `parser::{token, char, byte, range, choice, sequence, combinator, repeat, function, error}`.
+//!
+//! `ParserExt` has the method forms. `struct_parser!` makes a struct of the values of several parsers, and `choice!` is the choice of as many as are wanted.
 #![tactic(auto)]
 
 mod methods;

@@ -1,12 +1,12 @@
 //! The method forms of the constructors.
 ghost use Rattle.std.specs.Prelude.{◌≡◌};
-ghost use Rattle.combine_token.specs.Or.{or_parser};
-ghost use Rattle.combine_repeat_iterate.specs.Nexts.{Begins, may_go_on};
-ghost use Rattle.combine_combinator.specs.Parsers.{map_of, picked_of};
-ghost use Rattle.combine_combinator_function.specs.Parsers.{and_then_of, flat_map_of, map_input_of};
-ghost use Rattle.combine_error.specs.Shaped.{expected_of, message_of, silent_of};
-ghost use Rattle.combine_combinator_spanned.specs.Spanned.{spanned_of};
-ghost use Rattle.combine_sequence.specs.Answered.{then_of, then_partial_of, then_ref_of};
+ghost use Rattle.combine_token.specs.Choice.Or.{or_parser};
+ghost use Rattle.combine_repeat_iterate.specs.IteratorValues.{IsNewIter, may_go_on};
+ghost use Rattle.combine_combinator.specs.CombinatorParsers.{map_of, picked_of};
+ghost use Rattle.combine_combinator_function.specs.ChangeParsers.{and_then_of, flat_map_of, map_input_of};
+ghost use Rattle.combine_error.specs.ErrorParsers.{expected_of, message_of, silent_of};
+ghost use Rattle.combine_combinator_spanned.specs.SpannedErrors.{spanned_of};
+ghost use Rattle.combine_sequence.specs.Then.{then_of, then_partial_of, then_ref_of};
 
 use combine_base::error::Info;
 use combine_base::parser::{Calls, FirstMode, ParseMode, Parser};
@@ -26,7 +26,9 @@ use combine_sequence::sequence::types::{Skip, Then, ThenPartial, ThenRef, With};
 use combine_token::choice;
 use combine_token::choice::types::Or;
 
-/// The method forms of the constructors, which every parser has. Each means the constructor of the same name.
+/// The method forms of the constructors, which every parser has.
+///
+/// Each means the constructor of the same name.
 ///
 /// In the crate they are methods of `Parser` itself.
 pub trait ParserExt<Input: Stream>: Parser<Input> {
@@ -40,7 +42,9 @@ pub trait ParserExt<Input: Stream>: Parser<Input> {
         self
     }
 
-    /// Runs this parser and then another: the value is the pair of both values.
+    /// Runs this parser and then another.
+    ///
+    /// The value is the pair of both values.
     final fn and<Q>(self, other: Q) -> (Self, Q)
     where
         Self: Sized,
@@ -67,7 +71,7 @@ pub trait ParserExt<Input: Stream>: Parser<Input> {
         sequence::skip(self, other)
     }
 
-    /// Runs this parser and then the one that the function answers for its value.
+    /// Runs this parser and then the one that the function returns for its value.
     final fn then<F, B>(self, f: F) -> Then<Self, F, B>
     where
         Self: Sized,
@@ -76,7 +80,7 @@ pub trait ParserExt<Input: Stream>: Parser<Input> {
         sequence::then(self, f)
     }
 
-    /// Runs this parser and then the one that the function answers for a mutable reference to its value.
+    /// Runs this parser and then the one that the function returns for a mutable reference to its value.
     final fn then_partial<F, B>(self, f: F) -> ThenPartial<Self, F, B>
     where
         Self: Sized,
@@ -85,7 +89,9 @@ pub trait ParserExt<Input: Stream>: Parser<Input> {
         sequence::then_partial(self, f)
     }
 
-    /// Runs this parser and then the one that the function answers for a reference to its value: the value is the pair of both values.
+    /// Runs this parser and then the one that the function returns for a reference to its value.
+    ///
+    /// The value is the pair of both values.
     final fn then_ref<F, B>(self, f: F) -> ThenRef<Self, F, B>
     where
         Self: Sized,
@@ -121,7 +127,7 @@ pub trait ParserExt<Input: Stream>: Parser<Input> {
         Either::Right(self)
     }
 
-    /// Changes or refuses the value of this parser by the function, which answers what its error says.
+    /// Changes or refuses the value of this parser by the function, which returns what its error says.
     final fn and_then<F, B>(self, f: F) -> AndThen<Self, F, B>
     where
         Self: Sized,
@@ -130,7 +136,7 @@ pub trait ParserExt<Input: Stream>: Parser<Input> {
         changes::and_then(self, f)
     }
 
-    /// Changes or refuses the value of this parser by the function, which answers the error.
+    /// Changes or refuses the value of this parser by the function, which returns the error.
     final fn flat_map<F, B>(self, f: F) -> FlatMap<Self, F, B>
     where
         Self: Sized,
@@ -195,7 +201,24 @@ pub trait ParserExt<Input: Stream>: Parser<Input> {
         combinator::map(self, f)
     }
 
-    /// Gives the values of this parser, one after another, on a stream that is lent, with a state that is lent. The first turn begins afresh. The parser is lawful, and the state one that it keeps.
+    /// Gives the values of this parser, one after another, on a stream that is lent, with a state that is lent.
+    ///
+    /// The first turn begins afresh. The parser is lawful, and the state one that it keeps.
+    ///
+    /// # Examples
+    ///
+    /// ```
+    /// fn leading_digits(alloc: Global, input: &mut fed::Stream<u8>) -> Result<Vec<u8>, AllocError> {
+    ///     let mut state = Default::default();
+    ///     let mut digits = Vec::new(alloc);
+    ///     for byte in digit().iter(input, &mut state) {
+    ///         digits.push(byte)?;
+    ///     }
+    ///     Ok(digits)
+    /// }
+    /// ```
+    ///
+    /// Of a stream that was fed `b"12a"` it takes `b"12"`.
     final fn iter<'a>(
         self,
         input: &'a mut Input,
@@ -204,7 +227,7 @@ pub trait ParserExt<Input: Stream>: Parser<Input> {
     where
         Self: Sized,
         requires ready { ⟦<Self as Calls<Input>>⟧.ready self state.old }
-        ensures begins { Begins result self (record {}) input.old state.old }
+        ensures begins { IsNewIter result self (record {}) input.old state.old }
         ensures ready { may_go_on ⟦<Self as Parser<Input>>⟧ Input.StreamOnce ⟦<FirstMode as ParseMode>⟧.first result }
         ensures same_input { result.input.ghost_name ≡ input.entry.ghost_name }
         ensures same_state { result.state.ghost_name ≡ state.entry.ghost_name }
@@ -212,7 +235,9 @@ pub trait ParserExt<Input: Stream>: Parser<Input> {
         self.partial_iter(FirstMode, input, state)
     }
 
-    /// Gives the values of this parser, one after another, on a stream that is lent, with a state that is lent. The first turn begins afresh or goes on from the state, as the mode says. The parser is lawful, and the state one that it keeps.
+    /// Gives the values of this parser, one after another, on a stream that is lent, with a state that is lent.
+    ///
+    /// The first turn begins afresh or goes on from the state, as the mode says. The parser is lawful, and the state one that it keeps.
     final fn partial_iter<'a, M: ParseMode>(
         self,
         mode: M,
@@ -222,7 +247,7 @@ pub trait ParserExt<Input: Stream>: Parser<Input> {
     where
         Self: Sized,
         requires ready { ⟦<Self as Calls<Input>>⟧.ready self state.old }
-        ensures begins { Begins result self mode input.old state.old }
+        ensures begins { IsNewIter result self mode input.old state.old }
         ensures ready { may_go_on ⟦<Self as Parser<Input>>⟧ Input.StreamOnce M.first result }
         ensures same_input { result.input.ghost_name ≡ input.entry.ghost_name }
         ensures same_state { result.state.ghost_name ≡ state.entry.ghost_name }

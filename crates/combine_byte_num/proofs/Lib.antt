@@ -1,2 +1,2 @@
-pub mod Bytes
-pub mod Taking
+pub mod ByteSums
+pub mod NumberCalls

@@ -4,16 +4,16 @@ use Rattle.std.proofs.Common.{arith}
 use Rattle.std.proofs.lemmas.List.{take-append-le}
 use Rattle.std.proofs.Common.{length-append}
 use Rattle.combine_base.specs.Stream.View.{View, Moves}
-use Rattle.combine_base.specs.Error.Errors.{Errors, Nothing, Only}
+use Rattle.combine_base.specs.Error.Errors.{Observers, AddsNothing, Only}
 use Rattle.combine_base.specs.Error.Items.{end_of_input}
 use Rattle.combine_base.specs.Parser.Outcome.{Outcome, Accepted, Refused, Undecided, IsDecided, shape}
 use Rattle.combine_base.specs.Parser.Meaning.{Meaning, Reading, IsReading, IsMeaning, MeansOne}
-use Rattle.combine_base.specs.Refusals.{NoToken, SaysEnd, Saying}
+use Rattle.combine_base.specs.Refusals.{NoToken, SaysEnd, HasItems}
 use Rattle.combine_base.specs.declared.stream.Kind.TheVariants as kinds
 use Rattle.combine_base.specs.declared.stream.Failures.{Failures}
 use Rattle.combine_base.specs.declared.error.ParseResult.{ParseResult}
 use Rattle.combine_base.specs.declared.error.ParseResult.TheVariants.{CommitErr}
-use Rattle.combine_token.specs.Stateless.{stateless, stateless_is_meaning, stateless_means_one}
+use Rattle.combine_token.specs.Token.Stateless.{stateless, stateless_is_meaning, stateless_means_one}
 use Rattle.combine_byte_num.specs.declared.whole.WholeNumber.{WholeNumber}
 
 -- the parser of a number
@@ -57,37 +57,37 @@ module _ {P T N : Type 0} (width : ℕ) (value : List T → N) where
     within = λ v a n k p. let i = p.0 in let j = p.2 in omega arith;
   }
 
-module _ {T R P E : Type 0} (s : Errors T R P E) where
+module _ {T R P E : Type 0} (s : Observers T R P E) where
   abbrev pub refuses_short : P → Bool → E → Type 0
   refuses_short place true e = ⊥
-  refuses_short place false e = Saying s kinds.End place (Only end_of_input) e
+  refuses_short place false e = HasItems s kinds.End place (Only end_of_input) e
 
   -- the error of too few bytes: peeked, made where they began, and it says that the input ended; the stream is left as it was before the first of them
   pub record RefusesShort (v w : View P T) (committed : Bool) (e : E) : Type 0 where
     pub is : refuses_short v.position committed e
     pub back : w ≡ v
 
-module _ {P T R E N S : Type 0} (errors : Errors T R P E) (width : ℕ) (value : List T → N) where
+module _ {P T R E N S : Type 0} (errors : Observers T R P E) (width : ℕ) (value : List T → N) where
   -- it keeps no state, and on need of more it has taken nothing
   abbrev pub takes_number : Meaning P T R E N S
-  takes_number = stateless (whole_number width value) ⊥ (Unit {0}) Nothing (RefusesShort errors)
+  takes_number = stateless (whole_number width value) ⊥ (Unit {0}) AddsNothing (RefusesShort errors)
 
   pub takes_number_is_meaning : (fresh valid : S → Type 0) → IsMeaning fresh valid takes_number
-  takes_number_is_meaning fresh valid = stateless_is_meaning fresh valid (whole_number width value) ⊥ (Unit {0}) Nothing (RefusesShort errors) (whole_number_is_reading width value)
+  takes_number_is_meaning fresh valid = stateless_is_meaning fresh valid (whole_number width value) ⊥ (Unit {0}) AddsNothing (RefusesShort errors) (whole_number_is_reading width value)
 
   pub takes_number_means_one : (valid : S → Type 0) → MeansOne valid takes_number
-  takes_number_means_one valid = stateless_means_one valid (whole_number width value) ⊥ (Unit {0}) Nothing (RefusesShort errors) (record { one = one width value })
+  takes_number_means_one valid = stateless_means_one valid (whole_number width value) ⊥ (Unit {0}) AddsNothing (RefusesShort errors) (record { one = one width value })
 
-module _ {T R P V E : Type 0} (steady : Type 0) (step : P → T → P) (s : Errors T R P E) (marked : View P T → Type 0) (place : P) (old new : View P T) (before after : Failures) where
+module _ {T R P V E : Type 0} (counts_failures : Type 0) (step : P → T → P) (s : Observers T R P E) (marked : View P T → Type 0) (place : P) (old new : View P T) (before after : Failures) where
   -- the stream was put back, and the end is answered
   pub record EndsThere (result : ParseResult V E) : Type 0 where
     pub at : (v : View P T) → marked v → new ≡ v
-    pub failures : steady → after ≡ before
-    pub finds : NoToken s.kind s.frugal new.is_open kinds.End result
+    pub failures : counts_failures → after ≡ before
+    pub finds : NoToken s.kind s.never_allocates new.is_open kinds.End result
     pub says : SaysEnd s place result
 
   -- it could not be put back
-  pub record Unreset (result : ParseResult V E) : Type 0 where
+  pub record NumberUnreset (result : ParseResult V E) : Type 0 where
     pub error : E
     pub is : result ≡ CommitErr error
     pub kind_is : s.kind error ≡ kinds.Reset
@@ -95,5 +95,5 @@ module _ {T R P V E : Type 0} (steady : Type 0) (step : P → T → P) (s : Erro
     pub resets : before.resets < after.resets
 
   -- what is answered where the bytes ended too early
-  pub record TooFew (result : ParseResult V E) : Type 0 where
-    pub is : EndsThere result ⊎ Unreset result
+  pub record EndsTooEarly (result : ParseResult V E) : Type 0 where
+    pub is : EndsThere result ⊎ NumberUnreset result

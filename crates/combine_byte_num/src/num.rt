@@ -1,6 +1,18 @@
 //! Binary integers of 2, 4 and 8 bytes.
 //!
-//! Each takes as many bytes as its number has: accepted committed, with the number that stands in them. Too few bytes of ended input are put back and refused peeked, with an error that stands where the parser began (the crate's stands at the end of what was read); at the end of an open piece they are put back, more is asked for, and the next call begins again. Nothing is said to be expected.
+//! Each takes as many bytes as its number has: accepted committed, with the number that stands in them.
+//!
+//! # Errors
+//!
+//! Too few bytes of ended input are put back and refused peeked, with an error that stands where the parser began. Nothing is said to be expected.
+//!
+//! # Partial input
+//!
+//! Too few bytes of an open piece are put back, more is asked for, and the next call begins again.
+//!
+//! # Differences from combine
+//!
+//! The crate's error stands at the end of what was read, and on need of more it loses the bytes that it took.
 ghost use Rattle.std.specs.Prelude.{◌≡◌};
 ghost use Rattle.combine_byte_num.specs.WholeNumbers.{number_parser};
 
@@ -11,6 +23,16 @@ use crate::whole::whole_number;
 use types::{BeI16, BeI32, BeI64, BeU16, BeU32, BeU64, LeI16, LeI32, LeI64, LeU16, LeU32, LeU64};
 
 /// Takes two bytes, the highest first.
+///
+/// # Examples
+///
+/// ```
+/// fn length(input: &[u8]) -> Result<(u16, &[u8]), UnexpectedParse> {
+///     be_u16().parse(input)
+/// }
+/// ```
+///
+/// On `b"\x01\x02a"` it returns `(258, b"a")`.
 #[inline]
 pub fn be_u16<Input>() -> BeU16<Input>
     ensures { result ≡ number_parser }

@@ -1,9 +1,9 @@
 //! The parser of a whole number, of whatever order, size and sign. Our own.
 ghost use Rattle.std.specs.Prelude.{◌≡◌, ◌<◌, ◌^◌};
-ghost use Rattle.combine_base.specs.Error.Errors.{Nothing};
+ghost use Rattle.combine_base.specs.Error.Errors.{AddsNothing};
 ghost use Rattle.combine_base.specs.Stream.Calls.{Passes};
 ghost use Rattle.combine_byte_num.specs.Numbers.{signed};
-ghost use Rattle.combine_byte_num.specs.WholeNumbers.{TooFew, number_parser, takes_number, takes_number_is_meaning, takes_number_means_one, worth};
+ghost use Rattle.combine_byte_num.specs.WholeNumbers.{EndsTooEarly, number_parser, takes_number, takes_number_is_meaning, takes_number_means_one, worth};
 
 use crate::order::Order;
 use combine_base::error::{ErrorOffset, ParseResult, Tracked};
@@ -16,16 +16,18 @@ use std::marker::PhantomData;
 pub trait Number: Drop {
     ghost use Rattle.std.specs.Prelude.{ℕ, ◌≤◌, ◌<◌, ◌^◌};
 
-    /// In how many bytes they stand.
+    /// How many bytes they stand in.
     ghost width: { ℕ };
 
     /// What a sum of bytes stands for.
     ghost of_sum: { ℕ → Self };
 
+    /// Returns how many bytes they stand in.
     fn width() -> u8
         ensures value { result ≡ width }
         ensures few { result ≤ 8 };
 
+    /// Returns what a sum of bytes stands for.
     fn from_sum(sum: u64) -> Self
         requires { sum < 256 ^ width }
         ensures { result ≡ Self.of_sum sum };
@@ -127,7 +129,9 @@ impl Number for i64 {
     }
 }
 
-/// The parser of a number of type `N` whose bytes stand in the order `O`. It keeps no state: on need of more the stream is put back, and the next call begins again.
+/// The parser of a number of type `N` whose bytes stand in the order `O`.
+///
+/// It keeps no state: on need of more the stream is put back, and the next call begins again.
 #[derive(Drop)]
 #[derive_where(Clone, Copy; O, N)]
 pub struct WholeNumber<Input, O, N> {
@@ -138,7 +142,13 @@ pub struct WholeNumber<Input, O, N> {
 
 /// Takes as many bytes as the number has: accepted committed, with the number that stands in them.
 ///
-/// Too few bytes of ended input are put back and refused peeked, with an error that stands where the parser began; at the end of an open piece they are put back, and more is asked for. Nothing is said to be expected.
+/// # Errors
+///
+/// Too few bytes of ended input are put back and refused peeked, with an error that stands where the parser began. Nothing is said to be expected.
+///
+/// # Partial input
+///
+/// Too few bytes of an open piece are put back, and more is asked for.
 #[inline]
 pub fn whole_number<Input, O, N>() -> WholeNumber<Input, O, N>
     ensures { result ≡ number_parser }
@@ -150,7 +160,7 @@ pub fn whole_number<Input, O, N>() -> WholeNumber<Input, O, N>
     }
 }
 
-/// What is answered where the bytes ended too early: the stream is put back to where they began.
+/// Returns the result where the bytes ended too early, with the stream put back to where they began.
 #[cold]
 fn too_few<V, Input: Stream>(
     start: Input::Checkpoint,
@@ -158,7 +168,7 @@ fn too_few<V, Input: Stream>(
     input: &mut Input,
 ) -> ParseResult<V, Input::Error>
     ensures passes { Passes (Input.marks input.old) (Input.marks input.new) (Input.failures input.old) (Input.failures input.new) }
-    ensures back { TooFew Input.steady Input.step Input.Error.seen (Input.stands input.old start) position (Input.view input.old) (Input.view input.new) (Input.failures input.old) (Input.failures input.new) result }
+    ensures back { EndsTooEarly Input.counts_failures Input.step Input.Error.observers (Input.stands input.old start) position (Input.view input.old) (Input.view input.new) (Input.failures input.old) (Input.failures input.new) result }
 {
     if let Err(kind) = input.reset(start) {
         return ParseResult::CommitErr(input.new_error(kind, position));
@@ -179,7 +189,7 @@ impl<Input: Stream, O: Order<Input::Token>, N: Number> Parser<Input> for WholeNu
 
     ghost valid = { λ s. Unit {0} };
 
-    ghost meaning = { λ p. takes_number Input.Error.seen N.width (worth N.of_sum O.number) };
+    ghost meaning = { λ p. takes_number Input.Error.observers N.width (worth N.of_sum O.number) };
 
     ghost parts = { λ p. 1 };
 
@@ -218,7 +228,7 @@ impl<Input: Stream, O: Order<Input::Token>, N: Number> Parser<Input> for WholeNu
 
     ghost default_valid = { λ s d. tt };
 
-    ghost laws = { λ p l. takes_number_is_meaning Input.Error.seen N.width (worth N.of_sum O.number) _ _ };
+    ghost laws = { λ p l. takes_number_is_meaning Input.Error.observers N.width (worth N.of_sum O.number) _ _ };
 
-    ghost single = { λ p l d. takes_number_means_one Input.Error.seen N.width (worth N.of_sum O.number) _ };
+    ghost single = { λ p l d. takes_number_means_one Input.Error.observers N.width (worth N.of_sum O.number) _ };
 }

@@ -1,4 +1,4 @@
-pub mod Beginning
+pub mod RestartCalls
 pub mod Letters
-pub mod Mapping
-pub mod Spelling
+pub mod ValueChanges
+pub mod SpelledLists

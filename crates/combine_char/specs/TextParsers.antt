@@ -1,16 +1,16 @@
 -- the parsers of this crate, of their parts
 use Rattle.std.specs.Prelude.{ℕ, List}
 use Rattle.std.proofs.Common.{Bor}
-use Rattle.combine_char.specs.declared.class.types.InClass.{InClass}
-use Rattle.combine_char.specs.declared.byte_list.InBytes.{InBytes}
-use Rattle.combine_char.specs.declared.text.InText.{InText}
+use Rattle.combine_char.specs.declared.class.types.ClassParser.{ClassParser}
+use Rattle.combine_char.specs.declared.byte_list.BytesParser.{BytesParser}
+use Rattle.combine_char.specs.declared.text.TextParser.{TextParser}
 use Rattle.combine_char.specs.declared.fits.By.{By}
 use Rattle.combine_char.specs.declared.fits.Equal.{Equal}
 use Rattle.combine_char.specs.declared.named.Named.{Named}
 use Rattle.combine_char.specs.declared.pair.WholePair.{WholePair}
 
 -- the parser of a token of a class
-abbrev pub in_class_parser : {Input C : Type 0} → InClass Input C
+abbrev pub in_class_parser : {Input C : Type 0} → ClassParser Input C
 in_class_parser = record { reads = record {}; class = record {} }
 
 -- a parser under another name
@@ -28,24 +28,24 @@ abbrev pub pair_of : {P : Type 0} → WholePair P → P
 pair_of p = p.0
 
 -- the characters of a text, and how they are compared
-abbrev pub in_text_parser : {Input F : Type 0} → Bor (List ℕ) → F → InText Input F
+abbrev pub in_text_parser : {Input F : Type 0} → Bor (List ℕ) → F → TextParser Input F
 in_text_parser text fits = record { text = text; fits = fits; reads = record {} }
 
-abbrev pub fits_of_text : {Input F : Type 0} → InText Input F → F
+abbrev pub fits_of_text : {Input F : Type 0} → TextParser Input F → F
 fits_of_text p = p.fits
 
-abbrev pub text_of : {Input F : Type 0} → InText Input F → Bor (List ℕ)
-text_of p = p.text
+abbrev pub text_of_parser : {Input F : Type 0} → TextParser Input F → Bor (List ℕ)
+text_of_parser p = p.text
 
 -- the bytes of a list, and how they are compared
-abbrev pub in_bytes_parser : {Input F : Type 0} → Bor (List ℕ) → F → InBytes Input F
+abbrev pub in_bytes_parser : {Input F : Type 0} → Bor (List ℕ) → F → BytesParser Input F
 in_bytes_parser bytes fits = record { bytes = bytes; fits = fits; reads = record {} }
 
-abbrev pub fits_of_bytes : {Input F : Type 0} → InBytes Input F → F
+abbrev pub fits_of_bytes : {Input F : Type 0} → BytesParser Input F → F
 fits_of_bytes p = p.fits
 
-abbrev pub bytes_of : {Input F : Type 0} → InBytes Input F → Bor (List ℕ)
-bytes_of p = p.bytes
+abbrev pub bytes_of_parser : {Input F : Type 0} → BytesParser Input F → Bor (List ℕ)
+bytes_of_parser p = p.bytes
 
 -- comparisons: a token equals the item, or a function says that it fits
 abbrev pub equal : Equal

@@ -1,15 +1,19 @@
 //! Parsers of bytes.
 //!
-//! Each takes one byte of its class: accepted committed, with that byte as the value. Another one is put back and refused peeked, as is the end of an ended list; the text of the class is said to be expected.
+//! Each takes one byte of its class: accepted committed, with that byte as the value.
+//!
+//! # Errors
+//!
+//! Another byte is put back and refused peeked, as is the end of ended input; the text of the class is said to be expected.
 ghost use Rattle.std.specs.Prelude.{◌≡◌};
 ghost use Rattle.combine_repeat.specs.ManyParsers.{skip_many_of};
 ghost use Rattle.combine_char.specs.TextParsers.{by, equal, in_bytes_parser, in_class_parser, named_parser, whole_pair_parser};
-ghost use Rattle.combine_token.specs.TokenParsers.{token_parser};
+ghost use Rattle.combine_token.specs.Token.TokenParsers.{token_parser};
 
 pub mod classes;
 pub mod types;
 
-use crate::byte_list::in_bytes;
+use crate::byte_list::bytes_parser;
 use crate::class::in_class;
 use crate::fits::{By, Equal};
 use crate::named::naming;
@@ -31,6 +35,16 @@ pub fn byte<Input>(byte: u8) -> Token<Input, u8>
 }
 
 /// Takes a digit, `0` to `9`.
+///
+/// # Examples
+///
+/// ```
+/// fn digits(input: &[u8]) -> Result<((u8, u8), &[u8]), UnexpectedParse> {
+///     (digit(), digit()).parse(input)
+/// }
+/// ```
+///
+/// On `b"12a"` it returns `((b'1', b'2'), b"a")`.
 #[inline]
 pub fn digit<Input>() -> Digit<Input>
     ensures { result ≡ in_class_parser }
@@ -110,9 +124,17 @@ pub fn alpha_num<Input>() -> AlphaNum<Input>
     in_class()
 }
 
-/// Takes a carriage return and then a line feed, which is the value; it counts as 2 parsers.
+/// Takes a carriage return and then a line feed, which is the value.
 ///
-/// A carriage return without a line feed is refused committed. On need of more the stream is put back, and the next call begins again.
+/// It counts as 2 parsers.
+///
+/// # Errors
+///
+/// A carriage return without a line feed is refused committed.
+///
+/// # Partial input
+///
+/// On need of more the stream is put back, and the next call begins again.
 #[inline]
 pub fn crlf<Input>() -> CrLf<Input>
     ensures { result ≡ named_parser (whole_pair_parser (in_class_parser, in_class_parser)) }
@@ -128,20 +150,47 @@ pub fn spaces<Input>() -> Spaces<Input>
     naming(skip_many(space()))
 }
 
-/// Takes the bytes of the list, one after another; its value is the list.
+/// Takes the bytes of the list, one after another.
 ///
-/// A token that doesn't fit, or the end of ended input, refuses: peeked where no token was matched before it, else committed. A committed mismatch says only which token stands there; the list, as a range, is said to be expected where nothing was matched. The end of an open piece asks for more, with nothing left unread: the state keeps how many bytes were matched. An empty list is accepted peeked.
+/// Its value is the list.
+///
+/// An empty list is accepted peeked.
+///
+/// # Errors
+///
+/// - A token that doesn't fit, or the end of ended input, refuses: peeked if no token was matched before it, else committed.
+/// - A committed mismatch says only which token stands there. The list, as a range, is said to be expected where nothing was matched.
+///
+/// # Partial input
+///
+/// The end of an open piece is need of more. Nothing is left unread: the state keeps how many bytes were matched.
+///
+/// # Examples
+///
+/// ```
+/// fn keyword(input: &[u8]) -> Result<(&'static [u8], &[u8]), UnexpectedParse> {
+///     bytes(b"get").parse(input)
+/// }
+/// ```
+///
+/// On `b"get it"` it returns `(b"get", b" it")`; `b"go"` is refused committed.
 #[inline]
 pub fn bytes<Input>(s: &'static [u8]) -> Bytes<Input>
     ensures { result ≡ in_bytes_parser s.entry equal }
 {
-    in_bytes(s, Equal)
+    bytes_parser(s, Equal)
 }
 
-/// Parses as many bytes as the list has, as `bytes` does; a byte of the list and the token at its place are given to `cmp`, which says whether the token fits. The crate takes an `FnMut`.
+/// Takes as many bytes as the list has, as `bytes` does, each if `cmp` says that it fits.
+///
+/// `cmp` is given a byte of the list and the token at its place.
+///
+/// # Differences from combine
+///
+/// `cmp` is an `Fn`, where the crate takes an `FnMut`.
 #[inline]
 pub fn bytes_cmp<C, Input>(s: &'static [u8], cmp: C) -> BytesCmp<Input, C>
     ensures { result ≡ in_bytes_parser s.entry (by cmp) }
 {
-    in_bytes(s, By(cmp))
+    bytes_parser(s, By(cmp))
 }

@@ -2,12 +2,12 @@
 ghost use Rattle.std.specs.Prelude.{◌≡◌, ◌<◌, ◌^◌, None, length};
 ghost use Rattle.std.specs.Slice.Iter.{iter_rest};
 ghost use Rattle.combine_base.specs.Stream.Calls.{Passes};
-ghost use Rattle.combine_token.specs.ListCalls.{AnswersListCall, ReasonedListCall};
-ghost use Rattle.combine_token.specs.Listed.{listed};
-ghost use Rattle.combine_token.specs.TokenListLaws.{token_list, token_list_is_meaning, token_list_means_one};
-ghost use Rattle.combine_token.specs.TokenParsers.{matched_before};
-ghost use Rattle.combine_char.specs.TextParsers.{bytes_of, fits_of_bytes, in_bytes_parser};
-ghost use Rattle.combine_char.specs.Spelled.{SaysRange, listed_compares_once, listed_ends_once};
+ghost use Rattle.combine_token.specs.Token.Lists.ListCalls.{AnswersListCall, ReasonedListCall};
+ghost use Rattle.combine_token.specs.Token.Lists.KnownLists.{listed_tokens};
+ghost use Rattle.combine_token.specs.Token.Lists.ListMeaning.{token_list, token_list_is_meaning, token_list_means_one};
+ghost use Rattle.combine_token.specs.Token.TokenParsers.{matched_before};
+ghost use Rattle.combine_char.specs.TextParsers.{bytes_of_parser, fits_of_bytes, in_bytes_parser};
+ghost use Rattle.combine_char.specs.SpelledLists.{SaysRange, listed_compares_once, listed_ends_once};
 
 use crate::fits::Fits;
 use combine_base::error::{ErrorOffset, Info, ParseError, ParseResult, Tracked};
@@ -17,7 +17,7 @@ use combine_token::token::{TokensState, match_list};
 use std::marker::PhantomData;
 use std::slice::Iter;
 
-/// The ranges of a stream of bytes, by which errors show a list of bytes.
+/// What errors show a list of bytes by: the ranges of a stream of bytes.
 pub trait ShowsBytes: Copy {
     ghost use Rattle.std.specs.Prelude.{ℕ, List};
 
@@ -46,33 +46,37 @@ impl ShowsBytes for () {
     fn of_bytes(bytes: &'static [u8]) -> Self {}
 }
 
-/// The parser of the bytes of a list, one after another; its value is the list.
+/// The parser of the bytes of a list, one after another.
 ///
-/// The error of a committed mismatch says which token stands there, at the position where the call began. On need of more nothing is left unread: the state keeps how many bytes were matched.
+/// Its value is the list.
+///
+/// The error of a committed mismatch says which token stands there, at the position where the call began.
+///
+/// On need of more nothing is left unread: the state keeps how many bytes were matched.
 #[derive(Drop)]
-pub struct InBytes<Input, F> {
+pub struct BytesParser<Input, F> {
     bytes: &'static [u8],
     fits: F,
     reads: PhantomData<Input>,
 }
 
-/// The bytes of a list, each compared with the token at its place.
+/// Takes the bytes of a list, each compared with the token at its place.
 #[inline]
-pub fn in_bytes<Input, F>(bytes: &'static [u8], fits: F) -> InBytes<Input, F>
+pub fn bytes_parser<Input, F>(bytes: &'static [u8], fits: F) -> BytesParser<Input, F>
     ensures { result ≡ in_bytes_parser bytes.entry fits }
 {
-    InBytes {
+    BytesParser {
         bytes,
         fits,
         reads: PhantomData,
     }
 }
 
-impl<Input, F> Outputs<Input> for InBytes<Input, F> {
+impl<Input, F> Outputs<Input> for BytesParser<Input, F> {
     type Output = &'static [u8];
 }
 
-impl<Input: Stream, F: Fits<u8, Input::Token>> Parser<Input> for InBytes<Input, F>
+impl<Input: Stream, F: Fits<u8, Input::Token>> Parser<Input> for BytesParser<Input, F>
 where
     Input::Range: ShowsBytes,
 {
@@ -84,7 +88,7 @@ where
 
     ghost valid = { λ s. Unit {0} };
 
-    ghost meaning = { λ p. token_list Input.Error.seen (listed (F.compares (fits_of_bytes p)) (bytes_of p).now) None (λ v. v ≡ bytes_of p) matched_before (Unit {0}) (SaysRange (Input.Range.shows (bytes_of p).now)) };
+    ghost meaning = { λ p. token_list Input.Error.observers (listed_tokens (F.compares (fits_of_bytes p)) (bytes_of_parser p).now) None (λ v. v ≡ bytes_of_parser p) matched_before (Unit {0}) (SaysRange (Input.Range.shows (bytes_of_parser p).now)) };
 
     ghost parts = { λ p. 1 };
 
@@ -112,12 +116,12 @@ where
 
     ghost default_valid = { λ s d. tt };
 
-    ghost laws = { λ p l. token_list_is_meaning Input.Error.seen _ _ _ _ _ _ _ _ (λ s d. d) };
+    ghost laws = { λ p l. token_list_is_meaning Input.Error.observers _ _ _ _ _ _ _ _ (λ s d. d) };
 
-    ghost single = { λ p l d. token_list_means_one Input.Error.seen _ _ _ _ _ _ (λ _. Unit {0}) (λ _. Unit {0}) (listed_ends_once _ _) (listed_compares_once _ _ (F.once (fits_of_bytes p) d)) };
+    ghost single = { λ p l d. token_list_means_one Input.Error.observers _ _ _ _ _ _ (λ _. Unit {0}) (λ _. Unit {0}) (listed_ends_once _ _) (listed_compares_once _ _ (F.single (fits_of_bytes p) d)) };
 }
 
-/// One call of a parser of the bytes of a list.
+/// Makes one call of a parser of the bytes of a list.
 #[inline(always)]
 fn match_bytes<F, Input: Stream, M: ParseMode>(
     bytes: &'static [u8],
@@ -130,8 +134,8 @@ where
     F: Fits<u8, Input::Token>,
     requires { F.ready fits.now }
     ensures passes { Passes (Input.marks input.old) (Input.marks input.new) (Input.failures input.old) (Input.failures input.new) }
-    ensures answers { AnswersListCall Input.StreamOnce Input.Error.seen (listed (F.compares fits.now) bytes.now) None (λ v. v ≡ bytes.entry) (Unit {0}) (M.first mode) state.old state.new input.old input.new result }
-    ensures refuses { ReasonedListCall Input.StreamOnce Input.Error.seen (listed (F.compares fits.now) bytes.now) None (M.first mode) state.old input.old input.new result }
+    ensures answers { AnswersListCall Input.StreamOnce Input.Error.observers (listed_tokens (F.compares fits.now) bytes.now) None (λ v. v ≡ bytes.entry) (Unit {0}) (M.first mode) state.old state.new input.old input.new result }
+    ensures refuses { ReasonedListCall Input.StreamOnce Input.Error.observers (listed_tokens (F.compares fits.now) bytes.now) None (M.first mode) state.old input.old input.new result }
 {
     let items = listed_items(bytes);
     match_list(
@@ -148,7 +152,7 @@ where
     )
 }
 
-/// An iterator of the bytes of a list, which are fewer than 2^64.
+/// Returns an iterator of the bytes of a list, which are fewer than 2^64.
 #[inline(always)]
 fn listed_items(bytes: &'static [u8]) -> Iter<'static, u8>
     ensures rest { iter_rest result ≡ bytes.now }

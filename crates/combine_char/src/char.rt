@@ -1,10 +1,14 @@
 //! Parsers of characters.
 //!
-//! Each takes one character of its class: accepted committed, with that character as the value. Another one is put back and refused peeked, as is the end of an ended list; the text of the class is said to be expected.
+//! Each takes one character of its class: accepted committed, with that character as the value.
+//!
+//! # Errors
+//!
+//! Another character is put back and refused peeked, as is the end of ended input; the text of the class is said to be expected.
 ghost use Rattle.std.specs.Prelude.{◌≡◌};
 ghost use Rattle.combine_repeat.specs.ManyParsers.{skip_many_of};
 ghost use Rattle.combine_char.specs.TextParsers.{by, equal, in_class_parser, in_text_parser, named_parser, whole_pair_parser};
-ghost use Rattle.combine_token.specs.TokenParsers.{token_parser};
+ghost use Rattle.combine_token.specs.Token.TokenParsers.{token_parser};
 
 pub mod classes;
 pub mod types;
@@ -13,7 +17,7 @@ use crate::class::in_class;
 use crate::fits::{By, Equal};
 use crate::named::naming;
 use crate::pair::whole_pair;
-use crate::text::in_text;
+use crate::text::text_parser;
 use combine_repeat::repeat::skip_many;
 use combine_token::token::token;
 use combine_token::token::types::Token;
@@ -31,6 +35,16 @@ pub fn char<Input>(char: char) -> Token<Input, char>
 }
 
 /// Takes a digit, `0` to `9`.
+///
+/// # Examples
+///
+/// ```
+/// fn digits(input: &str) -> Result<((char, char), &str), UnexpectedParse> {
+///     (digit(), digit()).parse(input)
+/// }
+/// ```
+///
+/// On `"12a"` it returns `(('1', '2'), "a")`.
 #[inline]
 pub fn digit<Input>() -> Digit<Input>
     ensures { result ≡ in_class_parser }
@@ -110,9 +124,17 @@ pub fn alpha_num<Input>() -> AlphaNum<Input>
     in_class()
 }
 
-/// Takes a carriage return and then a line feed, which is the value; it counts as 2 parsers.
+/// Takes a carriage return and then a line feed, which is the value.
 ///
-/// A carriage return without a line feed is refused committed. On need of more the stream is put back, and the next call begins again.
+/// It counts as 2 parsers.
+///
+/// # Errors
+///
+/// A carriage return without a line feed is refused committed.
+///
+/// # Partial input
+///
+/// On need of more the stream is put back, and the next call begins again.
 #[inline]
 pub fn crlf<Input>() -> CrLf<Input>
     ensures { result ≡ named_parser (whole_pair_parser (in_class_parser, in_class_parser)) }
@@ -128,20 +150,47 @@ pub fn spaces<Input>() -> Spaces<Input>
     naming(skip_many(space()))
 }
 
-/// Takes the characters of the text, one after another; its value is the text.
+/// Takes the characters of the text, one after another.
 ///
-/// A token that doesn't fit, or the end of ended input, refuses: peeked where no token was matched before it, else committed. A committed mismatch says only which token stands there; the text is said to be expected where nothing was matched. The end of an open piece asks for more, with nothing left unread: the state keeps how many characters were matched. An empty text is accepted peeked.
+/// Its value is the text.
+///
+/// An empty text is accepted peeked.
+///
+/// # Errors
+///
+/// - A token that doesn't fit, or the end of ended input, refuses: peeked if no token was matched before it, else committed.
+/// - A committed mismatch says only which token stands there. The text is said to be expected where nothing was matched.
+///
+/// # Partial input
+///
+/// The end of an open piece is need of more. Nothing is left unread: the state keeps how many characters were matched.
+///
+/// # Examples
+///
+/// ```
+/// fn keyword(input: &str) -> Result<(&'static str, &str), UnexpectedParse> {
+///     string("let").parse(input)
+/// }
+/// ```
+///
+/// On `"let x"` it returns `("let", " x")`; `"lex"` is refused committed.
 #[inline]
 pub fn string<Input>(s: &'static str) -> Str<Input>
     ensures { result ≡ in_text_parser s.entry equal }
 {
-    in_text(s, Equal)
+    text_parser(s, Equal)
 }
 
-/// Parses as many characters as the text has, as `string` does; a character of the text and the token at its place are given to `cmp`, which says whether the token fits. The crate takes an `FnMut`.
+/// Takes as many characters as the text has, as `string` does, each if `cmp` says that it fits.
+///
+/// `cmp` is given a character of the text and the token at its place.
+///
+/// # Differences from combine
+///
+/// `cmp` is an `Fn`, where the crate takes an `FnMut`.
 #[inline]
 pub fn string_cmp<C, Input>(s: &'static str, cmp: C) -> StrCmp<Input, C>
     ensures { result ≡ in_text_parser s.entry (by cmp) }
 {
-    in_text(s, By(cmp))
+    text_parser(s, By(cmp))
 }

@@ -5,7 +5,7 @@ ghost use Rattle.combine_char.specs.TextParsers.{in_class_parser};
 pub mod types;
 
 use std::marker::PhantomData;
-use types::InClass;
+use types::ClassParser;
 
 /// A fixed text that errors say: a type of no size.
 pub trait Text {
@@ -14,31 +14,35 @@ pub trait Text {
     /// Its bytes.
     ghost bytes: { List ℕ };
 
-    /// The text.
+    /// Returns the text.
     fn text() -> &'static str
         ensures { result.now ≡ bytes };
 }
 
-/// A class of tokens: a type of no size that says which tokens are in it; its text is what errors say was expected.
+/// A class of tokens: a type of no size that says which tokens are in it.
+///
+/// Its text is what errors say was expected.
 pub trait Class<T>: Text {
     ghost use Rattle.std.specs.Prelude.{◌≡◌, Bool};
 
     /// The set of its tokens.
     ghost members: { T → Bool };
 
-    /// Whether the token is in the class.
+    /// Returns whether the token is in the class.
     fn has(token: T) -> bool
         ensures { result ≡ members token };
 }
 
 /// Takes a token that is in the class: accepted committed, with that token as the value.
 ///
-/// Another token is put back and refused peeked, as is the end of an ended list; the text of the class is said to be expected.
+/// # Errors
+///
+/// Another token is put back and refused peeked, as is the end of ended input; the text of the class is said to be expected.
 #[inline]
-pub fn in_class<Input, C>() -> InClass<Input, C>
+pub fn in_class<Input, C>() -> ClassParser<Input, C>
     ensures { result ≡ in_class_parser }
 {
-    InClass {
+    ClassParser {
         reads: PhantomData,
         class: PhantomData,
     }

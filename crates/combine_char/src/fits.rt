@@ -1,6 +1,6 @@
 //! How the items of a list are compared with tokens. Our own: the crate passes a closure.
 ghost use Rattle.std.specs.Prelude.{◌≡◌};
-ghost use Rattle.combine_char.specs.Spelled.{ComparesOnceBy};
+ghost use Rattle.combine_char.specs.SpelledLists.{ComparesOnceBy};
 
 /// A comparison of items with tokens.
 pub trait Fits<A, T> {
@@ -9,18 +9,18 @@ pub trait Fits<A, T> {
     /// Holds where it may be called.
     ghost ready: { Self → Type 0 };
 
-    /// What it may answer.
+    /// What it may return.
     ghost compares: { Self → A → T → Bool → Type 0 };
 
     /// What it owes so that a token isn't found both to fit and not to.
     ghost determined: { Self → Type 0 };
 
-    /// Whether the token fits the item.
+    /// Returns whether the token fits the item.
     fn fits(&self, item: A, token: T) -> bool
         requires { ready self.now }
         ensures { compares self.now item token result };
 
-    ghost once: { (f : Self) → determined f → (a : A) (t : T) → compares f a t true → compares f a t false → ⊥ };
+    ghost single: { (f : Self) → determined f → (a : A) (t : T) → compares f a t true → compares f a t false → ⊥ };
 }
 
 /// A token fits an item that it equals.
@@ -38,7 +38,7 @@ impl<T: PartialEq + Copy> Fits<T, T> for Equal {
         token == item
     }
 
-    ghost once = { λ f d a t p q. cc };
+    ghost single = { λ f d a t p q. cc };
 }
 
 /// A token fits an item if the function says so, which is given the item and the token.
@@ -56,5 +56,5 @@ impl<A, T, C: Fn(A, T) -> bool> Fits<A, T> for By<C> {
         (self.0)(item, token)
     }
 
-    ghost once = { λ f d a t p q. d.once a t p q };
+    ghost single = { λ f d a t p q. d.once a t p q };
 }

@@ -1,7 +1,7 @@
 //! A parser of which errors say one text. Our own, as `expected` with a text that is a type.
 ghost use Rattle.std.specs.Prelude.{◌≡◌};
 ghost use Rattle.combine_char.specs.TextParsers.{named_parser, parser_named};
-ghost use Rattle.combine_char.specs.Named.{named, named_is_meaning, named_means_one};
+ghost use Rattle.combine_char.specs.NamedParser.{named, named_is_meaning, named_means_one};
 
 use crate::class::Text;
 use combine_base::error::{ErrorOffset, Info, ParseError, ParseResult, Tracked};
@@ -9,14 +9,16 @@ use combine_base::parser::{Outputs, ParseMode, Parser};
 use combine_base::stream::Stream;
 use std::marker::PhantomData;
 
-/// As its part, but the text is said to be expected, and nothing of what the part expects. The state is that of the part.
+/// A parser as its part, but the text is said to be expected, and nothing of what the part expects.
+///
+/// The state is that of the part.
 #[derive(Drop)]
 pub struct Named<P, N> {
     parser: P,
     name: PhantomData<N>,
 }
 
-/// As the parser, but errors say that the text was expected.
+/// Parses as the parser, but errors say that the text was expected.
 #[inline]
 pub fn naming<P, N>(parser: P) -> Named<P, N>
     ensures { result ≡ named_parser parser }
@@ -60,7 +62,7 @@ impl<Input: Stream, P: Parser<Input>, N: Text> Parser<Input> for Named<P, N> {
         error.error.add_expected(&Info::Static(N::text()));
     }
 
-    /// As for its part.
+    /// Counts as its part does.
     #[inline]
     fn parser_count(&self) -> ErrorOffset {
         self.parser.parser_count()

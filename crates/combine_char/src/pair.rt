@@ -4,18 +4,20 @@ ghost use Rattle.combine_base.specs.Parser.Answer.{world};
 ghost use Rattle.combine_base.specs.Parser.Meaning.{MeansSame};
 ghost use Rattle.combine_base.specs.Parser.Reasons.{Reasoned};
 ghost use Rattle.combine_base.specs.Stream.Calls.{Passes};
-ghost use Rattle.combine_char.specs.Again.{BeginsAgain, whole_pair, whole_pair_is_meaning, whole_pair_means_one};
+ghost use Rattle.combine_char.specs.Restart.{AnswersBegunAgain, whole_pair, whole_pair_is_meaning, whole_pair_means_one};
 ghost use Rattle.combine_char.specs.TextParsers.{pair_of, whole_pair_parser};
 
 use combine_base::error::{ErrorOffset, ParseResult, Tracked};
 use combine_base::parser::{Outputs, ParseMode, Parser};
 use combine_base::stream::{Positioned, ResetStream, Stream, StreamOnce, needs_more};
 
-/// As its part, a parser of pairs, with the second value. It keeps no state: on need of more the stream is put back, and the next call begins again.
+/// A parser as its part, a parser of pairs, with the second value.
+///
+/// It keeps no state: on need of more the stream is put back, and the next call begins again.
 #[derive(Drop)]
 pub struct WholePair<P>(P);
 
-/// The second value of a parser of pairs, which begins again after need of more.
+/// Gives the second value of a parser of pairs, which begins again after need of more.
 #[inline]
 pub fn whole_pair<P>(pair: P) -> WholePair<P>
     ensures { result ≡ whole_pair_parser pair }
@@ -55,13 +57,13 @@ impl<Input: Stream, A: Drop, B: Drop, P: Parser<Input, Output = (A, B)>> Parser<
         )
     }
 
-    /// What its part adds.
+    /// Adds what its part adds.
     #[inline]
     fn add_error(&mut self, error: &mut Tracked<Input::Error>) {
         self.0.add_error(error);
     }
 
-    /// As for its part.
+    /// Counts as its part does.
     #[inline]
     fn parser_count(&self) -> ErrorOffset {
         self.0.parser_count()
@@ -74,7 +76,7 @@ impl<Input: Stream, A: Drop, B: Drop, P: Parser<Input, Output = (A, B)>> Parser<
     ghost single = { λ p l d. whole_pair_means_one _ (P.meaning (pair_of p)) (P.single (pair_of p) l d) };
 }
 
-/// One call of a parser from its start; on need of more the stream is put back.
+/// Makes one call of a parser from its start; on need of more the stream is put back.
 fn begin_again<Input: Stream, P: Parser<Input>>(
     part: &mut P,
     input: &mut Input,
@@ -83,8 +85,8 @@ fn begin_again<Input: Stream, P: Parser<Input>>(
     ensures lawful { P.lawful part.new }
     ensures same { MeansSame (P.meaning part.old) (P.meaning part.new) }
     ensures passes { Passes (Input.marks input.old) (Input.marks input.new) (Input.failures input.old) (Input.failures input.new) }
-    ensures answers { BeginsAgain (world Input.step Input.Error.seen Input.steady ⟦<() as Default>⟧.is_default) (P.meaning part.old) (Input.view input.old) (Input.view input.new) (Input.failures input.old) (Input.failures input.new) result }
-    ensures refuses { Reasoned Input.Error.seen.kind (Input.view input.new).is_open ((P.meaning part.old).refuses (Input.view input.old) (Input.view input.new)) result }
+    ensures answers { AnswersBegunAgain (world Input.step Input.Error.observers Input.counts_failures ⟦<() as Default>⟧.is_default) (P.meaning part.old) (Input.view input.old) (Input.view input.new) (Input.failures input.old) (Input.failures input.new) result }
+    ensures refuses { Reasoned Input.Error.observers.kind (Input.view input.new).is_open ((P.meaning part.old).refuses (Input.view input.old) (Input.view input.new)) result }
 {
     let start = input.checkpoint();
     let position = input.position();

@@ -5,12 +5,12 @@ ghost use Rattle.std.specs.Str.Iter.{chars_rest};
 ghost use Rattle.combine_base.specs.Error.Errors.{Only};
 ghost use Rattle.combine_base.specs.Error.Items.{Expected, Fixed};
 ghost use Rattle.combine_base.specs.Stream.Calls.{Passes};
-ghost use Rattle.combine_token.specs.ListCalls.{AnswersListCall, ReasonedListCall};
-ghost use Rattle.combine_token.specs.Listed.{listed};
-ghost use Rattle.combine_token.specs.TokenListLaws.{token_list, token_list_is_meaning, token_list_means_one};
-ghost use Rattle.combine_token.specs.TokenParsers.{matched_before};
-ghost use Rattle.combine_char.specs.TextParsers.{fits_of_text, in_text_parser, text_of};
-ghost use Rattle.combine_char.specs.Spelled.{listed_compares_once, listed_ends_once};
+ghost use Rattle.combine_token.specs.Token.Lists.ListCalls.{AnswersListCall, ReasonedListCall};
+ghost use Rattle.combine_token.specs.Token.Lists.KnownLists.{listed_tokens};
+ghost use Rattle.combine_token.specs.Token.Lists.ListMeaning.{token_list, token_list_is_meaning, token_list_means_one};
+ghost use Rattle.combine_token.specs.Token.TokenParsers.{matched_before};
+ghost use Rattle.combine_char.specs.TextParsers.{fits_of_text, in_text_parser, text_of_parser};
+ghost use Rattle.combine_char.specs.SpelledLists.{listed_compares_once, listed_ends_once};
 
 use crate::fits::Fits;
 use combine_base::error::{ErrorOffset, Info, ParseError, ParseResult, Tracked};
@@ -20,33 +20,37 @@ use combine_token::token::{TokensState, match_list};
 use std::marker::PhantomData;
 use std::str::Chars;
 
-/// The parser of the characters of a text, one after another; its value is the text.
+/// The parser of the characters of a text, one after another.
 ///
-/// The error of a committed mismatch says which token stands there, at the position where the call began. On need of more nothing is left unread: the state keeps how many characters were matched.
+/// Its value is the text.
+///
+/// The error of a committed mismatch says which token stands there, at the position where the call began.
+///
+/// On need of more nothing is left unread: the state keeps how many characters were matched.
 #[derive(Drop)]
-pub struct InText<Input, F> {
+pub struct TextParser<Input, F> {
     text: &'static str,
     fits: F,
     reads: PhantomData<Input>,
 }
 
-/// The characters of a text, each compared with the token at its place.
+/// Takes the characters of a text, each compared with the token at its place.
 #[inline]
-pub fn in_text<Input, F>(text: &'static str, fits: F) -> InText<Input, F>
+pub fn text_parser<Input, F>(text: &'static str, fits: F) -> TextParser<Input, F>
     ensures { result ≡ in_text_parser text.entry fits }
 {
-    InText {
+    TextParser {
         text,
         fits,
         reads: PhantomData,
     }
 }
 
-impl<Input, F> Outputs<Input> for InText<Input, F> {
+impl<Input, F> Outputs<Input> for TextParser<Input, F> {
     type Output = &'static str;
 }
 
-impl<Input: Stream, F: Fits<char, Input::Token>> Parser<Input> for InText<Input, F> {
+impl<Input: Stream, F: Fits<char, Input::Token>> Parser<Input> for TextParser<Input, F> {
     type PartialState = TokensState;
 
     ghost lawful = { λ p. F.ready (fits_of_text p) };
@@ -55,7 +59,7 @@ impl<Input: Stream, F: Fits<char, Input::Token>> Parser<Input> for InText<Input,
 
     ghost valid = { λ s. Unit {0} };
 
-    ghost meaning = { λ p. token_list Input.Error.seen (listed (F.compares (fits_of_text p)) (chars (text_of p).now)) None (λ v. v ≡ text_of p) matched_before (Unit {0}) (Only (Expected (Fixed (text_of p).now))) };
+    ghost meaning = { λ p. token_list Input.Error.observers (listed_tokens (F.compares (fits_of_text p)) (chars (text_of_parser p).now)) None (λ v. v ≡ text_of_parser p) matched_before (Unit {0}) (Only (Expected (Fixed (text_of_parser p).now))) };
 
     ghost parts = { λ p. 1 };
 
@@ -82,12 +86,12 @@ impl<Input: Stream, F: Fits<char, Input::Token>> Parser<Input> for InText<Input,
 
     ghost default_valid = { λ s d. tt };
 
-    ghost laws = { λ p l. token_list_is_meaning Input.Error.seen _ _ _ _ _ _ _ _ (λ s d. d) };
+    ghost laws = { λ p l. token_list_is_meaning Input.Error.observers _ _ _ _ _ _ _ _ (λ s d. d) };
 
-    ghost single = { λ p l d. token_list_means_one Input.Error.seen _ _ _ _ _ _ (λ _. Unit {0}) (λ _. Unit {0}) (listed_ends_once _ _) (listed_compares_once _ _ (F.once (fits_of_text p) d)) };
+    ghost single = { λ p l d. token_list_means_one Input.Error.observers _ _ _ _ _ _ (λ _. Unit {0}) (λ _. Unit {0}) (listed_ends_once _ _) (listed_compares_once _ _ (F.single (fits_of_text p) d)) };
 }
 
-/// One call of a parser of the characters of a text.
+/// Makes one call of a parser of the characters of a text.
 #[inline(always)]
 fn match_text<F, Input: Stream, M: ParseMode>(
     text: &'static str,
@@ -100,8 +104,8 @@ where
     F: Fits<char, Input::Token>,
     requires { F.ready fits.now }
     ensures passes { Passes (Input.marks input.old) (Input.marks input.new) (Input.failures input.old) (Input.failures input.new) }
-    ensures answers { AnswersListCall Input.StreamOnce Input.Error.seen (listed (F.compares fits.now) (chars text.now)) None (λ v. v ≡ text.entry) (Unit {0}) (M.first mode) state.old state.new input.old input.new result }
-    ensures refuses { ReasonedListCall Input.StreamOnce Input.Error.seen (listed (F.compares fits.now) (chars text.now)) None (M.first mode) state.old input.old input.new result }
+    ensures answers { AnswersListCall Input.StreamOnce Input.Error.observers (listed_tokens (F.compares fits.now) (chars text.now)) None (λ v. v ≡ text.entry) (Unit {0}) (M.first mode) state.old state.new input.old input.new result }
+    ensures refuses { ReasonedListCall Input.StreamOnce Input.Error.observers (listed_tokens (F.compares fits.now) (chars text.now)) None (M.first mode) state.old input.old input.new result }
 {
     let items = characters(text);
     match_list(
@@ -118,7 +122,7 @@ where
     )
 }
 
-/// The characters of a text, which are fewer than 2^64.
+/// Returns the characters of a text, which are fewer than 2^64.
 #[inline(always)]
 fn characters(text: &'static str) -> Chars<'static>
     ensures rest { chars_rest result ≡ text.now }

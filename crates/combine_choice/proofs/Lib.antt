@@ -1,5 +1,5 @@
-pub mod Lent
-pub mod Listed
+pub mod EqualValues
+pub mod AlternativeLists
 pub mod MergedErrors
-pub mod Refusing
+pub mod RefusedAlternatives
 pub mod SliceCalls

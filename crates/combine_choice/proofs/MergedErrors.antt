@@ -2,28 +2,28 @@
 use Rattle.std.proofs.Common.{ℕ, zero, suc, ◌≡◌, inl, inr, List, [], ◌∷◌, Bool, true, false, drop, length, refl, subst, sym}
 use Rattle.std.specs.declared.cmp.Ordering.{Ordering}
 use Rattle.combine_base.specs.Stream.View.{View}
-use Rattle.combine_base.specs.Error.Errors.{Errors, Joined, Only, later}
+use Rattle.combine_base.specs.Error.Errors.{Observers, JoinedErrors, Only, later_position}
 use Rattle.combine_base.specs.Parser.Meaning.{Meaning, MeantRefusal, Reading, Refusing, begun_refuses, refusals}
 use Rattle.combine_base.specs.Parser.Reasons.{Reasoned, ReasonedCall}
-use Rattle.combine_base.specs.Refusals.{Saying}
-use Rattle.combine_base.proofs.Reasoning.{reasons_fault, reasons_hand_on, reasons_ok, reasons_peek_ok, reasons_peeked}
-use Rattle.combine_base.proofs.Explaining.{reason_peeked}
+use Rattle.combine_base.specs.Refusals.{HasItems}
+use Rattle.combine_base.proofs.Errors.CallReasons.{reasons_fault, reasons_hand_on, reasons_ok, reasons_peek_ok, reasons_peeked}
+use Rattle.combine_base.proofs.Errors.Explanations.{reason_peeked}
 use Rattle.combine_base.specs.declared.stream.Kind.TheVariants as kinds
 use Rattle.combine_base.specs.declared.error.Tracked.{Tracked}
 use Rattle.combine_base.specs.declared.error.ParseResult.{ParseResult}
 use Rattle.combine_base.specs.declared.error.ParseResult.TheVariants.{CommitOk, PeekOk, CommitErr, PeekErr}
-use Rattle.combine_token.specs.Alternatives.{AfterRefusal, refuses_both}
-use Rattle.combine_choice.specs.Chosen.{choice_of}
-use Rattle.combine_choice.specs.Merged.{choice_is_empty, merges, one_commits, on_refuses, tried_refuses}
-use Rattle.combine_choice.specs.OneTurn.{NoAlternative, Afresh, InFirst, AtPeek, PastLast}
-use Rattle.combine_choice.proofs.Listed.{drop_past}
+use Rattle.combine_token.specs.Choice.Alternatives.{AfterRefusal, refuses_both}
+use Rattle.combine_choice.specs.ListChoice.{choice_of}
+use Rattle.combine_choice.specs.MergedErrors.{choice_is_empty, merges, one_commits, on_refuses, tried_refuses}
+use Rattle.combine_choice.specs.SliceCalls.{NoAlternative, BeginsAfresh, InFirst, AtPeek, PastLast}
+use Rattle.combine_choice.proofs.AlternativeLists.{drop_past}
 use Rattle.combine_choice.specs.declared.choice.slice.SliceState.{SliceState}
 use Rattle.combine_choice.specs.declared.choice.slice.SliceState.TheVariants.{Peek, At}
-use Rattle.combine_choice.proofs.Refusing.{IsSettled}
+use Rattle.combine_choice.proofs.RefusedAlternatives.{IsSettled}
 
-module _ {X P T R E V S : Type 0} (s : Errors T R P E) (cmp : P → P → Ordering) (m : X → Meaning P T R E V S) (v : View P T) where
+module _ {X P T R E V S : Type 0} (s : Observers T R P E) (cmp : P → P → Ordering) (m : X → Meaning P T R E V S) (v : View P T) where
   -- what those that are left say makes up an error of the whole, after an error and the view that its parser left
-  pub record Goes (whole : View P T → Bool → E → Type 0) (ys : List X) (left : View P T) (so_far : E) : Type 0 where
+  pub record MakesUpError (whole : View P T → Bool → E → Type 0) (ys : List X) (left : View P T) (so_far : E) : Type 0 where
     pub commits : (w : View P T) (e : E) → one_commits s cmp m ys v w e → whole w true e
     pub merged : (w : View P T) (e : E) → merges s cmp m so_far left ys v w e → whole w false e
 
@@ -36,32 +36,32 @@ module _ {X P T R E V S : Type 0} (s : Errors T R P E) (cmp : P → P → Orderi
     first_commits e r = reasons_hand_on s.kind w.is_open first_meant (tried_refuses s cmp m reads first zs v w) e (λ a p. subst (λ qs. tried_refuses s cmp m reads first qs v w true a) (sym here) (inl p)) r
 
     -- the first one's peeked error
-    pub goes_first : (t : Tracked E) → Reasoned {V = V} s.kind w.is_open first_meant (PeekErr t) → Goes (tried_refuses s cmp m reads first zs v) ys w t.error
-    goes_first t r = let own = reason_peeked s.kind w.is_open first_meant t r in record {
+    pub makes_up_first : (t : Tracked E) → Reasoned {V = V} s.kind w.is_open first_meant (PeekErr t) → MakesUpError (tried_refuses s cmp m reads first zs v) ys w t.error
+    makes_up_first t r = let own = reason_peeked s.kind w.is_open first_meant t r in record {
       commits = λ u a p. subst (λ qs. tried_refuses s cmp m reads first qs v u true a) (sym here) (inr (own.meant, p));
       merged = λ u a p. subst (λ qs. tried_refuses s cmp m reads first qs v u false a) (sym here) (t.error, w, own, p);
     }
 
   -- no alternative is left
-  pub goes_end : (whole : View P T → Bool → E → Type 0) (ys : List X) → ys ≡ [] → (w : View P T) (t : Tracked E) → Goes whole ys w t.error → Reasoned {V = V} s.kind w.is_open (whole w) (PeekErr t)
-  goes_end whole ys none w t g = reasons_peeked s.kind w.is_open (whole w) t (g.merged w t.error (subst (λ qs. merges s cmp m t.error w qs v w t.error) (sym none) (refl, refl)))
+  pub makes_up_end : (whole : View P T → Bool → E → Type 0) (ys : List X) → ys ≡ [] → (w : View P T) (t : Tracked E) → MakesUpError whole ys w t.error → Reasoned {V = V} s.kind w.is_open (whole w) (PeekErr t)
+  makes_up_end whole ys none w t g = reasons_peeked s.kind w.is_open (whole w) t (g.merged w t.error (subst (λ qs. merges s cmp m t.error w qs v w t.error) (sym none) (refl, refl)))
 
-  module _ (whole : View P T → Bool → E → Type 0) (zs : List X) (x : X) (ys : List X) (here : zs ≡ x ∷ ys) (left : View P T) (so_far : E) (g : Goes whole zs left so_far) (w : View P T) where
+  module _ (whole : View P T → Bool → E → Type 0) (zs : List X) (x : X) (ys : List X) (here : zs ≡ x ∷ ys) (left : View P T) (so_far : E) (g : MakesUpError whole zs left so_far) (w : View P T) where
     commits : (e : E) → refusals (m x) v w true e → whole w true e
     commits e p = g.commits w e (subst (λ qs. one_commits s cmp m qs v w e) (sym here) (inl p))
 
-    joins : (other : E) → refusals (m x) v w false other → (both : E) → Joined s (later cmp (s.position so_far) (s.position other)) so_far other both → Goes whole ys w both
+    joins : (other : E) → refusals (m x) v w false other → (both : E) → JoinedErrors s (later_position cmp (s.position so_far) (s.position other)) so_far other both → MakesUpError whole ys w both
     joins other p both j = record {
       commits = λ u a q. g.commits u a (subst (λ qs. one_commits s cmp m qs v u a) (sym here) (inr (p.meant, q)));
       merged = λ u a q. g.merged u a (subst (λ qs. merges s cmp m so_far left qs v u a) (sym here) (both, w, record { other = other; refused = p; joined = j }, q));
     }
 
     -- the next was refused peeked as well
-    pub goes_next : (answer : ParseResult V E) → Reasoned s.kind w.is_open (refusals (m x) v w) answer → (t : Tracked E) → AfterRefusal s cmp so_far answer (PeekErr t) → Goes whole ys w t.error
-    goes_next (CommitOk a) r t h = absurd (let i = h.is in cc)
-    goes_next (PeekOk a) r t h = absurd (let i = h.is in cc)
-    goes_next (CommitErr e) r t h = absurd (let i = h.is in cc)
-    goes_next (PeekErr u) r t h = joins u.error (reason_peeked s.kind w.is_open (refusals (m x) v w) u r) t.error h.is
+    pub makes_up_next : (answer : ParseResult V E) → Reasoned s.kind w.is_open (refusals (m x) v w) answer → (t : Tracked E) → AfterRefusal s cmp so_far answer (PeekErr t) → MakesUpError whole ys w t.error
+    makes_up_next (CommitOk a) r t h = absurd (let i = h.is in cc)
+    makes_up_next (PeekOk a) r t h = absurd (let i = h.is in cc)
+    makes_up_next (CommitErr e) r t h = absurd (let i = h.is in cc)
+    makes_up_next (PeekErr u) r t h = joins u.error (reason_peeked s.kind w.is_open (refusals (m x) v w) u r) t.error h.is
 
     merging : (u : Tracked E) (result : ParseResult V E) → IsSettled result → refuses_both s cmp so_far u.error result → Reasoned s.kind w.is_open (whole w) result
     merging u (CommitOk a) i h = absurd h
@@ -77,7 +77,7 @@ module _ {X P T R E V S : Type 0} (s : Errors T R P E) (cmp : P → P → Orderi
     next_reasons (PeekErr u) r result i h = merging u result i h.is
 
 -- where a call of the choice begins
-module _ {X P T R E V S : Type 0} (s : Errors T R P E) (cmp : P → P → Ordering) (m : X → Meaning P T R E V S) (xs : List X) (v w : View P T) where
+module _ {X P T R E V S : Type 0} (s : Observers T R P E) (cmp : P → P → Ordering) (m : X → Meaning P T R E V S) (xs : List X) (v w : View P T) where
   abbrev from : Bool → SliceState S → Bool → E → Type 0
   from mode given = begun_refuses (choice_of s cmp m xs) mode given v w
 
@@ -99,7 +99,7 @@ module _ {X P T R E V S : Type 0} (s : Errors T R P E) (cmp : P → P → Orderi
   start_past true given n k i j none c e p = absurd (cc)
   start_past false given n k i j none c e p = rw j (record { is = subst (λ zs. on_refuses s cmp m xs zs k v w c e) (sym none) p })
 
-  pub start_afresh : (mode : Bool) (given : SliceState S) → Afresh mode given (length xs) → (c : Bool) (e : E) → tried xs c e → from mode given c e
+  pub start_afresh : (mode : Bool) (given : SliceState S) → BeginsAfresh mode given (length xs) → (c : Bool) (e : E) → tried xs c e → from mode given c e
   start_afresh mode given (InFirst i) = start_first mode given i
   start_afresh mode given (AtPeek i j) = start_peek mode given i j
   start_afresh mode given (PastLast i n k j l) = start_past mode given n k i j (drop_past xs n l)
@@ -111,8 +111,8 @@ module _ {X P T R E V S : Type 0} (s : Errors T R P E) (cmp : P → P → Orderi
       rw j (record { is = subst (λ zs. on_refuses s cmp m xs zs k v w c e) (sym here) q })
 
 -- there is no alternative
-module _ {X P T R E V S : Type 0} (s : Errors T R P E) (cmp : P → P → Ordering) (m : X → Meaning P T R E V S) (xs : List X) (v : View P T) where
-  empty_says : (mode : Bool) (k : SliceState S) → xs ≡ [] → (e : E) → Saying s kinds.Refused v.position (Only choice_is_empty) e → begun_refuses (choice_of s cmp m xs) mode k v v false e
+module _ {X P T R E V S : Type 0} (s : Observers T R P E) (cmp : P → P → Ordering) (m : X → Meaning P T R E V S) (xs : List X) (v : View P T) where
+  empty_says : (mode : Bool) (k : SliceState S) → xs ≡ [] → (e : E) → HasItems s kinds.Refused v.position (Only choice_is_empty) e → begun_refuses (choice_of s cmp m xs) mode k v v false e
   empty_says true k n e p = rw n (record { is = (refl, p) })
   empty_says false Peek n e p = rw n (record { is = (refl, p) })
   empty_says false (At zero k) n e p = rw n (record { is = (refl, p) })

@@ -1,7 +1,5 @@
-pub mod Chosen
 pub mod ListChoice
-pub mod Merged
-pub mod Nested
-pub mod OneTurn
-pub mod Parsers
-pub mod SliceCall
+pub mod MergedErrors
+pub mod NestedChoice
+pub mod SliceCalls
+pub mod ChoiceParsers

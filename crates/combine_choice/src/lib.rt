@@ -3,7 +3,9 @@
 
 pub mod choice;
 
-/// The choice of parsers, in order: `or` of the first and of the choice of the later ones. Each may have a type of its own, and there may be any number of them.
+/// Chooses among any number of parsers, in order, each of which may have a type of its own.
+///
+/// It is `or` of the first and of the choice of the later ones.
 #[macro_export]
 macro_rules! choice {
     ($first:expr $(,)?) => { $first };

@@ -1,3 +1,3 @@
 pub mod Halves
-pub mod Held
+pub mod HeldParser
 pub mod Variants2

@@ -1,7 +1,7 @@
 -- a parser that is one of two: it means the one that it holds
 use Rattle.std.specs.Prelude.{Option, Some, None}
 use Rattle.combine_base.specs.Parser.Meaning.{Meaning, IsMeaning, MeansOne}
-use Rattle.combine_choice_dispatch.specs.Held.{Holds, held, held_is_meaning, held_means_one}
+use Rattle.combine_choice_dispatch.specs.HeldParser.{HoldsState, held, held_is_meaning, held_means_one}
 use Rattle.combine_choice_dispatch.specs.declared.variants.either.Either.{Either}
 use Rattle.combine_choice_dispatch.specs.declared.variants.either.Either.TheVariants.{Left, Right}
 
@@ -20,11 +20,11 @@ module _ {S0 S1 : Type 0} where
   each_2 f0 f1 (Right s) = f1 s
 
   module _ (f0 : S0 → Type 0) (f1 : S1 → Type 0) where
-    each_2_left : (s : Either S0 S1) → each_2 f0 f1 s → Holds f0 (pick_left s)
+    each_2_left : (s : Either S0 S1) → each_2 f0 f1 s → HoldsState f0 (pick_left s)
     each_2_left (Left s) h = h
     each_2_left (Right s) h = tt
 
-    each_2_right : (s : Either S0 S1) → each_2 f0 f1 s → Holds f1 (pick_right s)
+    each_2_right : (s : Either S0 S1) → each_2 f0 f1 s → HoldsState f1 (pick_right s)
     each_2_right (Left s) h = tt
     each_2_right (Right s) h = h
 

@@ -18,7 +18,7 @@ pub use dispatch7::Dispatch7;
 pub use dispatch8::Dispatch8;
 pub use either::Either;
 
-/// The same answer, made anew in each case: so what asks for the case next is compiled behind each variant, and not behind the place where their answers meet.
+/// Returns the same result, made anew in each case: so what asks for the case next is compiled after each variant, and not after the place where their results meet.
 #[inline(always)]
 fn passed_on<O, E>(answer: ParseResult<O, E>) -> ParseResult<O, E>
     ensures { result ≡ answer }

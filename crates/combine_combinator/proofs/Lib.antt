@@ -1,4 +1,4 @@
 pub mod Attempts
-pub mod Reasons
-mod Denying
-mod Looking
+pub mod AttemptReasons
+mod NotFollowedBy
+mod TableAnswers

@@ -2,7 +2,7 @@
 use Rattle.std.specs.Prelude.{ℕ, ◌≡◌, ◌⊎◌, ◌≤◌, ◌↔◌, Bool, false, List, length, refl}
 use Rattle.std.proofs.Common.{arith, ap, sym, subst, ◌∙◌, inl, inr}
 use Rattle.combine_base.specs.Stream.View.{View}
-use Rattle.combine_base.specs.Error.Items.{Item}
+use Rattle.combine_base.specs.Error.Items.{ErrorItem}
 use Rattle.combine_base.specs.Parser.Outcome.{Outcome, Accepted, Refused, Undecided, shape, IsDecided}
 use Rattle.combine_base.specs.Parser.Meaning.{Meaning, Reading, Refusing, IsReading, IsSingle, IsMeaning, MeansOne, MeansSame, SameReasons}
 
@@ -19,8 +19,8 @@ is_not (Refused k) = Accepted tt 0 false
 is_not Undecided = Undecided
 
 -- the same outcome
-abbrev pub stays : {Value : Type 0} → Outcome Value → Outcome Value
-stays o = o
+abbrev pub same_outcome : {Value : Type 0} → Outcome Value → Outcome Value
+same_outcome o = o
 
 -- what a table keeps: what is undecided is undecided alone, an acceptance takes nothing or is one of as many tokens and the same kind, and outcomes of one shape go to one shape
 pub record IsTable {A B : Type 0} (f : Outcome A → Outcome B) : Type 0 where
@@ -87,7 +87,7 @@ not_shapes Undecided Undecided e = refl
 pub not_is_table : {V : Type 0} → IsTable (is_not {Value = V})
 not_is_table = record { undecided = not_undecided; decided = not_decided; counts = not_counts; shapes = not_shapes }
 
-pub stays_is_table : {V : Type 0} → IsTable (stays {Value = V})
+pub stays_is_table : {V : Type 0} → IsTable (same_outcome {Value = V})
 stays_is_table = record { undecided = λ o e. sym e; decided = λ o d. d; counts = λ o b n k e. inr (b, sym e); shapes = λ o o' e. e }
 
 module _ {P T A B : Type 0} (f : Outcome A → Outcome B) where
@@ -97,8 +97,8 @@ module _ {P T A B : Type 0} (f : Outcome A → Outcome B) where
     pub is : o ≡ f inner
 
   -- each call begins again
-  abbrev pub by_table : {R E S Z : Type 0} → Meaning P T R E A S → (List (Item T R) → Type 0) → Refusing P T E → Meaning P T R E B Z
-  by_table m adds refuses = record { whole = ByTable m.whole; rest = λ z. ByTable m.whole; lost = λ z v. ⊥; keeps = ⊥; puts_back = Unit {0}; lean = m.lean; adds = adds; refuses = refuses; refuses_from = λ z. refuses }
+  abbrev pub by_table : {R E S Z : Type 0} → Meaning P T R E A S → (List (ErrorItem T R) → Type 0) → Refusing P T E → Meaning P T R E B Z
+  by_table m adds refuses = record { whole = ByTable m.whole; rest = λ z. ByTable m.whole; lost = λ z v. ⊥; keeps = ⊥; puts_back = Unit {0}; heapless = m.heapless; adds = adds; refuses = refuses; refuses_from = λ z. refuses }
 
   module _ (t : IsTable f) where
     table_peeked : (r : Reading P T A) → IsReading r → (v : View P T) (b : B) (n : ℕ) (w : ByTable r v (Accepted b n false)) → (n ≡ 0) ⊎ ((a : A) × (w.inner ≡ Accepted a n false)) → n ≡ 0
@@ -120,7 +120,7 @@ module _ {P T A B : Type 0} (f : Outcome A → Outcome B) where
     table_is_single : (r : Reading P T A) → IsSingle r → IsSingle (ByTable r)
     table_is_single r h = record { one = λ v o o' w w'. ap shape w.is ∙ t.shapes w.inner w'.inner (h.one v w.inner w'.inner w.meant w'.meant) ∙ sym (ap shape w'.is) }
 
-    pub table_is_meaning : {R E S Z : Type 0} {fresh valid : S → Type 0} (fresh_too valid_too : Z → Type 0) {m : Meaning P T R E A S} (adds : List (Item T R) → Type 0) (refuses : Refusing P T E) → IsMeaning fresh valid m → IsMeaning fresh_too valid_too (by_table m adds refuses)
+    pub table_is_meaning : {R E S Z : Type 0} {fresh valid : S → Type 0} (fresh_too valid_too : Z → Type 0) {m : Meaning P T R E A S} (adds : List (ErrorItem T R) → Type 0) (refuses : Refusing P T E) → IsMeaning fresh valid m → IsMeaning fresh_too valid_too (by_table m adds refuses)
     table_is_meaning fresh_too valid_too {m} adds refuses h = record {
       whole = table_is_reading m.whole h.whole;
       rest = λ z d. table_is_reading m.whole h.whole;
@@ -129,20 +129,20 @@ module _ {P T A B : Type 0} (f : Outcome A → Outcome B) where
       reasons = λ z d v w k e. (λ x. x, λ x. x);
     }
 
-    pub table_means_one : {R E S Z : Type 0} {valid : S → Type 0} (valid_too : Z → Type 0) {m : Meaning P T R E A S} (adds : List (Item T R) → Type 0) (refuses : Refusing P T E) → MeansOne valid m → MeansOne valid_too (by_table m adds refuses)
+    pub table_means_one : {R E S Z : Type 0} {valid : S → Type 0} (valid_too : Z → Type 0) {m : Meaning P T R E A S} (adds : List (ErrorItem T R) → Type 0) (refuses : Refusing P T E) → MeansOne valid m → MeansOne valid_too (by_table m adds refuses)
     table_means_one valid_too {m} adds refuses h = record { whole = table_is_single m.whole h.whole; rest = λ z d. table_is_single m.whole h.whole }
 
   both_ways : (r r' : Reading P T A) → ((v : View P T) (o : Outcome A) → r v o ↔ r' v o) → (v : View P T) (o : Outcome B) → ByTable r v o ↔ ByTable r' v o
   both_ways r r' h v o = (λ w. record { inner = w.inner; meant = (h v w.inner).0 w.meant; is = w.is }, λ w. record { inner = w.inner; meant = (h v w.inner).1 w.meant; is = w.is })
 
-  pub table_means_same : {R E S Z : Type 0} {m m' : Meaning P T R E A S} (adds adds' : List (Item T R) → Type 0) (refuses refuses' : Refusing P T E) → MeansSame m m' → ((is : List (Item T R)) → adds is ↔ adds' is) → SameReasons refuses refuses' → MeansSame (by_table {Z = Z} m adds refuses) (by_table m' adds' refuses')
+  pub table_means_same : {R E S Z : Type 0} {m m' : Meaning P T R E A S} (adds adds' : List (ErrorItem T R) → Type 0) (refuses refuses' : Refusing P T E) → MeansSame m m' → ((is : List (ErrorItem T R)) → adds is ↔ adds' is) → SameReasons refuses refuses' → MeansSame (by_table {Z = Z} m adds refuses) (by_table m' adds' refuses')
   table_means_same {m} {m'} adds adds' refuses refuses' h a r = record {
     whole = both_ways m.whole m'.whole h.whole;
     rest = λ z. both_ways m.whole m'.whole h.whole;
     lost = λ z v. (λ x. x, λ x. x);
     keeps = (λ x. x, λ x. x);
     puts_back = (λ x. x, λ x. x);
-    lean = h.lean;
+    heapless = h.heapless;
     adds = a;
     refuses = r;
     refuses_from = λ z. r;

@@ -1,4 +1,4 @@
-//! Parsers that change what another parser answers: its value by a function, or its refusals.
+//! Parsers that change what another parser gives: its value by a function, or its refusals.
 #![tactic(auto)]
 
 pub mod combinator;

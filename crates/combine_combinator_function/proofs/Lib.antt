@@ -1,6 +1,6 @@
 pub mod Again
-pub mod Calling
-pub mod Changing
+pub mod FunctionCalls
+pub mod Changes
 pub mod Once
-pub mod Promised
-pub mod Refused
+pub mod PlainFunctions
+pub mod Unexpected

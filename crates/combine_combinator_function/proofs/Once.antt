@@ -2,51 +2,51 @@
 use Rattle.std.proofs.Common.{ℕ, ◌≤◌, ◌≡◌, ◌⊎◌, ◌||◌, inl, inr, Bool, true, false, arith, ap, sym, subst, refl, zero-add}
 use denote.Ref.{MutBor}
 use Rattle.std.proofs.lemmas.Bool.{false≢true}
-use Rattle.combine_base.specs.Error.Errors.{Errors}
+use Rattle.combine_base.specs.Error.Errors.{Observers}
 use Rattle.combine_base.specs.Error.Results.{from_standard, standard}
-use Rattle.combine_base.specs.Parser.Answer.{Accepts, Answers, Run, World, fails, world}
+use Rattle.combine_base.specs.Parser.Answer.{Accepts, Answers, CallRecord, World, fails, world}
 use Rattle.combine_base.specs.Parser.Drivers.{Starts, afresh}
 use Rattle.combine_base.specs.Parser.Meaning.{Meaning, Reading, IsReading}
 use Rattle.combine_base.specs.Parser.Outcome.{Accepted, Refused, Undecided}
-use Rattle.combine_base.specs.Refusals.{Told}
+use Rattle.combine_base.specs.Refusals.{IsRefusalOrMemory}
 use Rattle.combine_base.specs.Sequence.Parts.{joined_answer, refused_as}
 use Rattle.combine_base.specs.Sequence.Readings.{following, sequel}
 use Rattle.combine_base.specs.Stream.Calls.{Passes}
 use Rattle.combine_base.specs.Stream.View.{View}
-use Rattle.combine_base.proofs.Inside.{Inside, Keeps, inside_asks, inside_commits, inside_fails, inside_peeks, inside_refuses}
-use Rattle.combine_base.proofs.Progress.{Progress, progress_none, takes_none}
-use Rattle.combine_base.proofs.Same.{passes_more, passes_none}
-use Rattle.combine_base.proofs.SequenceResumes.{accepted_resumes}
-use Rattle.combine_base.proofs.Starting.{need_or_not}
+use Rattle.combine_base.proofs.Parsers.InnerCalls.{InsideCall, KeepsAround, inside_asks, inside_commits, inside_fails, inside_peeks, inside_refuses}
+use Rattle.combine_base.proofs.Parsers.Progress.{Progress, progress_none, takes_none}
+use Rattle.combine_base.proofs.Parsers.SameMeanings.{passes_more, passes_none}
+use Rattle.combine_base.proofs.Sequences.SequenceResumes.{accepted_resumes}
+use Rattle.combine_base.proofs.Parsers.CallStarts.{need_or_not}
 use Rattle.combine_base.specs.declared.error.ParseResult.{ParseResult}
 use Rattle.combine_base.specs.declared.error.ParseResult.TheVariants.{CommitOk, PeekOk, CommitErr, PeekErr}
 use Rattle.combine_base.specs.declared.error.Tracked.{Tracked}
 use Rattle.combine_base.specs.declared.stream.Failures.{Failures}
 use Rattle.combine_base.specs.declared.stream.Kind.TheVariants as kinds
 use Rattle.combine_combinator_function.specs.Functions.{AnswersAt, AnswersWith, IsFunction, KeepsLaws}
-use Rattle.combine_combinator_function.specs.Running.{run_keeps_laws}
+use Rattle.combine_combinator_function.specs.OneRun.{run_keeps_laws}
 use Rattle.combine_combinator_function.specs.Once.{RunsOnce, once, once_is_meaning}
 
-module _ {P T R E : Type 0} (step : P → T → P) (s : Errors T R P E) (steady : Type 0) where
+module _ {P T R E : Type 0} (step : P → T → P) (s : Observers T R P E) (counts_failures : Type 0) where
   abbrev w : {S : Type 0} → (S → Type 0) → World P T S E
-  w fresh = world step s steady fresh
+  w fresh = world step s counts_failures fresh
 
   abbrev w1 : World P T Bool E
-  w1 = world step s steady (λ s. s ≡ false)
+  w1 = world step s counts_failures (λ s. s ≡ false)
 
   -- a run that ends with one of a parser, which begins where a run before it stopped
-  module _ {A B S : Type 0} (fresh : S → Type 0) (m : Meaning P T R E A S) (lean : m.lean) (read : Reading P T B) (c : Bool) (here : Reading P T B) (old mid new : View P T) (f0 f1 f2 : Failures) (progress : Progress (w fresh) read here old mid f0 f1) (reads : f0.reads ≤ f1.reads) (resets : f0.resets ≤ f1.resets) (refused : (k : Bool) → m.whole mid (Refused k) → here mid (Refused (c || k))) (undecided : m.whole mid Undecided → here mid Undecided) where
+  module _ {A B S : Type 0} (fresh : S → Type 0) (m : Meaning P T R E A S) (heapless : m.heapless) (read : Reading P T B) (c : Bool) (here : Reading P T B) (old mid new : View P T) (f0 f1 f2 : Failures) (progress : Progress (w fresh) read here old mid f0 f1) (reads : f0.reads ≤ f1.reads) (resets : f0.resets ≤ f1.resets) (refused : (k : Bool) → m.whole mid (Refused k) → here mid (Refused (c || k))) (undecided : m.whole mid Undecided → here mid Undecided) where
     abbrev whole : Meaning P T R E B Bool
     whole = once {R = R} read
 
     module _ (from to : S) where
-      abbrev part : Run P T S
+      abbrev part : CallRecord P T S
       part = afresh (w fresh) m from to mid new f1 f2
 
-      abbrev within : (left : Bool) → Inside (w fresh) (λ s. s ≡ false) m whole part true false left old f0 c here
-      within left = record { progress = progress; reads = reads; resets = resets; refuses = refused; lean = λ l. lean; lost = λ e l. absurd (false≢true (sym e)) }
+      abbrev within : (left : Bool) → InsideCall (w fresh) (λ s. s ≡ false) m whole part true false left old f0 c here
+      within left = record { progress = progress; reads = reads; resets = resets; refuses = refused; heapless = λ l. heapless; lost = λ e l. absurd (false≢true (sym e)) }
 
-      keeping : Keeps (w fresh) (λ s. s ≡ false) m whole part true false true old f0 here progress.count
+      keeping : KeepsAround (w fresh) (λ s. s ≡ false) m whole part true false true old f0 here progress.count
       keeping = record { undecided = undecided; resumes = λ n t x. record { gives = λ y b o j k. absurd k; committed = λ y b o j l k. absurd k }; found = λ v x. absurd x; keeps = λ x. absurd x; puts_back = λ x. absurd x }
 
       error_inside : (e : E) → Answers (w fresh) m part (CommitErr e) → (left : Bool) × Answers w1 whole (afresh w1 whole false left old new f0 f2) (CommitErr e)
@@ -80,13 +80,13 @@ module _ {P T R E : Type 0} (step : P → T → P) (s : Errors T R P E) (steady 
 
   module _ {I C : Type 0} (view : I → View P T) (marks : I → C → View P T → Type 0) (failures : I → Failures) where
     abbrev Runs : {V : Type 0} → Reading P T V → I → I → ParseResult V E → Type 0
-    Runs read input left y = RunsOnce step s steady view marks failures read input left y
+    Runs read input left y = RunsOnce step s counts_failures view marks failures read input left y
 
     -- a parser that is run from its start
-    pub run_once : {A S : Type 0} (fresh : S → Type 0) (m : Meaning P T R E A S) (lean : m.lean) (input left : I) (y : ParseResult A E) → Passes (marks input) (marks left) (failures input) (failures left) → Starts (w fresh) m (view input) (view left) (failures input) (failures left) y → Runs m.whole input left y
-    run_once {A} fresh m lean input left y p a =
+    pub run_once : {A S : Type 0} (fresh : S → Type 0) (m : Meaning P T R E A S) (heapless : m.heapless) (input left : I) (y : ParseResult A E) → Passes (marks input) (marks left) (failures input) (failures left) → Starts (w fresh) m (view input) (view left) (failures input) (failures left) y → Runs m.whole input left y
+    run_once {A} fresh m heapless input left y p a =
         let none = progress_none (w fresh) m.whole (view input) (failures input) in
-        let x = ends_once fresh m lean m.whole false m.whole (view input) (view input) (view left) (failures input) (failures input) (failures left) none (omega arith) (omega arith) (λ k x. x) (λ x. x) (λ v. v) (λ v n k x. x) y a in
+        let x = ends_once fresh m heapless m.whole false m.whole (view input) (view input) (view left) (failures input) (failures input) (failures left) none (omega arith) (omega arith) (λ k x. x) (λ x. x) (λ v. v) (λ v n k x. x) y a in
         record { passes = p; answers = subst (λ z. Starts w1 (once {R = R} {E = E} m.whole) (view input) (view left) (failures input) (failures left) z) (as_it_is y) x }
 
     -- nothing is taken
@@ -97,16 +97,16 @@ module _ {P T R E : Type 0} (step : P → T → P) (s : Errors T R P E) (steady 
     }
 
     -- refused where it stands, saying why
-    pub refused_once : {V : Type 0} (read : Reading P T V) (input : I) (e : E) → read (view input) (Refused true) → Told s.kind s.frugal e → Runs read input input (CommitErr e)
+    pub refused_once : {V : Type 0} (read : Reading P T V) (input : I) (e : E) → read (view input) (Refused true) → IsRefusalOrMemory s.kind s.never_allocates e → Runs read input input (CommitErr e)
     refused_once {V} read input e x t = record {
       passes = passes_none (marks input) (failures input);
       answers = record { state = false; left = false; answers = record { is = by_kind t.is } };
     }
       where
-        run : Run P T Bool
+        run : CallRecord P T Bool
         run = afresh w1 (once {R = R} {E = E} read) false false (view input) (view input) (failures input) (failures input)
 
-        by_kind : (s.kind e ≡ kinds.Refused) ⊎ ((s.kind e ≡ kinds.Memory) × (s.frugal → ⊥)) → fails w1 (once {R = R} {E = E} read) run (s.kind e)
+        by_kind : (s.kind e ≡ kinds.Refused) ⊎ ((s.kind e ≡ kinds.Memory) × (s.never_allocates → ⊥)) → fails w1 (once {R = R} {E = E} read) run (s.kind e)
         by_kind (inl i) = rw i (record { meant = x; leaves = record { count = 0; taken = takes_none step (view input); state = refl }; failures = λ s. refl })
         by_kind (inr i) = rw i.0 (λ f l. i.1 f, record { count = 0; taken = takes_none step (view input); state = refl })
 
@@ -143,14 +143,14 @@ module _ {P T R E : Type 0} (step : P → T → P) (s : Errors T R P E) (steady 
         peeks_once x z = then_once false x.answers.state x.answers.left x.passes x.answers.answers.is z
 
     -- what such a run of a function keeps
-    keeps_once : {V : Type 0} (read : Reading P T V) → IsReading read → (given : I → ParseResult V E → I → Type 0) (input left : I) (y : ParseResult V E) → Runs read input left y → KeepsLaws step s.kind view given marks failures steady input left y
-    keeps_once read h given input left y x = run_keeps_laws s step view given marks failures steady (λ b. b ≡ false) (λ b. Unit {0}) (once {R = R} {E = E} read) (once_is_meaning read h) input left y x.passes x.answers
+    keeps_once : {V : Type 0} (read : Reading P T V) → IsReading read → (given : I → ParseResult V E → I → Type 0) (input left : I) (y : ParseResult V E) → Runs read input left y → KeepsLaws step s.kind view given marks failures counts_failures input left y
+    keeps_once read h given input left y x = run_keeps_laws s step view given marks failures counts_failures (λ b. b ≡ false) (λ b. Unit {0}) (once {R = R} {E = E} read) (once_is_meaning read h) input left y x.passes x.answers
 
     module _ {V X : Type 0} (into : X → ParseResult V E) where
-      pub plain_is_function : (read : Reading P T V) → IsReading read → (post : MutBor I → X → MutBor I → Type 0) → ((shown after : MutBor I) (own : X) → post shown own after → Runs read shown.now after.now (into own)) → IsFunction step s.kind view (AnswersAt post into) marks failures steady
+      pub plain_is_function : (read : Reading P T V) → IsReading read → (post : MutBor I → X → MutBor I → Type 0) → ((shown after : MutBor I) (own : X) → post shown own after → Runs read shown.now after.now (into own)) → IsFunction step s.kind view (AnswersAt post into) marks failures counts_failures
       plain_is_function read h post k = record { each = λ input left y a. keeps_once read h (AnswersAt post into) input left y (rw (a.is, sym a.given, sym a.leaves) (k a.shown a.after a.own a.met)) }
 
-      pub env_is_function : {Env : Type 0} (clone : Env → Type 0) (read : Env → Reading P T V) → ((e : Env) → IsReading (read e)) → (post : Env → MutBor I → X → MutBor I → Type 0) → ((e : Env) (shown after : MutBor I) (own : X) → post e shown own after → Runs (read e) shown.now after.now (into own)) → IsFunction step s.kind view (AnswersWith clone post into) marks failures steady
+      pub env_is_function : {Env : Type 0} (clone : Env → Type 0) (read : Env → Reading P T V) → ((e : Env) → IsReading (read e)) → (post : Env → MutBor I → X → MutBor I → Type 0) → ((e : Env) (shown after : MutBor I) (own : X) → post e shown own after → Runs (read e) shown.now after.now (into own)) → IsFunction step s.kind view (AnswersWith clone post into) marks failures counts_failures
       env_is_function clone read h post k = record { each = λ input left y a. keeps_once (read a.env) (h a.env) (AnswersWith clone post into) input left y (let b = a.answers in rw (b.is, sym b.given, sym b.leaves) (k a.env b.shown b.after b.own b.met)) }
 
 pub standard_back : {V E : Type 0} (y : ParseResult V E) → from_standard (standard y) ≡ y

@@ -5,8 +5,8 @@ use Rattle.std.specs.Prelude.{ℕ, codes, ◌≡◌, ◌⊎◌, ◌↔◌, refl,
 use Rattle.std.proofs.Common.{ap, sym, subst, inl, inr}
 use Rattle.combine_base.specs.Stream.View.{View, Takes, advanced, extended}
 use Rattle.combine_base.specs.Stream.Advance.{advanced_extended}
-use Rattle.combine_base.specs.Error.Errors.{Errors, New, Only, Says}
-use Rattle.combine_base.specs.Error.Items.{Item, Expected, Fixed, Message}
+use Rattle.combine_base.specs.Error.Errors.{Observers, New, Only, AddsItems}
+use Rattle.combine_base.specs.Error.Items.{ErrorItem, Expected, Fixed, Message}
 use Rattle.combine_base.specs.Stream.Calls.{Passes}
 use Rattle.combine_base.specs.declared.stream.Failures.{Failures}
 use Rattle.combine_base.specs.Parser.Outcome.{Outcome, Accepted, Refused, Undecided, IsDecided, shape}
@@ -15,10 +15,10 @@ use Rattle.combine_base.specs.declared.stream.Kind.{Kind}
 use Rattle.combine_base.specs.declared.stream.Kind.TheVariants as kinds
 
 -- what changing one value answers: what it gives, or the error of a refusal, or want of memory, of which an item of that error may be the reason
-module _ {T R P E B : Type 0} (s : Errors T R P E) (gives : B → Type 0) (denies starves : Type 0) (says : E → Type 0) where
+module _ {T R P E B : Type 0} (s : Observers T R P E) (gives : B → Type 0) (denies starves : Type 0) (says : E → Type 0) where
   abbrev pub changes : Result B E → Type 0
   changes (Ok b) = gives b
-  changes (Err e) = ((s.kind e ≡ kinds.Refused) × denies × says e) ⊎ ((s.kind e ≡ kinds.Memory) × (s.frugal → starves))
+  changes (Err e) = ((s.kind e ≡ kinds.Refused) × denies × says e) ⊎ ((s.kind e ≡ kinds.Memory) × (s.never_allocates → starves))
 
   pub record Changes (result : Result B E) : Type 0 where
     pub is : changes result
@@ -55,7 +55,7 @@ module _ {P T A E : Type 0} (step : P → T → P) (says : P → A → E → Typ
   )
 
 -- a value that is accepted there is refused
-pub record Denied {P T A : Type 0} (denies : A → Type 0) (r : Reading P T A) (v : View P T) (committed : Bool) : Type 0 where
+pub record DeniedValue {P T A : Type 0} (denies : A → Type 0) (r : Reading P T A) (v : View P T) (committed : Bool) : Type 0 where
   pub value : A
   pub count : ℕ
   pub accepted : r v (Accepted value count committed)
@@ -74,17 +74,17 @@ module _ {P T A B : Type 0} (step : P → T → P) (gives : P → A → B → Ty
   -- a value that is accepted is changed, or refused with the same kind
   abbrev pub changed_reading : Reading P T A → Reading P T B
   changed_reading r v (Accepted b n k) = (a : A) × r v (Accepted a n k) × gives (advanced step n v).position a b
-  changed_reading r v (Refused k) = r v (Refused k) ⊎ Denied denies r v k
+  changed_reading r v (Refused k) = r v (Refused k) ⊎ DeniedValue denies r v k
   changed_reading r v Undecided = r v Undecided
 
-  abbrev pub changed : {R E S : Type 0} → (P → A → E → Type 0) → Type 0 → Meaning P T R E A S → Meaning P T R E B S
-  changed says spared m = record {
+  abbrev pub changed_meaning : {R E S : Type 0} → (P → A → E → Type 0) → Type 0 → Meaning P T R E A S → Meaning P T R E B S
+  changed_meaning says spared m = record {
     whole = changed_reading m.whole;
     rest = λ s. changed_reading (m.rest s);
     lost = m.lost;
     keeps = m.keeps;
     puts_back = m.puts_back;
-    lean = m.lean × spared;
+    heapless = m.heapless × spared;
     adds = m.adds;
     refuses = RefusesChanged step says m.whole (refusals m);
     refuses_from = λ s. RefusesChanged step says (m.rest s) (refusals_from m s);
@@ -134,7 +134,7 @@ module _ {P T A B : Type 0} (step : P → T → P) (gives : P → A → B → Ty
   both_ways r t h v o = (into r t (λ v o. (h v o).0) v o, into t r (λ v o. (h v o).1) v o)
 
   module _ {R E S : Type 0} (says : P → A → E → Type 0) (spared : Type 0) where
-    pub changed_is_meaning : {fresh valid : S → Type 0} {m : Meaning P T R E A S} → IsMeaning fresh valid m → IsMeaning fresh valid (changed says spared m)
+    pub changed_is_meaning : {fresh valid : S → Type 0} {m : Meaning P T R E A S} → IsMeaning fresh valid m → IsMeaning fresh valid (changed_meaning says spared m)
     changed_is_meaning {fresh} {valid} {m} h = record {
       whole = changed_is_reading m.whole h.whole;
       rest = λ s k. changed_is_reading (m.rest s) (h.rest s k);
@@ -143,20 +143,20 @@ module _ {P T A B : Type 0} (step : P → T → P) (gives : P → A → B → Ty
       reasons = λ s d. refused_same step says (m.rest s) m.whole (refusals_from m s) (refusals m) (λ v o. h.start s v o d) (refusals_begin h s d);
     }
 
-    pub changed_means_one : {valid : S → Type 0} {m : Meaning P T R E A S} → MeansOne valid m → ChangesOne step valid m gives denies → MeansOne valid (changed says spared m)
+    pub changed_means_one : {valid : S → Type 0} {m : Meaning P T R E A S} → MeansOne valid m → ChangesOne step valid m gives denies → MeansOne valid (changed_meaning says spared m)
     changed_means_one {valid} {m} h d = record {
       whole = record { one = changed_one m.whole h.whole d.whole };
       rest = λ s k. record { one = changed_one (m.rest s) (h.rest s k) (d.rest s k) };
     }
 
-  pub changed_means_same : {R E S : Type 0} (says : P → A → E → Type 0) {spared spared' : Type 0} {m m' : Meaning P T R E A S} → spared ↔ spared' → MeansSame m m' → MeansSame (changed says spared m) (changed says spared' m')
+  pub changed_means_same : {R E S : Type 0} (says : P → A → E → Type 0) {spared spared' : Type 0} {m m' : Meaning P T R E A S} → spared ↔ spared' → MeansSame m m' → MeansSame (changed_meaning says spared m) (changed_meaning says spared' m')
   changed_means_same says {spared} {spared'} {m} {m'} i h = record {
     whole = both_ways m.whole m'.whole h.whole;
     rest = λ s. both_ways (m.rest s) (m'.rest s) (h.rest s);
     lost = h.lost;
     keeps = h.keeps;
     puts_back = h.puts_back;
-    lean = (λ x. (h.lean.0 x.0, i.0 x.1), λ x. (h.lean.1 x.0, i.1 x.1));
+    heapless = (λ x. (h.heapless.0 x.0, i.0 x.1), λ x. (h.heapless.1 x.0, i.1 x.1));
     adds = h.adds;
     refuses = refused_same step says m.whole m'.whole (refusals m) (refusals m') h.whole (refusals_same h);
     refuses_from = λ s. refused_same step says (m.rest s) (m'.rest s) (refusals_from m s) (refusals_from m' s) (h.rest s) (refusals_from_same h s);
@@ -187,17 +187,17 @@ pub record AnsweredItem {A B E I : Type 0} (kind : I → Kind) (post : A → Res
   pub kind_is : kind item ≡ why
 
 -- an error made at that place of what the function answered
-pub record MadeOf {T R P E A B X I : Type 0} (s : Errors T R P E) (items : I → List (Item T R)) (post : A → Result B X → Type 0) (turned : X → I → Type 0) (place : P) (a : A) (e : E) : Type 0 where
+pub record MadeOf {T R P E A B X I : Type 0} (s : Observers T R P E) (items : I → List (ErrorItem T R)) (post : A → Result B X → Type 0) (turned : X → I → Type 0) (place : P) (a : A) (e : E) : Type 0 where
   pub why : X
   pub item : I
   pub met : post a (Err why)
   pub turns : turned why item
   pub own : E
   pub new : New s kinds.Refused place own
-  pub said : Says s (Unit {0}) (λ is. is ≡ items item) own e
+  pub said : AddsItems s (Unit {0}) (λ is. is ≡ items item) own e
 
 -- a function that leaves the stream in place, as it answers for a value
-pub record InPlace {I P T B C V : Type 0} (view : I → View P T) (marks : I → C → V → Type 0) (failures : I → Failures) (post : MutBor I → B → MutBor I → Type 0) : Type 0 where
+pub record AnswerLeavesStream {I P T B C V : Type 0} (view : I → View P T) (marks : I → C → V → Type 0) (failures : I → Failures) (post : MutBor I → B → MutBor I → Type 0) : Type 0 where
   pub kept : (i : MutBor I) (b : B) (l : MutBor I) → post i b l → (view l.now ≡ view i.now) × Passes (marks i.now) (marks l.now) (failures i.now) (failures l.now) × (failures l.now ≡ failures i.now)
 
 -- what a function may answer for a value, at a stream that stands there
@@ -212,11 +212,11 @@ abbrev pub Misread : {N E : Type 0} → (List ℕ → Result N E → Type 0) →
 Misread {N} {E} gives bytes = (IsUtf8 bytes → ⊥) ⊎ ((e : E) × gives bytes (Err e))
 
 -- what is said of them: that UTF-8 was expected, or that the value is invalid
-abbrev pub unreadable : {N E T R : Type 0} → (List ℕ → Result N E → Type 0) → List ℕ → List (Item T R) → Type 0
+abbrev pub unreadable : {N E T R : Type 0} → (List ℕ → Result N E → Type 0) → List ℕ → List (ErrorItem T R) → Type 0
 unreadable {N} {E} gives bytes is = ((IsUtf8 bytes → ⊥) × Only (Expected (Fixed (codes "UTF-8"))) is) ⊎ (((e : E) × gives bytes (Err e)) × Only (Message (Fixed (codes "invalid value"))) is)
 
 -- an error made at that place that says such items
-pub record MadeSaying {T R P E : Type 0} (s : Errors T R P E) (says : List (Item T R) → Type 0) (place : P) (e : E) : Type 0 where
+pub record MadeSaying {T R P E : Type 0} (s : Observers T R P E) (says : List (ErrorItem T R) → Type 0) (place : P) (e : E) : Type 0 where
   pub own : E
   pub new : New s kinds.Refused place own
-  pub said : Says s (Unit {0}) says own e
+  pub said : AddsItems s (Unit {0}) says own e

@@ -4,7 +4,7 @@ use Rattle.std.proofs.Common.{arith, ap, subst, inl, inr, append_assoc, length-a
 use denote.Ref.{MutBor}
 use Rattle.combine_base.specs.Stream.View.{View, Takes, Moves, extended}
 use Rattle.combine_base.specs.Stream.Calls.{Passes}
-use Rattle.combine_base.specs.Error.Errors.{Nothing}
+use Rattle.combine_base.specs.Error.Errors.{AddsNothing}
 use Rattle.combine_base.specs.Parser.Outcome.{Outcome, Accepted, Refused, Undecided, IsDecided}
 use Rattle.combine_base.specs.Parser.Meaning.{Meaning, IsReading, IsSingle, IsMeaning, MeansOne}
 use Rattle.combine_base.specs.declared.stream.Kind.{Kind}
@@ -12,14 +12,14 @@ use Rattle.combine_base.specs.declared.stream.Kind.TheVariants as kinds
 use Rattle.combine_base.specs.declared.stream.Failures.{Failures}
 use Rattle.combine_base.specs.declared.error.ParseResult.{ParseResult}
 use Rattle.combine_base.specs.declared.error.ParseResult.TheVariants.{CommitOk, PeekOk, CommitErr, PeekErr}
-use Rattle.combine_token.specs.Stateless.{stateless, stateless_is_meaning, stateless_means_one}
+use Rattle.combine_token.specs.Token.Stateless.{stateless, stateless_is_meaning, stateless_means_one}
 use Rattle.combine_combinator_function.specs.declared.function.types.Called.{Called}
-use Rattle.combine_combinator_function.specs.declared.function.types.Plain.{Plain}
+use Rattle.combine_combinator_function.specs.declared.function.types.WithoutEnv.{WithoutEnv}
 use Rattle.combine_combinator_function.specs.declared.function.types.WithEnv.{WithEnv}
 
 -- the parsers of this module, of their parts
-abbrev pub parser_of : {Input F : Type 0} → F → Called Input (Plain F)
-parser_of f = record { call = record { 0 = f }; reads = record {} }
+abbrev pub function_parser : {Input F : Type 0} → F → Called Input (WithoutEnv F)
+function_parser f = record { call = record { 0 = f }; reads = record {} }
 
 abbrev pub env_parser_of : {Input E F : Type 0} → E → F → Called Input (WithEnv E F)
 env_parser_of env f = record { call = record { env = env; function = f }; reads = record {} }
@@ -97,7 +97,7 @@ module _ {P T V E : Type 0} (step : P → T → P) (kind : E → Kind) (old new 
   accepted_within (PeekErr t) a n k p = absurd (cc)
 
 -- a list that goes on from an open one
-pub record GoesOn {P T : Type 0} (u v : View P T) : Type 0 where
+pub record ExtendsOpen {P T : Type 0} (u v : View P T) : Type 0 where
   pub is_open : u.is_open ≡ true
   pub more : List T
   pub mark : Bool
@@ -111,19 +111,19 @@ module _ {I P T V E : Type 0} (step : P → T → P) (kind : E → Kind) (view :
     pub answer : ParseResult V E
     pub met : answers input answer left
     pub stands : answer_outcome step kind (view input) (view left) answer o
-    pub place : (v ≡ view input) ⊎ (IsDecided o × GoesOn (view input) v)
+    pub place : (v ≡ view input) ⊎ (IsDecided o × ExtendsOpen (view input) v)
 
-  goes_further : (u v : View P T) (x : List T) (m : Bool) → v.is_open ≡ true → GoesOn u v → GoesOn u (extended x m v)
+  goes_further : (u v : View P T) (x : List T) (m : Bool) → v.is_open ≡ true → ExtendsOpen u v → ExtendsOpen u (extended x m v)
   goes_further u v x m e g = record { is_open = g.is_open; more = g.more ++ x; mark = m; is = ap (extended x m) g.is ∙ ap (λ us. record { position = u.position; unread = us; is_open = m }) (append_assoc u.unread g.more x) }
 
-  placed : (u v : View P T) (o : Outcome V) (x : List T) (m : Bool) → v.is_open ≡ true → IsDecided o → (v ≡ u) ⊎ (IsDecided o × GoesOn u v) → (extended x m v ≡ u) ⊎ (IsDecided o × GoesOn u (extended x m v))
+  placed : (u v : View P T) (o : Outcome V) (x : List T) (m : Bool) → v.is_open ≡ true → IsDecided o → (v ≡ u) ⊎ (IsDecided o × ExtendsOpen u v) → (extended x m v ≡ u) ⊎ (IsDecided o × ExtendsOpen u (extended x m v))
   placed u v o x m e d (inl p) = inr (d, record { is_open = subst (λ (w : View P T). w.is_open ≡ true) p e; more = x; mark = m; is = ap (extended x m) p })
   placed u v o x m e d (inr p) = inr (d, goes_further u v x m e p.1)
 
   ended : (v : View P T) → v.is_open ≡ false → FunctionReading v Undecided → ⊥
   ended v e p = by_place p.place
     where
-      by_place : (v ≡ view p.input) ⊎ (⊥ × GoesOn (view p.input) v) → ⊥
+      by_place : (v ≡ view p.input) ⊎ (⊥ × ExtendsOpen (view p.input) v) → ⊥
       by_place (inl q) =
           let o = undecided_open step kind (view p.input) (view p.left) p.answer p.stands in
           let c = subst (λ (w : View P T). w.is_open ≡ false) q e in
@@ -136,7 +136,7 @@ module _ {I P T V E : Type 0} (step : P → T → P) (kind : E → Kind) (view :
       few : n ≤ length (view p.input).unread
       few = accepted_within step kind (view p.input) (view p.left) p.answer a n k p.stands
 
-      by_place : (v ≡ view p.input) ⊎ (Unit {0} × GoesOn (view p.input) v) → n ≤ length v.unread
+      by_place : (v ≡ view p.input) ⊎ (Unit {0} × ExtendsOpen (view p.input) v) → n ≤ length v.unread
       by_place (inl q) = rw q few
       by_place (inr q) =
           let e : length v.unread ≡ length ((view p.input).unread ++ q.1.more) = ap (λ (w : View P T). length w.unread) q.1.is in
@@ -151,24 +151,24 @@ module _ {I P T V E : Type 0} (step : P → T → P) (kind : E → Kind) (view :
     within = within;
   }
 
-  module _ {C : Type 0} (marks : I → C → View P T → Type 0) (failures : I → Failures) (steady : Type 0) where
+  module _ {C : Type 0} (marks : I → C → View P T → Type 0) (failures : I → Failures) (counts_failures : Type 0) where
     module _ (input left : I) where
       -- some tokens were taken, or none, and no failure came
-      pub record Settled : Type 0 where
+      pub record MovesUnfailing : Type 0 where
         pub moves : Moves step (view input) (view left)
-        pub counts : steady → failures left ≡ failures input
+        pub counts : counts_failures → failures left ≡ failures input
 
       abbrev pub keeps_error : Kind → Type 0
-      keeps_error kinds.Refused = Settled
-      keeps_error kinds.End = Settled
+      keeps_error kinds.Refused = MovesUnfailing
+      keeps_error kinds.End = MovesUnfailing
       keeps_error kinds.Memory = Moves step (view input) (view left)
       keeps_error kinds.Read = ((failures input).reads < (failures left).reads) × Moves step (view input) (view left)
       keeps_error kinds.Reset = ((failures input).resets < (failures left).resets) × Moves step (view input) (view left)
       keeps_error kinds.Lost = ⊥
 
       abbrev pub keeps_peek : Kind → Type 0
-      keeps_peek kinds.Refused = Settled
-      keeps_peek kinds.End = ((view input).is_open ≡ false) × Settled
+      keeps_peek kinds.Refused = MovesUnfailing
+      keeps_peek kinds.End = ((view input).is_open ≡ false) × MovesUnfailing
       keeps_peek kinds.Memory = ⊥
       keeps_peek kinds.Read = ⊥
       keeps_peek kinds.Reset = ⊥
@@ -176,8 +176,8 @@ module _ {I P T V E : Type 0} (step : P → T → P) (kind : E → Kind) (view :
 
       -- a peeked acceptance takes nothing, a fault is committed, and a failed read or reset is counted
       abbrev pub keeps_laws : ParseResult V E → Type 0
-      keeps_laws (CommitOk a) = Settled
-      keeps_laws (PeekOk a) = (view left ≡ view input) × (steady → failures left ≡ failures input)
+      keeps_laws (CommitOk a) = MovesUnfailing
+      keeps_laws (PeekOk a) = (view left ≡ view input) × (counts_failures → failures left ≡ failures input)
       keeps_laws (CommitErr e) = keeps_error (kind e)
       keeps_laws (PeekErr t) = keeps_peek (kind t.error)
 
@@ -210,13 +210,13 @@ module _ {I P T V E : Type 0} (view : I → View P T) (answers : I → ParseResu
     pub leaves : view left ≡ w
     pub refused : refused_by answer committed e
 
-module _ {I P T R V S E : Type 0} (step : P → T → P) (kind : E → Kind) (view : I → View P T) (answers : I → ParseResult V E → I → Type 0) (lean : Type 0) where
+module _ {I P T R V S E : Type 0} (step : P → T → P) (kind : E → Kind) (view : I → View P T) (answers : I → ParseResult V E → I → Type 0) (heapless : Type 0) where
   -- each call begins again
   abbrev pub as_function : Meaning P T R E V S
-  as_function = stateless (FunctionReading step kind view answers) ⊥ lean Nothing (RefusesCalled view answers)
+  as_function = stateless (FunctionReading step kind view answers) ⊥ heapless AddsNothing (RefusesCalled view answers)
 
   pub as_function_is_meaning : (fresh valid : S → Type 0) → IsMeaning fresh valid as_function
-  as_function_is_meaning fresh valid = stateless_is_meaning fresh valid (FunctionReading step kind view answers) ⊥ lean Nothing (RefusesCalled view answers) (function_is_reading step kind view answers)
+  as_function_is_meaning fresh valid = stateless_is_meaning fresh valid (FunctionReading step kind view answers) ⊥ heapless AddsNothing (RefusesCalled view answers) (function_is_reading step kind view answers)
 
   pub as_function_means_one : (valid : S → Type 0) → IsSingle (FunctionReading step kind view answers) → MeansOne valid as_function
-  as_function_means_one valid h = stateless_means_one valid (FunctionReading step kind view answers) ⊥ lean Nothing (RefusesCalled view answers) h
+  as_function_means_one valid h = stateless_means_one valid (FunctionReading step kind view answers) ⊥ heapless AddsNothing (RefusesCalled view answers) h

@@ -1,6 +1,6 @@
 //! Parsers that always refuse.
 ghost use Rattle.std.specs.Prelude.{◌≡◌};
-ghost use Rattle.combine_combinator_function.specs.Refusing.{unexpected_of};
+ghost use Rattle.combine_combinator_function.specs.Unexpected.{unexpected_of};
 
 pub mod types;
 
@@ -9,7 +9,23 @@ use combine_base::stream::StreamOnce;
 use std::marker::PhantomData;
 use types::Unexpected;
 
-/// Refuses everywhere, peeked, and reads nothing; errors say that this was not expected. Its value would be `()`.
+/// Refuses everywhere, peeked, and reads nothing.
+///
+/// Its value would be `()`.
+///
+/// # Errors
+///
+/// They say that this was not expected.
+///
+/// # Examples
+///
+/// ```
+/// fn only_a(input: &[u8]) -> Result<(u8, &[u8]), UnexpectedParse> {
+///     or(token(b'a'), unexpected_any("another letter")).parse(input)
+/// }
+/// ```
+///
+/// On `b"a"` it returns `(b'a', b"")`; `b"b"` is refused peeked.
 pub fn unexpected<Input: StreamOnce, S: Into<Info<Input::Token, Input::Range>>>(
     message: S,
 ) -> Unexpected<Input, (), Info<Input::Token, Input::Range>>

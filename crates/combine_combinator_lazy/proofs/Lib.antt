@@ -1,2 +1,2 @@
-mod Making
+mod MadeAnswers
 pub mod OneMade

@@ -2,5 +2,5 @@ pub use Rattle.combine_base.specs.Error.Errors
 pub use Rattle.combine_base.specs.Parser.Meaning
 pub use Rattle.combine_base.specs.Parser.Outcome
 pub use Rattle.combine_base.specs.Stream.View
-pub mod Calling
-pub mod Made
+pub mod MadeCalls
+pub mod MadeParsers

@@ -1,15 +1,37 @@
-//! Parsers that a maker answers.
+//! Parsers that a maker returns.
 ghost use Rattle.std.specs.Prelude.{◌≡◌};
-ghost use Rattle.combine_combinator_lazy.specs.Made.{factory_of, lazy_of};
+ghost use Rattle.combine_combinator_lazy.specs.MadeParsers.{factory_of, lazy_of};
 
 pub(crate) mod made;
 pub mod types;
 
 use types::{Factory, Lazy};
 
-/// Parses as the parser that `maker` answers, which is asked where a call begins.
+/// Parses as the parser that `maker` returns, which is called where a parse begins.
 ///
-/// The state keeps the parser that it answered, and its state: after need of more the next call goes on with that one, and the maker isn't asked again, as it is in the crate. What is added to an error is what a parser of its adds, for which it is asked once more. Every parser that `maker` may answer has to be lawful; where they have one outcome, there is one. The crate takes an `FnMut`.
+/// Every parser that `maker` may return has to be lawful; where they have one outcome, there is one.
+///
+/// # Errors
+///
+/// What is added to an error is what a parser of the maker adds, for which the maker is called once more.
+///
+/// # Partial input
+///
+/// The state keeps the parser and its state. After need of more the next call goes on with that one, and the maker isn't asked again.
+///
+/// # Differences from combine
+///
+/// `maker` is an `Fn`, where the crate takes an `FnMut`, and asks it again on resumption.
+///
+/// # Examples
+///
+/// ```
+/// fn pair(input: &[u8]) -> Result<((u8, u8), &[u8]), UnexpectedParse> {
+///     lazy(|| (token(b'a'), token(b'b'))).parse(input)
+/// }
+/// ```
+///
+/// On `b"abc"` it returns `((b'a', b'b'), b"c")`.
 #[inline]
 pub fn lazy<F>(maker: F) -> Lazy<F>
     ensures { result ≡ lazy_of maker }
@@ -17,9 +39,38 @@ pub fn lazy<F>(maker: F) -> Lazy<F>
     Lazy(maker)
 }
 
-/// Parses as the parser that `maker` answers for the stream where a call begins.
+/// Parses as the parser that `maker` returns for the stream where a parse begins.
 ///
-/// The maker leaves the stream in place. A call that begins afresh parses as [`make_and_parse`](crate::laws::make_and_parse) does. The parser that it answered is kept as by `lazy`, in the state, where the crate keeps it in the parser. Nothing is added to an error: in the crate it is what the last parser adds. The crate takes an `FnMut`.
+/// The maker leaves the stream in place. A call that begins afresh parses as [`make_and_parse`](crate::laws::make_and_parse) does.
+///
+/// # Errors
+///
+/// Nothing is added to an error.
+///
+/// # Partial input
+///
+/// The state keeps the parser that the maker returned, as by `lazy`.
+///
+/// # Differences from combine
+///
+/// - `maker` is an `Fn`, where the crate takes an `FnMut`.
+/// - The crate keeps the parser in itself, and adds to an error what its last parser adds.
+///
+/// # Examples
+///
+/// ```
+/// fn an_a<Input>(_input: &mut Input) -> Token<Input, u8>
+///     ensures { _input.new ≡ _input.old }
+/// {
+///     token(b'a')
+/// }
+///
+/// fn placed_a(input: &[u8]) -> Result<(u8, &[u8]), UnexpectedParse> {
+///     factory(an_a).parse(input)
+/// }
+/// ```
+///
+/// On `b"ab"` it returns `(b'a', b"b")`.
 #[inline]
 pub fn factory<F>(maker: F) -> Factory<F>
     ensures { result ≡ factory_of maker }

@@ -1,7 +1,7 @@
 //! By which parser a `factory` parses.
 ghost use Rattle.std.specs.Prelude.{◌≡◌};
-ghost use Rattle.combine_combinator_lazy.specs.Calling.{ParsesMade};
-ghost use Rattle.combine_combinator_lazy.specs.Made.{factory_maker};
+ghost use Rattle.combine_combinator_lazy.specs.MadeCalls.{ParsesMade};
+ghost use Rattle.combine_combinator_lazy.specs.MadeParsers.{factory_maker};
 
 use crate::combinator::made::{MadeState, make_and_run};
 use crate::combinator::types::Factory;
@@ -9,16 +9,18 @@ use combine_base::error::ParseResult;
 use combine_base::parser::{FirstMode, Parser};
 use combine_base::stream::Stream;
 
-/// Parses from the start as the parser that the maker of a `factory` answers for this very stream. The `factory` is lawful: its maker may always be called, and what it answers is lawful.
+/// Parses from the start as the parser that the maker of a `factory` returns for this very stream.
 ///
-/// What `factory` means on a view allows for each stream that stands so, and for open beginnings of it; where the makers' parsers differ, that is more than one outcome. This says which is answered. Every call of a `factory` that begins afresh runs the same code.
+/// The `factory` is lawful: its maker may always be called, and what it returns is lawful.
+///
+/// What `factory` means on a view allows for each stream that stands so, and for open beginnings of it. If the makers' parsers differ, that is more than one outcome. This says which comes. Every call of a `factory` that begins afresh runs the same code.
 #[inline]
 pub fn make_and_parse<Input: Stream, N: Parser<Input> + Drop, F: Fn(&mut Input) -> N>(
     factory: &Factory<F>,
     input: &mut Input,
 ) -> ParseResult<N::Output, Input::Error>
     requires { ⟦<Factory<F> as Parser<Input>>⟧.lawful factory.now }
-    ensures { ParsesMade N.Parser Input.StreamOnce Input.Error.seen N.PartialState.is_default (λ i n l. F.post (factory_maker factory.now) i n l) input.old input.new result }
+    ensures { ParsesMade N.Parser Input.StreamOnce Input.Error.observers N.PartialState.is_default (λ i n l. F.post (factory_maker factory.now) i n l) input.old input.new result }
 {
     let mut state = MadeState::Unmade;
     make_and_run(&factory.0, FirstMode, input, &mut state)

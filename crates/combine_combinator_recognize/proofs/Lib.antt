@@ -1,2 +1,2 @@
-mod Gathering
-mod Recognizing
+mod TokenCollection
+mod RecognizedAnswers

@@ -1,4 +1,4 @@
 pub use Rattle.combine_base.specs.Parser.Meaning
 pub use Rattle.combine_base.specs.Parser.Outcome
 pub use Rattle.combine_base.specs.Stream.View
-pub mod Gathered
+pub mod RecognizedTokens

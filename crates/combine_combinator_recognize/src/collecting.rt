@@ -2,14 +2,16 @@
 ghost use Rattle.std.specs.Prelude.{◌≡◌};
 ghost use Rattle.combine_base.specs.Stream.Calls.{Passes};
 ghost use Rattle.combine_base.specs.Stream.View.{Takes};
-ghost use Rattle.combine_combinator_recognize.specs.Gathered.{Collects};
+ghost use Rattle.combine_combinator_recognize.specs.RecognizedTokens.{CollectsTokens};
 
 use combine_base::repeat::Append;
 use combine_base::stream::{Kind, Stream};
 
 /// Takes the tokens up to that position, and appends them.
 ///
-/// `Read` where a read failed, and `Memory` where the collection could not grow; some tokens are then taken.
+/// # Errors
+///
+/// `Read` if a read fails, and `Memory` if the collection can't grow. Some tokens are then taken.
 #[inline]
 fn collect_to<Input: Stream, F: Append<Input::Token>>(
     input: &mut Input,
@@ -17,7 +19,7 @@ fn collect_to<Input: Stream, F: Append<Input::Token>>(
     into: F,
 ) -> Result<F, Kind>
     ensures passes { Passes (Input.marks input.old) (Input.marks input.new) (Input.failures input.old) (Input.failures input.new) }
-    ensures collects { (n : _) (v : _) → Takes Input.step n (Input.view input.old) v → end ≡ v.position → Collects Input.steady Input.step F.held F.more F.lean into (Input.view input.old) (Input.view input.new) (Input.failures input.old) (Input.failures input.new) n result }
+    ensures collects { (n : _) (v : _) → Takes Input.step n (Input.view input.old) v → end ≡ v.position → CollectsTokens Input.counts_failures Input.step F.held F.more F.heapless into (Input.view input.old) (Input.view input.new) (Input.failures input.old) (Input.failures input.new) n result }
 {
     let mut into = into;
     'tokens: while input.position().cmp(&end).is_lt() {
@@ -31,7 +33,9 @@ fn collect_to<Input: Stream, F: Append<Input::Token>>(
 
 /// Puts the stream back to the checkpoint, and takes the tokens from there to where it was once more: they are appended.
 ///
-/// `Reset` where it could not be put back, `Read` where a read failed, and `Memory` where the collection could not grow.
+/// # Errors
+///
+/// `Reset` if the stream can't be put back, `Read` if a read fails, and `Memory` if the collection can't grow.
 #[inline]
 pub fn collect_since<Input: Stream, F: Append<Input::Token>>(
     input: &mut Input,
@@ -39,7 +43,7 @@ pub fn collect_since<Input: Stream, F: Append<Input::Token>>(
     into: F,
 ) -> Result<F, Kind>
     ensures passes { Passes (Input.marks input.old) (Input.marks input.new) (Input.failures input.old) (Input.failures input.new) }
-    ensures collects { (n : _) (v : _) → Input.stands input.old start v → Takes Input.step n v (Input.view input.old) → Collects Input.steady Input.step F.held F.more F.lean into v (Input.view input.new) (Input.failures input.old) (Input.failures input.new) n result }
+    ensures collects { (n : _) (v : _) → Input.stands input.old start v → Takes Input.step n v (Input.view input.old) → CollectsTokens Input.counts_failures Input.step F.held F.more F.heapless into v (Input.view input.new) (Input.failures input.old) (Input.failures input.new) n result }
 {
     let end = input.position();
     input.reset(start)?;

@@ -1,1 +1,1 @@
-mod Spanning
+mod SpannedAnswers

@@ -2,4 +2,4 @@ pub use Rattle.combine_base.specs.Error.Errors
 pub use Rattle.combine_base.specs.Parser.Meaning
 pub use Rattle.combine_base.specs.Parser.Outcome
 pub use Rattle.combine_base.specs.Stream.View
-pub mod Spanned
+pub mod SpannedErrors

@@ -1,14 +1,28 @@
 //! A parser whose errors stand at the span that it read.
 ghost use Rattle.std.specs.Prelude.{◌≡◌};
-ghost use Rattle.combine_combinator_spanned.specs.Spanned.{spanned_of};
+ghost use Rattle.combine_combinator_spanned.specs.SpannedErrors.{spanned_of};
 
 pub mod types;
 
 use types::Spanned;
 
-/// Parses as `parser`, over a stream whose positions are spans, such as a `span::Stream`: an error whose span begins and ends at one position is made to stand at the span from where this call began to where it left the stream.
+/// Parses as `parser`, with errors that stand at the span that it read.
 ///
-/// A span that an inner `spanned` has set stays. What an error says stays, and so does its kind. An error that keeps no position is left as it is.
+/// The stream's positions are spans, as those of a `span::Stream`.
+///
+/// # Errors
+///
+/// An error whose span begins and ends at one position is made to stand at the span from where this call began to where it left the stream. A span that an inner `spanned` has set stays. What an error says stays, and so does its kind. An error that keeps no position is left as it is.
+///
+/// # Examples
+///
+/// ```
+/// fn placed(input: &[u8]) -> Result<(u8, span::Stream<&[u8]>), UnexpectedParse> {
+///     spanned(token(b'a')).parse(span::Stream(input))
+/// }
+/// ```
+///
+/// On `b"ab"` it returns `b'a'`, and leaves `span::Stream(b"b")`.
 #[inline]
 pub fn spanned<P>(parser: P) -> Spanned<P>
     ensures { result ≡ spanned_of parser }

@@ -1,6 +1,6 @@
-mod Decoding
-mod Feeding
-mod Counting
-mod Framing
-pub mod Dividing
-pub mod Pieces
+mod OneMessage
+mod FeedCalls
+mod TokenTurns
+mod FrameAnswers
+pub mod MessageDivision
+pub mod DecodedPieces

@@ -3,7 +3,7 @@ use Rattle.std.specs.Prelude.{ℕ, ◌+◌, ◌^◌, ◌<◌, ◌≤◌, ◌≡�
 use Rattle.combine_base.specs.Parser.Meaning.{Meaning}
 use Rattle.combine_base.specs.Parser.Sessions.{Course}
 use Rattle.combine_base.specs.declared.stream.Kind.TheVariants as kinds
-use Rattle.combine_decode.specs.Messages.{After, Gives, made}
+use Rattle.combine_decode.specs.Messages.{After, GivesMessages, made_reading}
 use Rattle.combine_decode.specs.declared.decode.Batch.{Batch}
 use Rattle.combine_decode.specs.declared.decode.BatchEnd.{BatchEnd}
 use Rattle.combine_decode.specs.declared.decode.BatchEnd.TheVariants as ends
@@ -26,23 +26,23 @@ phase_after (ends.Refused committed) = phases.Closed
 phase_after ends.EmptyMessage = phases.Closed
 
 -- what a call answers that comes after an end or a fault
-abbrev pub checked : Phase → Result Unit DecodeError
-checked phases.Running = Ok tt
-checked phases.Closed = Err errors.Closed
-checked phases.Failed = Err errors.Failed
+abbrev pub checked_phase : Phase → Result Unit DecodeError
+checked_phase phases.Running = Ok tt
+checked_phase phases.Closed = Err errors.Closed
+checked_phase phases.Failed = Err errors.Failed
 
 module _ {F P T R E V S : Type 0} (makes : F → P → Type 0) (meaning : P → Meaning ℕ T R E V S) where
   -- a decoder that may go on, with these tokens behind the messages that it gave
-  pub record Stands (l : List T) (d : Decoding F P T S) : Type 0 where
+  pub record DecoderGoesOn (l : List T) (d : Decoding F P T S) : Type 0 where
     pub phase : d.phase ≡ phases.Running
-    pub after : After (made meaning (makes d.maker)) meaning l d.course
+    pub after : After (made_reading meaning (makes d.maker)) meaning l d.course
     pub boundary : (d.at_boundary ≡ true) ↔ (length l ≡ 0)
     pub limit : d.course.limit ≡ None
 
   module _ (old new : Decoding F P T S) (piece : List T) where
     -- all messages of the tokens behind those given before, and how the decoder then stands
     pub record Batches (l : List T) (b : Batch V) : Type 0 where
-      pub gives : Gives (made meaning (makes old.maker)) meaning (l ++ piece) new.course new.at_boundary b
+      pub gives : GivesMessages (made_reading meaning (makes old.maker)) meaning (l ++ piece) new.course new.at_boundary b
       pub phase : new.phase ≡ phase_after b.end
       pub limit : new.course.limit ≡ old.course.limit
 
@@ -59,7 +59,7 @@ module _ {F P T R E V S : Type 0} (makes : F → P → Type 0) (meaning : P → 
     decodes l (Err errors.Failed) = ⊥
 
     abbrev pub by_phase : Phase → Result (Batch V) DecodeError → Type 0
-    by_phase phases.Running r = (l : List T) → Stands l old → decodes l r
+    by_phase phases.Running r = (l : List T) → DecoderGoesOn l old → decodes l r
     by_phase phases.Closed r = (r ≡ Err errors.Closed) × (new ≡ old)
     by_phase phases.Failed r = (r ≡ Err errors.Failed) × (new ≡ old)
 

@@ -9,7 +9,7 @@ use Rattle.combine_decode.specs.declared.decode.framing.Framing.{Framing}
 use Rattle.combine_byte_num.specs.Numbers.{big_endian}
 use Rattle.combine_byte_num.specs.WholeNumbers.{number_parser}
 use Rattle.combine_byte_num.specs.declared.whole.WholeNumber.{WholeNumber}
-use Rattle.combine_sequence.specs.Answered.{answered_of}
+use Rattle.combine_sequence.specs.Then.{answered_of}
 use Rattle.combine_sequence.specs.declared.sequence.answered.Answered.{Answered}
 
 abbrev pub framing_of : {Input : Type 0} → Global → Framing Input
@@ -32,7 +32,7 @@ short_of bytes = length bytes < 2 + length_read bytes
 
 module _ {P : Type 0} where
   -- the message is the bytes behind the length, of which there are as many as it says
-  pub record Framed (v : View P ℕ) (m : Vec ℕ) (n : ℕ) (k : Bool) : Type 0 where
+  pub record FramedMessage (v : View P ℕ) (m : Vec ℕ) (n : ℕ) (k : Bool) : Type 0 where
     pub two : 2 ≤ length v.unread
     pub enough : 2 + length_read v.unread ≤ length v.unread
     pub items : m.items ≡ take (length_read v.unread) (drop 2 v.unread)
@@ -41,6 +41,6 @@ module _ {P : Type 0} where
 
   -- A length of two bytes, and then so many bytes. Too few of them wait for more where more may follow; else they are refused, committed behind the length.
   abbrev pub framed : Reading P ℕ (Vec ℕ)
-  framed v (Accepted m n k) = Framed v m n k
+  framed v (Accepted m n k) = FramedMessage v m n k
   framed v (Refused k) = (v.is_open ≡ false) × short_of v.unread × (k ≡ nat_lt 1 (length v.unread))
   framed v Undecided = (v.is_open ≡ true) × short_of v.unread

@@ -1,5 +1,5 @@
 pub mod Messages
 pub mod Decoders
-pub mod Pieces
+pub mod DecodedPieces
 pub mod MessageLaws
 pub mod Frames

@@ -3,7 +3,7 @@ use Rattle.std.specs.Prelude.{ℕ, ◌<◌, ◌≤◌, ◌≡◌, ◌↔◌, Lis
 use Rattle.combine_base.specs.Stream.View.{View}
 use Rattle.combine_base.specs.Parser.Outcome.{Outcome, Accepted, Refused, Undecided}
 use Rattle.combine_base.specs.Parser.Meaning.{Meaning, Reading}
-use Rattle.combine_base.specs.Parser.Sessions.{Course, left}
+use Rattle.combine_base.specs.Parser.Sessions.{Course, left_of_session}
 use Rattle.combine_base.specs.declared.error.UnexpectedParse.{UnexpectedParse}
 use Rattle.combine_base.specs.declared.parser.answer.Answer.{Answer}
 use Rattle.combine_base.specs.declared.parser.answer.Answer.TheVariants as answers
@@ -19,18 +19,18 @@ pub record IsMade {P : Type 0} (makes : P → Type 0) (lawful : P → Type 0) : 
   pub every : (p : P) → makes p → lawful p
 
 -- any parser that may be made
-abbrev pub made : {P T R E V S : Type 0} → (P → Meaning ℕ T R E V S) → (P → Type 0) → Reading ℕ T V
-made {P} meaning makes v o = (p : P) × makes p × (meaning p).whole v o
+abbrev pub made_reading : {P T R E V S : Type 0} → (P → Meaning ℕ T R E V S) → (P → Type 0) → Reading ℕ T V
+made_reading {P} meaning makes v o = (p : P) × makes p × (meaning p).whole v o
 
 -- the parsers that may be made have the same outcomes from the start
 pub record SharesMeaning {P T R E V S : Type 0} (meaning : P → Meaning ℕ T R E V S) (makes : P → Type 0) : Type 0 where
   pub every : (p q : P) → makes p → makes q → (v : View ℕ T) (o : Outcome V) → (meaning p).whole v o → (meaning q).whole v o
 
 -- why no message follows, by the outcomes there
-abbrev pub stops : {V : Type 0} → (Outcome V → Type 0) → BatchEnd → Type 0
-stops r ends.More = r Undecided
-stops r (ends.Refused k) = r (Refused k)
-stops {V} r ends.EmptyMessage = (v : V) × (k : Bool) × r (Accepted v 0 k)
+abbrev pub ends_messages : {V : Type 0} → (Outcome V → Type 0) → BatchEnd → Type 0
+ends_messages r ends.More = r Undecided
+ends_messages r (ends.Refused k) = r (Refused k)
+ends_messages {V} r ends.EmptyMessage = (v : V) × (k : Bool) × r (Accepted v 0 k)
 
 module _ {T V : Type 0} (message : Reading ℕ T V) where
   -- an outcome of a message on this list, open, as at a beginning
@@ -38,43 +38,43 @@ module _ {T V : Type 0} (message : Reading ℕ T V) where
   on_open l o = message (record { position = 0; unread = l; is_open = true }) o
 
   -- the list is these messages, each exactly what a message takes at its place, and then these tokens
-  abbrev pub Divides : List T → List V → List T → Type 0
-  Divides l [] behind = l ≡ behind
-  Divides l (v ∷ vs) behind = (t : ℕ) × (k : Bool) × (0 < t) × on_open l (Accepted v t k) × Divides (drop t l) vs behind
+  abbrev pub DividesMessages : List T → List V → List T → Type 0
+  DividesMessages l [] behind = l ≡ behind
+  DividesMessages l (v ∷ vs) behind = (t : ℕ) × (k : Bool) × (0 < t) × on_open l (Accepted v t k) × DividesMessages (drop t l) vs behind
 
   -- The messages of a list: it is divided into them up to the first place where none is accepted that takes something; n tokens stand behind them.
   pub record Messages (l : List T) (vs : List V) (e : BatchEnd) (n : ℕ) : Type 0 where
     pub behind : List T
-    pub divided : Divides l vs behind
-    pub stop : stops (on_open behind) e
+    pub divided : DividesMessages l vs behind
+    pub stop : ends_messages (on_open behind) e
     pub number : n ≡ length behind
 
   module _ {P R E S : Type 0} (meaning : P → Meaning ℕ T R E V S) where
     -- a session that is fed a message, of which it has these tokens so far
     pub record After (l : List T) (c : Course P T S) : Type 0 where
-      pub left : (x : List T) (o : Outcome V) → left meaning c x true o → on_open (l ++ x) o
+      pub left : (x : List T) (o : Outcome V) → left_of_session meaning c x true o → on_open (l ++ x) o
       pub within : c.seen.position ≤ length l
       pub unread : c.seen.unread ≡ drop c.seen.position l
       pub stage : c.stage ≡ stages.Running
 
     -- what a session that was fed these tokens of a message answered, and how it stands
-    abbrev pub told : List T → Course P T S → Answer V UnexpectedParse → Type 0
-    told l c answers.More = on_open l Undecided × After l c
-    told l c (answers.Accepted v t k) = on_open l (Accepted v t k) × (t ≤ length l) × (c.seen.unread ≡ drop t l)
-    told l c (answers.Refused e k) = on_open l (Refused k) × (length c.seen.unread ≤ length l)
+    abbrev pub answers_message : List T → Course P T S → Answer V UnexpectedParse → Type 0
+    answers_message l c answers.More = on_open l Undecided × After l c
+    answers_message l c (answers.Accepted v t k) = on_open l (Accepted v t k) × (t ≤ length l) × (c.seen.unread ≡ drop t l)
+    answers_message l c (answers.Refused e k) = on_open l (Refused k) × (length c.seen.unread ≤ length l)
 
-    pub record Told (l : List T) (c : Course P T S) (a : Answer V UnexpectedParse) : Type 0 where
-      pub is : told l c a
+    pub record AnswersMessage (l : List T) (c : Course P T S) (a : Answer V UnexpectedParse) : Type 0 where
+      pub is : answers_message l c a
       pub is_open : c.seen.is_open ≡ true
 
     -- All messages of these tokens, and no others; where more is needed, the session has the tokens behind them.
-    pub record Gives (l : List T) (c : Course P T S) (at : Bool) (b : Batch V) : Type 0 where
+    pub record GivesMessages (l : List T) (c : Course P T S) (at : Bool) (b : Batch V) : Type 0 where
       pub behind : List T
-      pub divided : Divides l b.messages.items behind
-      pub stop : stops (on_open behind) b.end
+      pub divided : DividesMessages l b.messages.items behind
+      pub stop : ends_messages (on_open behind) b.end
       pub goes_on : b.end ≡ ends.More → After behind c
       pub boundary : (at ≡ true) ↔ (length behind ≡ 0)
 
     -- the answer of a call that gives them, unless their list finds no memory
     abbrev pub Drains : (l : List T) (old new : Course P T S) (at : Bool) → Result (Batch V) Kind → Type 0
-    Drains l old new at result = MatchResult result (λ b. Gives l new at b × (new.limit ≡ old.limit)) (λ k. k ≡ kinds.Memory)
+    Drains l old new at result = MatchResult result (λ b. GivesMessages l new at b × (new.limit ≡ old.limit)) (λ k. k ≡ kinds.Memory)

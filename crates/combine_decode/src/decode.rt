@@ -1,7 +1,7 @@
 //! A decoder of messages, one after another.
 ghost use Rattle.std.specs.Prelude.{◌≡◌, ◌↔◌, [], true, length, None, MatchResult};
 ghost use Rattle.combine_decode.specs.Frames.{frame_of};
-ghost use Rattle.combine_decode.specs.Messages.{After, Drains, IsMade, Told, made};
+ghost use Rattle.combine_decode.specs.Messages.{After, Drains, IsMade, AnswersMessage, made_reading};
 ghost use Rattle.combine_base.specs.declared.stream.Kind.TheVariants as kinds;
 
 mod framing;
@@ -34,7 +34,9 @@ pub enum BatchEnd {
 /// The messages that a piece completes, in order, and why there are no more.
 #[derive(Debug, Drop, PartialEq)]
 pub struct Batch<V> {
+    /// The messages, in order.
     pub messages: Vec<V>,
+    /// Why there are no more.
     pub end: BatchEnd,
 }
 
@@ -43,7 +45,7 @@ pub struct Batch<V> {
 pub enum DecodeError {
     /// The piece found no room. Nothing has changed.
     Memory,
-    /// The tokens behind the last message and the piece would be more than 2^64 - 1. Nothing has changed.
+    /// The tokens after the last message and the piece would be more than 2^64 - 1. Nothing has changed.
     TooLong,
     /// A fault inside the decoding.
     Fault(Kind),
@@ -56,14 +58,37 @@ pub enum DecodeError {
 /// How far a decoder has come.
 #[derive(Clone, Copy, Debug, PartialEq, Eq)]
 pub enum Phase {
+    /// It may be fed.
     Running,
+    /// The messages have ended.
     Closed,
+    /// A fault came.
     Failed,
 }
 
 /// A decoder of messages that stand one after another in tokens which are fed piece by piece.
 ///
 /// It keeps what is unread, and what its parser has collected, however long a message grows. Against a peer that never ends one, bound what the parser collects, as `count_min_max` does, or loop over a `Session` with a limit.
+///
+/// # Examples
+///
+/// ```
+/// fn second_batch<F: Fn() -> P + Drop, P: Parser<fed::Stream<u8>> + Drop>(
+///     alloc: Global,
+///     maker: F,
+///     first: &[u8],
+///     second: &[u8],
+/// ) -> Result<Batch<P::Output>, DecodeError>
+///     requires callable { F.IsAlwaysCallable maker }
+///     requires lawful { IsMade (F.post maker) P.lawful }
+/// {
+///     let mut decoder = Decoder::new(alloc, maker);
+///     decoder.feed(first)?;
+///     decoder.feed(second)
+/// }
+/// ```
+///
+/// With `|| frame(alloc)`, and the pieces `b"\0\x02a"` and `b"b"`, the second batch has the message `b"ab"`.
 #[derive(Drop)]
 pub struct Decoder<F: Fn() -> P, P: Parser<fed::Stream<T>>, T: Copy + 'static> {
     alloc: Global,
@@ -82,11 +107,11 @@ impl<F: Fn() -> P, P: Parser<fed::Stream<T>>, T: Copy + 'static> Model for Decod
 }
 
 impl<F: Fn() -> P, P: Parser<fed::Stream<T>>, T: Copy + 'static> Decoder<F, P, T> {
-    ghost use Rattle.combine_decode.specs.Decoders.{Decodes, Stands};
+    ghost use Rattle.combine_decode.specs.Decoders.{Decodes, DecoderGoesOn};
 
     /// Returns a decoder that was fed nothing yet, of messages that the maker's parsers read.
     ///
-    /// The maker is called here, and then behind each message: it may always be called, and each parser that it answers is lawful.
+    /// The maker is called here, and then after each message: it may always be called, and each parser that it returns is lawful.
     ///
     /// # Errors
     ///
@@ -94,12 +119,12 @@ impl<F: Fn() -> P, P: Parser<fed::Stream<T>>, T: Copy + 'static> Decoder<F, P, T
     ///
     /// # Partial input
     ///
-    /// Nothing is parsed yet, not even what is empty: the first answer comes with the first piece.
+    /// Nothing is parsed yet, not even what is empty: the first result comes with the first piece.
     pub fn new(alloc: Global, maker: F) -> Self
         requires callable { F.IsAlwaysCallable maker }
         requires lawful { IsMade (F.post maker) P.lawful }
         ensures maker { result.maker ≡ maker }
-        ensures stands { Stands (λ f p. F.post f p) P.meaning [] result }
+        ensures stands { DecoderGoesOn (λ f p. F.post f p) P.meaning [] result }
     {
         let session = begin(alloc, &maker);
         Decoder {
@@ -113,7 +138,7 @@ impl<F: Fn() -> P, P: Parser<fed::Stream<T>>, T: Copy + 'static> Decoder<F, P, T
 
     /// Returns whether the messages so far cover all tokens so far: nothing was fed yet, or the last message ended with the last token.
     ///
-    /// A `feed` that answers an error leaves it as it was.
+    /// A `feed` that returns an error leaves it as it was.
     pub fn at_boundary(&self) -> bool
         ensures { result ≡ self.now.at_boundary }
     {
@@ -122,24 +147,26 @@ impl<F: Fn() -> P, P: Parser<fed::Stream<T>>, T: Copy + 'static> Decoder<F, P, T
 }
 
 impl<F: Fn() -> P, P: Parser<fed::Stream<T>> + Drop, T: Copy + 'static> Decoder<F, P, T> {
-    ghost use Rattle.combine_decode.specs.Decoders.{Decodes, Stands};
+    ghost use Rattle.combine_decode.specs.Decoders.{Decodes, DecoderGoesOn};
 
-    /// Feeds a piece, which may be empty, and gives all messages that it completes.
+    /// Feeds a piece, which may be empty, and returns all messages that it completes.
     ///
-    /// The messages given so far are those of all tokens so far, in order, and no others. Each begins where the last one ended: what stands behind it, also nothing, goes to the next, which may be refused there, or end all by taking nothing.
+    /// The messages given so far are those of all tokens so far, in order, and no others. Each begins where the last one ended: what stands after it, also nothing, goes to the next, which may be refused there, or end all by taking nothing.
     ///
     /// # Errors
     ///
     /// An error gives no message, and the piece isn't counted as fed.
     ///
     /// - `Closed` after an end other than `More`, and `Failed` after a fault: each time, and nothing changes.
-    /// - `TooLong` where the tokens behind the last message and the piece are more than 2^64 - 1. A shorter piece may follow.
-    /// - `Memory` where the piece finds no room. This and those before come before any parsing, in this order, and change nothing: the piece may be fed again.
-    /// - `Fault`, of kind `Memory`, where a growth is refused later: the parser's, on this message or on one behind it, or that of the list of messages. The messages that the piece completed are let go, and `Failed` follows always.
+    /// - `TooLong` if the tokens after the last message and the piece are more than 2^64 - 1. A shorter piece may follow.
+    /// - `Memory` if the piece finds no room. This and those before come before any parsing, in this order, and change nothing: the piece may be fed again.
+    /// - `Fault`, of kind `Memory`, if a growth is refused later: the parser's, on this message or on one after it, or that of the list of messages. The messages that the piece completed are let go, and `Failed` follows always.
     ///
     /// # Partial input
     ///
-    /// `More` is answered exactly where the next message is undecided on the tokens behind the last one, open. It goes on with the next piece from where it stopped, and what its parser put back is read again then. Each message is given with the piece that decides it; and however the tokens are cut, the messages are the same, where the maker's parsers share one meaning that has one outcome.
+    /// The end is `More` exactly where the next message is undecided on the tokens after the last one, open. It goes on with the next piece from where it stopped, and what its parser put back is read again then.
+    ///
+    /// Each message is given with the piece that decides it. However the tokens are cut, the messages are the same, where the maker's parsers share one meaning that has one outcome.
     pub fn feed(&mut self, piece: &[T]) -> Result<Batch<P::Output>, DecodeError>
         requires callable { F.IsAlwaysCallable self.old.maker }
         requires lawful { IsMade (F.post self.old.maker) P.lawful }
@@ -177,11 +204,11 @@ impl<F: Fn() -> P, P: Parser<fed::Stream<T>> + Drop, T: Copy + 'static> Decoder<
 }
 
 impl Phase {
-    ghost use Rattle.combine_decode.specs.Decoders.{checked};
+    ghost use Rattle.combine_decode.specs.Decoders.{checked_phase};
 
-    /// Whether a decoder may go on.
+    /// Refuses where a decoder may not go on.
     fn check(self) -> Result<(), DecodeError>
-        ensures { result ≡ checked self }
+        ensures { result ≡ checked_phase self }
     {
         match self {
             Phase::Running => Ok(()),
@@ -194,7 +221,7 @@ impl Phase {
 impl BatchEnd {
     ghost use Rattle.combine_decode.specs.Decoders.{phase_after};
 
-    /// How far a decoder is after it.
+    /// Returns how far a decoder is after it.
     fn phase(self) -> Phase
         ensures { result ≡ phase_after self }
     {
@@ -205,17 +232,17 @@ impl BatchEnd {
     }
 }
 
-/// Takes a message behind its length, a number of two bytes, the highest first: the bytes of the message are the value. Our own.
+/// Takes a message after its length, a number of two bytes, the highest first: the bytes of the message are the value. Our own.
 ///
 /// It is `be_u16`, and then that many bytes by `count_min_max` of `any`. Room is had as bytes come: a length takes room for no more than 1,024 of them at once.
 ///
 /// # Errors
 ///
-/// Ended input that is too short is refused: peeked within the length, committed behind it. Nothing else is refused. A growth that is refused is a fault of kind `Memory`.
+/// Ended input that is too short is refused: peeked within the length, committed after it. Nothing else is refused. A growth that is refused is a fault of kind `Memory`.
 ///
 /// # Partial input
 ///
-/// On need of more the length is kept, and so are the bytes behind it; the first byte of a length alone is put back.
+/// On need of more the length is kept, and so are the bytes after it; the first byte of a length alone is put back.
 #[inline]
 pub fn frame<Input>(alloc: Global) -> Frame<Input>
     ensures { result ≡ frame_of alloc }
@@ -223,27 +250,27 @@ pub fn frame<Input>(alloc: Global) -> Frame<Input>
     Answered::new(be_u16(), Framing::new(alloc))
 }
 
-/// Starts a session of a parser that the maker answers.
+/// Starts a session of a parser that the maker returns.
 fn begin<F: Fn() -> P, P: Parser<fed::Stream<T>>, T: Copy + 'static>(
     alloc: Global,
     maker: &F,
 ) -> Session<P, T>
     requires callable { F.IsAlwaysCallable maker.now }
     requires lawful { IsMade (F.post maker.now) P.lawful }
-    ensures { After (made P.meaning (F.post maker.now)) P.meaning [] result × (result.limit ≡ None) }
+    ensures { After (made_reading P.meaning (F.post maker.now)) P.meaning [] result × (result.limit ≡ None) }
 {
     Session::new(alloc, maker())
 }
 
 /// Begins the next message on what the last one left unread.
-fn go_on<F: Fn() -> P, P: Parser<fed::Stream<T>> + Drop, T: Copy + 'static>(
+fn begin_next<F: Fn() -> P, P: Parser<fed::Stream<T>> + Drop, T: Copy + 'static>(
     maker: &F,
     session: &mut Session<P, T>,
 ) -> Result<Answer<P::Output, UnexpectedParse>, Kind>
     requires callable { F.IsAlwaysCallable maker.now }
     requires lawful { IsMade (F.post maker.now) P.lawful }
     requires is_open { session.old.seen.is_open ≡ true }
-    ensures { MatchResult result (λ a. Told (made P.meaning (F.post maker.now)) P.meaning session.old.seen.unread session.new a × (session.new.limit ≡ session.old.limit)) (λ k. k ≡ kinds.Memory) }
+    ensures { MatchResult result (λ a. AnswersMessage (made_reading P.meaning (F.post maker.now)) P.meaning session.old.seen.unread session.new a × (session.new.limit ≡ session.old.limit)) (λ k. k ≡ kinds.Memory) }
 {
     match session.begin_again(maker()) {
         Ok(answer) => Ok(answer),
@@ -251,7 +278,7 @@ fn go_on<F: Fn() -> P, P: Parser<fed::Stream<T>> + Drop, T: Copy + 'static>(
     }
 }
 
-/// The messages that follow an answer of the session.
+/// Returns the messages that follow a result of the session.
 fn drain<F: Fn() -> P, P: Parser<fed::Stream<T>> + Drop, T: Copy + 'static>(
     alloc: Global,
     maker: &F,
@@ -262,7 +289,7 @@ fn drain<F: Fn() -> P, P: Parser<fed::Stream<T>> + Drop, T: Copy + 'static>(
     requires callable { F.IsAlwaysCallable maker.now }
     requires lawful { IsMade (F.post maker.now) P.lawful }
     requires is_open { session.old.seen.is_open ≡ true }
-    ensures { (tokens : _) → Told (made P.meaning (F.post maker.now)) P.meaning tokens session.old first → ((boundary.old ≡ true) ↔ (length tokens ≡ 0)) → Drains (made P.meaning (F.post maker.now)) P.meaning tokens session.old session.new boundary.new result }
+    ensures { (tokens : _) → AnswersMessage (made_reading P.meaning (F.post maker.now)) P.meaning tokens session.old first → ((boundary.old ≡ true) ↔ (length tokens ≡ 0)) → Drains (made_reading P.meaning (F.post maker.now)) P.meaning tokens session.old session.new boundary.new result }
 {
     let mut messages = Vec::new(alloc);
     let mut answer = first;
@@ -295,7 +322,7 @@ fn drain<F: Fn() -> P, P: Parser<fed::Stream<T>> + Drop, T: Copy + 'static>(
                     return Err(Kind::Memory);
                 }
                 at_boundary = session.unread().is_empty();
-                answer = go_on(maker, session)?;
+                answer = begin_next(maker, session)?;
             }
         }
     }

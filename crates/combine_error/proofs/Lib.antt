@@ -1,6 +1,6 @@
-pub mod Adding
-pub mod Clearing
-pub mod InPlaces
-pub mod Lists
-pub mod Shapes
-pub mod Spanning
+pub mod AppendedItems
+pub mod ClearedItems
+pub mod ReplacedItems
+pub mod ItemLists
+pub mod ShapedAnswers
+pub mod SpanStreams

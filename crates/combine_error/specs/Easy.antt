@@ -2,14 +2,14 @@
 use Rattle.std.specs.Prelude.{ℕ, ◌≡◌, List, ◌++◌, Bool, true, false, nat_eq, map, take, drop, Some, refl}
 use Rattle.std.specs.List.{filter}
 use Rattle.std.specs.Str.{bytes_eq}
-use Rattle.combine_base.specs.Error.Items.{About, OfToken, OfRange, Fixed, Text, Count, Item, Unexpected, Expected, Message, shown, is_expected}
-use Rattle.combine_base.specs.Error.Errors.{Errors as Seen, TellsApart}
+use Rattle.combine_base.specs.Error.Items.{About, OfToken, OfRange, Fixed, Text, Count, ErrorItem, Unexpected, Expected, Message, shown, is_expected}
+use Rattle.combine_base.specs.Error.Errors.{Observers as Seen, TellsApart}
 use Rattle.combine_error.specs.declared.easy.Error.{Error}
 use Rattle.combine_error.specs.declared.easy.Error.TheVariants as errors
 use Rattle.combine_error.specs.declared.easy.Errors.{Errors}
 use Rattle.combine_error.specs.declared.easy.stream.Stream.{Stream}
 
-abbrev pub said : {T R : Type 0} → Error T R → Item T R
+abbrev pub said : {T R : Type 0} → Error T R → ErrorItem T R
 said (errors.Unexpected i) = Unexpected (shown i)
 said (errors.Expected i) = Expected (shown i)
 said (errors.Message i) = Message (shown i)
@@ -34,16 +34,16 @@ module _ {T R : Type 0} (token_eq : T → T → Bool) (range_eq : R → R → Bo
   about_same (Count a) (Count b) = nat_eq a b
   about_same _ _ = false
 
-  abbrev pub item_same : Item T R → Item T R → Bool
+  abbrev pub item_same : ErrorItem T R → ErrorItem T R → Bool
   item_same (Unexpected a) (Unexpected b) = about_same a b
   item_same (Expected a) (Expected b) = about_same a b
   item_same (Message a) (Message b) = about_same a b
   item_same _ _ = false
 
-  abbrev pub listed : {P : Type 0} → Seen T R P (Errors T R P)
-  listed = record { kind = λ e. e.kind; position = λ e. Some e.position; items = λ e. map said e.errors.items; keeps = true; same = item_same; frugal = ⊥ }
+  abbrev pub listed_errors : {P : Type 0} → Seen T R P (Errors T R P)
+  listed_errors = record { kind = λ e. e.kind; position = λ e. Some e.position; items = λ e. map said e.errors.items; keeps = true; same = item_same; never_allocates = ⊥ }
 
-  same_sort : (i j : Item T R) → item_same i j ≡ true → is_expected i ≡ is_expected j
+  same_sort : (i j : ErrorItem T R) → item_same i j ≡ true → is_expected i ≡ is_expected j
   same_sort (Unexpected a) (Unexpected b) e = refl
   same_sort (Unexpected a) (Message b) e = refl
   same_sort (Unexpected a) (Expected b) e = absurd (cc)
@@ -54,9 +54,9 @@ module _ {T R : Type 0} (token_eq : T → T → Bool) (range_eq : R → R → Bo
   same_sort (Message a) (Unexpected b) e = refl
   same_sort (Message a) (Expected b) e = absurd (cc)
 
-  pub listed_apart : {P : Type 0} → TellsApart {P = P} listed
+  pub listed_apart : {P : Type 0} → TellsApart {P = P} listed_errors
   listed_apart = record { apart = λ k i j e. same_sort i j e }
 
 -- the stream inside one whose errors keep items
-abbrev pub inside : {S : Type 0} → Stream S → S
-inside s = s.inner
+abbrev pub inner_stream : {S : Type 0} → Stream S → S
+inner_stream s = s.inner

@@ -3,6 +3,6 @@ pub use Rattle.combine_base.specs.Error.Items
 pub use Rattle.combine_base.specs.Parser.Meaning
 pub mod Copies
 pub mod Easy
-pub mod Saying
-pub mod Shaped
+pub mod RewordedErrors
+pub mod ErrorParsers
 pub mod Spans

@@ -1,9 +1,9 @@
 //! Errors that keep what they are told, and streams whose parsers are refused with them.
 ghost use Rattle.std.specs.Prelude.{◌≡◌, ◌-◌, ◌<◌, not, ◌∷◌, [], true, length, map};
 ghost use Rattle.std.specs.List.{list_any};
-ghost use Rattle.combine_base.specs.Error.Errors.{Only, Says};
+ghost use Rattle.combine_base.specs.Error.Errors.{Only, AddsItems};
 ghost use Rattle.combine_base.specs.Error.Items.{in_role, shown};
-ghost use Rattle.combine_error.specs.Easy.{about_same, cleared_from, is_other, item_same, listed, said};
+ghost use Rattle.combine_error.specs.Easy.{about_same, cleared_from, is_other, item_same, listed_errors, said};
 
 use crate::info::copied;
 use combine_base::error::{DetailedError, Info, ParseError, Role, StreamError};
@@ -30,7 +30,11 @@ pub enum Error<T, R> {
     Message(Info<T, R>),
 }
 
-/// An error with its position, its kind, and the items that were added to it, in order. No two of them are equal where all were added by the calls of `ParseError`.
+/// An error with its position, its kind, and the items that were added to it, in order.
+///
+/// No two of them are equal where all were added by the calls of `ParseError`.
+///
+/// # Differences from combine
 ///
 /// Two texts are equal only if both are fixed or both are owned. In the crate they are, however they are held, and an error has no kind.
 #[derive(Debug, PartialEq, Drop)]
@@ -39,11 +43,11 @@ pub struct Errors<T, R, P> {
     pub position: P,
     /// The items, the first that was added first.
     pub errors: Vec<Error<T, R>>,
-    /// Why there is no value. `Memory` where an item found no memory.
+    /// Why there is no value: `Memory` if an item found no memory.
     pub kind: Kind,
 }
 
-// Whether both speak of the same.
+// Returns whether both speak of the same.
 fn is_about_same<T: PartialEq, R: PartialEq>(this: &Info<T, R>, other: &Info<T, R>) -> bool
     ensures { result ≡ about_same T.eq R.eq (shown this.now) (shown other.now) }
 {
@@ -98,7 +102,7 @@ fn is_expected<T, R>(item: &Error<T, R>) -> bool
     matches!(item, Error::Expected(_))
 }
 
-// The item that says this.
+// Returns the item that says this.
 fn item_of<T, R>(role: Role, info: Info<T, R>) -> Error<T, R>
     ensures { said result ≡ in_role role (shown info) }
 {
@@ -109,7 +113,7 @@ fn item_of<T, R>(role: Role, info: Info<T, R>) -> Error<T, R>
     }
 }
 
-// Whether an equal item is among those.
+// Returns whether an equal item is among those.
 fn is_there<T: PartialEq, R: PartialEq>(item: &Error<T, R>, errors: &[Error<T, R>]) -> bool
     ensures { result ≡ list_any (λ j. item_same T.eq R.eq (said j) (said item.now)) errors.now }
 {
@@ -121,7 +125,7 @@ fn is_there<T: PartialEq, R: PartialEq>(item: &Error<T, R>, errors: &[Error<T, R
     false
 }
 
-// Drops the item at that place if it says what was expected; where the next one then stands.
+// Drops the item at that place if it says what was expected, and returns where the next one then stands.
 fn drop_if_expected<T, R>(errors: &mut Vec<Error<T, R>>, at: usize) -> usize
 where
     T: Drop,
@@ -190,7 +194,7 @@ impl<T: Copy, R: Copy> StreamError<T, R> for Error<T, R> {
 impl<T: Copy + PartialEq, R: Copy + PartialEq, P: Ord + Copy> Errors<T, R, P> {
     // Puts the item at the end unless an equal one is there.
     fn put(&mut self, item: Error<T, R>)
-        ensures { Says (listed T.eq R.eq) (Unit {0}) (Only (said item)) self.old self.new }
+        ensures { AddsItems (listed_errors T.eq R.eq) (Unit {0}) (Only (said item)) self.old self.new }
     {
         if is_there(&item, self.errors.as_slice()) {
             return;
@@ -202,7 +206,7 @@ impl<T: Copy + PartialEq, R: Copy + PartialEq, P: Ord + Copy> Errors<T, R, P> {
     }
 
     fn put_all(&mut self, all: Vec<Error<T, R>>)
-        ensures { Says (listed T.eq R.eq) (Unit {0}) (λ is. is ≡ map said all.items) self.old self.new }
+        ensures { AddsItems (listed_errors T.eq R.eq) (Unit {0}) (λ is. is ≡ map said all.items) self.old self.new }
     {
         for item in all {
             self.put(item);
@@ -223,7 +227,7 @@ impl<T: Copy + PartialEq, R: Copy + PartialEq, P: Ord + Copy> DetailedError<T, R
     }
 
     fn add(&mut self, item: Error<T, R>)
-        ensures { Says (listed T.eq R.eq) (Unit {0}) (λ is. is ≡ said item ∷ []) self.old self.new }
+        ensures { AddsItems (listed_errors T.eq R.eq) (Unit {0}) (λ is. is ≡ said item ∷ []) self.old self.new }
     {
         self.put(item);
     }
@@ -233,7 +237,7 @@ impl<T: Copy + PartialEq, R: Copy + PartialEq, P: Ord + Copy> ParseError<T, R, P
     for Errors<T, R, P> {
     ghost use Rattle.combine_error.specs.Easy.{listed_apart};
 
-    ghost seen = { listed T.eq R.eq };
+    ghost observers = { listed_errors T.eq R.eq };
 
     ghost tells_apart = { listed_apart T.eq R.eq };
 

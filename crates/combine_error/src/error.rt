@@ -1,6 +1,6 @@
 //! Parsers that shape what the errors of another parser say.
 ghost use Rattle.std.specs.Prelude.{◌≡◌};
-ghost use Rattle.combine_error.specs.Shaped.{expected_of, message_of, silent_of};
+ghost use Rattle.combine_error.specs.ErrorParsers.{expected_of, message_of, silent_of};
 
 pub mod types;
 
@@ -9,7 +9,15 @@ use types::{Expected, Message, Silent};
 
 /// Parses as `parser`, but its refusals also say this.
 ///
-/// The message is added to the error of a committed refusal, and where a peeked refusal is explained after what `parser` adds. Faults and need of more stay as they are; the crate adds it to them too. A message that finds no memory makes it the committed fault `Memory`.
+/// # Errors
+///
+/// - The message is added to the error of a committed refusal, and where a peeked refusal is explained after what `parser` adds.
+/// - Faults and need of more stay as they are.
+/// - A message that finds no memory makes it the committed fault `Memory`.
+///
+/// # Differences from combine
+///
+/// The crate adds the message to faults and need of more too.
 #[inline]
 pub fn message<P, I, T, R>(parser: P, info: I) -> Message<P, Info<T, R>>
 where
@@ -24,7 +32,24 @@ where
 
 /// Parses as `parser`, but where a peeked refusal is explained it says that this was expected, in place of what `parser` says was expected.
 ///
-/// What else `parser` adds stays, and so does all that the error said before. A committed refusal, a fault and need of more stay as they are. An item that finds no memory makes it the committed fault `Memory`.
+/// # Errors
+///
+/// - What else `parser` adds stays, and so does all that the error said before.
+/// - A committed refusal, a fault and need of more stay as they are.
+/// - An item that finds no memory makes it the committed fault `Memory`.
+///
+/// # Examples
+///
+/// ```
+/// fn named<'a>(
+///     alloc: Global,
+///     text: &'a str,
+/// ) -> Result<(char, &'a str), Errors<char, &'a str, Left>> {
+///     expected(token('a'), "letter a").easy_parse(alloc, text)
+/// }
+/// ```
+///
+/// Of `"b"` the error says ``Unexpected `b` `` and `Expected letter a`.
 #[inline]
 pub fn expected<P, I, T, R>(parser: P, info: I) -> Expected<P, Info<T, R>>
 where
@@ -37,9 +62,28 @@ where
     }
 }
 
-/// Parses as `parser`, but its refusals, committed or peeked, no longer say what was expected, and nothing is added where a peeked one is explained.
+/// Parses as `parser`, but its refusals, committed or peeked, no longer say what was expected.
 ///
-/// What else the errors say stays. Faults and need of more stay as they are; the crate clears them too.
+/// # Errors
+///
+/// Nothing is added where a peeked refusal is explained. What else the errors say stays. Faults and need of more stay as they are.
+///
+/// # Differences from combine
+///
+/// The crate clears faults and need of more too.
+///
+/// # Examples
+///
+/// ```
+/// fn hushed<'a>(
+///     alloc: Global,
+///     text: &'a str,
+/// ) -> Result<(char, &'a str), Errors<char, &'a str, Left>> {
+///     silent(token('a')).easy_parse(alloc, text)
+/// }
+/// ```
+///
+/// Of `"b"` the error says ``Unexpected `b` `` alone.
 #[inline]
 pub fn silent<P>(parser: P) -> Silent<P>
     ensures { result ≡ silent_of parser }

@@ -6,7 +6,7 @@ ghost use Rattle.combine_error.specs.Copies.{NoText};
 use combine_base::error::Info;
 use std::alloc::AllocError;
 
-/// An info that speaks of the same; a text of its own is cloned, which takes memory.
+/// Returns an info that speaks of the same; a text of its own is cloned, which takes memory.
 pub(crate) fn copied<T: Copy, R: Copy>(info: &Info<T, R>) -> Result<Info<T, R>, AllocError>
     ensures { MatchResult result (λ i. shown i ≡ shown info.now) (λ _. NoText info.now → ⊥) }
 {

@@ -1,6 +1,6 @@
 //! Streams whose positions are spans.
 ghost use Rattle.combine_base.specs.Error.NoItems.{no_items};
-ghost use Rattle.combine_error.specs.Easy.{listed};
+ghost use Rattle.combine_error.specs.Easy.{listed_errors};
 ghost use Rattle.combine_error.specs.Spans.{AtSpan};
 
 use crate::easy::Errors;
@@ -9,7 +9,9 @@ use combine_base::maps::Maps;
 use combine_base::stream::{self, Failures, Kind, Positioned, ResetStream, StreamOnce};
 use combine_stream::range::{Range, RangeStream};
 
-/// A part of the input, from a position to another. The order is that of `start`, and then that of `end`.
+/// A part of the input, from a position to another.
+///
+/// The order is that of `start`, and then that of `end`.
 #[derive(Clone, Copy, Debug, PartialEq, Eq, PartialOrd, Ord)]
 pub struct Span<P> {
     /// Where it begins.
@@ -18,14 +20,18 @@ pub struct Span<P> {
     pub end: P,
 }
 
-/// The errors that can stand at a span. In the crate they are those that turn into an error at any other position.
+/// The errors that can stand at a span.
+///
+/// In the crate they are those that turn into an error at any other position.
 pub trait SpannedError<T, R, P: Ord + Copy>: ParseError<T, R, P> {
     /// The error at a span.
     type Spanned: DetailedError<T, R, Span<P>>;
 
-    /// Makes the same error, at that span. The kind and the items stay.
+    /// Makes the same error, at that span.
+    ///
+    /// The kind and the items stay.
     fn at_span(self, span: Span<P>) -> Self::Spanned
-        ensures { AtSpan Self.seen Self.Spanned.seen span self result };
+        ensures { AtSpan Self.observers Self.Spanned.observers span self result };
 }
 
 impl<T: Copy, R: Copy, P: Ord + Copy> SpannedError<T, R, P> for UnexpectedParse {
@@ -45,7 +51,7 @@ impl<T: Copy + PartialEq, R: Copy + PartialEq, P: Ord + Copy> SpannedError<T, R,
 
     #[inline]
     fn at_span(self, span: Span<P>) -> Errors<T, R, Span<P>>
-        ensures { AtSpan (listed T.eq R.eq) (listed T.eq R.eq) span self result }
+        ensures { AtSpan (listed_errors T.eq R.eq) (listed_errors T.eq R.eq) span self result }
     {
         let Errors {
             position: _,
@@ -60,7 +66,9 @@ impl<T: Copy + PartialEq, R: Copy + PartialEq, P: Ord + Copy> SpannedError<T, R,
     }
 }
 
-/// The stream, whose position is the span that begins and ends where the stream stands. Its errors are those of the stream, at spans.
+/// A stream whose position is the span that begins and ends where the stream inside stands.
+///
+/// Its errors are those of the stream inside, at spans.
 #[derive(Drop)]
 pub struct Stream<S>(pub S);
 
@@ -88,7 +96,7 @@ where
 
     ghost failures = { λ s. S.failures s.0 };
 
-    ghost steady = { S.steady };
+    ghost counts_failures = { S.counts_failures };
 
     ghost moves = { λ s n h k. span_moves S.step S.Position.cmp (S.view s.0) n (S.moves s.0 n h k) };
 
@@ -112,11 +120,11 @@ impl<S: ResetStream> ResetStream for Stream<S>
 where
     S::Error: SpannedError<S::Token, S::Range, S::Position>,
 {
-    ghost use Rattle.combine_error.specs.Spans.{Spanned, span_lasts};
+    ghost use Rattle.combine_error.specs.Spans.{IsSpannedView, span_lasts};
 
     type Checkpoint = S::Checkpoint;
 
-    ghost stands = { λ s c. Spanned (S.stands s.0 c) };
+    ghost stands = { λ s c. IsSpannedView (S.stands s.0 c) };
 
     ghost lasts = { λ s t c v h k. span_lasts (S.marks s.0) (S.marks t.0) (S.stands s.0 c) (S.stands t.0 c) (λ u g. S.lasts s.0 t.0 c u g) v h k };
 

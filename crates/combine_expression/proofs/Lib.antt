@@ -1,4 +1,4 @@
-mod Complete
-mod Parting
-mod Reducing
-mod Standing
+mod CompleteExpressions
+mod PartSteps
+mod Reductions
+mod OpenExpressions

@@ -13,18 +13,18 @@ pub data Thing (O V : Type 0) : Type 0 where
 
 module _ {O V : Type 0} (levels : List Fixity) (changes : O → V → V → Type 0) (joins : O → V → V → V → Type 0) where
   -- what stands at a level, and its value
-  pub data Expression : ℕ → List (Thing O V) → V → Type 0 where
+  pub data IsExpression : ℕ → List (Thing O V) → V → Type 0 where
     -- an operand stands at each level
-    operand : (p : ℕ) (v : V) → Expression p (Operand v ∷ []) v
+    operand : (p : ℕ) (v : V) → IsExpression p (Operand v ∷ []) v
     -- what stands at the next level stands at this one
-    higher : (p : ℕ) (ts : List (Thing O V)) (v : V) → Expression (suc p) ts v → Expression p ts v
+    higher : (p : ℕ) (ts : List (Thing O V)) (v : V) → IsExpression (suc p) ts v → IsExpression p ts v
     -- a prefix operator, and its operand of its own level
-    prefix : (p : ℕ) (o : O) (r : List (Thing O V)) (a w : V) → slice_get levels p ≡ Some fixities.Prefix → Expression p r a → changes o a w → Expression p (Prefix p o ∷ r) w
+    prefix : (p : ℕ) (o : O) (r : List (Thing O V)) (a w : V) → slice_get levels p ≡ Some fixities.Prefix → IsExpression p r a → changes o a w → IsExpression p (Prefix p o ∷ r) w
     -- an operand of the level, and a postfix operator
-    postfix : (p : ℕ) (o : O) (l : List (Thing O V)) (a w : V) → slice_get levels p ≡ Some fixities.Postfix → Expression p l a → changes o a w → Expression p (l ++ Postfix p o ∷ []) w
+    postfix : (p : ℕ) (o : O) (l : List (Thing O V)) (a w : V) → slice_get levels p ≡ Some fixities.Postfix → IsExpression p l a → changes o a w → IsExpression p (l ++ Postfix p o ∷ []) w
     -- an infix operator that groups to the left: its left operand is of its own level, its right one of the next
-    left : (p : ℕ) (o : O) (l r : List (Thing O V)) (a b w : V) → slice_get levels p ≡ Some fixities.Left → Expression p l a → Expression (suc p) r b → joins o a b w → Expression p (l ++ Infix p o ∷ r) w
+    infix_left : (p : ℕ) (o : O) (l r : List (Thing O V)) (a b w : V) → slice_get levels p ≡ Some fixities.Left → IsExpression p l a → IsExpression (suc p) r b → joins o a b w → IsExpression p (l ++ Infix p o ∷ r) w
     -- one that groups to the right: its left operand is of the next level, its right one of its own
-    right : (p : ℕ) (o : O) (l r : List (Thing O V)) (a b w : V) → slice_get levels p ≡ Some fixities.Right → Expression (suc p) l a → Expression p r b → joins o a b w → Expression p (l ++ Infix p o ∷ r) w
+    infix_right : (p : ℕ) (o : O) (l r : List (Thing O V)) (a b w : V) → slice_get levels p ≡ Some fixities.Right → IsExpression (suc p) l a → IsExpression p r b → joins o a b w → IsExpression p (l ++ Infix p o ∷ r) w
     -- one that does neither: both are of the next
-    neither : (p : ℕ) (o : O) (l r : List (Thing O V)) (a b w : V) → slice_get levels p ≡ Some fixities.Neither → Expression (suc p) l a → Expression (suc p) r b → joins o a b w → Expression p (l ++ Infix p o ∷ r) w
+    infix_neither : (p : ℕ) (o : O) (l r : List (Thing O V)) (a b w : V) → slice_get levels p ≡ Some fixities.Neither → IsExpression (suc p) l a → IsExpression (suc p) r b → joins o a b w → IsExpression p (l ++ Infix p o ∷ r) w

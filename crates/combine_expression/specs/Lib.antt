@@ -1,6 +1,6 @@
 pub mod AcceptedSteps
 pub mod Levels
-pub mod Parts
+pub mod ExpressionParts
 pub mod Shapes
-pub mod Spelling
-pub mod Waiting
+pub mod SpelledItems
+pub mod OpenExpressions

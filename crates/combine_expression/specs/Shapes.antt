@@ -25,7 +25,7 @@ pub record Shape : Type 0 where
   pub held : Option ℕ
 
 -- the operators that are left, and the level of the operand
-pub record Kept : Type 0 where
+pub record ReducedShape : Type 0 where
   pub slots : List Slot
   pub level : ℕ
 
@@ -33,12 +33,12 @@ abbrev pub start : Shape
 start = record { slots = []; held = None }
 
 -- the lowest level that the awaited operand may have
-abbrev pub needs : List Slot → ℕ
-needs [] = 0
-needs (s ∷ ss) = s.asks
+abbrev pub needs_level : List Slot → ℕ
+needs_level [] = 0
+needs_level (s ∷ ss) = s.asks
 
 -- the innermost is given the operand as long as it asks for a higher level
-abbrev pub reduce_to : ℕ → List Slot → ℕ → Kept
+abbrev pub reduce_to : ℕ → List Slot → ℕ → ReducedShape
 reduce_to q [] h = record { slots = []; level = h }
 reduce_to q (s ∷ ss) h = cond (nat_lt q s.asks) (reduce_to q ss s.level) (record { slots = s ∷ ss; level = h })
 
@@ -70,9 +70,9 @@ abbrev pub holds_if : Bool → List Slot → ℕ → Option Shape
 holds_if true ss p = Some (record { slots = ss; held = Some p })
 holds_if false ss p = None
 
-abbrev pub between : Option Lowest → Kept → ℕ → Option Shape
-between None k p = None
-between (Some l) k p = waits_if (nat_le l.left k.level) k.slots p l.right
+abbrev pub infix_between : Option Lowest → ReducedShape → ℕ → Option Shape
+infix_between None k p = None
+infix_between (Some l) k p = waits_if (nat_le l.left k.level) k.slots p l.right
 
 abbrev pub and_then : Option Shape → (Shape → Option Shape) → Option Shape
 and_then None f = None
@@ -82,7 +82,7 @@ module _ {O V : Type 0} (levels : List Fixity) where
   -- what fits where an operand is awaited
   abbrev pub fit_awaited : List Slot → Thing O V → Option Shape
   fit_awaited ss (Operand v) = Some (record { slots = ss; held = Some (length levels) })
-  fit_awaited ss (Prefix p o) = waits_if (fits_in_front (slice_get levels p) (needs ss) p) ss p p
+  fit_awaited ss (Prefix p o) = waits_if (fits_in_front (slice_get levels p) (needs_level ss) p) ss p p
   fit_awaited ss (Postfix p o) = None
   fit_awaited ss (Infix p o) = None
 
@@ -91,7 +91,7 @@ module _ {O V : Type 0} (levels : List Fixity) where
   fit_behind ss h (Operand v) = None
   fit_behind ss h (Prefix p o) = None
   fit_behind ss h (Postfix p o) = holds_if (fits_behind (slice_get levels p) (reduce_to p ss h).level p) (reduce_to p ss h).slots p
-  fit_behind ss h (Infix p o) = between (sides_of p (slice_get levels p)) (reduce_to p ss h) p
+  fit_behind ss h (Infix p o) = infix_between (sides_of p (slice_get levels p)) (reduce_to p ss h) p
 
   abbrev pub fit : List Slot → Option ℕ → Thing O V → Option Shape
   fit ss None t = fit_awaited ss t

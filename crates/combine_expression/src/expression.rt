@@ -3,8 +3,8 @@
 //! A language of expressions is a table of levels, of which the first binds least: each says where its operators stand, and how they group. An operand of an operator is an expression of that operator's level or a higher one, and on a side on which the operator doesn't group, of a higher one alone. So a grammar of one rule for each level is written as a table.
 ghost use Rattle.std.specs.Prelude.{◌≡◌};
 ghost use Rattle.combine_nested.specs.Asks.{if_else_of};
-ghost use Rattle.combine_nested.specs.Nesting.{asked_part, depth_part, root_part};
-ghost use Rattle.combine_expression.specs.Parts.{MakesOutermost};
+ghost use Rattle.combine_nested.specs.NestedSteps.{step_asker, depth_part, root_part};
+ghost use Rattle.combine_expression.specs.ExpressionParts.{MakesOutermost};
 
 pub mod operands;
 pub mod types;
@@ -18,7 +18,7 @@ use types::{Awaits, Expression, InBrackets, Outermost};
 pub enum Fixity {
     /// In front of its operand, which may begin with another of the level.
     Prefix,
-    /// Behind its operand, which may end in another of the level.
+    /// After its operand, which may end in another of the level.
     Postfix,
     /// Between two operands, and of two the left one binds first: `a - b - c` is `(a - b) - c`.
     Left,
@@ -56,14 +56,16 @@ pub trait Operator: Drop {
         ensures { MatchResult result (joins self left right) (λ _. refuses_operands self left right) };
 }
 
-/// What a step of an expression reads. An operator stands with its level.
+/// What a step of an expression reads.
+///
+/// An operator stands with its level.
 #[derive(Drop)]
 pub enum Item<O, V> {
     /// An operand.
     Operand(V),
     /// An operator in front of its operand.
     Prefix(usize, O),
-    /// An operator behind its operand.
+    /// An operator after its operand.
     Postfix(usize, O),
     /// An operator between its operands.
     Infix(usize, O),
@@ -75,17 +77,32 @@ pub enum Item<O, V> {
 
 /// Parses an expression of operators with levels, and with brackets inside one another, at most `depth` of them.
 ///
-/// `levels` says how the operators of each level stand and group, the level first that binds least; an operator of a level that it doesn't have fits nowhere. `awaited` answers the parser of what stands where an operand is awaited: an operand, a prefix operator or an opening bracket. `inside` and `outside` answer that of what stands behind an operand, in brackets and outside of them: an operator, or [`Item::Close`] for the end. That is the closing bracket inside, and outside that no operator follows, as `map(optional(operator), |next| next.unwrap_or(Item::Close))`. Each is as a step of [`nested`]: [`always`](combine_nested::nested::always) for a parser that is `Copy`, or a function of the part that is open. The value is that of the expression in which what is in brackets is an operand; it is committed exactly if a step was.
+/// `levels` says how the operators of each level stand and group, the level first that binds least. An operator of a level that it doesn't have fits nowhere. The value is that of the expression in which what is in brackets is an operand; it is committed exactly if a step was.
 ///
-/// With the levels `[Left, Left, Prefix, Right]` of `+`, `*`, `-` in front and `^`, `1 + 2 * 3` is `1 + (2 * 3)`, `-2 ^ 2` is `-(2 ^ 2)`, and `2 ^ -2` is refused, since what is on the right of `^` is of its level or a higher one.
+/// Three functions return the parsers of the steps:
+///
+/// - `awaited` that of what stands where an operand is awaited: an operand, a prefix operator or an opening bracket.
+/// - `inside` that of what stands after an operand in brackets: an operator, or [`Item::Close`] for the closing bracket.
+/// - `outside` that of what stands after an operand outside of brackets: an operator, or [`Item::Close`] where no operator follows, as `map(optional(operator), |next| next.unwrap_or(Item::Close))`.
+///
+/// Each is as a step of [`nested`]: [`always`](combine_nested::nested::always) for a parser that is `Copy`, or a function of the part that is open.
 ///
 /// # Errors
 ///
-/// What a step's parser refuses is refused, committed if a step before it was. So is what an operator refuses, with its message, and what begins no expression: an operator with the message `operator cannot stand here`, an operand behind an operand with `operand cannot stand here`, and an end where an operand is awaited with `operand expected`. These are committed if this step or one before it was. An operator is given its operands as soon as they are read, so what it refuses is refused before what follows is looked at. A bracket too many is refused committed, with the message `nesting too deep`.
+/// - What a step's parser refuses is refused, committed if a step before it was.
+/// - What an operator refuses is refused with its message. An operator is given its operands as soon as they are read, so what it refuses is refused before what follows is looked at.
+/// - What begins no expression is refused: an operator with the message `operator cannot stand here`, an operand after an operand with `operand cannot stand here`, and an end where an operand is awaited with `operand expected`.
+/// - A bracket too many is refused committed, with the message `nesting too deep`.
+///
+/// The second and the third are committed if this step or one before it was.
 ///
 /// # Partial input
 ///
 /// The state keeps the operators and the operands that wait, and the step that runs. Nothing is left unread where the parsers of the steps leave nothing.
+///
+/// # Examples
+///
+/// With the levels `[Left, Left, Prefix, Right]` of `+`, `*`, `-` in front and `^`, `1 + 2 * 3` is `1 + (2 * 3)`, and `-2 ^ 2` is `-(2 ^ 2)`. `2 ^ -2` is refused, since what is on the right of `^` is of its level or a higher one.
 #[inline]
 pub fn expression<O: Operator, A, B, C, const N: usize>(
     alloc: Global,
@@ -97,7 +114,7 @@ pub fn expression<O: Operator, A, B, C, const N: usize>(
 ) -> Expression<O, O::Value, A, B, C, N>
     ensures depth { depth_part result ≡ depth }
     ensures root { MakesOutermost alloc levels.entry (root_part result) }
-    ensures steps { asked_part result ≡ if_else_of record {} awaited (if_else_of record {} inside outside) }
+    ensures steps { step_asker result ≡ if_else_of record {} awaited (if_else_of record {} inside outside) }
 {
     let behind = if_else(InBrackets, inside, outside);
     let steps = if_else(Awaits, awaited, behind);

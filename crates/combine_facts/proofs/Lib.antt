@@ -1,8 +1,8 @@
-pub mod Taken
-pub mod Changed
-pub mod Choosing
-pub mod Tuples
-pub mod Counting
-pub mod Turning
-pub mod Driving
+pub mod TokenFacts
+pub mod MapFacts
+pub mod ChoiceFacts
+pub mod TupleFacts
+pub mod CountFacts
+pub mod TurnFacts
+pub mod DriverFacts
 pub mod Facts

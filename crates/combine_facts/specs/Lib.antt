@@ -1,4 +1,4 @@
 pub mod Reads
-pub mod Joined
-pub mod Gathered
-pub mod Driven
+pub mod PartReads
+pub mod TurnReads
+pub mod DriverReads

@@ -1,4 +1,4 @@
-mod Settling
-mod Stepping
+mod FrameStack
+mod StepCuts
 mod StepErrors
 mod EachStep

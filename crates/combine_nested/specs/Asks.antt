@@ -2,7 +2,7 @@
 use Rattle.std.specs.Prelude.{Bool, true, false}
 use Rattle.combine_choice_dispatch.specs.declared.variants.either.Either.{Either}
 use Rattle.combine_choice_dispatch.specs.declared.variants.either.Either.TheVariants.{Left, Right}
-use Rattle.combine_combinator_lazy.specs.Made.{MadeBySome}
+use Rattle.combine_combinator_lazy.specs.MadeParsers.{MadeBySome}
 use Rattle.combine_nested.specs.declared.nested.asked.Always.{Always}
 use Rattle.combine_nested.specs.declared.nested.asked.IfElse.{IfElse}
 

@@ -1,14 +1,12 @@
 pub use Rattle.combine_base.specs.Error.Results
 pub use Rattle.combine_base.specs.Parser.Answer
-pub use Rattle.combine_base.specs.Parser.Called
+pub use Rattle.combine_base.specs.Parser.ParserCalls
 pub use Rattle.combine_base.specs.Parser.Meaning
 pub use Rattle.combine_base.specs.Parser.Outcome
 pub use Rattle.combine_base.specs.Sequence.Readings
 pub use Rattle.combine_base.specs.Stream.Calls
 pub use Rattle.combine_base.specs.Stream.View
 pub mod Asks
-pub mod Nesting
-pub mod NestingErrors
-pub mod NestingLaws
-pub mod NestingOne
+pub mod NestedSteps
+pub mod AlikeFrames
 pub mod StepCalls

@@ -1,9 +1,11 @@
 //! Grammars that nest, with their open frames in memory.
 //!
-//! A grammar that nests is read step by step. What is open is a stack of frames of a caller's own type: an array whose elements come, a bracket, an operator that waits for its operand. The innermost frame chooses the parser of the next step, and takes its item: it goes on, opens a frame inside itself, is closed with a value, which the frame round it is given, or refuses. Nothing recurses, so no input overflows the call stack, and a parse goes on at the step where a piece ended.
+//! A grammar that nests is read step by step. What is open is a stack of frames of a caller's own type: an array whose elements come, a bracket, an operator that waits for its operand. The innermost frame chooses the parser of the next step, and takes its item: it goes on, opens a frame inside itself, is closed with a value, which the frame round it is given, or refuses.
+//!
+//! Nothing recurses, so no input overflows the call stack, and a parse goes on at the step where a piece ended.
 ghost use Rattle.std.specs.Prelude.{◌≡◌, MatchResult};
 ghost use Rattle.combine_nested.specs.Asks.{always_of, if_else_of};
-ghost use Rattle.combine_nested.specs.Nesting.{nested_of};
+ghost use Rattle.combine_nested.specs.NestedSteps.{nested_of};
 
 pub mod asked;
 mod steps;
@@ -20,7 +22,7 @@ pub enum Next<F, V> {
     Stay(F),
     /// It goes on as the first, and the second is opened inside it.
     Open(F, F),
-    /// It is closed with this value, which the frame round it is given; that of the outermost is the answer.
+    /// It is closed with this value, which the frame round it is given; that of the outermost is the value of all.
     Close(V),
     /// It refuses, with this message.
     Refuse(&'static str),
@@ -28,7 +30,7 @@ pub enum Next<F, V> {
 
 /// A frame that is open.
 ///
-/// Each method takes the frame, and says what comes of it. An error is want of memory.
+/// Each method takes the frame, and returns what comes of it, or `AllocError` if memory isn't found.
 pub trait Frame: Drop {
     ghost use Rattle.std.specs.Prelude.{MatchResult, ◌≡◌};
     ghost use Rattle.combine_nested.specs.declared.nested.Next.{Next};
@@ -54,30 +56,35 @@ pub trait Frame: Drop {
     /// Values that frames are given alike.
     ghost alike_values: { Self.Value → Self.Value → Type 0 } = { λ v w. v ≡ w };
 
-    /// Takes an item that was read while this was the innermost frame, and answers what comes of it.
+    /// Takes an item that was read while this was the innermost frame, and returns what comes of it.
     fn take(self, item: Self::Item) -> Result<Next<Self, Self::Value>, AllocError>
         ensures { MatchResult result (takes self item) (λ _. Unit {0}) };
 
-    /// Takes the value with which a frame inside this one was closed, and answers what comes of it.
+    /// Takes the value with which a frame inside this one was closed, and returns what comes of it.
     fn join(self, value: Self::Value) -> Result<Next<Self, Self::Value>, AllocError>
         ensures { MatchResult result (joins self value) (λ _. Unit {0}) };
 }
 
 /// Parses steps, one after another, over frames that are open inside one another, at most `depth` of them inside the outermost.
 ///
-/// `root` makes the outermost frame. `step` answers the parser of each step, by the innermost frame, which takes its item: a function of the frame, or [`always`] for the same parser at each step, or [`if_else`] for one of two. The value is that with which the outermost frame is closed; it is committed exactly if a step was.
+/// `root` makes the outermost frame. `step` returns the parser of each step, by the innermost frame, which takes its item: a function of the frame, or [`always`] for the same parser at each step, or [`if_else`] for one of two. The value is that with which the outermost frame is closed; it is committed exactly if a step was.
 ///
 /// Open frames are kept in memory of `alloc`, one after another. To give a frame the place at which an item stood, read it with the item, as `(position(), item)`.
 ///
 /// # Errors
 ///
-/// What a step's parser refuses is refused, committed if a step before it was. So is what a frame refuses, with its message, committed if this step or one before it was. A frame too many is refused committed, with the message `nesting too deep`; and a step that takes no token, and leaves as many frames open as there were, with `repetition takes nothing`. Messages stand at the position where the step began, in the piece in which it ends.
+/// - What a step's parser refuses is refused, committed if a step before it was.
+/// - What a frame refuses is refused with its message, committed if this step or one before it was.
+/// - A frame too many is refused committed, with the message `nesting too deep`.
+/// - A step that takes no token, and leaves as many frames open as there were, is refused committed, with `repetition takes nothing`.
+///
+/// Messages stand at the position where the step began, in the piece in which it ends.
 ///
 /// # Partial input
 ///
 /// The state keeps the open frames and the step that runs. Nothing is left unread where the parsers of the steps leave nothing.
 ///
-/// # Example
+/// # Examples
 ///
 /// How many pairs of brackets stand inside others. `brackets.rt` of `tests_nested` has it whole, with what is promised of it.
 ///
@@ -121,7 +128,7 @@ pub fn nested<R, S>(alloc: Global, depth: usize, root: R, step: S) -> Nested<R, 
     }
 }
 
-/// Answers the same parser at each step.
+/// Returns the same parser at each step.
 #[inline]
 pub fn always<P>(parser: P) -> Always<P>
     ensures { result ≡ always_of parser }
@@ -129,7 +136,7 @@ pub fn always<P>(parser: P) -> Always<P>
     Always(parser)
 }
 
-/// Answers what `first` does where `test` holds of the innermost frame, and else what `second` does.
+/// Returns what `first` does where `test` holds of the innermost frame, and else what `second` does.
 #[inline]
 pub fn if_else<C, A, B>(test: C, first: A, second: B) -> IfElse<C, A, B>
     ensures { result ≡ if_else_of test first second }

@@ -1,12 +1,12 @@
-mod Exact
-pub mod Kept
-pub mod Measuring
-pub mod Peeked
-pub mod Reasons
-pub mod Recognizing
-pub mod Seeking
-pub mod Since
-pub mod Stopping
-pub mod Testing
-pub mod Tokens
-pub mod Walking
+mod RecognizedRange
+pub mod KeptDistance
+pub mod LengthCalls
+pub mod PeekedRefusals
+pub mod RangeReasons
+pub mod RecognizedCalls
+pub mod RangePlaces
+pub mod CheckpointRanges
+pub mod UntilRange
+pub mod RangeTests
+pub mod FairTests
+pub mod BeginningCalls

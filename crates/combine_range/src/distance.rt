@@ -1,6 +1,6 @@
 //! What range parsers and searches keep over a cut.
 
-/// What a range parser or a search keeps over a cut: the number of items that the next call passes over.
+/// What a range parser or a search keeps over a cut: how many items the next call passes over.
 #[derive(Drop)]
 pub struct Distance {
     pub(crate) items: usize,
@@ -11,7 +11,7 @@ impl Default for Distance {
 
     ghost is_default = { λ d. d.items ≡ 0 };
 
-    /// No items.
+    /// Returns the distance of no items.
     #[inline]
     fn default() -> Self {
         Distance { items: 0 }

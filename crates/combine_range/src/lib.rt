@@ -1,8 +1,8 @@
-//! Parsers that answer parts of the input as they stand there.
+//! Parsers that give parts of the input as they stand there.
 #![tactic(auto)]
 
 pub mod distance;
+pub mod kept_distance;
 pub mod laws;
-pub mod passing;
 pub mod places;
 pub mod range;

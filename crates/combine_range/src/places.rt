@@ -1,13 +1,15 @@
 //! The first place where a range stands.
 ghost use Rattle.std.specs.Prelude.{◌≡◌};
 ghost use Rattle.combine_base.specs.Stream.Calls.{Passes};
-ghost use Rattle.combine_range.specs.Tested.{Seeks, Tells};
-ghost use Rattle.combine_range.specs.Wanted.{given};
+ghost use Rattle.combine_range.specs.RangeTests.{Seeks, TestsHere};
+ghost use Rattle.combine_range.specs.WantedRanges.{equal_range};
 
 use combine_base::stream::{Kind, ResetStream, StreamOnce};
 use combine_stream::range::{Range, RangeStream};
 
-/// Whether the unread tokens begin with a range, if enough items are left to say. The stream stays in place, unless a read or a reset fails.
+/// Returns whether the unread tokens begin with a range, if enough items are left to say.
+///
+/// The stream stays in place, unless a read or a reset fails.
 #[inline(always)]
 pub fn begins_with<Input: RangeStream>(
     input: &mut Input,
@@ -16,7 +18,7 @@ pub fn begins_with<Input: RangeStream>(
 where
     Input::Range: Range + PartialEq,
     ensures passes { Passes (Input.marks input.old) (Input.marks input.new) (Input.failures input.old) (Input.failures input.new) }
-    ensures tells { Tells Input.steady Input.step Input.size Input.spells (given Input.Range.count Input.Range.eq wanted) (Input.view input.old) (Input.view input.new) (Input.failures input.old) (Input.failures input.new) result }
+    ensures tells { TestsHere Input.counts_failures Input.step Input.size Input.spells (equal_range Input.Range.count Input.Range.eq wanted) (Input.view input.old) (Input.view input.new) (Input.failures input.old) (Input.failures input.new) result }
 {
     let here = input.checkpoint();
     match input.uncons_range(wanted.len()) {
@@ -42,7 +44,7 @@ pub fn seek<Input: RangeStream>(input: &mut Input, wanted: Input::Range) -> Resu
 where
     Input::Range: Range + PartialEq,
     ensures passes { Passes (Input.marks input.old) (Input.marks input.new) (Input.failures input.old) (Input.failures input.new) }
-    ensures seeks { Seeks Input.steady Input.step Input.size Input.spells (given Input.Range.count Input.Range.eq wanted) (Input.view input.old) (Input.view input.new) (Input.failures input.old) (Input.failures input.new) result }
+    ensures seeks { Seeks Input.counts_failures Input.step Input.size Input.spells (equal_range Input.Range.count Input.Range.eq wanted) (Input.view input.old) (Input.view input.new) (Input.failures input.old) (Input.failures input.new) result }
 {
     loop {
         match begins_with(input, wanted) {

@@ -1,8 +1,8 @@
-//! Parsers that answer ranges: parts of the input, as they stand there.
+//! Parsers that give ranges: parts of the input, as they stand there.
 //!
 //! They run over every stream that hands out ranges. On need of more each puts the stream back to where it began.
 ghost use Rattle.std.specs.Prelude.{◌≡◌};
-ghost use Rattle.combine_range.specs.RangeParsers.{range_of, recognize_of, recognize_with_value_of, take_of, take_until_range_of, take_while_of, take_while1_of};
+ghost use Rattle.combine_range.specs.Range.RangeParsers.{range_of, recognize_of, recognize_with_value_of, take_of, take_until_range_of, take_beginning_of};
 
 mod beginnings;
 mod lengths;
@@ -12,11 +12,36 @@ mod until;
 
 pub use recognized::RecognizeState;
 use std::marker::PhantomData;
-use types::{Range, Recognize, RecognizeWithValue, Take, TakeUntilRange, TakeWhile, TakeWhile1};
+use types::{
+    Range, Recognize, RecognizeWithValue, Take, TakeBeginning, TakeUntilRange, TakeWhile,
+    TakeWhile1,
+};
 
-/// Parses as many first items as the range has, if they are that range: accepted committed, also where the range is empty. If they are others: refused peeked, with the items put back. The value is the range that was read.
+/// Takes as many first items as the range has, if they are that range.
 ///
-/// The length is judged first: too few items of an open piece are need of more, also where they differ already. The next call begins again. Too few items of ended input, and an end inside a character, are refused peeked. The error of a refusal stands where the items begin; that of too few says that the input ended, another nothing. Faults: `Read` and `Reset` where the stream failed, `Memory` where an error found none for its text.
+/// The value is the range that was read.
+///
+/// The acceptance is committed, also where the range is empty. The length is judged first: too few items of an open piece are need of more, also where they differ already.
+///
+/// # Errors
+///
+/// - Other items are put back and refused peeked. Too few items of ended input, and an end inside a character, are refused peeked.
+/// - The error of a refusal stands where the items begin. That of too few says that the input ended, another nothing.
+/// - Faults are `Read` and `Reset` of the stream, and `Memory` if an error finds none for its text.
+///
+/// # Partial input
+///
+/// On need of more the stream is put back, and the next call begins again.
+///
+/// # Examples
+///
+/// ```
+/// fn keyword(text: &str) -> Result<(&str, &str), UnexpectedParse> {
+///     range("let").parse(text)
+/// }
+/// ```
+///
+/// On `"let x"` it returns `("let", " x")`.
 #[inline]
 pub fn range<Input, R>(wanted: R) -> Range<Input, R>
     ensures { result ≡ range_of wanted }
@@ -27,9 +52,33 @@ pub fn range<Input, R>(wanted: R) -> Range<Input, R>
     }
 }
 
-/// Takes the first `count` items: tokens of a slice, or bytes of a text. Accepted committed, or peeked where `count` is 0.
+/// Takes the first `count` items: tokens of a slice, or bytes of a text.
 ///
-/// Too few items of an open piece are need of more; the next call begins again. Too few items of ended input are refused peeked, and so is an end inside a character as soon as so many bytes stand there. The error stands where the items begin; that of too few says that the input ended, the other nothing. Faults: `Read` where the stream failed, `Memory` where an error found none for its text.
+/// The acceptance is committed, or peeked where `count` is 0.
+///
+/// # Errors
+///
+/// - Too few items of ended input are refused peeked, and so is an end inside a character, as soon as so many bytes stand there.
+/// - The error stands where the items begin. That of too few says that the input ended, the other nothing.
+/// - Faults are `Read` of the stream, and `Memory` if an error finds none for its text.
+///
+/// # Partial input
+///
+/// Too few items of an open piece are need of more; the next call begins again.
+///
+/// # Differences from combine
+///
+/// Over partial text the crate's refuses an end inside a character committed, or asks for more.
+///
+/// # Examples
+///
+/// ```
+/// fn pair(input: &[u8]) -> Result<(&[u8], &[u8]), UnexpectedParse> {
+///     take(2).parse(input)
+/// }
+/// ```
+///
+/// On `b"abc"` it returns `(b"ab", b"c")`.
 #[inline]
 pub fn take<Input>(count: usize) -> Take<Input>
     ensures { result ≡ take_of count }
@@ -40,35 +89,89 @@ pub fn take<Input>(count: usize) -> Take<Input>
     }
 }
 
-/// Takes the longest beginning whose tokens the predicate holds of: accepted committed, or peeked where it is empty.
+/// Takes the longest beginning whose tokens the predicate holds of.
 ///
-/// Where it is all of an open piece more is asked for; the next call doesn't begin again, but passes over the items read so far and goes on. It is never refused, but from a kept distance that ends inside a token of other input. Faults: `Lost` where the input is shorter than what an earlier call read; `Read` and `Reset` where the stream failed. The crate takes an `FnMut`.
+/// The acceptance is committed, or peeked where the beginning is empty.
+///
+/// # Errors
+///
+/// - It is never refused, but from a kept distance that ends inside a token of other input.
+/// - Faults are `Lost`, if the input is shorter than what an earlier call read, and `Read` and `Reset` of the stream.
+///
+/// # Partial input
+///
+/// If the beginning is all of an open piece more is asked for. The next call doesn't begin again, but passes over the items read so far and goes on.
+///
+/// # Differences from combine
+///
+/// The predicate is an `Fn`, where the crate takes an `FnMut`.
+///
+/// # Examples
+///
+/// ```
+/// fn blanks(text: &str) -> Result<(&str, &str), UnexpectedParse> {
+///     take_while(|character: char| character == ' ').parse(text)
+/// }
+/// ```
+///
+/// On `"  a"` it returns `("  ", "a")`, and on `"a"` `("", "a")`.
 #[inline]
 pub fn take_while<Input, F>(predicate: F) -> TakeWhile<Input, F>
-    ensures { result ≡ take_while_of predicate }
+    ensures { result ≡ take_beginning_of predicate }
 {
-    TakeWhile {
+    TakeBeginning {
         predicate,
         reads: PhantomData,
     }
 }
 
-/// Parses as `take_while` does, but an empty beginning is refused peeked.
+/// Takes the longest beginning as `take_while` does, but refuses an empty one peeked.
 ///
-/// The error stands where the beginning would. Where nothing is left of ended input, it is of kind `End` and says so; one that finds no memory for that is the fault `Memory`. At a token it says nothing.
+/// # Errors
+///
+/// The error stands where the beginning would. If nothing is left of ended input, it is of kind `End` and says so; one that finds no memory for that is the fault `Memory`. At a token it says nothing. Faults are those of `take_while`.
+///
+/// # Examples
+///
+/// ```
+/// fn first_word(text: &str) -> Result<(&str, &str), UnexpectedParse> {
+///     take_while1(|character: char| character != ' ').parse(text)
+/// }
+/// ```
+///
+/// On `"let x"` it returns `("let", " x")`; `" x"` is refused peeked.
 #[inline]
 pub fn take_while1<Input, F>(predicate: F) -> TakeWhile1<Input, F>
-    ensures { result ≡ take_while1_of predicate }
+    ensures { result ≡ take_beginning_of predicate }
 {
-    TakeWhile1 {
+    TakeBeginning {
         predicate,
         reads: PhantomData,
     }
 }
 
-/// Takes what stands before the first occurrence of a range: accepted committed, or peeked where that is nothing. Where it doesn't occur in ended input: refused peeked, with an error of kind `End` that stands where the call began, whatever was searched, and says that the input ended.
+/// Takes what stands before the first occurrence of a range.
 ///
-/// Where it isn't found in an open piece more is asked for; the next call doesn't begin again, but passes over the items that were searched and goes on. Faults: `Lost` where the input is shorter than what an earlier call searched; `Read` and `Reset` where the stream failed; `Memory` where an error found none for its text. The range occurs where the one that is read there is equal to it; so it is found at one place only if ranges of the same tokens are all equal to it or all not.
+/// The acceptance is committed, or peeked where nothing stands before it. The range occurs where the one that is read there is equal to it. So it is found at one place only if ranges of the same tokens are all equal to it or all not.
+///
+/// # Errors
+///
+/// - If it doesn't occur in ended input, that is refused peeked. The error is of kind `End`, stands where the call began, whatever was searched, and says that the input ended.
+/// - Faults are `Lost`, if the input is shorter than what an earlier call searched, `Read` and `Reset` of the stream, and `Memory` if an error finds none for its text.
+///
+/// # Partial input
+///
+/// If it isn't found in an open piece more is asked for. The next call doesn't begin again, but passes over the items that were searched and goes on.
+///
+/// # Examples
+///
+/// ```
+/// fn line(text: &str) -> Result<(&str, &str), UnexpectedParse> {
+///     take_until_range("\r\n").parse(text)
+/// }
+/// ```
+///
+/// On `"a\r\nb"` it returns `("a", "\r\nb")`.
 #[inline]
 pub fn take_until_range<Input, R>(wanted: R) -> TakeUntilRange<Input, R>
     ensures { result ≡ take_until_range_of wanted }
@@ -79,9 +182,27 @@ pub fn take_until_range<Input, R>(wanted: R) -> TakeUntilRange<Input, R>
     }
 }
 
-/// Gives the range of the tokens that `p` takes: accepted committed, or peeked where `p` takes none, whichever kind `p` has. What `p` refuses is refused alike, with its error.
+/// Gives the range of the tokens that `p` takes.
 ///
-/// On need of more `p` doesn't begin again: the state keeps the items that were read and the state of `p`; the next call passes over these items and goes on. Faults are those of `p`; `Lost` where the input is shorter than what was read; `Read` and `Reset` where the stream failed. It counts as one parser.
+/// The acceptance is committed, or peeked where `p` takes none, whichever kind `p` has. It counts as one parser.
+///
+/// # Errors
+///
+/// What `p` refuses is refused alike, with its error. Faults are those of `p`, `Lost`, if the input is shorter than what was read, and `Read` and `Reset` of the stream.
+///
+/// # Partial input
+///
+/// On need of more `p` doesn't begin again. The state keeps the items that were read and the state of `p`; the next call passes over these items and goes on.
+///
+/// # Examples
+///
+/// ```
+/// fn number(input: &[u8]) -> Result<(&[u8], &[u8]), UnexpectedParse> {
+///     recognize((optional(token(b'-')), skip_many1(digit()))).parse(input)
+/// }
+/// ```
+///
+/// On `b"-12;"` it returns `(b"-12", b";")`.
 #[inline]
 pub fn recognize<P>(p: P) -> Recognize<P>
     ensures { result ≡ recognize_of p }

@@ -1,3 +1,3 @@
 pub mod OneLengths
-pub mod Prefixed
-pub mod Refusing
+pub mod LengthAndItems
+pub mod PrefixErrors

@@ -1,14 +1,14 @@
 -- a length, and then so many items
 use Rattle.std.specs.Prelude.{ℕ, codes, ◌+◌, ◌≡◌, ◌⊎◌, List, Bool, ◌||◌, false, nat_lt, Result, Ok, Err}
-use Rattle.combine_base.specs.Error.Errors.{Errors, Nothing, Only, Says}
-use Rattle.combine_base.specs.Error.Items.{Item, Fixed, Message}
+use Rattle.combine_base.specs.Error.Errors.{Observers, AddsNothing, Only, AddsItems}
+use Rattle.combine_base.specs.Error.Items.{ErrorItem, Fixed, Message}
 use Rattle.combine_base.specs.Parser.Drivers.{AtToken}
 use Rattle.combine_base.specs.Parser.Meaning.{Reading, Refusing, MeantRefusal}
 use Rattle.combine_base.specs.Parser.Outcome.{Accepted, Refused, Undecided}
 use Rattle.combine_base.specs.Stream.View.{View, Takes, advanced}
 use Rattle.combine_combinator_function.specs.Changes.{MadeSaying}
-use Rattle.combine_range.specs.Lengths.{First, Unfit, Waits}
-use Rattle.combine_range.specs.Reasons.{RefusesLength}
+use Rattle.combine_range.specs.Range.Lengths.{IsFirstRange, UnfitLength, WaitsForLength}
+use Rattle.combine_range.specs.RangeReasons.{RefusesLength}
 
 module _ {A E : Type 0} (turned : A → Result ℕ E → Type 0) where
   -- a value that is no length
@@ -16,7 +16,7 @@ module _ {A E : Type 0} (turned : A → Result ℕ E → Type 0) where
   FitsNone a = (e : E) × turned a (Err e)
 
   -- what is said of it
-  abbrev pub out_of_range : {T R : Type 0} → A → List (Item T R) → Type 0
+  abbrev pub out_of_range : {T R : Type 0} → A → List (ErrorItem T R) → Type 0
   out_of_range a is = FitsNone a × Only (Message (Fixed (codes "length out of range"))) is
 
 -- both are that length, or both are none
@@ -50,13 +50,13 @@ module _ {P T A E : Type 0} (turned : A → Result ℕ E → Type 0) (r : Readin
 
 module _ {P T A E R : Type 0} (step : P → T → P) (size : T → ℕ) (spells : R → List T → Type 0) (turned : A → Result ℕ E → Type 0) (r : Reading P T A) where
   -- behind a length stand so many items, and this is their range
-  pub record Framed (v : View P T) (q : R) (n : ℕ) (c : Bool) : Type 0 where
+  pub record LengthAndItems (v : View P T) (q : R) (n : ℕ) (c : Bool) : Type 0 where
     pub length : ℕ
     pub before : ℕ
     pub committed : Bool
     pub read : ReadsLength turned r v length before committed
     pub count : ℕ
-    pub first : First size spells length (advanced step before v) q count
+    pub first : IsFirstRange size spells length (advanced step before v) q count
     pub sum : n ≡ before + count
     pub kind : c ≡ (committed || nat_lt 0 length)
 
@@ -65,30 +65,30 @@ module _ {P T A E R : Type 0} (step : P → T → P) (size : T → ℕ) (spells 
     pub length : ℕ
     pub before : ℕ
     pub read : ReadsLength turned r v length before c
-    pub unfit : Unfit size spells length (advanced step before v)
+    pub unfit : UnfitLength size spells length (advanced step before v)
 
   -- behind a length the items are still too few
-  pub record Awaits (v : View P T) : Type 0 where
+  pub record AwaitsItems (v : View P T) : Type 0 where
     pub length : ℕ
     pub before : ℕ
     pub committed : Bool
     pub read : ReadsLength turned r v length before committed
-    pub waits : Waits size spells length (advanced step before v)
+    pub waits : WaitsForLength size spells length (advanced step before v)
 
   -- A length is read by r, and then that many items: committed if the length was, or if there is an item. What fits no length, and a length that stands before too few items, are refused with the kind of the length.
   abbrev pub prefixed : Reading P T R
-  prefixed v (Accepted q n c) = Framed v q n c
+  prefixed v (Accepted q n c) = LengthAndItems v q n c
   prefixed v (Refused c) = r v (Refused c) ⊎ (ReadsNone turned r v c ⊎ Unframed v c)
-  prefixed v Undecided = r v Undecided ⊎ Awaits v
+  prefixed v Undecided = r v Undecided ⊎ AwaitsItems v
 
-module _ {P T A X R E : Type 0} (step : P → T → P) (seen : Errors T R P E) (size : T → ℕ) (spells : R → List T → Type 0) (turned : A → Result ℕ X → Type 0) (r : Reading P T A) where
+module _ {P T A X R E : Type 0} (step : P → T → P) (observers : Observers T R P E) (size : T → ℕ) (spells : R → List T → Type 0) (turned : A → Result ℕ X → Type 0) (r : Reading P T A) where
   -- a value that is no length: its tokens stay taken, and the error is made where the call began, and says so
   pub record SaysNone (v w : View P T) (committed : Bool) (e : E) : Type 0 where
     pub value : A
     pub count : ℕ
     pub accepted : r v (Accepted value count committed)
     pub taken : Takes step count v w
-    pub said : MadeSaying seen (out_of_range turned value) v.position e
+    pub said : MadeSaying observers (out_of_range turned value) v.position e
 
   -- too few items, or an end inside a token: what stands behind the length is left; the error is that of `take`, made there, and then says which token stands there
   pub record SaysUnframed (v w : View P T) (committed : Bool) (e : E) : Type 0 where
@@ -97,8 +97,8 @@ module _ {P T A X R E : Type 0} (step : P → T → P) (seen : Errors T R P E) (
     pub read : ReadsLength turned r v length before committed
     pub left : w ≡ advanced step before v
     pub own : E
-    pub made : RefusesLength seen size spells length w w false own
-    pub explained : Says seen (Unit {0}) (AtToken Nothing w.unread) own e
+    pub made : RefusesLength observers size spells length w w false own
+    pub explained : AddsItems observers (Unit {0}) (AtToken AddsNothing w.unread) own e
 
   -- the error of a refusal: where no length was read the part's, or that of a value that is none; or that behind a length
   pub data RefusesPrefixed (part : Refusing P T E) (v w : View P T) (committed : Bool) (e : E) : Type 0 where

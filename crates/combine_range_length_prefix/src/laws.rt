@@ -10,7 +10,7 @@ use crate::range::types::LengthPrefix;
 use combine_base::parser::Parser;
 use combine_stream::range::{Range, RangeStream};
 
-/// A length is read, and then so many items, which are the value.
+/// The law that a length is read, and then so many items, which are the value.
 #[inline]
 pub fn length_prefix_is_a_length_and_its_items<Input: RangeStream, P: Parser<Input>>(p: &P)
 where
@@ -20,7 +20,7 @@ where
     ensures { (v : View Input.Position Input.Token) (o : Outcome Input.Range) → (⟦<LengthPrefix<Input, P, Input::Range> as Parser<Input>>⟧.meaning (length_prefix_of p.now)).whole v o ↔ prefixed Input.step Input.size Input.spells P.Output.try_into_gives (P.meaning p.now).whole v o }
 {}
 
-/// It has one outcome where the part has one, and the values that the part may have at one place are the same length.
+/// The law that it has one outcome where the part has one, and the values that the part may have at one place are the same length.
 #[inline]
 pub fn length_prefix_has_one_outcome<Input: RangeStream, P: Parser<Input>>(p: &P)
 where
@@ -33,12 +33,14 @@ where
     ensures { ⟦<LengthPrefix<Input, P, Input::Range> as Parser<Input>>⟧.determined (length_prefix_of p.now) }
 {}
 
-/// Where no length was read, the error of a refusal is the part's, or that of a value that is no length, made where the call began; behind a length it is that of too few items, or of an end inside a token, made there and explained there.
+/// The law of its refusals.
+///
+/// If no length was read, the error of a refusal is the part's, or that of a value that is no length, made where the call began. After a length it is that of too few items, or of an end inside a token, made there and explained there.
 #[inline]
 pub fn length_prefix_refuses<Input: RangeStream, P: Parser<Input>>(p: &P)
 where
     Input::Range: Range,
     P::Output: TryInto<usize>,
     <P::Output as TryInto<usize>>::Error: Drop,
-    ensures { SameReasons (⟦<LengthPrefix<Input, P, Input::Range> as Parser<Input>>⟧.meaning (length_prefix_of p.now)).refuses (RefusesPrefixed Input.step Input.Error.seen Input.size Input.spells P.Output.try_into_gives (P.meaning p.now).whole (P.meaning p.now).refuses) }
+    ensures { SameReasons (⟦<LengthPrefix<Input, P, Input::Range> as Parser<Input>>⟧.meaning (length_prefix_of p.now)).refuses (RefusesPrefixed Input.step Input.Error.observers Input.size Input.spells P.Output.try_into_gives (P.meaning p.now).whole (P.meaning p.now).refuses) }
 {}

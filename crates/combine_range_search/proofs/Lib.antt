@@ -1,5 +1,5 @@
-pub mod Bounding
-pub mod Calling
-pub mod Looking
-pub mod Reasons
-pub mod Scanning
+pub mod ItemLimit
+pub mod SearchCalls
+pub mod ByteSearch
+pub mod SearchReasons
+pub mod ByteScans

@@ -1,11 +1,3 @@
 pub use Rattle.combine_base.specs.Parser.Meaning
-pub mod Asking
-pub mod Encoding
-pub mod InBytes
-pub mod Options
-pub mod Reasons
-pub mod Scans
-pub mod Searchers
-pub mod Searches
-pub mod Stable
-pub mod UpTo
+pub mod Search
+pub mod Bytes

@@ -1,7 +1,7 @@
 //! Streams of bytes, and searches for bytes.
 ghost use Rattle.std.specs.Prelude.{◌≡◌, ℕ, List, length};
-ghost use Rattle.combine_range.specs.Wanted.{Wanted};
-ghost use Rattle.combine_range_search.specs.InBytes.{Finds, bytes_of, in_bytes, in_bytes_is_one, in_bytes_is_search};
+ghost use Rattle.combine_range.specs.WantedRanges.{Wanted};
+ghost use Rattle.combine_range_search.specs.Bytes.ByteSearch.{FindsBytes, encoded_bytes, in_bytes, in_bytes_is_one, in_bytes_is_search};
 
 use crate::find::{ByteTest, find_byte, find_bytes};
 use crate::search::{Searcher, TakeRange};
@@ -23,12 +23,12 @@ where
     ghost sized: { (t : Self.Token) → Self.RangeStream.size t ≡ length (encoded t) };
 
     /// The bytes of a range are those of its tokens.
-    ghost spelled: { (r : Self.Range) (ts : List Self.Token) → Self.RangeStream.spells r ts → Self.Range.bytes r ≡ bytes_of encoded ts };
+    ghost spelled: { (r : Self.Range) (ts : List Self.Token) → Self.RangeStream.spells r ts → Self.Range.bytes r ≡ encoded_bytes encoded ts };
 }
 
 impl<'a> ByteStream for &'a [u8] {
     ghost use Rattle.std.specs.Prelude.{refl, [], ◌∷◌};
-    ghost use Rattle.combine_range_search.specs.Encoding.{one_byte, bytes_of_bytes};
+    ghost use Rattle.combine_range_search.specs.Bytes.Encoding.{one_byte, bytes_of_bytes};
 
     ghost encoded = { one_byte };
 
@@ -39,7 +39,7 @@ impl<'a> ByteStream for &'a [u8] {
 
 impl<'a> ByteStream for SliceStream<'a, u8> {
     ghost use Rattle.std.specs.Prelude.{refl};
-    ghost use Rattle.combine_range_search.specs.Encoding.{one_byte, bytes_of_bytes};
+    ghost use Rattle.combine_range_search.specs.Bytes.Encoding.{one_byte, bytes_of_bytes};
 
     ghost encoded = { one_byte };
 
@@ -50,7 +50,7 @@ impl<'a> ByteStream for SliceStream<'a, u8> {
 
 impl<'a> ByteStream for &'a str {
     ghost use Rattle.std.proofs.Math.Utf8.{encode};
-    ghost use Rattle.combine_range_search.specs.Encoding.{sized_encode, bytes_of_chars};
+    ghost use Rattle.combine_range_search.specs.Bytes.Encoding.{sized_encode, bytes_of_chars};
 
     ghost encoded = { encode };
 
@@ -61,7 +61,7 @@ impl<'a> ByteStream for &'a str {
 
 impl<'a> ByteStream for TextStream<'a> {
     ghost use Rattle.std.proofs.Math.Utf8.{encode};
-    ghost use Rattle.combine_range_search.specs.Encoding.{sized_encode, bytes_of_chars};
+    ghost use Rattle.combine_range_search.specs.Bytes.Encoding.{sized_encode, bytes_of_chars};
 
     ghost encoded = { encode };
 
@@ -121,11 +121,11 @@ pub trait Pattern {
     /// So many bytes, and a test of them.
     ghost wanted: { Self → Wanted (List ℕ) };
 
-    /// The first place where they stand.
+    /// Returns the first place where they stand.
     fn find(&self, bytes: &[u8]) -> Option<usize>
-        ensures { Finds (wanted self.now) bytes.now result };
+        ensures { FindsBytes (wanted self.now) bytes.now result };
 
-    /// How many bytes they are.
+    /// Returns how many bytes they are.
     fn len(&self) -> usize
         ensures { result ≡ (wanted self.now).items };
 }
@@ -135,7 +135,7 @@ pub trait Pattern {
 pub struct ByteOf<T>(pub(crate) T);
 
 impl<T: ByteTest> Pattern for ByteOf<T> {
-    ghost use Rattle.combine_range_search.specs.InBytes.{a_byte};
+    ghost use Rattle.combine_range_search.specs.Bytes.ByteSearch.{a_byte};
 
     ghost wanted = { λ p. a_byte (T.passes p.0) };
 
@@ -155,7 +155,7 @@ impl<T: ByteTest> Pattern for ByteOf<T> {
 pub struct Needle<'a>(pub(crate) &'a [u8]);
 
 impl<'a> Pattern for Needle<'a> {
-    ghost use Rattle.combine_range_search.specs.InBytes.{these_bytes};
+    ghost use Rattle.combine_range_search.specs.Bytes.ByteSearch.{these_bytes};
 
     ghost wanted = { λ p. these_bytes p.0.now };
 
@@ -172,9 +172,9 @@ impl<'a> Pattern for Needle<'a> {
 
 /// The search for a pattern in the bytes of a range.
 #[derive(Clone, Drop)]
-pub struct InBytes<W>(pub(crate) W);
+pub struct FindBytes<W>(pub(crate) W);
 
-impl<Input: ByteStream, W: Pattern> Searcher<Input> for InBytes<W>
+impl<Input: ByteStream, W: Pattern> Searcher<Input> for FindBytes<W>
 where
     Input::Range: ByteRange,
 {

@@ -1,20 +1,19 @@
 //! First places of bytes: blocks are looked through whole, so that the compiler compares many bytes at once, and the block that has one again, byte by byte.
 ghost use Rattle.std.specs.Prelude.{◌≡◌, ◌↔◌, ℕ, ◌<◌, Bool, length, false, true};
-ghost use Rattle.combine_range_search.specs.InBytes.{Finds, Stands, a_byte, these_bytes};
-ghost use Rattle.combine_range_search.specs.Scans.{FirstByte, Without};
-ghost use Rattle.combine_stream.specs.Ranges.{Longest};
-ghost use Rattle.combine_range_search.specs.Scans.{fails_all};
+ghost use Rattle.combine_range_search.specs.Bytes.ByteSearch.{FindsBytes, BeginsWithBytes, a_byte, these_bytes};
+ghost use Rattle.combine_range_search.specs.Bytes.ByteScans.{FirstByte, Without, fails_all};
+ghost use Rattle.combine_stream.specs.Range.Ranges.{Longest};
 
 /// A test of a byte.
 pub trait ByteTest {
     ghost passes: { Self → ℕ → Bool };
 
-    /// Whether the byte passes.
+    /// Returns whether the byte passes.
     fn holds(&self, byte: u8) -> bool
         ensures { result ≡ passes self.now byte };
 }
 
-// Whether a byte of a block passes: all are looked at.
+// Returns whether a byte of a block passes: all are looked at.
 #[inline(always)]
 fn any<T: ByteTest>(block: &[u8], test: &T) -> bool
     ensures { result ≡ false → Longest (fails_all (T.passes test.now)) block.now (length block.now) }
@@ -26,7 +25,7 @@ fn any<T: ByteTest>(block: &[u8], test: &T) -> bool
     found
 }
 
-// What is left behind the blocks of `N` bytes in which none passes.
+// Returns what is left after the blocks of `N` bytes in which none passes.
 #[inline(always)]
 fn skip_blocks<'a, T: ByteTest, const N: usize>(bytes: &'a [u8], test: &T) -> &'a [u8]
     requires { 0 < N }
@@ -43,7 +42,7 @@ fn skip_blocks<'a, T: ByteTest, const N: usize>(bytes: &'a [u8], test: &T) -> &'
     rest
 }
 
-// The first place where a byte passes, or the length, byte by byte.
+// Returns the first place where a byte passes, or the length, byte by byte.
 #[inline(always)]
 fn scan<T: ByteTest>(bytes: &[u8], test: &T) -> usize
     ensures { FirstByte (T.passes test.now) bytes.now result }
@@ -58,7 +57,7 @@ fn scan<T: ByteTest>(bytes: &[u8], test: &T) -> usize
     n
 }
 
-/// The first place where a byte passes, or how many bytes there are.
+/// Returns the first place where a byte passes, or how many bytes there are.
 #[inline(always)]
 pub fn first_byte<T: ByteTest>(bytes: &[u8], test: &T) -> usize
     ensures { FirstByte (T.passes test.now) bytes.now result }
@@ -68,10 +67,10 @@ pub fn first_byte<T: ByteTest>(bytes: &[u8], test: &T) -> usize
     bytes.len() - fewer.len() + scan(fewer, test)
 }
 
-/// The first place of a byte that passes.
+/// Returns the first place of a byte that passes.
 #[inline(always)]
 pub fn find_byte<T: ByteTest>(bytes: &[u8], test: &T) -> Option<usize>
-    ensures { Finds (a_byte (T.passes test.now)) bytes.now result }
+    ensures { FindsBytes (a_byte (T.passes test.now)) bytes.now result }
 {
     let place = first_byte(bytes, test);
     if place < bytes.len() {
@@ -125,10 +124,10 @@ impl ByteTest for Three {
     }
 }
 
-// Whether the bytes begin with the needle.
+// Returns whether the bytes begin with the needle.
 #[inline(always)]
 fn begins(bytes: &[u8], needle: &[u8]) -> bool
-    ensures { (result ≡ true) ↔ Stands (these_bytes needle.now) bytes.now }
+    ensures { (result ≡ true) ↔ BeginsWithBytes (these_bytes needle.now) bytes.now }
 {
     if bytes.len() < needle.len() {
         return false;
@@ -137,10 +136,12 @@ fn begins(bytes: &[u8], needle: &[u8]) -> bool
     front == needle
 }
 
-/// The first place of a needle. An empty one stands at 0.
+/// Returns the first place of a needle.
+///
+/// An empty one stands at 0.
 #[inline]
 pub fn find_bytes(bytes: &[u8], needle: &[u8]) -> Option<usize>
-    ensures { Finds (these_bytes needle.now) bytes.now result }
+    ensures { FindsBytes (these_bytes needle.now) bytes.now result }
 {
     let Some((first, _others)) = needle.split_first() else {
         return Some(0);

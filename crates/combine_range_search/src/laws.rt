@@ -1,10 +1,10 @@
-//! What `take_fn` of a function whose answers stay means, stated by functions that do nothing.
+//! What `take_fn` means for a function whose results stay, stated by functions that do nothing.
 ghost use Rattle.std.specs.Prelude.{◌≡◌};
-ghost use Rattle.combine_range.specs.Kept.{items_of};
-ghost use Rattle.combine_range_search.specs.Options.{answers_as};
-ghost use Rattle.combine_range_search.specs.Searchers.{take_fn_of};
-ghost use Rattle.combine_range_search.specs.Searches.{searching};
-ghost use Rattle.combine_range_search.specs.Stable.{Stable, answered_by};
+ghost use Rattle.combine_range.specs.KeptDistance.{items_of};
+ghost use Rattle.combine_range_search.specs.Search.TakeFn.{answers_as};
+ghost use Rattle.combine_range_search.specs.Search.SearchParsers.{take_fn_of};
+ghost use Rattle.combine_range_search.specs.Search.Searches.{searching};
+ghost use Rattle.combine_range_search.specs.Search.StableFunctions.{Stable, answered_by};
 ghost use Rattle.combine_range_search.specs.declared.search.TakeRange.{TakeRange};
 
 use crate::range::types::TakeFn;
@@ -13,7 +13,7 @@ use combine_base::parser::Parser;
 use combine_range::distance::Distance;
 use combine_stream::range::{Range, RangeStream};
 
-/// It has one outcome: the function answers from the tokens alone, what it finds stays on longer ranges, and from any boundary within what need not be searched again it finds the same place.
+/// The law that it has one outcome: the function answers from the tokens alone, what it finds stays on longer ranges, and from any boundary within what need not be searched again it finds the same place.
 pub fn stable_has_one_outcome<Input: RangeStream, T: Into<TakeRange>, F: Fn(Input::Range) -> T>(
     searcher: &F,
 )
@@ -22,7 +22,7 @@ where
     ensures { (f : _) → Stable Input.size Input.spells (answers_as (F.post searcher.now) T.converts) f → ⟦<TakeFn<F, Input> as Parser<Input>>⟧.determined (take_fn_of searcher.now) }
 {}
 
-/// It means what the function answers of all that is unread, or of all that is behind the distance that is kept.
+/// The law that it means what the function returns for all that is unread, or for all that is after the distance that is kept.
 pub fn stable_means_what_it_answers<
     Input: RangeStream,
     T: Into<TakeRange>,

@@ -1,20 +1,22 @@
 //! Searches for a place in what is unread, and the parser of what stands before it.
 ghost use Rattle.std.specs.Prelude.{◌≡◌, List};
-ghost use Rattle.combine_base.specs.Error.Errors.{Nothing};
-ghost use Rattle.combine_range.specs.Kept.{kept, kept_is_meaning, kept_means_one};
-ghost use Rattle.combine_range_search.specs.Reasons.{RefusesSearch};
-ghost use Rattle.combine_range_search.specs.Searches.{IsOneSearch, IsSearch, Search, Searched, searching, searching_is_reading, searching_is_single};
+ghost use Rattle.combine_base.specs.Error.Errors.{AddsNothing};
+ghost use Rattle.combine_range.specs.KeptDistance.{kept, kept_is_meaning, kept_means_one};
+ghost use Rattle.combine_range_search.specs.Search.SearchReasons.{RefusesSearch};
+ghost use Rattle.combine_range_search.specs.Search.Searches.{IsOneSearch, IsSearch, Search, Searched, searching, searching_is_reading, searching_is_single};
 
-use crate::passing::{is_nothing, may_grow, not_found, pass_up_to};
+use crate::absence::{is_nothing, may_grow, not_found, pass_up_to};
 use combine_base::error::{ErrorOffset, ParseResult, Tracked};
 use combine_base::parser::{Outputs, ParseMode, Parser};
 use combine_base::stream::{Positioned, ResetStream, Stream, StreamOnce};
 use combine_range::distance::Distance;
-use combine_range::passing::{begin, hand_out, keep_distance, no_range, not_passed, pass_items};
+use combine_range::kept_distance::{
+    begin, hand_out, keep_distance, no_range, not_passed, pass_items,
+};
 use combine_stream::range::{Range, RangeStream};
 use std::marker::PhantomData;
 
-/// What a search answers, in items from where it began.
+/// What a search finds, in items from where it began.
 #[derive(Debug, Drop, PartialEq)]
 pub enum TakeRange {
     /// The place.
@@ -24,11 +26,11 @@ pub enum TakeRange {
 }
 
 impl From<Option<usize>> for TakeRange {
-    ghost use Rattle.combine_range_search.specs.Options.{place_of};
+    ghost use Rattle.combine_range_search.specs.Search.TakeFn.{found_place};
 
-    ghost from_gives = { λ place answer. answer ≡ place_of place };
+    ghost from_gives = { λ place answer. answer ≡ found_place place };
 
-    /// `None` says nothing of what need not be searched again.
+    /// Turns `None` into what says nothing of what need not be searched again.
     #[inline]
     fn from(place: Option<usize>) -> TakeRange {
         match place {
@@ -64,7 +66,9 @@ where
     ghost one: { (s : Self) → settled s → IsOneSearch (search s) };
 }
 
-/// What stands before the place that a search finds. The state is the distance that need not be searched again.
+/// What stands before the place that a search finds.
+///
+/// The state is the distance that need not be searched again.
 #[derive(Drop)]
 #[derive_where(Clone; S)]
 pub struct Searching<Input, S> {
@@ -88,7 +92,7 @@ where
 
     ghost valid = { λ s. Unit {0} };
 
-    ghost meaning = { λ p. kept Input.size (searching Input.size Input.spells (S.search p.searcher)) Nothing (RefusesSearch Input.Error.seen Input.step Input.size Input.spells (S.search p.searcher)) };
+    ghost meaning = { λ p. kept Input.size (searching Input.size Input.spells (S.search p.searcher)) AddsNothing (RefusesSearch Input.Error.observers Input.step Input.size Input.spells (S.search p.searcher)) };
 
     ghost parts = { λ p. 1 };
 
@@ -154,14 +158,14 @@ where
 
 /// The search by a function of ranges.
 #[derive(Clone, Drop)]
-pub struct Asked<F>(pub(crate) F);
+pub struct FindByFn<F>(pub(crate) F);
 
-impl<Input: RangeStream, T: Into<TakeRange>, F: Fn(Input::Range) -> T> Searcher<Input> for Asked<F>
+impl<Input: RangeStream, T: Into<TakeRange>, F: Fn(Input::Range) -> T> Searcher<Input>
+    for FindByFn<F>
 where
     Input::Range: Range,
 {
-    ghost use Rattle.combine_range_search.specs.Asking.{asking, asking_is_search};
-    ghost use Rattle.combine_range_search.specs.Options.{answers_as};
+    ghost use Rattle.combine_range_search.specs.Search.TakeFn.{asking, asking_is_search, answers_as};
 
     ghost callable = { λ s. F.IsAlwaysCallable s.0 };
 

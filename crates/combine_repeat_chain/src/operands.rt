@@ -1,7 +1,7 @@
 //! Operands and the operators between them, kept to be folded from the right.
 ghost use Rattle.std.specs.Prelude.{◌≡◌, List, []};
 ghost use Rattle.combine_repeat_chain.specs.Chains.{all_good, folded_right, held_good, keeps_good, keeps_operand, kept_operands};
-ghost use Rattle.combine_repeat_chain.specs.declared.operands.Left.{Left};
+ghost use Rattle.combine_repeat_chain.specs.declared.operands.PendingOperand.{PendingOperand};
 ghost use Rattle.combine_repeat_sep.specs.Separated.{lead_good};
 
 use combine_repeat_sep::separated::{Element, Folds};
@@ -9,32 +9,32 @@ use combine_repeat_turns::turns::{Gather, Gathers, Reduce};
 use std::alloc::{AllocError, Global};
 use std::marker::PhantomData;
 
-/// An operand, and the operator behind it.
+/// An operand, and the operator after it.
 #[derive(Drop)]
-pub struct Left<O, V> {
+pub struct PendingOperand<O, V> {
     operand: V,
     operator: O,
 }
 
-/// The operands that have an operator behind them, in order, and the last operand.
+/// The operands that have an operator after them, in order, and the last operand.
 #[derive(Drop)]
-pub struct Operands<O, V> {
-    before: Vec<Left<O, V>>,
+pub struct ChainOperands<O, V> {
+    before: Vec<PendingOperand<O, V>>,
     last: V,
 }
 
-impl<O: Folds<V> + Drop, V: Drop> Operands<O, V> {
-    /// The operands folded from the right.
+impl<O: Folds<V> + Drop, V: Drop> ChainOperands<O, V> {
+    /// Folds the operands from the right.
     pub(crate) fn fold(self) -> V
         requires callable { all_good (λ f. O.callable f) (kept_operands self).0 }
         ensures { folded_right (λ f x y r. O.answers f x y r) (kept_operands self).0 (kept_operands self).1 result }
     {
-        let Operands {
+        let ChainOperands {
             mut before,
             mut last,
         } = self;
         'folding: while let Some(left) = before.pop() {
-            let Left { operand, operator } = left;
+            let PendingOperand { operand, operator } = left;
             last = operator.fold_two(operand, last);
         }
         last
@@ -46,13 +46,13 @@ impl<O: Folds<V> + Drop, V: Drop> Operands<O, V> {
 pub struct EachOperand<O, V>(PhantomData<(O, V)>);
 
 impl<O: Drop, V: Drop> Gathers for EachOperand<O, V> {
-    type Into = Operands<O, V>;
+    type Collection = ChainOperands<O, V>;
 }
 
 impl<V: Drop, O: Folds<V> + Drop> Gather<Element<O, V>> for EachOperand<O, V> {
     ghost use Rattle.std.specs.Prelude.{None, Option, Some};
 
-    ghost Held = { Option (List (Left O V) × V) };
+    ghost Held = { Option (List (PendingOperand O V) × V) };
 
     ghost held = { λ z. Some (kept_operands z) };
 
@@ -64,22 +64,25 @@ impl<V: Drop, O: Folds<V> + Drop> Gather<Element<O, V>> for EachOperand<O, V> {
 
     ghost sound = { held_good (λ f. O.callable f) };
 
-    ghost lean = { ⊥ };
+    ghost heapless = { ⊥ };
 
     #[inline(always)]
-    fn gather(into: Operands<O, V>, value: Element<O, V>) -> Result<Operands<O, V>, AllocError> {
-        let Operands { mut before, last } = into;
+    fn gather(
+        into: ChainOperands<O, V>,
+        value: Element<O, V>,
+    ) -> Result<ChainOperands<O, V>, AllocError> {
+        let ChainOperands { mut before, last } = into;
         match value {
             Element::First(next) => {
                 before.clear();
-                Ok(Operands { before, last: next })
+                Ok(ChainOperands { before, last: next })
             }
             Element::Then(operator, next) => {
-                before.push(Left {
+                before.push(PendingOperand {
                     operand: last,
                     operator,
                 })?;
-                Ok(Operands { before, last: next })
+                Ok(ChainOperands { before, last: next })
             }
         }
     }
@@ -88,16 +91,16 @@ impl<V: Drop, O: Folds<V> + Drop> Gather<Element<O, V>> for EachOperand<O, V> {
 }
 
 impl<V: Drop, O: Folds<V> + Drop> Reduce<Element<O, V>> for EachOperand<O, V> {
-    type From = Global;
+    type Seed = Global;
 
     #[inline(always)]
-    fn begin(alloc: Global, value: Element<O, V>) -> Result<Operands<O, V>, AllocError> {
+    fn begin(alloc: Global, value: Element<O, V>) -> Result<ChainOperands<O, V>, AllocError> {
         match value {
-            Element::First(last) => Ok(Operands {
+            Element::First(last) => Ok(ChainOperands {
                 before: Vec::new(alloc),
                 last,
             }),
-            Element::Then(_operator, last) => Ok(Operands {
+            Element::Then(_operator, last) => Ok(ChainOperands {
                 before: Vec::new(alloc),
                 last,
             }),

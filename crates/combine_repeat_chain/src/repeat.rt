@@ -17,7 +17,33 @@ use types::{Chainr1, Escaped, RightFold};
 
 /// Parses as `parser`, and then by turns as `operator` and `parser`: folds the values from the right, by the functions that `operator` gives.
 ///
-/// It takes and answers as `sep_by1`: an operator without a right operand is refused, committed if the operator was, and else put back, and the chain ends; the crate's drops the operator, and accepts. The functions must be such that they can always be called. The operands are held in memory that it asks for, and not on the call stack. On need of more everything is put back, and the next call begins again. Where the memory isn't found the answer is the committed fault `Memory`.
+/// It takes as `sep_by1` does. The functions must be such that they can always be called. The operands are held in memory of `alloc`, and not on the call stack.
+///
+/// # Errors
+///
+/// - An operator without a right operand is refused, committed if the operator was. Else it is put back, and the chain ends.
+/// - A turn that takes nothing is refused, committed, with the message `repetition takes nothing`.
+/// - If memory isn't found, that is the committed fault `Memory`.
+///
+/// # Partial input
+///
+/// On need of more everything is put back, and the next call begins again.
+///
+/// # Differences from combine
+///
+/// The crate's drops an operator without a right operand, and accepts. It calls itself, and on need of more the tokens that it took are gone.
+///
+/// # Examples
+///
+/// ```
+/// fn difference(alloc: Global, input: &[u8]) -> Result<(u8, &[u8]), UnexpectedParse> {
+///     let digit = map(digit(), |byte: u8| byte.wrapping_sub(b'0'));
+///     let minus = map(token(b'-'), |_minus: u8| |left: u8, right: u8| left.wrapping_sub(right));
+///     chainr1(alloc, digit, minus).parse(input)
+/// }
+/// ```
+///
+/// On `b"9-3-2;"` it returns `(8, b";")`, for `9 - (3 - 2)`.
 #[inline]
 pub fn chainr1<P, S>(alloc: Global, parser: P, operator: S) -> Chainr1<P, S>
     ensures { result ≡ chainr1_of alloc parser operator }
@@ -32,9 +58,35 @@ pub fn chainr1<P, S>(alloc: Global, parser: P, operator: S) -> Chainr1<P, S>
     })
 }
 
-/// Runs turns of `parser`, or, where it is refused peeked, of the token `escape` and then `escaped`; drops the values.
+/// Runs turns of `parser`, or, where it is refused peeked, of the token `escape` and then `escaped`, and drops the values.
 ///
-/// Where `parser` is refused peeked, another token or the end of ended input ends the turns, accepted, committed exactly if there was a turn. Behind the token a refusal of `escaped` is committed. A committed refusal of `parser` is the answer, and so is need of more; then the state keeps whether a turn committed, and the part that runs. It is `skip_many` of a choice, and adds to an error what `parser` adds, and then that `escape` was expected.
+/// It is `skip_many` of a choice. If `parser` is refused peeked, another token or the end of ended input ends the turns, accepted, committed exactly if there was a turn.
+///
+/// # Errors
+///
+/// - A committed refusal of `parser` is the result. After the token `escape` a refusal of `escaped` is committed.
+/// - A turn that takes nothing is refused, committed, with the message `repetition takes nothing`.
+/// - Added to an error is what `parser` adds, and then that `escape` was expected.
+///
+/// # Partial input
+///
+/// On need of more the state keeps whether a turn committed, and the part that runs.
+///
+/// # Differences from combine
+///
+/// The crate doesn't put back what `parser` read before it was refused, and looks for the escape after that.
+///
+/// # Examples
+///
+/// ```
+/// fn quoted(input: &str) -> Result<((char, (), char), &str), UnexpectedParse> {
+///     let plain = satisfy(|character: char| character != '"' && character != '\\');
+///     let inside = escaped(plain, '\\', one_of(['n', 'r', '"', '\\']));
+///     (token('"'), inside, token('"')).parse(input)
+/// }
+/// ```
+///
+/// It takes `"a\"b"` whole, to its second bare quote.
 #[inline]
 pub fn escaped<Input, P, T, Q>(parser: P, escape: T, escaped: Q) -> Escaped<Input, P, T, Q>
     ensures { result ≡ escaped_of parser escape escaped }

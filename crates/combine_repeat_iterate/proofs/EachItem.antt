@@ -1,23 +1,22 @@
 -- a call of `iterate`, by the runs of its items' parsers
 use Rattle.std.proofs.Common.{ℕ, ◌+◌, ◌≡◌, ◌≤◌, inl, inr, List, [], ◌∷◌, Bool, true, false, ◌||◌, refl, sym, ◌∙◌, ap, subst, arith, add-zero}
-use Rattle.combine_base.specs.Error.Errors.{Errors}
-use Rattle.combine_base.specs.Parser.Answer.{World, Run, Answers, Accepts, Resumes, Leaves, fails, world}
-use Rattle.combine_base.specs.Parser.Kept.{KeptOf}
+use Rattle.combine_base.specs.Error.Errors.{Observers}
+use Rattle.combine_base.specs.Parser.Answer.{World, CallRecord, Answers, Accepts, Resumes, Leaves, fails, world}
+use Rattle.combine_base.specs.Parser.KeptParsers.{KeptOf}
 use Rattle.combine_base.specs.Parser.Meaning.{Meaning, Reading, Refusing, IsMeaning, MeansSame, refusals_from}
-use Rattle.combine_base.specs.Parser.Outcome.{Outcome, Accepted, Refused, Undecided}
-use Rattle.combine_base.specs.Parser.OutcomeFacts.{or_false}
+use Rattle.combine_base.specs.Parser.Outcome.{Outcome, Accepted, Refused, Undecided, or_false}
 use Rattle.combine_base.specs.Parser.Reasons.{Reasoned}
-use Rattle.combine_base.specs.Sequence.Joined.{joined}
-use Rattle.combine_base.specs.Sequence.Parts.{RunsFrom, accepted_as, refused_as, run_from}
+use Rattle.combine_base.specs.Sequence.JoinedOutcome.{joined}
+use Rattle.combine_base.specs.Sequence.Parts.{RunsFrom, accepted_as, refused_as, call_from}
 use Rattle.combine_base.specs.Sequence.Readings.{following}
 use Rattle.combine_base.specs.Stream.View.{View, Takes, advanced}
-use Rattle.combine_base.proofs.Inside.{Inside, Keeps, inside_asks, inside_fails, inside_refuses}
-use Rattle.combine_base.proofs.Progress.{Progress, progress_more, progress_outcome, takes_more, takes_none}
-use Rattle.combine_base.proofs.Explaining.{reason_committed, reason_peeked}
-use Rattle.combine_base.proofs.Reasoning.{reasons_after, reasons_committed, reasons_fault}
-use Rattle.combine_base.proofs.Same.{same_more, same_none}
-use Rattle.combine_base.proofs.SequenceResumes.{following_resumes, sequel_resumes, accepted_resumes}
-use Rattle.combine_base.proofs.Starting.{progress_here, progress_left}
+use Rattle.combine_base.proofs.Parsers.InnerCalls.{InsideCall, KeepsAround, inside_asks, inside_fails, inside_refuses}
+use Rattle.combine_base.proofs.Parsers.Progress.{Progress, progress_more, progress_outcome, takes_more, takes_none}
+use Rattle.combine_base.proofs.Errors.Explanations.{reason_committed, reason_peeked}
+use Rattle.combine_base.proofs.Errors.CallReasons.{reasons_after, reasons_committed, reasons_fault}
+use Rattle.combine_base.proofs.Parsers.SameMeanings.{same_more, same_none}
+use Rattle.combine_base.proofs.Sequences.SequenceResumes.{following_resumes, sequel_resumes, accepted_resumes}
+use Rattle.combine_base.proofs.Parsers.CallStarts.{progress_here, progress_left}
 use Rattle.combine_base.specs.declared.error.ParseResult.{ParseResult}
 use Rattle.combine_base.specs.declared.error.ParseResult.TheVariants.{CommitOk, PeekOk, CommitErr, PeekErr}
 use Rattle.combine_base.specs.declared.parser.Parser as parser
@@ -25,11 +24,11 @@ use Rattle.combine_base.specs.declared.stream.Failures.{Failures}
 use Rattle.combine_base.specs.declared.stream.Kind.TheVariants as kinds
 use Rattle.combine_base.specs.declared.stream.StreamOnce as stream
 use Rattle.combine_repeat_iterate.specs.declared.repeat.items.Item.{Item}
-use Rattle.combine_repeat_iterate.specs.Items.{begins_items, starts_valid, valid_item, each, each_from, iterated, last_value, unchanged}
+use Rattle.combine_repeat_iterate.specs.ItemParsers.{begins_items, items_start_valid, valid_item, each_item, each_from, iterated, last_value, unchanged}
 use Rattle.combine_repeat_iterate.specs.ItemCalls.{CalledItem, Stores, item_did, keeps_item, unstored}
-use Rattle.combine_repeat_iterate.specs.ItemErrors.{RefusesIterated, item_refuses, items_refuse, running_refuses}
-use Rattle.combine_repeat_iterate.proofs.ItemErrors.{item_meant, next_refuses}
-use Rattle.combine_repeat_iterate.specs.declared.repeat.items.Collected.{Collected}
+use Rattle.combine_repeat_iterate.specs.ItemErrors.{RefusesIterated, item_refuses, items_refuse, running_item_refuses}
+use Rattle.combine_repeat_iterate.proofs.ItemErrors.{item_meant, next_item_refuses}
+use Rattle.combine_repeat_iterate.specs.declared.repeat.items.CollectedItems.{CollectedItems}
 use Rattle.combine_repeat_iterate.specs.declared.repeat.items.Item.TheVariants as items
 use Rattle.combine_repeat_iterate.specs.declared.repeat.items.RunningItem.{RunningItem}
 use Rattle.combine_repeat_iterate.specs.declared.repeat.items.IterateState.{IterateState}
@@ -58,24 +57,24 @@ valid_from {S} {fresh} {valid} {first} {given} {s} h r v = by_mode first r
     by_mode true r = h s (r.afresh refl)
     by_mode false r = subst valid (sym (r.kept refl)) v
 
-module _ {N Input It I B C H U Checkpoint T R P E : Type 0} (p : parser.Ghosts N Input U B Checkpoint T R P E) (i : stream.Ghosts Input T R P E) (seen : Errors T R P E) (fresh : U → Type 0) (answers : I → N → Type 0) (some : N → Type 0) (held : C → H) (none : H) (more : H → B → H) (at : It → List I → Type 0) (lists : List I → Type 0) (lean spared : Type 0) where
+module _ {N Input It I B C H U Checkpoint T R P E : Type 0} (p : parser.Ghosts N Input U B Checkpoint T R P E) (i : stream.Ghosts Input T R P E) (observers : Observers T R P E) (fresh : U → Type 0) (answers : I → N → Type 0) (some : N → Type 0) (held : C → H) (none : H) (more : H → B → H) (at : It → List I → Type 0) (lists : List I → Type 0) (heapless spared : Type 0) where
   abbrev all : Meaning P T R E C (IterateState C It N U)
-  all = iterated i.step seen answers some p.meaning held none more at lists spared
+  all = iterated i.step observers answers some p.meaning held none more at lists spared
 
   abbrev these : H → List I → Reading P T C
-  these h xs = each i.step seen answers some p.meaning held none more at lists spared h xs
+  these h xs = each_item i.step observers answers some p.meaning held none more at lists spared h xs
 
   abbrev these_from : Reading P T B → H → List I → Reading P T C
-  these_from r h xs = each_from i.step seen answers some p.meaning held none more at lists spared r h xs
+  these_from r h xs = each_from i.step observers answers some p.meaning held none more at lists spared r h xs
 
   abbrev part_world : World P T U E
-  part_world = world i.step seen i.steady fresh
+  part_world = world i.step observers i.counts_failures fresh
 
   abbrev whole_world : World P T (IterateState C It N U) E
-  whole_world = world i.step seen i.steady begins_items
+  whole_world = world i.step observers i.counts_failures begins_items
 
   -- what is left where the items' turns come, so much being collected
-  abbrev left_at : Collected C It → List I → Reading P T C
+  abbrev left_at : CollectedItems C It → List I → Reading P T C
   left_at l xs = following l.committed unchanged (these (held l.values) xs)
 
   -- what is left where an item's parser runs
@@ -83,24 +82,24 @@ module _ {N Input It I B C H U Checkpoint T R P E : Type 0} (p : parser.Ghosts N
   left_in l xs = following l.before.committed unchanged (these_from ((p.meaning l.parser).rest l.state) (held l.before.values) xs)
 
   -- what is left refuses so: where the items' turns come, and where an item's parser runs
-  abbrev refused_at : Collected C It → List I → Refusing P T E
-  refused_at l xs = items_refuse i.step answers p.meaning seen xs l.is_begun l.committed
+  abbrev refused_at : CollectedItems C It → List I → Refusing P T E
+  refused_at l xs = items_refuse i.step answers p.meaning observers xs l.is_begun l.committed
 
   abbrev refused_in : RunningItem C It N U → List I → Refusing P T E
-  refused_in l xs = running_refuses i.step answers p.meaning seen xs l
+  refused_in l xs = running_item_refuses i.step answers p.meaning observers xs l
 
   abbrev refused_from : IterateState C It N U → Refusing P T E
-  refused_from z = RefusesIterated i.step answers p.meaning seen at lists z
+  refused_from z = RefusesIterated i.step answers p.meaning observers at lists z
 
   -- the call has come so far that the next item's turn comes
-  pub record Reaches (z : IterateState C It N U) (old now : View P T) (before later : Failures) (l : Collected C It) : Type 0 where
+  pub record ReachesItem (z : IterateState C It N U) (old now : View P T) (before later : Failures) (l : CollectedItems C It) : Type 0 where
     pub left : List I
     pub given : at l.items left
     pub progress : Progress part_world (all.rest z) (left_at l left) old now before later
     pub refuses : (w : View P T) (k : Bool) (e : E) → refused_at l left now w k e → refused_from z old w k e
 
   -- an item's parser runs
-  pub record Runs (z : IterateState C It N U) (old now : View P T) (before later : Failures) (l : RunningItem C It N U) : Type 0 where
+  pub record RunsItem (z : IterateState C It N U) (old now : View P T) (before later : Failures) (l : RunningItem C It N U) : Type 0 where
     pub left : List I
     pub given : at l.before.items left
     pub kept : KeptOf p.lawful p.meaning some l.parser
@@ -109,26 +108,26 @@ module _ {N Input It I B C H U Checkpoint T R P E : Type 0} (p : parser.Ghosts N
     pub refuses : (w : View P T) (k : Bool) (e : E) → refused_in l left now w k e → refused_from z old w k e
 
   -- and it began so, from a state that it was given
-  pub record Loops (first : Bool) (given : IterateState C It N U) (old now : View P T) (before later : Failures) (l : Collected C It) : Type 0 where
+  pub record LoopsItems (first : Bool) (given : IterateState C It N U) (old now : View P T) (before later : Failures) (l : CollectedItems C It) : Type 0 where
     pub z : IterateState C It N U
     pub from : RunsFrom begins_items first given z
-    pub reaches : Reaches z old now before later l
+    pub reaches : ReachesItem z old now before later l
 
   -- from the start
-  pub reaches_first : (l : Collected C It) (xs : List I) (v : View P T) (f : Failures) → l.is_begun ≡ false → l.committed ≡ false → held l.values ≡ none → lists xs → at l.items xs → Reaches states.Start v v f f l
-  reaches_first l xs v f b c h k g =
+  pub reaches_first_item : (l : CollectedItems C It) (xs : List I) (v : View P T) (f : Failures) → l.is_begun ≡ false → l.committed ≡ false → held l.values ≡ none → lists xs → at l.items xs → ReachesItem states.Start v v f f l
+  reaches_first_item l xs v f b c h k g =
       let start : (u : View P T) (o : Outcome C) → following false unchanged (these none xs) u o → all.rest states.Start u o = λ u o w. (xs, k, subst (these none xs u) (sym (w.2 ∙ joined_none w.0)) w.1) in
       let to : (u : View P T) (o : Outcome C) → left_at l xs u o → all.rest states.Start u o = λ u o w. start u o (subst (λ b. following b unchanged (these none xs) u o) c (subst (λ y. following l.committed unchanged (these y xs) u o) h w)) in
       record {
         left = xs;
         given = g;
         progress = progress_here part_world (all.rest states.Start) (left_at l xs) v f to;
-        refuses = λ u j e w. record { is = (xs, k, subst (λ d. items_refuse i.step answers p.meaning seen xs d false v u j e) b (subst (λ d. items_refuse i.step answers p.meaning seen xs l.is_begun d v u j e) c w)) };
+        refuses = λ u j e w. record { is = (xs, k, subst (λ d. items_refuse i.step answers p.meaning observers xs d false v u j e) b (subst (λ d. items_refuse i.step answers p.meaning observers xs l.is_begun d v u j e) c w)) };
       }
 
   -- from a kept state
-  pub runs_first : (l : RunningItem C It N U) (xs : List I) (v : View P T) (f : Failures) → KeptOf p.lawful p.meaning some l.parser → at l.before.items xs → Runs (states.Running l) v v f f l
-  runs_first l xs v f k g = record {
+  pub runs_first_item : (l : RunningItem C It N U) (xs : List I) (v : View P T) (f : Failures) → KeptOf p.lawful p.meaning some l.parser → at l.before.items xs → RunsItem (states.Running l) v v f f l
+  runs_first_item l xs v f k g = record {
     left = xs;
     given = g;
     kept = k;
@@ -138,8 +137,8 @@ module _ {N Input It I B C H U Checkpoint T R P E : Type 0} (p : parser.Ghosts N
   }
 
   -- the next item's parser runs, the stream being where it was
-  pub runs_next : {valid : U → Type 0} (z : IterateState C It N U) (old now there : View P T) (before later then : Failures) (l : Collected C It) (r : Reaches z old now before later l) (x : I) (xs : List I) → r.left ≡ x ∷ xs → (n : N) → answers x n → KeptOf p.lawful p.meaning some n → (u : U) → fresh u → IsMeaning fresh valid (p.meaning n) → (rest : It) → at rest xs → there ≡ now → then ≡ later → Runs z old there before then (record { before = record { values = l.values; is_begun = l.is_begun; committed = l.committed; items = rest }; parser = n; state = u })
-  runs_next z old now there before later then l r x xs is n j k u d laws rest g stays fails =
+  pub runs_next_item : {valid : U → Type 0} (z : IterateState C It N U) (old now there : View P T) (before later then : Failures) (l : CollectedItems C It) (r : ReachesItem z old now before later l) (x : I) (xs : List I) → r.left ≡ x ∷ xs → (n : N) → answers x n → KeptOf p.lawful p.meaning some n → (u : U) → fresh u → IsMeaning fresh valid (p.meaning n) → (rest : It) → at rest xs → there ≡ now → then ≡ later → RunsItem z old there before then (record { before = record { values = l.values; is_begun = l.is_begun; committed = l.committed; items = rest }; parser = n; state = u })
+  runs_next_item z old now there before later then l r x xs is n j k u d laws rest g stays fails =
       let q : RunningItem C It N U = record { before = record { values = l.values; is_begun = l.is_begun; committed = l.committed; items = rest }; parser = n; state = u } in
       let to : (v : View P T) (o : Outcome C) → left_in q xs v o → left_at l (x ∷ xs) v o = λ v o w. (w.0, (w.1.0, (n, j, (laws.start u v w.1.0 d).0 w.1.1), w.1.2), w.2) in
       let h = subst (λ ys. Progress part_world (all.rest z) (left_at l ys) old now before later) is r.progress in
@@ -149,17 +148,17 @@ module _ {N Input It I B C H U Checkpoint T R P E : Type 0} (p : parser.Ghosts N
         kept = k;
         progress = rw (stays, fails) (progress_left part_world (all.rest z) (left_at l (x ∷ xs)) (left_in q xs) old now before later to h);
         lost = λ y. absurd (laws.found u there d y);
-        refuses = λ left c e w. r.refuses left c e (subst (λ ys. refused_at l ys now left c e) (sym is) (subst (λ v. refused_at l (x ∷ xs) v left c e) stays (next_refuses i.step answers p.meaning seen x xs l.is_begun l.committed n j laws u d there left c e w)));
+        refuses = λ left c e w. r.refuses left c e (subst (λ ys. refused_at l ys now left c e) (sym is) (subst (λ v. refused_at l (x ∷ xs) v left c e) stays (next_item_refuses i.step answers p.meaning observers x xs l.is_begun l.committed n j laws u d there left c e w)));
       }
 
   -- no item is left
-  pub items_end : (z state : IterateState C It N U) (old now : View P T) (before later : Failures) (l : Collected C It) (r : Reaches z old now before later l) → r.left ≡ [] → begins_items state → Answers whole_world all (run_from z state old now before later) (accepted_as l.committed l.values)
+  pub items_end : (z state : IterateState C It N U) (old now : View P T) (before later : Failures) (l : CollectedItems C It) (r : ReachesItem z old now before later l) → r.left ≡ [] → begins_items state → Answers whole_world all (call_from z state old now before later) (accepted_as l.committed l.values)
   items_end z state old now before later l r none_left d = by_commitment l.committed refl
     where
       h : Progress part_world (all.rest z) (left_at l []) old now before later
       h = subst (λ xs. Progress part_world (all.rest z) (left_at l xs) old now before later) none_left r.progress
 
-      ended : (c : Bool) → l.committed ≡ c → Accepts whole_world all (run_from z state old now before later) l.values c
+      ended : (c : Bool) → l.committed ≡ c → Accepts whole_world all (call_from z state old now before later) l.values c
       ended c e = record {
         count = h.count + 0;
         meant = progress_outcome part_world (all.rest z) (left_at l []) old now before later h (Accepted l.values 0 c) (Accepted l.values 0 false, (l.values, refl, refl), (let y = or_false c in cc));
@@ -168,31 +167,31 @@ module _ {N Input It I B C H U Checkpoint T R P E : Type 0} (p : parser.Ghosts N
         failures = h.failures;
       }
 
-      by_commitment : (c : Bool) → l.committed ≡ c → Answers whole_world all (run_from z state old now before later) (accepted_as c l.values)
+      by_commitment : (c : Bool) → l.committed ≡ c → Answers whole_world all (call_from z state old now before later) (accepted_as c l.values)
       by_commitment true e = record { is = ended true e }
       by_commitment false e = record { is = ended false e }
 
   -- the list finds no memory for its clone
-  pub no_clone : (z state : IterateState C It N U) (v : View P T) (f : Failures) → begins_items state → (e : E) → seen.kind e ≡ kinds.Memory → (spared → ⊥) → Answers whole_world all (run_from z state v v f f) (CommitErr e)
+  pub no_clone : (z state : IterateState C It N U) (v : View P T) (f : Failures) → begins_items state → (e : E) → observers.kind e ≡ kinds.Memory → (spared → ⊥) → Answers whole_world all (call_from z state v v f f) (CommitErr e)
   no_clone z state v f d e k m =
-      let leaves : Leaves whole_world (run_from z state v v f f) = record { count = 0; taken = takes_none i.step v; state = d } in
-      record { is = subst (λ y. fails whole_world all (run_from z state v v f f) y) (sym k) (λ y x. m x.1, leaves) }
+      let leaves : Leaves whole_world (call_from z state v v f f) = record { count = 0; taken = takes_none i.step v; state = d } in
+      record { is = subst (λ y. fails whole_world all (call_from z state v v f f) y) (sym k) (λ y x. m x.1, leaves) }
 
   -- An item's parser was run: the lists that its iterator gives are one.
-  module _ (given : (it : It) (xs ys : List I) → at it xs → at it ys → xs ≡ ys) (z state : IterateState C It N U) (old : View P T) (before : Failures) (input left : Input) (l : RunningItem C It N U) (reads : before.reads ≤ (i.failures input).reads) (resets : before.resets ≤ (i.failures input).resets) (r : Runs z old (i.view input) before (i.failures input) l) where
+  module _ (given : (it : It) (xs ys : List I) → at it xs → at it ys → xs ≡ ys) (z state : IterateState C It N U) (old : View P T) (before : Failures) (input left : Input) (l : RunningItem C It N U) (reads : before.reads ≤ (i.failures input).reads) (resets : before.resets ≤ (i.failures input).resets) (r : RunsItem z old (i.view input) before (i.failures input) l) where
     abbrev here : Reading P T C
     here = left_in l r.left
 
-    abbrev run : U → Run P T U
-    run stopped = run_from l.state stopped (i.view input) (i.view left) (i.failures input) (i.failures left)
+    abbrev run : U → CallRecord P T U
+    run stopped = call_from l.state stopped (i.view input) (i.view left) (i.failures input) (i.failures left)
 
-    abbrev inside : (stopped : U) → Inside part_world begins_items (p.meaning l.parser) all (run stopped) false z state old before l.before.committed here
+    abbrev inside : (stopped : U) → InsideCall part_world begins_items (p.meaning l.parser) all (run stopped) false z state old before l.before.committed here
     inside stopped = record {
       progress = r.progress;
       reads = reads;
       resets = resets;
       refuses = λ k x. (Refused k, (Refused k, x, refl), refl);
-      lean = λ x. r.kept.same.lean.0 (x.0 r.kept.parser r.kept.is_given);
+      heapless = λ x. r.kept.same.heapless.0 (x.0 r.kept.parser r.kept.is_given);
       lost = λ d x. (refl, r.lost x);
     }
 
@@ -203,7 +202,7 @@ module _ {N Input It I B C H U Checkpoint T R P E : Type 0} (p : parser.Ghosts N
         let x : following l.before.committed unchanged (these_from ((p.meaning n).rest stopped) (held l.before.values) r.left) v o = subst (λ xs. following l.before.committed unchanged (these_from ((p.meaning n).rest stopped) (held l.before.values) xs) v o) e w.2 in
         (x.0, (x.1.0, (same.rest stopped v x.1.0).1 x.1.1, x.1.2), x.2)
 
-    keeping : (n : N) → MeansSame (p.meaning l.parser) (p.meaning n) → (stopped : U) → state ≡ states.Running (record { before = l.before; parser = n; state = stopped }) → Keeps part_world begins_items (p.meaning l.parser) all (run stopped) false z state old before here r.progress.count
+    keeping : (n : N) → MeansSame (p.meaning l.parser) (p.meaning n) → (stopped : U) → state ≡ states.Running (record { before = l.before; parser = n; state = stopped }) → KeepsAround part_world begins_items (p.meaning l.parser) all (run stopped) false z state old before here r.progress.count
     keeping n same stopped e = record {
       undecided = λ x. (Undecided, (Undecided, x, refl), refl);
       resumes = λ k t x. subst (λ s. Resumes here (all.rest s) k (i.view input) (i.view left)) (sym e) (resumes_kept k t x);
@@ -224,16 +223,16 @@ module _ {N Input It I B C H U Checkpoint T R P E : Type 0} (p : parser.Ghosts N
             here_part = these_from ((p.meaning l.parser).rest l.state) h r.left
 
     -- its value finds no memory
-    starved : (stopped : U) (b : B) (k : Bool) → Accepts part_world (p.meaning l.parser) (run stopped) b k → begins_items state → (e : E) → (seen.kind e ≡ kinds.Memory) × (spared → ⊥) → Answers whole_world all (run_from z state old (i.view left) before (i.failures left)) (CommitErr e)
+    starved : (stopped : U) (b : B) (k : Bool) → Accepts part_world (p.meaning l.parser) (run stopped) b k → begins_items state → (e : E) → (observers.kind e ≡ kinds.Memory) × (spared → ⊥) → Answers whole_world all (call_from z state old (i.view left) before (i.failures left)) (CommitErr e)
     starved stopped b k a d e m =
-        let leaves : Leaves whole_world (run_from z state old (i.view left) before (i.failures left)) = record { count = r.progress.count + a.count; taken = takes_more i.step r.progress.count a.count old (i.view input) (i.view left) r.progress.taken a.taken; state = d } in
-        record { is = subst (λ y. fails whole_world all (run_from z state old (i.view left) before (i.failures left)) y) (sym m.0) (λ f x. m.1 x.1, leaves) }
+        let leaves : Leaves whole_world (call_from z state old (i.view left) before (i.failures left)) = record { count = r.progress.count + a.count; taken = takes_more i.step r.progress.count a.count old (i.view input) (i.view left) r.progress.taken a.taken; state = d } in
+        record { is = subst (λ y. fails whole_world all (call_from z state old (i.view left) before (i.failures left)) y) (sym m.0) (λ f x. m.1 x.1, leaves) }
 
     -- its answer is that of the call
-    pub item_stops : (spared → lean) → (y : ParseResult C E) → CalledItem p i seen fresh held more lean input left l state (items.Stops y) → Answers whole_world all (run_from z state old (i.view left) before (i.failures left)) y
+    pub item_stops : (spared → heapless) → (y : ParseResult C E) → CalledItem p i observers fresh held more heapless input left l state (items.Stops y) → Answers whole_world all (call_from z state old (i.view left) before (i.failures left)) y
     item_stops spares y g = by_answer g.answer g.answers g.did g.keeps
       where
-        stores : (b : B) (k : Bool) → Accepts part_world (p.meaning l.parser) (run g.stopped) b k → begins_items state → (y : ParseResult C E) → unstored held more seen.kind lean l.before y → Answers whole_world all (run_from z state old (i.view left) before (i.failures left)) y
+        stores : (b : B) (k : Bool) → Accepts part_world (p.meaning l.parser) (run g.stopped) b k → begins_items state → (y : ParseResult C E) → unstored held more observers.kind heapless l.before y → Answers whole_world all (call_from z state old (i.view left) before (i.failures left)) y
         stores b k a d (CommitErr e) m = starved g.stopped b k a d e (m.0, λ x. m.1 (spares x))
         stores b k a d (CommitOk v) m = absurd m
         stores b k a d (PeekOk v) m = absurd m
@@ -242,40 +241,40 @@ module _ {N Input It I B C H U Checkpoint T R P E : Type 0} (p : parser.Ghosts N
         stops_as : {x : ParseResult C E} → ◌≡◌ {A = Item C It E} (items.Stops y) (items.Stops x) → x ≡ y
         stops_as e = cc
 
-        by_answer : (x : ParseResult B E) → Answers part_world (p.meaning l.parser) (run g.stopped) x → item_did p i seen fresh held more lean l x (items.Stops y) → keeps_item p i seen fresh held more lean (i.view left).is_open l g.parser g.stopped state x → Answers whole_world all (run_from z state old (i.view left) before (i.failures left)) y
+        by_answer : (x : ParseResult B E) → Answers part_world (p.meaning l.parser) (run g.stopped) x → item_did p i observers fresh held more heapless l x (items.Stops y) → keeps_item p i observers fresh held more heapless (i.view left).is_open l g.parser g.stopped state x → Answers whole_world all (call_from z state old (i.view left) before (i.failures left)) y
         by_answer (CommitOk b) a d (inl k) = absurd k.0
         by_answer (CommitOk b) a d (inr k) = stores b true a.is k.1 y d
         by_answer (PeekOk b) a d (inl k) = absurd k.0
         by_answer (PeekOk b) a d (inr k) = stores b false a.is k.1 y d
-        by_answer (CommitErr e) a d (inl k) = subst (λ x. Answers whole_world all (run_from z state old (i.view left) before (i.failures left)) x) (stops_as d) (inside_asks _ _ _ _ _ _ _ _ _ _ _ _ (inside g.stopped) (keeping g.parser g.same g.stopped k.1) e k.0 a)
-        by_answer (CommitErr e) a d (inr k) = subst (λ x. Answers whole_world all (run_from z state old (i.view left) before (i.failures left)) x) (stops_as d) (inside_fails _ _ _ _ _ _ _ _ _ _ _ _ (inside g.stopped) (λ x. k.1) e k.0 a)
+        by_answer (CommitErr e) a d (inl k) = subst (λ x. Answers whole_world all (call_from z state old (i.view left) before (i.failures left)) x) (stops_as d) (inside_asks _ _ _ _ _ _ _ _ _ _ _ _ (inside g.stopped) (keeping g.parser g.same g.stopped k.1) e k.0 a)
+        by_answer (CommitErr e) a d (inr k) = subst (λ x. Answers whole_world all (call_from z state old (i.view left) before (i.failures left)) x) (stops_as d) (inside_fails _ _ _ _ _ _ _ _ _ _ _ _ (inside g.stopped) (λ x. k.1) e k.0 a)
         by_answer (PeekErr t) a d (inl k) = absurd k.0
-        by_answer (PeekErr t) a d (inr k) = subst (λ x. Answers whole_world all (run_from z state old (i.view left) before (i.failures left)) x) (stops_as d) (inside_refuses _ _ _ _ _ _ _ _ _ _ _ _ (inside g.stopped) (λ x. k.1) t a)
+        by_answer (PeekErr t) a d (inr k) = subst (λ x. Answers whole_world all (call_from z state old (i.view left) before (i.failures left)) x) (stops_as d) (inside_refuses _ _ _ _ _ _ _ _ _ _ _ _ (inside g.stopped) (λ x. k.1) t a)
 
     -- and the error of a refusal is one that the call may have
-    pub item_reasons : (y : ParseResult C E) → CalledItem p i seen fresh held more lean input left l state (items.Stops y) → Reasoned seen.kind (i.view left).is_open (refused_from z old (i.view left)) y
-    item_reasons y g = by_answer g.answer (item_meant seen l.before.is_begun g.answers g.refuses) g.did
+    pub item_reasons : (y : ParseResult C E) → CalledItem p i observers fresh held more heapless input left l state (items.Stops y) → Reasoned observers.kind (i.view left).is_open (refused_from z old (i.view left)) y
+    item_reasons y g = by_answer g.answer (item_meant observers l.before.is_begun g.answers g.refuses) g.did
       where
         stops_as : {x : ParseResult C E} → ◌≡◌ {A = Item C It E} (items.Stops y) (items.Stops x) → x ≡ y
         stops_as e = cc
 
-        starves : (y : ParseResult C E) → unstored held more seen.kind lean l.before y → Reasoned seen.kind (i.view left).is_open (refused_from z old (i.view left)) y
-        starves (CommitErr e) m = reasons_fault seen.kind (i.view left).is_open (refused_from z old (i.view left)) e kinds.Memory m.0 tt
+        starves : (y : ParseResult C E) → unstored held more observers.kind heapless l.before y → Reasoned observers.kind (i.view left).is_open (refused_from z old (i.view left)) y
+        starves (CommitErr e) m = reasons_fault observers.kind (i.view left).is_open (refused_from z old (i.view left)) e kinds.Memory m.0 tt
         starves (CommitOk v) m = absurd m
         starves (PeekOk v) m = absurd m
         starves (PeekErr t) m = absurd m
 
-        by_answer : (x : ParseResult B E) → Reasoned seen.kind (i.view left).is_open (item_refuses seen (p.meaning l.parser) (refusals_from (p.meaning l.parser) l.state) (i.view input) (i.view left) l.before.is_begun) x → item_did p i seen fresh held more lean l x (items.Stops y) → Reasoned seen.kind (i.view left).is_open (refused_from z old (i.view left)) y
+        by_answer : (x : ParseResult B E) → Reasoned observers.kind (i.view left).is_open (item_refuses observers (p.meaning l.parser) (refusals_from (p.meaning l.parser) l.state) (i.view input) (i.view left) l.before.is_begun) x → item_did p i observers fresh held more heapless l x (items.Stops y) → Reasoned observers.kind (i.view left).is_open (refused_from z old (i.view left)) y
         by_answer (CommitOk b) x d = starves y d
         by_answer (PeekOk b) x d = starves y d
-        by_answer (CommitErr e) x d = subst (λ y. Reasoned seen.kind (i.view left).is_open (refused_from z old (i.view left)) y) (stops_as d) (reasons_committed seen.kind (i.view left).is_open (refused_from z old (i.view left)) e (λ n. r.refuses (i.view left) true e (inl (record { is = inl (refl, reason_committed seen.kind (i.view left).is_open _ e x n) }))))
-        by_answer (PeekErr t) x d = subst (λ y. Reasoned seen.kind (i.view left).is_open (refused_from z old (i.view left)) y) (stops_as d) (reasons_after seen.kind (i.view left).is_open (refused_from z old (i.view left)) l.before.committed t (r.refuses (i.view left) l.before.committed t.error (inl (record { is = inr (refl, reason_peeked seen.kind (i.view left).is_open _ t x) }))))
+        by_answer (CommitErr e) x d = subst (λ y. Reasoned observers.kind (i.view left).is_open (refused_from z old (i.view left)) y) (stops_as d) (reasons_committed observers.kind (i.view left).is_open (refused_from z old (i.view left)) e (λ n. r.refuses (i.view left) true e (inl (record { is = inl (refl, reason_committed observers.kind (i.view left).is_open _ e x n) }))))
+        by_answer (PeekErr t) x d = subst (λ y. Reasoned observers.kind (i.view left).is_open (refused_from z old (i.view left)) y) (stops_as d) (reasons_after observers.kind (i.view left).is_open (refused_from z old (i.view left)) l.before.committed t (r.refuses (i.view left) l.before.committed t.error (inl (record { is = inr (refl, reason_peeked observers.kind (i.view left).is_open _ t x) }))))
 
     -- it was accepted, and the next item's turn comes
-    pub item_goes : {valid : U → Type 0} → IsMeaning fresh valid (p.meaning l.parser) → valid l.state → (next : Collected C It) → CalledItem p i seen fresh held more lean input left l state (items.Goes next) → begins_items state × Reaches z old (i.view left) before (i.failures left) next
+    pub item_goes : {valid : U → Type 0} → IsMeaning fresh valid (p.meaning l.parser) → valid l.state → (next : CollectedItems C It) → CalledItem p i observers fresh held more heapless input left l state (items.Goes next) → begins_items state × ReachesItem z old (i.view left) before (i.failures left) next
     item_goes {valid} laws v next g = by_answer g.answer g.answers g.did g.keeps
       where
-        gone : (b : B) (k : Bool) → Accepts part_world (p.meaning l.parser) (run g.stopped) b k → Stores held more l.before b k next → Reaches z old (i.view left) before (i.failures left) next
+        gone : (b : B) (k : Bool) → Accepts part_world (p.meaning l.parser) (run g.stopped) b k → Stores held more l.before b k next → ReachesItem z old (i.view left) before (i.failures left) next
         gone b k a s =
             let c = l.before.committed in
             let h = held l.before.values in
@@ -293,16 +292,16 @@ module _ {N Input It I B C H U Checkpoint T R P E : Type 0} (p : parser.Ghosts N
               refuses = λ u j e w. r.refuses u j e (inr (record { value = b; count = a.count; before = k; accepted = a.meant; refuses = behind_refuses u j e w }));
             }
           where
-            behind_refuses : (u : View P T) (j : Bool) (e : E) → refused_at next r.left (i.view left) u j e → items_refuse i.step answers p.meaning seen r.left true (l.before.committed || k) (advanced i.step a.count (i.view input)) u j e
+            behind_refuses : (u : View P T) (j : Bool) (e : E) → refused_at next r.left (i.view left) u j e → items_refuse i.step answers p.meaning observers r.left true (l.before.committed || k) (advanced i.step a.count (i.view input)) u j e
             behind_refuses u j e w =
                 let there = subst (λ v. refused_at next r.left v u j e) a.taken.rest w in
-                let begun = subst (λ d. items_refuse i.step answers p.meaning seen r.left d next.committed (advanced i.step a.count (i.view input)) u j e) s.begun there in
-                subst (λ d. items_refuse i.step answers p.meaning seen r.left true d (advanced i.step a.count (i.view input)) u j e) s.committed begun
+                let begun = subst (λ d. items_refuse i.step answers p.meaning observers r.left d next.committed (advanced i.step a.count (i.view input)) u j e) s.begun there in
+                subst (λ d. items_refuse i.step answers p.meaning observers r.left true d (advanced i.step a.count (i.view input)) u j e) s.committed begun
 
             as_left : (u : View P T) (o : Outcome C) → following (l.before.committed || k) unchanged (these (held next.values) r.left) u o → following l.before.committed unchanged (following k (last_value b) (these (more (held l.before.values) b) r.left)) u o
             as_left u o w = (joined 0 k (last_value b) w.0, (w.0, subst (λ h. these h r.left u w.0) s.values w.1, refl), w.2 ∙ joined_twice l.before.committed k b w.0)
 
-        by_answer : (x : ParseResult B E) → Answers part_world (p.meaning l.parser) (run g.stopped) x → item_did p i seen fresh held more lean l x (items.Goes next) → keeps_item p i seen fresh held more lean (i.view left).is_open l g.parser g.stopped state x → begins_items state × Reaches z old (i.view left) before (i.failures left) next
+        by_answer : (x : ParseResult B E) → Answers part_world (p.meaning l.parser) (run g.stopped) x → item_did p i observers fresh held more heapless l x (items.Goes next) → keeps_item p i observers fresh held more heapless (i.view left).is_open l g.parser g.stopped state x → begins_items state × ReachesItem z old (i.view left) before (i.failures left) next
         by_answer (CommitOk b) a d (inl k) = absurd k.0
         by_answer (CommitOk b) a d (inr k) = (k.1, gone b true a.is d)
         by_answer (PeekOk b) a d (inl k) = absurd k.0
@@ -311,29 +310,29 @@ module _ {N Input It I B C H U Checkpoint T R P E : Type 0} (p : parser.Ghosts N
         by_answer (PeekErr t) a d k = absurd (let x : items.Goes next ≡ items.Stops (refused_as l.before.committed t) = d in cc)
 
 -- a parser that was just asked for may be kept
-pub asked_kept : {P T R E B N U : Type 0} {lawful some : N → Type 0} (means : N → Meaning P T R E B U) (n : N) → lawful n → some n → KeptOf lawful means some n
-asked_kept means n k s = record { is_lawful = k; parser = n; is_given = s; same = same_none (means n) }
+pub asked_item_kept : {P T R E B N U : Type 0} {lawful some : N → Type 0} (means : N → Meaning P T R E B U) (n : N) → lawful n → some n → KeptOf lawful means some n
+asked_item_kept means n k s = record { is_lawful = k; parser = n; is_given = s; same = same_none (means n) }
 
 -- the state that is left is valid
-module _ {N Input It I B C H U Checkpoint T R P E : Type 0} (p : parser.Ghosts N Input U B Checkpoint T R P E) (i : stream.Ghosts Input T R P E) (seen : Errors T R P E) (fresh : U → Type 0) (some : N → Type 0) (held : C → H) (more : H → B → H) (lean : Type 0) (at : It → List I → Type 0) where
+module _ {N Input It I B C H U Checkpoint T R P E : Type 0} (p : parser.Ghosts N Input U B Checkpoint T R P E) (i : stream.Ghosts Input T R P E) (observers : Observers T R P E) (fresh : U → Type 0) (some : N → Type 0) (held : C → H) (more : H → B → H) (heapless : Type 0) (at : It → List I → Type 0) where
   abbrev kept : N → Type 0
   kept = KeptOf p.lawful p.meaning some
 
-  pub item_leaves : {input left : Input} {l : RunningItem C It N U} {state : IterateState C It N U} {y : Item C It E} → kept l.parser → ((xs : List I) × at l.before.items xs) → CalledItem p i seen fresh held more lean input left l state y → valid_item kept p.valid at state
+  pub item_leaves : {input left : Input} {l : RunningItem C It N U} {state : IterateState C It N U} {y : Item C It E} → kept l.parser → ((xs : List I) × at l.before.items xs) → CalledItem p i observers fresh held more heapless input left l state y → valid_item kept p.valid at state
   item_leaves {input} {left} {l} {state} {y} given_parser given g = by_need g.keeps
     where
       still : kept g.parser
       still = record { is_lawful = g.lawful; parser = given_parser.parser; is_given = given_parser.is_given; same = same_more _ _ _ given_parser.same g.same }
 
-      by_need : keeps_item p i seen fresh held more lean (i.view left).is_open l g.parser g.stopped state g.answer → valid_item kept p.valid at state
+      by_need : keeps_item p i observers fresh held more heapless (i.view left).is_open l g.parser g.stopped state g.answer → valid_item kept p.valid at state
       by_need (inl k) = rw k.1 (still, k.2, given)
-      by_need (inr k) = starts_valid kept p.valid at state k.1
+      by_need (inr k) = items_start_valid kept p.valid at state k.1
 
   -- the items that are left are those that were left
-  pub item_passes : {input left : Input} {l : RunningItem C It N U} {state : IterateState C It N U} {next : Collected C It} → CalledItem p i seen fresh held more lean input left l state (items.Goes next) → next.items ≡ l.before.items
+  pub item_passes : {input left : Input} {l : RunningItem C It N U} {state : IterateState C It N U} {next : CollectedItems C It} → CalledItem p i observers fresh held more heapless input left l state (items.Goes next) → next.items ≡ l.before.items
   item_passes {input} {left} {l} {state} {next} g = by_answer g.answer g.did
     where
-      by_answer : (x : ParseResult B E) → item_did p i seen fresh held more lean l x (items.Goes next) → next.items ≡ l.before.items
+      by_answer : (x : ParseResult B E) → item_did p i observers fresh held more heapless l x (items.Goes next) → next.items ≡ l.before.items
       by_answer (CommitOk b) d = d.items
       by_answer (PeekOk b) d = d.items
       by_answer (CommitErr e) d = absurd (let x : items.Goes next ≡ items.Stops (CommitErr e) = d in cc)

@@ -1,8 +1,8 @@
-mod Cuts
-mod Dividing
+mod CutValues
+mod IteratorDivision
 mod EachItem
 mod ItemErrors
-mod Judging
+mod IteratorBlocks
 pub mod OneAsked
-pub mod Ranges
-mod Stepping
+pub mod NumberRanges
+mod NextCalls

@@ -1,30 +1,55 @@
 //! The values of a parser, one after another, and a parser for each item of a list.
 ghost use Rattle.std.specs.Prelude.{◌≡◌, ℕ};
 ghost use Rattle.combine_base.specs.Stream.View.{View, Takes};
-ghost use Rattle.combine_repeat_turns.specs.Bounded.{goes_at};
-ghost use Rattle.combine_repeat_turns.specs.declared.turns.Bounds.TheVariants.{Any};
+ghost use Rattle.combine_repeat_turns.specs.Turns.Bounds.{is_block_at};
+ghost use Rattle.combine_repeat_turns.specs.declared.turns.Bounds.TheVariants.{Unbounded};
 ghost use Rattle.combine_base.specs.Error.Results.{standard};
-ghost use Rattle.combine_repeat_iterate.specs.Iterated.{iterate_of};
-ghost use Rattle.combine_repeat_iterate.specs.Turned.{TurnCalled, place_of};
-ghost use Rattle.combine_repeat_iterate.specs.Nexts.{Begins, Nexts, answer_of, answer_with, at_most_left, may_go_on, runs_at};
+ghost use Rattle.combine_repeat_iterate.specs.ListedItems.{iterate_of};
+ghost use Rattle.combine_repeat_iterate.specs.IteratorTurn.{TurnCalled, iter_turn_place};
+ghost use Rattle.combine_repeat_iterate.specs.IteratorValues.{IsNewIter, Nexts, answer_of, answer_with, at_most_left, may_go_on, runs_at};
 
 mod items;
 pub mod types;
 
-use combine_base::error::{ParseResult, StdParseResult};
+use combine_base::error::{ParseResult, StdParseResult, accepted_after};
 use combine_base::parser::{Calls, ParseMode, Parser};
 use combine_base::refusal::refusal_saying;
-use combine_base::sequence::accepted_after;
 use combine_base::stream::{Stream, has_taken};
 use std::alloc::Global;
 use std::marker::PhantomData;
 use types::Iterate;
 
-/// Runs for each item of a list, in order, the parser that `f` answers for it, and collects the values in order.
+/// Runs for each item of a list, in order, the parser that `f` returns for it, and collects the values in order.
 ///
-/// An iterator of a clone of the list gives the items; a clone that finds no memory is the fault `Memory`. `f` is asked once for each item, where its turn comes, and leaves the stream in place: on need of more the state keeps the parser that it answered, the values so far and the items that are left. No items are accepted peeked, and so are items whose parsers are all accepted peeked. A refusal of a parser is the answer; a peeked one behind the first item is put back to where that parser began, and says what stands there and what that parser expects; it is committed if an earlier item was. Every parser that `f` may answer has to be lawful.
+/// An iterator of a clone of the list gives the items. `f` is called once for each item, where its turn comes, and leaves the stream in place. Every parser that `f` may return has to be lawful. The result is accepted without commitment if there are no items, or if no item's parser committed.
+///
+/// # Errors
+///
+/// - A refusal of an item's parser is the result. A peeked one after the first item is put back to where that parser began, and says what stands there and what that parser expects; it is committed if an earlier item was.
+/// - A clone of the list that finds no memory is the fault `Memory`.
+///
+/// # Partial input
+///
+/// On need of more the state keeps the parser that `f` returned for the running item, the values so far and the items that are left.
+///
+/// # Differences from combine
 ///
 /// In the crate `f` is an `FnMut`, which is asked again for the running item on resumption.
+///
+/// # Examples
+///
+/// ```
+/// fn letters_in_order(
+///     alloc: Global,
+///     end: u8,
+///     pieces: &[&[u8]],
+/// ) -> Result<Answer<Vec<u8>, UnexpectedParse>, SessionError> {
+///     let letter = |letter: &u8, _input: &mut fed::Stream<u8>| token(*letter);
+///     parse_pieces(alloc, iterate::<Vec<u8>, _, _>(alloc, b'a'..end, letter), pieces)
+/// }
+/// ```
+///
+/// With `end` `b'd'`, and the pieces `b"a"` and `b"bcx"`, it accepts `b"abc"`, with 3 tokens taken.
 #[inline]
 pub fn iterate<C, J, F>(alloc: Global, items: J, f: F) -> Iterate<C, J, F>
     ensures { result ≡ iterate_of alloc items f }
@@ -37,9 +62,10 @@ pub fn iterate<C, J, F>(alloc: Global, items: J, f: F) -> Iterate<C, J, F>
     }
 }
 
-/// Whether another turn runs, and how the turns ended.
+/// Returns whether another turn runs, and how the turns ended.
 #[derive(Drop)]
-enum Stage<E> {
+enum IterStage<E> {
+    /// Another turn runs.
     Running,
     /// A turn was refused peeked, and put back.
     Over,
@@ -47,48 +73,62 @@ enum Stage<E> {
     Failed(E),
 }
 
-impl<E> Stage<E> {
+impl<E> IterStage<E> {
     #[inline(always)]
     fn is_running(&self) -> bool
         ensures { result ≡ runs_at self.now }
     {
         match self {
-            Stage::Running => true,
-            Stage::Over => false,
-            Stage::Failed(_) => false,
+            IterStage::Running => true,
+            IterStage::Over => false,
+            IterStage::Failed(_) => false,
         }
     }
 
-    /// The turns as an answer with that value, of which one gave a value or none.
+    /// Returns the turns as a result with that value, of which one gave a value or none.
     fn answer<V: Drop>(self, given: bool, value: V) -> ParseResult<V, E>
         ensures { result ≡ answer_of self given value }
     {
         match self {
-            Stage::Running => accepted_after(given, value),
-            Stage::Over => accepted_after(given, value),
-            Stage::Failed(error) => ParseResult::CommitErr(error),
+            IterStage::Running => accepted_after(given, value),
+            IterStage::Over => accepted_after(given, value),
+            IterStage::Failed(error) => ParseResult::CommitErr(error),
         }
     }
 }
 
 /// The values of a parser that is run turn after turn on a stream that is lent, with a state that is lent.
 ///
-/// It gives each turn's value, until a turn is refused, needs more, meets a fault or takes nothing; from then on it gives `None`. A peeked refusal is put back. A turn that takes nothing is refused committed, `repetition takes nothing`; of the first turn of a call that resumes nothing is asked but that it is committed, since it may have taken its tokens from an earlier piece.
+/// It gives each turn's value, until a turn is refused, needs more, meets a fault or takes nothing. From then on it gives `None`.
 ///
-/// On need of more the state that was lent keeps the turn that runs, and the tokens of the values that were given are taken: an iterator that resumes from that state goes on. In the crate the state is the iterator's own, `next` parses again after the end, and a parser that takes nothing gives values without end.
+/// # Errors
+///
+/// A peeked refusal is put back. A turn that takes nothing is refused committed, `repetition takes nothing`. Of the first turn of a call that resumes nothing is asked but that it is committed, since it may have taken its tokens from an earlier piece.
+///
+/// # Partial input
+///
+/// On need of more the state that was lent keeps the turn that runs, and the tokens of the values that were given are taken. An iterator that resumes from that state goes on.
+///
+/// # Differences from combine
+///
+/// In the crate the state is the iterator's own, `next` parses again after the end, and a parser that takes nothing gives values without end.
 #[derive(Drop)]
 pub struct Iter<'a, Input: Stream, P: Parser<Input>, M> {
     parser: P,
     mode: M,
     input: &'a mut Input,
     state: &'a mut P::PartialState,
-    /// Whether a value was given; each is of a committed turn.
+    /// Set if a value was given; each is of a committed turn.
     given: bool,
-    stage: Stage<Input::Error>,
+    stage: IterStage<Input::Error>,
 }
 
 impl<'a, Input: Stream, P: Parser<Input>, M: ParseMode> Iter<'a, Input, P, M> {
-    /// Makes an iterator whose first turn begins afresh or goes on from the state, as the mode says. It takes no memory. The parser is lawful, and the state one that it keeps.
+    /// Makes an iterator whose first turn begins afresh or goes on from the state, as the mode says.
+    ///
+    /// It takes no memory.
+    ///
+    /// The parser is lawful, and the state one that it keeps.
     pub fn new(
         parser: P,
         mode: M,
@@ -96,7 +136,7 @@ impl<'a, Input: Stream, P: Parser<Input>, M: ParseMode> Iter<'a, Input, P, M> {
         state: &'a mut P::PartialState,
     ) -> Iter<'a, Input, P, M>
         requires ready { ⟦<P as Calls<Input>>⟧.ready parser state.old }
-        ensures begins { Begins result parser mode input.old state.old }
+        ensures begins { IsNewIter result parser mode input.old state.old }
         ensures ready { may_go_on P.Parser Input.StreamOnce M.first result }
         ensures same_input { result.input.ghost_name ≡ input.entry.ghost_name }
         ensures same_state { result.state.ghost_name ≡ state.entry.ghost_name }
@@ -107,11 +147,17 @@ impl<'a, Input: Stream, P: Parser<Input>, M: ParseMode> Iter<'a, Input, P, M> {
             input,
             state,
             given: false,
-            stage: Stage::Running,
+            stage: IterStage::Running,
         }
     }
 
-    /// Answers with the value as the turns do: accepted, committed exactly if a value was given, where they go on or ended at a peeked refusal. Else the error at which they ended, committed.
+    /// Returns the value as the turns would accept it, if they go on or ended at a peeked refusal.
+    ///
+    /// It is committed exactly if a value was given.
+    ///
+    /// # Errors
+    ///
+    /// The error at which the turns ended, committed.
     pub fn into_result<O: Drop>(self, value: O) -> StdParseResult<O, Input>
     where
         P: Drop,
@@ -136,7 +182,7 @@ impl<'a, Input: Stream, P: Parser<Input> + Drop, M: ParseMode> Iterator for Iter
 
     ghost can_next = { may_go_on P.Parser Input.StreamOnce M.first };
 
-    ghost next_gives = { Nexts P.Parser Input.StreamOnce M.first Input.Error.seen P.PartialState.is_default };
+    ghost next_gives = { Nexts P.Parser Input.StreamOnce M.first Input.Error.observers P.PartialState.is_default };
 
     ghost remaining = { at_most_left P.Parser Input.StreamOnce M.first };
 
@@ -144,18 +190,18 @@ impl<'a, Input: Stream, P: Parser<Input> + Drop, M: ParseMode> Iterator for Iter
         if !self.stage.is_running() {
             return None;
         }
-        match one_turn(&mut self.parser, self.mode, self.input, self.state) {
-            Turn::Gives(value) => {
+        match iter_step(&mut self.parser, self.mode, self.input, self.state) {
+            IterStep::Gives(value) => {
                 self.mode.set_first();
                 self.given = true;
                 Some(value)
             }
-            Turn::Over => {
-                self.stage = Stage::Over;
+            IterStep::Over => {
+                self.stage = IterStage::Over;
                 None
             }
-            Turn::Fails(error) => {
-                self.stage = Stage::Failed(error);
+            IterStep::Fails(error) => {
+                self.stage = IterStage::Failed(error);
                 None
             }
         }
@@ -163,24 +209,25 @@ impl<'a, Input: Stream, P: Parser<Input> + Drop, M: ParseMode> Iterator for Iter
 }
 
 /// What a turn did.
-enum Turn<A, E> {
+enum IterStep<A, E> {
     /// It is a block with that value.
     Gives(A),
     /// It was refused peeked, and put back.
     Over,
+    /// It was refused committed, needs more, takes nothing or met a fault.
     Fails(E),
 }
 
-/// One turn.
+/// Runs one turn.
 #[inline(always)]
-fn one_turn<Input: Stream, P: Parser<Input>, M: ParseMode>(
+fn iter_step<Input: Stream, P: Parser<Input>, M: ParseMode>(
     parser: &mut P,
     mode: M,
     input: &mut Input,
     state: &mut P::PartialState,
-) -> Turn<P::Output, Input::Error>
+) -> IterStep<P::Output, Input::Error>
     requires { ⟦<P as Calls<Input>>⟧.ready parser.old state.old }
-    ensures { TurnCalled P.Parser Input.StreamOnce Input.Error.seen P.PartialState.is_default
+    ensures { TurnCalled P.Parser Input.StreamOnce Input.Error.observers P.PartialState.is_default
         parser.old parser.new input.old input.new (M.first mode) state.old state.new result }
 {
     let checkpoint = input.checkpoint();
@@ -190,19 +237,21 @@ fn one_turn<Input: Stream, P: Parser<Input>, M: ParseMode>(
         ParseResult::PeekOk(value) => (value, false),
         ParseResult::PeekErr(_refusal) => {
             if let Err(kind) = input.reset(checkpoint) {
-                return Turn::Fails(input.new_error(kind, position));
+                return IterStep::Fails(input.new_error(kind, position));
             }
-            return Turn::Over;
+            return IterStep::Over;
         }
-        ParseResult::CommitErr(error) => return Turn::Fails(error),
+        ParseResult::CommitErr(error) => return IterStep::Fails(error),
     };
     if !is_block(mode.is_first(), committed, checkpoint, input) {
-        return Turn::Fails(refusal_saying(input, position, "repetition takes nothing"));
+        return IterStep::Fails(refusal_saying(input, position, "repetition takes nothing"));
     }
-    Turn::Gives(value)
+    IterStep::Gives(value)
 }
 
-/// Whether a turn is a block that is accepted so, this call's part of it begun at that checkpoint: it has to take a token, unless it resumes.
+/// Returns whether an accepted turn counts, which has to take a token, unless it resumes.
+///
+/// `since` is where its part in this call began, `committed` how it was accepted.
 #[inline(always)]
 fn is_block<Input: Stream>(
     first: bool,
@@ -210,7 +259,7 @@ fn is_block<Input: Stream>(
     since: Input::Checkpoint,
     input: &Input,
 ) -> bool
-    ensures { (n : ℕ) (v : View Input.Position Input.Token) → Input.stands input.now since v → Takes Input.step n v (Input.view input.now) → result ≡ goes_at Any (place_of first) n committed }
+    ensures { (n : ℕ) (v : View Input.Position Input.Token) → Input.stands input.now since v → Takes Input.step n v (Input.view input.now) → result ≡ is_block_at Unbounded (iter_turn_place first) n committed }
 {
     committed && has_taken(!first, since, input)
 }

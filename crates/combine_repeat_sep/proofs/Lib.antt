@@ -1,4 +1,4 @@
-pub mod Placing
-pub mod Leading
-pub mod Separating
+pub mod PartCalls
+pub mod Separators
+pub mod SeparatedCalls
 pub mod ElementThenTurns

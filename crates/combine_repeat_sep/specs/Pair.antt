@@ -1,10 +1,10 @@
 -- a separator and the part behind it, as a tuple of two
 use Rattle.std.specs.Prelude.{ℕ, ◌≡◌, Bool}
-use Rattle.combine_base.specs.Error.Errors.{Errors}
+use Rattle.combine_base.specs.Error.Errors.{Observers}
 use Rattle.combine_base.specs.Stream.View.{View}
 use Rattle.combine_base.specs.Parser.Outcome.{Accepted}
 use Rattle.combine_base.specs.Parser.Meaning.{Meaning, IsMeaning, MeansOne, MeansSame}
-use Rattle.combine_base.specs.Sequence.Places.{begins, valid_in}
+use Rattle.combine_base.specs.Sequence.Places.{begins_sequence, valid_in}
 use Rattle.combine_base.specs.Sequence.Tuples.{followed, followed_is_meaning, followed_means_one, followed_means_same}
 use Rattle.combine_base.specs.declared.sequence.SequencePlace.{SequencePlace}
 use Rattle.combine_base.specs.declared.sequence.SequencePlace.TheVariants.{Before, Last}
@@ -22,7 +22,7 @@ pair_place (Separator w) = Before w
 pair_place (Part o c u) = Last (record { value = o; committed = c; state = u })
 
 abbrev pub pair_begins : {O W U : Type 0} → (W → Type 0) → PairState O W U → Type 0
-pair_begins fresh = begins pair_place fresh
+pair_begins fresh = begins_sequence pair_place fresh
 
 abbrev pub pair_valid : {O W U : Type 0} → (W → Type 0) → (U → Type 0) → PairState O W U → Type 0
 pair_valid separator part = valid_in pair_place separator part
@@ -55,7 +55,7 @@ module _ {P T R E O W U : Type 0} (s : Meaning P T R E O W) where
   pub record LedBy (from left : PairState O W U) : Type 0 where
     pub is : led_by from left
 
-module _ {P T R E O V W U : Type 0} (step : P → T → P) (errors : Errors T R P E) where
+module _ {P T R E O V W U : Type 0} (step : P → T → P) (errors : Observers T R P E) where
   -- a separator, and then a part
   abbrev pub pair : Meaning P T R E O W → Meaning P T R E V U → Meaning P T R E (O × V) (PairState O W U)
   pair s m = followed step errors pair_place put_to s m

@@ -4,7 +4,7 @@ use Rattle.combine_base.specs.Stream.View.{View}
 use Rattle.combine_base.specs.Parser.Outcome.{Outcome}
 use Rattle.combine_base.specs.Parser.Meaning.{Meaning, Reading, Refusing, SameReasons, IsReading, IsMeaning, MeansOne, MeansSame}
 use Rattle.combine_base.specs.Sequence.Readings.{following, following_is_reading, following_is_single, following_same}
-use Rattle.combine_repeat_turns.specs.Turn.{Start, IsTurn, TurnsSame, EndsOnce, TurnsOnce, never_ends}
+use Rattle.combine_repeat_turns.specs.Turns.Turn.{Start, IsTurn, TurnsSame, EndsTurnsOnce, TurnsOnce, never_ends}
 use Rattle.combine_repeat_sep.specs.declared.pair.PairState.{PairState}
 use Rattle.combine_repeat_sep.specs.declared.pair.PairState.TheVariants as pairs
 use Rattle.combine_repeat_sep.specs.declared.separated.Lead.TheVariants as leads
@@ -49,9 +49,9 @@ abbrev pub later_kept : {O W U : Type 0} → PairState O W U → SeparatedState 
 later_kept (pairs.Separator w) = kept.Separator w
 later_kept (pairs.Part o c u) = kept.Part (leads.Separator o c) u
 
-abbrev pub begins_at : {U Z : Type 0} → (U → Type 0) → TurnPlace U Z → Type 0
-begins_at fresh (at.First s) = fresh s
-begins_at fresh (at.Later s) = ⊥
+abbrev pub begins_turn_place : {U Z : Type 0} → (U → Type 0) → TurnPlace U Z → Type 0
+begins_turn_place fresh (at.First s) = fresh s
+begins_turn_place fresh (at.Later s) = ⊥
 
 abbrev pub valid_at : {U Z : Type 0} → (U → Type 0) → (Z → Type 0) → TurnPlace U Z → Type 0
 valid_at valid valid' (at.First s) = valid s
@@ -59,12 +59,12 @@ valid_at valid valid' (at.Later s) = valid' s
 
 -- the first part begins
 abbrev pub separated_fresh : {O W U : Type 0} → (U → Type 0) → SeparatedState O W U → Type 0
-separated_fresh fresh z = begins_at fresh (turn_place z)
+separated_fresh fresh z = begins_turn_place fresh (turn_place z)
 
 abbrev pub separated_valid : {O W U : Type 0} → (U → Type 0) → (PairState O W U → Type 0) → SeparatedState O W U → Type 0
 separated_valid valid valid' z = valid_at valid valid' (turn_place z)
 
-default_at : {U Z : Type 0} (fresh valid : U → Type 0) (valid' : Z → Type 0) → ((s : U) → fresh s → valid s) → (p : TurnPlace U Z) → begins_at fresh p → valid_at valid valid' p
+default_at : {U Z : Type 0} (fresh valid : U → Type 0) (valid' : Z → Type 0) → ((s : U) → fresh s → valid s) → (p : TurnPlace U Z) → begins_turn_place fresh p → valid_at valid valid' p
 default_at fresh valid valid' h (at.First s) d = h s d
 default_at fresh valid valid' h (at.Later s) d = absurd d
 
@@ -97,7 +97,7 @@ module _ {P T R E A C D O W U : Type 0} (e : D → A) (f : C → A) where
     lost = λ z. kept_lost m n (turn_place z);
     keeps = m.keeps × n.keeps;
     puts_back = ⊥;
-    lean = m.lean × n.lean;
+    heapless = m.heapless × n.heapless;
     adds = m.adds;
     refuses = m.refuses;
     refuses_from = λ z. kept_refuses m n (turn_place z);
@@ -120,15 +120,15 @@ module _ {P T R E A C D O W U : Type 0} (e : D → A) (f : C → A) where
         resting (at.First s) d = following_is_reading false e (m.rest s) (h.rest s d)
         resting (at.Later s) d = following_is_reading false f (n.rest s) (k.rest s d)
 
-        starting : (s : TurnPlace U (PairState O W U)) (v : View P T) (o : Outcome A) → begins_at fresh s → kept_reading m n s v o ↔ following false e m.whole v o
+        starting : (s : TurnPlace U (PairState O W U)) (v : View P T) (o : Outcome A) → begins_turn_place fresh s → kept_reading m n s v o ↔ following false e m.whole v o
         starting (at.First s) v o d = following_same false e (m.rest s) m.whole (λ v o. h.start s v o d) v o
         starting (at.Later s) v o d = absurd d
 
-        finding : (s : TurnPlace U (PairState O W U)) (v : View P T) → begins_at fresh s → kept_lost m n s v → ⊥
+        finding : (s : TurnPlace U (PairState O W U)) (v : View P T) → begins_turn_place fresh s → kept_lost m n s v → ⊥
         finding (at.First s) v d = h.found s v d
         finding (at.Later s) v d = absurd d
 
-        reasoning : (s : TurnPlace U (PairState O W U)) → begins_at fresh s → SameReasons (kept_refuses m n s) m.refuses
+        reasoning : (s : TurnPlace U (PairState O W U)) → begins_turn_place fresh s → SameReasons (kept_refuses m n s) m.refuses
         reasoning (at.First s) d = h.reasons s d
         reasoning (at.Later s) d = absurd d
 
@@ -140,7 +140,7 @@ module _ {P T R E A C D O W U : Type 0} (e : D → A) (f : C → A) where
       later = never_ends (following_is_single false f n.whole k.whole);
     }
       where
-        resting : (s : TurnPlace U (PairState O W U)) → valid_at valid valid' s → EndsOnce (λ _. false) (kept_reading m n s)
+        resting : (s : TurnPlace U (PairState O W U)) → valid_at valid valid' s → EndsTurnsOnce (λ _. false) (kept_reading m n s)
         resting (at.First s) d = never_ends (following_is_single false e (m.rest s) (h.rest s d))
         resting (at.Later s) d = never_ends (following_is_single false f (n.rest s) (k.rest s d))
 
@@ -152,7 +152,7 @@ module _ {P T R E A C D O W U : Type 0} (e : D → A) (f : C → A) where
       lost = λ z. losing (turn_place z);
       keeps = (λ x. (h.keeps.0 x.0, k.keeps.0 x.1), λ x. (h.keeps.1 x.0, k.keeps.1 x.1));
       puts_back = (λ x. x, λ x. x);
-      lean = (λ x. (h.lean.0 x.0, k.lean.0 x.1), λ x. (h.lean.1 x.0, k.lean.1 x.1));
+      heapless = (λ x. (h.heapless.0 x.0, k.heapless.0 x.1), λ x. (h.heapless.1 x.0, k.heapless.1 x.1));
       adds = h.adds;
       refuses = h.refuses;
       refuses_from = λ z. same_reasons (turn_place z);

@@ -3,34 +3,34 @@ use Rattle.std.specs.Prelude.{ℕ}
 use Rattle.std.specs.declared.alloc.Global.{Global}
 use Rattle.combine_repeat_sep.specs.declared.repeat.types.Chainl1.{Chainl1}
 use Rattle.combine_repeat_sep.specs.declared.repeat.types.RepeatSeparated.{RepeatSeparated}
-use Rattle.combine_repeat_turns.specs.declared.turns.limits.JoinedBetween.{JoinedBetween}
-use Rattle.combine_repeat_turns.specs.declared.turns.limits.JoinedFrom.{JoinedFrom}
+use Rattle.combine_repeat_turns.specs.declared.turns.turn_bounds.FirstThenUpTo.{FirstThenUpTo}
+use Rattle.combine_repeat_turns.specs.declared.turns.turn_bounds.FirstThenMore.{FirstThenMore}
 
 abbrev pub repeat_separated_of : {F P S B : Type 0} → Global → B → P → S → RepeatSeparated F P S B
 repeat_separated_of alloc bounds parser separator = record { alloc = alloc; bounds = bounds; turn = record { parser = parser; separator = separator; asks = record {} }; collects = record {} }
 
-abbrev pub bounds_of : {F P S B : Type 0} → RepeatSeparated F P S B → B
-bounds_of p = p.bounds
+abbrev pub sep_bounds : {F P S B : Type 0} → RepeatSeparated F P S B → B
+sep_bounds p = p.bounds
 
-abbrev pub separated_part : {F P S B : Type 0} → RepeatSeparated F P S B → P
-separated_part p = p.turn.parser
+abbrev pub sep_part : {F P S B : Type 0} → RepeatSeparated F P S B → P
+sep_part p = p.turn.parser
 
-abbrev pub separated_separator : {F P S B : Type 0} → RepeatSeparated F P S B → S
-separated_separator p = p.turn.separator
+abbrev pub sep_separator : {F P S B : Type 0} → RepeatSeparated F P S B → S
+sep_separator p = p.turn.separator
 
-abbrev pub sep_count_min_max_of : {F P S : Type 0} → Global → ℕ → ℕ → P → S → RepeatSeparated F P S JoinedBetween
-sep_count_min_max_of alloc least most parser separator = repeat_separated_of alloc (record { least = least; most = most }) parser separator
+abbrev pub sep_count_min_max_of : {F P S : Type 0} → Global → ℕ → ℕ → P → S → RepeatSeparated F P S FirstThenUpTo
+sep_count_min_max_of alloc least most parser separator = repeat_separated_of alloc (record { min = least; max = most }) parser separator
 
-abbrev pub least_of : {F P S : Type 0} → RepeatSeparated F P S JoinedBetween → ℕ
-least_of p = p.bounds.least
+abbrev pub sep_min : {F P S : Type 0} → RepeatSeparated F P S FirstThenUpTo → ℕ
+sep_min p = p.bounds.min
 
-abbrev pub most_of : {F P S : Type 0} → RepeatSeparated F P S JoinedBetween → ℕ
-most_of p = p.bounds.most
+abbrev pub sep_max : {F P S : Type 0} → RepeatSeparated F P S FirstThenUpTo → ℕ
+sep_max p = p.bounds.max
 
-abbrev pub sep_by_of : {F P S : Type 0} → Global → P → S → RepeatSeparated F P S (JoinedFrom 0)
+abbrev pub sep_by_of : {F P S : Type 0} → Global → P → S → RepeatSeparated F P S (FirstThenMore 0)
 sep_by_of alloc parser separator = repeat_separated_of alloc (record {}) parser separator
 
-abbrev pub sep_by1_of : {F P S : Type 0} → Global → P → S → RepeatSeparated F P S (JoinedFrom 1)
+abbrev pub sep_by1_of : {F P S : Type 0} → Global → P → S → RepeatSeparated F P S (FirstThenMore 1)
 sep_by1_of alloc parser separator = repeat_separated_of alloc (record {}) parser separator
 
 abbrev pub chainl1_of : {P S : Type 0} → P → S → Chainl1 P S

@@ -2,7 +2,7 @@
 ghost use Rattle.std.specs.Prelude.{◌≡◌};
 ghost use Rattle.combine_repeat_sep.specs.Elements.{each_element, folds};
 ghost use Rattle.combine_repeat_sep.specs.Separated.{lead_good};
-ghost use Rattle.combine_repeat_turns.specs.Sound.{any_sound};
+ghost use Rattle.combine_repeat_turns.specs.Turns.SoundValues.{any_sound};
 
 use crate::separated::{Element, Folds};
 use combine_base::repeat::Append;
@@ -15,7 +15,7 @@ use std::marker::PhantomData;
 pub struct EachElement<F>(PhantomData<F>);
 
 impl<F: Drop> Gathers for EachElement<F> {
-    type Into = F;
+    type Collection = F;
 }
 
 impl<O: Drop, A, F: Append<A>> Gather<Element<O, A>> for EachElement<F> {
@@ -31,7 +31,7 @@ impl<O: Drop, A, F: Append<A>> Gather<Element<O, A>> for EachElement<F> {
 
     ghost sound = { λ _. Unit {0} };
 
-    ghost lean = { F.lean };
+    ghost heapless = { F.heapless };
 
     #[inline(always)]
     fn gather(into: F, value: Element<O, A>) -> Result<F, AllocError> {
@@ -56,7 +56,7 @@ impl<O: Drop, A, F: Append<A>> Gather<Element<O, A>> for EachElement<F> {
 pub struct Folded<V>(PhantomData<V>);
 
 impl<V: Drop> Gathers for Folded<V> {
-    type Into = V;
+    type Collection = V;
 }
 
 impl<V: Drop, O: Folds<V> + Drop> Gather<Element<O, V>> for Folded<V> {
@@ -74,7 +74,7 @@ impl<V: Drop, O: Folds<V> + Drop> Gather<Element<O, V>> for Folded<V> {
 
     ghost sound = { λ _. Unit {0} };
 
-    ghost lean = { Unit {0} };
+    ghost heapless = { Unit {0} };
 
     #[inline(always)]
     fn gather(into: V, value: Element<O, V>) -> Result<V, AllocError> {
@@ -88,7 +88,7 @@ impl<V: Drop, O: Folds<V> + Drop> Gather<Element<O, V>> for Folded<V> {
 }
 
 impl<V: Drop, O: Folds<V> + Drop> Reduce<Element<O, V>> for Folded<V> {
-    type From = ();
+    type Seed = ();
 
     #[inline(always)]
     fn begin(from: (), value: Element<O, V>) -> Result<V, AllocError> {

@@ -1,21 +1,22 @@
-//! A separator and the part behind it.
+//! A separator and the part after it.
 //!
 //! They run as a tuple of two does, from a state of their own, whose parts a turn can take apart.
 ghost use Rattle.std.specs.Prelude.{◌≡◌, true};
 ghost use Rattle.combine_base.specs.Parser.Meaning.{MeansSame};
-ghost use Rattle.combine_base.specs.Sequence.Followed.{Follows};
+ghost use Rattle.combine_base.specs.Sequence.SequenceCalls.{FollowsParts};
 ghost use Rattle.combine_base.specs.Sequence.Parts.{CalledLast, CalledRest};
 ghost use Rattle.combine_repeat_sep.specs.Pair.{LedBy, pair_begins, pair_place, pair_valid, put_to};
 
-use combine_base::error::ParseResult;
+use combine_base::error::{ParseResult, accepted_after, refused_after};
 use combine_base::parser::{Calls, Outputs, ParseMode, Parser};
-use combine_base::sequence::{accepted_after, refused_after};
 use combine_base::stream::{Stream, needs_more};
 
-/// What is kept of a separator and a part while one of them runs: the state of the separator, or what it gave, whether that was committed, and the state of the part.
+/// What is kept of a separator and a part while one of them runs.
 #[derive(Drop)]
 pub enum PairState<O, W, U> {
+    /// The separator runs, from that state.
     Separator(W),
+    /// The part runs, from that state: the separator gave that value, and was committed or not.
     Part(O, bool, U),
 }
 
@@ -35,7 +36,9 @@ pub type PairStateOf<Input, S, P> = PairState<
     <P as Parser<Input>>::PartialState,
 >;
 
-/// Runs a separator and a part, from what is kept of them. `state` is a default one, and keeps what goes on where more is needed.
+/// Runs a separator and a part, from what is kept of them.
+///
+/// `state` is a default one, and keeps what goes on where more is needed.
 #[inline(always)]
 pub fn parse_pair<Input: Stream, S: Parser<Input>, P: Parser<Input>, M: ParseMode>(
     separator: &mut S,
@@ -51,7 +54,7 @@ pub fn parse_pair<Input: Stream, S: Parser<Input>, P: Parser<Input>, M: ParseMod
     requires fresh { pair_begins S.PartialState.is_default state.old }
     ensures lawful { S.lawful separator.new × P.lawful part.new }
     ensures parts { MeansSame (S.meaning separator.old) (S.meaning separator.new) × MeansSame (P.meaning part.old) (P.meaning part.new) }
-    ensures called { Follows pair_place put_to Input.StreamOnce Input.Error.seen S.PartialState.is_default S.valid P.Parser (S.meaning separator.old) (S.meaning separator.new) part.old part.new input.old input.new from state.new result }
+    ensures called { FollowsParts pair_place put_to Input.StreamOnce Input.Error.observers S.PartialState.is_default S.valid P.Parser (S.meaning separator.old) (S.meaning separator.new) part.old part.new input.old input.new from state.new result }
     ensures led { LedBy (S.meaning separator.old) from state.new }
 {
     match from {
@@ -66,7 +69,9 @@ pub fn parse_pair<Input: Stream, S: Parser<Input>, P: Parser<Input>, M: ParseMod
     }
 }
 
-/// Goes on with the part, from its start, where the separator has accepted. `kept` is the state that it left.
+/// Goes on with the part, from its start, where the separator has accepted.
+///
+/// `kept` is the state that it left.
 #[inline(always)]
 fn parse_rest<Input: Stream, O: Drop, W: Drop, P: Parser<Input>, M: ParseMode>(
     answer: ParseResult<O, Input::Error>,
@@ -77,7 +82,7 @@ fn parse_rest<Input: Stream, O: Drop, W: Drop, P: Parser<Input>, M: ParseMode>(
     state: &mut PairState<O, W, P::PartialState>,
 ) -> ParseResult<(O, P::Output), Input::Error>
     requires lawful { P.lawful part.old }
-    ensures { CalledRest P.Parser Input.StreamOnce Input.Error.seen P.PartialState.is_default (λ z. z ≡ state.old) pair_place put_to part.old part.new input.old input.new kept state.new result answer }
+    ensures { CalledRest P.Parser Input.StreamOnce Input.Error.observers P.PartialState.is_default (λ z. z ≡ state.old) pair_place put_to part.old part.new input.old input.new kept state.new result answer }
 {
     let (value, committed) = match answer {
         ParseResult::CommitOk(value) => (value, true),
@@ -96,7 +101,9 @@ fn parse_rest<Input: Stream, O: Drop, W: Drop, P: Parser<Input>, M: ParseMode>(
     parse_part(value, committed, kept, part, mode, input, state)
 }
 
-/// Runs the part, from what is kept of it, where the separator gave a value. A peeked refusal is put back to where the part began, and explained by it. Need of more is kept in `state`, which every other answer leaves as it was.
+/// Runs the part, from what is kept of it, where the separator gave a value.
+///
+/// A peeked refusal is put back to where the part began, and explained by it. Need of more is kept in `state`, which every other result leaves as it was.
 #[inline(always)]
 fn parse_part<Input: Stream, O: Drop, W: Drop, P: Parser<Input>, M: ParseMode>(
     value: O,
@@ -109,7 +116,7 @@ fn parse_part<Input: Stream, O: Drop, W: Drop, P: Parser<Input>, M: ParseMode>(
 ) -> ParseResult<(O, P::Output), Input::Error>
     requires ready { ⟦<P as Calls<Input>>⟧.ready part.old kept }
     requires starts { M.first mode ≡ true → P.PartialState.is_default kept }
-    ensures { CalledLast P.Parser Input.StreamOnce Input.Error.seen P.PartialState.is_default (λ z. z ≡ state.old) pair_place put_to part.old part.new input.old input.new (record { value = value; committed = committed; state = kept }) state.new result }
+    ensures { CalledLast P.Parser Input.StreamOnce Input.Error.observers P.PartialState.is_default (λ z. z ≡ state.old) pair_place put_to part.old part.new input.old input.new (record { value = value; committed = committed; state = kept }) state.new result }
 {
     let mut kept = kept;
     match part.parse_explained(mode, input, &mut kept) {
@@ -126,7 +133,7 @@ fn parse_part<Input: Stream, O: Drop, W: Drop, P: Parser<Input>, M: ParseMode>(
     }
 }
 
-/// As `parse_part`, for a call that resumes: apart from the code of calls that begin afresh, which holds each part once.
+/// Runs the part as `parse_part` does, in a call that resumes: apart from the code of calls that begin afresh, which holds each part once.
 fn resume_part<Input: Stream, O: Drop, W: Drop, P: Parser<Input>, M: ParseMode>(
     value: O,
     committed: bool,
@@ -138,7 +145,7 @@ fn resume_part<Input: Stream, O: Drop, W: Drop, P: Parser<Input>, M: ParseMode>(
 ) -> ParseResult<(O, P::Output), Input::Error>
     requires ready { ⟦<P as Calls<Input>>⟧.ready part.old kept }
     requires starts { M.first mode ≡ true → P.PartialState.is_default kept }
-    ensures { CalledLast P.Parser Input.StreamOnce Input.Error.seen P.PartialState.is_default (λ z. z ≡ state.old) pair_place put_to part.old part.new input.old input.new (record { value = value; committed = committed; state = kept }) state.new result }
+    ensures { CalledLast P.Parser Input.StreamOnce Input.Error.observers P.PartialState.is_default (λ z. z ≡ state.old) pair_place put_to part.old part.new input.old input.new (record { value = value; committed = committed; state = kept }) state.new result }
 {
     parse_part(value, committed, kept, part, mode, input, state)
 }

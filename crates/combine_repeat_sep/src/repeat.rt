@@ -2,9 +2,13 @@
 //!
 //! The values are collected in any `F: Append<P::Output>`, for which the constructors take an allocator first; the crate takes `F: Extend + Default`, and no allocator. What a separator gives is dropped.
 //!
-//! The first element may take nothing. A later turn that takes nothing is refused, committed, with the message `repetition takes nothing`, at the position where it began; in the crate such a parser may hang. A turn that took its tokens in an earlier piece counts as one that takes them. Where a separator is accepted committed and the element behind it is refused, the turn is refused committed, and so is the whole; where the separator took nothing, committed to nothing, and the element is refused peeked, the turn is refused peeked and ends the turns.
+//! The first element may take nothing. A later turn that takes nothing is refused, committed, with the message `repetition takes nothing`, at the position where it began; in the crate such a parser may hang. A turn that took its tokens in an earlier piece counts as one that takes them.
 //!
-//! Faults are as for `many`. On need of more the state keeps what is collected, how many elements there were, whether one committed, and the turn that runs. What is added to an error is as for the parser of the elements. Which error a refusal has is exact, as for `many`: a separator and the element behind it refuse as a tuple of two does, and `sep_count_min_max` says how many elements are missing.
+//! If a separator is accepted committed and the element after it is refused, the turn is refused committed, and so is the whole. If the separator took nothing, committed to nothing, and the element is refused peeked, the turn is refused peeked and ends the turns.
+//!
+//! Faults are as for `many`. On need of more the state keeps what is collected, how many elements there were, whether one committed, and the turn that runs. What is added to an error is as for the parser of the elements.
+//!
+//! Which error a refusal has is exact, as for `many`: a separator and the element after it refuse as a tuple of two does, and `sep_count_min_max` says how many elements are missing.
 ghost use Rattle.std.specs.Prelude.{◌≡◌, ◌≤◌};
 ghost use Rattle.combine_repeat_sep.specs.SeparatedParsers.{chainl1_of, sep_by_of, sep_by1_of, sep_count_min_max_of};
 
@@ -12,14 +16,37 @@ pub mod laws;
 pub mod types;
 
 use crate::separated::Separated;
-use combine_repeat_turns::turns::limits::{JoinedBetween, JoinedFrom};
+use combine_repeat_turns::turns::turn_bounds::{FirstThenMore, FirstThenUpTo};
 use std::alloc::Global;
 use std::marker::PhantomData;
 use types::{Chainl1, RepeatSeparated, SepBy, SepBy1, SepCountMinMax};
 
-/// Takes at least `min` and at most `max` elements, which are `parser`'s, with what `separator` takes between two of them; `min` is at most `max`.
+/// Takes at least `min` and at most `max` elements, which are `parser`'s, with what `separator` takes between two of them. Our own.
 ///
-/// With `max` 0 it is accepted, and nothing runs. The refusal of the first element is the answer, but a peeked one with `min` 0, which is put back and accepted, peeked. After `max` elements it is accepted, and no further turn runs. A peeked refusal of a later turn is put back: after at least `min` elements the answer is accepted, and after fewer it is refused with the message `expected N more elements`, at the position where that turn began. Both are committed exactly if a turn was. Our own.
+/// `min` has to be at most `max`. With `max` 0 it is accepted, and nothing runs. After `max` elements it is accepted, and no further turn runs. A peeked refusal of a later turn is put back, and after at least `min` elements the result is accepted. With `min` 0 a peeked refusal of the first element is put back too, and accepted, peeked. Else an acceptance is committed exactly if a turn was.
+///
+/// # Errors
+///
+/// - The refusal of the first element is the result, but a peeked one with `min` 0.
+/// - A peeked refusal of a later turn after fewer than `min` elements refuses with the message `expected N more elements`, at the position where that turn began. It is committed exactly if a turn was.
+/// - A separator that is committed, with an element after it that is refused, refuses committed.
+/// - A later turn that takes nothing is refused, committed, with the message `repetition takes nothing`.
+/// - Faults are as for `many`.
+///
+/// # Partial input
+///
+/// On need of more the state keeps what is collected, how many elements there were, whether one committed, and the turn that runs.
+///
+/// # Examples
+///
+/// ```
+/// fn digits(alloc: Global, input: &[u8]) -> Result<(Vec<u8>, &[u8]), UnexpectedParse> {
+///     let digit = satisfy(|byte: u8| byte.is_ascii_digit());
+///     sep_count_min_max::<Vec<u8>, _, _>(alloc, 2, 3, digit, token(b',')).parse(input)
+/// }
+/// ```
+///
+/// On `b"1,2,3,4"` it returns `(b"123", b",4")`; `b"1;"` is refused committed.
 #[inline]
 pub fn sep_count_min_max<F, P, S>(
     alloc: Global,
@@ -31,32 +58,88 @@ pub fn sep_count_min_max<F, P, S>(
     requires { min ≤ max }
     ensures { result ≡ sep_count_min_max_of alloc min max parser separator }
 {
-    let bounds = JoinedBetween {
-        least: min,
-        most: max,
-    };
+    let bounds = FirstThenUpTo { min, max };
     RepeatSeparated::new(alloc, bounds, parser, separator)
 }
 
-/// Takes any number of elements, as `sep_count_min_max` does.
+/// Takes any number of elements, with what `separator` takes between two of them, and collects their values.
+///
+/// It is `sep_count_min_max` with `min` 0 and no upper bound, and refuses and goes on as that does.
+///
+/// # Differences from combine
+///
+/// - A turn that takes nothing is refused, where the crate goes round for ever.
+/// - Over a cut the crate begins with an element again, whatever has to come next.
+///
+/// # Examples
+///
+/// ```
+/// fn words(alloc: Global, input: &[u8]) -> Result<(Vec<Vec<u8>>, &[u8]), UnexpectedParse> {
+///     let word = many1::<Vec<u8>, _>(alloc, satisfy(|byte: u8| byte.is_ascii_lowercase()));
+///     sep_by::<Vec<Vec<u8>>, _, _>(alloc, word, token(b',')).parse(input)
+/// }
+/// ```
+///
+/// On `b"a,bc;"` it returns `([b"a", b"bc"], b";")`; `b"a,;"` is refused committed.
 #[inline]
 pub fn sep_by<F, P, S>(alloc: Global, parser: P, separator: S) -> SepBy<F, P, S>
     ensures { result ≡ sep_by_of alloc parser separator }
 {
-    RepeatSeparated::new(alloc, JoinedFrom::<0>, parser, separator)
+    RepeatSeparated::new(alloc, FirstThenMore::<0>, parser, separator)
 }
 
-/// Takes at least one element, and any number, as `sep_count_min_max` does.
+/// Takes at least one element, and any number, with what `separator` takes between two of them, and collects their values.
+///
+/// It is `sep_count_min_max` with `min` 1 and no upper bound, and refuses and goes on as that does.
+///
+/// # Differences from combine
+///
+/// They are those of `sep_by`.
+///
+/// # Examples
+///
+/// ```
+/// fn digits(alloc: Global, input: &[u8]) -> Result<(Vec<u8>, &[u8]), UnexpectedParse> {
+///     let digit = satisfy(|byte: u8| byte.is_ascii_digit());
+///     sep_by1::<Vec<u8>, _, _>(alloc, digit, token(b',')).parse(input)
+/// }
+/// ```
+///
+/// On `b"1,2;"` it returns `(b"12", b";")`; `b";"` is refused peeked.
 #[inline]
 pub fn sep_by1<F, P, S>(alloc: Global, parser: P, separator: S) -> SepBy1<F, P, S>
     ensures { result ≡ sep_by1_of alloc parser separator }
 {
-    RepeatSeparated::new(alloc, JoinedFrom::<1>, parser, separator)
+    RepeatSeparated::new(alloc, FirstThenMore::<1>, parser, separator)
 }
 
 /// Parses as `parser`, and then by turns as `operator` and `parser`: folds the values from the left, by the functions that `operator` gives.
 ///
-/// It takes and answers as `sep_by1`. The functions must be such that they can always be called. On need of more the state keeps the left value.
+/// It takes as `sep_by1` does. The functions must be such that they can always be called.
+///
+/// # Errors
+///
+/// It refuses as `sep_by1` does.
+///
+/// # Partial input
+///
+/// On need of more the state keeps the left value.
+///
+/// # Differences from combine
+///
+/// The operators are `FnOnce`.
+///
+/// # Examples
+///
+/// ```
+/// fn difference(input: &[u8]) -> Result<(u8, &[u8]), UnexpectedParse> {
+///     let digit = map(digit(), |byte: u8| byte.wrapping_sub(b'0'));
+///     let minus = map(token(b'-'), |_minus: u8| |left: u8, right: u8| left.wrapping_sub(right));
+///     chainl1(digit, minus).parse(input)
+/// }
+/// ```
+///
+/// On `b"9-3-2;"` it returns `(4, b";")`.
 #[inline]
 pub fn chainl1<P, S>(parser: P, operator: S) -> Chainl1<P, S>
     ensures { result ≡ chainl1_of parser operator }

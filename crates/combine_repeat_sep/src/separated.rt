@@ -1,32 +1,36 @@
 //! What runs in each turn: a part, and later a separator and the part.
 ghost use Rattle.std.specs.Prelude.{◌≡◌, false, true};
-ghost use Rattle.combine_base.specs.Parser.Given.{GivesOnly};
+ghost use Rattle.combine_base.specs.Parser.GivenValues.{GivesOnly};
 ghost use Rattle.combine_base.specs.Parser.Meaning.{MeansSame};
 ghost use Rattle.combine_base.specs.Stream.Calls.{Passes};
 ghost use Rattle.combine_repeat_sep.specs.Pair.{LedBy, led_is_meaning, led_means_one, led_valid, pair, pair_begins, pair_is_meaning, pair_means_one, pair_valid};
-ghost use Rattle.combine_repeat_sep.specs.Leads.{separated_gives};
-ghost use Rattle.combine_repeat_sep.specs.RanCalls.{RanCall, RanLaterCall};
+ghost use Rattle.combine_repeat_sep.specs.Separators.{separated_gives};
+ghost use Rattle.combine_repeat_sep.specs.PartCalls.{RanCall, RanLaterCall};
 ghost use Rattle.combine_repeat_sep.specs.Separated.{first_element, first_then, later_kept, later_turn, lead_good, part_of, separated_default, separated_fresh, separated_valid, separator_of, then_element, then_is_turn, then_once, turn_place};
 
 use crate::pair::{PairState, PairStateOf, parse_pair};
 use combine_base::error::{ParseResult, Tracked};
 use combine_base::parser::{FirstMode, ParseMode, Parser};
 use combine_base::stream::{Stream, needs_more};
-use combine_repeat_turns::turns::Turn;
+use combine_repeat_turns::turns::TurnParser;
 use std::marker::PhantomData;
 use std::mem;
 
-/// What a turn gives: the first element, or what a separator gave and the element after it.
+/// The value of a turn.
 #[derive(Drop)]
 pub enum Element<O, V> {
+    /// The first element.
     First(V),
+    /// What a separator gave, and the element after it.
     Then(O, V),
 }
 
-/// What stands before a part: nothing before the first, and before a later one what its separator gave, and whether that was committed.
+/// What stands before a part.
 #[derive(Drop)]
 pub enum Lead<O> {
+    /// Nothing stands before the first part.
     Nothing,
+    /// What the separator before a later part gave, and whether that was committed.
     Separator(O, bool),
 }
 
@@ -35,14 +39,18 @@ pub enum Lead<O> {
 /// It holds the state of a part in one place, so that parts within parts make it grow by as much at each level.
 #[derive(Drop)]
 pub enum SeparatedState<O, W, U> {
+    /// A later separator runs, from that state.
     Separator(W),
+    /// A part runs, from that state, with what stands before it.
     Part(Lead<O>, U),
 }
 
 /// Which turn runs: the first part, or a later separator and part.
 #[derive(Drop)]
 pub enum TurnPlace<U, Z> {
+    /// The first part, with its state.
     First(U),
+    /// A later separator and part, with what is kept of them.
     Later(Z),
 }
 
@@ -86,14 +94,17 @@ impl<O, W, U> SeparatedState<O, W, U> {
     }
 }
 
-/// A function that makes one operand of two. Our own, so that what shows its bound stands in a declaration of its own, as with `Maps` of `combine_combinator`.
+/// A function that makes one operand of two. Our own.
+///
+/// It stands apart so that what shows its bound stands in a declaration of its own, as with `Maps` of `combine_base`.
 pub trait Folds<V> {
     /// The functions that can be called on any two operands.
     ghost callable: { Self → Type 0 };
 
-    /// What it may answer.
+    /// What it may return.
     ghost answers: { Self → V → V → V → Type 0 };
 
+    /// Makes one operand of two.
     fn fold_two(self, left: V, right: V) -> V
         requires { callable self }
         ensures { answers self left right result };
@@ -125,9 +136,9 @@ impl<O, V> Leads<O, V> for Anything {
 
 /// It is a function that can be called on any two operands.
 #[derive(Drop)]
-pub struct Operator;
+pub struct ChainOperator;
 
-impl<O: Folds<V> + Drop, V: Drop> Leads<O, V> for Operator {
+impl<O: Folds<V> + Drop, V: Drop> Leads<O, V> for ChainOperator {
     ghost good = { λ f. O.callable f };
 }
 
@@ -135,8 +146,11 @@ impl<O: Folds<V> + Drop, V: Drop> Leads<O, V> for Operator {
 #[derive(Drop)]
 #[derive_where(Clone, Copy; P, S)]
 pub struct Separated<P, S, L> {
+    /// The parser of a part.
     pub parser: P,
+    /// The parser of a separator.
     pub separator: S,
+    /// What is asked of each value that the separator gives.
     pub asks: PhantomData<L>,
 }
 
@@ -154,7 +168,7 @@ fn run_first<Input: Stream, P: Parser<Input>, O: Drop, W: Drop, M: ParseMode>(
     ensures lawful { P.lawful parser.new }
     ensures same { MeansSame (P.meaning parser.old) (P.meaning parser.new) }
     ensures passes { Passes (Input.marks input.old) (Input.marks input.new) (Input.failures input.old) (Input.failures input.new) }
-    ensures ran { RanCall Input.StreamOnce Input.Error.seen P.PartialState.is_default (P.meaning parser.old) P.valid first_element (λ s. SeparatedState.Part Lead.Nothing s) (M.first mode) kept state.old state.new input.old input.new result }
+    ensures ran { RanCall Input.StreamOnce Input.Error.observers P.PartialState.is_default (P.meaning parser.old) P.valid first_element (λ s. SeparatedState.Part Lead.Nothing s) (M.first mode) kept state.old state.new input.old input.new result }
 {
     let mut kept = kept;
     match parser.parse_mode(mode, input, &mut kept) {
@@ -186,9 +200,9 @@ fn run_later<Input: Stream, P: Parser<Input>, S: Parser<Input>, M: ParseMode>(
     requires starts { M.first mode ≡ true → pair_begins S.PartialState.is_default kept }
     ensures lawful { S.lawful separator.new × P.lawful parser.new }
     ensures parts { MeansSame (S.meaning separator.old) (S.meaning separator.new) × MeansSame (P.meaning parser.old) (P.meaning parser.new) }
-    ensures same { MeansSame (pair Input.step Input.Error.seen (S.meaning separator.old) (P.meaning parser.old)) (pair Input.step Input.Error.seen (S.meaning separator.new) (P.meaning parser.new)) }
+    ensures same { MeansSame (pair Input.step Input.Error.observers (S.meaning separator.old) (P.meaning parser.old)) (pair Input.step Input.Error.observers (S.meaning separator.new) (P.meaning parser.new)) }
     ensures passes { Passes (Input.marks input.old) (Input.marks input.new) (Input.failures input.old) (Input.failures input.new) }
-    ensures ran { RanLaterCall Input.StreamOnce Input.Error.seen S.PartialState.is_default (S.meaning separator.old) (P.meaning parser.old) (λ z. LedBy (S.meaning separator.old) kept z × pair_valid S.valid P.valid z) then_element kept state.old state.new input.old input.new result }
+    ensures ran { RanLaterCall Input.StreamOnce Input.Error.observers S.PartialState.is_default (S.meaning separator.old) (P.meaning parser.old) (λ z. LedBy (S.meaning separator.old) kept z × pair_valid S.valid P.valid z) then_element kept state.old state.new input.old input.new result }
 {
     let mut left = PairState::default();
     match parse_pair(separator, parser, mode, input, kept, &mut left) {
@@ -211,8 +225,9 @@ fn run_later<Input: Stream, P: Parser<Input>, S: Parser<Input>, M: ParseMode>(
     }
 }
 
-impl<Input: Stream, P: Parser<Input>, S: Parser<Input>, L: Leads<S::Output, P::Output>> Turn<Input>
-    for Separated<P, S, L> {
+impl<Input: Stream, P: Parser<Input>, S: Parser<Input>, L: Leads<S::Output, P::Output>> TurnParser<
+    Input,
+> for Separated<P, S, L> {
     type Value = Element<S::Output, P::Output>;
 
     type Running = SeparatedState<S::Output, S::PartialState, P::PartialState>;
@@ -223,9 +238,9 @@ impl<Input: Stream, P: Parser<Input>, S: Parser<Input>, L: Leads<S::Output, P::O
 
     ghost valid = { separated_valid P.valid (led_valid L.good S.valid P.valid) };
 
-    ghost meaning = { λ p. first_then first_element then_element (P.meaning (part_of p)) (pair Input.step Input.Error.seen (S.meaning (separator_of p)) (P.meaning (part_of p))) };
+    ghost meaning = { λ p. first_then first_element then_element (P.meaning (part_of p)) (pair Input.step Input.Error.observers (S.meaning (separator_of p)) (P.meaning (part_of p))) };
 
-    ghost again = { λ p. later_turn then_element (pair Input.step Input.Error.seen (S.meaning (separator_of p)) (P.meaning (part_of p))) };
+    ghost again = { λ p. later_turn then_element (pair Input.step Input.Error.observers (S.meaning (separator_of p)) (P.meaning (part_of p))) };
 
     ghost ending = { λ _. false };
 
@@ -273,15 +288,15 @@ impl<Input: Stream, P: Parser<Input>, S: Parser<Input>, L: Leads<S::Output, P::O
     }
 
     #[inline(always)]
-    fn ends(value: &Self::Value) -> bool {
+    fn is_last(value: &Self::Value) -> bool {
         false
     }
 
     ghost default_valid = { λ s d. separated_default P.PartialState.is_default P.valid (led_valid L.good S.valid P.valid) P.default_valid s d };
 
-    ghost laws = { λ p l. then_is_turn first_element then_element (P.laws (part_of p) l.2) (led_is_meaning L.good S.valid P.valid (pair_is_meaning Input.step Input.Error.seen (S.laws (separator_of p) l.1) (P.laws (part_of p) l.2))) };
+    ghost laws = { λ p l. then_is_turn first_element then_element (P.laws (part_of p) l.2) (led_is_meaning L.good S.valid P.valid (pair_is_meaning Input.step Input.Error.observers (S.laws (separator_of p) l.1) (P.laws (part_of p) l.2))) };
 
-    ghost once = { λ p l d. then_once first_element then_element (P.single (part_of p) l.2 d.1) (led_means_one L.good S.valid P.valid (pair_means_one Input.step Input.Error.seen (S.single (separator_of p) l.1 d.0) (P.single (part_of p) l.2 d.1))) };
+    ghost single = { λ p l d. then_once first_element then_element (P.single (part_of p) l.2 d.1) (led_means_one L.good S.valid P.valid (pair_means_one Input.step Input.Error.observers (S.single (separator_of p) l.1 d.0) (P.single (part_of p) l.2 d.1))) };
 
-    ghost gives_only = { λ p l. separated_gives Input.step Input.Error.seen P.valid (P.meaning (part_of p)) l.0 };
+    ghost gives_only = { λ p l. separated_gives Input.step Input.Error.observers P.valid (P.meaning (part_of p)) l.0 };
 }

@@ -1,22 +1,22 @@
 -- a part, and then turns of a separator and perhaps the part, which end where it is missing
 use Rattle.std.specs.Prelude.{ℕ, ◌≡◌, Bool, true, false, Option, Some, None, refl}
 use Rattle.std.proofs.Common.{sym, subst, ◌∙◌}
-use Rattle.combine_base.specs.Error.Errors.{Errors}
+use Rattle.combine_base.specs.Error.Errors.{Observers}
 use Rattle.combine_base.specs.Stream.View.{View, advanced}
 use Rattle.combine_base.specs.Parser.Outcome.{Outcome, Accepted, Refused, Undecided, shape}
 use Rattle.combine_base.specs.Parser.Meaning.{Meaning, Reading, IsSingle, MeansOne, MeansSame}
-use Rattle.combine_base.specs.Parser.Mapped.{mapped_reading}
-use Rattle.combine_base.specs.Sequence.Joined.{joined}
+use Rattle.combine_base.specs.Parser.ValueMap.{mapped_reading}
+use Rattle.combine_base.specs.Sequence.JoinedOutcome.{joined}
 use Rattle.combine_base.specs.Sequence.Places.{in_place}
 use Rattle.combine_base.specs.Sequence.Readings.{following, following_is_single, sequel, continues}
 use Rattle.combine_base.specs.Sequence.Meanings.{rest_at, independent}
-use Rattle.combine_token.specs.Choice.{Either, Here, Later as Passed}
-use Rattle.combine_token.specs.Optional.{optional, optional_means_one, is_some, nothing, optional_parser}
+use Rattle.combine_token.specs.Choice.Choices.{OrElse, Here, Later as Passed}
+use Rattle.combine_token.specs.Choice.Optional.{optional, optional_means_one, is_some, nothing_taken, optional_parser}
 use Rattle.combine_base.specs.declared.sequence.SequenceState.{SequenceState}
 use Rattle.combine_base.specs.declared.sequence.SequencePlace.{SequencePlace}
 use Rattle.combine_base.specs.declared.sequence.SequencePlace.TheVariants.{Before, Last}
 use Rattle.combine_token.specs.declared.choice.types.Optional.{Optional}
-use Rattle.combine_repeat_turns.specs.Turn.{EndsOnce, TurnsOnce}
+use Rattle.combine_repeat_turns.specs.Turns.Turn.{EndsTurnsOnce, TurnsOnce}
 use Rattle.combine_repeat_sep.specs.Pair.{pair, pair_means_one, pair_place, pair_valid, put_to}
 use Rattle.combine_repeat_sep.specs.Separated.{first_then, kept_reading, later_turn, separated_valid, turn_place, valid_at}
 use Rattle.combine_repeat_sep.specs.declared.separated.TurnPlace.{TurnPlace}
@@ -24,11 +24,11 @@ use Rattle.combine_repeat_sep.specs.declared.separated.TurnPlace.TheVariants.{Fi
 use Rattle.combine_repeat_sep.specs.declared.pair.PairState.{PairState}
 use Rattle.combine_repeat_sep_end.specs.declared.ended.Ended.{Ended}
 
-abbrev pub within : {X : Type 0} → Optional X → X
-within p = p.0
+abbrev pub optional_part : {X : Type 0} → Optional X → X
+optional_part p = p.0
 
 abbrev pub ended_part : {X Y : Type 0} → Ended X Y → X
-ended_part p = within p.part
+ended_part p = optional_part p.part
 
 abbrev pub closer_of : {X Y : Type 0} → Ended X Y → Y
 closer_of p = p.separator
@@ -37,8 +37,8 @@ abbrev pub ended_of : {X Y : Type 0} → X → Y → Ended X Y
 ended_of p s = record { part = optional_parser p; separator = s }
 
 -- what a separator gave is dropped
-abbrev pub last : {A B : Type 0} → A × B → B
-last t = t.1
+abbrev pub after_separator : {A B : Type 0} → A × B → B
+after_separator t = t.1
 
 abbrev pub some_of : {A : Type 0} → A → Option A
 some_of a = Some a
@@ -57,8 +57,8 @@ pub record EndsAlike {P T A : Type 0} (ending : A → Bool) (r : Reading P T A) 
   pub ends : (v : View P T) (a a' : A) (n n' : ℕ) (k k' : Bool) → r v (Accepted a n k) → r v (Accepted a' n' k') → ending a ≡ ending a'
 
 module _ {P T A : Type 0} {ending : A → Bool} {r : Reading P T A} where
-  pub ends_once : IsSingle r → EndsAlike ending r → EndsOnce ending r
-  ends_once h e = record { one = h.one; ends = λ v a a' n k p q. e.ends v a a' n n k k p q }
+  pub ends_turns_once : IsSingle r → EndsAlike ending r → EndsTurnsOnce ending r
+  ends_turns_once h e = record { one = h.one; ends = λ v a a' n k p q. e.ends v a a' n n k k p q }
 
 module _ {P T A B : Type 0} (c : Bool) (f : A → B) (e : B → Bool) (r : Reading P T A) where
   -- the value changed
@@ -101,76 +101,76 @@ module _ {P T A B C : Type 0} (step : P → T → P) (f : A → B → C) (e : C 
 
 module _ {P T A : Type 0} where
   -- a value and no value never share a list
-  pub optional_alike : (r : Reading P T A) → IsSingle r → EndsAlike is_none (Either (mapped_reading r is_some) nothing)
+  pub optional_alike : (r : Reading P T A) → IsSingle r → EndsAlike is_none (OrElse (mapped_reading r is_some) nothing_taken)
   optional_alike r h = record { ends = by_cases }
     where
       some_is : (b : Option A) (a : A) → is_some a b → is_none b ≡ false
       some_is b a e = rw e refl
 
-      by_cases : (v : View P T) (a a' : Option A) (n n' : ℕ) (k k' : Bool) → Either (mapped_reading r is_some) nothing v (Accepted a n k) → Either (mapped_reading r is_some) nothing v (Accepted a' n' k') → is_none a ≡ is_none a'
+      by_cases : (v : View P T) (a a' : Option A) (n n' : ℕ) (k k' : Bool) → OrElse (mapped_reading r is_some) nothing_taken v (Accepted a n k) → OrElse (mapped_reading r is_some) nothing_taken v (Accepted a' n' k') → is_none a ≡ is_none a'
       by_cases v a a' n n' k k' (Here p f) (Here q g) = some_is a p.0 p.2 ∙ sym (some_is a' q.0 q.2)
       by_cases v a a' n n' k k' (Here p f) (Passed d q) = absurd (let s = h.one v _ _ p.1 d in cc)
       by_cases v a a' n n' k k' (Passed d p) (Here q g) = absurd (let s = h.one v _ _ q.1 d in cc)
       by_cases v a a' n n' k k' (Passed d p) (Passed c q) = cc
 
   -- what may be missing means the same: so does the part itself
-  into : (r r' : Reading P T A) → ((v : View P T) (o : Outcome (Option A)) → Either (mapped_reading r is_some) nothing v o → Either (mapped_reading r' is_some) nothing v o) → (v : View P T) (o : Outcome A) → r v o → r' v o
+  into : (r r' : Reading P T A) → ((v : View P T) (o : Outcome (Option A)) → OrElse (mapped_reading r is_some) nothing_taken v o → OrElse (mapped_reading r' is_some) nothing_taken v o) → (v : View P T) (o : Outcome A) → r v o → r' v o
   into r r' i v (Accepted a n k) p = by_value (i v (Accepted (Some a) n k) (Here (a, p, refl) tt))
     where
-      by_value : Either (mapped_reading r' is_some) nothing v (Accepted (Some a) n k) → r' v (Accepted a n k)
+      by_value : OrElse (mapped_reading r' is_some) nothing_taken v (Accepted (Some a) n k) → r' v (Accepted a n k)
       by_value (Here q f) = let e : q.0 ≡ a = let s = q.2 in cc in subst (λ x. r' v (Accepted x n k)) e q.1
       by_value (Passed d q) = absurd (cc)
   into r r' i v (Refused true) p = by_value (i v (Refused true) (Here p refl))
     where
-      by_value : Either (mapped_reading r' is_some) nothing v (Refused true) → r' v (Refused true)
+      by_value : OrElse (mapped_reading r' is_some) nothing_taken v (Refused true) → r' v (Refused true)
       by_value (Here q f) = q
       by_value (Passed d q) = absurd (cc)
   into r r' i v (Refused false) p = by_value (i v (Accepted None 0 false) (Passed p refl))
     where
-      by_value : Either (mapped_reading r' is_some) nothing v (Accepted None 0 false) → r' v (Refused false)
+      by_value : OrElse (mapped_reading r' is_some) nothing_taken v (Accepted None 0 false) → r' v (Refused false)
       by_value (Here q f) = absurd (let s = q.2 in cc)
       by_value (Passed d q) = d
   into r r' i v Undecided p = by_value (i v Undecided (Here p tt))
     where
-      by_value : Either (mapped_reading r' is_some) nothing v Undecided → r' v Undecided
+      by_value : OrElse (mapped_reading r' is_some) nothing_taken v Undecided → r' v Undecided
       by_value (Here q f) = q
       by_value (Passed d q) = absurd (cc)
 
   module _ {R E S : Type 0} where
-    pub within_same : (m m' : Meaning P T R E A S) → MeansSame (optional m) (optional m') → MeansSame m m'
-    within_same m m' h = record {
+    pub optional_part_same : (m m' : Meaning P T R E A S) → MeansSame (optional m) (optional m') → MeansSame m m'
+    optional_part_same m m' h = record {
       whole = λ v o. (into m.whole m'.whole (λ v o. (h.whole v o).0) v o, into m'.whole m.whole (λ v o. (h.whole v o).1) v o);
       rest = λ s v o. (into (m.rest s) (m'.rest s) (λ v o. (h.rest s v o).0) v o, into (m'.rest s) (m.rest s) (λ v o. (h.rest s v o).1) v o);
       lost = h.lost;
       keeps = h.keeps;
       puts_back = h.puts_back;
-      lean = h.lean;
+      heapless = h.heapless;
       adds = h.adds;
       refuses = h.refuses;
       refuses_from = h.refuses_from;
     }
 
-module _ {P T R E A B U W : Type 0} (step : P → T → P) (errors : Errors T R P E) (valid : U → Type 0) (valid' : W → Type 0) (m : Meaning P T R E A U) (s : Meaning P T R E B W) (h : MeansOne valid m) (k : MeansOne valid' s) where
+module _ {P T R E A B U W : Type 0} (step : P → T → P) (errors : Observers T R P E) (valid : U → Type 0) (valid' : W → Type 0) (m : Meaning P T R E A U) (s : Meaning P T R E B W) (h : MeansOne valid m) (k : MeansOne valid' s) where
   abbrev last_pair : Meaning P T R E (B × Option A) (PairState B W U)
   last_pair = pair step errors s (optional m)
 
   pair_one : MeansOne (pair_valid valid' valid) last_pair
   pair_one = pair_means_one step errors k (optional_means_one valid m h)
 
-  ends_at : (p : SequencePlace W (SequenceState B U)) → in_place valid' (λ l. valid l.state) p → EndsAlike (λ x. is_none (last x)) (rest_at step pair_place s (independent errors put_to (optional m)) p)
-  ends_at (Before z) d = sequel_alike step put_to (λ x. is_none (last x)) is_none (λ a b. refl) (s.rest z) (optional m).whole (k.rest z d) (optional_alike m.whole h.whole)
-  ends_at (Last l) d = following_alike l.committed (put_to l.value) (λ x. is_none (last x)) ((optional m).rest l.state) (optional_alike (m.rest l.state) (h.rest l.state d))
+  ends_at : (p : SequencePlace W (SequenceState B U)) → in_place valid' (λ l. valid l.state) p → EndsAlike (λ x. is_none (after_separator x)) (rest_at step pair_place s (independent errors put_to (optional m)) p)
+  ends_at (Before z) d = sequel_alike step put_to (λ x. is_none (after_separator x)) is_none (λ a b. refl) (s.rest z) (optional m).whole (k.rest z d) (optional_alike m.whole h.whole)
+  ends_at (Last l) d = following_alike l.committed (put_to l.value) (λ x. is_none (after_separator x)) ((optional m).rest l.state) (optional_alike (m.rest l.state) (h.rest l.state d))
 
-  pub ended_once : TurnsOnce (separated_valid valid (pair_valid valid' valid)) is_none (first_then some_of last m last_pair) (later_turn last last_pair)
+  pub ended_once : TurnsOnce (separated_valid valid (pair_valid valid' valid)) is_none (first_then some_of after_separator m last_pair) (later_turn after_separator last_pair)
   ended_once = record {
     whole = first m.whole h.whole;
     rest = λ z. resting (turn_place z);
-    later = ends_once (following_is_single false last last_pair.whole pair_one.whole) (following_alike false last is_none last_pair.whole (sequel_alike step put_to (λ x. is_none (last x)) is_none (λ a b. refl) s.whole (optional m).whole k.whole (optional_alike m.whole h.whole)));
+    later = ends_turns_once (following_is_single false after_separator last_pair.whole pair_one.whole) (following_alike false after_separator is_none last_pair.whole (sequel_alike step put_to (λ x. is_none (after_separator x)) is_none (λ a b. refl) s.whole (optional m).whole k.whole (optional_alike m.whole h.whole)));
   }
     where
-      first : (r : Reading P T A) → IsSingle r → EndsOnce is_none (following false some_of r)
-      first r g = ends_once (following_is_single false some_of r g) (following_alike false some_of is_none r (record { ends = λ v a a' n n' k k' p q. refl }))
+      first : (r : Reading P T A) → IsSingle r → EndsTurnsOnce is_none (following false some_of r)
+      first r g = ends_turns_once (following_is_single false some_of r g) (following_alike false some_of is_none r (record { ends = λ v a a' n n' k k' p q. refl }))
 
-      resting : (z : TurnPlace U (PairState B W U)) → valid_at valid (pair_valid valid' valid) z → EndsOnce is_none (kept_reading some_of last m last_pair z)
+      resting : (z : TurnPlace U (PairState B W U)) → valid_at valid (pair_valid valid' valid) z → EndsTurnsOnce is_none (kept_reading some_of after_separator m last_pair z)
       resting (First z) d = first (m.rest z) (h.rest z d)
-      resting (Later z) d = ends_once (following_is_single false last (last_pair.rest z) (pair_one.rest z d)) (following_alike false last is_none (last_pair.rest z) (ends_at (pair_place z) d))
+      resting (Later z) d = ends_turns_once (following_is_single false after_separator (last_pair.rest z) (pair_one.rest z d)) (following_alike false after_separator is_none (last_pair.rest z) (ends_at (pair_place z) d))

@@ -2,13 +2,13 @@
 use Rattle.std.specs.declared.alloc.Global.{Global}
 use Rattle.combine_repeat_sep_end.specs.Ended.{closer_of, ended_of, ended_part}
 use Rattle.combine_repeat_sep_end.specs.declared.repeat.types.RepeatEnded.{RepeatEnded}
-use Rattle.combine_repeat_turns.specs.declared.turns.limits.JoinedFrom.{JoinedFrom}
+use Rattle.combine_repeat_turns.specs.declared.turns.turn_bounds.FirstThenMore.{FirstThenMore}
 
 abbrev pub repeat_ended_of : {F P S B : Type 0} → Global → B → P → S → RepeatEnded F P S B
 repeat_ended_of alloc bounds parser separator = record { alloc = alloc; bounds = bounds; turn = ended_of parser separator; collects = record {} }
 
-abbrev pub bounds_of : {F P S B : Type 0} → RepeatEnded F P S B → B
-bounds_of p = p.bounds
+abbrev pub sep_end_bounds : {F P S B : Type 0} → RepeatEnded F P S B → B
+sep_end_bounds p = p.bounds
 
 abbrev pub ended_by_part : {F P S B : Type 0} → RepeatEnded F P S B → P
 ended_by_part p = ended_part p.turn
@@ -16,8 +16,8 @@ ended_by_part p = ended_part p.turn
 abbrev pub ended_by_separator : {F P S B : Type 0} → RepeatEnded F P S B → S
 ended_by_separator p = closer_of p.turn
 
-abbrev pub sep_end_by_of : {F P S : Type 0} → Global → P → S → RepeatEnded F P S (JoinedFrom 0)
+abbrev pub sep_end_by_of : {F P S : Type 0} → Global → P → S → RepeatEnded F P S (FirstThenMore 0)
 sep_end_by_of alloc parser separator = repeat_ended_of alloc (record {}) parser separator
 
-abbrev pub sep_end_by1_of : {F P S : Type 0} → Global → P → S → RepeatEnded F P S (JoinedFrom 1)
+abbrev pub sep_end_by1_of : {F P S : Type 0} → Global → P → S → RepeatEnded F P S (FirstThenMore 1)
 sep_end_by1_of alloc parser separator = repeat_ended_of alloc (record {}) parser separator

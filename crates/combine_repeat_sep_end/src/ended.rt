@@ -3,12 +3,12 @@ ghost use Rattle.std.specs.Prelude.{◌≡◌, false, true};
 ghost use Rattle.combine_base.specs.Parser.Meaning.{MeansSame};
 ghost use Rattle.combine_base.specs.Stream.Calls.{Passes};
 ghost use Rattle.combine_repeat_sep.specs.Pair.{pair, pair_begins, pair_is_meaning, pair_valid};
-ghost use Rattle.combine_repeat_sep.specs.RanCalls.{RanCall, RanLaterCall};
+ghost use Rattle.combine_repeat_sep.specs.PartCalls.{RanCall, RanLaterCall};
 ghost use Rattle.combine_repeat_sep.specs.Separated.{first_then, later_turn, separated_default, separated_valid, then_is_turn};
-ghost use Rattle.combine_repeat_sep_end.specs.Ended.{closer_of, ended_once, ended_part, is_none, last, some_more, some_of, within};
-ghost use Rattle.combine_token.specs.Optional.{optional, optional_is_meaning};
-ghost use Rattle.combine_repeat_turns.specs.Sound.{any_sound};
-ghost use Rattle.combine_repeat_turns.specs.Turn.{gives_any};
+ghost use Rattle.combine_repeat_sep_end.specs.Ended.{closer_of, ended_once, ended_part, is_none, after_separator, some_more, some_of, optional_part};
+ghost use Rattle.combine_token.specs.Choice.Optional.{optional, optional_is_meaning};
+ghost use Rattle.combine_repeat_turns.specs.Turns.SoundValues.{any_sound};
+ghost use Rattle.combine_repeat_turns.specs.Turns.Turn.{gives_any};
 
 use combine_base::error::{ParseResult, Tracked};
 use combine_base::parser::{FirstMode, ParseMode, Parser};
@@ -16,7 +16,7 @@ use combine_base::repeat::Append;
 use combine_base::stream::{Stream, needs_more};
 use combine_repeat_sep::pair::{PairState, PairStateOf, parse_pair};
 use combine_repeat_sep::separated::{Lead, SeparatedState, TurnPlace};
-use combine_repeat_turns::turns::{Gather, Gathers, Turn};
+use combine_repeat_turns::turns::{Gather, Gathers, TurnParser};
 use combine_token::choice::types::Optional;
 use std::alloc::AllocError;
 use std::marker::PhantomData;
@@ -29,12 +29,12 @@ pub struct Ended<P, S> {
     pub(crate) separator: S,
 }
 
-/// Each value that there is is appended.
+/// Each value that is there is appended.
 #[derive(Drop)]
 pub struct EachSome<F>(PhantomData<F>);
 
 impl<F: Drop> Gathers for EachSome<F> {
-    type Into = F;
+    type Collection = F;
 }
 
 impl<A, F: Append<A>> Gather<Option<A>> for EachSome<F> {
@@ -50,7 +50,7 @@ impl<A, F: Append<A>> Gather<Option<A>> for EachSome<F> {
 
     ghost sound = { λ _. Unit {0} };
 
-    ghost lean = { F.lean };
+    ghost heapless = { F.heapless };
 
     #[inline(always)]
     fn gather(into: F, value: Option<A>) -> Result<F, AllocError> {
@@ -81,7 +81,7 @@ fn run_first<Input: Stream, P: Parser<Input>, O: Drop, W: Drop, M: ParseMode>(
     ensures lawful { P.lawful parser.new }
     ensures same { MeansSame (P.meaning parser.old) (P.meaning parser.new) }
     ensures passes { Passes (Input.marks input.old) (Input.marks input.new) (Input.failures input.old) (Input.failures input.new) }
-    ensures ran { RanCall Input.StreamOnce Input.Error.seen P.PartialState.is_default (P.meaning parser.old) P.valid some_of (λ s. SeparatedState.Part Lead.Nothing s) (M.first mode) kept state.old state.new input.old input.new result }
+    ensures ran { RanCall Input.StreamOnce Input.Error.observers P.PartialState.is_default (P.meaning parser.old) P.valid some_of (λ s. SeparatedState.Part Lead.Nothing s) (M.first mode) kept state.old state.new input.old input.new result }
 {
     let mut kept = kept;
     match parser.parse_mode(mode, input, &mut kept) {
@@ -108,14 +108,14 @@ fn run_later<Input: Stream, P: Parser<Input>, S: Parser<Input>, M: ParseMode>(
     input: &mut Input,
     state: &mut SeparatedState<S::Output, S::PartialState, P::PartialState>,
 ) -> ParseResult<Option<P::Output>, Input::Error>
-    requires lawful { S.lawful separator.old × P.lawful (within part.old) }
+    requires lawful { S.lawful separator.old × P.lawful (optional_part part.old) }
     requires valid { pair_valid S.valid P.valid kept }
     requires starts { M.first mode ≡ true → pair_begins S.PartialState.is_default kept }
-    ensures lawful { S.lawful separator.new × P.lawful (within part.new) }
-    ensures parts { MeansSame (S.meaning separator.old) (S.meaning separator.new) × MeansSame (P.meaning (within part.old)) (P.meaning (within part.new)) }
-    ensures same { MeansSame (pair Input.step Input.Error.seen (S.meaning separator.old) (optional (P.meaning (within part.old)))) (pair Input.step Input.Error.seen (S.meaning separator.new) (optional (P.meaning (within part.new)))) }
+    ensures lawful { S.lawful separator.new × P.lawful (optional_part part.new) }
+    ensures parts { MeansSame (S.meaning separator.old) (S.meaning separator.new) × MeansSame (P.meaning (optional_part part.old)) (P.meaning (optional_part part.new)) }
+    ensures same { MeansSame (pair Input.step Input.Error.observers (S.meaning separator.old) (optional (P.meaning (optional_part part.old)))) (pair Input.step Input.Error.observers (S.meaning separator.new) (optional (P.meaning (optional_part part.new)))) }
     ensures passes { Passes (Input.marks input.old) (Input.marks input.new) (Input.failures input.old) (Input.failures input.new) }
-    ensures ran { RanLaterCall Input.StreamOnce Input.Error.seen S.PartialState.is_default (S.meaning separator.old) (optional (P.meaning (within part.old))) (pair_valid S.valid P.valid) last kept state.old state.new input.old input.new result }
+    ensures ran { RanLaterCall Input.StreamOnce Input.Error.observers S.PartialState.is_default (S.meaning separator.old) (optional (P.meaning (optional_part part.old))) (pair_valid S.valid P.valid) after_separator kept state.old state.new input.old input.new result }
 {
     let mut left = PairState::default();
     match parse_pair(separator, part, mode, input, kept, &mut left) {
@@ -138,7 +138,7 @@ fn run_later<Input: Stream, P: Parser<Input>, S: Parser<Input>, M: ParseMode>(
     }
 }
 
-impl<Input: Stream, P: Parser<Input>, S: Parser<Input>> Turn<Input> for Ended<P, S> {
+impl<Input: Stream, P: Parser<Input>, S: Parser<Input>> TurnParser<Input> for Ended<P, S> {
     type Value = Option<P::Output>;
 
     type Running = SeparatedState<S::Output, S::PartialState, P::PartialState>;
@@ -149,9 +149,9 @@ impl<Input: Stream, P: Parser<Input>, S: Parser<Input>> Turn<Input> for Ended<P,
 
     ghost valid = { separated_valid P.valid (pair_valid S.valid P.valid) };
 
-    ghost meaning = { λ p. first_then some_of last (P.meaning (ended_part p)) (pair Input.step Input.Error.seen (S.meaning (closer_of p)) (optional (P.meaning (ended_part p)))) };
+    ghost meaning = { λ p. first_then some_of after_separator (P.meaning (ended_part p)) (pair Input.step Input.Error.observers (S.meaning (closer_of p)) (optional (P.meaning (ended_part p)))) };
 
-    ghost again = { λ p. later_turn last (pair Input.step Input.Error.seen (S.meaning (closer_of p)) (optional (P.meaning (ended_part p)))) };
+    ghost again = { λ p. later_turn after_separator (pair Input.step Input.Error.observers (S.meaning (closer_of p)) (optional (P.meaning (ended_part p)))) };
 
     ghost ending = { is_none };
 
@@ -199,7 +199,7 @@ impl<Input: Stream, P: Parser<Input>, S: Parser<Input>> Turn<Input> for Ended<P,
     }
 
     #[inline(always)]
-    fn ends(value: &Self::Value) -> bool {
+    fn is_last(value: &Self::Value) -> bool {
         match value {
             Some(_) => false,
             None => true,
@@ -208,9 +208,9 @@ impl<Input: Stream, P: Parser<Input>, S: Parser<Input>> Turn<Input> for Ended<P,
 
     ghost default_valid = { λ s d. separated_default P.PartialState.is_default P.valid (pair_valid S.valid P.valid) P.default_valid s d };
 
-    ghost laws = { λ p l. then_is_turn some_of last (P.laws (ended_part p) l.1) (pair_is_meaning Input.step Input.Error.seen (S.laws (closer_of p) l.0) (optional_is_meaning _ P.valid (P.meaning (ended_part p)) (P.laws (ended_part p) l.1))) };
+    ghost laws = { λ p l. then_is_turn some_of after_separator (P.laws (ended_part p) l.1) (pair_is_meaning Input.step Input.Error.observers (S.laws (closer_of p) l.0) (optional_is_meaning _ P.valid (P.meaning (ended_part p)) (P.laws (ended_part p) l.1))) };
 
-    ghost once = { λ p l d. ended_once Input.step Input.Error.seen P.valid S.valid (P.meaning (ended_part p)) (S.meaning (closer_of p)) (P.single (ended_part p) l.1 d.1) (S.single (closer_of p) l.0 d.0) };
+    ghost single = { λ p l d. ended_once Input.step Input.Error.observers P.valid S.valid (P.meaning (ended_part p)) (S.meaning (closer_of p)) (P.single (ended_part p) l.1 d.1) (S.single (closer_of p) l.0 d.0) };
 
     ghost gives_only = { λ p l. gives_any };
 }

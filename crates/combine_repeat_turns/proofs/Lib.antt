@@ -1,10 +1,10 @@
-pub mod Turning
+pub mod TurnSteps
 pub mod TurnCalls
-pub mod Judging
-pub mod Sounding
-pub mod Repeating
-pub mod Beginning
+pub mod OneTurn
+pub mod SoundValues
+pub mod RepeatCalls
+pub mod FirstTurn
 pub mod TurnRefusals
-pub mod Plain
-pub mod Comparing
+pub mod PlainTurns
+pub mod DroppedValues
 pub mod OneThenTurns

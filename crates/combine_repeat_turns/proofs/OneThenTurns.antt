@@ -1,25 +1,24 @@
 -- turns of which the first is asked for are that one, and then turns under the rule of `many`
 use Rattle.std.proofs.Common.{ℕ, ◌+◌, ◌≡◌, List, [], ◌∷◌, Bool, true, false, ◌||◌, None, arith, ap, sym, refl, ◌∙◌, ◌↔◌}
 use Rattle.combine_base.specs.Stream.View.{View, advanced}
-use Rattle.combine_base.specs.Parser.Outcome.{Outcome, Accepted, Refused, Undecided, after, shape}
-use Rattle.combine_base.specs.Parser.OutcomeFacts.{or_assoc, shape_after}
+use Rattle.combine_base.specs.Parser.Outcome.{Outcome, Accepted, Refused, Undecided, after, shape, or_assoc, shape_after}
 use Rattle.combine_base.specs.Parser.Meaning.{Reading}
-use Rattle.combine_repeat_turns.specs.Turns.{Block, outcome, taken, values, any_committed, Stops, Collecting, Folds, Divides, Collects, Turned}
-use Rattle.combine_repeat_turns.specs.Bounded.{bounded, judged, none_yet}
-use Rattle.combine_repeat_turns.specs.Counts.{never}
-use Rattle.combine_repeat_turns.proofs.Turning.{collects_after}
-use Rattle.combine_repeat_turns.specs.OneThenTurns.{one_then_turns, then_turns}
-use Rattle.combine_repeat_turns.specs.declared.turns.Bounds.TheVariants.{Any, Joined}
-use Rattle.combine_repeat_turns.specs.declared.turns.Place.{Place}
+use Rattle.combine_repeat_turns.specs.Turns.Blocks.{Block, outcome, taken, values, any_committed, StopsTurns, Collecting, FoldsAll, DividesBlocks, HoldsCollected, TurnsOutcome}
+use Rattle.combine_repeat_turns.specs.Turns.Bounds.{bounded, judged, none_yet}
+use Rattle.combine_repeat_turns.specs.Repeat.Repeated.{no_value_ends}
+use Rattle.combine_repeat_turns.proofs.TurnSteps.{collects_after}
+use Rattle.combine_repeat_turns.specs.Repeat.OneThenTurns.{one_then_turns, then_turns}
+use Rattle.combine_repeat_turns.specs.declared.turns.Bounds.TheVariants.{Unbounded, OwnFirst}
+use Rattle.combine_repeat_turns.specs.declared.turns.TurnIndex.{TurnIndex}
 
 -- the places of the first turn, and of one behind the first that is asked for
-abbrev at_first : Place
+abbrev at_first : TurnIndex
 at_first = record { number = 0; begun = false }
 
-abbrev behind : Place
+abbrev behind : TurnIndex
 behind = record { number = 1; begun = false }
 
-same_judge : {A : Type 0} (o : Outcome A) → judged (Joined 1 None) never behind o ≡ judged Any never at_first o
+same_judge : {A : Type 0} (o : Outcome A) → judged (OwnFirst 1 None) no_value_ends behind o ≡ judged Unbounded no_value_ends at_first o
 same_judge (Accepted a n k) = refl
 same_judge (Refused true) = refl
 same_judge (Refused false) = refl
@@ -31,19 +30,19 @@ after_twice n m k d (Refused c) = rw (or_assoc k d c) refl
 after_twice n m k d Undecided = refl
 
 module _ {P T A V : Type 0} (step : P → T → P) (c : Collecting A V) (first later : Reading P T A) where
-  to_any : (l : Outcome (Unit {0})) (bs : List (Block A)) (v : View P T) → Divides step (bounded (Joined 1 None) never) (λ _. later) l later behind bs v → Divides step (bounded Any never) (λ _. later) l later at_first bs v
+  to_any : (l : Outcome (Unit {0})) (bs : List (Block A)) (v : View P T) → DividesBlocks step (bounded (OwnFirst 1 None) no_value_ends) (λ _. later) l later behind bs v → DividesBlocks step (bounded Unbounded no_value_ends) (λ _. later) l later at_first bs v
   to_any l [] v d = (d.0, d.1, sym (same_judge d.0) ∙ d.2)
   to_any l (b ∷ bs) v d = (refl, d.1, sym (same_judge (outcome b)) ∙ d.2, to_any l bs (advanced step b.count v) d.3)
 
-  from_any : (l : Outcome (Unit {0})) (bs : List (Block A)) (v : View P T) → Divides step (bounded Any never) (λ _. later) l later at_first bs v → Divides step (bounded (Joined 1 None) never) (λ _. later) l later behind bs v
+  from_any : (l : Outcome (Unit {0})) (bs : List (Block A)) (v : View P T) → DividesBlocks step (bounded Unbounded no_value_ends) (λ _. later) l later at_first bs v → DividesBlocks step (bounded (OwnFirst 1 None) no_value_ends) (λ _. later) l later behind bs v
   from_any l [] v d = (d.0, d.1, same_judge d.0 ∙ d.2)
   from_any l (b ∷ bs) v d = (refl, d.1, same_judge (outcome b) ∙ d.2, from_any l bs (advanced step b.count v) d.3)
 
   abbrev joined_turns : Reading P T V
-  joined_turns = Turned step (bounded (Joined 1 None) never) c (λ _. later) first (none_yet c.none)
+  joined_turns = TurnsOutcome step (bounded (OwnFirst 1 None) no_value_ends) c (λ _. later) first (none_yet c.none)
 
   -- the first turn stops them
-  alone : (v : View P T) (l : Outcome (Unit {0})) (o : Outcome V) (i : Outcome A) → judged (Joined 1 None) never at_first i ≡ Stops l → shape o ≡ after 0 false l → then_turns step c first later v i o
+  alone : (v : View P T) (l : Outcome (Unit {0})) (o : Outcome V) (i : Outcome A) → judged (OwnFirst 1 None) no_value_ends at_first i ≡ StopsTurns l → shape o ≡ after 0 false l → then_turns step c first later v i o
   alone v l o (Accepted a n k) e j = absurd (cc)
   alone v l (Refused x) (Refused true) e j = let q : l ≡ Refused true = cc in cc
   alone v l (Refused x) (Refused false) e j = let q : l ≡ Refused false = cc in cc
@@ -59,10 +58,10 @@ module _ {P T A V : Type 0} (step : P → T → P) (c : Collecting A V) (first l
   record Behind (n m : ℕ) (k d : Bool) (l : Outcome (Unit {0})) (h : c.Held) (o : Outcome V) : Type 0 where
     rest : Outcome V
     joined : shape rest ≡ after m d l
-    collected : Collects c rest h
+    collected : HoldsCollected c rest h
     is : o ≡ after n k rest
 
-  part : (n m : ℕ) (k d : Bool) (l : Outcome (Unit {0})) (h : c.Held) (o : Outcome V) → shape o ≡ after (n + m) (k || d) l → Collects c o h → Behind n m k d l h o
+  part : (n m : ℕ) (k d : Bool) (l : Outcome (Unit {0})) (h : c.Held) (o : Outcome V) → shape o ≡ after (n + m) (k || d) l → HoldsCollected c o h → Behind n m k d l h o
   part n m k d (Accepted u i x) h (Accepted w j y) e q = record {
     rest = Accepted w (m + i) (d || x);
     joined = refl;
@@ -81,7 +80,7 @@ module _ {P T A V : Type 0} (step : P → T → P) (c : Collecting A V) (first l
   forth : (v : View P T) (o : Outcome V) → joined_turns v o → one_then_turns step c first later v o
   forth v o t = by_blocks t.blocks t.last t.held t.divided t.joined t.folded t.collected
     where
-      by_blocks : (bs : List (Block A)) (l : Outcome (Unit {0})) (h : c.Held) → Divides step (bounded (Joined 1 None) never) (λ _. later) l first at_first bs v → shape o ≡ after (taken bs) (any_committed bs) l → Folds c.more c.none (values bs) h → Collects c o h → one_then_turns step c first later v o
+      by_blocks : (bs : List (Block A)) (l : Outcome (Unit {0})) (h : c.Held) → DividesBlocks step (bounded (OwnFirst 1 None) no_value_ends) (λ _. later) l first at_first bs v → shape o ≡ after (taken bs) (any_committed bs) l → FoldsAll c.more c.none (values bs) h → HoldsCollected c o h → one_then_turns step c first later v o
       by_blocks [] l h d j f q = (d.0, d.1, alone v l o d.0 d.2 j)
       by_blocks (b ∷ bs) l h d j f q =
           let p = part b.count (taken bs) b.committed (any_committed bs) l h o j q in

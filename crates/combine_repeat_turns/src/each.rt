@@ -1,10 +1,10 @@
 //! The same parser in each turn, and each value appended or dropped.
 ghost use Rattle.std.specs.Prelude.{◌≡◌, false, true};
-ghost use Rattle.combine_repeat_turns.specs.Sound.{any_sound};
-ghost use Rattle.combine_repeat_turns.specs.Turn.{from_start, gives_any, plain_is_turn, plain_once};
-ghost use Rattle.combine_repeat_turns.specs.RepeatParsers.{each_of, plain_parser};
+ghost use Rattle.combine_repeat_turns.specs.Turns.SoundValues.{any_sound};
+ghost use Rattle.combine_repeat_turns.specs.Turns.Turn.{from_start, gives_any, plain_is_turn, plain_once};
+ghost use Rattle.combine_repeat_turns.specs.Repeat.RepeatParsers.{each_of, plain_parser};
 
-use crate::turns::{Collect, Gather, Gathers, Turn};
+use crate::turns::{Collect, Gather, Gathers, TurnParser};
 use combine_base::error::{ParseResult, Tracked};
 use combine_base::parser::{ParseMode, Parser};
 use combine_base::repeat::Append;
@@ -14,9 +14,9 @@ use std::marker::PhantomData;
 
 /// The same parser in each turn.
 #[derive(Clone, Copy, Drop)]
-pub struct Plain<P>(pub P);
+pub struct SameParser<P>(pub P);
 
-impl<Input: Stream, P: Parser<Input>> Turn<Input> for Plain<P> {
+impl<Input: Stream, P: Parser<Input>> TurnParser<Input> for SameParser<P> {
     type Value = P::Output;
 
     type Running = P::PartialState;
@@ -51,7 +51,7 @@ impl<Input: Stream, P: Parser<Input>> Turn<Input> for Plain<P> {
     }
 
     #[inline(always)]
-    fn ends(value: &Self::Value) -> bool {
+    fn is_last(value: &Self::Value) -> bool {
         false
     }
 
@@ -59,7 +59,7 @@ impl<Input: Stream, P: Parser<Input>> Turn<Input> for Plain<P> {
 
     ghost laws = { λ p l. plain_is_turn (P.laws (plain_parser p) l) };
 
-    ghost once = { λ p l d. plain_once (P.single (plain_parser p) l d) };
+    ghost single = { λ p l d. plain_once (P.single (plain_parser p) l d) };
 
     ghost gives_only = { λ p l. gives_any };
 }
@@ -86,7 +86,7 @@ impl<F> Each<F> {
 }
 
 impl<F: Drop> Gathers for Each<F> {
-    type Into = F;
+    type Collection = F;
 }
 
 impl<A, F: Append<A>> Gather<A> for Each<F> {
@@ -102,7 +102,7 @@ impl<A, F: Append<A>> Gather<A> for Each<F> {
 
     ghost sound = { λ _. Unit {0} };
 
-    ghost lean = { F.lean };
+    ghost heapless = { F.heapless };
 
     #[inline(always)]
     fn gather(into: F, value: A) -> Result<F, AllocError> {
@@ -138,7 +138,7 @@ impl<A, F: Append<A>> Collect<A> for Each<F> {
 pub struct Dropped;
 
 impl Gathers for Dropped {
-    type Into = ();
+    type Collection = ();
 }
 
 impl<A: Drop> Gather<A> for Dropped {
@@ -154,7 +154,7 @@ impl<A: Drop> Gather<A> for Dropped {
 
     ghost sound = { λ _. Unit {0} };
 
-    ghost lean = { Unit {0} };
+    ghost heapless = { Unit {0} };
 
     #[inline(always)]
     fn gather(into: (), value: A) -> Result<(), AllocError> {

@@ -6,40 +6,37 @@ ghost use Rattle.combine_base.specs.Parser.Reasons.{ReasonedCall};
 ghost use Rattle.combine_base.specs.Stream.Calls.{Passes};
 ghost use Rattle.combine_base.specs.Error.Errors.{Only};
 ghost use Rattle.combine_base.specs.Error.Items.{Count, Message};
-ghost use Rattle.combine_base.specs.Refusals.{Saying, Told};
+ghost use Rattle.combine_base.specs.Refusals.{HasItems, IsRefusalOrMemory};
 ghost use Rattle.combine_base.specs.Sequence.Parts.{accepted_as, refused_as};
 ghost use Rattle.std.specs.Prelude.{None};
-ghost use Rattle.combine_repeat_turns.specs.OneTurn.{IsGathered, stopped_answer, stopped_state};
-ghost use Rattle.combine_repeat_turns.specs.Sound.{LeavesSound, kept_sound};
-ghost use Rattle.combine_repeat_turns.specs.TurnRefusals.{FirstRefuses, JudgesRefusal, StepRefuses};
-ghost use Rattle.combine_repeat_turns.specs.Turn.{TurnsSame, called, started};
-ghost use Rattle.combine_repeat_turns.specs.TurnCalls.{FirstTurnCall, HaltsCall, OneTurnCall, TurnsCall};
-ghost use Rattle.combine_repeat_turns.specs.TurnsMeaning.{turns_from};
-ghost use Rattle.combine_repeat_turns.specs.Bounded.{gathered, cut_at, counted, fresh_turns, kept_or, none_yet, running_turn, so_far};
-ghost use Rattle.combine_repeat_turns.specs.declared.turns.Bounds.TheVariants.{Joined};
+ghost use Rattle.combine_repeat_turns.specs.Turns.OneTurn.{IsGathered, stopped_answer, stopped_state};
+ghost use Rattle.combine_repeat_turns.specs.Turns.SoundValues.{LeavesSound, kept_sound};
+ghost use Rattle.combine_repeat_turns.specs.Turns.Bounds.{FirstRefuses, JudgesRefusal, TurnStepRefuses, turns_from, gathered, cut_at, counted_to, fresh_turns, kept_or, none_yet, running_turn, so_far};
+ghost use Rattle.combine_repeat_turns.specs.Turns.Turn.{TurnsSame, called, started};
+ghost use Rattle.combine_repeat_turns.specs.Turns.TurnCalls.{FirstTurnCall, HaltsCall, OneTurnCall, TurnsCall};
+ghost use Rattle.combine_repeat_turns.specs.declared.turns.Bounds.TheVariants.{OwnFirst};
 
 mod entry;
-pub mod limits;
+pub mod turn_bounds;
 
-use combine_base::error::{Info, ParseError, ParseResult, Tracked};
+use combine_base::error::{Info, ParseError, ParseResult, Tracked, accepted_after, refused_after};
 use combine_base::parser::{ParseMode, Parser};
 use combine_base::refusal::refusal_saying;
-use combine_base::sequence::{accepted_after, refused_after};
 use combine_base::stream::{Kind, Stream, has_taken, needs_more};
 use entry::{Afresh, Entry, Resumed};
-use limits::{Bounded, JoinedFrom, is_enough};
 use std::alloc::AllocError;
 use std::mem;
+use turn_bounds::{FirstThenMore, TurnBounds, is_enough};
 
 /// What runs in a turn: the first one, or any later one, which may differ.
-pub trait Turn<Input: Stream> {
+pub trait TurnParser<Input: Stream> {
     ghost use Rattle.std.specs.Prelude.{◌≡◌, Bool, true};
     ghost use Rattle.combine_base.specs.Parser.Meaning.{Meaning};
     ghost use Rattle.combine_base.specs.Parser.AnswersCalls.{AnswersCall};
     ghost use Rattle.combine_base.specs.Parser.Reasons.{ReasonedCall};
-    ghost use Rattle.combine_base.specs.Error.Errors.{Says};
+    ghost use Rattle.combine_base.specs.Error.Errors.{AddsItems};
     ghost use Rattle.combine_base.specs.Stream.Calls.{Passes};
-    ghost use Rattle.combine_repeat_turns.specs.Turn.{Start, TurnsSame, TurnsOnce, TurnsGive, IsTurn, called};
+    ghost use Rattle.combine_repeat_turns.specs.Turns.Turn.{Start, TurnsSame, TurnsOnce, TurnsGive, IsTurn, called};
 
     /// What a turn gives.
     type Value: Drop;
@@ -65,6 +62,7 @@ pub trait Turn<Input: Stream> {
     /// What holds of each value that a turn gives.
     ghost gives: { Self.Value → Type 0 };
 
+    /// Parses the first turn, or goes on with any from the kept state.
     fn parse_turn<M: ParseMode>(
         &mut self,
         later: bool,
@@ -79,25 +77,25 @@ pub trait Turn<Input: Stream> {
         ensures valid { valid state.new }
         ensures same { TurnsSame (meaning self.old) (again self.old) (meaning self.new) (again self.new) }
         ensures passes { Passes (Input.marks input.old) (Input.marks input.new) (Input.failures input.old) (Input.failures input.new) }
-        ensures answers { AnswersCall Input.StreamOnce Input.Error.seen Self.Running.is_default (called (meaning self.old) (again self.old) later) (M.first mode) state.old state.new input.old input.new result }
-        ensures refuses { ReasonedCall Input.Error.seen (called (meaning self.old) (again self.old) later) (M.first mode) state.old (Input.view input.old) (Input.view input.new) result };
+        ensures answers { AnswersCall Input.StreamOnce Input.Error.observers Self.Running.is_default (called (meaning self.old) (again self.old) later) (M.first mode) state.old state.new input.old input.new result }
+        ensures refuses { ReasonedCall Input.Error.observers (called (meaning self.old) (again self.old) later) (M.first mode) state.old (Input.view input.old) (Input.view input.new) result };
 
-    /// What the first turn adds.
+    /// Adds what the first turn adds.
     fn add_error(&mut self, error: &mut Tracked<Input::Error>)
         requires { lawful self.old }
         ensures lawful { lawful self.new }
         ensures same { TurnsSame (meaning self.old) (again self.old) (meaning self.new) (again self.new) }
-        ensures says { Says Input.Error.seen (meaning self.old).lean (meaning self.old).adds error.old.error error.new.error };
+        ensures says { AddsItems Input.Error.observers (meaning self.old).heapless (meaning self.old).adds error.old.error error.new.error };
 
-    /// Whether this value ends the turns.
-    fn ends(value: &Self::Value) -> bool
+    /// Returns whether this value ends the turns.
+    fn is_last(value: &Self::Value) -> bool
         ensures { result ≡ ending value.now };
 
     ghost default_valid: { (s : Self.Running) → Self.Running.is_default s → valid s };
 
     ghost laws: { (p : Self) → lawful p → IsTurn Self.Running.is_default valid (meaning p) (again p) };
 
-    ghost once: { (p : Self) → lawful p → determined p → TurnsOnce valid ending (meaning p) (again p) };
+    ghost single: { (p : Self) → lawful p → determined p → TurnsOnce valid ending (meaning p) (again p) };
 
     ghost gives_only: { (p : Self) → lawful p → TurnsGive valid (meaning p) (again p) gives };
 }
@@ -105,17 +103,17 @@ pub trait Turn<Input: Stream> {
 /// What turns are gathered into, apart from how: a trait of its own, as [`Outputs`](combine_base::parser::Outputs) is.
 pub trait Gathers {
     /// What it is gathered into.
-    type Into: Drop;
+    type Collection: Drop;
 }
 
 /// How what turns give is gathered.
 pub trait Gather<A>: Gathers {
     ghost use Rattle.std.specs.Prelude.{◌≡◌, MatchResult};
-    ghost use Rattle.combine_repeat_turns.specs.Sound.{KeepsSound};
+    ghost use Rattle.combine_repeat_turns.specs.Turns.SoundValues.{KeepsSound};
 
     ghost Held: { Type 0 };
 
-    ghost held: { Self.Into → Held };
+    ghost held: { Self.Collection → Held };
 
     /// What is held before any value.
     ghost none: { Held };
@@ -130,11 +128,12 @@ pub trait Gather<A>: Gathers {
     ghost sound: { Held → Type 0 };
 
     /// Holds where it takes no memory.
-    ghost lean: { Type 0 };
+    ghost heapless: { Type 0 };
 
-    fn gather(into: Self::Into, value: A) -> Result<Self::Into, AllocError>
+    /// Adds a value to what is gathered.
+    fn gather(into: Self::Collection, value: A) -> Result<Self::Collection, AllocError>
         requires { able value }
-        ensures { MatchResult result (λ i. more (held into) value (held i)) (λ _. lean → ⊥) };
+        ensures { MatchResult result (λ i. more (held into) value (held i)) (λ _. heapless → ⊥) };
 
     ghost keeps_sound: { KeepsSound none more able sound };
 }
@@ -146,11 +145,11 @@ pub trait Collect<A>: Gather<A> {
     /// Whether what is gathered shows the values.
     ghost keeps: { Bool };
 
-    /// An empty gathering, with room for so many values.
-    fn empty(&self, room: usize) -> Result<Self::Into, AllocError>
-        ensures { MatchResult result (λ i. Self.held i ≡ Self.none) (λ _. Self.lean → ⊥) };
+    /// Returns an empty gathering, with room for so many values.
+    fn empty(&self, room: usize) -> Result<Self::Collection, AllocError>
+        ensures { MatchResult result (λ i. Self.held i ≡ Self.none) (λ _. Self.heapless → ⊥) };
 
-    /// Whether what is gathered shows the values.
+    /// Returns whether what is gathered shows the values.
     fn keeps(&self) -> bool
         ensures { result ≡ keeps };
 
@@ -163,82 +162,82 @@ pub trait Reduce<A>: Gather<A> {
     ghost use Rattle.std.specs.Prelude.{MatchResult};
 
     /// What that is made from.
-    type From: Copy;
+    type Seed: Copy;
 
-    /// What the first value makes.
-    fn begin(from: Self::From, value: A) -> Result<Self::Into, AllocError>
-        ensures { MatchResult result (λ i. Self.more Self.none value (Self.held i)) (λ _. Self.lean → ⊥) };
+    /// Makes what is gathered of the first value.
+    fn begin(from: Self::Seed, value: A) -> Result<Self::Collection, AllocError>
+        ensures { MatchResult result (λ i. Self.more Self.none value (Self.held i)) (λ _. Self.heapless → ⊥) };
 }
 
-/// How many turns there are, for contracts: a type of `limits` says which are meant.
+/// How many turns there are, for contracts: a type of `turn_bounds` says which are meant.
 #[derive(Clone, Copy)]
 pub enum Bounds {
     /// Any number; each takes a token.
-    Any,
+    Unbounded,
     /// The first is a part of its own: it may take nothing, and its refusal is the answer unless there need be none. Each later one takes a token.
-    Joined { least: usize, most: Option<usize> },
+    OwnFirst { min: usize, max: Option<usize> },
     /// A number; they may take nothing.
-    Counted { least: usize, most: usize },
+    Counted { min: usize, max: usize },
 }
 
-/// Which turn runs: how many were before, as far as that matters, and whether it took a token in an earlier piece.
+/// The running turn: its index, counted up to the limit of the bounds, and whether it already took a token in an earlier piece.
 #[derive(Clone, Copy)]
-pub struct Place {
+pub struct TurnIndex {
     number: usize,
     begun: bool,
 }
 
-impl Place {
-    /// The first turn.
+impl TurnIndex {
+    /// Returns the place of the first turn.
     #[inline(always)]
-    pub fn first() -> Place
+    pub fn first() -> TurnIndex
         ensures { result ≡ record { number = 0; begun = false } }
     {
-        Place {
+        TurnIndex {
             number: 0,
             begun: false,
         }
     }
 
-    /// Whether so many turns were before it.
+    /// Returns whether so many turns were before it.
     #[inline(always)]
-    fn reaches(self, most: usize) -> bool
-        ensures { result ≡ not (nat_lt self.number most) }
+    fn reaches(self, max: usize) -> bool
+        ensures { result ≡ not (nat_lt self.number max) }
     {
-        !(self.number < most)
+        !(self.number < max)
     }
 
-    /// How many turns are missing before it, if there must be so many.
+    /// Returns how many turns are missing before it, if there must be so many.
     #[inline(always)]
-    fn short_of(self, least: usize) -> usize
-        ensures { result ≡ least - self.number }
+    fn short_of(self, min: usize) -> usize
+        ensures { result ≡ min - self.number }
     {
-        least.saturating_sub(self.number)
+        min.saturating_sub(self.number)
     }
 
-    /// The next turn.
+    /// Returns the place of the next turn.
     #[inline(always)]
-    fn next(self, limit: usize) -> Place
-        ensures { result ≡ record { number = counted limit self.number; begun = false } }
+    fn next(self, count_bound: usize) -> TurnIndex
+        ensures { result ≡ record { number = counted_to count_bound self.number; begun = false } }
     {
-        if self.number < limit {
-            return Place {
+        if self.number < count_bound {
+            return TurnIndex {
                 number: self.number + 1,
                 begun: false,
             };
         }
-        Place {
-            number: limit,
+        TurnIndex {
+            number: count_bound,
             begun: false,
         }
     }
 
-    /// The place of the same turn in the next piece.
+    /// Returns the index of the same turn in the next piece.
     #[inline(always)]
-    fn cut<Input: Stream>(self, since: Input::Checkpoint, input: &Input) -> Place
+    fn cut<Input: Stream>(self, since: Input::Checkpoint, input: &Input) -> TurnIndex
         ensures { (n : ℕ) (v : View Input.Position Input.Token) → Input.stands input.now since v → Takes Input.step n v (Input.view input.now) → result ≡ cut_at self n }
     {
-        Place {
+        TurnIndex {
             number: self.number,
             begun: has_taken(self.begun, since, input),
         }
@@ -247,73 +246,73 @@ impl Place {
 
 /// The turns so far: what is gathered, whether one committed, and which one runs.
 #[derive(Drop)]
-pub struct Turns<F> {
+pub struct TurnProgress<F> {
     into: F,
     committed: bool,
-    place: Place,
+    index: TurnIndex,
 }
 
-impl<F> Turns<F> {
-    /// The first turn runs, or would if there is one.
+impl<F> TurnProgress<F> {
+    /// Returns the turns where none is over yet: the first one runs, or would if there is one.
     #[inline]
-    pub fn none_yet(into: F) -> Turns<F>
-        ensures { result ≡ record { into = into; committed = false; place = record { number = 0; begun = false } } }
+    pub fn none_yet(into: F) -> TurnProgress<F>
+        ensures { result ≡ record { into = into; committed = false; index = record { number = 0; begun = false } } }
     {
-        Turns {
+        TurnProgress {
             into,
             committed: false,
-            place: Place::first(),
+            index: TurnIndex::first(),
         }
     }
 
-    /// With one more turn, which is committed or not.
+    /// Returns the turns with one more, which is committed or not.
     #[inline(always)]
-    fn joined(self, committed: bool) -> Turns<F>
-        ensures { result ≡ record { into = self.into; committed = self.committed || committed; place = self.place } }
+    fn or_committed(self, committed: bool) -> TurnProgress<F>
+        ensures { result ≡ record { into = self.into; committed = self.committed || committed; index = self.index } }
     {
-        let Turns {
+        let TurnProgress {
             into,
             committed: before,
-            place,
+            index,
         } = self;
-        Turns {
+        TurnProgress {
             into,
             committed: before || committed,
-            place,
+            index,
         }
     }
 
-    /// The same turns in the next piece.
+    /// Returns the same turns in the next piece.
     #[inline(always)]
-    fn cut<Input: Stream>(self, since: Input::Checkpoint, input: &Input) -> Turns<F>
-        ensures { (n : ℕ) (v : View Input.Position Input.Token) → Input.stands input.now since v → Takes Input.step n v (Input.view input.now) → result ≡ record { into = self.into; committed = self.committed; place = cut_at self.place n } }
+    fn cut<Input: Stream>(self, since: Input::Checkpoint, input: &Input) -> TurnProgress<F>
+        ensures { (n : ℕ) (v : View Input.Position Input.Token) → Input.stands input.now since v → Takes Input.step n v (Input.view input.now) → result ≡ record { into = self.into; committed = self.committed; index = cut_at self.index n } }
     {
-        let Turns {
+        let TurnProgress {
             into,
             committed,
-            place,
+            index,
         } = self;
-        Turns {
+        TurnProgress {
             into,
             committed,
-            place: place.cut(since, input),
+            index: index.cut(since, input),
         }
     }
 
-    /// The turns end, accepted.
+    /// Accepts what is gathered: the turns end.
     #[inline(always)]
     fn end<E>(self) -> ParseResult<F, E>
         ensures { result ≡ accepted_as self.committed self.into }
     {
-        let Turns {
+        let TurnProgress {
             into,
             committed,
-            place: _,
+            index: _,
         } = self;
         accepted_after(committed, into)
     }
 
-    /// A turn that is missing is refused peeked, which is committed if a turn before it was.
+    /// Refuses where a turn that is missing is refused peeked: committed if a turn before it was.
     #[inline(always)]
     fn refused<E: Drop>(self, refusal: Tracked<E>) -> ParseResult<F, E>
     where
@@ -329,7 +328,8 @@ impl<F> Turns<F> {
 pub enum Earlier<F> {
     /// No turn is over, and nothing is gathered.
     Nothing,
-    Turns(Turns<F>),
+    /// These turns are over.
+    Gathered(TurnProgress<F>),
 }
 
 /// What a repetition keeps while more input is needed: the turns so far, and the state of the one that runs.
@@ -367,42 +367,44 @@ impl<F: Drop, S: Default + Drop> TurnsState<F, S> {
         earlier
     }
 
-    /// The turns that are kept, if the call resumes and there are any; else those of the start.
+    /// Returns the turns that are kept, if the call resumes and there are any; else those of the start.
     #[inline(always)]
-    fn begin(&mut self, first: bool, start: Turns<F>) -> Turns<F>
+    fn begin(&mut self, first: bool, start: TurnProgress<F>) -> TurnProgress<F>
         ensures turns { result ≡ (if first then start else kept_or start self.old.earlier) }
         ensures resumed { first ≡ false → self.new.running ≡ self.old.running }
         ensures afresh { first ≡ true → S.is_default self.new.running }
         ensures left { self.new.earlier ≡ Earlier.Nothing }
     {
         match self.hand_out(first) {
-            Earlier::Turns(turns) => turns,
+            Earlier::Gathered(turns) => turns,
             Earlier::Nothing => start,
         }
     }
 }
 
 /// What a turn did.
-pub enum Step<F, E> {
+pub enum TurnStep<F, E> {
     /// It is a block, and the next one runs.
-    Goes(Turns<F>),
-    Stops(Stop<F, E>),
+    Goes(TurnProgress<F>),
+    /// The turns stop.
+    Stops(TurnStop<F, E>),
 }
 
 /// Why no further turn runs.
-pub enum Stop<F, E> {
+pub enum TurnStop<F, E> {
     /// The turns end, accepted.
-    Over(Turns<F>),
+    Over(TurnProgress<F>),
     /// A turn that is missing is refused peeked.
-    Refused(Turns<F>, Tracked<E>),
+    Refused(TurnProgress<F>, Tracked<E>),
     /// The turn needs more.
-    More(Turns<F>, E),
+    More(TurnProgress<F>, E),
+    /// The turn is refused committed, takes nothing, or met a fault.
     Failed(E),
 }
 
-/// The first turn, which begins afresh or resumes.
+/// Parses the first turn, which begins afresh or resumes.
 #[inline(always)]
-fn parse_turn<Input: Stream, P: Turn<Input>, M: ParseMode>(
+fn parse_turn<Input: Stream, P: TurnParser<Input>, M: ParseMode>(
     parser: &mut P,
     mode: M,
     input: &mut Input,
@@ -415,8 +417,8 @@ fn parse_turn<Input: Stream, P: Turn<Input>, M: ParseMode>(
     ensures valid { P.valid state.new }
     ensures same { TurnsSame (P.meaning parser.old) (P.again parser.old) (P.meaning parser.new) (P.again parser.new) }
     ensures passes { Passes (Input.marks input.old) (Input.marks input.new) (Input.failures input.old) (Input.failures input.new) }
-    ensures answers { AnswersCall Input.StreamOnce Input.Error.seen P.Running.is_default (called (P.meaning parser.old) (P.again parser.old) false) (M.first mode) state.old state.new input.old input.new result }
-    ensures refuses { ReasonedCall Input.Error.seen (called (P.meaning parser.old) (P.again parser.old) false) (M.first mode) state.old (Input.view input.old) (Input.view input.new) result }
+    ensures answers { AnswersCall Input.StreamOnce Input.Error.observers P.Running.is_default (called (P.meaning parser.old) (P.again parser.old) false) (M.first mode) state.old state.new input.old input.new result }
+    ensures refuses { ReasonedCall Input.Error.observers (called (P.meaning parser.old) (P.again parser.old) false) (M.first mode) state.old (Input.view input.old) (Input.view input.new) result }
 {
     if mode.is_first() {
         return Afresh { later: false }.enter(parser, input, state);
@@ -424,79 +426,79 @@ fn parse_turn<Input: Stream, P: Turn<Input>, M: ParseMode>(
     parser.parse_turn(false, mode, input, state)
 }
 
-/// A refusal that says how many turns are missing.
+/// Makes the error of a refusal that says how many turns are missing.
 #[inline]
 fn too_few<Input: Stream>(input: &Input, position: Input::Position, missing: usize) -> Input::Error
-    ensures told { Told Input.Error.seen.kind Input.Error.seen.frugal result }
-    ensures says { Saying Input.Error.seen Kind.Refused position (Only (Message (Count missing))) result }
+    ensures told { IsRefusalOrMemory Input.Error.observers.kind Input.Error.observers.never_allocates result }
+    ensures says { HasItems Input.Error.observers Kind.Refused position (Only (Message (Count missing))) result }
 {
     let mut error = input.new_error(Kind::Refused, position);
     error.add_message(&Info::More(missing));
     error
 }
 
-/// What the turn gave is gathered, and the next one runs.
+/// Gathers what the turn gave, and goes on to the next one.
 #[inline(always)]
 fn gather_turn<A, G: Gather<A>>(
-    turns: Turns<G::Into>,
+    turns: TurnProgress<G::Collection>,
     value: A,
-    limit: usize,
-) -> Result<Turns<G::Into>, AllocError>
+    count_bound: usize,
+) -> Result<TurnProgress<G::Collection>, AllocError>
     requires { G.able value }
-    ensures { MatchResult result (λ n. IsGathered G.held G.more turns value limit n) (λ _. G.lean → ⊥) }
+    ensures { MatchResult result (λ n. IsGathered G.held G.more turns value count_bound n) (λ _. G.heapless → ⊥) }
 {
-    let Turns {
+    let TurnProgress {
         into,
         committed,
-        place,
+        index,
     } = turns;
-    Ok(Turns {
+    Ok(TurnProgress {
         into: G::gather(into, value)?,
         committed,
-        place: place.next(limit),
+        index: index.next(count_bound),
     })
 }
 
-/// What a turn does that is refused peeked, the stream having stood at that checkpoint and position where it began.
+/// Judges a turn that is refused peeked, the stream having stood at that checkpoint and position where it began.
 #[inline(always)]
-fn judge_refusal<G: Gather<P::Value>, Input: Stream, P: Turn<Input>, B: Bounded>(
+fn judge_refusal<G: Gather<P::Value>, Input: Stream, P: TurnParser<Input>, B: TurnBounds>(
     bounds: B,
-    turns: Turns<G::Into>,
+    turns: TurnProgress<G::Collection>,
     since: Input::Checkpoint,
     position: Input::Position,
     refusal: Tracked<Input::Error>,
     input: &mut Input,
-) -> Stop<G::Into, Input::Error>
+) -> TurnStop<G::Collection, Input::Error>
     ensures passes { Passes (Input.marks input.old) (Input.marks input.new) (Input.failures input.old) (Input.failures input.new) }
-    ensures halted { (p : P) (later : Bool) → HaltsCall Input.StreamOnce Input.Error.seen P.Running.is_default (B.bounds bounds) P.ending (gathered G.held G.none G.more G.lean) (called (P.meaning p) (P.again p) later) (Input.stands input.old since) input.old input.new refusal turns result }
-    ensures refuses { (p : P) (later : Bool) → JudgesRefusal Input.step Input.Error.seen (B.bounds bounds) P.ending (called (P.meaning p) (P.again p) later) turns position refusal.error (Input.view input.old) (Input.view input.new) result }
+    ensures halted { (p : P) (later : Bool) → HaltsCall Input.StreamOnce Input.Error.observers P.Running.is_default (B.bounds bounds) P.ending (gathered G.held G.none G.more G.heapless) (called (P.meaning p) (P.again p) later) (Input.stands input.old since) input.old input.new refusal turns result }
+    ensures refuses { (p : P) (later : Bool) → JudgesRefusal Input.step Input.Error.observers (B.bounds bounds) P.ending (called (P.meaning p) (P.again p) later) turns position refusal.error (Input.view input.old) (Input.view input.new) result }
 {
-    if is_enough(bounds, turns.place) {
+    if is_enough(bounds, turns.index) {
         if let Err(kind) = input.reset(since) {
-            return Stop::Failed(input.new_error(kind, position));
+            return TurnStop::Failed(input.new_error(kind, position));
         }
-        return Stop::Over(turns);
+        return TurnStop::Over(turns);
     }
-    if bounds.owns(turns.place) {
-        return Stop::Refused(turns, refusal);
+    if bounds.keeps_refusal(turns.index) {
+        return TurnStop::Refused(turns, refusal);
     }
-    let error = too_few(input, position, bounds.missing(turns.place));
+    let error = too_few(input, position, bounds.missing(turns.index));
     if error.kind() == Kind::Memory {
-        return Stop::Failed(error);
+        return TurnStop::Failed(error);
     }
-    Stop::Refused(turns, Tracked::from(error))
+    TurnStop::Refused(turns, Tracked::from(error))
 }
 
 /// Runs one turn, called so, and gathers its value where it is a block.
 #[inline(always)]
-fn one_turn<G: Gather<P::Value>, Input: Stream, P: Turn<Input>, B: Bounded, C: Entry>(
+fn one_turn<G: Gather<P::Value>, Input: Stream, P: TurnParser<Input>, B: TurnBounds, C: Entry>(
     parser: &mut P,
     bounds: B,
     entry: C,
-    turns: Turns<G::Into>,
+    turns: TurnProgress<G::Collection>,
     input: &mut Input,
     running: &mut P::Running,
-) -> Step<G::Into, Input::Error>
+) -> TurnStep<G::Collection, Input::Error>
     requires able { (a : P.Value) → P.gives a → G.able a }
     requires lawful { P.lawful parser.old }
     requires valid { P.valid running.old }
@@ -505,8 +507,8 @@ fn one_turn<G: Gather<P::Value>, Input: Stream, P: Turn<Input>, B: Bounded, C: E
     ensures valid { P.valid running.new }
     ensures same { TurnsSame (P.meaning parser.old) (P.again parser.old) (P.meaning parser.new) (P.again parser.new) }
     ensures passes { Passes (Input.marks input.old) (Input.marks input.new) (Input.failures input.old) (Input.failures input.new) }
-    ensures turned { OneTurnCall Input.StreamOnce Input.Error.seen P.Running.is_default (B.bounds bounds) P.ending (gathered G.held G.none G.more G.lean) (called (P.meaning parser.old) (P.again parser.old) (C.later entry)) (C.first entry) running.old running.new input.old input.new turns result }
-    ensures refuses { StepRefuses Input.step Input.Error.seen (B.bounds bounds) P.ending (started (called (P.meaning parser.old) (P.again parser.old) (C.later entry)) (C.first entry) running.old) (Input.view input.old) (Input.view input.new) turns result }
+    ensures turned { OneTurnCall Input.StreamOnce Input.Error.observers P.Running.is_default (B.bounds bounds) P.ending (gathered G.held G.none G.more G.heapless) (called (P.meaning parser.old) (P.again parser.old) (C.later entry)) (C.first entry) running.old running.new input.old input.new turns result }
+    ensures refuses { TurnStepRefuses Input.step Input.Error.observers (B.bounds bounds) P.ending (started (called (P.meaning parser.old) (P.again parser.old) (C.later entry)) (C.first entry) running.old) (Input.view input.old) (Input.view input.new) turns result }
 {
     let since = input.checkpoint();
     let position = input.position();
@@ -514,50 +516,51 @@ fn one_turn<G: Gather<P::Value>, Input: Stream, P: Turn<Input>, B: Bounded, C: E
         ParseResult::CommitOk(value) => (value, true),
         ParseResult::PeekOk(value) => (value, false),
         ParseResult::PeekErr(refusal) => {
-            return Step::Stops(judge_refusal::<G, Input, P, B>(
+            return TurnStep::Stops(judge_refusal::<G, Input, P, B>(
                 bounds, turns, since, position, refusal, input,
             ));
         }
         ParseResult::CommitErr(error) => {
             if needs_more(input, &error) {
-                return Step::Stops(Stop::More(turns.cut(since, input), error));
+                return TurnStep::Stops(TurnStop::More(turns.cut(since, input), error));
             }
-            return Step::Stops(Stop::Failed(error));
+            return TurnStep::Stops(TurnStop::Failed(error));
         }
     };
-    if P::ends(&value) {
-        return Step::Stops(Stop::Over(turns.joined(committed)));
+    if P::is_last(&value) {
+        return TurnStep::Stops(TurnStop::Over(turns.or_committed(committed)));
     }
-    if !bounds.goes(turns.place, committed, since, input) {
+    if !bounds.accepts_turn(turns.index, committed, since, input) {
         let error = refusal_saying(input, position, "repetition takes nothing");
-        return Step::Stops(Stop::Failed(error));
+        return TurnStep::Stops(TurnStop::Failed(error));
     }
-    match gather_turn::<P::Value, G>(turns.joined(committed), value, bounds.limit()) {
-        Ok(turns) => Step::Goes(turns),
-        Err(_refused) => Step::Stops(Stop::Failed(input.new_error(Kind::Memory, position))),
+    match gather_turn::<P::Value, G>(turns.or_committed(committed), value, bounds.count_bound()) {
+        Ok(turns) => TurnStep::Goes(turns),
+        Err(_refused) => TurnStep::Stops(TurnStop::Failed(input.new_error(Kind::Memory, position))),
     }
 }
 
 /// What the first turn did, where it makes what is gathered.
-pub enum First<F, E> {
+pub enum FirstStep<F, E> {
     /// It is a block, and the next one runs.
-    Goes(Turns<F>),
+    Goes(TurnProgress<F>),
     /// It is refused peeked.
     Refused(Tracked<E>),
     /// It needs more.
     More(E),
+    /// It is refused committed, or met a fault.
     Failed(E),
 }
 
-/// The first turn, which is asked for and makes what is gathered.
+/// Runs the first turn, which is asked for and makes what is gathered.
 #[inline(always)]
-fn first_turn<G: Reduce<P::Value>, Input: Stream, P: Turn<Input>, M: ParseMode>(
+fn first_turn<G: Reduce<P::Value>, Input: Stream, P: TurnParser<Input>, M: ParseMode>(
     parser: &mut P,
-    from: G::From,
+    from: G::Seed,
     mode: M,
     input: &mut Input,
     running: &mut P::Running,
-) -> First<G::Into, Input::Error>
+) -> FirstStep<G::Collection, Input::Error>
     requires lawful { P.lawful parser.old }
     requires valid { P.valid running.old }
     requires fresh { M.first mode ≡ true → P.Running.is_default running.old }
@@ -565,64 +568,70 @@ fn first_turn<G: Reduce<P::Value>, Input: Stream, P: Turn<Input>, M: ParseMode>(
     ensures valid { P.valid running.new }
     ensures same { TurnsSame (P.meaning parser.old) (P.again parser.old) (P.meaning parser.new) (P.again parser.new) }
     ensures passes { Passes (Input.marks input.old) (Input.marks input.new) (Input.failures input.old) (Input.failures input.new) }
-    ensures turned { FirstTurnCall Input.StreamOnce Input.Error.seen P.Running.is_default (gathered G.held G.none G.more G.lean) G.none (called (P.meaning parser.old) (P.again parser.old) false) (M.first mode) running.old running.new input.old input.new result }
-    ensures refuses { FirstRefuses Input.Error.seen (started (called (P.meaning parser.old) (P.again parser.old) false) (M.first mode) running.old) (Input.view input.old) (Input.view input.new) result }
+    ensures turned { FirstTurnCall Input.StreamOnce Input.Error.observers P.Running.is_default (gathered G.held G.none G.more G.heapless) G.none (called (P.meaning parser.old) (P.again parser.old) false) (M.first mode) running.old running.new input.old input.new result }
+    ensures refuses { FirstRefuses Input.Error.observers (started (called (P.meaning parser.old) (P.again parser.old) false) (M.first mode) running.old) (Input.view input.old) (Input.view input.new) result }
 {
     let position = input.position();
     let (value, committed) = match parse_turn(parser, mode, input, running) {
         ParseResult::CommitOk(value) => (value, true),
         ParseResult::PeekOk(value) => (value, false),
-        ParseResult::PeekErr(refusal) => return First::Refused(refusal),
+        ParseResult::PeekErr(refusal) => return FirstStep::Refused(refusal),
         ParseResult::CommitErr(error) => {
             if needs_more(input, &error) {
-                return First::More(error);
+                return FirstStep::More(error);
             }
-            return First::Failed(error);
+            return FirstStep::Failed(error);
         }
     };
     match G::begin(from, value) {
-        Ok(into) => First::Goes(Turns {
+        Ok(into) => FirstStep::Goes(TurnProgress {
             into,
             committed,
-            place: Place {
+            index: TurnIndex {
                 number: 1,
                 begun: false,
             },
         }),
-        Err(_refused) => First::Failed(input.new_error(Kind::Memory, position)),
+        Err(_refused) => FirstStep::Failed(input.new_error(Kind::Memory, position)),
     }
 }
 
-/// What turns answer that stop so; on need of more they are kept.
+/// Returns the result of turns that stopped for this reason. If they need more, they are kept in `state`.
 #[inline(always)]
 fn stopped<F: Drop, S: Drop, E: Drop>(
-    why: Stop<F, E>,
+    why: TurnStop<F, E>,
     state: &mut TurnsState<F, S>,
 ) -> ParseResult<F, E>
     ensures answer { result ≡ stopped_answer why }
     ensures state { state.new ≡ stopped_state why state.old }
 {
     match why {
-        Stop::Over(turns) => turns.end(),
-        Stop::Refused(turns, refusal) => turns.refused(refusal),
-        Stop::More(turns, error) => {
-            state.earlier = Earlier::Turns(turns);
+        TurnStop::Over(turns) => turns.end(),
+        TurnStop::Refused(turns, refusal) => turns.refused(refusal),
+        TurnStop::More(turns, error) => {
+            state.earlier = Earlier::Gathered(turns);
             ParseResult::CommitErr(error)
         }
-        Stop::Failed(error) => ParseResult::CommitErr(error),
+        TurnStop::Failed(error) => ParseResult::CommitErr(error),
     }
 }
 
-/// One call of turns, which begin so where nothing is kept.
+/// Makes one call of turns, which go on from what is kept, or else begin from `start`.
 #[inline(always)]
-pub fn take_turns<G: Gather<P::Value>, Input: Stream, P: Turn<Input>, M: ParseMode, B: Bounded>(
+pub fn take_turns<
+    G: Gather<P::Value>,
+    Input: Stream,
+    P: TurnParser<Input>,
+    M: ParseMode,
+    B: TurnBounds,
+>(
     parser: &mut P,
     bounds: B,
-    start: Turns<G::Into>,
+    start: TurnProgress<G::Collection>,
     mode: M,
     input: &mut Input,
-    state: &mut TurnsState<G::Into, P::Running>,
-) -> ParseResult<G::Into, Input::Error>
+    state: &mut TurnsState<G::Collection, P::Running>,
+) -> ParseResult<G::Collection, Input::Error>
     requires able { (a : P.Value) → P.gives a → G.able a }
     requires lawful { P.lawful parser.old }
     requires valid { P.valid (running_turn state.old) }
@@ -630,13 +639,13 @@ pub fn take_turns<G: Gather<P::Value>, Input: Stream, P: Turn<Input>, M: ParseMo
     ensures valid { P.valid (running_turn state.new) }
     ensures same { TurnsSame (P.meaning parser.old) (P.again parser.old) (P.meaning parser.new) (P.again parser.new) }
     ensures passes { Passes (Input.marks input.old) (Input.marks input.new) (Input.failures input.old) (Input.failures input.new) }
-    ensures answers { TurnsCall Input.StreamOnce Input.Error.seen P.Running.is_default (B.bounds bounds) P.ending (gathered G.held G.none G.more G.lean) (so_far G.held start) (P.meaning parser.old) (P.again parser.old) (M.first mode) state.old state.new input.old input.new result }
-    ensures refuses { ReasonedCall Input.Error.seen (turns_from Input.step Input.Error.seen (B.bounds bounds) P.ending (gathered G.held G.none G.more G.lean) (so_far G.held start) (P.meaning parser.old) (P.again parser.old)) (M.first mode) state.old (Input.view input.old) (Input.view input.new) result }
+    ensures answers { TurnsCall Input.StreamOnce Input.Error.observers P.Running.is_default (B.bounds bounds) P.ending (gathered G.held G.none G.more G.heapless) (so_far G.held start) (P.meaning parser.old) (P.again parser.old) (M.first mode) state.old state.new input.old input.new result }
+    ensures refuses { ReasonedCall Input.Error.observers (turns_from Input.step Input.Error.observers (B.bounds bounds) P.ending (gathered G.held G.none G.more G.heapless) (so_far G.held start) (P.meaning parser.old) (P.again parser.old)) (M.first mode) state.old (Input.view input.old) (Input.view input.new) result }
 {
     let mut turns = state.begin(mode.is_first(), start);
     let mut later = false;
     if !mode.is_first() {
-        if bounds.is_full(turns.place) {
+        if bounds.is_full(turns.index) {
             state.running = P::Running::default();
             return turns.end();
         }
@@ -648,15 +657,15 @@ pub fn take_turns<G: Gather<P::Value>, Input: Stream, P: Turn<Input>, M: ParseMo
             input,
             &mut state.running,
         ) {
-            Step::Stops(why) => return stopped(why, state),
-            Step::Goes(next) => {
+            TurnStep::Stops(why) => return stopped(why, state),
+            TurnStep::Goes(next) => {
                 turns = next;
                 later = true;
             }
         }
     }
     'turns: loop {
-        if bounds.is_full(turns.place) {
+        if bounds.is_full(turns.index) {
             return turns.end();
         }
         match one_turn::<G, Input, P, B, Afresh>(
@@ -667,8 +676,8 @@ pub fn take_turns<G: Gather<P::Value>, Input: Stream, P: Turn<Input>, M: ParseMo
             input,
             &mut state.running,
         ) {
-            Step::Stops(why) => return stopped(why, state),
-            Step::Goes(next) => {
+            TurnStep::Stops(why) => return stopped(why, state),
+            TurnStep::Goes(next) => {
                 turns = next;
                 later = true;
             }
@@ -676,15 +685,15 @@ pub fn take_turns<G: Gather<P::Value>, Input: Stream, P: Turn<Input>, M: ParseMo
     }
 }
 
-/// One call of turns of which the first makes what is gathered, so that nothing is before it; it is asked for.
+/// Makes one call of turns as `take_turns` does, but the first value makes what is gathered, as for `chainl1`. At least one turn is asked for.
 #[inline(always)]
-pub fn take_joined<G: Reduce<P::Value>, Input: Stream, P: Turn<Input>, M: ParseMode>(
+pub fn reduce_turns<G: Reduce<P::Value>, Input: Stream, P: TurnParser<Input>, M: ParseMode>(
     parser: &mut P,
-    from: G::From,
+    from: G::Seed,
     mode: M,
     input: &mut Input,
-    state: &mut TurnsState<G::Into, P::Running>,
-) -> ParseResult<G::Into, Input::Error>
+    state: &mut TurnsState<G::Collection, P::Running>,
+) -> ParseResult<G::Collection, Input::Error>
     requires able { (a : P.Value) → P.gives a → G.able a }
     requires sound { kept_sound (λ i. G.sound (G.held i)) state.old }
     requires never { (a : P.Value) → P.ending a ≡ false }
@@ -695,15 +704,15 @@ pub fn take_joined<G: Reduce<P::Value>, Input: Stream, P: Turn<Input>, M: ParseM
     ensures sound { LeavesSound (λ i. G.sound (G.held i)) state.new result }
     ensures same { TurnsSame (P.meaning parser.old) (P.again parser.old) (P.meaning parser.new) (P.again parser.new) }
     ensures passes { Passes (Input.marks input.old) (Input.marks input.new) (Input.failures input.old) (Input.failures input.new) }
-    ensures answers { TurnsCall Input.StreamOnce Input.Error.seen P.Running.is_default (Joined 1 None) P.ending (gathered G.held G.none G.more G.lean) (none_yet G.none) (P.meaning parser.old) (P.again parser.old) (M.first mode) state.old state.new input.old input.new result }
-    ensures refuses { ReasonedCall Input.Error.seen (turns_from Input.step Input.Error.seen (Joined 1 None) P.ending (gathered G.held G.none G.more G.lean) (none_yet G.none) (P.meaning parser.old) (P.again parser.old)) (M.first mode) state.old (Input.view input.old) (Input.view input.new) result }
+    ensures answers { TurnsCall Input.StreamOnce Input.Error.observers P.Running.is_default (OwnFirst 1 None) P.ending (gathered G.held G.none G.more G.heapless) (none_yet G.none) (P.meaning parser.old) (P.again parser.old) (M.first mode) state.old state.new input.old input.new result }
+    ensures refuses { ReasonedCall Input.Error.observers (turns_from Input.step Input.Error.observers (OwnFirst 1 None) P.ending (gathered G.held G.none G.more G.heapless) (none_yet G.none) (P.meaning parser.old) (P.again parser.old)) (M.first mode) state.old (Input.view input.old) (Input.view input.new) result }
 {
-    let bounds = JoinedFrom::<1>;
-    let mut turns: Turns<G::Into>;
+    let bounds = FirstThenMore::<1>;
+    let mut turns: TurnProgress<G::Collection>;
     let given = state.hand_out(mode.is_first());
     match given {
-        Earlier::Turns(kept) => {
-            match one_turn::<G, Input, P, JoinedFrom<1>, Resumed<M>>(
+        Earlier::Gathered(kept) => {
+            match one_turn::<G, Input, P, FirstThenMore<1>, Resumed<M>>(
                 parser,
                 bounds,
                 Resumed { mode },
@@ -711,21 +720,21 @@ pub fn take_joined<G: Reduce<P::Value>, Input: Stream, P: Turn<Input>, M: ParseM
                 input,
                 &mut state.running,
             ) {
-                Step::Stops(why) => return stopped(why, state),
-                Step::Goes(next) => turns = next,
+                TurnStep::Stops(why) => return stopped(why, state),
+                TurnStep::Goes(next) => turns = next,
             }
         }
         Earlier::Nothing => {
             match first_turn::<G, Input, P, M>(parser, from, mode, input, &mut state.running) {
-                First::Goes(next) => turns = next,
-                First::Refused(refusal) => return ParseResult::PeekErr(refusal),
-                First::More(error) => return ParseResult::CommitErr(error),
-                First::Failed(error) => return ParseResult::CommitErr(error),
+                FirstStep::Goes(next) => turns = next,
+                FirstStep::Refused(refusal) => return ParseResult::PeekErr(refusal),
+                FirstStep::More(error) => return ParseResult::CommitErr(error),
+                FirstStep::Failed(error) => return ParseResult::CommitErr(error),
             }
         }
     }
     'turns: loop {
-        match one_turn::<G, Input, P, JoinedFrom<1>, Afresh>(
+        match one_turn::<G, Input, P, FirstThenMore<1>, Afresh>(
             parser,
             bounds,
             Afresh { later: true },
@@ -733,8 +742,8 @@ pub fn take_joined<G: Reduce<P::Value>, Input: Stream, P: Turn<Input>, M: ParseM
             input,
             &mut state.running,
         ) {
-            Step::Stops(why) => return stopped(why, state),
-            Step::Goes(next) => turns = next,
+            TurnStep::Stops(why) => return stopped(why, state),
+            TurnStep::Goes(next) => turns = next,
         }
     }
 }

@@ -1,5 +1,5 @@
-mod Comparing
-mod Muting
-mod OneTurns
+mod DroppedBlocks
+mod MutedRefusals
+mod UntilTurn
 mod UntilCalls
 mod UntilErrors

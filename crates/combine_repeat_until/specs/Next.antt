@@ -2,17 +2,17 @@
 use Rattle.std.specs.Prelude.{ℕ, ◌≡◌, Bool, true, false, Option, Some, None, refl}
 use Rattle.std.proofs.Common.{sym, ◌∙◌}
 use Rattle.std.specs.declared.cmp.Ordering.{Ordering}
-use Rattle.combine_base.specs.Error.Errors.{Errors}
+use Rattle.combine_base.specs.Error.Errors.{Observers}
 use Rattle.combine_base.specs.Stream.View.{View}
 use Rattle.combine_base.specs.Parser.Outcome.{Accepted, Refused}
-use Rattle.combine_base.specs.Parser.Mapped.{mapped, mapped_reading, mapped_means_one, mapped_is_meaning}
+use Rattle.combine_base.specs.Parser.ValueMap.{mapped, mapped_reading, mapped_means_one, mapped_is_meaning}
 use Rattle.combine_base.specs.Parser.Meaning.{Meaning, Reading, IsSingle, IsMeaning, MeansOne}
-use Rattle.combine_combinator.specs.Picks.{Picks}
-use Rattle.combine_token.specs.Choice.{Either, Here, Later, refused}
-use Rattle.combine_token.specs.Or.{either_of, or_is_meaning, or_means_one, or_valid}
+use Rattle.combine_combinator.specs.ValueParts.{Picks}
+use Rattle.combine_token.specs.Choice.Choices.{OrElse, Here, Later, refused}
+use Rattle.combine_token.specs.Choice.Or.{either_of, or_is_meaning, or_means_one, or_valid}
 use Rattle.combine_token.specs.declared.choice.OrState.{OrState}
 use Rattle.combine_token.specs.declared.choice.OrState.TheVariants as running
-use Rattle.combine_repeat_turns.specs.Turn.{EndsOnce, TurnsOnce, from_start}
+use Rattle.combine_repeat_turns.specs.Turns.Turn.{EndsTurnsOnce, TurnsOnce, from_start}
 use Rattle.combine_repeat_until.specs.Until.{is_none}
 
 -- a value that is dropped, and one that is kept
@@ -23,7 +23,7 @@ abbrev pub present : {A : Type 0} → A → Option A
 present a = Some a
 
 module _ {P T A : Type 0} where
-  some_given : (r : Reading P T A) (v : View P T) (a : Option A) (n : ℕ) (k : Bool) → Either (mapped_reading r (Picks present)) refused v (Accepted a n k) → is_none a ≡ false
+  some_given : (r : Reading P T A) (v : View P T) (a : Option A) (n : ℕ) (k : Bool) → OrElse (mapped_reading r (Picks present)) refused v (Accepted a n k) → is_none a ≡ false
   some_given r v a n k (Here p f) = let e : a ≡ Some p.0 = p.2 in rw e refl
   some_given r v a n k (Later d p) = absurd (cc)
 
@@ -32,13 +32,13 @@ module _ {P T A B : Type 0} where
   none_given e v a n k p = let i : a ≡ None = p.2 in rw i refl
 
   -- a block and the end of them never share a place
-  alike : (e : Reading P T B) (r : Reading P T A) → IsSingle e → (v : View P T) (a a' : Option A) (n : ℕ) (k : Bool) → Either (mapped_reading e (Picks absent)) (Either (mapped_reading r (Picks present)) refused) v (Accepted a n k) → Either (mapped_reading e (Picks absent)) (Either (mapped_reading r (Picks present)) refused) v (Accepted a' n k) → is_none a ≡ is_none a'
+  alike : (e : Reading P T B) (r : Reading P T A) → IsSingle e → (v : View P T) (a a' : Option A) (n : ℕ) (k : Bool) → OrElse (mapped_reading e (Picks absent)) (OrElse (mapped_reading r (Picks present)) refused) v (Accepted a n k) → OrElse (mapped_reading e (Picks absent)) (OrElse (mapped_reading r (Picks present)) refused) v (Accepted a' n k) → is_none a ≡ is_none a'
   alike e r h v a a' n k (Here p f) (Here q g) = none_given e v a n k p ∙ sym (none_given e v a' n k q)
   alike e r h v a a' n k (Here p f) (Later d q) = absurd (let s = h.one v (Accepted p.0 n k) (Refused false) p.1 d in cc)
   alike e r h v a a' n k (Later d p) (Here q g) = absurd (let s = h.one v (Accepted q.0 n k) (Refused false) q.1 d in cc)
   alike e r h v a a' n k (Later d p) (Later i q) = some_given r v a n k p ∙ sym (some_given r v a' n k q)
 
-  module _ {R E S U : Type 0} (errors : Errors T R P E) (cmp : P → P → Ordering) where
+  module _ {R E S U : Type 0} (errors : Observers T R P E) (cmp : P → P → Ordering) where
     -- a parser, or else a block
     abbrev pub next : Meaning P T R E B U → Meaning P T R E A S → Meaning P T R E (Option A) (OrState U S)
     next end part = either_of errors cmp (mapped end (Picks absent)) (mapped part (Picks present))
@@ -55,10 +55,10 @@ module _ {P T A B : Type 0} where
         one : MeansOne (or_valid valid valid') (next end part)
         one = next_means_one fresh valid fresh' valid' end part h k
 
-        whole : EndsOnce is_none (next end part).whole
+        whole : EndsTurnsOnce is_none (next end part).whole
         whole = record { one = one.whole.one; ends = λ v a a' n k p q. alike end.whole part.whole h.whole v a a' n k p q }
 
-        resting : (s : OrState U S) → or_valid valid valid' s → EndsOnce is_none ((next end part).rest s)
+        resting : (s : OrState U S) → or_valid valid valid' s → EndsTurnsOnce is_none ((next end part).rest s)
         resting running.Peek d = whole
         resting (running.A s) d = record { one = (one.rest (running.A s) d).one; ends = λ v a a' n k p q. alike (end.rest s) part.whole (h.rest s d) v a a' n k p q }
         resting (running.B s) d = record { one = (one.rest (running.B s) d).one; ends = λ v a a' n k p q. some_given (part.rest s) v a n k p ∙ sym (some_given (part.rest s) v a' n k q) }

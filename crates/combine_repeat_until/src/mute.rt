@@ -14,7 +14,7 @@ pub struct Mute<P> {
 }
 
 impl<P> Mute<P> {
-    /// The parser of this part.
+    /// Returns the parser of this part.
     #[inline]
     pub(crate) fn new(part: P) -> Self
         ensures { result ≡ mute_of part }

@@ -1,6 +1,6 @@
 //! What runs at each place of a repetition up to a place: the parser that ends it, or else that of a block.
 ghost use Rattle.std.specs.Prelude.{◌≡◌};
-ghost use Rattle.combine_token.specs.Or.{or_valid};
+ghost use Rattle.combine_token.specs.Choice.Or.{or_valid};
 ghost use Rattle.combine_repeat_until.specs.Next.{next, next_is_meaning, next_means_one};
 ghost use Rattle.combine_repeat_until.specs.UntilParsers.{next_end, next_of, next_part};
 
@@ -69,7 +69,7 @@ pub struct Next<A, P, E> {
 }
 
 impl<A, P, E> Next<A, P, E> {
-    /// The parser of these two.
+    /// Returns the parser of these two.
     #[inline]
     pub(crate) fn new(part: P, end: E) -> Self
         ensures { result ≡ next_of part end }
@@ -100,15 +100,15 @@ impl<Input: Stream, A: Drop, P: Parser<Input, Output = A>, E: Parser<Input>> Par
 
     ghost valid = { or_valid E.valid P.valid };
 
-    ghost meaning = { λ p. next Input.Error.seen Input.Position.cmp (E.meaning (next_end p)) (P.meaning (next_part p)) };
+    ghost meaning = { λ p. next Input.Error.observers Input.Position.cmp (E.meaning (next_end p)) (P.meaning (next_part p)) };
 
     ghost parts = { λ _. 1 };
 
     ghost default_valid = { λ s d. rw d tt };
 
-    ghost laws = { λ p l. next_is_meaning Input.Error.seen Input.Position.cmp (E.meaning (next_end p)) (P.meaning (next_part p)) (E.laws (next_end p) l.0) (P.laws (next_part p) l.1) };
+    ghost laws = { λ p l. next_is_meaning Input.Error.observers Input.Position.cmp (E.meaning (next_end p)) (P.meaning (next_part p)) (E.laws (next_end p) l.0) (P.laws (next_part p) l.1) };
 
-    ghost single = { λ p l d. next_means_one Input.Error.seen Input.Position.cmp E.PartialState.is_default E.valid P.PartialState.is_default P.valid (E.meaning (next_end p)) (P.meaning (next_part p)) (E.single (next_end p) l.0 d.0) (P.single (next_part p) l.1 d.1) };
+    ghost single = { λ p l d. next_means_one Input.Error.observers Input.Position.cmp E.PartialState.is_default E.valid P.PartialState.is_default P.valid (E.meaning (next_end p)) (P.meaning (next_part p)) (E.single (next_end p) l.0 d.0) (P.single (next_part p) l.1 d.1) };
 
     #[inline(always)]
     fn parse_mode<M: ParseMode>(
@@ -120,12 +120,12 @@ impl<Input: Stream, A: Drop, P: Parser<Input, Output = A>, E: Parser<Input>> Par
         self.either.parse_mode(mode, input, state)
     }
 
-    /// What the first adds, and then what the second does.
+    /// Adds what the first adds, and then what the second does.
     fn add_error(&mut self, error: &mut Tracked<Input::Error>) {
         self.either.add_error(error);
     }
 
-    /// It counts as one parser.
+    /// Counts as one parser.
     fn parser_count(&self) -> ErrorOffset {
         ErrorOffset(1)
     }

@@ -7,17 +7,14 @@ ghost use Rattle.combine_base.specs.Sequence.Parts.{accepted_as};
 ghost use Rattle.combine_base.specs.Stream.Calls.{Passes};
 ghost use Rattle.combine_base.specs.Stream.View.{Takes, View};
 ghost use Rattle.combine_combinator.specs.Attempt.{losing};
-ghost use Rattle.combine_repeat_until.specs.Until.{blocks_so_far, some_appended, until_fresh, until_valid};
-ghost use Rattle.combine_repeat_until.specs.UntilMeaning.{until};
-ghost use Rattle.combine_repeat_until.specs.UntilCalls.{OneTurnCall};
-ghost use Rattle.combine_repeat_until.specs.UntilTurn.{ComesTo, HandsOut, Keeps, KeepsRunning, RefusesTurn, Settled};
+ghost use Rattle.combine_repeat_until.specs.Until.{blocks_so_far, some_appended, until_fresh, until_valid, until};
+ghost use Rattle.combine_repeat_until.specs.UntilTurn.{OneBlockCall, ReachesPlace, HandsOutBlocks, KeepsBlocks, KeepsRunning, RefusesTurn, SettlesBlocks};
 
-use combine_base::distance::{measure, pass_over};
-use combine_base::error::{ParseResult, Tracked};
+use combine_base::distance::{measure, pass_tokens};
+use combine_base::error::{ParseResult, Tracked, accepted_after};
 use combine_base::parser::{ParseMode, Parser};
 use combine_base::refusal::refusal_saying;
 use combine_base::repeat::Append;
-use combine_base::sequence::accepted_after;
 use combine_base::stream::{Kind, Stream, has_taken, needs_more};
 use std::alloc::AllocError;
 use std::mem::replace;
@@ -42,9 +39,9 @@ impl<F> Blocks<F> {
         }
     }
 
-    /// Committed if that is, or they were.
+    /// Returns the blocks, committed if that is, or they were.
     #[inline(always)]
-    fn joined(self, committed: bool) -> Blocks<F>
+    fn or_committed(self, committed: bool) -> Blocks<F>
         ensures { result ≡ record { into = self.into; committed = self.committed || committed; begun = self.begun } }
     {
         let Blocks {
@@ -59,7 +56,7 @@ impl<F> Blocks<F> {
         }
     }
 
-    /// The same blocks in the next piece.
+    /// Returns the same blocks in the next piece.
     #[inline(always)]
     fn cut<Input: Stream>(self, since: Input::Checkpoint, input: &Input) -> Blocks<F>
         ensures { (n : ℕ) (v : View Input.Position Input.Token) → Input.stands input.now since v → Takes Input.step n v (Input.view input.now) → result ≡ record { into = self.into; committed = self.committed; begun = self.begun || nat_lt 0 n } }
@@ -76,12 +73,12 @@ impl<F> Blocks<F> {
         }
     }
 
-    /// With one more value.
+    /// Returns the blocks with one more value.
     #[inline(always)]
     fn add<A>(self, value: A) -> Result<Blocks<F>, AllocError>
     where
         F: Append<A>,
-        ensures { MatchResult result (λ n. blocks_so_far F.held n ≡ record { mark = false; held = F.more (F.held self.into) value; committed = self.committed }) (λ _. F.lean → ⊥) }
+        ensures { MatchResult result (λ n. blocks_so_far F.held n ≡ record { mark = false; held = F.more (F.held self.into) value; committed = self.committed }) (λ _. F.heapless → ⊥) }
     {
         let Blocks {
             mut into,
@@ -96,7 +93,7 @@ impl<F> Blocks<F> {
         })
     }
 
-    /// What is collected, accepted.
+    /// Accepts what is collected.
     #[inline(always)]
     fn end<E>(self) -> ParseResult<F, E>
         ensures { result ≡ accepted_as self.committed self.into }
@@ -110,24 +107,26 @@ impl<F> Blocks<F> {
     }
 }
 
-/// What is kept while more input is needed: how many tokens stand before the place where the running part began, how many it has read beyond, the blocks, and its state.
+/// What is kept while more input is needed.
+///
+/// That is how many tokens stand before the place where the running part began, how many it has read beyond, the blocks, and its state.
 #[derive(Drop)]
-pub struct Kept<F, S> {
+pub struct KeptBlocks<F, S> {
     before: u64,
     beyond: u64,
     blocks: Blocks<F>,
     running: S,
 }
 
-impl<F, S: Default> Kept<F, S> {
-    /// Nothing is read yet.
+impl<F, S: Default> KeptBlocks<F, S> {
+    /// Returns what is kept where nothing is read yet.
     #[inline(always)]
-    fn nothing(into: F) -> Kept<F, S>
+    fn nothing(into: F) -> KeptBlocks<F, S>
         ensures place { (result.before ≡ 0) × (result.beyond ≡ 0) }
         ensures blocks { result.blocks ≡ record { into = into; committed = false; begun = false } }
         ensures fresh { S.is_default result.running }
     {
-        Kept {
+        KeptBlocks {
             before: 0,
             beyond: 0,
             blocks: Blocks::none(into),
@@ -142,7 +141,7 @@ pub enum UntilState<F, S> {
     /// Nothing is kept, and the next call begins.
     Begin,
     /// The next call passes over what was read, and goes on.
-    At(Kept<F, S>),
+    At(KeptBlocks<F, S>),
 }
 
 impl<F, S> Default for UntilState<F, S> {
@@ -157,15 +156,15 @@ impl<F, S> Default for UntilState<F, S> {
 impl<F: Drop, S: Default + Drop> UntilState<F, S> {
     /// Hands out what a call begins with: what is kept, unless it begins afresh.
     #[inline(always)]
-    fn hand_out(&mut self, first: bool, into: F) -> Kept<F, S>
-        ensures out { HandsOut S.is_default into first self.old result }
+    fn hand_out(&mut self, first: bool, into: F) -> KeptBlocks<F, S>
+        ensures out { HandsOutBlocks S.is_default into first self.old result }
         ensures left { self.new ≡ UntilState.Begin }
     {
         match replace(self, UntilState::Begin) {
-            UntilState::Begin => Kept::nothing(into),
+            UntilState::Begin => KeptBlocks::nothing(into),
             UntilState::At(kept) => {
                 if first {
-                    return Kept::nothing(into);
+                    return KeptBlocks::nothing(into);
                 }
                 kept
             }
@@ -174,24 +173,26 @@ impl<F: Drop, S: Default + Drop> UntilState<F, S> {
 }
 
 /// Why no further block runs.
-pub enum Stop<F, E> {
+pub enum BlockStop<F, E> {
     /// The blocks end there, accepted.
-    Ends(Blocks<F>),
+    Over(Blocks<F>),
     /// No block is there, refused peeked.
     Refused(Tracked<E>),
     /// The running part needs more.
     More(Blocks<F>, E),
+    /// The running part is refused committed, or met a fault; or a block takes nothing.
     Failed(E),
 }
 
 /// What came of one turn.
-pub enum Step<F, E> {
+pub enum BlockStep<F, E> {
     /// It is a block, and the next one runs.
     Goes(Blocks<F>),
-    Stops(Stop<F, E>),
+    /// The blocks stop.
+    Stops(BlockStop<F, E>),
 }
 
-/// The kind of a failure to pass over the kept distance.
+/// Returns the kind of a failure to pass over the kept distance.
 #[inline]
 fn lost(kind: Kind) -> Kind
     ensures { result ≡ losing kind }
@@ -202,7 +203,7 @@ fn lost(kind: Kind) -> Kind
     }
 }
 
-/// Passes over the tokens before the place where the running part began, and over those that it has read: the checkpoint of that place.
+/// Passes over the tokens before the place where the running part began, and over those that it has read, and returns the checkpoint of that place.
 #[inline(always)]
 fn pass_to<Input: Stream>(
     input: &mut Input,
@@ -210,19 +211,19 @@ fn pass_to<Input: Stream>(
     beyond: u64,
 ) -> Result<Input::Checkpoint, Kind>
     ensures passes { Passes (Input.marks input.old) (Input.marks input.new) (Input.failures input.old) (Input.failures input.new) }
-    ensures comes { ComesTo Input.steady Input.step (Input.stands input.new) (Input.view input.old) (Input.view input.new) (Input.failures input.old) (Input.failures input.new) before beyond result }
+    ensures comes { ReachesPlace Input.counts_failures Input.step (Input.stands input.new) (Input.view input.old) (Input.view input.new) (Input.failures input.old) (Input.failures input.new) before beyond result }
 {
-    if let Err(kind) = pass_over(input, before) {
+    if let Err(kind) = pass_tokens(input, before) {
         return Err(kind);
     }
     let place = input.checkpoint();
-    if let Err(kind) = pass_over(input, beyond) {
+    if let Err(kind) = pass_tokens(input, beyond) {
         return Err(kind);
     }
     Ok(place)
 }
 
-/// Whether a turn that is accepted so is a block, this piece's part of it begun at that checkpoint.
+/// Returns whether an accepted turn is a block: `since` is where its part in this piece began, `committed` how it was accepted.
 #[inline(always)]
 fn is_block<Input: Stream>(
     begun: bool,
@@ -235,9 +236,9 @@ fn is_block<Input: Stream>(
     committed && has_taken(begun, since, input)
 }
 
-/// One turn, which began at that place: where its parser says that the blocks end, the stream is put back to it.
+/// Runs one turn, which began at that place; if its parser says that the blocks end, the stream is put back to it.
 #[inline(always)]
-fn one_turn<
+fn one_block<
     A: Drop,
     F: Append<A>,
     Input: Stream,
@@ -250,50 +251,50 @@ fn one_turn<
     blocks: Blocks<F>,
     input: &mut Input,
     running: &mut N::PartialState,
-) -> Step<F, Input::Error>
+) -> BlockStep<F, Input::Error>
     requires lawful { N.lawful parser.old }
     requires valid { N.valid running.old }
     ensures lawful { N.lawful parser.new }
     ensures valid { N.valid running.new }
     ensures same { MeansSame (N.meaning parser.old) (N.meaning parser.new) }
     ensures passes { Passes (Input.marks input.old) (Input.marks input.new) (Input.failures input.old) (Input.failures input.new) }
-    ensures turned { OneTurnCall Input.StreamOnce Input.Error.seen N.PartialState.is_default (N.meaning parser.old) (some_appended F.held F.none F.more F.lean) (M.first mode) running.old running.new input.old input.new (Input.stands input.old place) blocks result }
-    ensures refuses { RefusesTurn Input.Error.seen (N.meaning parser.old) (M.first mode) running.old blocks.begun (Input.view input.old) (Input.view input.new) result }
+    ensures turned { OneBlockCall Input.StreamOnce Input.Error.observers N.PartialState.is_default (N.meaning parser.old) (some_appended F.held F.none F.more F.heapless) (M.first mode) running.old running.new input.old input.new (Input.stands input.old place) blocks result }
+    ensures refuses { RefusesTurn Input.Error.observers (N.meaning parser.old) (M.first mode) running.old blocks.begun (Input.view input.old) (Input.view input.new) result }
 {
     let position = input.position();
     let since = input.checkpoint();
     let (value, committed) = match parser.parse_explained(mode, input, running) {
         ParseResult::CommitOk(value) => (value, true),
         ParseResult::PeekOk(value) => (value, false),
-        ParseResult::PeekErr(refusal) => return Step::Stops(Stop::Refused(refusal)),
+        ParseResult::PeekErr(refusal) => return BlockStep::Stops(BlockStop::Refused(refusal)),
         ParseResult::CommitErr(error) => {
             if needs_more(input, &error) {
-                return Step::Stops(Stop::More(blocks.cut(since, input), error));
+                return BlockStep::Stops(BlockStop::More(blocks.cut(since, input), error));
             }
-            return Step::Stops(Stop::Failed(error));
+            return BlockStep::Stops(BlockStop::Failed(error));
         }
     };
     match value {
         None => match input.reset(place) {
-            Ok(()) => Step::Stops(Stop::Ends(blocks.joined(committed))),
-            Err(kind) => Step::Stops(Stop::Failed(input.new_error(kind, position))),
+            Ok(()) => BlockStep::Stops(BlockStop::Over(blocks.or_committed(committed))),
+            Err(kind) => BlockStep::Stops(BlockStop::Failed(input.new_error(kind, position))),
         },
         Some(value) => {
             if !is_block(blocks.begun, committed, since, input) {
                 let error = refusal_saying(input, position, "repetition takes nothing");
-                return Step::Stops(Stop::Failed(error));
+                return BlockStep::Stops(BlockStop::Failed(error));
             }
-            match blocks.joined(committed).add(value) {
-                Ok(blocks) => Step::Goes(blocks),
+            match blocks.or_committed(committed).add(value) {
+                Ok(blocks) => BlockStep::Goes(blocks),
                 Err(_refused) => {
-                    Step::Stops(Stop::Failed(input.new_error(Kind::Memory, position)))
+                    BlockStep::Stops(BlockStop::Failed(input.new_error(Kind::Memory, position)))
                 }
             }
         }
     }
 }
 
-/// Puts the stream back to the start on need of more, and keeps the distances from there to the place where the running part began, and from it to where the stream was.
+/// Puts the stream back to the start on need of more, and keeps the distances: from there to the place where the running part began, and from it to where the stream was.
 fn keep<F, Input: Stream, S>(
     blocks: Blocks<F>,
     need: Input::Error,
@@ -308,7 +309,7 @@ where
     F: Drop,
     S: Drop,
     ensures passes { Passes (Input.marks input.old) (Input.marks input.new) (Input.failures input.old) (Input.failures input.new) }
-    ensures keeps { Keeps Input.steady Input.step Input.Error.seen.kind (Input.stands input.old start) (Input.stands input.old place) (Input.view input.old) (Input.view input.new) (Input.failures input.old) (Input.failures input.new) blocks running need state.old state.new result }
+    ensures keeps { KeepsBlocks Input.counts_failures Input.step Input.Error.observers.kind (Input.stands input.old start) (Input.stands input.old place) (Input.view input.old) (Input.view input.new) (Input.failures input.old) (Input.failures input.new) blocks running need state.old state.new result }
     ensures left { KeepsRunning running state.old state.new }
 {
     let beyond = match measure(input, place) {
@@ -319,7 +320,7 @@ where
         Ok(distance) => distance,
         Err(kind) => return ParseResult::CommitErr(input.new_error(kind, position)),
     };
-    *state = UntilState::At(Kept {
+    *state = UntilState::At(KeptBlocks {
         before,
         beyond,
         blocks,
@@ -328,10 +329,10 @@ where
     ParseResult::CommitErr(need)
 }
 
-/// What blocks answer that stop so.
+/// Returns the result of blocks that stopped for this reason.
 #[inline(always)]
-fn settle<F, Input: Stream, S>(
-    why: Stop<F, Input::Error>,
+fn settle_blocks<F, Input: Stream, S>(
+    why: BlockStop<F, Input::Error>,
     start: Input::Checkpoint,
     place: Input::Checkpoint,
     position: Input::Position,
@@ -343,20 +344,20 @@ where
     F: Drop,
     S: Drop,
     ensures passes { Passes (Input.marks input.old) (Input.marks input.new) (Input.failures input.old) (Input.failures input.new) }
-    ensures settled { Settled Input.steady Input.step Input.Error.seen.kind (Input.stands input.old start) (Input.stands input.old place) (Input.view input.old) (Input.view input.new) (Input.failures input.old) (Input.failures input.new) running state.old state.new result why }
+    ensures settled { SettlesBlocks Input.counts_failures Input.step Input.Error.observers.kind (Input.stands input.old start) (Input.stands input.old place) (Input.view input.old) (Input.view input.new) (Input.failures input.old) (Input.failures input.new) running state.old state.new result why }
     ensures left { KeepsRunning running state.old state.new }
 {
     match why {
-        Stop::Ends(blocks) => blocks.end(),
-        Stop::Refused(refusal) => ParseResult::PeekErr(refusal),
-        Stop::Failed(error) => ParseResult::CommitErr(error),
-        Stop::More(blocks, error) => {
+        BlockStop::Over(blocks) => blocks.end(),
+        BlockStop::Refused(refusal) => ParseResult::PeekErr(refusal),
+        BlockStop::Failed(error) => ParseResult::CommitErr(error),
+        BlockStop::More(blocks, error) => {
             keep(blocks, error, start, place, position, input, running, state)
         }
     }
 }
 
-/// Blocks of `parser` up to the first place where it says that they end: collected, from `empty` on, with the stream put back to that place.
+/// Collects blocks of `parser` up to the first place where it says that they end, from `empty` on, with the stream put back to that place.
 #[inline(always)]
 pub fn take_blocks<
     A: Drop,
@@ -378,12 +379,12 @@ pub fn take_blocks<
     ensures valid { until_valid N.valid state.new }
     ensures same { MeansSame (N.meaning parser.old) (N.meaning parser.new) }
     ensures passes { Passes (Input.marks input.old) (Input.marks input.new) (Input.failures input.old) (Input.failures input.new) }
-    ensures answers { AnswersCall Input.StreamOnce Input.Error.seen until_fresh (until Input.step Input.Error.seen (some_appended F.held F.none F.more F.lean) (N.meaning parser.old)) (M.first mode) state.old state.new input.old input.new result }
-    ensures refuses { ReasonedCall Input.Error.seen (until Input.step Input.Error.seen (some_appended F.held F.none F.more F.lean) (N.meaning parser.old)) (M.first mode) state.old (Input.view input.old) (Input.view input.new) result }
+    ensures answers { AnswersCall Input.StreamOnce Input.Error.observers until_fresh (until Input.step Input.Error.observers (some_appended F.held F.none F.more F.heapless) (N.meaning parser.old)) (M.first mode) state.old state.new input.old input.new result }
+    ensures refuses { ReasonedCall Input.Error.observers (until Input.step Input.Error.observers (some_appended F.held F.none F.more F.heapless) (N.meaning parser.old)) (M.first mode) state.old (Input.view input.old) (Input.view input.new) result }
 {
     let start = input.checkpoint();
     let position = input.position();
-    let Kept {
+    let KeptBlocks {
         before,
         beyond,
         blocks,
@@ -393,11 +394,13 @@ pub fn take_blocks<
         Ok(place) => place,
         Err(kind) => return ParseResult::CommitErr(input.new_error(lost(kind), position)),
     };
-    let mut blocks = blocks.joined(before > 0);
+    let mut blocks = blocks.or_committed(before > 0);
     'turns: loop {
-        match one_turn(parser, place, mode, blocks, input, &mut running) {
-            Step::Goes(next) => blocks = next,
-            Step::Stops(why) => return settle(why, start, place, position, input, running, state),
+        match one_block(parser, place, mode, blocks, input, &mut running) {
+            BlockStep::Goes(next) => blocks = next,
+            BlockStep::Stops(why) => return settle_blocks(
+                why, start, place, position, input, running, state,
+            ),
         }
         place = input.checkpoint();
     }

@@ -1,8 +1,8 @@
-mod Blocks
-pub mod Indexing
-pub mod Marked
-pub mod Passing
-pub mod Placing
-pub mod Slicing
+mod BlockWalks
+pub mod IndexedSlices
+pub mod MarkedStreams
+pub mod TokenWalks
+pub mod PlacedTexts
+pub mod SliceLengths
 pub mod TextCuts
 mod TextParts

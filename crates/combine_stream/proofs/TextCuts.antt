@@ -6,10 +6,10 @@ use Rattle.std.proofs.Math.Utf8.{scalar, scalars, encodes}
 use Rattle.std.specs.Char.{len_utf8}
 use Rattle.std.specs.Str.{chars, IsUtf8, IsCharBoundary}
 use Rattle.combine_base.specs.Stream.View.{Takes, after_all}
-use Rattle.combine_stream.specs.Ranges.{size_of, Place, Inside}
+use Rattle.combine_stream.specs.Range.Ranges.{size_of, IsItemPlace, EndsInsideToken}
 use Rattle.combine_base.specs.Stream.Texts.{text_view, less_char}
-use Rattle.combine_stream.specs.TextRanges.{text_of, size_encodes}
-use Rattle.combine_stream.proofs.Slicing.{left_after}
+use Rattle.combine_stream.specs.Range.TextRanges.{text_of, size_encodes}
+use Rattle.combine_stream.proofs.SliceLengths.{left_after}
 
 pub text_size : (bytes : List ℕ) → IsUtf8 bytes → length bytes ≡ size_of len_utf8 (chars bytes)
 text_size bytes u = ap length (sym (encodes-chars bytes u)) ∙ size_encodes (chars bytes)
@@ -34,7 +34,7 @@ module _ (bytes : List ℕ) (n : ℕ) (u : IsUtf8 bytes) (b : IsCharBoundary byt
   items : size_of len_utf8 (take text_count (chars bytes)) ≡ n
   items = ap (size_of len_utf8) first ∙ sym (text_size (take n bytes) start) ∙ length-take-le n bytes b.0
 
-  pub text_place : Place len_utf8 (chars bytes) n text_count
+  pub text_place : IsItemPlace len_utf8 (chars bytes) n text_count
   text_place = record { within = let a = ap length both in let d = length-append (chars (take n bytes)) (chars (drop n bytes)) in omega arith; items = items }
 
   pub text_spelled : (r : List ℕ) → r ≡ take n bytes → text_of r (take text_count (chars bytes))
@@ -59,7 +59,7 @@ scalars_drop (suc k) [] h = h
 scalars_drop (suc k) (c ∷ cs) h = scalars_drop k cs (right_of (scalar c) (scalars cs) h)
 
 -- where no text may be cut, no character ends
-pub text_inside : (bytes : List ℕ) (n : ℕ) → IsUtf8 bytes → n ≤ length bytes → (IsCharBoundary bytes n → ⊥) → Inside len_utf8 (chars bytes) n
+pub text_inside : (bytes : List ℕ) (n : ℕ) → IsUtf8 bytes → n ≤ length bytes → (IsCharBoundary bytes n → ⊥) → EndsInsideToken len_utf8 (chars bytes) n
 text_inside bytes n u h b = record {
   enough = let a = text_size bytes u in omega arith;
   none = λ k p.

@@ -4,9 +4,9 @@ use Rattle.std.proofs.lemmas.List.{take_all, take_at, drop_at, take-append-drop,
 use Rattle.std.proofs.lemmas.Str.{chars-append, chars_from_encodes, encodes-chars, encodes-append, scalars-chars, IsUtf8-take, IsCharBoundary-from_take}
 use Rattle.std.proofs.Math.Utf8.{scalar, scalars, encodes}
 use Rattle.std.specs.Str.{chars, IsUtf8, IsCharBoundary}
-use Rattle.combine_base.proofs.Characters.{few_chars}
-use Rattle.combine_stream.specs.Lines.{Fits, behind, feeds, has_feed, last_line}
-use Rattle.combine_stream.specs.TextWindows.{index_of, chars_later}
+use Rattle.combine_base.proofs.Streams.FirstCharacter.{few_chars}
+use Rattle.combine_stream.specs.Position.Lines.{CountsFit, place_behind, line_feeds, has_feed, last_line}
+use Rattle.combine_stream.specs.Range.TextWindows.{index_of, chars_later}
 
 -- a place before another one is a place of what stands before that
 pub place_inside : (bytes : List ℕ) (c d : ℕ) → IsUtf8 bytes → IsCharBoundary bytes c → IsCharBoundary bytes d → c ≤ d → IsCharBoundary (take d bytes) c
@@ -31,11 +31,11 @@ pub index_of_end : (bytes : List ℕ) → index_of bytes (length bytes) ≡ leng
 index_of_end bytes = ap (λ bs. length (chars bs)) (take_all (length bytes) bytes (omega arith))
 
 -- lines and columns don't outnumber the characters
-few_feeds : (cs : List ℕ) → feeds cs ≤ length cs
+few_feeds : (cs : List ℕ) → line_feeds cs ≤ length cs
 few_feeds [] = omega arith
 few_feeds (c ∷ cs) = by_test (nat_eq c 10) (few_feeds cs)
   where
-    by_test : (b : Bool) → feeds cs ≤ length cs → (if b then suc (feeds cs) else feeds cs) ≤ suc (length cs)
+    by_test : (b : Bool) → line_feeds cs ≤ length cs → (if b then suc (line_feeds cs) else line_feeds cs) ≤ suc (length cs)
     by_test true h = omega arith
     by_test false h = omega arith
 
@@ -47,8 +47,8 @@ short_line (c ∷ cs) = by_test (has_feed (c ∷ cs)) (short_line cs)
     by_test true h = omega arith
     by_test false h = omega arith
 
-pub fits_behind : (bytes : List ℕ) (c n : ℕ) → IsUtf8 bytes → IsCharBoundary bytes c → c + n ≤ length bytes → length bytes + 1 < 2 ^ 64 → Fits (behind (chars bytes) (index_of bytes c)) n
-fits_behind bytes c n u b l h =
+pub text_fits_behind : (bytes : List ℕ) (c n : ℕ) → IsUtf8 bytes → IsCharBoundary bytes c → c + n ≤ length bytes → length bytes + 1 < 2 ^ 64 → CountsFit (place_behind (chars bytes) (index_of bytes c)) n
+text_fits_behind bytes c n u b l h =
     let cs = take (index_of bytes c) (chars bytes) in
     let e = ap length (chars_before bytes c u b) in
     let k = few_chars (take c bytes) (IsUtf8-take bytes c u b) in

@@ -1,11 +1,4 @@
-pub mod Counted
-pub mod Failing
-pub mod Indices
-pub mod Lines
+pub mod Position
+pub mod FailingCalls
 pub mod MaybePartial
-pub mod Measures
-pub mod PlacedViews
-pub mod RangeFacts
-pub mod Ranges
-pub mod TextRanges
-pub mod TextWindows
+pub mod Range

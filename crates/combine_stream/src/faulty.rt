@@ -1,8 +1,8 @@
 //! A stream of which a read or a reset fails.
 ghost use Rattle.std.specs.Prelude.{◌≡◌};
 ghost use Rattle.combine_base.specs.Stream.Calls.{Passes, ResetTo, Uncons};
-ghost use Rattle.combine_stream.specs.Failing.{CountsCall, due_at, failed, failures_of, fails_next, one_call, read_due, reset_due, wrapped};
-ghost use Rattle.combine_stream.specs.Ranges.{UnconsRange, UnconsWhile};
+ghost use Rattle.combine_stream.specs.FailingCalls.{CountsCall, due_at, failed, failures_of, fails_next, one_call, read_due, reset_due, wrapped};
+ghost use Rattle.combine_stream.specs.Range.Ranges.{UnconsRange, UnconsWhile};
 
 use crate::MaybePartialStream;
 use crate::position::{SliceStream, TextStream};
@@ -13,41 +13,41 @@ use combine_base::stream::{Failures, Kind, Positioned, ResetStream, Stream, Stre
 /// A stream whose reads and resets never fail. Our own.
 pub trait Unfailing: ResetStream {
     /// The counts of failures stand.
-    ghost calm: { (s t : Self) → Self.failures s ≡ Self.failures t };
+    ghost never_fails: { (s t : Self) → Self.failures s ≡ Self.failures t };
 }
 
 impl<'a, T: Copy> Unfailing for &'a [T] {
     ghost use Rattle.std.specs.Prelude.{refl};
 
-    ghost calm = { λ s t. refl };
+    ghost never_fails = { λ s t. refl };
 }
 
 impl<'a> Unfailing for &'a str {
     ghost use Rattle.std.specs.Prelude.{refl};
 
-    ghost calm = { λ s t. refl };
+    ghost never_fails = { λ s t. refl };
 }
 
 impl<T: Copy + 'static> Unfailing for fed::Stream<T> {
     ghost use Rattle.std.specs.Prelude.{refl};
 
-    ghost calm = { λ s t. refl };
+    ghost never_fails = { λ s t. refl };
 }
 
 impl<'a, T: Copy> Unfailing for SliceStream<'a, T> {
     ghost use Rattle.std.specs.Prelude.{refl};
 
-    ghost calm = { λ s t. refl };
+    ghost never_fails = { λ s t. refl };
 }
 
 impl<'a> Unfailing for TextStream<'a> {
     ghost use Rattle.std.specs.Prelude.{refl};
 
-    ghost calm = { λ s t. refl };
+    ghost never_fails = { λ s t. refl };
 }
 
 impl<S: Unfailing> Unfailing for MaybePartialStream<S> {
-    ghost calm = { λ s t. S.calm s.0 t.0 };
+    ghost never_fails = { λ s t. S.never_fails s.0 t.0 };
 }
 
 // A call that is to fail, of those of one sort.
@@ -62,7 +62,7 @@ enum Due {
 }
 
 impl Due {
-    // The call with that number, from 1; none for 0.
+    // Returns the call with that number, from 1; none for 0.
     fn at(number: u64) -> Due
         ensures { result ≡ due_at number }
     {
@@ -73,7 +73,7 @@ impl Due {
         }
     }
 
-    // Counts a call, and says whether it is the one that fails.
+    // Counts a call, and returns whether it is the one that fails.
     fn count(&mut self) -> bool
         ensures is { result ≡ fails_next self.old }
         ensures counted { self.new ≡ one_call self.old }
@@ -93,7 +93,7 @@ impl Due {
         }
     }
 
-    // How often a call has failed so far.
+    // Returns how often a call has failed so far.
     fn failed(&self) -> u64
         ensures { result ≡ failed self.now }
     {
@@ -105,9 +105,13 @@ impl Due {
     }
 }
 
-/// The stream, of which one read fails, or one reset, or one of each: once, by its number. For tests.
+/// A stream of which one read fails, or one reset, or one of each: once, by its number. For tests.
 ///
-/// A failed read answers `Read`, and a failed reset `Reset`; it is counted, and changes nothing else. `uncons`, `uncons_range` and `uncons_while` are one read each. The calls before one that is to fail are counted down, so that no count grows without end.
+/// `uncons`, `uncons_range` and `uncons_while` are one read each. The calls before one that is to fail are counted down, so that no count grows without end.
+///
+/// # Errors
+///
+/// A failed read is `Read`, and a failed reset `Reset`; it is counted, and changes nothing else.
 #[derive(Drop)]
 pub struct Faulty<S> {
     inner: S,
@@ -163,7 +167,7 @@ impl<S: Unfailing> StreamOnce for Faulty<S> {
 
     ghost failures = { failures_of };
 
-    ghost steady = { Unit {0} };
+    ghost counts_failures = { Unit {0} };
 
     ghost moves = { λ s n h k. S.moves s.inner n h k };
 

@@ -5,7 +5,7 @@ use crate::range::{Range, RangeStream};
 use combine_base::maps::Maps;
 use combine_base::stream::{Failures, Kind, Positioned, ResetStream, Stream, StreamOnce};
 
-/// The stream, open if the mark is `true`, and else ended, whatever the stream inside says. No crate's item is changed: it is the crate's.
+/// A stream that is open if the mark is `true`, and else ended, whatever the stream inside says.
 #[derive(Drop)]
 pub struct MaybePartialStream<S>(pub S, pub bool);
 
@@ -32,7 +32,7 @@ impl<S: StreamOnce> StreamOnce for MaybePartialStream<S> {
 
     ghost failures = { λ s. S.failures s.0 };
 
-    ghost steady = { S.steady };
+    ghost counts_failures = { S.counts_failures };
 
     ghost moves = { λ s n h k. S.moves s.0 n h k };
 

@@ -15,23 +15,25 @@ pub use text::{SourcePosition, TextStream};
 /// In the crate it says which type counts; here, which stream the input is with its position.
 pub trait DefaultPositioned {
     /// The stream of such an input.
-    type Placed: combine_base::stream::Stream;
+    type Located: combine_base::stream::Stream;
 
     /// What is seen of the whole input.
-    ghost whole: { Self → View Self.Placed.Position Self.Placed.Token };
+    ghost whole: { Self → View Self.Located.Position Self.Located.Token };
 
-    /// The position behind so many tokens of the whole input.
-    ghost behind: { Self → ℕ → Self.Placed.Position };
+    /// The position after so many tokens of the whole input.
+    ghost behind: { Self → ℕ → Self.Located.Position };
 
     /// Makes the whole input, at the first position.
-    fn place(self) -> Self::Placed
-        ensures { Self.Placed.view result ≡ whole self };
+    fn place(self) -> Self::Located
+        ensures { Self.Located.view result ≡ whole self };
 
     /// The position is what was said.
-    ghost counts: { (s : Self) (n : ℕ) → n ≤ length (whole s).unread → (advanced Self.Placed.step n (whole s)).position ≡ behind s n };
+    ghost counts: { (s : Self) (n : ℕ) → n ≤ length (whole s).unread → (advanced Self.Located.step n (whole s)).position ≡ behind s n };
 }
 
-/// An input of which parts can be parsed, one window after another: a slice or a text. Its places are numbers of items before them: of tokens in a slice, of bytes in a text. Our own.
+/// An input of which parts can be parsed, one window after another: a slice or a text. Our own.
+///
+/// Its places are numbers of items before them: of tokens in a slice, of bytes in a text.
 pub trait Windowed: DefaultPositioned + Copy {
     ghost use Rattle.std.specs.Prelude.{◌↔◌, take, drop};
 
@@ -41,7 +43,7 @@ pub trait Windowed: DefaultPositioned + Copy {
     /// How many tokens stand before a place.
     ghost index: { Self → ℕ → ℕ };
 
-    /// Returns whether no token is cut at the place, and it isn't behind the end.
+    /// Returns whether no token is cut at the place, and it isn't past the end.
     fn has_place(self, place: usize) -> bool
         ensures { (result ≡ true) ↔ places self place };
 
@@ -55,25 +57,29 @@ pub trait Windowed: DefaultPositioned + Copy {
         ensures place { places self result }
         ensures all { index self result ≡ length (Self.DefaultPositioned.whole self).unread };
 
-    /// Makes what stands between two places, at the position of the first. The first is at most the second, and the position is that behind the tokens before it.
+    /// Makes a stream of what stands between two places, at the position of the first.
+    ///
+    /// The first place is at most the second, and the position is that after the tokens before it.
     fn window(
         self,
         from: usize,
         to: usize,
-        position: <Self::Placed as StreamOnce>::Position,
-    ) -> Self::Placed
+        position: <Self::Located as StreamOnce>::Position,
+    ) -> Self::Located
         requires from { places self from }
         requires to { places self to }
         requires order { from ≤ to }
         requires position { position ≡ Self.DefaultPositioned.behind self (index self from) }
-        ensures { Self.Placed.view result ≡ record { position = position; unread = drop (index self from) (take (index self to) (Self.DefaultPositioned.whole self).unread); is_open = false } };
+        ensures { Self.Located.view result ≡ record { position = position; unread = drop (index self from) (take (index self to) (Self.DefaultPositioned.whole self).unread); is_open = false } };
 
     /// Returns the place of the first unread token of a window that ends at a place.
-    fn place_before(self, to: usize, window: &Self::Placed) -> usize
+    fn place_before(self, to: usize, window: &Self::Located) -> usize
         requires { places self to }
-        ensures { (k : ℕ) → k ≤ index self to → (Self.Placed.view window.now).unread ≡ drop k (take (index self to) (Self.DefaultPositioned.whole self).unread) → places self result × (result ≤ to) × (index self result ≡ k) };
+        ensures { (k : ℕ) → k ≤ index self to → (Self.Located.view window.now).unread ≡ drop k (take (index self to) (Self.DefaultPositioned.whole self).unread) → places self result × (result ≤ to) × (index self result ≡ k) };
 
-    /// Returns how many tokens stand before a place, where so many stand before an earlier one. The earlier place is at most the later one.
+    /// Returns how many tokens stand before a place, where so many stand before an earlier one.
+    ///
+    /// The earlier place is at most the later one.
     fn count_to(self, to: usize, from: usize, before: usize) -> usize
         requires from { places self from }
         requires to { places self to }
@@ -88,19 +94,33 @@ pub trait Windowed: DefaultPositioned + Copy {
     ghost ordered: { (s : Self) (c d : ℕ) → places s c → places s d → index s c ≤ index s d → c ≤ d };
 
     /// Neither reads nor resets fail.
-    ghost calm: { (s t : Self.Placed) → Self.Placed.failures s ≡ Self.Placed.failures t };
+    ghost never_fails: { (s t : Self.Located) → Self.Located.failures s ≡ Self.Located.failures t };
 }
 
 /// Makes streams that count their position: `Stream::new(input)`.
 ///
-/// A slice has an index from 0, a text a [`SourcePosition`] from line 1 and column 1. Both are ended. The position stays counted from where the input began, also after a reset. In the crate this is the stream itself, with the input and what counts; here that is a [`SliceStream`] or a [`TextStream`].
+/// A slice has an index from 0, a text a [`SourcePosition`] from line 1 and column 1. Both are ended. The position stays counted from where the input began, also after a reset.
+///
+/// # Differences from combine
+///
+/// In the crate this is the stream itself, with the input and what counts. Here that is a [`SliceStream`] or a [`TextStream`].
+///
+/// # Examples
+///
+/// ```
+/// fn binding<'a>(text: &'a str) -> Result<((char, char), position::TextStream<'a>), UnexpectedParse> {
+///     (letter(), digit()).parse(position::Stream::new(text))
+/// }
+/// ```
+///
+/// On `"a1;"` the stream that is left stands at line 1 and column 3.
 pub struct Stream;
 
 impl Stream {
     /// Makes the stream of the whole input, at the first position.
     #[inline]
-    pub fn new<S: DefaultPositioned>(input: S) -> S::Placed
-        ensures { S.Placed.view result ≡ S.whole input }
+    pub fn new<S: DefaultPositioned>(input: S) -> S::Located
+        ensures { S.Located.view result ≡ S.whole input }
     {
         input.place()
     }

@@ -2,7 +2,7 @@
 ghost use Rattle.std.specs.Prelude.{◌≡◌, ℕ, ◌<◌, List, length, take};
 ghost use Rattle.combine_base.specs.Stream.View.{View, Ahead};
 ghost use Rattle.combine_base.specs.Stream.Calls.{Passes};
-ghost use Rattle.combine_stream.specs.Ranges.{size_of, UnconsRange, UnconsWhile};
+ghost use Rattle.combine_stream.specs.Range.Ranges.{size_of, UnconsRange, UnconsWhile};
 
 use combine_base::maps::Maps;
 use combine_base::stream::{Kind, ResetStream, Stream, StreamOnce};
@@ -10,7 +10,9 @@ use combine_base::stream::{Kind, ResetStream, Stream, StreamOnce};
 pub(crate) mod slices;
 pub(crate) mod texts;
 
-/// A part of an input, measured in items: tokens of a slice, or bytes of a text. `Copy`, where the crate asks `Clone`.
+/// A part of an input, measured in items: tokens of a slice, or bytes of a text.
+///
+/// It is `Copy`, where the crate asks `Clone`.
 pub trait Range: Copy {
     ghost count: { Self → ℕ };
 
@@ -42,15 +44,24 @@ where
     /// The range holds these tokens.
     ghost spells: { Self.Range → List Self.Token → Type 0 };
 
-    /// Takes the first n items: `End` where fewer are unread, and `Refused` where the n-th is inside a token; both change nothing. A failed read is `Read`; its count rises, and an end of the unread tokens is left.
+    /// Takes the first n items.
+    ///
+    /// # Errors
+    ///
+    /// - `End` if fewer are unread, and `Refused` if the n-th is inside a token; nothing has changed.
+    /// - `Read` if the read fails; its count rises, and an end of the unread tokens is left.
     fn uncons_range(&mut self, n: usize) -> Result<Self::Range, Kind>
-        ensures read { UnconsRange Self.steady Self.step size spells (Self.view self.old) (Self.view self.new) (Self.failures self.old) (Self.failures self.new) n result }
+        ensures read { UnconsRange Self.counts_failures Self.step size spells (Self.view self.old) (Self.view self.new) (Self.failures self.old) (Self.failures self.new) n result }
         ensures passes { Passes (Self.marks self.old) (Self.marks self.new) (Self.failures self.old) (Self.failures self.new) };
 
-    /// Takes the longest beginning whose tokens pass the test; it may be empty. A failed read is as above.
+    /// Takes the longest beginning whose tokens pass the test; it may be empty.
+    ///
+    /// # Errors
+    ///
+    /// `Read` as for `uncons_range`.
     fn uncons_while<F: Maps<Self::Token, bool>>(&mut self, f: &F) -> Result<Self::Range, Kind>
         requires { (t : Self.Token) → F.callable f.now t }
-        ensures read { UnconsWhile Self.steady Self.step size spells (Self.view self.old) (Self.view self.new) (Self.failures self.old) (Self.failures self.new) (F.answers f.now) result }
+        ensures read { UnconsWhile Self.counts_failures Self.step size spells (Self.view self.old) (Self.view self.new) (Self.failures self.old) (Self.failures self.new) (F.answers f.now) result }
         ensures passes { Passes (Self.marks self.old) (Self.marks self.new) (Self.failures self.old) (Self.failures self.new) };
 
     /// Returns the number of items that were taken since the checkpoint was made.

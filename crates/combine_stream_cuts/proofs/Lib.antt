@@ -1,3 +1,3 @@
 mod CutRuns
 mod Windows
-mod Fitting
+mod CutFits

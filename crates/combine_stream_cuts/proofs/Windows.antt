@@ -6,10 +6,10 @@ use Rattle.combine_base.specs.Stream.View.{View, Takes, advanced, after_all, ext
 use Rattle.combine_base.specs.Parser.Outcome.{Outcome, Accepted, Refused, Undecided, after}
 use Rattle.combine_base.specs.Stream.Advance.{open_follows, advanced_twice, advanced_extended}
 use Rattle.combine_base.specs.Parser.Meaning.{Meaning}
-use Rattle.combine_base.specs.Parser.Answer.{World, Run, Answers, Accepts, Asks, Leaves, ends, loses, fails, peeks}
-use Rattle.combine_base.specs.Parser.Judged.{answer_to, answer_to_error}
+use Rattle.combine_base.specs.Parser.Answer.{World, CallRecord, Answers, Accepts, Asks, Leaves, asks_or_refuses, loses, fails, peeks}
+use Rattle.combine_base.specs.Parser.DriverAnswers.{answer_to, answer_to_error}
 use Rattle.combine_stream_cuts.specs.Cuts.{up_to, window_at, on, ParsesWindow}
-use Rattle.combine_base.proofs.Progress.{after_twice}
+use Rattle.combine_base.proofs.Parsers.Progress.{after_twice}
 use Rattle.combine_base.specs.declared.stream.Kind.{Kind}
 use Rattle.combine_base.specs.declared.stream.Kind.TheVariants as kinds
 use Rattle.combine_base.specs.declared.stream.Failures.{Failures}
@@ -19,14 +19,14 @@ use Rattle.combine_base.specs.declared.error.ParseResult.{ParseResult}
 use Rattle.combine_base.specs.declared.error.ParseResult.TheVariants.{CommitOk, PeekOk, CommitErr, PeekErr}
 
 -- every call takes some first tokens
-module _ {P T R A S E : Type 0} (w : World P T S E) (m : Meaning P T R E A S) (r : Run P T S) where
+module _ {P T R A S E : Type 0} (w : World P T S E) (m : Meaning P T R E A S) (r : CallRecord P T S) where
   abbrev Some : Type 0
   Some = (n : ℕ) × Takes w.step n r.old r.new
 
   left : Leaves w r → Some
   left h = (h.count, h.taken)
 
-  at_end_taken : (b : Bool) → ends w m r b → Some
+  at_end_taken : (b : Bool) → asks_or_refuses w m r b → Some
   at_end_taken true h = (h.count, h.taken)
   at_end_taken false h = left h.leaves
 
@@ -63,9 +63,9 @@ module _ {P T R A S E : Type 0} (w : World P T S E) (m : Meaning P T R E A S) (r
       let e = ap (λ (v : View P T). length v.unread) t.1.rest in
       omega (arith, length-drop t.0 r.old.unread)
 
-module _ {P T R E A S : Type 0} (frugal : Type 0) (step : P → T → P) (start : P) (m : Meaning P T R E A S) (whole : List T) where
+module _ {P T R E A S : Type 0} (never_allocates : Type 0) (step : P → T → P) (start : P) (m : Meaning P T R E A S) (whole : List T) where
   -- the place t before the cut c, with a kept state: what is left there means what the whole does
-  pub record Reached (s : S) (t c : ℕ) : Type 0 where
+  pub record WindowReached (s : S) (t c : ℕ) : Type 0 where
     pub before : t ≤ c
     pub within : c ≤ length whole
     pub left : (x : List T) (b : Bool) (o : Outcome A) → m.rest s (extended x b (window_at step start whole t c true)) o → m.whole (extended x b (up_to start whole c true)) (after t false o)
@@ -86,34 +86,34 @@ module _ {P T R E A S : Type 0} (frugal : Type 0) (step : P → T → P) (start 
         sym (advanced_extended step t x b (up_to start whole d true) (omega arith)) ∙ ap (λ us. advanced step t (record { position = start; unread = us; is_open = b })) (longer x) ∙ advanced_extended step t (between ++ x) b (up_to start whole c true) (omega arith)
 
     -- the same place, seen from a later cut
-    pub reached_later : (s : S) (t : ℕ) → d ≤ length whole → Reached s t c → Reached s t d
+    pub reached_later : (s : S) (t : ℕ) → d ≤ length whole → WindowReached s t c → WindowReached s t d
     reached_later s t k r = record {
       before = let a = r.before in omega arith;
       within = k;
       left = λ x b o p.
           let At : View P T → Type 0 = λ v. m.rest s v o in
           let q = r.left (between ++ x) b o (subst At (wider t x b r.before r.within k) p) in
-          subst (λ us. on frugal start m us b (after t false o)) (sym (longer x)) q;
+          subst (λ us. on never_allocates start m us b (after t false o)) (sym (longer x)) q;
       found = λ x b l. let At : View P T → Type 0 = λ v. m.lost s v in r.found (between ++ x) b (subst At (wider t x b r.before r.within k) l);
     }
 
-  module _ (s : S) (t c : ℕ) (r : Reached s t c) where
+  module _ (s : S) (t c : ℕ) (r : WindowReached s t c) where
     same_window : (b : Bool) → extended [] b (window_at step start whole t c true) ≡ window_at step start whole t c b
     same_window b = ap (λ us. record (window_at step start whole t c b) { unread = us }) (append-nil (drop t (take c whole)))
 
-    window_outcome : (b : Bool) (o : Outcome A) → m.rest s (window_at step start whole t c b) o → on frugal start m (take c whole) b (after t false o)
+    window_outcome : (b : Bool) (o : Outcome A) → m.rest s (window_at step start whole t c b) o → on never_allocates start m (take c whole) b (after t false o)
     window_outcome b o p =
         let At : View P T → Type 0 = λ v. m.rest s v o in
-        subst (λ us. on frugal start m us b (after t false o)) (append-nil (take c whole)) (r.left [] b o (subst At (sym (same_window b)) p))
+        subst (λ us. on never_allocates start m us b (after t false o)) (append-nil (take c whole)) (r.left [] b o (subst At (sym (same_window b)) p))
 
     window_found : (b : Bool) → m.lost s (window_at step start whole t c b) → ⊥
     window_found b l = let At : View P T → Type 0 = λ v. m.lost s v in r.found [] b (subst At (sym (same_window b)) l)
 
-    module _ (steady : Type 0) (kind : E → Kind) (fresh : S → Type 0) (left : S) (more : Bool) (new : View P T) (f : Failures) where
+    module _ (counts_failures : Type 0) (kind : E → Kind) (fresh : S → Type 0) (left : S) (more : Bool) (new : View P T) (f : Failures) where
       abbrev world : World P T S E
-      world = record { step = step; kind = kind; frugal = frugal; steady = steady; fresh = fresh }
+      world = record { step = step; kind = kind; never_allocates = never_allocates; counts_failures = counts_failures; fresh = fresh }
 
-      abbrev run : Run P T S
+      abbrev run : CallRecord P T S
       run = record { first = false; state = s; left = left; old = window_at step start whole t c more; new = new; before = f; after = f }
 
       -- the place after n tokens
@@ -128,7 +128,7 @@ module _ {P T R E A S : Type 0} (frugal : Type 0) (step : P → T → P) (start 
           omega arith
 
       -- the call asked for more: it has come to a later place before the same cut
-      asked : (taken : ℕ) → taken + length new.unread ≡ c → Asks world m run → Reached left taken c
+      asked : (taken : ℕ) → taken + length new.unread ≡ c → Asks world m run → WindowReached left taken c
       asked taken e p =
           let n = place_after p.count taken p.taken e in
           let u : (x : List T) (b : Bool) → extended x b (window_at step start whole taken c true) ≡ extended x b new = λ x b. ap (λ i. extended x b (window_at step start whole i c true)) n ∙ ap (extended x b) (sym (advanced_twice step t p.count (up_to start whole c true))) ∙ ap (extended x b) (sym p.taken.rest) in
@@ -145,20 +145,20 @@ module _ {P T R E A S : Type 0} (frugal : Type 0) (step : P → T → P) (start 
 
       module _ (taken : ℕ) (e : taken + length new.unread ≡ c) where
         -- what one window answers
-        abbrev pub Judged : Result (Answer A E) Kind → Type 0
-        Judged (Ok answers.More) = (more ≡ true) × on frugal start m (take c whole) more Undecided × Reached left taken c
-        Judged (Ok (answers.Accepted value n committed)) = on frugal start m (take c whole) more (Accepted value n committed)
-        Judged (Ok (answers.Refused error committed)) = on frugal start m (take c whole) more (Refused committed)
-        Judged (Err k) = (k ≡ kinds.Memory) × (frugal → m.lean → ⊥)
+        abbrev pub IsWindowAnswer : Result (Answer A E) Kind → Type 0
+        IsWindowAnswer (Ok answers.More) = (more ≡ true) × on never_allocates start m (take c whole) more Undecided × WindowReached left taken c
+        IsWindowAnswer (Ok (answers.Accepted value n committed)) = on never_allocates start m (take c whole) more (Accepted value n committed)
+        IsWindowAnswer (Ok (answers.Refused error committed)) = on never_allocates start m (take c whole) more (Refused committed)
+        IsWindowAnswer (Err k) = (k ≡ kinds.Memory) × (never_allocates → m.heapless → ⊥)
 
-        accepted : (a : A) (k : Bool) → Accepts world m run a k → on frugal start m (take c whole) more (Accepted a taken k)
-        accepted a k p = subst (λ n. on frugal start m (take c whole) more (Accepted a n k)) (sym (place_after p.count taken p.taken e)) (window_outcome more (Accepted a p.count k) p.meant)
+        accepted : (a : A) (k : Bool) → Accepts world m run a k → on never_allocates start m (take c whole) more (Accepted a taken k)
+        accepted a k p = subst (λ n. on never_allocates start m (take c whole) more (Accepted a n k)) (sym (place_after p.count taken p.taken e)) (window_outcome more (Accepted a p.count k) p.meant)
 
-        at_end : (x : E) (b : Bool) → more ≡ b → ends world m run b → Judged (answer_to_error x b kinds.End)
+        at_end : (x : E) (b : Bool) → more ≡ b → asks_or_refuses world m run b → IsWindowAnswer (answer_to_error x b kinds.End)
         at_end x true i p = (i, window_outcome more Undecided p.meant, asked taken e p)
         at_end x false i p = window_outcome more (Refused true) p.meant
 
-        failed : (x : E) (k : Kind) → fails world m run k → Judged (answer_to_error x more k)
+        failed : (x : E) (k : Kind) → fails world m run k → IsWindowAnswer (answer_to_error x more k)
         failed x kinds.Refused p = window_outcome more (Refused true) p.meant
         failed x kinds.End p = at_end x more refl p
         failed x kinds.Memory p = (refl, p.0)
@@ -166,7 +166,7 @@ module _ {P T R E A S : Type 0} (frugal : Type 0) (step : P → T → P) (start 
         failed x kinds.Reset p = absurd (let a = p.0 in omega arith)
         failed x kinds.Lost p = absurd (window_found more p.0)
 
-        peeked : (k : Kind) → peeks world m run k → on frugal start m (take c whole) more (Refused false)
+        peeked : (k : Kind) → peeks world m run k → on never_allocates start m (take c whole) more (Refused false)
         peeked kinds.Refused p = window_outcome more (Refused false) p.meant
         peeked kinds.End p = window_outcome more (Refused false) p.1.meant
         peeked kinds.Memory p = absurd p
@@ -174,14 +174,14 @@ module _ {P T R E A S : Type 0} (frugal : Type 0) (step : P → T → P) (start 
         peeked kinds.Reset p = absurd p
         peeked kinds.Lost p = absurd p
 
-        judging : (p : ParseResult A E) → Answers world m run p → Judged (answer_to kind more taken p)
+        judging : (p : ParseResult A E) → Answers world m run p → IsWindowAnswer (answer_to kind more taken p)
         judging (CommitOk a) h = accepted a true h.is
         judging (PeekOk a) h = accepted a false h.is
         judging (CommitErr x) h = failed x (kind x) h.is
         judging (PeekErr x) h = peeked (kind x.error) h.is
 
-    pub window_judged : (steady : Type 0) (kind : E → Kind) (fresh : S → Type 0) (left : S) (more : Bool) (taken : ℕ) (result : Result (Answer A E) Kind) (p : ParsesWindow frugal steady step kind fresh start m s left whole t c more taken result) → Judged steady kind fresh left more p.new p.failures taken p.place result
-    window_judged steady kind fresh left more taken result p = subst (Judged steady kind fresh left more p.new p.failures taken p.place) (sym p.is) (judging steady kind fresh left more p.new p.failures taken p.place p.parsed p.answers)
+    pub window_judged : (counts_failures : Type 0) (kind : E → Kind) (fresh : S → Type 0) (left : S) (more : Bool) (taken : ℕ) (result : Result (Answer A E) Kind) (p : ParsesWindow never_allocates counts_failures step kind fresh start m s left whole t c more taken result) → IsWindowAnswer counts_failures kind fresh left more p.new p.failures taken p.place result
+    window_judged counts_failures kind fresh left more taken result p = subst (IsWindowAnswer counts_failures kind fresh left more p.new p.failures taken p.place) (sym p.is) (judging counts_failures kind fresh left more p.new p.failures taken p.place p.parsed p.answers)
 
 -- a window, by the position behind what stands before it
 pub widened : {P T : Type 0} (step : P → T → P) (start : P) (whole : List T) (from to index : ℕ) (more : Bool) (old : View P T) (position behind : P) → old ≡ record { position = position; unread = drop index (take to whole); is_open = more } → position ≡ behind → index ≡ from → from ≤ to → after_all step start (take from whole) ≡ behind → old ≡ window_at step start whole from to more
@@ -191,7 +191,7 @@ widened step start whole from to index more old position behind e p i l b =
     cc
 
 -- a later place of a window, k tokens from the start
-pub record Later {P T : Type 0} (step : P → T → P) (start : P) (whole : List T) (from to : ℕ) (more : Bool) (new : View P T) (k : ℕ) : Type 0 where
+pub record IsLaterPlace {P T : Type 0} (step : P → T → P) (start : P) (whole : List T) (from to : ℕ) (more : Bool) (new : View P T) (k : ℕ) : Type 0 where
   pub since : from ≤ k
   pub within : k ≤ to
   pub unread : new.unread ≡ drop k (take to whole)
@@ -200,7 +200,7 @@ pub record Later {P T : Type 0} (step : P → T → P) (start : P) (whole : List
   pub left : k + length new.unread ≡ to
 
 -- where a call on a window leaves the stream
-pub window_left : {P T R A S E : Type 0} (w : World P T S E) (m : Meaning P T R E A S) (r : Run P T S) (start : P) (whole : List T) (from to : ℕ) (more : Bool) (result : ParseResult A E) → r.old ≡ window_at w.step start whole from to more → to ≤ length whole → from ≤ to → Answers w m r result → (k : ℕ) × Later w.step start whole from to more r.new k
+pub window_left : {P T R A S E : Type 0} (w : World P T S E) (m : Meaning P T R E A S) (r : CallRecord P T S) (start : P) (whole : List T) (from to : ℕ) (more : Bool) (result : ParseResult A E) → r.old ≡ window_at w.step start whole from to more → to ≤ length whole → from ≤ to → Answers w m r result → (k : ℕ) × IsLaterPlace w.step start whole from to more r.new k
 window_left w m r start whole from to more result e h l p =
     let some = some_taken w m r result p in
     let n = some.0 in
@@ -223,6 +223,6 @@ window_left w m r start whole from to more result e h l p =
     )
 
 -- a parsed window
-pub parsed_window : {P T R A S E : Type 0} (frugal steady : Type 0) (step : P → T → P) (kind : E → Kind) (fresh : S → Type 0) (start : P) (m : Meaning P T R E A S) (s left : S) (whole : List T) (from to : ℕ) (more : Bool) (taken k : ℕ) (old new : View P T) (f g : Failures) (parsed : ParseResult A E) (result : Result (Answer A E) Kind) → old ≡ window_at step start whole from to more → f ≡ g → Later step start whole from to more new k → taken ≡ k → result ≡ answer_to kind new.is_open taken parsed → Answers (record { step = step; kind = kind; frugal = frugal; steady = steady; fresh = fresh }) m (record { first = false; state = s; left = left; old = old; new = new; before = f; after = g }) parsed → ParsesWindow frugal steady step kind fresh start m s left whole from to more taken result
-parsed_window frugal steady step kind fresh start m s left whole from to more taken k old new f g parsed result e i u t j p =
+pub parsed_window : {P T R A S E : Type 0} (never_allocates counts_failures : Type 0) (step : P → T → P) (kind : E → Kind) (fresh : S → Type 0) (start : P) (m : Meaning P T R E A S) (s left : S) (whole : List T) (from to : ℕ) (more : Bool) (taken k : ℕ) (old new : View P T) (f g : Failures) (parsed : ParseResult A E) (result : Result (Answer A E) Kind) → old ≡ window_at step start whole from to more → f ≡ g → IsLaterPlace step start whole from to more new k → taken ≡ k → result ≡ answer_to kind new.is_open taken parsed → Answers (record { step = step; kind = kind; never_allocates = never_allocates; counts_failures = counts_failures; fresh = fresh }) m (record { first = false; state = s; left = left; old = old; new = new; before = f; after = g }) parsed → ParsesWindow never_allocates counts_failures step kind fresh start m s left whole from to more taken result
+parsed_window never_allocates counts_failures step kind fresh start m s left whole from to more taken k old new f g parsed result e i u t j p =
     record { new = new; failures = g; parsed = parsed; place = let a = u.left in omega arith; is = j ∙ ap (λ b. answer_to kind b taken parsed) u.is_open; answers = rw (← e) (rw i at p) }

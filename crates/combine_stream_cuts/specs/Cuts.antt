@@ -3,9 +3,9 @@ use Rattle.std.specs.Prelude.{ℕ, ◌+◌, ◌<◌, ◌≤◌, ◌≡◌, List,
 use Rattle.combine_base.specs.Stream.View.{View, advanced}
 use Rattle.combine_base.specs.Parser.Outcome.{Outcome, Accepted, Refused, Undecided, shape}
 use Rattle.combine_base.specs.Parser.Meaning.{Meaning, IsSingle}
-use Rattle.combine_base.specs.Error.Errors.{Errors}
+use Rattle.combine_base.specs.Error.Errors.{Observers}
 use Rattle.combine_base.specs.Parser.Answer.{Answers}
-use Rattle.combine_base.specs.Parser.Judged.{answer_to}
+use Rattle.combine_base.specs.Parser.DriverAnswers.{answer_to}
 use Rattle.combine_base.specs.declared.stream.Kind.{Kind}
 use Rattle.combine_base.specs.declared.stream.Kind.TheVariants as kinds
 use Rattle.combine_base.specs.declared.stream.Failures.{Failures}
@@ -15,7 +15,7 @@ use Rattle.combine_base.specs.declared.parser.answer.Answer.TheVariants as answe
 use Rattle.combine_base.specs.declared.stream.StreamOnce as stream
 
 -- cuts don't fall, and each is a place
-pub record Fit (is_place : ℕ → Type 0) (cuts : List ℕ) : Type 0 where
+pub record CutsFit (is_place : ℕ → Type 0) (cuts : List ℕ) : Type 0 where
   pub rising : (i : ℕ) → i + 1 < length cuts → get_or cuts i 0 ≤ get_or cuts (i + 1) 0
   pub placed : (i : ℕ) → i < length cuts → is_place (get_or cuts i 0)
 
@@ -28,7 +28,7 @@ module _ {P T : Type 0} where
   abbrev pub window_at : (P → T → P) → P → List T → ℕ → ℕ → Bool → View P T
   window_at step start whole from to more = advanced step from (up_to start whole to more)
 
-module _ {P T R E Value State : Type 0} (frugal : Type 0) (start : P) (m : Meaning P T R E Value State) where
+module _ {P T R E Value State : Type 0} (never_allocates : Type 0) (start : P) (m : Meaning P T R E Value State) where
   -- the outcome on these tokens from the start, open or ended
   abbrev pub on : List T → Bool → Outcome Value → Type 0
   on x more = m.whole (record { position = start; unread = x; is_open = more })
@@ -45,30 +45,30 @@ module _ {P T R E Value State : Type 0} (frugal : Type 0) (start : P) (m : Meani
 
   module _ (whole : List T) (number : ℕ) (at : ℕ → ℕ) where
     -- There are so many cuts, each behind so many tokens. The answer is one on the whole, and more was asked for at the first n cuts: before each of them it is undecided, and where there is only one outcome, before no other.
-    pub record Ran (n : ℕ) (a : Answer Value E) : Type 0 where
+    pub record DecidedAfterCuts (n : ℕ) (a : Answer Value E) : Type 0 where
       pub answer : decided whole a
       pub within : n ≤ number
       pub here : (i : ℕ) → i < n → on (take (at i) whole) true Undecided
       pub only : IsSingle m.whole → (i : ℕ) → i < number → on (take (at i) whole) true Undecided → i < n
 
-    abbrev pub ran : Result (ℕ × Answer Value E) Kind → Type 0
-    ran (Ok r) = Ran r.0 r.1
-    ran (Err k) = (k ≡ kinds.Memory) × (frugal → m.lean → ⊥)
+    abbrev pub runs_cuts : Result (ℕ × Answer Value E) Kind → Type 0
+    runs_cuts (Ok r) = DecidedAfterCuts r.0 r.1
+    runs_cuts (Err k) = (k ≡ kinds.Memory) × (never_allocates → m.heapless → ⊥)
 
     pub record RunsCuts (result : Result (ℕ × Answer Value E) Kind) : Type 0 where
-      pub is : ran result
+      pub is : runs_cuts result
 
 -- one call on a window
-pub record ParsesWindow {P T R Value State E : Type 0} (frugal steady : Type 0) (step : P → T → P) (kind : E → Kind) (fresh : State → Type 0) (start : P) (m : Meaning P T R E Value State) (state left : State) (whole : List T) (from to : ℕ) (more : Bool) (taken : ℕ) (result : Result (Answer Value E) Kind) : Type 0 where
+pub record ParsesWindow {P T R Value State E : Type 0} (never_allocates counts_failures : Type 0) (step : P → T → P) (kind : E → Kind) (fresh : State → Type 0) (start : P) (m : Meaning P T R E Value State) (state left : State) (whole : List T) (from to : ℕ) (more : Bool) (taken : ℕ) (result : Result (Answer Value E) Kind) : Type 0 where
   pub new : View P T
   pub failures : Failures
   pub parsed : ParseResult Value E
   pub place : taken + length new.unread ≡ to
   pub is : result ≡ answer_to kind more taken parsed
-  pub answers : Answers (record { step = step; kind = kind; frugal = frugal; steady = steady; fresh = fresh }) m
+  pub answers : Answers (record { step = step; kind = kind; never_allocates = never_allocates; counts_failures = counts_failures; fresh = fresh }) m
       (record { first = false; state = state; left = left; old = window_at step start whole from to more; new = new; before = failures; after = failures })
       parsed
 
 -- the same by the stream that a window is
-abbrev pub WindowCall : {Input P T R Value State E : Type 0} (i : stream.Ghosts Input T R P E) (seen : Errors T R P E) (fresh : State → Type 0) (start : P) (m : Meaning P T R E Value State) (state left : State) (whole : List T) (from to : ℕ) (more : Bool) (taken : ℕ) → Result (Answer Value E) Kind → Type 0
-WindowCall i seen = ParsesWindow seen.frugal i.steady i.step seen.kind
+abbrev pub WindowCall : {Input P T R Value State E : Type 0} (i : stream.Ghosts Input T R P E) (observers : Observers T R P E) (fresh : State → Type 0) (start : P) (m : Meaning P T R E Value State) (state left : State) (whole : List T) (from to : ℕ) (more : Bool) (taken : ℕ) → Result (Answer Value E) Kind → Type 0
+WindowCall i observers = ParsesWindow observers.never_allocates i.counts_failures i.step observers.kind

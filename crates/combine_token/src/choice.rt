@@ -1,17 +1,17 @@
-//! Choices: the first parser that isn't refused peeked.
+//! Choices: the first parser that isn't refused peeked gives the result.
 ghost use Rattle.std.specs.Prelude.{◌≡◌};
 ghost use Rattle.combine_base.specs.Error.Errors.{IsFault};
-ghost use Rattle.combine_token.specs.Alternatives.{AfterRefusal, PeeksNoFault};
-ghost use Rattle.combine_token.specs.Optional.{optional_parser};
-ghost use Rattle.combine_token.specs.Or.{StartsSame, or_parser};
+ghost use Rattle.combine_token.specs.Choice.Alternatives.{AfterRefusal, PeeksNoFault};
+ghost use Rattle.combine_token.specs.Choice.Optional.{optional_parser};
+ghost use Rattle.combine_token.specs.Choice.Or.{StartsSame, or_parser};
 
 use combine_base::error::{ParseError, ParseResult, Tracked};
 use combine_base::parser::Parser;
 use combine_base::refusal::peeked;
 use combine_base::stream::Stream;
 
+pub mod alternatives;
 pub mod first;
-pub mod lent;
 pub mod types;
 
 use types::{Optional, Or};
@@ -39,9 +39,33 @@ impl<S, T> Default for OrState<S, T> {
     }
 }
 
-/// Chooses between two parsers: answers as the first that isn't refused peeked. Where both are refused peeked so is the choice, and their errors are merged in order.
+/// Parses as the first of two parsers that isn't refused peeked.
 ///
-/// The second begins where the first did. A committed refusal ends the choice, and so does a fault. On need of more the running alternative is kept; where it is then refused peeked, the second is still tried, which the crate's choice doesn't do. Two faults are the choice's own: `Reset`, where the stream can't be put back, and `Memory`, where an item of the merged error finds none.
+/// The second begins where the first did.
+///
+/// # Errors
+///
+/// - If both are refused peeked so is the choice, and their errors are merged in order.
+/// - A committed refusal ends the choice, and so does a fault.
+/// - Two faults are the choice's own: `Reset`, if the stream can't be put back, and `Memory`, if an item of the merged error finds none.
+///
+/// # Partial input
+///
+/// On need of more the running alternative is kept. If it is then refused peeked, the second is still tried.
+///
+/// # Differences from combine
+///
+/// The crate's choice stays with the alternative that took tokens before the cut. It also carries offsets with errors; here these are merged pairwise, once all are refused.
+///
+/// # Examples
+///
+/// ```
+/// fn verb(input: &[u8]) -> Result<(&'static [u8], &[u8]), UnexpectedParse> {
+///     or(attempt(bytes(b"get")), bytes(b"go")).parse(input)
+/// }
+/// ```
+///
+/// On `b"go on"` it returns `(b"go", b" on")`. Without `attempt` the first alternative is refused committed, and the second isn't tried.
 #[inline]
 pub fn or<P, Q>(p: P, q: Q) -> Or<P, Q>
     ensures { result ≡ or_parser p q }
@@ -49,9 +73,27 @@ pub fn or<P, Q>(p: P, q: Q) -> Or<P, Q>
     Or(p, q)
 }
 
-/// Gives the value of a parser, or `None` where it is refused peeked: that is accepted peeked, and nothing is taken.
+/// Gives the value of a parser, or `None` where it is refused peeked.
 ///
-/// A committed refusal, a fault and need of more are answered as they are, and the parser's own state is kept. Where the stream can't be put back the answer is the committed fault `Reset`.
+/// `None` is accepted peeked, and nothing is taken.
+///
+/// # Errors
+///
+/// A committed refusal and a fault are those of the parser. If the stream can't be put back, that is the committed fault `Reset`.
+///
+/// # Partial input
+///
+/// Need of more is that of the parser, and the parser's own state is kept.
+///
+/// # Examples
+///
+/// ```
+/// fn number(input: &[u8]) -> Result<((Option<u8>, u8), &[u8]), UnexpectedParse> {
+///     (optional(token(b'-')), token(b'0')).parse(input)
+/// }
+/// ```
+///
+/// On `b"0;"` it returns `((None, b'0'), b";")`.
 #[inline]
 pub fn optional<P>(parser: P) -> Optional<P>
     ensures { result ≡ optional_parser parser }
@@ -59,9 +101,9 @@ pub fn optional<P>(parser: P) -> Optional<P>
     Optional(parser)
 }
 
-/// The law that `or` is associative: on every list `or(or(a, b), c)` and `or(a, or(b, c))` have the same outcomes from the start; they leave tokens unread and ask for memory alike, and add the same items to an error.
+/// The law that `or` is associative.
 ///
-/// The call does nothing; its contract is the law.
+/// On every list `or(or(a, b), c)` and `or(a, or(b, c))` have the same outcomes from the start; they leave tokens unread and ask for memory alike, and add the same items to an error. The call does nothing; its contract is the law.
 pub fn or_is_associative<
     Input: Stream,
     A: Parser<Input>,
@@ -73,15 +115,17 @@ pub fn or_is_associative<
         (⟦<Or<A, Or<B, C>> as Parser<Input>>⟧.meaning (or_parser a.now (or_parser b.now c.now))) }
 {}
 
-/// The answer of the later alternatives, after one that was refused peeked: where they are refused peeked too, the errors are merged in order. Our own.
+/// Returns the result of a choice whose first alternative was refused peeked, of the result of the later ones. Our own.
+///
+/// If they are refused peeked too, the errors are merged in order.
 #[inline(always)]
 pub fn after_refusal<O, T: Copy, R: Copy, P: Ord, E: ParseError<T, R, P>>(
     first: Tracked<E>,
     answer: ParseResult<O, E>,
 ) -> ParseResult<O, E>
-    requires first { IsFault (E.seen.kind first.error) → ⊥ }
-    requires later { PeeksNoFault E.seen.kind answer }
-    ensures { AfterRefusal E.seen P.cmp first.error answer result }
+    requires first { IsFault (E.observers.kind first.error) → ⊥ }
+    requires later { PeeksNoFault E.observers.kind answer }
+    ensures { AfterRefusal E.observers P.cmp first.error answer result }
 {
     match answer {
         ParseResult::CommitOk(value) => ParseResult::CommitOk(value),

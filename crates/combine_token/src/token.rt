@@ -2,7 +2,7 @@
 //!
 //! The parsers of single tokens and of values keep no state: on need of more nothing was taken and nothing is unread, and the next call begins again. A list of tokens keeps how many were matched.
 ghost use Rattle.std.specs.Prelude.{◌≡◌};
-ghost use Rattle.combine_token.specs.TokenParsers.{any_parser, eof_parser, position_parser, produce_parser, satisfy_map_parser, satisfy_parser, token_parser, value_parser};
+ghost use Rattle.combine_token.specs.Token.TokenParsers.{any_parser, eof_parser, position_parser, produce_parser, satisfy_map_parser, satisfy_parser, token_parser, value_parser};
 
 use std::marker::PhantomData;
 use types::{Any, Eof, Position, Produce, Satisfy, SatisfyMap, Token, Value};
@@ -16,9 +16,27 @@ pub use among::{none_of, one_of};
 pub use lists::types::TokensState;
 pub use lists::{match_list, tokens, tokens_cmp};
 
-/// Takes any token: accepted committed, with that token as the value.
+/// Takes any token, which is the value.
 ///
-/// The end of an ended list is refused peeked, and nothing is said to be expected.
+/// The acceptance is committed.
+///
+/// # Errors
+///
+/// The end of ended input is refused peeked, and nothing is said to be expected.
+///
+/// # Partial input
+///
+/// The end of open input is need of more.
+///
+/// # Examples
+///
+/// ```
+/// fn first(input: &[u8]) -> Result<(u8, &[u8]), UnexpectedParse> {
+///     any().parse(input)
+/// }
+/// ```
+///
+/// On `b"ab"` it returns `(b'a', b"b")`.
 #[inline]
 pub fn any<Input>() -> Any<Input>
     ensures { result ≡ any_parser }
@@ -26,9 +44,31 @@ pub fn any<Input>() -> Any<Input>
     Any { reads: PhantomData }
 }
 
-/// Takes a token that the predicate holds of: accepted committed, with that token as the value.
+/// Takes a token that the predicate holds of, which is the value.
 ///
-/// Another token is put back and refused peeked, as is the end of an ended list; nothing is said to be expected. The predicate is an `Fn`, where the crate takes an `FnMut`.
+/// The acceptance is committed.
+///
+/// # Errors
+///
+/// Another token is put back and refused peeked, as is the end of ended input. Nothing is said to be expected.
+///
+/// # Partial input
+///
+/// The end of open input is need of more.
+///
+/// # Differences from combine
+///
+/// The predicate is an `Fn`, where the crate takes an `FnMut`.
+///
+/// # Examples
+///
+/// ```
+/// fn digit(input: &[u8]) -> Result<(u8, &[u8]), UnexpectedParse> {
+///     satisfy(|byte: u8| byte.is_ascii_digit()).parse(input)
+/// }
+/// ```
+///
+/// On `b"1a"` it returns `(b'1', b"a")`; `b"a"` is refused peeked.
 #[inline]
 pub fn satisfy<Input, F>(predicate: F) -> Satisfy<Input, F>
     ensures { result ≡ satisfy_parser predicate }
@@ -39,9 +79,36 @@ pub fn satisfy<Input, F>(predicate: F) -> Satisfy<Input, F>
     }
 }
 
-/// Takes a token that the function answers a value for: accepted committed, with that value.
+/// Takes a token that the function gives a value for, which is the value.
 ///
-/// Another token is put back and refused peeked, as is the end of an ended list; nothing is said to be expected. The function is an `Fn`, where the crate takes an `FnMut`.
+/// The acceptance is committed.
+///
+/// # Errors
+///
+/// Another token is put back and refused peeked, as is the end of ended input. Nothing is said to be expected.
+///
+/// # Partial input
+///
+/// The end of open input is need of more.
+///
+/// # Differences from combine
+///
+/// The function is an `Fn`, where the crate takes an `FnMut`.
+///
+/// # Examples
+///
+/// ```
+/// fn flag(input: &[u8]) -> Result<(bool, &[u8]), UnexpectedParse> {
+///     let mut flag = satisfy_map(|byte: u8| match byte {
+///         b'y' => Some(true),
+///         b'n' => Some(false),
+///         _ => None,
+///     });
+///     flag.parse(input)
+/// }
+/// ```
+///
+/// On `b"yes"` it returns `(true, b"es")`.
 #[inline]
 pub fn satisfy_map<Input, F, B>(predicate: F) -> SatisfyMap<Input, F, B>
     ensures { result ≡ satisfy_map_parser predicate }
@@ -53,9 +120,29 @@ pub fn satisfy_map<Input, F, B>(predicate: F) -> SatisfyMap<Input, F, B>
     }
 }
 
-/// Takes a token that equals this one: accepted committed, with the token that was taken as the value.
+/// Takes a token that equals this one.
 ///
-/// Another token is put back and refused peeked, as is the end of an ended list; this token is said to be expected.
+/// The value is the token that was taken.
+///
+/// The acceptance is committed.
+///
+/// # Errors
+///
+/// Another token is put back and refused peeked, as is the end of ended input. This token is said to be expected.
+///
+/// # Partial input
+///
+/// The end of open input is need of more.
+///
+/// # Examples
+///
+/// ```
+/// fn pair(input: &[u8]) -> Result<((u8, u8), &[u8]), UnexpectedParse> {
+///     (token(b'a'), token(b'b')).parse(input)
+/// }
+/// ```
+///
+/// On `b"abc"` it returns `((b'a', b'b'), b"c")`.
 #[inline]
 pub fn token<Input, T>(token: T) -> Token<Input, T>
     ensures { result ≡ token_parser token }
@@ -66,7 +153,19 @@ pub fn token<Input, T>(token: T) -> Token<Input, T>
     }
 }
 
-/// Accepts everywhere, peeked, with the position as the value, and reads nothing.
+/// Gives the position.
+///
+/// It accepts everywhere, peeked, and reads nothing.
+///
+/// # Examples
+///
+/// ```
+/// fn placed<'a>(text: &'a str) -> Result<((SourcePosition, char), position::TextStream<'a>), UnexpectedParse> {
+///     (position(), any()).parse(position::Stream::new(text))
+/// }
+/// ```
+///
+/// On `"ab"` the first value is line 1 and column 1.
 #[inline]
 pub fn position<Input>() -> Position<Input>
     ensures { result ≡ position_parser }
@@ -74,9 +173,27 @@ pub fn position<Input>() -> Position<Input>
     Position { reads: PhantomData }
 }
 
-/// Accepts everywhere, peeked, with a clone of the value, and reads nothing.
+/// Gives a clone of the value.
 ///
-/// A clone that finds no memory is the fault `Memory`; the crate's can't fail.
+/// It accepts everywhere, peeked, and reads nothing.
+///
+/// # Errors
+///
+/// A clone that finds no memory is the fault `Memory`.
+///
+/// # Differences from combine
+///
+/// The crate's clone can't fail.
+///
+/// # Examples
+///
+/// ```
+/// fn sign(input: &[u8]) -> Result<(u8, &[u8]), UnexpectedParse> {
+///     or(token(b'-'), value(b'+')).parse(input)
+/// }
+/// ```
+///
+/// On `b"1"` it returns `(b'+', b"1")`.
 #[inline]
 pub fn value<Input, T>(value: T) -> Value<Input, T>
     ensures { result ≡ value_parser value }
@@ -87,9 +204,23 @@ pub fn value<Input, T>(value: T) -> Value<Input, T>
     }
 }
 
-/// Accepts everywhere, peeked, with what the function answers, and reads nothing.
+/// Gives what the function returns.
+///
+/// It accepts everywhere, peeked, and reads nothing.
+///
+/// # Differences from combine
 ///
 /// The function is an `Fn`, where the crate takes an `FnMut`.
+///
+/// # Examples
+///
+/// ```
+/// fn seven(input: &[u8]) -> Result<(u8, &[u8]), UnexpectedParse> {
+///     produce(|| 7_u8).parse(input)
+/// }
+/// ```
+///
+/// On `b"a"` it returns `(7, b"a")`.
 #[inline]
 pub fn produce<Input, F, B>(f: F) -> Produce<Input, F, B>
     ensures { result ≡ produce_parser f }
@@ -101,9 +232,29 @@ pub fn produce<Input, F, B>(f: F) -> Produce<Input, F, B>
     }
 }
 
-/// Accepts the end of an ended list, peeked.
+/// Accepts the end of the input, peeked.
 ///
-/// The end of an open list is need of more. A token is put back and refused peeked; the end of input is said to be expected.
+/// # Errors
+///
+/// A token is put back and refused peeked. The end of input is said to be expected.
+///
+/// # Partial input
+///
+/// The end of open input is need of more.
+///
+/// # Differences from combine
+///
+/// At the end of an open piece the crate's is accepted, whatever may follow.
+///
+/// # Examples
+///
+/// ```
+/// fn only_a(input: &[u8]) -> Result<((u8, ()), &[u8]), UnexpectedParse> {
+///     (token(b'a'), eof()).parse(input)
+/// }
+/// ```
+///
+/// `b"a"` is accepted, and `b"ab"` is refused committed.
 #[inline]
 pub fn eof<Input>() -> Eof<Input>
     ensures { result ≡ eof_parser }

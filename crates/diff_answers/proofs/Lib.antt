@@ -1,1 +1,1 @@
-mod Iterated
+mod LetterParsers

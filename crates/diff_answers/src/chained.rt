@@ -9,7 +9,7 @@ const MOST: usize = 32;
 /// The value of a chain: its text, in brackets as it was folded. Letters beyond `MOST` are left out.
 #[derive(Drop)]
 pub(crate) struct Chain {
-    /// The letters, and zeros behind them.
+    /// The letters, and zeros after them.
     letters: [u8; MOST],
     count: usize,
 }

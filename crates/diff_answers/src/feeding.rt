@@ -13,7 +13,7 @@ pub(crate) struct Feeding<'a> {
     pub(crate) style: Style,
 }
 
-/// Reads pieces that are written with `/` between them, and `.` behind the last one where the input ends.
+/// Reads pieces that are written with `/` between them, and `.` after the last one where the input ends.
 pub(crate) fn read_feeding(
     alloc: Global,
     text: &str,

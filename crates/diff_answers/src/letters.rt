@@ -10,7 +10,7 @@ use combine_token::token::tokens;
 use diff_calls::{Call, Visitor};
 use std::alloc::{AllocError, Global};
 
-/// The last of these tokens, behind as many as are passed.
+/// The last of these tokens, after as many as are passed.
 #[derive(Drop)]
 pub(crate) struct Letters {
     pub(crate) bytes: [u8; 5],

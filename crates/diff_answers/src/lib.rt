@@ -4,6 +4,7 @@
 #![tactic(auto)]
 
 mod answered;
+mod capped_count;
 mod cases;
 mod chained;
 mod classes;
@@ -12,7 +13,6 @@ mod feeding;
 mod letters;
 mod list;
 mod lists;
-mod room;
 mod run;
 mod show;
 mod text;

@@ -123,7 +123,7 @@ fn run_windows<T: Copy + 'static, P: Parser<fed::Stream<T>> + Drop>(
     let mut unread = Vec::new(alloc);
     for (at, piece) in pieces.iter().enumerate() {
         let last = at + 1 == pieces.len();
-        match go_on(&mut parser, &mut stream, &mut state, piece, last) {
+        match parse_piece(&mut parser, &mut stream, &mut state, piece, last) {
             Ok(Answer::More) => unread.push(stream.unread().len())?,
             answer => return Ok(Answered { unread, answer }),
         }
@@ -135,7 +135,7 @@ fn run_windows<T: Copy + 'static, P: Parser<fed::Stream<T>> + Drop>(
 }
 
 /// Feeds a piece, with the end where it is the last, and parses on from the state.
-fn go_on<T: Copy + 'static, P: Parser<fed::Stream<T>>>(
+fn parse_piece<T: Copy + 'static, P: Parser<fed::Stream<T>>>(
     parser: &mut P,
     stream: &mut fed::Stream<T>,
     state: &mut P::PartialState,

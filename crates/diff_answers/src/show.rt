@@ -5,7 +5,7 @@ use std::alloc::AllocError;
 
 /// A value that can be written.
 pub(crate) trait Show: Drop {
-    /// Writes the value behind the text. A refused growth leaves a part of it.
+    /// Writes the value after the text. A refused growth leaves a part of it.
     fn show(&self, text: &mut String) -> Result<(), AllocError>;
 }
 

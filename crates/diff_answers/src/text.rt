@@ -68,10 +68,10 @@ macro_rules! call {
     (ignore($f:ident $a:tt)) => { diff_calls::IgnoreCall<$crate::text::call!($f $a)> };
     (many($f:ident $a:tt)) => { diff_calls::ManyCall<diff_calls::InVec, $crate::text::call!($f $a)> };
     (many1($f:ident $a:tt)) => { diff_calls::Many1Call<diff_calls::InVec, $crate::text::call!($f $a)> };
-    (many1_within(0, $f:ident $a:tt)) => { diff_calls::Many1Call<$crate::room::Room<0>, $crate::text::call!($f $a)> };
-    (many1_within(1, $f:ident $a:tt)) => { diff_calls::Many1Call<$crate::room::Room<1>, $crate::text::call!($f $a)> };
-    (many1_within(2, $f:ident $a:tt)) => { diff_calls::Many1Call<$crate::room::Room<2>, $crate::text::call!($f $a)> };
-    (many1_within(3, $f:ident $a:tt)) => { diff_calls::Many1Call<$crate::room::Room<3>, $crate::text::call!($f $a)> };
+    (many1_within(0, $f:ident $a:tt)) => { diff_calls::Many1Call<$crate::capped_count::CappedCount<0>, $crate::text::call!($f $a)> };
+    (many1_within(1, $f:ident $a:tt)) => { diff_calls::Many1Call<$crate::capped_count::CappedCount<1>, $crate::text::call!($f $a)> };
+    (many1_within(2, $f:ident $a:tt)) => { diff_calls::Many1Call<$crate::capped_count::CappedCount<2>, $crate::text::call!($f $a)> };
+    (many1_within(3, $f:ident $a:tt)) => { diff_calls::Many1Call<$crate::capped_count::CappedCount<3>, $crate::text::call!($f $a)> };
     (skip_many($f:ident $a:tt)) => { diff_calls::SkipManyCall<$crate::text::call!($f $a)> };
     (skip_many1($f:ident $a:tt)) => { diff_calls::SkipMany1Call<$crate::text::call!($f $a)> };
 }

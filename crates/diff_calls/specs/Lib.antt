@@ -1,1 +1,1 @@
-pub mod Parsers
+pub mod CallMeanings

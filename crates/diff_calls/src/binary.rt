@@ -37,7 +37,7 @@ pub trait Binary<A: Drop, B: Drop> {
 #[derive(Drop)]
 pub struct BinaryCall<K, A, B>(PhantomData<(K, A, B)>);
 
-/// Has the parser behind its first made.
+/// Visitor for the first parser: makes the second.
 #[derive(Drop)]
 struct BinaryFirst<K, B, V> {
     alloc: Global,

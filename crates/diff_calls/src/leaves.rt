@@ -1,6 +1,6 @@
 //! Calls of the constructors of single tokens and of values.
 ghost use Rattle.std.specs.Prelude.{ℕ, ◌≡◌, Bool, true};
-ghost use Rattle.diff_calls.specs.Parsers.{byte, byte_given, ended, one_for, one_where};
+ghost use Rattle.diff_calls.specs.CallMeanings.{byte_reading, byte_given, end_reading, one_for, token_where};
 
 use crate::{Call, Visitor};
 use combine_base::error::ParseError;
@@ -16,7 +16,7 @@ pub struct AnyCall;
 impl Call for AnyCall {
     type Output = u8;
 
-    ghost reading = { λ P step. one_where (λ t. true) };
+    ghost reading = { λ P step. token_where (λ t. true) };
 
     #[inline(always)]
     fn accept<Input: Stream<Token = u8>, V: Visitor<Input, u8>>(
@@ -35,7 +35,7 @@ pub trait Class {
     ghost holds: { ℕ → Bool };
 
     fn has(byte: u8) -> bool
-        ensures { result ≡ holds byte };
+        ensures { result ≡ holds byte_reading };
 }
 
 /// `satisfy(C::has)`.
@@ -45,7 +45,7 @@ pub struct SatisfyCall<C>(PhantomData<(C,)>);
 impl<C: Class> Call for SatisfyCall<C> {
     type Output = u8;
 
-    ghost reading = { λ P step. one_where C.holds };
+    ghost reading = { λ P step. token_where C.holds };
 
     #[inline(always)]
     fn accept<Input: Stream<Token = u8>, V: Visitor<Input, u8>>(
@@ -72,7 +72,7 @@ pub trait Picks {
     ghost picks: { ℕ → Option Self.Output → Type 0 };
 
     fn pick(byte: u8) -> Option<Self::Output>
-        ensures { picks byte result };
+        ensures { picks byte_reading result };
 }
 
 /// `satisfy_map(F::pick)`.
@@ -107,7 +107,7 @@ pub struct TokenCall<const T: u8>;
 impl<const T: u8> Call for TokenCall<T> {
     type Output = u8;
 
-    ghost reading = { λ P step. byte T };
+    ghost reading = { λ P step. byte_reading T };
 
     #[inline(always)]
     fn accept<Input: Stream<Token = u8>, V: Visitor<Input, u8>>(
@@ -174,7 +174,7 @@ pub struct EofCall;
 impl Call for EofCall {
     type Output = ();
 
-    ghost reading = { λ P step. ended };
+    ghost reading = { λ P step. end_reading };
 
     #[inline(always)]
     fn accept<Input: Stream<Token = u8>, V: Visitor<Input, ()>>(

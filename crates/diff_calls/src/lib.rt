@@ -7,10 +7,10 @@ ghost use Rattle.combine_base.specs.Parser.Meaning.{Reading};
 mod binary;
 mod leaves;
 mod lists;
-mod of_one;
-mod of_several;
+mod one_part;
 mod repeats;
 mod sequences;
+mod several_parts;
 mod ternary;
 mod tuple_4;
 mod unary;
@@ -23,15 +23,15 @@ pub use leaves::{
     AnyCall, Class, EofCall, Picks, ProduceCall, SatisfyCall, SatisfyMapCall, TokenCall, ValueCall,
 };
 pub use lists::{Compare, Listed, NoneOfCall, OneOfCall, TokensCmpCall};
-pub use of_one::{
+pub use one_part::{
     Attempt, AttemptCall, Change, Map, MapCall, Optional, OptionalCall, Tuple1, Tuple1Call,
 };
-pub use of_several::{Or, OrCall, Tuple2, Tuple2Call, Tuple3, Tuple3Call};
 pub use repeats::{
     Collect, InVec, Many, Many1, Many1Call, ManyCall, SkipMany, SkipMany1, SkipMany1Call,
     SkipManyCall,
 };
 pub use sequences::{BetweenCall, IgnoreCall, Keep, PickCall, SkipCall, WithCall};
+pub use several_parts::{Or, OrCall, Tuple2, Tuple2Call, Tuple3, Tuple3Call};
 use std::alloc::Global;
 pub use ternary::{Ternary, TernaryCall};
 pub use tuple_4::Tuple4Call;

@@ -1,6 +1,6 @@
 //! Calls of constructors over a list of bytes.
 ghost use Rattle.std.specs.Prelude.{ℕ, ◌≡◌, nat_eq};
-ghost use Rattle.diff_calls.specs.Parsers.{matches, one_among, one_beside};
+ghost use Rattle.diff_calls.specs.CallMeanings.{matches, one_among, one_beside};
 
 use crate::{Call, Visitor};
 use combine_base::error::ParseError;
@@ -11,7 +11,7 @@ use std::marker::PhantomData;
 
 /// A list of bytes.
 pub trait Listed {
-    ghost use Rattle.combine_token.specs.Iterated.{IsIterated};
+    ghost use Rattle.combine_token.specs.Token.Lists.IteratedLists.{IsIterated};
 
     type List: Clone + IntoIterator<Item = u8> + Drop;
 

@@ -1,7 +1,7 @@
 //! Repetitions, and their calls.
 ghost use Rattle.std.specs.Prelude.{◌≡◌};
-ghost use Rattle.combine_repeat_turns.specs.Counts.{appended};
-ghost use Rattle.diff_calls.specs.Parsers.{collecting, collecting1, skipping, skipping1};
+ghost use Rattle.combine_repeat_turns.specs.Repeat.Repeated.{appended};
+ghost use Rattle.diff_calls.specs.CallMeanings.{collecting, collecting1, skipping, skipping1};
 
 use crate::{Unary, UnaryCall, Visitor};
 use combine_base::error::ParseError;
@@ -70,7 +70,7 @@ impl<A: Drop> Unary<A> for SkipMany1 {
 
 /// Where the values of a repetition are collected.
 pub trait Collect<A: Drop> {
-    type Into: Append<A>;
+    type Collection: Append<A>;
 }
 
 /// In a vector.
@@ -78,7 +78,7 @@ pub trait Collect<A: Drop> {
 pub struct InVec;
 
 impl<A: Drop> Collect<A> for InVec {
-    type Into = Vec<A>;
+    type Collection = Vec<A>;
 }
 
 /// `many`, collected so.
@@ -86,20 +86,20 @@ impl<A: Drop> Collect<A> for InVec {
 pub struct Many<K>(PhantomData<(K,)>);
 
 impl<A: Drop, K: Collect<A>> Unary<A> for Many<K> {
-    type Output = K::Into;
+    type Output = K::Collection;
 
-    ghost reading = { λ P step r. collecting step (appended K.Into.held K.Into.none K.Into.more K.Into.lean) r };
+    ghost reading = { λ P step r. collecting step (appended K.Collection.held K.Collection.none K.Collection.more K.Collection.heapless) r };
 
     #[inline(always)]
     fn build<
         Input: Stream<Token = u8>,
         P: Parser<Input, Output = A> + Drop,
-        V: Visitor<Input, K::Into>,
+        V: Visitor<Input, K::Collection>,
     >(alloc: Global, part: P, visitor: V) -> V::Answer
     where
         Input::Error: ParseError<u8, Input::Range, Input::Position>,
     {
-        visitor.visit(many::<K::Into, _>(alloc, part))
+        visitor.visit(many::<K::Collection, _>(alloc, part))
     }
 }
 
@@ -108,19 +108,19 @@ impl<A: Drop, K: Collect<A>> Unary<A> for Many<K> {
 pub struct Many1<K>(PhantomData<(K,)>);
 
 impl<A: Drop, K: Collect<A>> Unary<A> for Many1<K> {
-    type Output = K::Into;
+    type Output = K::Collection;
 
-    ghost reading = { λ P step r. collecting1 step (appended K.Into.held K.Into.none K.Into.more K.Into.lean) r };
+    ghost reading = { λ P step r. collecting1 step (appended K.Collection.held K.Collection.none K.Collection.more K.Collection.heapless) r };
 
     #[inline(always)]
     fn build<
         Input: Stream<Token = u8>,
         P: Parser<Input, Output = A> + Drop,
-        V: Visitor<Input, K::Into>,
+        V: Visitor<Input, K::Collection>,
     >(alloc: Global, part: P, visitor: V) -> V::Answer
     where
         Input::Error: ParseError<u8, Input::Range, Input::Position>,
     {
-        visitor.visit(many1::<K::Into, _>(alloc, part))
+        visitor.visit(many1::<K::Collection, _>(alloc, part))
     }
 }

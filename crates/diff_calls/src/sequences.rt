@@ -1,7 +1,7 @@
 //! Constructors that keep a part of another parser's value, and their calls: `with`, `skip`, `between` and `ignore`.
 ghost use Rattle.std.specs.Prelude.{◌≡◌};
-ghost use Rattle.combine_base.specs.Parser.Mapped.{mapped_reading};
-ghost use Rattle.combine_combinator.specs.Picks.{Picks};
+ghost use Rattle.combine_base.specs.Parser.ValueMap.{mapped_reading};
+ghost use Rattle.combine_combinator.specs.ValueParts.{Picks};
 
 use crate::{Tuple2Call, Tuple3Call, Unary, UnaryCall, Visitor};
 use combine_base::error::ParseError;

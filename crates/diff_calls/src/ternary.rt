@@ -38,7 +38,7 @@ pub trait Ternary<A: Drop, B: Drop, C: Drop> {
 #[derive(Drop)]
 pub struct TernaryCall<K, A, B, C>(PhantomData<(K, A, B, C)>);
 
-/// Has the parser behind its first made.
+/// Visitor for the first parser: makes the second.
 #[derive(Drop)]
 struct TernaryFirst<K, B, C, V> {
     alloc: Global,
@@ -46,7 +46,7 @@ struct TernaryFirst<K, B, C, V> {
     calls: PhantomData<(K, B, C)>,
 }
 
-/// Has the parser behind its second made.
+/// Visitor for the second parser: makes the third.
 #[derive(Drop)]
 struct TernarySecond<K, P, C, V> {
     alloc: Global,

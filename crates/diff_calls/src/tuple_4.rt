@@ -1,6 +1,6 @@
 //! Calls of tuples of four parsers, which are made in turn and kept.
 ghost use Rattle.std.specs.Prelude.{◌≡◌};
-ghost use Rattle.diff_calls.specs.Parsers.{quadruple};
+ghost use Rattle.diff_calls.specs.CallMeanings.{quadruple};
 
 use crate::{Call, Visitor};
 use combine_base::error::ParseError;
@@ -35,7 +35,7 @@ impl<A: Call, B: Call, C: Call, D: Call> Call for Tuple4Call<A, B, C, D> {
     }
 }
 
-/// Has the parser behind its first made.
+/// Visitor for the first parser: makes the second.
 #[derive(Drop)]
 struct Tuple4First<B, C, D, V> {
     alloc: Global,
@@ -72,7 +72,7 @@ where
     }
 }
 
-/// Has the parser behind its second made.
+/// Visitor for the second parser: makes the third.
 #[derive(Drop)]
 struct Tuple4Second<P, C, D, V> {
     alloc: Global,
@@ -111,7 +111,7 @@ where
     }
 }
 
-/// Has the parser behind its third made.
+/// Visitor for the third parser: makes the fourth.
 #[derive(Drop)]
 struct Tuple4Third<P, Q, D, V> {
     alloc: Global,

@@ -8,7 +8,7 @@ use combine::stream::{Kind, fed};
 use std::alloc::{AllocError, Global};
 use std::process::Abort;
 
-/// Feeds a piece; want of memory where it finds no room.
+/// Feeds a piece, or returns that no memory is left for it.
 fn feed(stream: &mut fed::Stream<u8>, piece: &[u8]) -> Result<(), AllocError> {
     if stream.room() < piece.len() as u64 {
         return Err(AllocError);

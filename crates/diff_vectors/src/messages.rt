@@ -150,7 +150,7 @@ fn decided(out: &[u8]) -> Option<(&str, &str)> {
     Some(text.rsplit_once('\n').unwrap_or(("", text)))
 }
 
-/// Sizes that cut the input behind each byte whose bit is set in `places`, the lowest bit first, with an empty piece before each piece.
+/// Sizes that cut the input after each byte whose bit is set in `places`, the lowest bit first, with an empty piece before each piece.
 pub(crate) fn sizes(alloc: Global, input: &[u8], places: u32) -> Result<Vec<u32>, AllocError> {
     let mut sizes = Vec::new(alloc);
     let mut size: u32 = 0;
@@ -229,6 +229,13 @@ fn limits(rt: HostRuntime) -> Result<(), AllocError> {
         })
     );
     assert_eq!(rt; read_args(alloc, &most), Err(Fault::Argument));
+    Ok(())
+}
+
+/// A limit after a size, a second one, and one whose number isn't written as a size is, are bad arguments.
+#[test]
+fn no_limits(rt: HostRuntime) {
+    let alloc = rt.alloc();
     for words in [
         ["1", "limit=2"],
         ["limit=2", "limit=2"],
@@ -250,7 +257,6 @@ fn limits(rt: HostRuntime) -> Result<(), AllocError> {
             "{first} {second}"
         );
     }
-    Ok(())
 }
 
 #[test]

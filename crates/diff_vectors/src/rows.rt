@@ -56,7 +56,7 @@ const ROWS: [(&str, &str, &str); 22] = [
     ),
     ("optional(tokens(hello))", "heya", "refused committed"),
     ("tokens()", "abc", "accepted \"\" taken 0 peeked"),
-    // Each growth of a collection refused in turn: want of memory, and no other answer.
+    // Each growth of a collection refused in turn: no memory is left, and nothing else comes of it.
     ("many1_within(0,any())", "abc", "fault memory"),
     ("many1_within(1,any())", "abc", "fault memory"),
     ("many1_within(2,any())", "abc", "fault memory"),
@@ -141,7 +141,7 @@ pub(crate) fn without_count(said: &str) -> &str {
     }
 }
 
-/// A parser with its input cut behind each byte whose bit is set in `places`, the lowest bit first, an empty piece before each piece, and the end behind the last.
+/// A parser with its input cut after each byte whose bit is set in `places`, the lowest bit first, an empty piece before each piece, and the end after the last.
 pub(crate) fn case_of(
     alloc: Global,
     parser: &str,

@@ -130,7 +130,7 @@ fn parsed<Input: Stream, P: Parser<Input> + Drop>(
     parser.parse(input)
 }
 
-/// A token with another behind it, if it is there.
+/// A token with another after it, if it is there.
 fn pair_of<Input: Stream>(
     first: Input::Token,
     second: Input::Token,
@@ -186,7 +186,7 @@ impl Append<u8> for Full {
 
     ghost more = { λ taken _. taken + 1 };
 
-    ghost lean = { ⊥ };
+    ghost heapless = { ⊥ };
 
     fn empty(_alloc: Global) -> Full {
         Full

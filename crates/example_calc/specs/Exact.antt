@@ -15,11 +15,11 @@ abbrev pub IsExact : Operator → ℤ → ℤ → ℤ → Type 0
 IsExact operator left right value = (value ≡ exact operator left right) × (operator ≡ Divide → right ≢ pos 0)
 
 -- nothing else is refused, and the message says which it is
-abbrev pub IsFault : Operator → ℤ → ℤ → List ℕ → Type 0
-IsFault operator left right message =
+abbrev pub IsArithmeticFault : Operator → ℤ → ℤ → List ℕ → Type 0
+IsArithmeticFault operator left right message =
     ((operator ≡ Divide) × (right ≡ pos 0) × (message ≡ codes "division by zero"))
     ⊎ (¬ (FitsSigned w64 (exact operator left right)) × (message ≡ codes "overflow"))
 
 -- whatever the message
 abbrev pub IsRefused : Operator → ℤ → ℤ → Type 0
-IsRefused operator left right = (message : List ℕ) × IsFault operator left right message
+IsRefused operator left right = (message : List ℕ) × IsArithmeticFault operator left right message

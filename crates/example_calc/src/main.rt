@@ -5,7 +5,7 @@
 
 ghost use Rattle.std.specs.Prelude.{◌≡◌, ℤ, pos, IfErr, MatchResult};
 ghost use Rattle.combine_base.specs.declared.stream.Kind.TheVariants as kinds;
-ghost use Rattle.example_calc.specs.Exact.{IsExact, IsFault, IsRefused};
+ghost use Rattle.example_calc.specs.Exact.{IsExact, IsArithmeticFault, IsRefused};
 
 use combine::easy::TextStream;
 use combine::error::{DetailedError, StreamError};
@@ -59,14 +59,14 @@ impl expression::Operator for Operator {
 
     ghost refuses_operands = { IsRefused };
 
-    /// Returns what the operator makes of 0 and the number behind it.
+    /// Returns what the operator makes of 0 and the number after it.
     fn change(self, operand: i64) -> Result<i64, &'static str> {
         self.join(0, operand)
     }
 
     /// Returns what the operator makes of two numbers; a quotient is rounded towards zero.
     fn join(self, left: i64, right: i64) -> Result<i64, &'static str>
-        ensures { MatchResult result (IsExact self left right) (λ message. IsFault self left right message.now) }
+        ensures { MatchResult result (IsExact self left right) (λ message. IsArithmeticFault self left right message.now) }
     {
         let value = match self {
             Operator::Plus => left.checked_add(right),
@@ -93,7 +93,7 @@ fn prefix(character: char) -> Item<Operator, i64> {
     }
 }
 
-/// What stands behind an operand: an operator or `)`.
+/// What stands after an operand: an operator or `)`.
 fn suffix(character: char) -> Item<Operator, i64> {
     match character {
         '+' => Item::Infix(0, Operator::Plus),

@@ -11,7 +11,7 @@ pub fn sets_of_places<T>(input: &[T]) -> u32 {
     sets
 }
 
-/// The input cut behind each token whose bit is set in `places`, the lowest bit first, with an empty piece before each piece.
+/// The input cut after each token whose bit is set in `places`, the lowest bit first, with an empty piece before each piece.
 pub fn cut<T>(alloc: Global, input: &[T], places: u32) -> Result<Vec<&[T]>, AllocError> {
     let empty: &[T] = &[];
     let mut pieces = Vec::new(alloc);

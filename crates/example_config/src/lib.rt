@@ -66,7 +66,7 @@ fn is_word_character(character: char) -> bool {
     is_name_character(character) || matches!(character, '.' | '/' | ':')
 }
 
-/// Returns the character that stands behind a backslash so.
+/// Returns the character that stands after a backslash so.
 fn escaped(character: char) -> Option<char> {
     match character {
         'n' => Some('\n'),
@@ -77,7 +77,7 @@ fn escaped(character: char) -> Option<char> {
     }
 }
 
-/// Returns whether a word is digits, perhaps behind a `-`.
+/// Returns whether a word is digits, perhaps after a `-`.
 fn is_integer(word: &str) -> bool {
     let digits = word.strip_prefix('-').unwrap_or(word);
     !digits.is_empty() && digits.bytes().all(|byte: u8| byte.is_ascii_digit())

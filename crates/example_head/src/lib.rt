@@ -2,7 +2,7 @@
 #![tactic(auto)]
 
 ghost use Rattle.std.specs.Prelude.{◌≡◌};
-ghost use Rattle.example_head.specs.Head.{Parses, begins_with, end_of_line, field_line, fields, head, in_path, in_query, method, name, numbers, optional, parameter, parameters, path, query, setting, value, version, word};
+ghost use Rattle.example_head.specs.Head.{Parses, begins_with, end_of_line, field_line, fields, head, in_path, in_query, method, name, numbers, optional_promise, parameter, parameters, path, query, setting, header_value, version, word};
 
 use combine::error::UnexpectedParse;
 use combine::parser::Parser;
@@ -53,7 +53,7 @@ fn in_path(byte: u8) -> bool
     byte.is_ascii_graphic() && byte != b'?'
 }
 
-/// Parses a query behind its mark.
+/// Parses a query after its mark.
 fn query(alloc: Global, input: &[u8]) -> Part<'_, Vec<u8>>
     ensures { Parses query input.now result }
 {
@@ -91,13 +91,13 @@ fn name(alloc: Global, input: &[u8]) -> Part<'_, Vec<u8>>
 
 /// Parses blanks and the value of a field.
 fn value(alloc: Global, input: &[u8]) -> Part<'_, Vec<u8>>
-    ensures { Parses value input.now result }
+    ensures { Parses header_value input.now result }
 {
     let word = many1::<Vec<_>, _>(alloc, alpha_num());
     with(skip_many(token(b' ')), word).parse(input)
 }
 
-/// Parses the word of a parameter behind its semicolon.
+/// Parses the word of a parameter after its semicolon.
 fn word(alloc: Global, input: &[u8]) -> Part<'_, Vec<u8>>
     ensures { Parses word input.now result }
 {
@@ -181,7 +181,7 @@ fn begins_with(byte: u8, input: &[u8]) -> bool
 
 /// Parses a query, if its mark stands there.
 fn optional_query(alloc: Global, input: &[u8]) -> Part<'_, Option<Vec<u8>>>
-    ensures { optional 63 (Parses query) input.now result }
+    ensures { optional_promise 63 (Parses query) input.now result }
 {
     if !begins_with(b'?', input) {
         return Ok((None, input));
@@ -192,7 +192,7 @@ fn optional_query(alloc: Global, input: &[u8]) -> Part<'_, Option<Vec<u8>>>
 
 /// Parses a version, if a blank stands there.
 fn optional_version(input: &[u8]) -> Part<'_, Option<(u8, u8)>>
-    ensures { optional 32 numbers input.now result }
+    ensures { optional_promise 32 numbers input.now result }
 {
     if !begins_with(b' ', input) {
         return Ok((None, input));

@@ -72,7 +72,7 @@ fn print_heads(rt: &HostRuntime) -> io::Result<ExitCode> {
     Ok(ExitCode::SUCCESS)
 }
 
-/// Prints a head, and an empty line behind it.
+/// Prints a head, and an empty line after it.
 fn print_head(rt: &HostRuntime, head: &Head<&[u8]>) -> io::Result<()> {
     let method = String::from_utf8_lossy(rt.alloc(), head.method)?;
     let target = String::from_utf8_lossy(rt.alloc(), head.target)?;

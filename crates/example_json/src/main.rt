@@ -117,7 +117,7 @@ fn print_document(rt: &HostRuntime, document: &Document) -> io::Result<()> {
     rt.stdout().write_all(&text)
 }
 
-/// Prints why the input is refused, each reason behind the line and the column.
+/// Prints why the input is refused, each reason after the line and the column.
 fn print_error(rt: &HostRuntime, input: &[u8], error: &JsonError<'_>) -> io::Result<()> {
     if error.kind == Kind::Memory {
         return Err(io::Error::from(io::ErrorKind::OutOfMemory));
@@ -141,7 +141,7 @@ fn print_error(rt: &HostRuntime, input: &[u8], error: &JsonError<'_>) -> io::Res
     Ok(())
 }
 
-/// Returns the line and the column of what stands behind so many bytes, both counted from 1; a column is a character.
+/// Returns the line and the column of what stands after so many bytes, both counted from 1; a column is a character.
 fn place_of(input: &[u8], position: usize) -> (usize, usize) {
     let mut line: usize = 1;
     let mut column: usize = 1;

@@ -109,7 +109,7 @@ const ENDED: [&str; 22] = [
     "[{\"a\":[]}",
 ];
 
-/// Texts that are refused behind a token, at the latest.
+/// Texts that are refused after a token, at the latest.
 const REFUSED: [&str; 65] = [
     "nul",
     "True",
@@ -203,7 +203,7 @@ const DEEP: [(&str, usize); 7] = [
     ("[[[1]]]", 3),
 ];
 
-/// Texts that are refused, behind how many bytes, and what is said.
+/// Texts that are refused, after how many bytes, and what is said.
 const REASONS: [(&str, usize, &str); 14] = [
     ("nul", 0, "value expected"),
     ("[1,]", 3, "value expected"),

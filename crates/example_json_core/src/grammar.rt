@@ -6,7 +6,7 @@ use crate::texts::Text;
 use combine_nested::nested::{Frame, Next};
 use std::alloc::{AllocError, Global};
 
-/// What one step reads, and the comma or the colon behind it, where one was read with it.
+/// What one step reads, and the comma or the colon after it, where one was read with it.
 pub type Item = (Lexeme, Option<u8>);
 
 /// What stands between blanks.
@@ -56,7 +56,7 @@ impl Open {
         }
     }
 
-    /// What comes of such a step, with that sign behind it.
+    /// What comes of such a step, with that sign after it.
     #[inline(always)]
     fn stepping(self, step: Option<Step>, sign: Option<u8>) -> Then {
         match step {

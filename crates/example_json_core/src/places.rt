@@ -9,19 +9,19 @@ pub enum Place {
     Whole,
     /// An array with nothing inside: a value, or its end.
     Array,
-    /// Behind a comma of an array: a value.
+    /// After a comma of an array: a value.
     Element,
-    /// Behind an element: a comma, or the array's end.
+    /// After an element: a comma, or the array's end.
     ElementEnd,
     /// An object with nothing inside: a name, or its end.
     Object,
-    /// Behind a comma of an object: a name.
+    /// After a comma of an object: a name.
     Name,
-    /// Behind a name: a colon.
+    /// After a name: a colon.
     NameEnd,
-    /// Behind a colon: a value.
+    /// After a colon: a value.
     Value,
-    /// Behind an entry's value: a comma, or the object's end.
+    /// After an entry's value: a comma, or the object's end.
     ValueEnd,
 }
 
@@ -75,7 +75,7 @@ impl Place {
         }
     }
 
-    /// Whether this sign may stand behind the text, the number or the word that comes here.
+    /// Whether this sign may stand after the text, the number or the word that comes here.
     #[inline(always)]
     pub fn is_followed_by(self, sign: u8) -> bool {
         match self {

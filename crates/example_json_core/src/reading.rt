@@ -18,7 +18,7 @@ use combine_token::choice::{optional, or};
 use combine_token::token::{eof, satisfy, satisfy_map, token};
 use std::alloc::Global;
 
-/// Why an input is refused, and behind how many bytes.
+/// Why an input is refused, and after how many bytes.
 pub type JsonError<'a> = easy::Errors<u8, &'a [u8], usize>;
 
 /// What the reader is handed to.
@@ -91,7 +91,7 @@ fn is_plus_or_minus(byte: u8) -> bool {
     matches!(byte, b'+' | b'-')
 }
 
-/// The character that a byte behind a backslash says by itself.
+/// The character that a byte after a backslash says by itself.
 fn escaped(byte: u8) -> Option<u32> {
     match byte {
         b'"' | b'\\' | b'/' => Some(u32::from(byte)),
@@ -224,7 +224,7 @@ pub fn read_pieces(
     read_document(alloc, depth, Pieces { alloc, pieces })
 }
 
-/// Reads the same from a slice, and says why it is refused and behind how many bytes.
+/// Reads the same from a slice, and says why it is refused and after how many bytes.
 pub fn read_easily<'a>(
     alloc: Global,
     depth: usize,

@@ -32,7 +32,7 @@ impl Append<u8> for Word {
 
     ghost more = { λ _ _. tt };
 
-    ghost lean = { ⊥ };
+    ghost heapless = { ⊥ };
 
     fn empty(_alloc: Global) -> Word {
         Word {
@@ -112,7 +112,7 @@ impl Text {
         self.bytes.extend_from_slice(utf8.as_bytes())
     }
 
-    /// The text with what an escape says behind it.
+    /// The text with what an escape says after it.
     #[cold]
     #[inline(never)]
     fn with(self, unit: u32) -> (Text, Result<(), AllocError>) {
@@ -142,7 +142,7 @@ impl Append<Piece> for Text {
 
     ghost more = { λ _ _. tt };
 
-    ghost lean = { ⊥ };
+    ghost heapless = { ⊥ };
 
     fn empty(alloc: Global) -> Text {
         Text {

@@ -87,7 +87,7 @@ impl Program {
         body(arguments)
     }
 
-    /// Says on standard error why and where a text is refused that stands behind so many lines: the line and the column, the reasons, the line itself, and a caret under the place. Returns the status of that.
+    /// Says on standard error why and where a text is refused that stands after so many lines: the line and the column, the reasons, the line itself, and a caret under the place. Returns the status of that.
     ///
     /// # Errors
     ///

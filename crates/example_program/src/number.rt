@@ -4,7 +4,7 @@ ghost use Rattle.combine_base.specs.declared.stream.Kind.TheVariants as kinds;
 
 use combine::error::{Info, StreamError};
 
-/// Returns the integer that digits say, perhaps behind a `-`: what `and_then` asks of a function.
+/// Returns the integer that digits say, perhaps after a `-`: what `and_then` asks of a function.
 ///
 /// # Errors
 ///

@@ -33,16 +33,16 @@ struct Windows<'c, S> {
     cuts: &'c [usize],
 }
 
-impl<'c, S: Windowed> Runs<MaybePartialStream<S::Placed>> for Windows<'c, S> {
+impl<'c, S: Windowed> Runs<MaybePartialStream<S::Located>> for Windows<'c, S> {
     type Answer = Option<
         (
             usize,
-            Answer<Head<<S::Placed as StreamOnce>::Range>, <S::Placed as StreamOnce>::Error>,
+            Answer<Head<<S::Located as StreamOnce>::Range>, <S::Located as StreamOnce>::Error>,
         ),
     >;
 
     fn run<
-        P: Parser<MaybePartialStream<S::Placed>, Output = Head<<S::Placed as StreamOnce>::Range>>
+        P: Parser<MaybePartialStream<S::Located>, Output = Head<<S::Located as StreamOnce>::Range>>
             + Drop,
     >(self, head: P) -> Self::Answer {
         if !cuts_fit(self.whole, self.cuts) {
@@ -56,7 +56,7 @@ impl<'c, S: Windowed> Runs<MaybePartialStream<S::Placed>> for Windows<'c, S> {
     }
 }
 
-/// The head that a slice begins with, and what is behind it.
+/// The head that a slice begins with, and what is after it.
 pub fn request_head<'a>(
     alloc: Global,
     input: &'a [u8],

@@ -1,4 +1,4 @@
-//! Decoders of protocols and of texts, as their users write them. They are built for the tests alone, so that they are proved once.
+//! Decoders of protocols and of texts, as their users write them. They are compiled for tests only, so that they are proved once.
 #![tactic(auto)]
 
 #[cfg(test)]

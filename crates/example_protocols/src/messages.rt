@@ -33,7 +33,7 @@ fn for_each_message<
     let mut session = Session::new(alloc, make());
     for piece in pieces {
         let mut answer = session.feed(piece).map_err(Failure::Session)?;
-        // One may end here, and behind it as many as there are bytes left, at most.
+        // One may end here, and after it as many as there are bytes left, at most.
         for _message in 0..=session.unread().len() {
             let Answer::Accepted {
                 value,

@@ -3,10 +3,10 @@
 use example_callers::cuts::sets_of_places;
 use std::alloc::{AllocError, Global};
 
-/// Behind each byte.
+/// After each byte.
 const ONES: u32 = 0xffff_ffff;
 
-/// Behind each second byte.
+/// After each second byte.
 const TWOS: u32 = 0xaaaa_aaaa;
 
 /// Each set of places, for an input of at most nine bytes; for a longer one single bytes, bytes in twos, and each place alone.

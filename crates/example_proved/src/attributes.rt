@@ -1,7 +1,7 @@
 //! An attribute of a tag.
 ghost use Rattle.std.specs.Prelude.{◌≡◌, map, nat_eq, not};
 ghost use Rattle.combine_base.specs.Parser.Pieces.{concatenated};
-ghost use Rattle.combine_facts.specs.Driven.{IfAccepted};
+ghost use Rattle.combine_facts.specs.DriverReads.{IfAccepted};
 ghost use Rattle.example_proved.specs.Attributes.{IsAttribute};
 
 use crate::settings::is_letter;

@@ -17,7 +17,7 @@ pub struct Record {
     pub text: Vec<u8>,
 }
 
-/// Returns the record at the beginning of a slice, and what stands behind it: a kind, a length in two bytes, the highest first, and as many bytes, which are the text.
+/// Returns the record at the beginning of a slice, and what stands after it: a kind, a length in two bytes, the highest first, and as many bytes, which are the text.
 pub fn read_record(alloc: Global, input: &[u8]) -> Result<(Record, &[u8]), UnexpectedParse>
     ensures { IfOk result (λ p. IsRecord input.now p.0 p.1.now) }
 {

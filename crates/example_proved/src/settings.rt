@@ -18,7 +18,7 @@ pub struct Setting {
     pub value: Vec<u8>,
 }
 
-/// Returns the setting at the beginning of a slice, and what stands behind it: one or more small letters, `=`, one or more digits, and `;`.
+/// Returns the setting at the beginning of a slice, and what stands after it: one or more small letters, `=`, one or more digits, and `;`.
 pub fn read_setting(alloc: Global, input: &[u8]) -> Result<(Setting, &[u8]), UnexpectedParse>
     ensures { IfOk result (λ p. IsSetting input.now p.0 p.1.now) }
 {

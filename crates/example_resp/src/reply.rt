@@ -19,7 +19,7 @@ const MOST_BYTES: i64 = 512 * 1024 * 1024;
 /// The most items of an array, as a server has it.
 const MOST_ITEMS: i64 = 1024 * 1024;
 
-/// A line: its kind, and what stands behind that. The bytes of a bulk string are one of kind `+`.
+/// A line: its kind, and what stands after that. The bytes of a bulk string are one of kind `+`.
 type Line = (u8, Vec<u8>);
 
 /// What comes of items.
@@ -50,7 +50,7 @@ impl Items {
         }
     }
 
-    /// Adds an item that is printed as one line, behind that label.
+    /// Adds an item that is printed as one line, after that label.
     fn add(&mut self, label: &str, line: &[u8]) -> Result<(), AllocError> {
         let line = String::from_utf8_lossy(self.alloc, line)?;
         for _array in 0..self.depth {

@@ -2,7 +2,7 @@
 //!
 //! The arguments are up to 64 piece sizes in bytes, and before them perhaps `limit=N`: at most N bytes are then ever unread. The status is 0 where a message is accepted and 1 where it is refused; where the program gives up it is 2, with one line on standard error.
 //!
-//! With `frames` before the sizes it reads frames, one after another, and writes a line for each message. The status is then 0 where the messages are all of the input, and 1 where something stands behind them.
+//! With `frames` before the sizes it reads frames, one after another, and writes a line for each message. The status is then 0 where the messages are all of the input, and 1 where something stands after them.
 #![tactic(auto)]
 
 use feedline_core::{Fault, read_args, read_input, run_frames, run_limited};
@@ -44,7 +44,7 @@ fn answer(rt: &HostRuntime) -> Result<bool, Fault> {
     )
 }
 
-/// The arguments behind the program's name; one that isn't UTF-8 is a bad argument.
+/// The arguments after the program's name; one that isn't UTF-8 is a bad argument.
 fn words(rt: &HostRuntime) -> Result<Vec<String>, Fault> {
     let given = env::args(rt).map_err(|error| match error.kind() {
         ErrorKind::OutOfMemory => Fault::Memory,

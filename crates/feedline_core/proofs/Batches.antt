@@ -4,17 +4,17 @@ use Rattle.std.proofs.lemmas.List.{append-nil, drop-map, length-append, length-d
 use Rattle.std.proofs.KnownBytes.{Appends-nil, Appends-trans}
 use Rattle.std.specs.Global.{Vec}
 use Rattle.std.specs.Io.KnownBytes.{Appends}
-use Rattle.combine_base.proofs.Pieces.{concatenated_append, concatenated_more}
+use Rattle.combine_base.proofs.Parsers.Pieces.{concatenated_append, concatenated_more}
 use Rattle.combine_base.specs.Parser.Meaning.{Meaning, IsReading}
 use Rattle.combine_base.specs.Parser.Pieces.{concatenated}
-use Rattle.combine_decode.proofs.Dividing.{ended_longer}
-use Rattle.combine_decode.proofs.Pieces.{SoFar, at_first, behind_within, given, goes_on_at, messages_now}
-use Rattle.combine_decode.specs.Decoders.{Decoding, Stands}
-use Rattle.combine_decode.specs.Messages.{Messages, made}
+use Rattle.combine_decode.proofs.MessageDivision.{ended_longer}
+use Rattle.combine_decode.proofs.DecodedPieces.{DecoderWasFed, decoder_fed_nothing, behind_within, gives_now, decoder_goes_on_at, messages_now}
+use Rattle.combine_decode.specs.Decoders.{Decoding, DecoderGoesOn}
+use Rattle.combine_decode.specs.Messages.{Messages, made_reading}
 use Rattle.combine_decode.specs.declared.decode.BatchEnd.{BatchEnd}
 use Rattle.combine_decode.specs.declared.decode.BatchEnd.TheVariants as ends
-use Rattle.feedline_core.proofs.Writing.{message_lines_append}
-use Rattle.feedline_core.specs.Decoding.{DecodesInput, HasRoom, WritesBatch}
+use Rattle.feedline_core.proofs.WrittenLines.{message_lines_append}
+use Rattle.feedline_core.specs.DecodedLines.{DecodesInput, HasRoom, WritesBatch}
 use Rattle.feedline_core.specs.Lines.{end_line, message_lines}
 use Rattle.feedline_core.specs.declared.fault.Fault.{Fault}
 use Rattle.feedline_core.specs.declared.fault.Fault.TheVariants as faults
@@ -65,16 +65,16 @@ module _ (pieces : List (List ℕ)) (n : ℕ) (so_far : length (concatenated pie
 module _ {F P R E S : Type 0} (makes : F → P → Type 0) (meaning : P → Meaning ℕ ℕ R E (Vec ℕ) S) where
   module _ (from : F) where
     -- a decoder that was fed these bytes, of whose messages the lines were written
-    pub record Written (old now : Option (List ℕ)) (fed : List ℕ) (d : Decoding F P ℕ S) : Type 0 where
+    pub record WrittenMessages (old now : Option (List ℕ)) (fed : List ℕ) (d : Decoding F P ℕ S) : Type 0 where
       pub messages : List (Vec ℕ)
-      pub far : SoFar makes meaning from fed messages d
+      pub far : DecoderWasFed makes meaning from fed messages d
       pub lines : Appends old now (message_lines messages)
 
-    pub none_written : (old : Option (List ℕ)) (d : Decoding F P ℕ S) → d.maker ≡ from → Stands makes meaning [] d → Written old old [] d
-    none_written old d e s = record { messages = []; far = at_first makes meaning from d e s; lines = Appends-nil old }
+    pub no_message_written : (old : Option (List ℕ)) (d : Decoding F P ℕ S) → d.maker ≡ from → DecoderGoesOn makes meaning [] d → WrittenMessages old old [] d
+    no_message_written old d e s = record { messages = []; far = decoder_fed_nothing makes meaning from d e s; lines = Appends-nil old }
 
     -- in a loop over the pieces, of which the first n were fed
-    module _ (law : IsReading (made meaning (makes from))) (pieces : List (List ℕ)) (n : ℕ) (old now : Option (List ℕ)) (d : Decoding F P ℕ S) (w : Written old now (concatenated (take n pieces)) d) where
+    module _ (law : IsReading (made_reading meaning (makes from))) (pieces : List (List ℕ)) (n : ℕ) (old now : Option (List ℕ)) (d : Decoding F P ℕ S) (w : WrittenMessages old now (concatenated (take n pieces)) d) where
       abbrev fed : List ℕ
       fed = concatenated (take n pieces)
 
@@ -86,7 +86,7 @@ module _ {F P R E S : Type 0} (makes : F → P → Type 0) (meaning : P → Mean
       room piece k fits = record {
         behind = w.far.behind;
         stands = w.far.stands;
-        fits = (let b = behind_within (made meaning (makes from)) fed w.messages w.far.behind w.far.divided in omega arith);
+        fits = (let b = behind_within (made_reading meaning (makes from)) fed w.messages w.far.behind w.far.divided in omega arith);
       }
 
       module _ (piece : List ℕ) (within : n < length pieces) (at : get_or pieces n piece ≡ piece) where
@@ -108,19 +108,19 @@ module _ {F P R E S : Type 0} (makes : F → P → Type 0) (meaning : P → Mean
           lines : Appends old after (message_lines messages)
           lines = subst (Appends old after) (sym (message_lines_append w.messages h.batch.messages.items)) (Appends-trans old now after (message_lines w.messages) (message_lines h.batch.messages.items) w.lines h.lines)
 
-          pub goes_on : e ≡ ends.More → Written old after (concatenated (take (n + 1) pieces)) new
-          goes_on i = record {
+          pub lines_go_on : e ≡ ends.More → WrittenMessages old after (concatenated (take (n + 1) pieces)) new
+          lines_go_on i = record {
             messages = messages;
-            far = goes_on_at makes meaning from law pieces n w.messages d w.far new messages piece within at (record { is = (h.batch, h.decodes, h.is_end ∙ i, refl) });
+            far = decoder_goes_on_at makes meaning from law pieces n w.messages d w.far new messages piece within at (record { is = (h.batch, h.decodes, h.is_end ∙ i, refl) });
             lines = lines;
           }
 
           -- no further piece is fed, and the last line is written
-          pub ends_at : e ≢ ends.More → (last : Option (List ℕ)) (result : Result Bool Fault) → LastLine new.at_boundary rest after last result → DecodesInput (made meaning (makes from)) (concatenated pieces) old last result
-          ends_at i last (Err why) line = record { is = inr line }
-          ends_at i last (Ok complete) line =
-              let message = made meaning (makes from) in
-              let g = given makes meaning from fed w.messages d w.far piece new h.batch h.decodes in
+          pub lines_end_at : e ≢ ends.More → (last : Option (List ℕ)) (result : Result Bool Fault) → LastLine new.at_boundary rest after last result → DecodesInput (made_reading meaning (makes from)) (concatenated pieces) old last result
+          lines_end_at i last (Err why) line = record { is = inr line }
+          lines_end_at i last (Ok complete) line =
+              let message = made_reading meaning (makes from) in
+              let g = gives_now makes meaning from fed w.messages d w.far piece new h.batch h.decodes in
               let m : Messages message (fed ++ piece) messages e (length g.behind) = messages_now makes meaning from fed w.messages d w.far piece new h.batch h.decodes law e messages h.is_end refl in
               let k : Messages message (concatenated pieces) messages e (length (m.behind ++ rest)) = subst (λ l. Messages message l messages e (length (m.behind ++ rest))) all_fed (ended_longer message law (fed ++ piece) rest messages e (length g.behind) i m) in
               let boundary : (new.at_boundary ≡ true) ↔ (length m.behind ≡ 0) = subst (λ n. (new.at_boundary ≡ true) ↔ (n ≡ 0)) m.number g.boundary in
@@ -140,11 +140,11 @@ module _ {F P R E S : Type 0} (makes : F → P → Type 0) (meaning : P → Mean
         pub room_behind : length (concatenated pieces) < 2 ^ 64 → HasRoom makes meaning d []
         room_behind fits = let e = ap length fed_all in room [] (omega arith) fits
 
-        pub ends_behind : (new : Decoding F P ℕ S) (after : Option (List ℕ)) (e : BatchEnd) → WritesBatch makes meaning d new [] now after e → (last : Option (List ℕ)) (result : Result Bool Fault) → LastLine new.at_boundary [] after last result → DecodesInput (made meaning (makes from)) (concatenated pieces) old last result
-        ends_behind new after e h last (Err why) line = record { is = inr line }
-        ends_behind new after e h last (Ok complete) line =
-            let message = made meaning (makes from) in
-            let g = given makes meaning from fed w.messages d w.far [] new h.batch h.decodes in
+        pub lines_end_after : (new : Decoding F P ℕ S) (after : Option (List ℕ)) (e : BatchEnd) → WritesBatch makes meaning d new [] now after e → (last : Option (List ℕ)) (result : Result Bool Fault) → LastLine new.at_boundary [] after last result → DecodesInput (made_reading meaning (makes from)) (concatenated pieces) old last result
+        lines_end_after new after e h last (Err why) line = record { is = inr line }
+        lines_end_after new after e h last (Ok complete) line =
+            let message = made_reading meaning (makes from) in
+            let g = gives_now makes meaning from fed w.messages d w.far [] new h.batch h.decodes in
             let messages : List (Vec ℕ) = w.messages ++ h.batch.messages.items in
             let m : Messages message (fed ++ []) messages e (length g.behind) = messages_now makes meaning from fed w.messages d w.far [] new h.batch h.decodes law e messages h.is_end refl in
             let k : Messages message (concatenated pieces) messages e (length g.behind) = subst (λ l. Messages message l messages e (length g.behind)) (append-nil fed ∙ fed_all) m in

@@ -7,27 +7,28 @@ use Rattle.combine_base.specs.Stream.View.{View, advanced}
 use Rattle.combine_base.specs.Parser.Outcome.{Outcome, Accepted, Refused, Undecided}
 use Rattle.combine_base.specs.Parser.Meaning.{Reading}
 use Rattle.combine_base.specs.Sequence.Readings.{continues, sequel}
-use Rattle.combine_decode.specs.Messages.{Divides, Messages, on_open, stops}
+use Rattle.combine_decode.specs.Messages.{DividesMessages, Messages, on_open, ends_messages}
 use Rattle.combine_decode.specs.declared.decode.BatchEnd.{BatchEnd}
 use Rattle.combine_decode.specs.declared.decode.BatchEnd.TheVariants as ends
-use Rattle.combine_token.specs.TokenParsers.{any_parser}
+use Rattle.combine_token.specs.Token.TokenParsers.{any_parser}
 use Rattle.combine_token.specs.declared.token.types.Any.{Any}
-use Rattle.combine_repeat_turns.specs.RepeatParsers.{count_min_max_of, least_of, most_of}
-use Rattle.combine_repeat_turns.specs.Counts.{appended, count_min_max}
+use Rattle.combine_repeat_turns.specs.Repeat.RepeatParsers.{count_min_max_of, repeat_min, repeat_max}
+use Rattle.combine_repeat_turns.specs.Repeat.Repeated.{appended}
+use Rattle.combine_repeat_turns.specs.Repeat.Counts.{count_min_max}
 use Rattle.combine_repeat_turns.specs.declared.each.Each.{Each}
 use Rattle.combine_repeat_turns.specs.declared.repeat.types.Repeat.{Repeat}
-use Rattle.combine_repeat_turns.specs.declared.turns.limits.Between.{Between}
-use Rattle.feedline_core.specs.Decoding.{DecodesInput, PrintsMessages}
+use Rattle.combine_repeat_turns.specs.declared.turns.turn_bounds.MinToMax.{MinToMax}
+use Rattle.feedline_core.specs.DecodedLines.{DecodesInput, PrintsMessages}
 use Rattle.feedline_core.specs.Frames.{bytes, frame, length_before}
 use Rattle.feedline_core.specs.Messages.{byte_where, step}
 use Rattle.feedline_core.specs.declared.fault.Fault.{Fault}
 
 module _ {T V : Type 0} (r q : Reading ℕ T V) (has : (v : View ℕ T) (o : Outcome V) → r v o → q v o) where
-  divides_as : (l : List T) (vs : List V) (behind : List T) → Divides r l vs behind → Divides q l vs behind
+  divides_as : (l : List T) (vs : List V) (behind : List T) → DividesMessages r l vs behind → DividesMessages q l vs behind
   divides_as l [] behind d = d
   divides_as l (v ∷ vs) behind d = (d.0, d.1, d.2, has (record { position = 0; unread = l; is_open = true }) (Accepted v d.0 d.1) d.3, divides_as (drop d.0 l) vs behind d.4)
 
-  stops_as : (l : List T) (e : BatchEnd) → stops (on_open r l) e → stops (on_open q l) e
+  stops_as : (l : List T) (e : BatchEnd) → ends_messages (on_open r l) e → ends_messages (on_open q l) e
   stops_as l ends.More s = has (record { position = 0; unread = l; is_open = true }) Undecided s
   stops_as l (ends.Refused k) s = has (record { position = 0; unread = l; is_open = true }) (Refused k) s
   stops_as l ends.EmptyMessage s = (s.0, s.1, has (record { position = 0; unread = l; is_open = true }) (Accepted s.0 0 s.1) s.2)
@@ -53,10 +54,10 @@ decodes_as r q has input old new (Err why) h = record { is = h.is }
 -- as many bytes as the length says, by the parser that is answered for it
 module _ (Input : Type 0) (alloc : Global) where
   abbrev answered : ℕ → Reading ℕ ℕ (Vec ℕ)
-  answered n v o = (p : Repeat (Each (Vec ℕ)) (Any Input) Between) × (p ≡ count_min_max_of alloc n n any_parser) × (count_min_max step no_items (appended (λ v. v.items) [] (λ bs b. bs ++ b ∷ []) ⊥) (least_of p) (most_of p) (byte_where (λ b. true))).whole v o
+  answered n v o = (p : Repeat (Each (Vec ℕ)) (Any Input) MinToMax) × (p ≡ count_min_max_of alloc n n any_parser) × (count_min_max step no_items (appended (λ v. v.items) [] (λ bs b. bs ++ b ∷ []) ⊥) (repeat_min p) (repeat_max p) (byte_where (λ b. true))).whole v o
 
   answers_bytes : (n : ℕ) (v : View ℕ ℕ) (o : Outcome (Vec ℕ)) → answered n v o → bytes n v o
-  answers_bytes n v o w = subst (λ p. (count_min_max step no_items (appended (λ v. v.items) [] (λ bs b. bs ++ b ∷ []) ⊥) (least_of p) (most_of p) (byte_where (λ b. true))).whole v o) w.1 w.2
+  answers_bytes n v o w = subst (λ p. (count_min_max step no_items (appended (λ v. v.items) [] (λ bs b. bs ++ b ∷ []) ⊥) (repeat_min p) (repeat_max p) (byte_where (λ b. true))).whole v o) w.1 w.2
 
   then_bytes : (v : View ℕ ℕ) (p : Outcome ℕ) (o : Outcome (Vec ℕ)) → continues step (λ n message. message) answered v p o → continues step (λ n message. message) bytes v p o
   then_bytes v (Accepted n k c) o u = (u.0, answers_bytes n (advanced step k v) u.0 u.1, u.2)

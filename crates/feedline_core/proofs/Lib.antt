@@ -1,9 +1,9 @@
 pub mod Arguments
 pub mod OnInput
 pub mod Single
-pub mod Sizing
-pub mod Running
-pub mod Sessions
-pub mod Writing
+pub mod Sizes
+pub mod RunLines
+pub mod SessionRoom
+pub mod WrittenLines
 pub mod Frames
 pub mod Batches

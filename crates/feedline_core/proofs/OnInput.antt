@@ -6,10 +6,10 @@ use Rattle.combine_base.specs.Parser.Outcome.{Undecided}
 use Rattle.combine_base.specs.Parser.Meaning.{Reading, IsSingle}
 use Rattle.combine_base.specs.Parser.Pieces.{concatenated, on}
 use Rattle.feedline_core.specs.Cut.{pieces_of}
-use Rattle.feedline_core.specs.Runs.{Prints, Runs}
-use Rattle.feedline_core.specs.OnInput.{PrintsOn, RunsOn}
+use Rattle.feedline_core.specs.Runs.{Prints, RunsPieces}
+use Rattle.feedline_core.specs.OnInput.{PrintsOn, RunsOnInput}
 use Rattle.feedline_core.specs.declared.message.Message.{Message}
-use Rattle.feedline_core.proofs.Running.{never_over}
+use Rattle.feedline_core.proofs.RunLines.{never_over}
 use Rattle.feedline_core.specs.declared.fault.Fault.{Fault}
 use Rattle.feedline_core.specs.declared.fault.Fault.TheVariants as faults
 
@@ -93,12 +93,12 @@ module _ {S : Type 0} (r : Reading ℕ ℕ Message) (kept : S → Reading ℕ �
     }
 
   -- the lines of the pieces are lines of the input
-  pub runs_on : (old new : Option (List ℕ)) (result : Result Bool Fault) → Runs r kept limit pieces old new result → RunsOn r kept limit sizes input old new result
-  runs_on old new (Ok accepted) h = record { is = (h.is.0, prints_on h.is.0 accepted h.is.1, h.is.2) }
-  runs_on old new (Err why) h = record { is = h.is }
+  pub runs_on_input : (old new : Option (List ℕ)) (result : Result Bool Fault) → RunsPieces r kept limit pieces old new result → RunsOnInput r kept limit sizes input old new result
+  runs_on_input old new (Ok accepted) h = record { is = (h.is.0, prints_on h.is.0 accepted h.is.1, h.is.2) }
+  runs_on_input old new (Err why) h = record { is = h.is }
 
 -- without a limit no piece is too long
-pub runs_unlimited : {S : Type 0} (r : Reading ℕ ℕ Message) (kept : S → Reading ℕ ℕ Message) (sizes input : List ℕ) (old new : Option (List ℕ)) (result : Result Bool Fault) → RunsOn r kept None sizes input old new result → MatchResult result (λ accepted. Unit {0}) (λ why. why ≢ faults.TooLong)
+pub runs_unlimited : {S : Type 0} (r : Reading ℕ ℕ Message) (kept : S → Reading ℕ ℕ Message) (sizes input : List ℕ) (old new : Option (List ℕ)) (result : Result Bool Fault) → RunsOnInput r kept None sizes input old new result → MatchResult result (λ accepted. Unit {0}) (λ why. why ≢ faults.TooLong)
 runs_unlimited r kept sizes input old new (Ok accepted) h = tt
 runs_unlimited r kept sizes input old new (Err why) h =
     λ e. ⊎_elim

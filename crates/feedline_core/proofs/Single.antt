@@ -2,32 +2,31 @@
 use Rattle.std.proofs.Common.{ℕ, ◌≡◌, Bool, None, [], ◌∷◌, ◌++◌, nat_eq}
 use Rattle.std.specs.Global.{Vec}
 use Rattle.combine_base.specs.Parser.Meaning.{Meaning, IsSingle, MeansOne}
-use Rattle.combine_base.specs.Parser.Mapped.{mapped_means_one}
-use Rattle.combine_base.specs.Error.Errors.{Nothing, Only}
+use Rattle.combine_base.specs.Parser.ValueMap.{mapped_means_one}
+use Rattle.combine_base.specs.Error.Errors.{AddsNothing, Only}
 use Rattle.combine_base.specs.Error.Items.{Expected, OfToken}
 use Rattle.combine_base.specs.Error.NoItems.{no_items}
 use Rattle.combine_base.specs.Sequence.Places.{valid_in, valid_1, place_2, place_3, place_4}
 use Rattle.combine_base.specs.Sequence.Tuples.{push_1, push_2, push_3, tuple_3, tuple_4, tuple_1_means_one, followed_means_one}
-use Rattle.combine_token.specs.Choice.{Either, refused, refused_is_single, either_is_single}
-use Rattle.combine_token.specs.OneToken.{of_function, of_function_is_predicate, satisfied, satisfied_is_test, takes_one_means_one}
+use Rattle.combine_token.specs.Choice.Choices.{OrElse, refused, refused_is_single, either_is_single}
+use Rattle.combine_token.specs.Token.OneToken.{of_function, of_function_is_predicate, satisfied, satisfied_is_test, takes_one_means_one}
 use Rattle.combine_combinator.specs.Attempt.{attempted_means_one}
-use Rattle.combine_repeat_turns.specs.Counts.{appended}
-use Rattle.combine_repeat_turns.specs.CountLaws.{repeated_means_one}
-use Rattle.combine_repeat_turns.specs.declared.turns.Bounds.TheVariants.{Joined}
+use Rattle.combine_repeat_turns.specs.Repeat.Repeated.{appended, repeated_means_one}
+use Rattle.combine_repeat_turns.specs.declared.turns.Bounds.TheVariants.{OwnFirst}
 use Rattle.combine_repeat_turns.specs.declared.turns.TurnsState.{TurnsState}
 use Rattle.combine_base.specs.declared.error.UnexpectedParse.{UnexpectedParse}
-use Rattle.feedline_core.specs.Messages.{step, byte, byte_where, bytes_where, delete, set, message}
+use Rattle.feedline_core.specs.Messages.{step, byte_meaning, byte_where, bytes_where, delete, set, message}
 use Rattle.feedline_core.specs.declared.message.Message.TheVariants.{Set, Delete}
 
 -- every state
 abbrev all : {S : Type 0} → S → Type 0
 all s = Unit {0}
 
-byte_one : (b : ℕ) → MeansOne {State = Unit {0}} all (byte b)
+byte_one : (b : ℕ) → MeansOne {State = Unit {0}} all (byte_meaning b)
 byte_one b = takes_one_means_one no_items (satisfied (of_function (λ t. nat_eq t b))) (Unit {0}) (Only (Expected (OfToken b))) all (satisfied_is_test (of_function (λ t. nat_eq t b)) (of_function_is_predicate (λ t. nat_eq t b)))
 
 bytes_one : (f : ℕ → Bool) → MeansOne {State = TurnsState (Vec ℕ) (Unit {0})} all (bytes_where f)
-bytes_one f = repeated_means_one step no_items (Joined 1 None) (appended (λ v. v.items) [] (λ bs b. bs ++ b ∷ []) ⊥) all (byte_where f) (takes_one_means_one no_items (satisfied (of_function f)) (Unit {0}) Nothing all (satisfied_is_test (of_function f) (of_function_is_predicate f)))
+bytes_one f = repeated_means_one step no_items (OwnFirst 1 None) (appended (λ v. v.items) [] (λ bs b. bs ++ b ∷ []) ⊥) all (byte_where f) (takes_one_means_one no_items (satisfied (of_function f)) (Unit {0}) AddsNothing all (satisfied_is_test (of_function f) (of_function_is_predicate f)))
 
 -- tuples whose parts have one outcome
 module _ {A B C U V W : Type 0} {f : U → Type 0} {g : V → Type 0} {h : W → Type 0} {m : Meaning ℕ ℕ (Unit {0}) UnexpectedParse A U} {n : Meaning ℕ ℕ (Unit {0}) UnexpectedParse B V} {p : Meaning ℕ ℕ (Unit {0}) UnexpectedParse C W} (one : MeansOne f m) (two : MeansOne g n) (three : MeansOne h p) where
@@ -44,4 +43,4 @@ set_is_single : IsSingle set.whole
 set_is_single = (mapped_means_one _ _ (λ parts m. m ≡ Set parts.0 parts.2) (four_one (bytes_one _) (byte_one _) (bytes_one _) (byte_one _))).whole
 
 pub message_is_single : IsSingle message.whole
-message_is_single = either_is_single delete.whole (Either set.whole refused) delete_is_single (either_is_single set.whole refused set_is_single refused_is_single)
+message_is_single = either_is_single delete.whole (OrElse set.whole refused) delete_is_single (either_is_single set.whole refused set_is_single refused_is_single)

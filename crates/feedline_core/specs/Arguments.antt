@@ -1,7 +1,7 @@
 -- what the words of a command line say: that the input is frames, or a limit, if the first of them says one of these, and piece sizes
 use Rattle.std.specs.Prelude.{ℕ, List, [], ◌∷◌, Bool, true, false, nat_eq, if◌then◌else◌, Option, Some, None, codes}
 use Rattle.std.specs.Str.{bytes_eq}
-use Rattle.feedline_core.specs.Sizes.{size_of, sizes_of}
+use Rattle.feedline_core.specs.Sizes.{size_of_word, sizes_of}
 
 -- what follows these bytes, where a word begins with them
 abbrev pub without_prefix : List ℕ → List ℕ → Option (List ℕ)
@@ -25,7 +25,7 @@ limited (Some most) (Some sizes) = Some (false, Some most, sizes)
 
 abbrev pub args_from : Option (List ℕ) → List (List ℕ) → List (List ℕ) → Option (Bool × Option ℕ × List ℕ)
 args_from None words others = unlimited false (sizes_of words)
-args_from (Some digits) words others = limited (size_of digits) (sizes_of others)
+args_from (Some digits) words others = limited (size_of_word digits) (sizes_of others)
 
 -- `frames` or a limit before the sizes, or neither
 abbrev pub args_of : List (List ℕ) → Option (Bool × Option ℕ × List ℕ)

@@ -6,5 +6,5 @@ pub mod Runs
 pub mod OnInput
 pub mod Messages
 pub mod Frames
-pub mod Decoding
+pub mod DecodedLines
 pub mod Faults

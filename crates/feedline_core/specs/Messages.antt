@@ -3,14 +3,14 @@ use Rattle.std.specs.Prelude.{ℕ, ◌≡◌, ◌+◌, nat_eq, [], ◌∷◌, �
 use Rattle.std.specs.Char.{is_ascii_digit, is_ascii_lowercase}
 use Rattle.std.specs.Global.{Vec}
 use Rattle.combine_base.specs.Parser.Meaning.{Meaning}
-use Rattle.combine_base.specs.Parser.Mapped.{mapped}
+use Rattle.combine_base.specs.Parser.ValueMap.{mapped}
 use Rattle.std.specs.Ordering.{nat_cmp}
-use Rattle.combine_base.specs.Error.Errors.{Nothing, Only}
+use Rattle.combine_base.specs.Error.Errors.{AddsNothing, Only}
 use Rattle.combine_base.specs.Error.Items.{Expected, OfToken}
 use Rattle.combine_base.specs.Error.NoItems.{no_items}
 use Rattle.combine_base.specs.Sequence.Tuples.{tuple_3, tuple_4}
-use Rattle.combine_token.specs.Or.{either_of}
-use Rattle.combine_token.specs.OneToken.{of_function, satisfied, takes_one}
+use Rattle.combine_token.specs.Choice.Or.{either_of}
+use Rattle.combine_token.specs.Token.OneToken.{of_function, satisfied, takes_one}
 use Rattle.combine_base.specs.declared.error.UnexpectedParse.{UnexpectedParse}
 use Rattle.combine_base.specs.declared.sequence.SequenceState.{SequenceState}
 use Rattle.combine_base.specs.declared.sequence.PartialState3.{PartialState3}
@@ -19,7 +19,7 @@ use Rattle.combine_token.specs.declared.choice.OrState.{OrState}
 use Rattle.combine_combinator.specs.Attempt.{attempted}
 use Rattle.combine_combinator.specs.declared.combinator.TryState.{TryState}
 use Rattle.combine_repeat.specs.Repetition.{many1}
-use Rattle.combine_repeat_turns.specs.Counts.{appended}
+use Rattle.combine_repeat_turns.specs.Repeat.Repeated.{appended}
 use Rattle.combine_repeat_turns.specs.declared.turns.TurnsState.{TurnsState}
 use Rattle.feedline_core.specs.declared.message.Message.{Message}
 use Rattle.feedline_core.specs.declared.message.Message.TheVariants.{Set, Delete}
@@ -30,11 +30,11 @@ step p b = p + 1
 
 -- one byte of which this holds
 abbrev pub byte_where : (ℕ → Bool) → Meaning ℕ ℕ (Unit {0}) UnexpectedParse ℕ (Unit {0})
-byte_where f = takes_one no_items (satisfied (of_function f)) (Unit {0}) Nothing
+byte_where f = takes_one no_items (satisfied (of_function f)) (Unit {0}) AddsNothing
 
 -- this byte, which is said to be expected
-abbrev pub byte : ℕ → Meaning ℕ ℕ (Unit {0}) UnexpectedParse ℕ (Unit {0})
-byte b = takes_one no_items (satisfied (of_function (λ t. nat_eq t b))) (Unit {0}) (Only (Expected (OfToken b)))
+abbrev pub byte_meaning : ℕ → Meaning ℕ ℕ (Unit {0}) UnexpectedParse ℕ (Unit {0})
+byte_meaning b = takes_one no_items (satisfied (of_function (λ t. nat_eq t b))) (Unit {0}) (Only (Expected (OfToken b)))
 
 -- one or more such bytes, collected
 abbrev pub bytes_where : (ℕ → Bool) → Meaning ℕ ℕ (Unit {0}) UnexpectedParse (Vec ℕ) (TurnsState (Vec ℕ) (Unit {0}))
@@ -48,7 +48,7 @@ digits = bytes_where is_ascii_digit
 
 -- these bytes, all or none of which are taken
 abbrev pub all_four : ℕ → ℕ → ℕ → ℕ → Meaning ℕ ℕ (Unit {0}) UnexpectedParse (ℕ × ℕ × ℕ × ℕ) (TryState (PartialState4 (SequenceState (Unit {0}) (Unit {0})) (SequenceState (record { 0 : ℕ }) (Unit {0})) (SequenceState (ℕ × ℕ) (Unit {0})) (SequenceState (ℕ × ℕ × ℕ) (Unit {0}))))
-all_four a b c d = attempted step (tuple_4 step no_items (byte a) (byte b) (byte c) (byte d))
+all_four a b c d = attempted step (tuple_4 step no_items (byte_meaning a) (byte_meaning b) (byte_meaning c) (byte_meaning d))
 
 -- the bytes of `del `, so
 abbrev pub del : Meaning ℕ ℕ (Unit {0}) UnexpectedParse (ℕ × ℕ × ℕ × ℕ) (TryState (PartialState4 (SequenceState (Unit {0}) (Unit {0})) (SequenceState (record { 0 : ℕ }) (Unit {0})) (SequenceState (ℕ × ℕ) (Unit {0})) (SequenceState (ℕ × ℕ × ℕ) (Unit {0}))))
@@ -63,7 +63,7 @@ SetState = PartialState4 (SequenceState (Unit {0}) (TurnsState (Vec ℕ) (Unit {
 
 -- what is read before a word that is deleted, that word, and `;`
 abbrev pub delete_after : {S : Type 0} → Meaning ℕ ℕ (Unit {0}) UnexpectedParse (ℕ × ℕ × ℕ × ℕ) S → Meaning ℕ ℕ (Unit {0}) UnexpectedParse Message (DeleteState S)
-delete_after before = mapped (tuple_3 step no_items before word (byte 59)) (λ parts m. m ≡ Delete parts.1)
+delete_after before = mapped (tuple_3 step no_items before word (byte_meaning 59)) (λ parts m. m ≡ Delete parts.1)
 
 -- `del WORD;`
 abbrev pub delete : Meaning ℕ ℕ (Unit {0}) UnexpectedParse Message (DeleteState (TryState (PartialState4 (SequenceState (Unit {0}) (Unit {0})) (SequenceState (record { 0 : ℕ }) (Unit {0})) (SequenceState (ℕ × ℕ) (Unit {0})) (SequenceState (ℕ × ℕ × ℕ) (Unit {0})))))
@@ -71,7 +71,7 @@ delete = delete_after del
 
 -- `WORD=DIGITS;`
 abbrev pub set : Meaning ℕ ℕ (Unit {0}) UnexpectedParse Message SetState
-set = mapped (tuple_4 step no_items word (byte 61) digits (byte 59)) (λ parts m. m ≡ Set parts.0 parts.2)
+set = mapped (tuple_4 step no_items word (byte_meaning 61) digits (byte_meaning 59)) (λ parts m. m ≡ Set parts.0 parts.2)
 
 -- the first of these and `set` that isn't refused peeked
 abbrev pub or_set : {S : Type 0} → Meaning ℕ ℕ (Unit {0}) UnexpectedParse Message S → Meaning ℕ ℕ (Unit {0}) UnexpectedParse Message (OrState S SetState)

@@ -28,5 +28,5 @@ module _ {S : Type 0} (r : Reading ℕ ℕ Message) (kept : S → Reading ℕ �
   ran_on old new (Err why) = (why ≡ faults.Memory) ⊎ (why ≡ faults.Write) ⊎ ((why ≡ faults.TooLong) × (text : List ℕ) × StopsShort r kept limit (pieces_of sizes input) text × Appends old new text)
 
   -- those lines are written, or memory or the writer failed, or a piece was too long
-  pub record RunsOn (old new : Option (List ℕ)) (result : Result Bool Fault) : Type 0 where
+  pub record RunsOnInput (old new : Option (List ℕ)) (result : Result Bool Fault) : Type 0 where
     pub is : ran_on old new result

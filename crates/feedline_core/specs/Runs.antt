@@ -3,7 +3,7 @@ use Rattle.std.specs.Prelude.{ℕ, ◌≡◌, ◌+◌, ◌<◌, ◌≤◌, ◌�
 use Rattle.std.specs.Io.KnownBytes.{Appends}
 use Rattle.combine_base.specs.Parser.Outcome.{Outcome, Accepted, Refused, Undecided, after}
 use Rattle.combine_base.specs.Parser.Meaning.{Reading}
-use Rattle.combine_base.specs.Parser.Pieces.{concatenated, on, Decides, Asked, undecided_at}
+use Rattle.combine_base.specs.Parser.Pieces.{concatenated, on, Decides, AsksAfterFirst, undecided_at}
 use Rattle.combine_base.specs.Parser.Sessions.{admits}
 use Rattle.combine_base.specs.declared.parser.answer.Answer.{Answer}
 use Rattle.combine_base.specs.declared.parser.answer.Answer.TheVariants as answers
@@ -46,23 +46,23 @@ IsWantOfMemory errors.Failed = ⊥
 
 module _ {S : Type 0} (r : Reading ℕ ℕ Message) (kept : S → Reading ℕ ℕ Message) where
   -- Of these bytes so many are unread, and the others taken: there is a state from which what is left means, on the unread bytes and whatever follows, what the whole does on all.
-  pub record Leaves (fed : List ℕ) (unread : ℕ) : Type 0 where
+  pub record LeavesBytes (fed : List ℕ) (unread : ℕ) : Type 0 where
     pub state : S
     pub taken : ℕ
     pub split : taken + unread ≡ length fed
     pub means : (x : List ℕ) (is_open : Bool) (o : Outcome Message) → kept state (record { position = taken; unread = drop taken fed ++ x; is_open = is_open }) o → on r (fed ++ x) is_open (after taken false o)
 
   -- How many bytes are unread after each of the first pieces, behind those that were fed before, of which so many were unread: no more than these and the piece.
-  abbrev pub leaves : List ℕ → ℕ → List (List ℕ) → List ℕ → Type 0
-  leaves fed before pieces [] = Unit {0}
-  leaves fed before [] (u ∷ us) = ⊥
-  leaves fed before (p ∷ ps) (u ∷ us) = (u ≤ before + length p) × Leaves (fed ++ p) u × leaves (fed ++ p) u ps us
+  abbrev pub leaves_bytes : List ℕ → ℕ → List (List ℕ) → List ℕ → Type 0
+  leaves_bytes fed before pieces [] = Unit {0}
+  leaves_bytes fed before [] (u ∷ us) = ⊥
+  leaves_bytes fed before (p ∷ ps) (u ∷ us) = (u ≤ before + length p) × LeavesBytes (fed ++ p) u × leaves_bytes (fed ++ p) u ps us
 
 -- Each piece that is fed fits, with the bytes that are unread before it: those that ask for more and leave so many unread, and the next one, if there is one.
-abbrev pub all_fit : Option ℕ → ℕ → List (List ℕ) → List ℕ → Type 0
-all_fit limit before [] us = Unit {0}
-all_fit limit before (p ∷ ps) [] = admits limit (before + length p) ≡ true
-all_fit limit before (p ∷ ps) (u ∷ us) = (admits limit (before + length p) ≡ true) × all_fit limit u ps us
+abbrev pub pieces_fit : Option ℕ → ℕ → List (List ℕ) → List ℕ → Type 0
+pieces_fit limit before [] us = Unit {0}
+pieces_fit limit before (p ∷ ps) [] = admits limit (before + length p) ≡ true
+pieces_fit limit before (p ∷ ps) (u ∷ us) = (admits limit (before + length p) ≡ true) × pieces_fit limit u ps us
 
 -- those that ask for more do, and the next one doesn't
 abbrev pub next_is_over : Option ℕ → ℕ → List (List ℕ) → List ℕ → Type 0
@@ -76,9 +76,9 @@ module _ {S : Type 0} (r : Reading ℕ ℕ Message) (kept : S → Reading ℕ �
     pub outcome : Outcome Message
     pub decides : Decides r (concatenated pieces) outcome
     pub unread : List ℕ
-    pub asked : Asked r pieces (length unread)
-    pub leaves : leaves r kept [] 0 pieces unread
-    pub fit : all_fit limit 0 pieces unread
+    pub asked : AsksAfterFirst r pieces (length unread)
+    pub leaves : leaves_bytes r kept [] 0 pieces unread
+    pub fit : pieces_fit limit 0 pieces unread
     pub lines : text ≡ more_lines unread ++ decision_line outcome
     pub accepts : accepted ≡ is_accepted outcome
 
@@ -86,14 +86,14 @@ module _ {S : Type 0} (r : Reading ℕ ℕ Message) (kept : S → Reading ℕ �
   pub record StopsShort (text : List ℕ) : Type 0 where
     pub unread : List ℕ
     pub asked : (i : ℕ) → i < length unread → undecided_at r pieces i
-    pub leaves : leaves r kept [] 0 pieces unread
+    pub leaves : leaves_bytes r kept [] 0 pieces unread
     pub over : next_is_over limit 0 pieces unread
     pub lines : text ≡ more_lines unread
 
-  abbrev pub ran : Option (List ℕ) → Option (List ℕ) → Result Bool Fault → Type 0
-  ran old new (Ok accepted) = (text : List ℕ) × Prints text accepted × Appends old new text
-  ran old new (Err why) = (why ≡ faults.Memory) ⊎ (why ≡ faults.Write) ⊎ ((why ≡ faults.TooLong) × (text : List ℕ) × StopsShort text × Appends old new text)
+  abbrev pub runs_pieces : Option (List ℕ) → Option (List ℕ) → Result Bool Fault → Type 0
+  runs_pieces old new (Ok accepted) = (text : List ℕ) × Prints text accepted × Appends old new text
+  runs_pieces old new (Err why) = (why ≡ faults.Memory) ⊎ (why ≡ faults.Write) ⊎ ((why ≡ faults.TooLong) × (text : List ℕ) × StopsShort text × Appends old new text)
 
   -- those lines are written, or memory or the writer failed, or a piece was too long
-  pub record Runs (old new : Option (List ℕ)) (result : Result Bool Fault) : Type 0 where
-    pub is : ran old new result
+  pub record RunsPieces (old new : Option (List ℕ)) (result : Result Bool Fault) : Type 0 where
+    pub is : runs_pieces old new result

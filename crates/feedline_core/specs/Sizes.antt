@@ -16,8 +16,8 @@ abbrev pub is_short : List ℕ → Bool
 is_short bs = nat_le 1 (length bs) && nat_le (length bs) 7
 
 -- a word of one to seven decimal digits, of at most 1,000,000
-abbrev pub size_of : List ℕ → Option ℕ
-size_of bs = if is_short bs && all_digits bs && nat_le (number_from 0 bs) 1000000 then Some (number_from 0 bs) else None
+abbrev pub size_of_word : List ℕ → Option ℕ
+size_of_word bs = if is_short bs && all_digits bs && nat_le (number_from 0 bs) 1000000 then Some (number_from 0 bs) else None
 
 abbrev pub with_size : Option ℕ → Option (List ℕ) → Option (List ℕ)
 with_size None rest = None
@@ -26,7 +26,7 @@ with_size (Some n) (Some ns) = Some (n ∷ ns)
 
 abbrev pub each_size : List (List ℕ) → Option (List ℕ)
 each_size [] = Some []
-each_size (w ∷ ws) = with_size (size_of w) (each_size ws)
+each_size (w ∷ ws) = with_size (size_of_word w) (each_size ws)
 
 -- up to 64 such words
 abbrev pub sizes_of : List (List ℕ) → Option (List ℕ)

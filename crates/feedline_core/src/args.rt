@@ -1,7 +1,7 @@
 //! The arguments: `frames` or a limit, if one of these is given, and piece sizes.
 ghost use Rattle.std.specs.Prelude.{◌≡◌, ◌⊎◌, MatchOption, MatchResult, None, Some, map};
 ghost use Rattle.feedline_core.specs.Arguments.{args_of, limit_digits, limited, unlimited};
-ghost use Rattle.feedline_core.specs.Sizes.{size_of, sizes_of};
+ghost use Rattle.feedline_core.specs.Sizes.{size_of_word, sizes_of};
 
 use crate::fault::Fault;
 use std::alloc::Global;
@@ -69,11 +69,11 @@ fn read_unlimited(alloc: Global, frames: bool, words: &[&str]) -> Result<Args, F
     })
 }
 
-/// Reads a limit, and the sizes behind it.
+/// Reads a limit, and the sizes after it.
 fn read_limited(alloc: Global, digits: &[u8], words: &[&str]) -> Result<Args, Fault>
     ensures { MatchResult result
-        (λ args. limited (size_of digits.now) (sizes_of (map (λ w. w.now) words.now)) ≡ Some (args.frames, args.limit, args.sizes.items))
-        (λ why. (why ≡ Fault.Memory) ⊎ ((why ≡ Fault.Argument) × (limited (size_of digits.now) (sizes_of (map (λ w. w.now) words.now)) ≡ None))) }
+        (λ args. limited (size_of_word digits.now) (sizes_of (map (λ w. w.now) words.now)) ≡ Some (args.frames, args.limit, args.sizes.items))
+        (λ why. (why ≡ Fault.Memory) ⊎ ((why ≡ Fault.Argument) × (limited (size_of_word digits.now) (sizes_of (map (λ w. w.now) words.now)) ≡ None))) }
 {
     let Some(most) = read_size(digits) else {
         return Err(Fault::Argument);
@@ -109,7 +109,7 @@ fn read_sizes(alloc: Global, words: &[&str]) -> Result<Vec<u32>, Fault>
 
 /// The size that a word says, if it says one.
 fn read_size(word: &[u8]) -> Option<u32>
-    ensures { result ≡ size_of word.now }
+    ensures { result ≡ size_of_word word.now }
 {
     if word.is_empty() || word.len() > MAX_DIGITS {
         return None;

@@ -4,8 +4,8 @@ ghost use Rattle.std.specs.Io.KnownBytes.{Appends};
 ghost use Rattle.combine_base.specs.Parser.Pieces.{concatenated};
 ghost use Rattle.combine_decode.specs.Decoders.{Decodes};
 ghost use Rattle.combine_decode.specs.Frames.{frame_of};
-ghost use Rattle.combine_decode.specs.Messages.{IsMade, made};
-ghost use Rattle.feedline_core.specs.Decoding.{DecodesInput, HasRoom, IsRefusedGrowth, WritesBatch};
+ghost use Rattle.combine_decode.specs.Messages.{IsMade, made_reading};
+ghost use Rattle.feedline_core.specs.DecodedLines.{DecodesInput, HasRoom, IsRefusedGrowth, WritesBatch};
 ghost use Rattle.feedline_core.specs.Frames as frames;
 ghost use Rattle.feedline_core.specs.Lines.{end_line};
 
@@ -20,7 +20,7 @@ use std::io::Write;
 
 /// Reads the frames of an input that is fed in pieces of these sizes, and then the rest as one piece: a frame is a length in two bytes, the highest first, and as many bytes, which are the message.
 ///
-/// It writes a line `message N` for each message, with N its length, and behind it, if N isn't 0, a blank and its bytes as two lowercase hexadecimal digits each. The last line is `complete` if no byte stands behind the last message, else `incomplete`; it answers whether it is `complete`.
+/// It writes a line `message N` for each message, with N its length, and after it, if N isn't 0, a blank and its bytes as two lowercase hexadecimal digits each. The last line is `complete` if no byte stands after the last message, else `incomplete`; it answers whether it is `complete`.
 ///
 /// # Errors
 ///
@@ -40,7 +40,7 @@ pub fn run_frames<W: Write>(
     decode(alloc, maker, &pieces, out)
 }
 
-/// Decodes the pieces as one input, writes a line for each message and one for what stands behind the last, and answers whether nothing does. Pieces behind an end other than `More` are not fed.
+/// Decodes the pieces as one input, writes a line for each message and one for what stands after the last, and answers whether nothing does. Pieces after an end other than `More` are not fed.
 fn decode<F: Fn() -> P + Drop, P: Parser<fed::Stream<u8>, Output = Vec<u8>> + Drop, W: Write>(
     alloc: Global,
     maker: F,
@@ -50,7 +50,7 @@ fn decode<F: Fn() -> P + Drop, P: Parser<fed::Stream<u8>, Output = Vec<u8>> + Dr
     requires callable { F.IsAlwaysCallable maker }
     requires lawful { IsMade (F.post maker) P.lawful }
     requires fits { length (concatenated (map (λ p. p.now) pieces.now)) < 2 ^ 64 }
-    ensures { DecodesInput (made P.meaning (F.post maker)) (concatenated (map (λ p. p.now) pieces.now)) (W.contents out.old) (W.contents out.new) result }
+    ensures { DecodesInput (made_reading P.meaning (F.post maker)) (concatenated (map (λ p. p.now) pieces.now)) (W.contents out.old) (W.contents out.new) result }
 {
     let mut decoder = Decoder::new(alloc, maker);
     'pieces: for (index, piece) in pieces.iter().enumerate() {
@@ -112,7 +112,7 @@ fn out_of_memory(error: DecodeError) -> Fault
     }
 }
 
-/// Writes the last line, and answers whether it is `complete`: no byte stands behind the messages of what was fed, nor in the rest.
+/// Writes the last line, and answers whether it is `complete`: no byte stands after the messages of what was fed, nor in the rest.
 fn write_last<W: Write>(out: &mut W, at_boundary: bool, rest: &[&[u8]]) -> Result<bool, Fault>
     ensures { MatchResult result
         (λ complete. (complete ≡ (at_boundary && nat_eq (length (concatenated (map (λ p. p.now) rest.now))) 0)) × Appends (W.contents out.old) (W.contents out.new) (end_line complete))

@@ -1,13 +1,13 @@
 //! Feeds an input piece by piece, and writes the lines.
 ghost use Rattle.std.specs.Prelude.{◌≡◌, ◌≢◌, ◌+◌, ◌^◌, ◌<◌, ◌⊎◌, [], true, false, None, MatchResult, length, map};
 ghost use Rattle.std.specs.Char.{is_ascii_digit, is_ascii_lowercase};
-ghost use Rattle.feedline_core.specs.OnInput.{RunsOn};
+ghost use Rattle.feedline_core.specs.OnInput.{RunsOnInput};
 ghost use Rattle.feedline_core.specs.Messages.{message, delete_after, or_set};
 ghost use Rattle.combine_base.specs.Parser.Pieces.{concatenated};
-ghost use Rattle.combine_base.specs.Parser.Sessions.{Begins, Feeds, Ends, admits};
+ghost use Rattle.combine_base.specs.Parser.Sessions.{BeginsSession, Feeds, EndsSession, admits};
 ghost use Rattle.combine_base.specs.declared.parser.session.Stage.TheVariants as stages;
 ghost use Rattle.std.specs.Io.KnownBytes.{Appends};
-ghost use Rattle.feedline_core.specs.Runs.{Runs, IsWantOfMemory, answer_line, answer_accepts};
+ghost use Rattle.feedline_core.specs.Runs.{RunsPieces, IsWantOfMemory, answer_line, answer_accepts};
 
 use crate::fault::Fault;
 use crate::lines::{write_accepted, write_more, write_refused};
@@ -31,7 +31,7 @@ use std::io::Write;
 ///
 /// `Memory` where a growth was refused and `Write` where a write failed; of what the writer then holds nothing is said.
 pub fn run<W: Write>(alloc: Global, sizes: &[u32], input: &[u8], out: &mut W) -> Result<bool, Fault>
-    ensures ran { RunsOn message.whole message.rest None sizes.now input.now (W.contents out.old) (W.contents out.new) result }
+    ensures ran { RunsOnInput message.whole message.rest None sizes.now input.now (W.contents out.old) (W.contents out.new) result }
     ensures unlimited { MatchResult result (λ _. Unit {0}) (λ why. why ≢ Fault.TooLong) }
 {
     run_limited(alloc, sizes, None, input, out)
@@ -49,7 +49,7 @@ pub fn run_limited<W: Write>(
     input: &[u8],
     out: &mut W,
 ) -> Result<bool, Fault>
-    ensures { RunsOn message.whole message.rest limit sizes.now input.now (W.contents out.old) (W.contents out.new) result }
+    ensures { RunsOnInput message.whole message.rest limit sizes.now input.now (W.contents out.old) (W.contents out.new) result }
 {
     let pieces = cut(alloc, sizes, input)?;
     let del = attempt((token(b'd'), token(b'e'), token(b'l'), token(b' ')));
@@ -68,7 +68,7 @@ fn drive_after<D: Parser<fed::Stream<u8>, Output = (u8, u8, u8, u8)> + Drop, W: 
 ) -> Result<bool, Fault>
     requires lawful { D.lawful del }
     requires fits { length (concatenated (map (λ p. p.now) pieces.now)) < 2 ^ 64 }
-    ensures { Runs (or_set (delete_after (D.meaning del))).whole (or_set (delete_after (D.meaning del))).rest limit (map (λ p. p.now) pieces.now) (W.contents out.old) (W.contents out.new) result }
+    ensures { RunsPieces (or_set (delete_after (D.meaning del))).whole (or_set (delete_after (D.meaning del))).rest limit (map (λ p. p.now) pieces.now) (W.contents out.old) (W.contents out.new) result }
 {
     let delete = map(
         (del, many1(alloc, satisfy(is_letter)), token(b';')),
@@ -87,7 +87,7 @@ fn drive_or_set<A: Parser<fed::Stream<u8>, Output = Message> + Drop, W: Write>(
 ) -> Result<bool, Fault>
     requires lawful { A.lawful delete }
     requires fits { length (concatenated (map (λ p. p.now) pieces.now)) < 2 ^ 64 }
-    ensures { Runs (or_set (A.meaning delete)).whole (or_set (A.meaning delete)).rest limit (map (λ p. p.now) pieces.now) (W.contents out.old) (W.contents out.new) result }
+    ensures { RunsPieces (or_set (A.meaning delete)).whole (or_set (A.meaning delete)).rest limit (map (λ p. p.now) pieces.now) (W.contents out.old) (W.contents out.new) result }
 {
     let set = map(
         (
@@ -137,7 +137,7 @@ pub(crate) fn drive<P: Parser<fed::Stream<u8>, Output = Message> + Drop, W: Writ
 ) -> Result<bool, Fault>
     requires lawful { P.lawful parser }
     requires fits { length (concatenated (map (λ p. p.now) pieces.now)) < 2 ^ 64 }
-    ensures { Runs (P.meaning parser).whole (P.meaning parser).rest limit (map (λ p. p.now) pieces.now) (W.contents out.old) (W.contents out.new) result }
+    ensures { RunsPieces (P.meaning parser).whole (P.meaning parser).rest limit (map (λ p. p.now) pieces.now) (W.contents out.old) (W.contents out.new) result }
 {
     let mut session = begin(alloc, parser, limit);
     'pieces: for piece in pieces {
@@ -157,7 +157,7 @@ fn begin<P: Parser<fed::Stream<u8>>>(
     limit: Option<usize>,
 ) -> Session<P, u8>
     requires { P.lawful parser }
-    ensures { Begins P.meaning P.valid P.determined limit parser result }
+    ensures { BeginsSession P.meaning P.valid P.determined limit parser result }
 {
     match limit {
         None => Session::new(alloc, parser),
@@ -189,7 +189,7 @@ fn end<P: Parser<fed::Stream<u8>>>(
 ) -> Result<Answer<P::Output, UnexpectedParse>, Fault>
     requires running { session.old.stage ≡ stages.Running }
     ensures { MatchResult result
-        (λ answer. Ends P.meaning P.valid session.old session.new [] false (Ok answer))
+        (λ answer. EndsSession P.meaning P.valid session.old session.new [] false (Ok answer))
         (λ why. why ≡ Fault.Memory) }
 {
     match session.end() {

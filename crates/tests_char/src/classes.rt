@@ -4,7 +4,7 @@ use combine::error::UnexpectedParse;
 use combine::parser::{Parser, byte, char};
 use combine::stream::Kind;
 use combine_char::class::Class;
-use combine_char::class::types::InClass;
+use combine_char::class::types::ClassParser;
 use example_callers::answers::{Parsed, ParsedText};
 use std::process::Abort;
 
@@ -22,11 +22,11 @@ pub fn char_letter(input: &str) -> ParsedText<'_, char> {
 const BYTES: &[u8] =
     b"\x00\x08\x09\x0A\x0B\x0C\x0D\x0E\x1F\x20\x21\x2F\x30\x37\x38\x39\x3A\x40\x41\x46\x47\x5A\x5B\x60\x61\x66\x67\x7A\x7B\x7F\x80\xFF";
 
-/// Characters, as those bytes, and those of white space past ASCII; behind them a small letter, a capital one, one that is neither, a digit, a number in letters, another number and a sign.
+/// Characters, as those bytes, and those of white space past ASCII; after them a small letter, a capital one, one that is neither, a digit, a number in letters, another number and a sign.
 const CHARS: &str =
     "\0\u{8}\u{9}\u{A}\u{B}\u{C}\u{D}\u{E}\u{1F} !/0789:@AFGZ[`afgz{\u{84}\u{85}\u{86}\u{9F}\u{A0}\u{A1}\u{167F}\u{1680}\u{1681}\u{1FFF}\u{2000}\u{200A}\u{200B}\u{2027}\u{2028}\u{2029}\u{202A}\u{202E}\u{202F}\u{2030}\u{205E}\u{205F}\u{2060}\u{2FFF}\u{3000}\u{3001}\u{E9}\u{C9}\u{5D0}\u{663}\u{3007}\u{BD}\u{D7}";
 
-/// Whether a value is the byte, with nothing behind it, or else a refusal.
+/// Whether a value is the byte, with nothing after it, or else a refusal.
 fn is_taken(byte: u8, parsed: Parsed<'_, u8>) -> Option<bool> {
     match parsed {
         Ok((value, [])) if value == byte => Some(true),
@@ -35,7 +35,7 @@ fn is_taken(byte: u8, parsed: Parsed<'_, u8>) -> Option<bool> {
     }
 }
 
-/// Whether a value is the character, with nothing behind it, or else a refusal.
+/// Whether a value is the character, with nothing after it, or else a refusal.
 fn is_char_taken(char: char, parsed: ParsedText<'_, char>) -> Option<bool> {
     match parsed {
         Ok((value, "")) if value == char => Some(true),
@@ -47,7 +47,7 @@ fn is_char_taken(char: char, parsed: ParsedText<'_, char>) -> Option<bool> {
 /// The class takes each byte that stands in one of these intervals, and refuses the others.
 fn check_bytes<C: Class<u8>>(
     rt: &impl Abort,
-    class: InClass<&'static [u8], C>,
+    class: ClassParser<&'static [u8], C>,
     intervals: &[(u8, u8)],
 ) {
     let mut class = class;
@@ -63,7 +63,7 @@ fn check_bytes<C: Class<u8>>(
 /// The class takes each character that stands in one of these intervals, and refuses the others.
 fn check_chars<C: Class<char>>(
     rt: &impl Abort,
-    class: InClass<&'static str, C>,
+    class: ClassParser<&'static str, C>,
     intervals: &[(char, char)],
 ) {
     let mut class = class;

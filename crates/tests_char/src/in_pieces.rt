@@ -232,7 +232,7 @@ fn classes(rt: HostRuntime) -> Result<(), AllocError> {
     check_bytes::<ClassOf<byte::classes::Space>>(&rt, alloc, &white)
 }
 
-/// How many tokens were unread each time that more was asked for, written one behind another.
+/// How many tokens were unread each time that more was asked for, written one after another.
 fn unread<V: Drop>(fed: Result<Fed<V>, SessionError>) -> Option<u64> {
     let Ok(fed) = fed else {
         return None;

@@ -1,4 +1,4 @@
-//! What each class of bytes and characters answers, and what is made of classes; over slices, texts, streams that count positions, and pieces. They are built for the tests alone, so that they are proved once.
+//! What each class of bytes and characters answers, and what is made of classes; over slices, texts, streams that count positions, and pieces. They are compiled for tests only, so that they are proved once.
 #![tactic(auto)]
 
 #[cfg(test)]

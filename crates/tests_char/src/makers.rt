@@ -57,7 +57,7 @@ impl<T: Copy + 'static, V: Drop> User<fed::Stream<T>, V> for Feeding<'_, T> {
     }
 }
 
-/// The beginning of an input, and where what is behind it stands.
+/// The beginning of an input, and where what is after it stands.
 #[derive(Drop)]
 pub struct Beginning<Input>(pub Input);
 

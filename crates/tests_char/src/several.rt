@@ -1,4 +1,4 @@
-//! A plain function for each parser of several bytes or characters, over a slice or a text; and where what is behind some of them stands.
+//! A plain function for each parser of several bytes or characters, over a slice or a text; and where what is after some of them stands.
 
 use crate::makers::{Beginning, ByteCrLf, CharSpaces, OfBytes, OfChars};
 use combine::error::{ErrorOffset, UnexpectedParse};
@@ -70,23 +70,23 @@ pub fn char_let_any_case(input: &str) -> ParsedText<'_, &'static str> {
     .parse(input)
 }
 
-/// The line and column behind what a parser takes of a text.
+/// The line and column after what a parser takes of a text.
 fn behind_chars<M: OfChars>(input: &str) -> Result<SourcePosition, UnexpectedParse> {
     M::make(Beginning(position::Stream::new(input)))
 }
 
-/// The index behind what a parser takes of bytes.
+/// The index after what a parser takes of bytes.
 fn behind_bytes<M: OfBytes>(input: &[u8]) -> Result<usize, UnexpectedParse> {
     M::make(Beginning(position::Stream::new(input)))
 }
 
-/// The line and column behind the text `let`.
+/// The line and column after the text `let`.
 pub fn behind_let(input: &str) -> Result<SourcePosition, UnexpectedParse> {
     let (_, rest) = char::string("let").parse(position::Stream::new(input))?;
     Ok(rest.position())
 }
 
-/// The index behind the bytes `let`.
+/// The index after the bytes `let`.
 pub fn behind_let_bytes(input: &[u8]) -> Result<usize, UnexpectedParse> {
     let (_, rest) = byte::bytes(b"let").parse(position::Stream::new(input))?;
     Ok(rest.position())

@@ -23,7 +23,7 @@ pub(crate) fn behind_an_a(letter: u8) -> Try<(Letter, Letter)>
     attempt((token(b'a'), token(letter)))
 }
 
-/// Behind an `a` those letters alone are accepted, over every cut. Each alternative takes the `a`, so that behind a cut the later ones begin again at it.
+/// After an `a` those letters alone are accepted, over every cut. Each alternative takes the `a`, so that after a cut the later ones begin again at it.
 pub(crate) fn check_letters<F: Fn(&[&[u8]]) -> InPieces<(u8, u8)>>(
     rt: &impl Abort,
     alloc: Global,

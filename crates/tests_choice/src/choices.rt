@@ -266,7 +266,7 @@ mod tests {
         assert_eq!(rt; any_or_a(false, b"bx"), Ok((b'b', rest)));
     }
 
-    /// What a session answers to one piece, behind which more may come.
+    /// What a session answers to one piece, after which more may come.
     fn answer_to_a_piece<P: Parser<fed::Stream<u8>> + Drop>(
         alloc: Global,
         parser: P,

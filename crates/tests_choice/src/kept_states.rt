@@ -10,7 +10,7 @@ use combine::stream::{Kind, fed};
 use std::alloc::{AllocError, Global};
 use std::process::Abort;
 
-/// Feeds a piece; want of memory where it finds no room.
+/// Feeds a piece, or returns that no memory is left for it.
 fn feed(stream: &mut fed::Stream<u8>, piece: &[u8]) -> Result<(), AllocError> {
     if stream.room() < piece.len() as u64 {
         return Err(AllocError);
@@ -18,7 +18,7 @@ fn feed(stream: &mut fed::Stream<u8>, piece: &[u8]) -> Result<(), AllocError> {
     stream.feed(piece)
 }
 
-/// The third of three alternatives asks for more behind `no`. A choice of the first alone, given that state, begins anew.
+/// The third of three alternatives asks for more after `no`. A choice of the first alone, given that state, begins anew.
 fn begin_anew<P: Parser<fed::Stream<u8>, Output = &'static [u8]> + Drop>(
     rt: &impl Abort,
     alloc: Global,

@@ -1,2 +1,2 @@
 mod Lawful
-mod Nesting
+mod Nests

@@ -2,18 +2,18 @@
 use Rattle.std.specs.Prelude.{ℕ, zero, suc, ◌+◌, ◌≡◌, ◌≤◌, nat_eq, List, [], ◌∷◌, Bool, true, false, Option, Some, None}
 use Rattle.std.proofs.Common.{arith, subst}
 use Rattle.combine_base.specs.Stream.View.{View, advanced}
-use Rattle.combine_base.specs.Error.Errors.{Nothing}
+use Rattle.combine_base.specs.Error.Errors.{AddsNothing}
 use Rattle.combine_base.specs.Error.NoItems.{no_items}
-use Rattle.combine_base.specs.Parser.Mapped.{mapped_is_meaning, mapped_means_one, mapped_reading}
+use Rattle.combine_base.specs.Parser.ValueMap.{mapped_is_meaning, mapped_means_one, mapped_reading}
 use Rattle.combine_base.specs.Parser.Meaning.{Meaning, Reading, Refusing, IsMeaning, IsReading, IsSingle, MeansOne}
 use Rattle.combine_base.specs.Parser.Outcome.{Outcome, Accepted, Refused, Undecided, shape}
-use Rattle.combine_base.specs.Sequence.Joined.{joined}
-use Rattle.combine_base.specs.Sequence.Readings.{FollowsOne, continues, following, following_is_reading, sequel, sequel_is_reading, sequel_is_single}
+use Rattle.combine_base.specs.Sequence.JoinedOutcome.{joined}
+use Rattle.combine_base.specs.Sequence.Readings.{SecondIsSingle, continues, following, following_is_reading, sequel, sequel_is_reading, sequel_is_single}
 use Rattle.combine_base.specs.Sequence.Tuples.{push_0, push_1}
-use Rattle.combine_token.specs.Choice.{Either, Here, Later}
-use Rattle.combine_token.specs.OneToken.{of_function, of_function_is_predicate, one_token, one_token_at, satisfied, satisfied_is_test, takes_one, takes_one_is_meaning, takes_one_means_one}
-use Rattle.combine_token.specs.Optional.{is_some, nothing, optional_is_meaning, optional_means_one}
-use Rattle.combine_token.specs.Stateless.{stateless, stateless_is_meaning, stateless_means_one}
+use Rattle.combine_token.specs.Choice.Choices.{OrElse, Here, Later}
+use Rattle.combine_token.specs.Token.OneToken.{of_function, of_function_is_predicate, one_token, one_token_at, satisfied, satisfied_is_test, takes_one, takes_one_is_meaning, takes_one_means_one}
+use Rattle.combine_token.specs.Choice.Optional.{is_some, nothing_taken, optional_is_meaning, optional_means_one}
+use Rattle.combine_token.specs.Token.Stateless.{stateless, stateless_is_meaning, stateless_means_one}
 use Rattle.combine_base.specs.declared.error.UnexpectedParse.{UnexpectedParse}
 
 -- the value of the second of two parts
@@ -34,16 +34,16 @@ one_opened_at i (t ∷ ts) a n c p = p.1
 
 module _ {P : Type 0} where
   -- this byte
-  abbrev pub byte : ℕ → Reading P ℕ ℕ
-  byte b = one_token (satisfied (of_function (λ t. nat_eq t b)))
+  abbrev pub nest_byte : ℕ → Reading P ℕ ℕ
+  nest_byte b = one_token (satisfied (of_function (λ t. nat_eq t b)))
 
   -- an opening bracket, or none
   abbrev pub opened : Reading P ℕ (Option ℕ)
-  opened = Either (mapped_reading (byte 40) is_some) nothing
+  opened = OrElse (mapped_reading (nest_byte 40) is_some) nothing_taken
 
   -- the bracket that closes one round so many
   abbrev pub closed : ℕ → Reading P ℕ ℕ
-  closed n = mapped_reading (byte 41) (λ t m. m ≡ n + 1)
+  closed n = mapped_reading (nest_byte 41) (λ t m. m ≡ n + 1)
 
   abbrev pub none_there : Reading P ℕ ℕ
   none_there v o = o ≡ Accepted 0 0 false
@@ -64,23 +64,23 @@ module _ {P : Type 0} where
 
   -- a parser of this byte
   abbrev of_byte : ℕ → Meaning P ℕ (Unit {0}) UnexpectedParse ℕ (Unit {0})
-  of_byte b = takes_one no_items (satisfied (of_function (λ t. nat_eq t b))) (Unit {0}) Nothing
+  of_byte b = takes_one no_items (satisfied (of_function (λ t. nat_eq t b))) (Unit {0}) AddsNothing
 
   -- two bytes, one after the other
   abbrev pub byte_pair : (P → ℕ → P) → ℕ → ℕ → Reading P ℕ (ℕ × ℕ)
-  byte_pair step a b = sequel step push_1 (following false (push_0 tt) (byte a)) (λ p. byte b)
+  byte_pair step a b = sequel step push_1 (following false (push_0 tt) (nest_byte a)) (λ p. nest_byte b)
 
   byte_reads : (b : ℕ) → IsMeaning fresh fresh (of_byte b)
-  byte_reads b = takes_one_is_meaning no_items (satisfied (of_function (λ t. nat_eq t b))) (Unit {0}) Nothing fresh fresh
+  byte_reads b = takes_one_is_meaning no_items (satisfied (of_function (λ t. nat_eq t b))) (Unit {0}) AddsNothing fresh fresh
 
   byte_one : (b : ℕ) → MeansOne fresh (of_byte b)
-  byte_one b = takes_one_means_one no_items (satisfied (of_function (λ t. nat_eq t b))) (Unit {0}) Nothing fresh (satisfied_is_test (of_function (λ t. nat_eq t b)) (of_function_is_predicate (λ t. nat_eq t b)))
+  byte_one b = takes_one_means_one no_items (satisfied (of_function (λ t. nat_eq t b))) (Unit {0}) AddsNothing fresh (satisfied_is_test (of_function (λ t. nat_eq t b)) (of_function_is_predicate (λ t. nat_eq t b)))
 
-  pub byte_is_reading : (b : ℕ) → IsReading (byte b)
+  pub byte_is_reading : (b : ℕ) → IsReading (nest_byte b)
   byte_is_reading b = (byte_reads b).whole
 
   pub byte_pair_is_reading : (step : P → ℕ → P) (a b : ℕ) → IsReading (byte_pair step a b)
-  byte_pair_is_reading step a b = sequel_is_reading step push_1 (following false (push_0 tt) (byte a)) (λ p. byte b) (following_is_reading false (push_0 tt) (byte a) (byte_is_reading a)) (λ p. byte_is_reading b)
+  byte_pair_is_reading step a b = sequel_is_reading step push_1 (following false (push_0 tt) (nest_byte a)) (λ p. nest_byte b) (following_is_reading false (push_0 tt) (nest_byte a) (byte_is_reading a)) (λ p. byte_is_reading b)
 
   pub opened_is_reading : IsReading opened
   opened_is_reading = (optional_is_meaning fresh fresh (of_byte 40) (byte_reads 40)).whole
@@ -93,7 +93,7 @@ module _ {P : Type 0} where
 
   -- whatever it closes
   abbrev closed_any : Reading P ℕ ℕ
-  closed_any = mapped_reading (byte 41) (λ t m. Unit {0})
+  closed_any = mapped_reading (nest_byte 41) (λ t m. Unit {0})
 
   closed_any_is_single : IsSingle closed_any
   closed_any_is_single = (mapped_means_one fresh (of_byte 41) (λ t m. Unit {0}) (byte_one 41)).whole
@@ -138,7 +138,7 @@ module _ {P : Type 0} where
     nest_is_reading k = sequel_is_reading step second opened (λ b. inside step b k) opened_is_reading (λ b. inside_is_reading b k)
 
     -- whichever bracket stood there, what is inside has one outcome
-    follows_one : (k : ℕ) → ((b : Option ℕ) → IsSingle (inside step b k)) → FollowsOne step second opened (λ b. inside step b k)
+    follows_one : (k : ℕ) → ((b : Option ℕ) → IsSingle (inside step b k)) → SecondIsSingle step second opened (λ b. inside step b k)
     follows_one k h = record { one = by_bracket }
       where
         behind_one : (k : ℕ) (t t' : ℕ) → IsSingle (inside step (Some t) k) → (u : View P ℕ) (o o' : Outcome ℕ) → inside step (Some t) k u o → inside step (Some t') k u o' → shape o ≡ shape o'
@@ -194,11 +194,11 @@ module _ {P : Type 0} where
 
     module _ {R E S : Type 0} (k : ℕ) where
       -- each call begins again
-      abbrev pub nesting : Meaning P ℕ R E ℕ S
-      nesting = stateless (nest step k) ⊥ (Unit {0}) Nothing any_error
+      abbrev pub nests : Meaning P ℕ R E ℕ S
+      nests = stateless (nest step k) ⊥ (Unit {0}) AddsNothing any_error
 
-      pub nesting_is_meaning : (fresh valid : S → Type 0) → IsMeaning fresh valid nesting
-      nesting_is_meaning fresh valid = stateless_is_meaning fresh valid (nest step k) ⊥ (Unit {0}) Nothing any_error (nest_is_reading k)
+      pub nests_is_meaning : (fresh valid : S → Type 0) → IsMeaning fresh valid nests
+      nests_is_meaning fresh valid = stateless_is_meaning fresh valid (nest step k) ⊥ (Unit {0}) AddsNothing any_error (nest_is_reading k)
 
-      pub nesting_means_one : (valid : S → Type 0) → MeansOne valid nesting
-      nesting_means_one valid = stateless_means_one valid (nest step k) ⊥ (Unit {0}) Nothing any_error (single_after k (λ b. inside_is_single b k))
+      pub nests_means_one : (valid : S → Type 0) → MeansOne valid nests
+      nests_means_one valid = stateless_means_one valid (nest step k) ⊥ (Unit {0}) AddsNothing any_error (single_after k (λ b. inside_is_single b k))

@@ -93,7 +93,7 @@ fn of_a_slice(rt: HostRuntime) {
     assert_eq!(rt; nothing(b"a"), Err(REFUSED));
 }
 
-/// How many bytes are unread where a parser refuses a piece behind which more may come.
+/// How many bytes are unread where a parser refuses a piece after which more may come.
 fn unread_behind<P: Parser<fed::Stream<u8>> + Drop>(
     alloc: Global,
     parser: P,

@@ -1,6 +1,6 @@
 //! Parsers that are functions of a stream.
 ghost use Rattle.combine_base.specs.Error.Results.{from_standard};
-ghost use Rattle.tests_combinator.specs.Nests.{byte, byte_pair};
+ghost use Rattle.tests_combinator.specs.Nests.{nest_byte, byte_pair};
 ghost use Rattle.combine_combinator_function.specs.Once.{RunsOnce};
 
 use combine_base::error::{ParseError, ParseResult, StdParseResult, UnexpectedParse};
@@ -20,7 +20,7 @@ const REFUSED: UnexpectedParse = UnexpectedParse(Kind::Refused);
 fn this<Input: Stream<Token = u8>>(wanted: u8, input: &mut Input) -> StdParseResult<u8, Input>
 where
     Input::Error: ParseError<u8, Input::Range, Input::Position>,
-    ensures { RunsOnce Input.step Input.Error.seen Input.steady Input.view Input.marks Input.failures (byte wanted) input.old input.new (from_standard result) }
+    ensures { RunsOnce Input.step Input.Error.observers Input.counts_failures Input.view Input.marks Input.failures (nest_byte wanted) input.old input.new (from_standard result) }
 {
     token(wanted).parse_stream(input).into_result()
 }
@@ -29,7 +29,7 @@ where
 fn ab<Input: Stream<Token = u8>>(input: &mut Input) -> StdParseResult<(u8, u8), Input>
 where
     Input::Error: ParseError<u8, Input::Range, Input::Position>,
-    ensures { RunsOnce Input.step Input.Error.seen Input.steady Input.view Input.marks Input.failures (byte_pair Input.step 97 98) input.old input.new (from_standard result) }
+    ensures { RunsOnce Input.step Input.Error.observers Input.counts_failures Input.view Input.marks Input.failures (byte_pair Input.step 97 98) input.old input.new (from_standard result) }
 {
     (token(b'a'), token(b'b')).parse_stream(input).into_result()
 }
@@ -44,7 +44,7 @@ fn an_ab_in_pieces(alloc: Global, pieces: &[&[u8]]) -> InPieces<(u8, u8)> {
     parse_pieces(alloc, parser(ab), pieces)
 }
 
-/// How many bytes are unread where the parser asks for more behind this piece.
+/// How many bytes are unread where the parser asks for more after this piece.
 fn unread_behind<P: Parser<fed::Stream<u8>> + Drop>(
     alloc: Global,
     parser: P,
@@ -92,7 +92,7 @@ fn accepted<T>(value: T, taken: u64) -> InPieces<T> {
     })
 }
 
-/// At a cut the function is put back, and called again behind it.
+/// At a cut the function is put back, and called again after it.
 #[test]
 fn of_pieces(rt: HostRuntime) {
     let cuts: [&[&[u8]]; 2] = [&[b"", b"ab"], &[b"", b"a", b"", b"b"]];

@@ -46,7 +46,7 @@ fn of_a_slice(rt: HostRuntime) {
     assert_eq!(rt; placed_a(b"b"), Err(REFUSED));
 }
 
-/// The parser that was made goes on behind a cut.
+/// The parser that was made goes on after a cut.
 #[test]
 fn of_pieces(rt: HostRuntime) {
     let accepted = Answer::Accepted {

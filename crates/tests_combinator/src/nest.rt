@@ -1,7 +1,7 @@
 //! A recursive grammar as a caller's own parser: brackets inside brackets.
 ghost use Rattle.std.specs.Prelude.{◌≡◌, ◌<◌, true};
 ghost use Rattle.combine_base.specs.Sequence.Parts.{joined_answer};
-ghost use Rattle.tests_combinator.specs.Nests.{closed as closed_round, inside as inside_of, nest as nest_of, nesting, nesting_is_meaning, nesting_means_one, opened as opened_by};
+ghost use Rattle.tests_combinator.specs.Nests.{closed as closed_round, inside as inside_of, nest as nest_of, nests, nests_is_meaning, nests_means_one, opened as opened_by};
 ghost use Rattle.combine_combinator_function.specs.Once.{RunsOnce};
 
 use combine_base::error::{ErrorOffset, ParseError, ParseResult, Tracked};
@@ -34,7 +34,7 @@ fn committed<O, E>(answer: ParseResult<O, E>) -> ParseResult<O, E>
 fn opened<Input: Stream<Token = u8>>(input: &mut Input) -> ParseResult<Option<u8>, Input::Error>
 where
     Input::Error: ParseError<u8, Input::Range, Input::Position>,
-    ensures { RunsOnce Input.step Input.Error.seen Input.steady Input.view Input.marks Input.failures opened_by input.old input.new result }
+    ensures { RunsOnce Input.step Input.Error.observers Input.counts_failures Input.view Input.marks Input.failures opened_by input.old input.new result }
 {
     optional(token(b'(')).parse_stream(input)
 }
@@ -47,7 +47,7 @@ fn closed<Input: Stream<Token = u8>>(
 where
     Input::Error: ParseError<u8, Input::Range, Input::Position>,
     requires { number < 4294967295 }
-    ensures { RunsOnce Input.step Input.Error.seen Input.steady Input.view Input.marks Input.failures (closed_round number) input.old input.new result }
+    ensures { RunsOnce Input.step Input.Error.observers Input.counts_failures Input.view Input.marks Input.failures (closed_round number) input.old input.new result }
 {
     let more = number + 1;
     map(
@@ -59,7 +59,7 @@ where
     .parse_stream(input)
 }
 
-/// What stands behind an opening bracket, if there was one.
+/// What stands after an opening bracket, if there was one.
 #[cycle(brackets)]
 fn inside<Input: Stream<Token = u8>>(
     depth: u32,
@@ -69,7 +69,7 @@ fn inside<Input: Stream<Token = u8>>(
 ) -> ParseResult<u32, Input::Error>
 where
     Input::Error: ParseError<u8, Input::Range, Input::Position>,
-    ensures { RunsOnce Input.step Input.Error.seen Input.steady Input.view Input.marks Input.failures (inside_of Input.step bracket depth) input.old input.new result }
+    ensures { RunsOnce Input.step Input.Error.observers Input.counts_failures Input.view Input.marks Input.failures (inside_of Input.step bracket depth) input.old input.new result }
 {
     match bracket {
         None => ParseResult::PeekOk(0),
@@ -95,7 +95,7 @@ fn brackets<Input: Stream<Token = u8>>(
 ) -> ParseResult<u32, Input::Error>
 where
     Input::Error: ParseError<u8, Input::Range, Input::Position>,
-    ensures { RunsOnce Input.step Input.Error.seen Input.steady Input.view Input.marks Input.failures (nest_of Input.step depth) input.old input.new result }
+    ensures { RunsOnce Input.step Input.Error.observers Input.counts_failures Input.view Input.marks Input.failures (nest_of Input.step depth) input.old input.new result }
 {
     let begin = input.position();
     match opened(input) {
@@ -122,7 +122,7 @@ where
 
     ghost valid = { λ s. Unit {0} };
 
-    ghost meaning = { λ p. nesting Input.step p.0 };
+    ghost meaning = { λ p. nests Input.step p.0 };
 
     ghost parts = { λ p. 1 };
 
@@ -159,9 +159,9 @@ where
 
     ghost default_valid = { λ s d. tt };
 
-    ghost laws = { λ p l. nesting_is_meaning Input.step p.0 _ _ };
+    ghost laws = { λ p l. nests_is_meaning Input.step p.0 _ _ };
 
-    ghost single = { λ p l d. nesting_means_one Input.step p.0 _ };
+    ghost single = { λ p l d. nests_means_one Input.step p.0 _ };
 }
 
 #[cfg(test)]
@@ -244,7 +244,7 @@ mod tests {
         assert_eq!(rt; nested(rt.alloc(), 0, &[b"("]), refused(Kind::Refused));
     }
 
-    /// What is read before a cut is unread behind it.
+    /// What is read before a cut is unread after it.
     #[test]
     fn put_back_at_a_cut(rt: HostRuntime) {
         let mut session = Session::new(rt.alloc(), Nest(2));

@@ -97,7 +97,7 @@ fn of_pieces(rt: HostRuntime) {
     }
 }
 
-/// A refusal behind a cut is committed, one at the beginning is peeked.
+/// A refusal after a cut is committed, one at the beginning is peeked.
 #[test]
 fn of_refusals(rt: HostRuntime) {
     let committed = Answer::Refused {

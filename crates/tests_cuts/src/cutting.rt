@@ -96,7 +96,7 @@ fn sets_of_places(tokens: usize) -> u32 {
     sets
 }
 
-/// The cuts behind each character whose bit is set in `places`, the lowest bit first: each once; or, with empty pieces, each twice, and one at the beginning, since an empty piece stands before each piece.
+/// The cuts after each character whose bit is set in `places`, the lowest bit first: each once; or, with empty pieces, each twice, and one at the beginning, since an empty piece stands before each piece.
 fn cuts(
     alloc: Global,
     text: &str,

@@ -1,4 +1,4 @@
-//! Whole inputs that are parsed window by window, and what is answered. They are built for the tests alone, so that they are proved once.
+//! Whole inputs that are parsed window by window, and what is answered. They are compiled for tests only, so that they are proved once.
 #![tactic(auto)]
 
 #[cfg(test)]

@@ -18,7 +18,7 @@ use combine_token::choice::optional;
 use combine_token::token::{one_of, satisfy, token, value};
 use std::alloc::{AllocError, Global};
 
-/// A number as it stands there, and whether it has a point and digits behind it.
+/// A number as it stands there, and whether it has a point and digits after it.
 fn numbers<Input: Cut + RangeStream, F: Fn(Input::Token) -> bool + Copy + Drop>(
     alloc: Global,
     is_digit: F,
@@ -174,7 +174,7 @@ where
     )
 }
 
-/// Two bytes of text, behind a `2`: a length that may end inside a character.
+/// Two bytes of text, after a `2`: a length that may end inside a character.
 fn twos<Input: Cut + Stream<Token = char> + RangeStream>(
     alloc: Global,
     wrong: &mut Vec<String>,

@@ -24,7 +24,7 @@ pub enum Found<V> {
 }
 
 /// How many windows asked for more, and the answer; `None` where the cuts don't fit, and of a fault.
-pub fn over<S: Windowed, P: Parser<MaybePartialStream<S::Placed>>>(
+pub fn over<S: Windowed, P: Parser<MaybePartialStream<S::Located>>>(
     parser: &mut P,
     whole: S,
     cuts: &[usize],
@@ -61,21 +61,21 @@ pub fn over<S: Windowed, P: Parser<MaybePartialStream<S::Placed>>>(
 }
 
 /// As `over`, with the notes of a parser of digits.
-pub fn digits<S: Windowed, F: Fn(<S::Placed as StreamOnce>::Token) -> bool + Drop>(
+pub fn digits<S: Windowed, F: Fn(<S::Located as StreamOnce>::Token) -> bool + Drop>(
     whole: S,
     cuts: &[usize],
     is_digit: F,
 ) -> (
-    Option<(usize, Found<<S::Placed as StreamOnce>::Range>)>,
+    Option<(usize, Found<<S::Located as StreamOnce>::Range>)>,
     Notes,
 )
 where
-    S::Placed: RangeStream,
-    <S::Placed as StreamOnce>::Range: Range,
-    <S::Placed as StreamOnce>::Position: Count,
+    S::Located: RangeStream,
+    <S::Located as StreamOnce>::Range: Range,
+    <S::Located as StreamOnce>::Position: Count,
     requires { F.IsAlwaysCallable is_digit }
 {
-    let mut parser = Noting::new(take_while1::<MaybePartialStream<S::Placed>, _>(is_digit));
+    let mut parser = Noting::new(take_while1::<MaybePartialStream<S::Located>, _>(is_digit));
     let found = over(&mut parser, whole, cuts);
     (found, parser.into_notes())
 }
@@ -85,22 +85,22 @@ pub fn all_of<S: Windowed>(
     alloc: Global,
     whole: S,
     cuts: &[usize],
-    wanted: <S::Placed as StreamOnce>::Token,
+    wanted: <S::Located as StreamOnce>::Token,
 ) -> (
-    Option<(usize, Found<Vec<<S::Placed as StreamOnce>::Token>>)>,
+    Option<(usize, Found<Vec<<S::Located as StreamOnce>::Token>>)>,
     Notes,
 )
 where
-    <S::Placed as StreamOnce>::Token: PartialEq,
-    <S::Placed as StreamOnce>::Position: Count,
+    <S::Located as StreamOnce>::Token: PartialEq,
+    <S::Located as StreamOnce>::Position: Count,
 {
-    let part = token::<MaybePartialStream<S::Placed>, _>(wanted);
-    let mut parser = Noting::new(many::<Vec<<S::Placed as StreamOnce>::Token>, _>(alloc, part));
+    let part = token::<MaybePartialStream<S::Located>, _>(wanted);
+    let mut parser = Noting::new(many::<Vec<<S::Located as StreamOnce>::Token>, _>(alloc, part));
     let found = over(&mut parser, whole, cuts);
     (found, parser.into_notes())
 }
 
-/// As `over`, with a length of two bytes and so many bytes behind it.
+/// As `over`, with a length of two bytes and so many bytes after it.
 pub fn frame<'a>(whole: &'a [u8], cuts: &[usize]) -> Option<(usize, Found<&'a [u8]>)> {
     let mut parser = length_prefix(be_u16());
     over(&mut parser, whole, cuts)

@@ -21,7 +21,7 @@ pub fn sets_of_places(input: &[u8]) -> u32 {
     sets
 }
 
-/// The pieces of an input that is cut behind each byte whose bit is set in `places`, the lowest bit first, an empty piece before each.
+/// The pieces of an input that is cut after each byte whose bit is set in `places`, the lowest bit first, an empty piece before each.
 pub fn cut(alloc: Global, input: &[u8], places: u32) -> Result<Vec<&[u8]>, AllocError> {
     let mut pieces = Vec::new(alloc);
     let mut rest = input;
@@ -76,7 +76,7 @@ fn end_after(row: &Row, fed: usize) -> BatchEnd {
     }
 }
 
-/// Whether this is the answer to the bytes behind those before.
+/// Whether this is the answer to the bytes after those before.
 fn is_answer(found: &Answered<Vec<u8>>, row: &Row, before: usize, fed: usize) -> bool {
     match &found.answer {
         Ok(batch) => {

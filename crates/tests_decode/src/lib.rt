@@ -1,4 +1,4 @@
-//! Decoders of messages, and what each answers. They are built for the tests alone, so that they are proved once.
+//! Decoders of messages, and what each answers. They are compiled for tests only, so that they are proved once.
 #![tactic(auto)]
 
 #[cfg(test)]

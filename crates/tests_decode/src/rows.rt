@@ -25,7 +25,7 @@ fn all_words(alloc: Global, pieces: &[&[u8]]) -> Result<Batch<Vec<u8>>, DecodeEr
     decode_pieces(alloc, word, pieces)
 }
 
-/// Messages behind their lengths.
+/// Messages after their lengths.
 fn frames(alloc: Global, pieces: &[&[u8]]) -> Answers<Vec<u8>> {
     answers(alloc, move || frame(alloc), pieces)
 }

@@ -112,7 +112,7 @@ where
     )
 }
 
-/// Tokens one after another: a mismatch behind others stands where the list began.
+/// Tokens one after another: a mismatch after others stands where the list began.
 pub fn in_order<Input: Legible + Stream<Token = u8>>(
     rows: &mut Rows<Input>,
 ) -> Result<(), AllocError>

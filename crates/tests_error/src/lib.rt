@@ -1,4 +1,4 @@
-//! What the errors of tokens, classes, choices and of the parsers that shape errors say, over texts and over bytes whose positions are counted. They are built for the tests alone, so that they are proved once.
+//! What the errors of tokens, classes, choices and of the parsers that shape errors say, over texts and over bytes whose positions are counted. They are compiled for tests only, so that they are proved once.
 #![tactic(auto)]
 
 #[cfg(test)]

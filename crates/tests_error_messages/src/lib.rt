@@ -1,4 +1,4 @@
-//! What the errors of sequences, repetitions, parsers up to a place, parsers inside others and ranges say, over texts whose positions are counted; and the calls of errors that keep items. They are built for the tests alone, so that they are proved once.
+//! What the errors of sequences, repetitions, parsers up to a place, parsers inside others and ranges say, over texts whose positions are counted; and the calls of errors that keep items. They are compiled for tests only, so that they are proved once.
 #![tactic(auto)]
 
 #[cfg(test)]

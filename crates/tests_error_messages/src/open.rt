@@ -25,7 +25,7 @@ where
 
     /// Want of memory, which says that `b` was expected.
     fn want_of_memory(alloc: Global) -> Self::Error
-        ensures { Self.Error.seen.kind result ≡ kinds.Memory };
+        ensures { Self.Error.observers.kind result ≡ kinds.Memory };
 
     /// The lines that an error says, a line for each item.
     fn lines(alloc: Global, error: &Self::Error) -> Result<String, AllocError>;
@@ -78,7 +78,7 @@ where
     }
 }
 
-/// Whether the answer on an `a`, behind which more may come, is such an error.
+/// Whether the answer on an `a`, after which more may come, is such an error.
 fn stops_at_an_a<Input: Open, P: Parser<Input> + Drop>(
     alloc: Global,
     parser: P,
@@ -111,14 +111,14 @@ where
     ])
 }
 
-/// Need of more, and want of memory that says what was expected, each within `message` and within `silent`.
+/// Need of more, and a fault of kind `Memory` that says what was expected, each within `message` and within `silent`.
 fn left_as_they_are<Input: Open>(alloc: Global) -> Result<[[bool; 2]; 2], AllocError>
 where
     Input::Error: ParseError<char, Input::Range, Input::Position>,
 {
     let pair = (token('a'), token('b'));
     let none = move |_read: char| -> Result<u8, Input::Error>
-        ensures { IfErr result (λ e. Input.Error.seen.kind e ≡ kinds.Memory) }
+        ensures { IfErr result (λ e. Input.Error.observers.kind e ≡ kinds.Memory) }
     { Err(Input::want_of_memory(alloc)) };
     let starving = flat_map(any(), none);
     Ok([

@@ -81,7 +81,7 @@ where
     )
 }
 
-/// A text with escapes: what stands behind an escape, and what else was expected.
+/// A text with escapes: what stands after an escape, and what else was expected.
 pub fn escapes<Input: Legible + Stream<Token = char>>(
     rows: &mut Rows<Input>,
 ) -> Result<(), AllocError>

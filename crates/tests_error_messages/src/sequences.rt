@@ -17,18 +17,14 @@ pub fn tuples<Input: Legible + Stream<Token = char>>(
 where
     Input::Error: ParseError<char, Input::Range, Input::Position>,
 {
+    let ended = "Unexpected end of input\nExpected `b`\n";
     rows.check(
         (token('a'), token('b')),
         &[
             ("ab", true, "", ""),
             ("ac", true, COLUMN_2, "Unexpected `c`\nExpected `b`\n"),
             ("c", false, COLUMN_1, "Unexpected `c`\nExpected `a`\n"),
-            (
-                "a",
-                true,
-                COLUMN_2,
-                "Unexpected end of input\nExpected `b`\n",
-            ),
+            ("a", true, COLUMN_2, ended),
         ],
     )?;
     rows.check(

@@ -19,7 +19,7 @@ struct Step {
     messages: &'static [&'static str],
     end: BatchEnd,
     at_boundary: bool,
-    /// Whether something grows behind the beginning of the parse: the parser, or the list of messages.
+    /// Whether something grows after the beginning of the parse: the parser, or the list of messages.
     grows: bool,
 }
 
@@ -63,7 +63,7 @@ fn feed_again<F: Fn() -> P, P: Parser<fed::Stream<u8>> + Drop>(
     }
 }
 
-/// A growth was refused within the parse or behind it, and the decoder answers nothing any more.
+/// A growth was refused within the parse or after it, and the decoder answers nothing any more.
 fn assert_failed<F: Fn() -> P, P: Parser<fed::Stream<u8>> + Drop>(
     rt: &impl Abort,
     decoder: &mut Decoder<F, P, u8>,
@@ -79,7 +79,7 @@ fn assert_failed<F: Fn() -> P, P: Parser<fed::Stream<u8>> + Drop>(
     assert_eq!(rt; decoder.at_boundary(), before);
 }
 
-/// Feeds a decoder one piece after another: it answers as the steps say, or, where memory is still scarce and something grows behind the beginning of the parse, that there was none, and then no message any more.
+/// Feeds a decoder one piece after another: it answers as the steps say, or, where memory is still scarce and something grows after the beginning of the parse, that there was none, and then no message any more.
 fn run<F: Fn() -> P + Drop, P: Parser<fed::Stream<u8>> + Drop>(
     rt: &impl Abort,
     alloc: Global,
@@ -123,7 +123,7 @@ fn unfinished(piece: &'static str) -> Step {
     }
 }
 
-/// A piece that completes these messages, with nothing behind them.
+/// A piece that completes these messages, with nothing after them.
 fn finished(piece: &'static str, messages: &'static [&'static str]) -> Step {
     Step {
         piece,
@@ -160,7 +160,7 @@ fn bytes_with_any_growth_refused(rt: HostRuntime) {
     bytes(&rt, rt.alloc(), Memory::Scarce);
 }
 
-/// Messages that are collected: in the first session, in one that begins behind a message, and over a cut.
+/// Messages that are collected: in the first session, in one that begins after a message, and over a cut.
 fn words(rt: &impl Abort, alloc: Global, memory: Memory) {
     let word = move || skip(many1::<Vec<u8>, _>(alloc, token(b'a')), token(b';'));
     let steps = [
@@ -192,7 +192,7 @@ fn words_with_any_growth_refused(rt: HostRuntime) {
     words(&rt, rt.alloc(), Memory::Scarce);
 }
 
-/// Messages behind their lengths: room for a message is had where its length is read.
+/// Messages after their lengths: room for a message is had where its length is read.
 fn frames(rt: &impl Abort, alloc: Global, memory: Memory) {
     let steps = [
         unfinished("\0"),
@@ -219,7 +219,7 @@ fn frames_with_any_growth_refused(rt: HostRuntime) {
     frames(&rt, rt.alloc(), Memory::Scarce);
 }
 
-/// Messages of all pieces at once: there are all of them, or none for want of memory.
+/// Messages of all pieces at once: there are all of them, or none where memory runs out.
 fn frames_at_once(rt: &impl Abort, alloc: Global, memory: Memory) {
     let pieces: [&[u8]; 3] = [b"\0\x02a", b"b\0", b"\x01c\0\0"];
     match decode_pieces(alloc, move || frame(alloc), pieces.as_slice()) {

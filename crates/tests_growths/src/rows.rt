@@ -163,7 +163,7 @@ fn assert_failed<P: Parser<fed::Stream<u8>>>(
     }
 }
 
-/// Feeds a session all pieces, and then the end, until there is a decision: that of the row, or want of memory within the parse where memory is still scarce and the parser takes some.
+/// Feeds a session all pieces, and then the end, until there is a decision: that of the row, or that the parse runs out of memory, where memory is still scarce and the parser takes some.
 pub fn run<P: Parser<fed::Stream<u8>> + Drop>(
     rt: &impl Abort,
     alloc: Global,

@@ -99,7 +99,7 @@ fn in_front(byte: u8) -> Option<Lexeme> {
     }
 }
 
-/// The operator that stands behind an operand.
+/// The operator that stands after an operand.
 fn behind(byte: u8) -> Option<Lexeme> {
     match byte {
         b'<' => Some(Item::Infix(0, Sign::Less)),
@@ -151,7 +151,7 @@ where
     ))
 }
 
-/// The value of an expression, and what is behind it.
+/// The value of an expression, and what is after it.
 pub fn calculate(
     alloc: Global,
     depth: usize,

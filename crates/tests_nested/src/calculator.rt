@@ -57,7 +57,7 @@ impl Expression {
         Some((self.sum, product))
     }
 
-    /// What comes of an operator, or of the end, behind the factor; none where a number is too large.
+    /// What comes of an operator, or of the end, after the factor; none where a number is too large.
     fn operated(self, operator: Option<u8>) -> Option<Then> {
         let (sum, product) = self.folded()?;
         let mut next = Expression::new(self.in_brackets);
@@ -147,7 +147,7 @@ where
     driver.run(nested(alloc, depth, || Expression::new(false), step))
 }
 
-/// The value of an expression, and what is behind it.
+/// The value of an expression, and what is after it.
 pub fn calculate(
     alloc: Global,
     depth: usize,

@@ -1,4 +1,4 @@
-//! Grammars that nest, and expressions, as a caller writes them, and what each answers. They are built for the tests alone, so that they are proved once, but for `brackets`, of which a definition tells.
+//! Grammars that nest, and expressions, as a caller writes them, and what each answers. They are compiled for tests only, so that they are proved once, but for `brackets`, of which a definition tells.
 #![tactic(auto)]
 
 #[cfg(test)]

@@ -48,7 +48,7 @@ fn appended(items: Vec<Expression>, last: Expression) -> Result<Vec<Expression>,
     Ok(items)
 }
 
-/// An expression behind a quotation mark.
+/// An expression after a quotation mark.
 fn quoted(alloc: Global, expression: Expression) -> Result<Expression, AllocError> {
     let mut items = Vec::new(alloc);
     items.push(Expression::Symbol(b"quote".to_vec(alloc)?))?;

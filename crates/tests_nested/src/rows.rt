@@ -38,10 +38,10 @@ impl Like<u64> for u64 {
     }
 }
 
-/// Behind each byte.
+/// After each byte.
 const ONES: u32 = 0xffff_ffff;
 
-/// Behind each second byte.
+/// After each second byte.
 const TWOS: u32 = 0xaaaa_aaaa;
 
 /// Each set of places between bytes, for an input of at most nine; for a longer one single bytes, and bytes in twos.
@@ -62,7 +62,7 @@ fn places_in(alloc: Global, input: &[u8]) -> Result<Vec<u32>, AllocError> {
     Ok(sets)
 }
 
-/// The pieces of an input that is cut behind each byte whose bit is set in `places`, the lowest bit first, an empty piece before each.
+/// The pieces of an input that is cut after each byte whose bit is set in `places`, the lowest bit first, an empty piece before each.
 fn cut(alloc: Global, input: &[u8], places: u32) -> Result<Vec<&[u8]>, AllocError> {
     let mut pieces = Vec::new(alloc);
     let mut rest = input;

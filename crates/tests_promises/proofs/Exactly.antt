@@ -1,23 +1,23 @@
 -- a call of a parser that has one outcome asks for more exactly where its meaning is undecided
 use Rattle.std.proofs.Common.{◌≡◌, Bool, true, false, inl, inr, refl, ◌∙◌, subst, sym}
 use Rattle.combine_base.specs.Stream.View.{View}
-use Rattle.combine_base.specs.Parser.Answer.{World, Run, Answers, ends, fails, peeks}
+use Rattle.combine_base.specs.Parser.Answer.{World, CallRecord, Answers, asks_or_refuses, fails, peeks}
 use Rattle.combine_base.specs.Parser.Drivers.{afresh}
 use Rattle.combine_base.specs.Parser.Meaning.{Meaning, IsSingle}
 use Rattle.combine_base.specs.Parser.Outcome.{Refused}
-use Rattle.combine_base.proofs.Progress.{takes_open}
+use Rattle.combine_base.proofs.Parsers.Progress.{takes_open}
 use Rattle.combine_base.specs.declared.stream.Failures.{Failures}
 use Rattle.combine_base.specs.declared.stream.Kind.{Kind}
 use Rattle.combine_base.specs.declared.stream.Kind.TheVariants as kinds
 use Rattle.combine_base.specs.declared.error.ParseResult.{ParseResult}
 use Rattle.combine_base.specs.declared.error.ParseResult.TheVariants.{CommitOk, PeekOk, CommitErr, PeekErr}
-use Rattle.tests_promises.specs.Asking.{AsksExactly, is_fault_kind}
+use Rattle.tests_promises.specs.NeedsOfMore.{AsksExactly, is_fault_kind}
 
 module _ {P T R V S E : Type 0} (w : World P T S E) (m : Meaning P T R E V S) (h : IsSingle m.whole) (state left : S) (old new : View P T) (before after : Failures) where
-  abbrev run : Run P T S
+  abbrev run : CallRecord P T S
   run = afresh w m state left old new before after
 
-  at_end : (e : E) → w.kind e ≡ kinds.End → (b : Bool) → old.is_open ≡ b → ends w m run b → AsksExactly w.kind m.whole old new (CommitErr e)
+  at_end : (e : E) → w.kind e ≡ kinds.End → (b : Bool) → old.is_open ≡ b → asks_or_refuses w m run b → AsksExactly w.kind m.whole old new (CommitErr e)
   at_end e i true o y = record { nowhere_else = λ z. y.meant; there = λ u. inl (i, takes_open w.step y.count old new y.taken ∙ o) }
   at_end e i false o y = record {
     nowhere_else = λ z. absurd (let a = takes_open w.step y.leaves.count old new y.leaves.taken in let b = z.1 in cc);

@@ -1,6 +1,6 @@
 //! Need of more, exactly where the written meaning is undecided: of a call of each form of choice, of `then`, and of `tokens`.
 ghost use Rattle.std.specs.Prelude.{◌≡◌, nat_eq};
-ghost use Rattle.tests_promises.specs.Asking.{AsksExactly};
+ghost use Rattle.tests_promises.specs.NeedsOfMore.{AsksExactly};
 
 use combine::error::{ParseError, ParseResult};
 use combine::parser::Parser;
@@ -21,7 +21,7 @@ fn call_afresh<Input: Stream, P: Parser<Input> + Drop>(
 ) -> ParseResult<P::Output, Input::Error>
     requires lawful { P.lawful parser }
     requires determined { P.determined parser }
-    ensures { AsksExactly Input.Error.seen.kind (P.meaning parser).whole (Input.view input.old) (Input.view input.new) result }
+    ensures { AsksExactly Input.Error.observers.kind (P.meaning parser).whole (Input.view input.old) (Input.view input.new) result }
 {
     let mut parser = parser;
     let mut state = P::PartialState::default();

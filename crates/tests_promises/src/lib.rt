@@ -1,4 +1,4 @@
-//! What a caller can cite of each constructor: that it has one outcome, leaves nothing unread on need of more or puts all back, and takes no memory. They are built for the tests alone, so that they are proved once.
+//! What a caller can cite of each constructor: that it has one outcome, leaves nothing unread on need of more or puts all back, and takes no memory. They are compiled for tests only, so that they are proved once.
 #![tactic(auto)]
 
 #[cfg(test)]

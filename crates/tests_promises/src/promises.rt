@@ -13,7 +13,7 @@ pub fn keeps<Input: Stream, P: Parser<Input> + Drop>(parser: P)
 pub fn keeps_without_memory<Input: Stream, P: Parser<Input> + Drop>(parser: P)
     requires determined { P.determined parser }
     requires keeps { (P.meaning parser).keeps }
-    requires lean { (P.meaning parser).lean }
+    requires heapless { (P.meaning parser).heapless }
 {}
 
 /// Takes a parser that has one outcome, and on need of more takes nothing.
@@ -26,7 +26,7 @@ pub fn puts_back<Input: Stream, P: Parser<Input> + Drop>(parser: P)
 pub fn puts_back_without_memory<Input: Stream, P: Parser<Input> + Drop>(parser: P)
     requires determined { P.determined parser }
     requires puts_back { (P.meaning parser).puts_back }
-    requires lean { (P.meaning parser).lean }
+    requires heapless { (P.meaning parser).heapless }
 {}
 
 /// Takes a parser that on need of more leaves nothing unread.

@@ -2,9 +2,9 @@
 use Rattle.std.specs.Prelude.{ℕ, zero, suc, ◌+◌, ◌<◌, ◌≤◌, ◌≡◌, List, [], ◌∷◌, ◌++◌, Bool, take, drop, length, nat_eq, refl}
 use Rattle.std.proofs.Common.{arith, ap, ◌∙◌}
 use Rattle.std.proofs.lemmas.Bool.{eqb-true}
-use Rattle.combine_stream.specs.Ranges.{Longest, size_of}
-use Rattle.combine_range_search.specs.Scans.{fails_all}
-use Rattle.combine_range_search.specs.Stable.{FindsAlike, finds_alike}
+use Rattle.combine_stream.specs.Range.Ranges.{Longest, size_of}
+use Rattle.combine_range_search.specs.Bytes.ByteScans.{fails_all}
+use Rattle.combine_range_search.specs.Search.StableFunctions.{FindsAlike, finds_alike}
 use Rattle.combine_range_search.specs.declared.search.TakeRange.{TakeRange}
 use Rattle.combine_range_search.specs.declared.search.TakeRange.TheVariants.{Found, NotFound}
 

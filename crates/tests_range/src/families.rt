@@ -115,7 +115,7 @@ where
     check_all::<Input, _, _, _>(rt, alloc, take_while1(is_digit), rows)
 }
 
-/// A token and digits behind it, as one range.
+/// A token and digits after it, as one range.
 pub fn digits_behind<Input: Written, F: Fn(Input::Token) -> bool + Drop>(
     rt: &impl Abort,
     alloc: Global,

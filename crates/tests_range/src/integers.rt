@@ -106,7 +106,7 @@ fn agrees<T: PartialEq + Drop>(answer: InPieces<T>, wanted: &Option<(T, u64)>) -
     }
 }
 
-/// The pieces of an input that is cut behind each byte whose bit is set in `places`, the lowest bit first, an empty piece before each.
+/// The pieces of an input that is cut after each byte whose bit is set in `places`, the lowest bit first, an empty piece before each.
 fn pieces(alloc: Global, input: &[u8], places: u32) -> Result<Vec<&[u8]>, AllocError> {
     let mut pieces = Vec::new(alloc);
     let mut rest = input;

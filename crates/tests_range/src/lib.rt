@@ -1,4 +1,4 @@
-//! Calls of the parsers of ranges and of whole numbers, and what each answers. They are built for the tests alone, so that they are proved once.
+//! Calls of the parsers of ranges and of whole numbers, and what each answers. They are compiled for tests only, so that they are proved once.
 #![tactic(auto)]
 
 #[cfg(test)]

@@ -49,7 +49,7 @@ fn sets_of_places(characters: usize) -> u32 {
     sets
 }
 
-/// Where windows end that go from the start to behind each character whose bit is set in `places`, the lowest bit first. Each comes twice, and one that is empty first: an empty piece stands before each piece.
+/// Where windows end that go from the start to after each character whose bit is set in `places`, the lowest bit first. Each comes twice, and one that is empty first: an empty piece stands before each piece.
 fn ends(alloc: Global, text: &str, places: u32) -> Result<Vec<usize>, AllocError> {
     let mut ends = Vec::new(alloc);
     ends.push(0)?;

@@ -22,7 +22,7 @@ pub struct Tables {
     pub digits: &'static [TextRow],
     /// The longest beginning of digits, at least one.
     pub some_digits: &'static [TextRow],
-    /// `a` and digits behind it, as one range, which is committed exactly if it isn't empty.
+    /// `a` and digits after it, as one range, which is committed exactly if it isn't empty.
     pub digits_behind_a: &'static [TextRow],
     /// A parser that takes nothing and is committed, as a range.
     pub nothing: &'static [TextRow],

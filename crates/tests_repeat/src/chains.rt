@@ -11,13 +11,13 @@ use example_callers::answers::InPieces;
 use example_callers::slices::is_digit;
 use std::alloc::Global;
 
-/// Digits with `;` between them, and perhaps behind the last; there may be none.
+/// Digits with `;` between them, and perhaps after the last; there may be none.
 pub fn any_lines(alloc: Global, pieces: &[&[u8]]) -> InPieces<Vec<u8>> {
     let digits = sep_end_by::<Vec<u8>, _, _>(alloc, satisfy(is_digit), token(b';'));
     parse_pieces(alloc, digits, pieces)
 }
 
-/// Digits with `;` between them, and perhaps behind the last; at least one.
+/// Digits with `;` between them, and perhaps after the last; at least one.
 pub fn lines(alloc: Global, pieces: &[&[u8]]) -> InPieces<Vec<u8>> {
     let digits = sep_end_by1::<Vec<u8>, _, _>(alloc, satisfy(is_digit), token(b';'));
     parse_pieces(alloc, digits, pieces)
@@ -71,7 +71,7 @@ pub fn characters(alloc: Global, text: &str) -> Result<(String, &str), Unexpecte
     many::<String, _>(alloc, satisfy(|character: char| character != ';')).parse(text)
 }
 
-/// Letters, and `n` or `r` behind a backslash.
+/// Letters, and `n` or `r` after a backslash.
 pub fn escaped_letters(alloc: Global, pieces: &[&[char]]) -> InPieces<()> {
     let letters = escaped(letter(), '\\', one_of("nr".chars()));
     parse_pieces(alloc, letters, pieces)
@@ -129,7 +129,7 @@ mod tests {
         )
     }
 
-    /// `1`, and behind it `^1` so many times.
+    /// `1`, and after it `^1` so many times.
     fn ones(alloc: Global, more: usize) -> Result<Vec<u8>, AllocError> {
         let mut text = Vec::new(alloc);
         text.push(b'1')?;

@@ -1,5 +1,5 @@
 //! Each parser that collects, with a collection that has room for so many values.
-use crate::room::{Counted, Kept, Room, from_start, in_session, seen, unseen};
+use crate::room::{CollectOutcome, Counted, Room, from_start, in_session, seen, unseen};
 use combine_base::parser::Parser;
 use combine_base::repeat::{Append, Sink};
 use combine_combinator::combinator::{attempt, look_ahead, map, not_followed_by};
@@ -17,13 +17,13 @@ use std::process::Abort;
 
 /// A parser over pieces, whatever it collects in.
 trait Collects {
-    fn parse<F: Append<u8> + Counted>(alloc: Global, pieces: &[&[u8]]) -> Kept;
+    fn parse<F: Append<u8> + Counted>(alloc: Global, pieces: &[&[u8]]) -> CollectOutcome;
 }
 
 struct Many;
 
 impl Collects for Many {
-    fn parse<F: Append<u8> + Counted>(alloc: Global, pieces: &[&[u8]]) -> Kept {
+    fn parse<F: Append<u8> + Counted>(alloc: Global, pieces: &[&[u8]]) -> CollectOutcome {
         seen(in_session(alloc, many::<F, _>(alloc, token(b'a')), pieces))
     }
 }
@@ -31,7 +31,7 @@ impl Collects for Many {
 struct Many1;
 
 impl Collects for Many1 {
-    fn parse<F: Append<u8> + Counted>(alloc: Global, pieces: &[&[u8]]) -> Kept {
+    fn parse<F: Append<u8> + Counted>(alloc: Global, pieces: &[&[u8]]) -> CollectOutcome {
         seen(in_session(alloc, many1::<F, _>(alloc, token(b'a')), pieces))
     }
 }
@@ -39,7 +39,7 @@ impl Collects for Many1 {
 struct Count;
 
 impl Collects for Count {
-    fn parse<F: Append<u8> + Counted>(alloc: Global, pieces: &[&[u8]]) -> Kept {
+    fn parse<F: Append<u8> + Counted>(alloc: Global, pieces: &[&[u8]]) -> CollectOutcome {
         seen(in_session(alloc, count::<F, _>(alloc, 3, token(b'a')), pieces))
     }
 }
@@ -47,7 +47,7 @@ impl Collects for Count {
 struct CountMinMax;
 
 impl Collects for CountMinMax {
-    fn parse<F: Append<u8> + Counted>(alloc: Global, pieces: &[&[u8]]) -> Kept {
+    fn parse<F: Append<u8> + Counted>(alloc: Global, pieces: &[&[u8]]) -> CollectOutcome {
         let some = count_min_max::<F, _>(alloc, 2, 4, token(b'a'));
         seen(in_session(alloc, some, pieces))
     }
@@ -57,7 +57,7 @@ impl Collects for CountMinMax {
 struct ManyOfCounts;
 
 impl Collects for ManyOfCounts {
-    fn parse<F: Append<u8> + Counted>(alloc: Global, pieces: &[&[u8]]) -> Kept {
+    fn parse<F: Append<u8> + Counted>(alloc: Global, pieces: &[&[u8]]) -> CollectOutcome {
         let letters = count_min_max::<F, _>(alloc, 3, 4, token(b'a'));
         let counted = map(letters, |_letters: F| b'a');
         let turns = many::<Sink, _>(alloc, or(counted, token(b'x')));
@@ -68,7 +68,7 @@ impl Collects for ManyOfCounts {
 struct SepBy;
 
 impl Collects for SepBy {
-    fn parse<F: Append<u8> + Counted>(alloc: Global, pieces: &[&[u8]]) -> Kept {
+    fn parse<F: Append<u8> + Counted>(alloc: Global, pieces: &[&[u8]]) -> CollectOutcome {
         let letters = sep_by::<F, _, _>(alloc, token(b'a'), token(b','));
         seen(in_session(alloc, letters, pieces))
     }
@@ -77,7 +77,7 @@ impl Collects for SepBy {
 struct SepBy1;
 
 impl Collects for SepBy1 {
-    fn parse<F: Append<u8> + Counted>(alloc: Global, pieces: &[&[u8]]) -> Kept {
+    fn parse<F: Append<u8> + Counted>(alloc: Global, pieces: &[&[u8]]) -> CollectOutcome {
         let letters = sep_by1::<F, _, _>(alloc, token(b'a'), token(b','));
         seen(in_session(alloc, letters, pieces))
     }
@@ -86,7 +86,7 @@ impl Collects for SepBy1 {
 struct SepCountMinMax;
 
 impl Collects for SepCountMinMax {
-    fn parse<F: Append<u8> + Counted>(alloc: Global, pieces: &[&[u8]]) -> Kept {
+    fn parse<F: Append<u8> + Counted>(alloc: Global, pieces: &[&[u8]]) -> CollectOutcome {
         let letters = sep_count_min_max::<F, _, _>(alloc, 2, 4, token(b'a'), token(b','));
         seen(in_session(alloc, letters, pieces))
     }
@@ -95,7 +95,7 @@ impl Collects for SepCountMinMax {
 struct SepEndBy;
 
 impl Collects for SepEndBy {
-    fn parse<F: Append<u8> + Counted>(alloc: Global, pieces: &[&[u8]]) -> Kept {
+    fn parse<F: Append<u8> + Counted>(alloc: Global, pieces: &[&[u8]]) -> CollectOutcome {
         let letters = sep_end_by::<F, _, _>(alloc, token(b'a'), token(b','));
         seen(in_session(alloc, letters, pieces))
     }
@@ -104,7 +104,7 @@ impl Collects for SepEndBy {
 struct SepEndBy1;
 
 impl Collects for SepEndBy1 {
-    fn parse<F: Append<u8> + Counted>(alloc: Global, pieces: &[&[u8]]) -> Kept {
+    fn parse<F: Append<u8> + Counted>(alloc: Global, pieces: &[&[u8]]) -> CollectOutcome {
         let letters = sep_end_by1::<F, _, _>(alloc, token(b'a'), token(b','));
         seen(in_session(alloc, letters, pieces))
     }
@@ -113,7 +113,7 @@ impl Collects for SepEndBy1 {
 struct TakeUntil;
 
 impl Collects for TakeUntil {
-    fn parse<F: Append<u8> + Counted>(alloc: Global, pieces: &[&[u8]]) -> Kept {
+    fn parse<F: Append<u8> + Counted>(alloc: Global, pieces: &[&[u8]]) -> CollectOutcome {
         let before = take_until::<F, _, _, _>(alloc, token(b';'));
         seen(in_session(alloc, before, pieces))
     }
@@ -122,7 +122,7 @@ impl Collects for TakeUntil {
 struct RepeatUntil;
 
 impl Collects for RepeatUntil {
-    fn parse<F: Append<u8> + Counted>(alloc: Global, pieces: &[&[u8]]) -> Kept {
+    fn parse<F: Append<u8> + Counted>(alloc: Global, pieces: &[&[u8]]) -> CollectOutcome {
         let before = repeat_until::<F, _, _, _>(alloc, token(b'a'), token(b';'));
         seen(in_session(alloc, before, pieces))
     }
@@ -131,7 +131,7 @@ impl Collects for RepeatUntil {
 struct Recognize;
 
 impl Collects for Recognize {
-    fn parse<F: Append<u8> + Counted>(alloc: Global, pieces: &[&[u8]]) -> Kept {
+    fn parse<F: Append<u8> + Counted>(alloc: Global, pieces: &[&[u8]]) -> CollectOutcome {
         let tokens = recognize::<F, _>(alloc, (any(), any(), any()));
         seen(in_session(alloc, tokens, pieces))
     }
@@ -141,7 +141,7 @@ impl Collects for Recognize {
 struct ManyOfMany1;
 
 impl Collects for ManyOfMany1 {
-    fn parse<F: Append<u8> + Counted>(alloc: Global, pieces: &[&[u8]]) -> Kept {
+    fn parse<F: Append<u8> + Counted>(alloc: Global, pieces: &[&[u8]]) -> CollectOutcome {
         let letters = many1::<F, _>(alloc, token(b'a'));
         unseen(in_session(alloc, many::<Sink, _>(alloc, letters), pieces))
     }
@@ -150,7 +150,7 @@ impl Collects for ManyOfMany1 {
 struct Attempt;
 
 impl Collects for Attempt {
-    fn parse<F: Append<u8> + Counted>(alloc: Global, pieces: &[&[u8]]) -> Kept {
+    fn parse<F: Append<u8> + Counted>(alloc: Global, pieces: &[&[u8]]) -> CollectOutcome {
         let letters = attempt(many1::<F, _>(alloc, token(b'a')));
         seen(in_session(alloc, letters, pieces))
     }
@@ -159,7 +159,7 @@ impl Collects for Attempt {
 struct LookAhead;
 
 impl Collects for LookAhead {
-    fn parse<F: Append<u8> + Counted>(alloc: Global, pieces: &[&[u8]]) -> Kept {
+    fn parse<F: Append<u8> + Counted>(alloc: Global, pieces: &[&[u8]]) -> CollectOutcome {
         let letters = look_ahead(many1::<F, _>(alloc, token(b'a')));
         seen(in_session(alloc, letters, pieces))
     }
@@ -168,7 +168,7 @@ impl Collects for LookAhead {
 struct NotFollowedBy;
 
 impl Collects for NotFollowedBy {
-    fn parse<F: Append<u8> + Counted>(alloc: Global, pieces: &[&[u8]]) -> Kept {
+    fn parse<F: Append<u8> + Counted>(alloc: Global, pieces: &[&[u8]]) -> CollectOutcome {
         let none = not_followed_by(many1::<F, _>(alloc, token(b'a')));
         unseen(in_session(alloc, none, pieces))
     }
@@ -177,7 +177,7 @@ impl Collects for NotFollowedBy {
 struct Optional;
 
 impl Collects for Optional {
-    fn parse<F: Append<u8> + Counted>(alloc: Global, pieces: &[&[u8]]) -> Kept {
+    fn parse<F: Append<u8> + Counted>(alloc: Global, pieces: &[&[u8]]) -> CollectOutcome {
         let letters = optional(many1::<F, _>(alloc, token(b'a')));
         unseen(in_session(alloc, letters, pieces))
     }
@@ -187,7 +187,7 @@ impl Collects for Optional {
 struct Or;
 
 impl Collects for Or {
-    fn parse<F: Append<u8> + Counted>(alloc: Global, pieces: &[&[u8]]) -> Kept {
+    fn parse<F: Append<u8> + Counted>(alloc: Global, pieces: &[&[u8]]) -> CollectOutcome {
         let letters = attempt(many1::<F, _>(alloc, token(b'a')));
         let first = map(letters, |_letters: F| 1_u8);
         let second = map(token(b'a'), |_letter: u8| 2_u8);
@@ -195,12 +195,12 @@ impl Collects for Or {
     }
 }
 
-/// The answers are those of ample memory where there is room for three values, and want of memory where there is less: whichever growth is refused, and however the input is cut.
+/// The answers are those of ample memory where there is room for three values, and that none is left where there is less: whichever growth is refused, and however the input is cut.
 fn over_every_cut<C: Collects>(
     rt: &impl Abort,
     alloc: Global,
     input: &str,
-    ample: Kept,
+    ample: CollectOutcome,
 ) -> Result<(), AllocError> {
     for places in 0..sets_of_places(input.as_bytes()) {
         let pieces = cut(alloc, input.as_bytes(), places)?;
@@ -210,14 +210,19 @@ fn over_every_cut<C: Collects>(
             C::parse::<Room<2>>(alloc, &pieces),
             C::parse::<Room<3>>(alloc, &pieces),
         ];
-        let wanted = [Kept::NoMemory, Kept::NoMemory, Kept::NoMemory, ample];
+        let wanted = [
+            CollectOutcome::NoMemory,
+            CollectOutcome::NoMemory,
+            CollectOutcome::NoMemory,
+            ample,
+        ];
         assert_eq!(rt; found, wanted, "{input} cut at {places:b}");
     }
     Ok(())
 }
 
 /// What is kept of three values.
-const THREE: Kept = Kept::Values(3);
+const THREE: CollectOutcome = CollectOutcome::Values(3);
 
 #[test]
 fn turns(rt: HostRuntime) -> Result<(), AllocError> {
@@ -229,7 +234,7 @@ fn turns(rt: HostRuntime) -> Result<(), AllocError> {
 }
 
 /// What is kept of three or four `a` at the start of a slice.
-fn counted<F: Append<u8> + Counted>(alloc: Global, input: &[u8]) -> Kept {
+fn counted<F: Append<u8> + Counted>(alloc: Global, input: &[u8]) -> CollectOutcome {
     let mut input = input;
     from_start(count_min_max::<F, _>(alloc, 3, 4, token(b'a')).parse_stream(&mut input))
 }
@@ -240,8 +245,8 @@ fn room_asked_for_first(rt: HostRuntime) -> Result<(), AllocError> {
     let alloc = rt.alloc();
     for (input, ample) in &[
         ("aaa;", THREE),
-        ("aa;", Kept::Refused),
-        (";", Kept::Refused),
+        ("aa;", CollectOutcome::Refused),
+        (";", CollectOutcome::Refused),
     ] {
         let found = [
             counted::<Room<0>>(alloc, input.as_bytes()),
@@ -249,11 +254,16 @@ fn room_asked_for_first(rt: HostRuntime) -> Result<(), AllocError> {
             counted::<Room<2>>(alloc, input.as_bytes()),
             counted::<Room<3>>(alloc, input.as_bytes()),
         ];
-        let wanted = [Kept::NoMemory, Kept::NoMemory, Kept::NoMemory, *ample];
+        let wanted = [
+            CollectOutcome::NoMemory,
+            CollectOutcome::NoMemory,
+            CollectOutcome::NoMemory,
+            *ample,
+        ];
         assert_eq!(rt; found, wanted, "{input}");
     }
-    over_every_cut::<ManyOfCounts>(&rt, alloc, "xaaa;", Kept::Unseen)?;
-    over_every_cut::<ManyOfCounts>(&rt, alloc, "x;", Kept::Unseen)
+    over_every_cut::<ManyOfCounts>(&rt, alloc, "xaaa;", CollectOutcome::Unseen)?;
+    over_every_cut::<ManyOfCounts>(&rt, alloc, "x;", CollectOutcome::Unseen)
 }
 
 #[test]
@@ -279,9 +289,9 @@ fn up_to_a_place(rt: HostRuntime) -> Result<(), AllocError> {
 fn within_others(rt: HostRuntime) -> Result<(), AllocError> {
     let alloc = rt.alloc();
     over_every_cut::<Attempt>(&rt, alloc, "aaa;", THREE)?;
-    over_every_cut::<ManyOfMany1>(&rt, alloc, "aaa;", Kept::Unseen)?;
+    over_every_cut::<ManyOfMany1>(&rt, alloc, "aaa;", CollectOutcome::Unseen)?;
     over_every_cut::<LookAhead>(&rt, alloc, "aaa;", THREE)?;
-    over_every_cut::<NotFollowedBy>(&rt, alloc, "aaa;", Kept::Refused)?;
-    over_every_cut::<Optional>(&rt, alloc, "aaa;", Kept::Unseen)?;
-    over_every_cut::<Or>(&rt, alloc, "aaa;", Kept::Unseen)
+    over_every_cut::<NotFollowedBy>(&rt, alloc, "aaa;", CollectOutcome::Refused)?;
+    over_every_cut::<Optional>(&rt, alloc, "aaa;", CollectOutcome::Unseen)?;
+    over_every_cut::<Or>(&rt, alloc, "aaa;", CollectOutcome::Unseen)
 }

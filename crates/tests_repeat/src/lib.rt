@@ -1,4 +1,4 @@
-//! A plain function for each repetition, and what each answers, also where its collection refuses to grow. They are built for the tests alone, so that they are proved once.
+//! A plain function for each repetition, and what each answers, also where its collection refuses to grow. They are compiled for tests only, so that they are proved once.
 #![tactic(auto)]
 
 #[cfg(test)]
@@ -7,6 +7,8 @@ mod chains;
 mod collecting;
 #[cfg(test)]
 mod items;
+#[cfg(test)]
+mod iter;
 #[cfg(test)]
 mod repetitions;
 #[cfg(test)]
@@ -19,5 +21,3 @@ mod sessions;
 mod turns;
 #[cfg(test)]
 mod until;
-#[cfg(test)]
-mod values;

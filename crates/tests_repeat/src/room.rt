@@ -23,7 +23,7 @@ impl<A: Drop, const N: usize> Append<A> for Room<N> {
 
     ghost more = { λ taken _. taken + 1 };
 
-    ghost lean = { ⊥ };
+    ghost heapless = { ⊥ };
 
     fn empty(_alloc: Global) -> Room<N> {
         Room { taken: 0 }
@@ -56,7 +56,7 @@ impl<const N: usize> Counted for Room<N> {
     }
 }
 
-/// What a session answers to these pieces, and then the end. Behind a fault every call must answer `Failed`; where one doesn't, this is `Closed`.
+/// What a session answers to these pieces, and then the end. After a fault every call must answer `Failed`; where one doesn't, this is `Closed`.
 pub fn in_session<P: Parser<fed::Stream<u8>> + Drop>(
     alloc: Global,
     parser: P,
@@ -89,7 +89,7 @@ fn answers_failed<P: Parser<fed::Stream<u8>>>(session: &mut Session<P, u8>) -> b
 
 /// What became of the values.
 #[derive(Clone, Copy, Debug, PartialEq)]
-pub enum Kept {
+pub enum CollectOutcome {
     /// Accepted, so many of them.
     Values(usize),
     /// Accepted; they aren't seen.
@@ -102,27 +102,27 @@ pub enum Kept {
 }
 
 /// What became of the values that an answer holds.
-pub fn seen<F: Counted + Drop>(answer: InPieces<F>) -> Kept {
+pub fn seen<F: Counted + Drop>(answer: InPieces<F>) -> CollectOutcome {
     match answer {
-        Ok(Answer::Accepted { value, .. }) => Kept::Values(value.count()),
+        Ok(Answer::Accepted { value, .. }) => CollectOutcome::Values(value.count()),
         other => unseen(other),
     }
 }
 
 /// What became of values that an answer doesn't hold.
-pub fn unseen<T: Drop>(answer: InPieces<T>) -> Kept {
+pub fn unseen<T: Drop>(answer: InPieces<T>) -> CollectOutcome {
     match answer {
-        Ok(Answer::Accepted { .. }) => Kept::Unseen,
-        Ok(Answer::Refused { .. }) => Kept::Refused,
-        Err(SessionError::Fault(Kind::Memory)) => Kept::NoMemory,
-        _ => Kept::Other,
+        Ok(Answer::Accepted { .. }) => CollectOutcome::Unseen,
+        Ok(Answer::Refused { .. }) => CollectOutcome::Refused,
+        Err(SessionError::Fault(Kind::Memory)) => CollectOutcome::NoMemory,
+        _ => CollectOutcome::Other,
     }
 }
 
 /// What became of the values that the answer of a call from the start holds. Want of memory must be committed.
-pub fn from_start<F: Counted + Drop>(answer: ParseResult<F, UnexpectedParse>) -> Kept {
+pub fn from_start<F: Counted + Drop>(answer: ParseResult<F, UnexpectedParse>) -> CollectOutcome {
     match answer.into_result() {
-        Ok((values, _commit)) => Kept::Values(values.count()),
+        Ok((values, _commit)) => CollectOutcome::Values(values.count()),
         Err(
             Commit::Commit(
                 Tracked {
@@ -130,16 +130,16 @@ pub fn from_start<F: Counted + Drop>(answer: ParseResult<F, UnexpectedParse>) ->
                     offset: _,
                 },
             ),
-        ) => Kept::NoMemory,
+        ) => CollectOutcome::NoMemory,
         Err(Commit::Commit(refusal)) => refused(refusal),
         Err(Commit::Peek(refusal)) => refused(refusal),
     }
 }
 
 /// That it was refused, if this is why.
-fn refused(refusal: Tracked<UnexpectedParse>) -> Kept {
+fn refused(refusal: Tracked<UnexpectedParse>) -> CollectOutcome {
     match refusal.error {
-        UnexpectedParse(Kind::Refused) => Kept::Refused,
-        _ => Kept::Other,
+        UnexpectedParse(Kind::Refused) => CollectOutcome::Refused,
+        _ => CollectOutcome::Other,
     }
 }

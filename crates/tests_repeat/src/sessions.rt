@@ -92,7 +92,7 @@ fn chains(rt: HostRuntime) {
     assert!(rt; asks_with_nothing_unread(fed, 3, (1, 5)));
 }
 
-/// An `a`, and a thousand empty pieces behind it.
+/// An `a`, and a thousand empty pieces after it.
 #[test]
 fn empty_pieces(rt: HostRuntime) -> Result<(), AllocError> {
     let alloc = rt.alloc();
@@ -106,7 +106,7 @@ fn empty_pieces(rt: HostRuntime) -> Result<(), AllocError> {
     Ok(())
 }
 
-/// Feeds a piece; want of memory where it finds no room.
+/// Feeds a piece, or returns that no memory is left for it.
 pub fn feed(stream: &mut fed::Stream<u8>, piece: &[u8]) -> Result<(), AllocError> {
     if stream.room() < piece.len() as u64 {
         return Err(AllocError);

@@ -22,7 +22,7 @@ fn more_digits(
     Ok(())
 }
 
-/// A stream of these bytes, which ends behind them.
+/// A stream of these bytes, which ends after them.
 fn ended(alloc: Global, bytes: &[u8]) -> Result<fed::Stream<u8>, AllocError> {
     let mut input = fed::Stream::new(alloc);
     input.feed(bytes)?;
@@ -129,7 +129,7 @@ fn digits_over_every_cut(rt: HostRuntime) -> Result<(), AllocError> {
     Ok(())
 }
 
-/// Behind two digits an open input asks for more, with their tokens taken.
+/// After two digits an open input asks for more, with their tokens taken.
 #[test]
 fn digits_of_an_open_input(rt: HostRuntime) -> Result<(), AllocError> {
     let mut input = fed::Stream::new(rt.alloc());

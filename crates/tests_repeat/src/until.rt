@@ -196,7 +196,7 @@ fn blocks_up_to_a_place(rt: HostRuntime) -> Result<(), AllocError> {
     over_every_cut(&rt, rt.alloc(), skip_digits_up_to_semicolon, &rows)
 }
 
-/// How many bytes are unread where a parser asks for more behind this piece.
+/// How many bytes are unread where a parser asks for more after this piece.
 fn unread_behind<P: Parser<fed::Stream<u8>> + Drop>(
     alloc: Global,
     parser: P,
@@ -249,7 +249,7 @@ fn resumed<P: Parser<fed::Stream<u8>> + Drop>(
     Ok(Some((answer, second.unread().len())))
 }
 
-/// The state in which more was asked for of `ab` knows what was read: an input that is longer goes on behind it, and one that is shorter is lost.
+/// The state in which more was asked for of `ab` knows what was read: an input that is longer goes on after it, and one that is shorter is lost.
 #[test]
 fn put_back_but_not_begun_again(rt: HostRuntime) -> Result<(), AllocError> {
     let alloc = rt.alloc();
@@ -272,7 +272,7 @@ fn put_back_but_not_begun_again(rt: HostRuntime) -> Result<(), AllocError> {
     Ok(())
 }
 
-/// The same where the parser that ends the blocks had read a token beyond them: it goes on behind that token, and an input without it is lost.
+/// The same where the parser that ends the blocks had read a token beyond them: it goes on after that token, and an input without it is lost.
 #[test]
 fn put_back_beyond_a_place(rt: HostRuntime) -> Result<(), AllocError> {
     let alloc = rt.alloc();

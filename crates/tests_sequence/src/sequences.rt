@@ -9,7 +9,7 @@ use example_callers::answers::{InPieces, Parsed};
 use example_callers::slices::is_digit;
 use std::alloc::Global;
 
-/// What stands behind a colon.
+/// What stands after a colon.
 pub fn behind_colon(input: &[u8]) -> Parsed<'_, u8> {
     with(token(b':'), any()).parse(input)
 }
@@ -38,7 +38,7 @@ pub fn ignored(input: &[u8]) -> Parsed<'_, ()> {
 #[derive(Debug, Drop, PartialEq)]
 pub struct Digits(pub u8, pub u8);
 
-/// Digits behind a letter.
+/// Digits after a letter.
 #[derive(Debug, Drop, PartialEq)]
 pub struct Entry {
     pub name: u8,
@@ -50,7 +50,7 @@ pub fn two_digits(input: &[u8]) -> Parsed<'_, Digits> {
     struct_parser!(Digits(satisfy(is_digit), _: token(b','), satisfy(is_digit))).parse(input)
 }
 
-/// A name, and two digits behind a colon.
+/// A name, and two digits after a colon.
 pub fn named_digits(input: &[u8]) -> Parsed<'_, Entry> {
     struct_parser!(Entry {
         name: any(),

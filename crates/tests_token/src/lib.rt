@@ -1,4 +1,4 @@
-//! Plain functions over slices, texts and streams that count positions, one for each parser of tokens and for each of the first constructors, and what each answers. They are built for the tests alone, so that they are proved once.
+//! Plain functions over slices, texts and streams that count positions, one for each parser of tokens and for each of the first constructors, and what each answers. They are compiled for tests only, so that they are proved once.
 #![tactic(auto)]
 
 #[cfg(test)]

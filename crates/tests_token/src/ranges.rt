@@ -10,21 +10,21 @@ use combine::stream::{
     ByteRange, Kind, MaybePartialStream, Positioned, RangeStream, ResetStream, StreamOnce,
 };
 
-/// The letters at the beginning of a text, and the text behind them.
+/// The letters at the beginning of a text, and the text after them.
 pub fn letters(input: &str) -> Result<(&str, &str), Kind> {
     let mut rest = input;
     let word = rest.uncons_while(&is_letter)?;
     Ok((word, rest))
 }
 
-/// The letters at the beginning of bytes, and the index behind them.
+/// The letters at the beginning of bytes, and the index after them.
 pub fn byte_letters(input: &[u8]) -> Result<(&[u8], usize), Kind> {
     let mut stream = position::Stream::new(input);
     let word = stream.uncons_while(&|byte: u8| byte.is_ascii_lowercase())?;
     Ok((word, stream.position()))
 }
 
-/// The first bytes of a text, and the line and column behind them.
+/// The first bytes of a text, and the line and column after them.
 pub fn cut(size: usize, input: &str) -> Result<(&str, SourcePosition), Kind> {
     let mut stream = position::Stream::new(input);
     let range = stream.uncons_range(size)?;

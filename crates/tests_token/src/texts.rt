@@ -13,7 +13,7 @@ use std::alloc::Global;
 
 type Setting = (Vec<char>, char, Vec<char>, char);
 
-/// `WORD=DIGITS;` in any stream of characters, and what is behind it.
+/// `WORD=DIGITS;` in any stream of characters, and what is after it.
 pub fn setting<Input: Stream<Token = char>>(
     alloc: Global,
     input: Input,
@@ -31,7 +31,7 @@ pub fn text_setting(alloc: Global, input: &str) -> Result<(Setting, &str), Unexp
     setting(alloc, input)
 }
 
-/// The same, and the line and column behind it.
+/// The same, and the line and column after it.
 pub fn placed_setting(
     alloc: Global,
     input: &str,
@@ -40,13 +40,13 @@ pub fn placed_setting(
     Ok((value, rest.position()))
 }
 
-/// A word at the beginning of a text, and how many bytes are left behind it.
+/// A word at the beginning of a text, and how many bytes are left after it.
 pub fn word(alloc: Global, input: &str) -> Result<(Vec<char>, Left), UnexpectedParse> {
     let (word, rest) = many1::<Vec<char>, _>(alloc, satisfy(is_letter)).parse(input)?;
     Ok((word, rest.position()))
 }
 
-/// The line and column of the first such character, or those behind the text.
+/// The line and column of the first such character, or those after the text.
 pub fn place_of(wanted: char, input: &str) -> Result<SourcePosition, UnexpectedParse> {
     let mut before = skip_many(satisfy(|character: char| character != wanted));
     let (_, rest) = before.parse(position::Stream::new(input))?;
@@ -63,7 +63,7 @@ pub fn placed_mark(
     Ok(value)
 }
 
-/// The index of the first such byte, or that behind the bytes.
+/// The index of the first such byte, or that after the bytes.
 pub fn index_of(wanted: u8, input: &[u8]) -> Result<usize, UnexpectedParse> {
     let mut before = skip_many(satisfy(|byte: u8| byte != wanted));
     let (_, rest) = before.parse(position::Stream::new(input))?;

@@ -1,4 +1,4 @@
-//! Choices: the first alternative that isn't refused peeked gives the answer; and parsers that are one of several.
+//! Choices: the first alternative that isn't refused peeked gives the result; and parsers that are one of several.
 
 pub use combine_choice::choice::{
     ChoiceOutputs, ChoiceParser, OrState, Slice, SliceState, choice, laws, optional, or,

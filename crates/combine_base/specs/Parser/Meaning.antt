@@ -1,7 +1,7 @@
 -- what a parser means, and the laws of it
 use Rattle.std.specs.Prelude.{ℕ, ◌≡◌, ◌≤◌, List, Bool, true, false, length, ◌↔◌}
 use Rattle.combine_base.specs.Stream.View.{View, extended}
-use Rattle.combine_base.specs.Error.Items.{Item}
+use Rattle.combine_base.specs.Error.Items.{ErrorItem}
 use Rattle.combine_base.specs.Parser.Outcome.{Outcome, Accepted, Refused, Undecided, IsDecided, shape}
 
 -- A relation between a view and its outcome.
@@ -29,9 +29,9 @@ pub record Meaning (Position Token Range Error Value State : Type 0) : Type 1 wh
   -- on need of more nothing is taken
   pub puts_back : Type 0
   -- no call asks for memory, but for that of an error's items
-  pub lean : Type 0
+  pub heapless : Type 0
   -- the items that are added to an error, in order
-  pub adds : List (Item Token Range) → Type 0
+  pub adds : List (ErrorItem Token Range) → Type 0
   -- the errors of its refusals, from the start
   pub refuses : Refusing Position Token Error
   -- and from a kept state
@@ -73,7 +73,7 @@ pub record Alike {Position Token Range Error Value State : Type 0} (m m' : Meani
   pub lost : (s : State) (v : View Position Token) → m.lost s v ↔ m'.lost s v
   pub keeps : m.keeps ↔ m'.keeps
   pub puts_back : m.puts_back ↔ m'.puts_back
-  pub lean : m.lean ↔ m'.lean
+  pub heapless : m.heapless ↔ m'.heapless
 
 -- two parsers mean the same, and say the same
 pub record MeansSame {Position Token Range Error Value State : Type 0} (m m' : Meaning Position Token Range Error Value State) : Type 0 where
@@ -82,8 +82,8 @@ pub record MeansSame {Position Token Range Error Value State : Type 0} (m m' : M
   pub lost : (s : State) (v : View Position Token) → m.lost s v ↔ m'.lost s v
   pub keeps : m.keeps ↔ m'.keeps
   pub puts_back : m.puts_back ↔ m'.puts_back
-  pub lean : m.lean ↔ m'.lean
-  pub adds : (is : List (Item Token Range)) → m.adds is ↔ m'.adds is
+  pub heapless : m.heapless ↔ m'.heapless
+  pub adds : (is : List (ErrorItem Token Range)) → m.adds is ↔ m'.adds is
   pub refuses : SameReasons m.refuses m'.refuses
   pub refuses_from : (s : State) → SameReasons (m.refuses_from s) (m'.refuses_from s)
 

@@ -4,7 +4,7 @@ use Rattle.combine_base.specs.Stream.View.{View, extended}
 use Rattle.combine_base.specs.Parser.Outcome.{Outcome, Accepted, Refused, Undecided, after, shape}
 use Rattle.combine_base.specs.Parser.Meaning.{Meaning, Reading, MeansOne, MeansSame}
 use Rattle.combine_base.specs.Stream.Fed.{fed_view}
-use Rattle.combine_base.specs.Parser.Judged.{IsRefusal, answer_to}
+use Rattle.combine_base.specs.Parser.DriverAnswers.{IsRefusal, answer_to}
 use Rattle.combine_base.specs.declared.stream.fed.Stream.{Stream}
 use Rattle.combine_base.specs.declared.stream.Kind.{Kind}
 use Rattle.combine_base.specs.declared.stream.Kind.TheVariants as kinds
@@ -35,8 +35,8 @@ admits None n = true
 admits (Some most) n = not (nat_lt most n)
 
 -- what a parser answered that left its stream so, as a session answers it
-abbrev pub answered : {Token Value : Type 0} → View ℕ Token → ParseResult Value UnexpectedParse → Result (Answer Value UnexpectedParse) Kind
-answered v parsed = answer_to (λ e. e.0) v.is_open v.position parsed
+abbrev pub session_answer : {Token Value : Type 0} → View ℕ Token → ParseResult Value UnexpectedParse → Result (Answer Value UnexpectedParse) Kind
+session_answer v parsed = answer_to (λ e. e.0) v.is_open v.position parsed
 
 -- the stage after a parse
 abbrev pub stage_after : {Value E : Type 0} → Result (Answer Value E) Kind → Stage
@@ -46,14 +46,14 @@ stage_after (Ok (answers.Refused error committed)) = stages.Decided
 stage_after (Err k) = stages.Failed
 
 -- an answer, or a fault as a session's
-abbrev pub Passed : {A : Type 0} → Result A Kind → Result A SessionError → Type 0
-Passed parsed r = MatchResult parsed (λ a. r ≡ Ok a) (λ k. IsErrAnd r (λ e. e ≡ errors.Fault k))
+abbrev pub IsSessionResult : {A : Type 0} → Result A Kind → Result A SessionError → Type 0
+IsSessionResult parsed r = MatchResult parsed (λ a. r ≡ Ok a) (λ k. IsErrAnd r (λ e. e ≡ errors.Fault k))
 
 -- what a call answers that comes after a decision or a fault
-abbrev pub checked : Stage → Result Unit SessionError
-checked stages.Running = Ok tt
-checked stages.Decided = Err errors.Closed
-checked stages.Failed = Err errors.Failed
+abbrev pub checked_stage : Stage → Result Unit SessionError
+checked_stage stages.Running = Ok tt
+checked_stage stages.Decided = Err errors.Closed
+checked_stage stages.Failed = Err errors.Failed
 
 -- the reading, with the tokens that were taken before the view counted_from_start in
 abbrev pub counted_from_start : {Token Value : Type 0} → Reading ℕ Token Value → Reading ℕ Token Value
@@ -61,8 +61,8 @@ counted_from_start {Token} {Value} r v o = (p : Outcome Value) × (o ≡ after v
 
 module _ {Parser Token Range Error Value State : Type 0} (meaning : Parser → Meaning ℕ Token Range Error Value State) where
   -- what is left of a session: the outcomes after these further tokens, open or ended
-  abbrev pub left : Course Parser Token State → List Token → Bool → Outcome Value → Type 0
-  left c x m = counted_from_start ((meaning c.parser).rest c.state) (extended x m c.seen)
+  abbrev pub left_of_session : Course Parser Token State → List Token → Bool → Outcome Value → Type 0
+  left_of_session c x m = counted_from_start ((meaning c.parser).rest c.state) (extended x m c.seen)
 
   -- what is true of every session
   pub record IsSound (IsLawful : Parser → Type 0) (IsValid : State → Type 0) (c : Course Parser Token State) : Type 0 where
@@ -76,10 +76,10 @@ module _ {Parser Token Range Error Value State : Type 0} (meaning : Parser → M
 
   module _ (valid : State → Type 0) where
     -- a session of this parser that was fed nothing yet
-    pub record Begins (determined : Parser → Type 0) (most : Option ℕ) (p : Parser) (c : Course Parser Token State) : Type 0 where
+    pub record BeginsSession (determined : Parser → Type 0) (most : Option ℕ) (p : Parser) (c : Course Parser Token State) : Type 0 where
       pub parser : c.parser ≡ p
       -- what is left is exactly what the parser means
-      pub left : (x : List Token) (m : Bool) (o : Outcome Value) → left c x m o ↔ (meaning p).whole (record { position = 0; unread = x; is_open = m }) o
+      pub left : (x : List Token) (m : Bool) (o : Outcome Value) → left_of_session c x m o ↔ (meaning p).whole (record { position = 0; unread = x; is_open = m }) o
       pub single : determined p → MeansOne valid (meaning c.parser)
       pub unread : c.seen.unread ≡ []
       pub taken : c.seen.position ≡ 0
@@ -89,50 +89,50 @@ module _ {Parser Token Range Error Value State : Type 0} (meaning : Parser → M
     module _ (old new : Course Parser Token State) (piece : List Token) (more : Bool) where
       -- with the piece this is an outcome, and where there is only one, none has another shape
       pub record Means (o : Outcome Value) : Type 0 where
-        pub is : left old piece more o
-        pub only : MeansOne valid (meaning old.parser) → (p : Outcome Value) → left old piece more p → shape p ≡ shape o
+        pub is : left_of_session old piece more o
+        pub only : MeansOne valid (meaning old.parser) → (p : Outcome Value) → left_of_session old piece more p → shape p ≡ shape o
 
       -- what is unread is an end of the old unread tokens and the piece, behind exactly those that were taken
-      pub record Leaves : Type 0 where
+      pub record LeavesUnread : Type 0 where
         pub count : ℕ
         pub within : count ≤ length (old.seen.unread ++ piece)
         pub unread : new.seen.unread ≡ drop count (old.seen.unread ++ piece)
         pub taken : new.seen.position ≡ old.seen.position + count
         pub is_open : new.seen.is_open ≡ more
 
-      pub record Asks : Type 0 where
+      pub record AsksAfterPiece : Type 0 where
         pub is_open : more ≡ true
         pub means : Means Undecided
         -- whatever follows, each outcome of what is left now is one of what was left before
-        pub left : (x : List Token) (m : Bool) (o : Outcome Value) → left new x m o → left old (piece ++ x) m o
-        pub leaves : Leaves
+        pub left : (x : List Token) (m : Bool) (o : Outcome Value) → left_of_session new x m o → left_of_session old (piece ++ x) m o
+        pub leaves : LeavesUnread
         pub all : (meaning old.parser).keeps → new.seen.unread ≡ []
         pub none : (meaning old.parser).puts_back → new.seen.position ≡ old.seen.position
 
-      pub record Accepts (value : Value) (taken : ℕ) (committed : Bool) : Type 0 where
+      pub record AcceptsPiece (value : Value) (taken : ℕ) (committed : Bool) : Type 0 where
         pub means : Means (Accepted value taken committed)
-        pub leaves : Leaves
+        pub leaves : LeavesUnread
         pub all : new.seen.position ≡ taken
 
-      pub record Refuses (error : UnexpectedParse) (committed : Bool) : Type 0 where
+      pub record RefusesPiece (error : UnexpectedParse) (committed : Bool) : Type 0 where
         pub means : Means (Refused committed)
-        pub leaves : Leaves
+        pub leaves : LeavesUnread
         pub kind : IsRefusal more error.0
 
-      pub record Fails (why : Kind) : Type 0 where
+      pub record FailsOnPiece (why : Kind) : Type 0 where
         pub memory : why ≡ kinds.Memory
-        pub wanted : (meaning old.parser).lean → ⊥
-        pub leaves : Leaves
+        pub wanted : (meaning old.parser).heapless → ⊥
+        pub leaves : LeavesUnread
 
-      abbrev pub parsed : Result (Answer Value UnexpectedParse) Kind → Type 0
-      parsed (Ok answers.More) = Asks
-      parsed (Ok (answers.Accepted value taken committed)) = Accepts value taken committed
-      parsed (Ok (answers.Refused error committed)) = Refuses error committed
-      parsed (Err k) = Fails k
+      abbrev pub parsed_piece : Result (Answer Value UnexpectedParse) Kind → Type 0
+      parsed_piece (Ok answers.More) = AsksAfterPiece
+      parsed_piece (Ok (answers.Accepted value taken committed)) = AcceptsPiece value taken committed
+      parsed_piece (Ok (answers.Refused error committed)) = RefusesPiece error committed
+      parsed_piece (Err k) = FailsOnPiece k
 
       -- a parse of the piece behind the unread tokens
-      pub record Parses (result : Result (Answer Value UnexpectedParse) Kind) : Type 0 where
-        pub is : parsed result
+      pub record ParsesPiece (result : Result (Answer Value UnexpectedParse) Kind) : Type 0 where
+        pub is : parsed_piece result
         pub stage : new.stage ≡ stage_after result
         pub same : MeansSame (meaning old.parser) (meaning new.parser)
         pub limit : new.limit ≡ old.limit
@@ -142,8 +142,8 @@ module _ {Parser Token Range Error Value State : Type 0} (meaning : Parser → M
       total = old.seen.position + length old.seen.unread + length piece
 
       -- the unread tokens and the piece are within the limit, and all tokens are counted
-      abbrev pub fits : Type 0
-      fits = (total < 2 ^ 64) × (admits old.limit (length old.seen.unread + length piece) ≡ true)
+      abbrev pub fits_session : Type 0
+      fits_session = (total < 2 ^ 64) × (admits old.limit (length old.seen.unread + length piece) ≡ true)
 
       -- or not; and where the parser keeps, then not for the limit's sake, if the piece alone is within it
       pub record IsTooLong : Type 0 where
@@ -151,22 +151,22 @@ module _ {Parser Token Range Error Value State : Type 0} (meaning : Parser → M
         pub spared : (meaning old.parser).keeps → admits old.limit (length piece) ≡ true → 2 ^ 64 ≤ total
 
       -- the piece is fed and parsed, but for one that is too long or finds no room
-      abbrev pub feeds : Result (Answer Value UnexpectedParse) SessionError → Type 0
-      feeds (Ok a) = fits × Parses (Ok a)
-      feeds (Err (errors.Fault k)) = fits × Parses (Err k)
-      feeds (Err errors.TooLong) = IsTooLong × (new ≡ old)
-      feeds (Err errors.Memory) = fits × (new ≡ old)
-      feeds (Err errors.Closed) = ⊥
-      feeds (Err errors.Failed) = ⊥
+      abbrev pub feeds_session : Result (Answer Value UnexpectedParse) SessionError → Type 0
+      feeds_session (Ok a) = fits_session × ParsesPiece (Ok a)
+      feeds_session (Err (errors.Fault k)) = fits_session × ParsesPiece (Err k)
+      feeds_session (Err errors.TooLong) = IsTooLong × (new ≡ old)
+      feeds_session (Err errors.Memory) = fits_session × (new ≡ old)
+      feeds_session (Err errors.Closed) = ⊥
+      feeds_session (Err errors.Failed) = ⊥
 
       -- the end is said, and what is unread is parsed
-      abbrev pub ends : Result (Answer Value UnexpectedParse) SessionError → Type 0
-      ends (Ok a) = Parses (Ok a)
-      ends (Err (errors.Fault k)) = Parses (Err k)
-      ends (Err errors.TooLong) = ⊥
-      ends (Err errors.Memory) = ⊥
-      ends (Err errors.Closed) = ⊥
-      ends (Err errors.Failed) = ⊥
+      abbrev pub ends_session : Result (Answer Value UnexpectedParse) SessionError → Type 0
+      ends_session (Ok a) = ParsesPiece (Ok a)
+      ends_session (Err (errors.Fault k)) = ParsesPiece (Err k)
+      ends_session (Err errors.TooLong) = ⊥
+      ends_session (Err errors.Memory) = ⊥
+      ends_session (Err errors.Closed) = ⊥
+      ends_session (Err errors.Failed) = ⊥
 
       -- after a decision or a fault nothing changes any more
       abbrev pub by_stage : (Result (Answer Value UnexpectedParse) SessionError → Type 0) → Stage → Result (Answer Value UnexpectedParse) SessionError → Type 0
@@ -176,20 +176,20 @@ module _ {Parser Token Range Error Value State : Type 0} (meaning : Parser → M
 
       -- what a call that feeds a piece promises
       pub record Feeds (result : Result (Answer Value UnexpectedParse) SessionError) : Type 0 where
-        pub is : by_stage feeds old.stage result
+        pub is : by_stage feeds_session old.stage result
 
       -- what the call that says the end promises
-      pub record Ends (result : Result (Answer Value UnexpectedParse) SessionError) : Type 0 where
-        pub is : by_stage ends old.stage result
+      pub record EndsSession (result : Result (Answer Value UnexpectedParse) SessionError) : Type 0 where
+        pub is : by_stage ends_session old.stage result
 
     -- what the call promises that begins again with this parser on what is unread
     module _ (determined : Parser → Type 0) (p : Parser) (old new : Course Parser Token State) (result : Result (Answer Value UnexpectedParse) SessionError) where
       -- a session of the same limit that begins is fed what was unread, open or ended as before; that is within the limit, and room is never wanted
       pub record Anew : Type 0 where
         pub begun : Course Parser Token State
-        pub begins : Begins determined old.limit p begun
+        pub begins : BeginsSession determined old.limit p begun
         pub fits : (length old.seen.unread < 2 ^ 64) × (admits old.limit (length old.seen.unread) ≡ true)
-        pub parses : ends begun new old.seen.unread old.seen.is_open result
+        pub parses : ends_session begun new old.seen.unread old.seen.is_open result
 
       -- after a fault nothing changes any more
       abbrev pub anew_by_stage : Stage → Type 0
@@ -204,4 +204,4 @@ module _ {Parser Token Range Error Value State : Type 0} (meaning : Parser → M
 abbrev pub ParsesUnread : {Parser Token Range Error Value State : Type 0} (meaning : Parser → Meaning ℕ Token Range Error Value State) (valid : State → Type 0) (parser parser' : Parser) (state state' : State) (stream stream' : Stream Token) → ParseResult Value UnexpectedParse → Type 0
 ParsesUnread {Token = Token} meaning valid parser parser' state state' stream stream' result =
     (seen : View ℕ Token) (piece : List Token) (more : Bool) (stage : Stage) (limit : Option ℕ) → fed_view stream ≡ extended piece more seen →
-    Parses meaning valid (record { parser = parser; state = state; seen = seen; stage = stage; limit = limit }) (course_of parser' state' stream' (stage_after (answered (fed_view stream') result)) limit) piece more (answered (fed_view stream') result)
+    ParsesPiece meaning valid (record { parser = parser; state = state; seen = seen; stage = stage; limit = limit }) (course_of parser' state' stream' (stage_after (session_answer (fed_view stream') result)) limit) piece more (session_answer (fed_view stream') result)

@@ -1,7 +1,7 @@
 -- tuples of five to eight parsers: each is the one shorter by a part, followed by that part
-use Rattle.combine_base.specs.Error.Errors.{Errors}
+use Rattle.combine_base.specs.Error.Errors.{Observers}
 use Rattle.combine_base.specs.Parser.Meaning.{Meaning, IsMeaning, MeansOne, MeansSame}
-use Rattle.combine_base.specs.Sequence.Places.{begins, begins_valid, valid_in, first_fresh, begins_4, valid_4, begins_valid_4}
+use Rattle.combine_base.specs.Sequence.Places.{begins_sequence, begins_valid, valid_in, first_fresh, begins_4, valid_4, begins_valid_4}
 use Rattle.combine_base.specs.Sequence.Tuples.{followed, followed_is_meaning, followed_means_one, followed_means_same, tuple_4, tuple_4_is_meaning, tuple_4_means_one, tuple_4_means_same}
 use Rattle.combine_base.specs.declared.sequence.SequenceState.{SequenceState}
 use Rattle.combine_base.specs.declared.sequence.SequencePlace.{SequencePlace}
@@ -26,7 +26,7 @@ place_5 (five.D at) = Before (four.D at)
 place_5 (five.E at) = Last at
 
 abbrev pub begins_5 : {A B C D E : Type 0} → (A → Type 0) → PartialState5 A B C D E → Type 0
-begins_5 fresh = begins place_5 (begins_4 fresh)
+begins_5 fresh = begins_sequence place_5 (begins_4 fresh)
 
 -- what is kept of five parts, with such values and states
 abbrev pub Kept5 : (A B C D SA SB SC SD SE : Type 0) → Type 0
@@ -42,16 +42,16 @@ begins_valid_5 b c d e starts = begins_valid place_5 e (begins_valid_4 b c d sta
 abbrev pub push_4 : {A B C D E : Type 0} → A × B × C × D → E → A × B × C × D × E
 push_4 t last = (t.0, t.1, t.2, t.3, last)
 
-abbrev pub tuple_5 : {P T R X A B C D E SA SB SC SD SE : Type 0} → (P → T → P) → Errors T R P X → Meaning P T R X A SA → Meaning P T R X B SB → Meaning P T R X C SC → Meaning P T R X D SD → Meaning P T R X E SE → Meaning P T R X (A × B × C × D × E) (Kept5 A B C D SA SB SC SD SE)
+abbrev pub tuple_5 : {P T R X A B C D E SA SB SC SD SE : Type 0} → (P → T → P) → Observers T R P X → Meaning P T R X A SA → Meaning P T R X B SB → Meaning P T R X C SC → Meaning P T R X D SD → Meaning P T R X E SE → Meaning P T R X (A × B × C × D × E) (Kept5 A B C D SA SB SC SD SE)
 tuple_5 step errors a b c d e = followed step errors place_5 push_4 (tuple_4 step errors a b c d) e
 
-pub tuple_5_is_meaning : {P T R X A B C D E SA SB SC SD SE : Type 0} (step : P → T → P) (errors : Errors T R P X) {fa va : SA → Type 0} {fb vb : SB → Type 0} {fc vc : SC → Type 0} {fd vd : SD → Type 0} {fe ve : SE → Type 0} {a : Meaning P T R X A SA} {b : Meaning P T R X B SB} {c : Meaning P T R X C SC} {d : Meaning P T R X D SD} {e : Meaning P T R X E SE} → IsMeaning fa va a → IsMeaning fb vb b → IsMeaning fc vc c → IsMeaning fd vd d → IsMeaning fe ve e → IsMeaning (begins_5 (first_fresh fa)) (valid_5 va vb vc vd ve) (tuple_5 step errors a b c d e)
+pub tuple_5_is_meaning : {P T R X A B C D E SA SB SC SD SE : Type 0} (step : P → T → P) (errors : Observers T R P X) {fa va : SA → Type 0} {fb vb : SB → Type 0} {fc vc : SC → Type 0} {fd vd : SD → Type 0} {fe ve : SE → Type 0} {a : Meaning P T R X A SA} {b : Meaning P T R X B SB} {c : Meaning P T R X C SC} {d : Meaning P T R X D SD} {e : Meaning P T R X E SE} → IsMeaning fa va a → IsMeaning fb vb b → IsMeaning fc vc c → IsMeaning fd vd d → IsMeaning fe ve e → IsMeaning (begins_5 (first_fresh fa)) (valid_5 va vb vc vd ve) (tuple_5 step errors a b c d e)
 tuple_5_is_meaning step errors h0 h1 h2 h3 h4 = followed_is_meaning step errors place_5 push_4 (tuple_4_is_meaning step errors h0 h1 h2 h3) h4
 
-pub tuple_5_means_one : {P T R X A B C D E SA SB SC SD SE : Type 0} (step : P → T → P) (errors : Errors T R P X) {va : SA → Type 0} {vb : SB → Type 0} {vc : SC → Type 0} {vd : SD → Type 0} {ve : SE → Type 0} {a : Meaning P T R X A SA} {b : Meaning P T R X B SB} {c : Meaning P T R X C SC} {d : Meaning P T R X D SD} {e : Meaning P T R X E SE} → MeansOne va a → MeansOne vb b → MeansOne vc c → MeansOne vd d → MeansOne ve e → MeansOne (valid_5 va vb vc vd ve) (tuple_5 step errors a b c d e)
+pub tuple_5_means_one : {P T R X A B C D E SA SB SC SD SE : Type 0} (step : P → T → P) (errors : Observers T R P X) {va : SA → Type 0} {vb : SB → Type 0} {vc : SC → Type 0} {vd : SD → Type 0} {ve : SE → Type 0} {a : Meaning P T R X A SA} {b : Meaning P T R X B SB} {c : Meaning P T R X C SC} {d : Meaning P T R X D SD} {e : Meaning P T R X E SE} → MeansOne va a → MeansOne vb b → MeansOne vc c → MeansOne vd d → MeansOne ve e → MeansOne (valid_5 va vb vc vd ve) (tuple_5 step errors a b c d e)
 tuple_5_means_one step errors h0 h1 h2 h3 h4 = followed_means_one step errors place_5 push_4 (tuple_4_means_one step errors h0 h1 h2 h3) h4
 
-pub tuple_5_means_same : {P T R X A B C D E SA SB SC SD SE : Type 0} (step : P → T → P) (errors : Errors T R P X) {a a' : Meaning P T R X A SA} {b b' : Meaning P T R X B SB} {c c' : Meaning P T R X C SC} {d d' : Meaning P T R X D SD} {e e' : Meaning P T R X E SE} → MeansSame a a' → MeansSame b b' → MeansSame c c' → MeansSame d d' → MeansSame e e' → MeansSame (tuple_5 step errors a b c d e) (tuple_5 step errors a' b' c' d' e')
+pub tuple_5_means_same : {P T R X A B C D E SA SB SC SD SE : Type 0} (step : P → T → P) (errors : Observers T R P X) {a a' : Meaning P T R X A SA} {b b' : Meaning P T R X B SB} {c c' : Meaning P T R X C SC} {d d' : Meaning P T R X D SD} {e e' : Meaning P T R X E SE} → MeansSame a a' → MeansSame b b' → MeansSame c c' → MeansSame d d' → MeansSame e e' → MeansSame (tuple_5 step errors a b c d e) (tuple_5 step errors a' b' c' d' e')
 tuple_5_means_same step errors h0 h1 h2 h3 h4 = followed_means_same step errors place_5 push_4 (tuple_4_means_same step errors h0 h1 h2 h3) h4
 
 -- six parts: which runs, which states begin them and which are valid
@@ -64,7 +64,7 @@ place_6 (six.E at) = Before (five.E at)
 place_6 (six.F at) = Last at
 
 abbrev pub begins_6 : {A B C D E F : Type 0} → (A → Type 0) → PartialState6 A B C D E F → Type 0
-begins_6 fresh = begins place_6 (begins_5 fresh)
+begins_6 fresh = begins_sequence place_6 (begins_5 fresh)
 
 -- what is kept of six parts, with such values and states
 abbrev pub Kept6 : (A B C D E SA SB SC SD SE SF : Type 0) → Type 0
@@ -80,16 +80,16 @@ begins_valid_6 b c d e f starts = begins_valid place_6 f (begins_valid_5 b c d e
 abbrev pub push_5 : {A B C D E F : Type 0} → A × B × C × D × E → F → A × B × C × D × E × F
 push_5 t last = (t.0, t.1, t.2, t.3, t.4, last)
 
-abbrev pub tuple_6 : {P T R X A B C D E F SA SB SC SD SE SF : Type 0} → (P → T → P) → Errors T R P X → Meaning P T R X A SA → Meaning P T R X B SB → Meaning P T R X C SC → Meaning P T R X D SD → Meaning P T R X E SE → Meaning P T R X F SF → Meaning P T R X (A × B × C × D × E × F) (Kept6 A B C D E SA SB SC SD SE SF)
+abbrev pub tuple_6 : {P T R X A B C D E F SA SB SC SD SE SF : Type 0} → (P → T → P) → Observers T R P X → Meaning P T R X A SA → Meaning P T R X B SB → Meaning P T R X C SC → Meaning P T R X D SD → Meaning P T R X E SE → Meaning P T R X F SF → Meaning P T R X (A × B × C × D × E × F) (Kept6 A B C D E SA SB SC SD SE SF)
 tuple_6 step errors a b c d e f = followed step errors place_6 push_5 (tuple_5 step errors a b c d e) f
 
-pub tuple_6_is_meaning : {P T R X A B C D E F SA SB SC SD SE SF : Type 0} (step : P → T → P) (errors : Errors T R P X) {fa va : SA → Type 0} {fb vb : SB → Type 0} {fc vc : SC → Type 0} {fd vd : SD → Type 0} {fe ve : SE → Type 0} {ff vf : SF → Type 0} {a : Meaning P T R X A SA} {b : Meaning P T R X B SB} {c : Meaning P T R X C SC} {d : Meaning P T R X D SD} {e : Meaning P T R X E SE} {f : Meaning P T R X F SF} → IsMeaning fa va a → IsMeaning fb vb b → IsMeaning fc vc c → IsMeaning fd vd d → IsMeaning fe ve e → IsMeaning ff vf f → IsMeaning (begins_6 (first_fresh fa)) (valid_6 va vb vc vd ve vf) (tuple_6 step errors a b c d e f)
+pub tuple_6_is_meaning : {P T R X A B C D E F SA SB SC SD SE SF : Type 0} (step : P → T → P) (errors : Observers T R P X) {fa va : SA → Type 0} {fb vb : SB → Type 0} {fc vc : SC → Type 0} {fd vd : SD → Type 0} {fe ve : SE → Type 0} {ff vf : SF → Type 0} {a : Meaning P T R X A SA} {b : Meaning P T R X B SB} {c : Meaning P T R X C SC} {d : Meaning P T R X D SD} {e : Meaning P T R X E SE} {f : Meaning P T R X F SF} → IsMeaning fa va a → IsMeaning fb vb b → IsMeaning fc vc c → IsMeaning fd vd d → IsMeaning fe ve e → IsMeaning ff vf f → IsMeaning (begins_6 (first_fresh fa)) (valid_6 va vb vc vd ve vf) (tuple_6 step errors a b c d e f)
 tuple_6_is_meaning step errors h0 h1 h2 h3 h4 h5 = followed_is_meaning step errors place_6 push_5 (tuple_5_is_meaning step errors h0 h1 h2 h3 h4) h5
 
-pub tuple_6_means_one : {P T R X A B C D E F SA SB SC SD SE SF : Type 0} (step : P → T → P) (errors : Errors T R P X) {va : SA → Type 0} {vb : SB → Type 0} {vc : SC → Type 0} {vd : SD → Type 0} {ve : SE → Type 0} {vf : SF → Type 0} {a : Meaning P T R X A SA} {b : Meaning P T R X B SB} {c : Meaning P T R X C SC} {d : Meaning P T R X D SD} {e : Meaning P T R X E SE} {f : Meaning P T R X F SF} → MeansOne va a → MeansOne vb b → MeansOne vc c → MeansOne vd d → MeansOne ve e → MeansOne vf f → MeansOne (valid_6 va vb vc vd ve vf) (tuple_6 step errors a b c d e f)
+pub tuple_6_means_one : {P T R X A B C D E F SA SB SC SD SE SF : Type 0} (step : P → T → P) (errors : Observers T R P X) {va : SA → Type 0} {vb : SB → Type 0} {vc : SC → Type 0} {vd : SD → Type 0} {ve : SE → Type 0} {vf : SF → Type 0} {a : Meaning P T R X A SA} {b : Meaning P T R X B SB} {c : Meaning P T R X C SC} {d : Meaning P T R X D SD} {e : Meaning P T R X E SE} {f : Meaning P T R X F SF} → MeansOne va a → MeansOne vb b → MeansOne vc c → MeansOne vd d → MeansOne ve e → MeansOne vf f → MeansOne (valid_6 va vb vc vd ve vf) (tuple_6 step errors a b c d e f)
 tuple_6_means_one step errors h0 h1 h2 h3 h4 h5 = followed_means_one step errors place_6 push_5 (tuple_5_means_one step errors h0 h1 h2 h3 h4) h5
 
-pub tuple_6_means_same : {P T R X A B C D E F SA SB SC SD SE SF : Type 0} (step : P → T → P) (errors : Errors T R P X) {a a' : Meaning P T R X A SA} {b b' : Meaning P T R X B SB} {c c' : Meaning P T R X C SC} {d d' : Meaning P T R X D SD} {e e' : Meaning P T R X E SE} {f f' : Meaning P T R X F SF} → MeansSame a a' → MeansSame b b' → MeansSame c c' → MeansSame d d' → MeansSame e e' → MeansSame f f' → MeansSame (tuple_6 step errors a b c d e f) (tuple_6 step errors a' b' c' d' e' f')
+pub tuple_6_means_same : {P T R X A B C D E F SA SB SC SD SE SF : Type 0} (step : P → T → P) (errors : Observers T R P X) {a a' : Meaning P T R X A SA} {b b' : Meaning P T R X B SB} {c c' : Meaning P T R X C SC} {d d' : Meaning P T R X D SD} {e e' : Meaning P T R X E SE} {f f' : Meaning P T R X F SF} → MeansSame a a' → MeansSame b b' → MeansSame c c' → MeansSame d d' → MeansSame e e' → MeansSame f f' → MeansSame (tuple_6 step errors a b c d e f) (tuple_6 step errors a' b' c' d' e' f')
 tuple_6_means_same step errors h0 h1 h2 h3 h4 h5 = followed_means_same step errors place_6 push_5 (tuple_5_means_same step errors h0 h1 h2 h3 h4) h5
 
 -- seven parts: which runs, which states begin them and which are valid
@@ -103,7 +103,7 @@ place_7 (seven.F at) = Before (six.F at)
 place_7 (seven.G at) = Last at
 
 abbrev pub begins_7 : {A B C D E F G : Type 0} → (A → Type 0) → PartialState7 A B C D E F G → Type 0
-begins_7 fresh = begins place_7 (begins_6 fresh)
+begins_7 fresh = begins_sequence place_7 (begins_6 fresh)
 
 -- what is kept of seven parts, with such values and states
 abbrev pub Kept7 : (A B C D E F SA SB SC SD SE SF SG : Type 0) → Type 0
@@ -119,16 +119,16 @@ begins_valid_7 b c d e f g starts = begins_valid place_7 g (begins_valid_6 b c d
 abbrev pub push_6 : {A B C D E F G : Type 0} → A × B × C × D × E × F → G → A × B × C × D × E × F × G
 push_6 t last = (t.0, t.1, t.2, t.3, t.4, t.5, last)
 
-abbrev pub tuple_7 : {P T R X A B C D E F G SA SB SC SD SE SF SG : Type 0} → (P → T → P) → Errors T R P X → Meaning P T R X A SA → Meaning P T R X B SB → Meaning P T R X C SC → Meaning P T R X D SD → Meaning P T R X E SE → Meaning P T R X F SF → Meaning P T R X G SG → Meaning P T R X (A × B × C × D × E × F × G) (Kept7 A B C D E F SA SB SC SD SE SF SG)
+abbrev pub tuple_7 : {P T R X A B C D E F G SA SB SC SD SE SF SG : Type 0} → (P → T → P) → Observers T R P X → Meaning P T R X A SA → Meaning P T R X B SB → Meaning P T R X C SC → Meaning P T R X D SD → Meaning P T R X E SE → Meaning P T R X F SF → Meaning P T R X G SG → Meaning P T R X (A × B × C × D × E × F × G) (Kept7 A B C D E F SA SB SC SD SE SF SG)
 tuple_7 step errors a b c d e f g = followed step errors place_7 push_6 (tuple_6 step errors a b c d e f) g
 
-pub tuple_7_is_meaning : {P T R X A B C D E F G SA SB SC SD SE SF SG : Type 0} (step : P → T → P) (errors : Errors T R P X) {fa va : SA → Type 0} {fb vb : SB → Type 0} {fc vc : SC → Type 0} {fd vd : SD → Type 0} {fe ve : SE → Type 0} {ff vf : SF → Type 0} {fg vg : SG → Type 0} {a : Meaning P T R X A SA} {b : Meaning P T R X B SB} {c : Meaning P T R X C SC} {d : Meaning P T R X D SD} {e : Meaning P T R X E SE} {f : Meaning P T R X F SF} {g : Meaning P T R X G SG} → IsMeaning fa va a → IsMeaning fb vb b → IsMeaning fc vc c → IsMeaning fd vd d → IsMeaning fe ve e → IsMeaning ff vf f → IsMeaning fg vg g → IsMeaning (begins_7 (first_fresh fa)) (valid_7 va vb vc vd ve vf vg) (tuple_7 step errors a b c d e f g)
+pub tuple_7_is_meaning : {P T R X A B C D E F G SA SB SC SD SE SF SG : Type 0} (step : P → T → P) (errors : Observers T R P X) {fa va : SA → Type 0} {fb vb : SB → Type 0} {fc vc : SC → Type 0} {fd vd : SD → Type 0} {fe ve : SE → Type 0} {ff vf : SF → Type 0} {fg vg : SG → Type 0} {a : Meaning P T R X A SA} {b : Meaning P T R X B SB} {c : Meaning P T R X C SC} {d : Meaning P T R X D SD} {e : Meaning P T R X E SE} {f : Meaning P T R X F SF} {g : Meaning P T R X G SG} → IsMeaning fa va a → IsMeaning fb vb b → IsMeaning fc vc c → IsMeaning fd vd d → IsMeaning fe ve e → IsMeaning ff vf f → IsMeaning fg vg g → IsMeaning (begins_7 (first_fresh fa)) (valid_7 va vb vc vd ve vf vg) (tuple_7 step errors a b c d e f g)
 tuple_7_is_meaning step errors h0 h1 h2 h3 h4 h5 h6 = followed_is_meaning step errors place_7 push_6 (tuple_6_is_meaning step errors h0 h1 h2 h3 h4 h5) h6
 
-pub tuple_7_means_one : {P T R X A B C D E F G SA SB SC SD SE SF SG : Type 0} (step : P → T → P) (errors : Errors T R P X) {va : SA → Type 0} {vb : SB → Type 0} {vc : SC → Type 0} {vd : SD → Type 0} {ve : SE → Type 0} {vf : SF → Type 0} {vg : SG → Type 0} {a : Meaning P T R X A SA} {b : Meaning P T R X B SB} {c : Meaning P T R X C SC} {d : Meaning P T R X D SD} {e : Meaning P T R X E SE} {f : Meaning P T R X F SF} {g : Meaning P T R X G SG} → MeansOne va a → MeansOne vb b → MeansOne vc c → MeansOne vd d → MeansOne ve e → MeansOne vf f → MeansOne vg g → MeansOne (valid_7 va vb vc vd ve vf vg) (tuple_7 step errors a b c d e f g)
+pub tuple_7_means_one : {P T R X A B C D E F G SA SB SC SD SE SF SG : Type 0} (step : P → T → P) (errors : Observers T R P X) {va : SA → Type 0} {vb : SB → Type 0} {vc : SC → Type 0} {vd : SD → Type 0} {ve : SE → Type 0} {vf : SF → Type 0} {vg : SG → Type 0} {a : Meaning P T R X A SA} {b : Meaning P T R X B SB} {c : Meaning P T R X C SC} {d : Meaning P T R X D SD} {e : Meaning P T R X E SE} {f : Meaning P T R X F SF} {g : Meaning P T R X G SG} → MeansOne va a → MeansOne vb b → MeansOne vc c → MeansOne vd d → MeansOne ve e → MeansOne vf f → MeansOne vg g → MeansOne (valid_7 va vb vc vd ve vf vg) (tuple_7 step errors a b c d e f g)
 tuple_7_means_one step errors h0 h1 h2 h3 h4 h5 h6 = followed_means_one step errors place_7 push_6 (tuple_6_means_one step errors h0 h1 h2 h3 h4 h5) h6
 
-pub tuple_7_means_same : {P T R X A B C D E F G SA SB SC SD SE SF SG : Type 0} (step : P → T → P) (errors : Errors T R P X) {a a' : Meaning P T R X A SA} {b b' : Meaning P T R X B SB} {c c' : Meaning P T R X C SC} {d d' : Meaning P T R X D SD} {e e' : Meaning P T R X E SE} {f f' : Meaning P T R X F SF} {g g' : Meaning P T R X G SG} → MeansSame a a' → MeansSame b b' → MeansSame c c' → MeansSame d d' → MeansSame e e' → MeansSame f f' → MeansSame g g' → MeansSame (tuple_7 step errors a b c d e f g) (tuple_7 step errors a' b' c' d' e' f' g')
+pub tuple_7_means_same : {P T R X A B C D E F G SA SB SC SD SE SF SG : Type 0} (step : P → T → P) (errors : Observers T R P X) {a a' : Meaning P T R X A SA} {b b' : Meaning P T R X B SB} {c c' : Meaning P T R X C SC} {d d' : Meaning P T R X D SD} {e e' : Meaning P T R X E SE} {f f' : Meaning P T R X F SF} {g g' : Meaning P T R X G SG} → MeansSame a a' → MeansSame b b' → MeansSame c c' → MeansSame d d' → MeansSame e e' → MeansSame f f' → MeansSame g g' → MeansSame (tuple_7 step errors a b c d e f g) (tuple_7 step errors a' b' c' d' e' f' g')
 tuple_7_means_same step errors h0 h1 h2 h3 h4 h5 h6 = followed_means_same step errors place_7 push_6 (tuple_6_means_same step errors h0 h1 h2 h3 h4 h5) h6
 
 -- eight parts: which runs, which states begin them and which are valid
@@ -143,7 +143,7 @@ place_8 (eight.G at) = Before (seven.G at)
 place_8 (eight.H at) = Last at
 
 abbrev pub begins_8 : {A B C D E F G H : Type 0} → (A → Type 0) → PartialState8 A B C D E F G H → Type 0
-begins_8 fresh = begins place_8 (begins_7 fresh)
+begins_8 fresh = begins_sequence place_8 (begins_7 fresh)
 
 -- what is kept of eight parts, with such values and states
 abbrev pub Kept8 : (A B C D E F G SA SB SC SD SE SF SG SH : Type 0) → Type 0
@@ -159,14 +159,14 @@ begins_valid_8 b c d e f g h starts = begins_valid place_8 h (begins_valid_7 b c
 abbrev pub push_7 : {A B C D E F G H : Type 0} → A × B × C × D × E × F × G → H → A × B × C × D × E × F × G × H
 push_7 t last = (t.0, t.1, t.2, t.3, t.4, t.5, t.6, last)
 
-abbrev pub tuple_8 : {P T R X A B C D E F G H SA SB SC SD SE SF SG SH : Type 0} → (P → T → P) → Errors T R P X → Meaning P T R X A SA → Meaning P T R X B SB → Meaning P T R X C SC → Meaning P T R X D SD → Meaning P T R X E SE → Meaning P T R X F SF → Meaning P T R X G SG → Meaning P T R X H SH → Meaning P T R X (A × B × C × D × E × F × G × H) (Kept8 A B C D E F G SA SB SC SD SE SF SG SH)
+abbrev pub tuple_8 : {P T R X A B C D E F G H SA SB SC SD SE SF SG SH : Type 0} → (P → T → P) → Observers T R P X → Meaning P T R X A SA → Meaning P T R X B SB → Meaning P T R X C SC → Meaning P T R X D SD → Meaning P T R X E SE → Meaning P T R X F SF → Meaning P T R X G SG → Meaning P T R X H SH → Meaning P T R X (A × B × C × D × E × F × G × H) (Kept8 A B C D E F G SA SB SC SD SE SF SG SH)
 tuple_8 step errors a b c d e f g h = followed step errors place_8 push_7 (tuple_7 step errors a b c d e f g) h
 
-pub tuple_8_is_meaning : {P T R X A B C D E F G H SA SB SC SD SE SF SG SH : Type 0} (step : P → T → P) (errors : Errors T R P X) {fa va : SA → Type 0} {fb vb : SB → Type 0} {fc vc : SC → Type 0} {fd vd : SD → Type 0} {fe ve : SE → Type 0} {ff vf : SF → Type 0} {fg vg : SG → Type 0} {fh vh : SH → Type 0} {a : Meaning P T R X A SA} {b : Meaning P T R X B SB} {c : Meaning P T R X C SC} {d : Meaning P T R X D SD} {e : Meaning P T R X E SE} {f : Meaning P T R X F SF} {g : Meaning P T R X G SG} {h : Meaning P T R X H SH} → IsMeaning fa va a → IsMeaning fb vb b → IsMeaning fc vc c → IsMeaning fd vd d → IsMeaning fe ve e → IsMeaning ff vf f → IsMeaning fg vg g → IsMeaning fh vh h → IsMeaning (begins_8 (first_fresh fa)) (valid_8 va vb vc vd ve vf vg vh) (tuple_8 step errors a b c d e f g h)
+pub tuple_8_is_meaning : {P T R X A B C D E F G H SA SB SC SD SE SF SG SH : Type 0} (step : P → T → P) (errors : Observers T R P X) {fa va : SA → Type 0} {fb vb : SB → Type 0} {fc vc : SC → Type 0} {fd vd : SD → Type 0} {fe ve : SE → Type 0} {ff vf : SF → Type 0} {fg vg : SG → Type 0} {fh vh : SH → Type 0} {a : Meaning P T R X A SA} {b : Meaning P T R X B SB} {c : Meaning P T R X C SC} {d : Meaning P T R X D SD} {e : Meaning P T R X E SE} {f : Meaning P T R X F SF} {g : Meaning P T R X G SG} {h : Meaning P T R X H SH} → IsMeaning fa va a → IsMeaning fb vb b → IsMeaning fc vc c → IsMeaning fd vd d → IsMeaning fe ve e → IsMeaning ff vf f → IsMeaning fg vg g → IsMeaning fh vh h → IsMeaning (begins_8 (first_fresh fa)) (valid_8 va vb vc vd ve vf vg vh) (tuple_8 step errors a b c d e f g h)
 tuple_8_is_meaning step errors h0 h1 h2 h3 h4 h5 h6 h7 = followed_is_meaning step errors place_8 push_7 (tuple_7_is_meaning step errors h0 h1 h2 h3 h4 h5 h6) h7
 
-pub tuple_8_means_one : {P T R X A B C D E F G H SA SB SC SD SE SF SG SH : Type 0} (step : P → T → P) (errors : Errors T R P X) {va : SA → Type 0} {vb : SB → Type 0} {vc : SC → Type 0} {vd : SD → Type 0} {ve : SE → Type 0} {vf : SF → Type 0} {vg : SG → Type 0} {vh : SH → Type 0} {a : Meaning P T R X A SA} {b : Meaning P T R X B SB} {c : Meaning P T R X C SC} {d : Meaning P T R X D SD} {e : Meaning P T R X E SE} {f : Meaning P T R X F SF} {g : Meaning P T R X G SG} {h : Meaning P T R X H SH} → MeansOne va a → MeansOne vb b → MeansOne vc c → MeansOne vd d → MeansOne ve e → MeansOne vf f → MeansOne vg g → MeansOne vh h → MeansOne (valid_8 va vb vc vd ve vf vg vh) (tuple_8 step errors a b c d e f g h)
+pub tuple_8_means_one : {P T R X A B C D E F G H SA SB SC SD SE SF SG SH : Type 0} (step : P → T → P) (errors : Observers T R P X) {va : SA → Type 0} {vb : SB → Type 0} {vc : SC → Type 0} {vd : SD → Type 0} {ve : SE → Type 0} {vf : SF → Type 0} {vg : SG → Type 0} {vh : SH → Type 0} {a : Meaning P T R X A SA} {b : Meaning P T R X B SB} {c : Meaning P T R X C SC} {d : Meaning P T R X D SD} {e : Meaning P T R X E SE} {f : Meaning P T R X F SF} {g : Meaning P T R X G SG} {h : Meaning P T R X H SH} → MeansOne va a → MeansOne vb b → MeansOne vc c → MeansOne vd d → MeansOne ve e → MeansOne vf f → MeansOne vg g → MeansOne vh h → MeansOne (valid_8 va vb vc vd ve vf vg vh) (tuple_8 step errors a b c d e f g h)
 tuple_8_means_one step errors h0 h1 h2 h3 h4 h5 h6 h7 = followed_means_one step errors place_8 push_7 (tuple_7_means_one step errors h0 h1 h2 h3 h4 h5 h6) h7
 
-pub tuple_8_means_same : {P T R X A B C D E F G H SA SB SC SD SE SF SG SH : Type 0} (step : P → T → P) (errors : Errors T R P X) {a a' : Meaning P T R X A SA} {b b' : Meaning P T R X B SB} {c c' : Meaning P T R X C SC} {d d' : Meaning P T R X D SD} {e e' : Meaning P T R X E SE} {f f' : Meaning P T R X F SF} {g g' : Meaning P T R X G SG} {h h' : Meaning P T R X H SH} → MeansSame a a' → MeansSame b b' → MeansSame c c' → MeansSame d d' → MeansSame e e' → MeansSame f f' → MeansSame g g' → MeansSame h h' → MeansSame (tuple_8 step errors a b c d e f g h) (tuple_8 step errors a' b' c' d' e' f' g' h')
+pub tuple_8_means_same : {P T R X A B C D E F G H SA SB SC SD SE SF SG SH : Type 0} (step : P → T → P) (errors : Observers T R P X) {a a' : Meaning P T R X A SA} {b b' : Meaning P T R X B SB} {c c' : Meaning P T R X C SC} {d d' : Meaning P T R X D SD} {e e' : Meaning P T R X E SE} {f f' : Meaning P T R X F SF} {g g' : Meaning P T R X G SG} {h h' : Meaning P T R X H SH} → MeansSame a a' → MeansSame b b' → MeansSame c c' → MeansSame d d' → MeansSame e e' → MeansSame f f' → MeansSame g g' → MeansSame h h' → MeansSame (tuple_8 step errors a b c d e f g h) (tuple_8 step errors a' b' c' d' e' f' g' h')
 tuple_8_means_same step errors h0 h1 h2 h3 h4 h5 h6 h7 = followed_means_same step errors place_8 push_7 (tuple_7_means_same step errors h0 h1 h2 h3 h4 h5 h6) h7

@@ -2,11 +2,11 @@
 use Rattle.std.specs.Prelude.{◌≡◌, ◌⊎◌, Bool, true, false}
 use Rattle.combine_base.specs.Stream.View.{View}
 use Rattle.combine_base.specs.Stream.Calls.{Passes}
-use Rattle.combine_base.specs.Error.Errors.{Errors}
+use Rattle.combine_base.specs.Error.Errors.{Observers}
 use Rattle.combine_base.specs.Parser.Meaning.{Meaning, MeansSame}
-use Rattle.combine_base.specs.Parser.Answer.{World, Run, Answers, world}
+use Rattle.combine_base.specs.Parser.Answer.{World, CallRecord, Answers, world}
 use Rattle.combine_base.specs.Parser.Drivers.{Explained}
-use Rattle.combine_base.specs.Parser.Judged.{NeedsMore}
+use Rattle.combine_base.specs.Parser.DriverAnswers.{NeedsMore}
 use Rattle.combine_base.specs.declared.stream.Failures.{Failures}
 use Rattle.combine_base.specs.declared.parser.Parser as parser
 use Rattle.combine_base.specs.declared.stream.StreamOnce as stream
@@ -23,8 +23,8 @@ pub record RunsFrom {S : Type 0} (fresh : S → Type 0) (first : Bool) (given s 
   pub kept : first ≡ false → s ≡ given
 
 -- a call from a state, whatever the mode
-abbrev pub run_from : {P T S : Type 0} → S → S → View P T → View P T → Failures → Failures → Run P T S
-run_from s left old new before after = record { first = false; state = s; left = left; old = old; new = new; before = before; after = after }
+abbrev pub call_from : {P T S : Type 0} → S → S → View P T → View P T → Failures → Failures → CallRecord P T S
+call_from s left old new before after = record { first = false; state = s; left = left; old = old; new = new; before = before; after = after }
 
 -- an acceptance after parts of which one was committed, or none
 abbrev pub accepted_as : {V E : Type 0} → Bool → V → ParseResult V E
@@ -44,56 +44,56 @@ joined_answer c f (CommitErr e) = CommitErr e
 joined_answer c f (PeekErr t) = refused_as c t
 
 -- the last part and the states of the sequence
-module _ {P T R B C S L U Z E : Type 0} (w : World P T U E) (errors : Errors T R P E) (valid : U → Type 0) (fresh : Z → Type 0) (place : Z → SequencePlace S L) (m : Meaning P T R E B U) (c : Bool) (f : B → C) (kept : U → L) (left : Z) (old new : View P T) (before after : Failures) (result : ParseResult C E) where
+module _ {P T R B C S L U Z E : Type 0} (w : World P T U E) (errors : Observers T R P E) (valid : U → Type 0) (fresh : Z → Type 0) (place : Z → SequencePlace S L) (m : Meaning P T R E B U) (c : Bool) (f : B → C) (kept : U → L) (left : Z) (old new : View P T) (before after : Failures) (result : ParseResult C E) where
   -- The last part was run from a state, with c and f for what was before it: the sequence answers what it answered, joined. A peeked refusal was explained.
-  pub record Runs (state : U) : Type 0 where
+  pub record RunsLastPart (state : U) : Type 0 where
     pub stopped : U
     pub answer : ParseResult B E
-    pub answers : Answers w m (run_from state stopped old new before after) answer
+    pub answers : Answers w m (call_from state stopped old new before after) answer
     pub explained : Explained errors m (m.refuses_from state) old new answer
     pub is : result ≡ joined_answer c f answer
     -- need of more keeps the state in which it stopped; every other answer leaves one that begins the sequence
     pub leaves : (NeedsMore w.kind new.is_open answer × (place left ≡ Last (kept stopped)) × valid stopped) ⊎ ((NeedsMore w.kind new.is_open answer → ⊥) × fresh left)
 
   -- from the beginning
-  pub record RunsAfresh : Type 0 where
+  pub record RunsLastAfresh : Type 0 where
     pub state : U
     pub afresh : w.fresh state
-    pub runs : Runs state
+    pub runs : RunsLastPart state
 
-module _ {P T R A B C S U Z E : Type 0} (w : World P T U E) (errors : Errors T R P E) (valid : U → Type 0) (fresh : Z → Type 0) (place : Z → SequencePlace S (SequenceState A U)) (f : A → B → C) (m : Meaning P T R E B U) (kept : S) (left : Z) (old new : View P T) (before after : Failures) (result : ParseResult C E) where
+module _ {P T R A B C S U Z E : Type 0} (w : World P T U E) (errors : Observers T R P E) (valid : U → Type 0) (fresh : Z → Type 0) (place : Z → SequencePlace S (SequenceState A U)) (f : A → B → C) (m : Meaning P T R E B U) (kept : S) (left : Z) (old new : View P T) (before after : Failures) (result : ParseResult C E) where
   -- the last part was not run
-  pub record Stops (same : ParseResult C E) (leaves : Type 0) : Type 0 where
+  pub record StopsBeforeLast (same : ParseResult C E) (leaves : Type 0) : Type 0 where
     pub answer : result ≡ same
     pub state : leaves
     pub view : new ≡ old
     pub failures : after ≡ before
 
-  abbrev pub runs_afresh : A → Bool → Type 0
-  runs_afresh a c = RunsAfresh w errors valid fresh place m c (f a) (λ s. record { value = a; committed = c; state = s }) left old new before after result
+  abbrev pub runs_last_afresh : A → Bool → Type 0
+  runs_last_afresh a c = RunsLastAfresh w errors valid fresh place m c (f a) (λ s. record { value = a; committed = c; state = s }) left old new before after result
 
-  abbrev pub goes_on : ParseResult A E → Type 0
-  goes_on (CommitOk a) = runs_afresh a true
-  goes_on (PeekOk a) = runs_afresh a false
-  goes_on (CommitErr e) = Stops (CommitErr e) (place left ≡ Before kept)
-  goes_on (PeekErr t) = Stops (PeekErr t) (fresh left)
+  abbrev pub continues_sequence : ParseResult A E → Type 0
+  continues_sequence (CommitOk a) = runs_last_afresh a true
+  continues_sequence (PeekOk a) = runs_last_afresh a false
+  continues_sequence (CommitErr e) = StopsBeforeLast (CommitErr e) (place left ≡ Before kept)
+  continues_sequence (PeekErr t) = StopsBeforeLast (PeekErr t) (fresh left)
 
   -- what a sequence does after the parts before its last one have answered so, and left the state kept
-  pub record GoesOn (answer : ParseResult A E) : Type 0 where
-    pub is : goes_on answer
+  pub record ContinuesSequence (answer : ParseResult A E) : Type 0 where
+    pub is : continues_sequence answer
 
 -- the parser that is the last part, by its record: what its runs promise, each as one fact
-module _ {Self Input A B C S U Z Checkpoint T R P E : Type 0} (p : parser.Ghosts Self Input U B Checkpoint T R P E) (i : stream.Ghosts Input T R P E) (seen : Errors T R P E) (part_fresh : U → Type 0) (fresh : Z → Type 0) (place : Z → SequencePlace S (SequenceState A U)) (f : A → B → C) (old new : Self) (input left : Input) where
+module _ {Self Input A B C S U Z Checkpoint T R P E : Type 0} (p : parser.Ghosts Self Input U B Checkpoint T R P E) (i : stream.Ghosts Input T R P E) (observers : Observers T R P E) (part_fresh : U → Type 0) (fresh : Z → Type 0) (place : Z → SequencePlace S (SequenceState A U)) (f : A → B → C) (old new : Self) (input left : Input) where
   -- what a run of the last part promises
   pub record CalledLast (from : SequenceState A U) (state : Z) (result : ParseResult C E) : Type 0 where
     pub lawful : p.lawful new
     pub same : MeansSame (p.meaning old) (p.meaning new)
     pub passes : Passes (i.marks input) (i.marks left) (i.failures input) (i.failures left)
-    pub runs : Runs (world i.step seen i.steady part_fresh) seen p.valid fresh place (p.meaning old) from.committed (f from.value) (λ s. record { value = from.value; committed = from.committed; state = s }) state (i.view input) (i.view left) (i.failures input) (i.failures left) result from.state
+    pub runs : RunsLastPart (world i.step observers i.counts_failures part_fresh) observers p.valid fresh place (p.meaning old) from.committed (f from.value) (λ s. record { value = from.value; committed = from.committed; state = s }) state (i.view input) (i.view left) (i.failures input) (i.failures left) result from.state
 
   -- and the rest of a sequence, after the parts before it have answered so and left the state kept
   pub record CalledRest (kept : S) (state : Z) (result : ParseResult C E) (answer : ParseResult A E) : Type 0 where
     pub lawful : p.lawful new
     pub same : MeansSame (p.meaning old) (p.meaning new)
     pub passes : Passes (i.marks input) (i.marks left) (i.failures input) (i.failures left)
-    pub goes_on : GoesOn (world i.step seen i.steady part_fresh) seen p.valid fresh place f (p.meaning old) kept state (i.view input) (i.view left) (i.failures input) (i.failures left) result answer
+    pub goes_on : ContinuesSequence (world i.step observers i.counts_failures part_fresh) observers p.valid fresh place f (p.meaning old) kept state (i.view input) (i.view left) (i.failures input) (i.failures left) result answer

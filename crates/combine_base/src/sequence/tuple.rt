@@ -8,20 +8,23 @@ use crate::error::{ErrorOffset, ParseResult, Tracked};
 use crate::parser::{Calls, Outputs, ParseMode, Parser};
 use crate::sequence::part::{parse_rest, resume_last, take_state};
 use crate::sequence::{
-    PartialState1, PartialState2, PartialState3, PartialState4, Placed, SequencePlace,
-    SequenceState,
+    PartialState1, PartialState2, PartialState3, PartialState4, SequencePlace, SequenceState,
+    TupleState,
 };
 use crate::stream::Stream;
 
 mod longer;
 
+/// The kept state of a tuple of one parser over a stream.
 pub type State1<Input, A> = PartialState1<SequenceState<(), <A as Parser<Input>>::PartialState>>;
 
+/// The kept state of a tuple of two parsers over a stream.
 pub type State2<Input, A, B> = PartialState2<
     SequenceState<(), <A as Parser<Input>>::PartialState>,
     SequenceState<(<A as Outputs<Input>>::Output,), <B as Parser<Input>>::PartialState>,
 >;
 
+/// The kept state of a tuple of three parsers over a stream.
 type State3<Input, A, B, C> = PartialState3<
     SequenceState<(), <A as Parser<Input>>::PartialState>,
     SequenceState<(<A as Outputs<Input>>::Output,), <B as Parser<Input>>::PartialState>,
@@ -31,6 +34,7 @@ type State3<Input, A, B, C> = PartialState3<
     >,
 >;
 
+/// The kept state of a tuple of four parsers over a stream.
 type State4<Input, A, B, C, D> = PartialState4<
     SequenceState<(), <A as Parser<Input>>::PartialState>,
     SequenceState<(<A as Outputs<Input>>::Output,), <B as Parser<Input>>::PartialState>,
@@ -48,14 +52,16 @@ type State4<Input, A, B, C, D> = PartialState4<
     >,
 >;
 
-/// How many parsers two are, at most 255.
+/// Returns how many parsers two are, at most 255.
 fn add_counts(before: ErrorOffset, last: ErrorOffset) -> ErrorOffset
     ensures { result.0 ≡ min (before.0 + last.0) 255 }
 {
     ErrorOffset(before.0.saturating_add(last.0))
 }
 
-/// Runs one part, from what is kept of it. `state` is a default one, and keeps what goes on where more is needed.
+/// Runs one part, from what is kept of it.
+///
+/// `state` is a default one, and keeps what goes on where more is needed.
 #[inline(always)]
 pub fn parse_1<Input: Stream, A: Parser<Input>, M: ParseMode>(
     a: &mut A,
@@ -90,7 +96,9 @@ pub fn parse_1<Input: Stream, A: Parser<Input>, M: ParseMode>(
     }
 }
 
-/// Runs two parts, from what is kept of them. `state` is a default one, and keeps what goes on where more is needed.
+/// Runs two parts, from what is kept of them.
+///
+/// `state` is a default one, and keeps what goes on where more is needed.
 #[inline(always)]
 pub fn parse_2<Input: Stream, A: Parser<Input>, B: Parser<Input>, M: ParseMode>(
     a: &mut A,
@@ -116,7 +124,9 @@ pub fn parse_2<Input: Stream, A: Parser<Input>, B: Parser<Input>, M: ParseMode>(
     }
 }
 
-/// Runs three parts, from what is kept of them. `state` is a default one, and keeps what goes on where more is needed.
+/// Runs three parts, from what is kept of them.
+///
+/// `state` is a default one, and keeps what goes on where more is needed.
 #[inline(always)]
 fn parse_3<Input: Stream, A: Parser<Input>, B: Parser<Input>, C: Parser<Input>, M: ParseMode>(
     a: &mut A,
@@ -142,7 +152,9 @@ fn parse_3<Input: Stream, A: Parser<Input>, B: Parser<Input>, C: Parser<Input>, 
     }
 }
 
-/// Runs four parts, from what is kept of them. `state` is a default one, and keeps what goes on where more is needed.
+/// Runs four parts, from what is kept of them.
+///
+/// `state` is a default one, and keeps what goes on where more is needed.
 #[inline(always)]
 fn parse_4<
     Input: Stream,
@@ -234,7 +246,7 @@ impl<Input: Stream, A: Parser<Input>, B: Parser<Input>> Parser<Input> for (A, B)
 
     ghost valid = { valid_2 A.valid B.valid };
 
-    ghost meaning = { λ p. tuple_2 Input.step Input.Error.seen (A.meaning p.0) (B.meaning p.1) };
+    ghost meaning = { λ p. tuple_2 Input.step Input.Error.observers (A.meaning p.0) (B.meaning p.1) };
 
     ghost parts = { λ p. min (A.parts p.0 + B.parts p.1) 255 };
 
@@ -261,9 +273,9 @@ impl<Input: Stream, A: Parser<Input>, B: Parser<Input>> Parser<Input> for (A, B)
 
     ghost default_valid = { begins_valid_2 B.valid A.default_valid };
 
-    ghost laws = { λ p l. tuple_2_is_meaning Input.step Input.Error.seen (A.laws p.0 l.0) (B.laws p.1 l.1) };
+    ghost laws = { λ p l. tuple_2_is_meaning Input.step Input.Error.observers (A.laws p.0 l.0) (B.laws p.1 l.1) };
 
-    ghost single = { λ p l d. tuple_2_means_one Input.step Input.Error.seen (A.single p.0 l.0 d.0) (B.single p.1 l.1 d.1) };
+    ghost single = { λ p l d. tuple_2_means_one Input.step Input.Error.observers (A.single p.0 l.0 d.0) (B.single p.1 l.1 d.1) };
 }
 
 impl<Input, A: Outputs<Input>, B: Outputs<Input>, C: Outputs<Input>> Outputs<Input> for (A, B, C) {
@@ -280,7 +292,7 @@ impl<Input: Stream, A: Parser<Input>, B: Parser<Input>, C: Parser<Input>> Parser
 
     ghost valid = { valid_3 A.valid B.valid C.valid };
 
-    ghost meaning = { λ p. tuple_3 Input.step Input.Error.seen (A.meaning p.0) (B.meaning p.1) (C.meaning p.2) };
+    ghost meaning = { λ p. tuple_3 Input.step Input.Error.observers (A.meaning p.0) (B.meaning p.1) (C.meaning p.2) };
 
     ghost parts = { λ p. min (A.parts p.0 + B.parts p.1 + C.parts p.2) 255 };
 
@@ -318,9 +330,9 @@ impl<Input: Stream, A: Parser<Input>, B: Parser<Input>, C: Parser<Input>> Parser
 
     ghost default_valid = { begins_valid_3 B.valid C.valid A.default_valid };
 
-    ghost laws = { λ p l. tuple_3_is_meaning Input.step Input.Error.seen (A.laws p.0 l.0) (B.laws p.1 l.1) (C.laws p.2 l.2) };
+    ghost laws = { λ p l. tuple_3_is_meaning Input.step Input.Error.observers (A.laws p.0 l.0) (B.laws p.1 l.1) (C.laws p.2 l.2) };
 
-    ghost single = { λ p l d. tuple_3_means_one Input.step Input.Error.seen (A.single p.0 l.0 d.0) (B.single p.1 l.1 d.1) (C.single p.2 l.2 d.2) };
+    ghost single = { λ p l d. tuple_3_means_one Input.step Input.Error.observers (A.single p.0 l.0 d.0) (B.single p.1 l.1 d.1) (C.single p.2 l.2 d.2) };
 }
 
 impl<Input, A: Outputs<Input>, B: Outputs<Input>, C: Outputs<Input>, D: Outputs<Input>> Outputs<
@@ -340,7 +352,7 @@ impl<Input: Stream, A: Parser<Input>, B: Parser<Input>, C: Parser<Input>, D: Par
 
     ghost valid = { valid_4 A.valid B.valid C.valid D.valid };
 
-    ghost meaning = { λ p. tuple_4 Input.step Input.Error.seen (A.meaning p.0) (B.meaning p.1) (C.meaning p.2) (D.meaning p.3) };
+    ghost meaning = { λ p. tuple_4 Input.step Input.Error.observers (A.meaning p.0) (B.meaning p.1) (C.meaning p.2) (D.meaning p.3) };
 
     ghost parts = { λ p. min (A.parts p.0 + B.parts p.1 + C.parts p.2 + D.parts p.3) 255 };
 
@@ -382,7 +394,7 @@ impl<Input: Stream, A: Parser<Input>, B: Parser<Input>, C: Parser<Input>, D: Par
 
     ghost default_valid = { begins_valid_4 B.valid C.valid D.valid A.default_valid };
 
-    ghost laws = { λ p l. tuple_4_is_meaning Input.step Input.Error.seen (A.laws p.0 l.0) (B.laws p.1 l.1) (C.laws p.2 l.2) (D.laws p.3 l.3) };
+    ghost laws = { λ p l. tuple_4_is_meaning Input.step Input.Error.observers (A.laws p.0 l.0) (B.laws p.1 l.1) (C.laws p.2 l.2) (D.laws p.3 l.3) };
 
-    ghost single = { λ p l d. tuple_4_means_one Input.step Input.Error.seen (A.single p.0 l.0 d.0) (B.single p.1 l.1 d.1) (C.single p.2 l.2 d.2) (D.single p.3 l.3 d.3) };
+    ghost single = { λ p l d. tuple_4_means_one Input.step Input.Error.observers (A.single p.0 l.0 d.0) (B.single p.1 l.1 d.1) (C.single p.2 l.2 d.2) (D.single p.3 l.3 d.3) };
 }

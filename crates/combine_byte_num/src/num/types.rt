@@ -1,4 +1,4 @@
-//! The parsers that the functions of `num` answer.
+//! The parsers that the functions of `num` return.
 
 use crate::order::{BigEndian, LittleEndian};
 use crate::whole::WholeNumber;

@@ -1,6 +1,6 @@
 //! The classes of bytes.
 ghost use Rattle.std.specs.Prelude.{codes};
-ghost use Rattle.combine_char.specs.Bytes.{alpha_num, carriage_return, digit, hex_digit, letter, lower, newline, oct_digit, space, tab, upper};
+ghost use Rattle.combine_char.specs.Bytes.{is_alpha_num_byte, is_carriage_return_byte, is_digit_byte, is_hex_digit_byte, is_letter_byte, is_lower_byte, is_newline_byte, is_oct_digit_byte, is_space_byte, is_tab_byte, is_upper_byte};
 
 use crate::class::{Class, Text};
 
@@ -17,7 +17,7 @@ impl Text for Digit {
 }
 
 impl Class<u8> for Digit {
-    ghost members = { digit };
+    ghost members = { is_digit_byte };
 
     fn has(token: u8) -> bool {
         token.is_ascii_digit()
@@ -37,7 +37,7 @@ impl Text for OctDigit {
 }
 
 impl Class<u8> for OctDigit {
-    ghost members = { oct_digit };
+    ghost members = { is_oct_digit_byte };
 
     fn has(token: u8) -> bool {
         matches!(token, b'0'..=b'7')
@@ -57,7 +57,7 @@ impl Text for HexDigit {
 }
 
 impl Class<u8> for HexDigit {
-    ghost members = { hex_digit };
+    ghost members = { is_hex_digit_byte };
 
     fn has(token: u8) -> bool {
         token.is_ascii_hexdigit()
@@ -77,7 +77,7 @@ impl Text for Space {
 }
 
 impl Class<u8> for Space {
-    ghost members = { space };
+    ghost members = { is_space_byte };
 
     fn has(token: u8) -> bool {
         token.is_ascii_whitespace()
@@ -97,7 +97,7 @@ impl Text for Newline {
 }
 
 impl Class<u8> for Newline {
-    ghost members = { newline };
+    ghost members = { is_newline_byte };
 
     fn has(token: u8) -> bool {
         token == b'\n'
@@ -117,7 +117,7 @@ impl Text for CarriageReturn {
 }
 
 impl Class<u8> for CarriageReturn {
-    ghost members = { carriage_return };
+    ghost members = { is_carriage_return_byte };
 
     fn has(token: u8) -> bool {
         token == b'\r'
@@ -137,7 +137,7 @@ impl Text for Tab {
 }
 
 impl Class<u8> for Tab {
-    ghost members = { tab };
+    ghost members = { is_tab_byte };
 
     fn has(token: u8) -> bool {
         token == b'\t'
@@ -157,7 +157,7 @@ impl Text for Upper {
 }
 
 impl Class<u8> for Upper {
-    ghost members = { upper };
+    ghost members = { is_upper_byte };
 
     fn has(token: u8) -> bool {
         token.is_ascii_uppercase()
@@ -177,7 +177,7 @@ impl Text for Lower {
 }
 
 impl Class<u8> for Lower {
-    ghost members = { lower };
+    ghost members = { is_lower_byte };
 
     fn has(token: u8) -> bool {
         token.is_ascii_lowercase()
@@ -197,7 +197,7 @@ impl Text for Letter {
 }
 
 impl Class<u8> for Letter {
-    ghost members = { letter };
+    ghost members = { is_letter_byte };
 
     fn has(token: u8) -> bool {
         token.is_ascii_alphabetic()
@@ -217,7 +217,7 @@ impl Text for AlphaNum {
 }
 
 impl Class<u8> for AlphaNum {
-    ghost members = { alpha_num };
+    ghost members = { is_alpha_num_byte };
 
     fn has(token: u8) -> bool {
         token.is_ascii_alphanumeric()

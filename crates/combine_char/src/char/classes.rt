@@ -1,6 +1,6 @@
 //! The classes of characters.
 ghost use Rattle.std.specs.Prelude.{codes};
-ghost use Rattle.combine_char.specs.Characters.{alpha_num, carriage_return, digit, hex_digit, letter, lower, newline, oct_digit, space, tab, upper};
+ghost use Rattle.combine_char.specs.Characters.{is_alpha_num_char, is_carriage_return_char, is_digit_char, is_hex_digit_char, is_letter_char, is_lower_char, is_newline_char, is_oct_digit_char, is_space_char, is_tab_char, is_upper_char};
 
 use crate::class::{Class, Text};
 use unicode::properties::{
@@ -20,7 +20,7 @@ impl Text for Digit {
 }
 
 impl Class<char> for Digit {
-    ghost members = { digit };
+    ghost members = { is_digit_char };
 
     fn has(token: char) -> bool {
         token.is_ascii_digit()
@@ -40,7 +40,7 @@ impl Text for OctDigit {
 }
 
 impl Class<char> for OctDigit {
-    ghost members = { oct_digit };
+    ghost members = { is_oct_digit_char };
 
     fn has(token: char) -> bool {
         matches!(token, '0'..='7')
@@ -60,7 +60,7 @@ impl Text for HexDigit {
 }
 
 impl Class<char> for HexDigit {
-    ghost members = { hex_digit };
+    ghost members = { is_hex_digit_char };
 
     fn has(token: char) -> bool {
         token.is_ascii_hexdigit()
@@ -80,7 +80,7 @@ impl Text for Space {
 }
 
 impl Class<char> for Space {
-    ghost members = { space };
+    ghost members = { is_space_char };
 
     fn has(token: char) -> bool {
         token.is_whitespace()
@@ -100,7 +100,7 @@ impl Text for Newline {
 }
 
 impl Class<char> for Newline {
-    ghost members = { newline };
+    ghost members = { is_newline_char };
 
     fn has(token: char) -> bool {
         token == '\n'
@@ -120,7 +120,7 @@ impl Text for CarriageReturn {
 }
 
 impl Class<char> for CarriageReturn {
-    ghost members = { carriage_return };
+    ghost members = { is_carriage_return_char };
 
     fn has(token: char) -> bool {
         token == '\r'
@@ -140,7 +140,7 @@ impl Text for Tab {
 }
 
 impl Class<char> for Tab {
-    ghost members = { tab };
+    ghost members = { is_tab_char };
 
     fn has(token: char) -> bool {
         token == '\t'
@@ -160,7 +160,7 @@ impl Text for Upper {
 }
 
 impl Class<char> for Upper {
-    ghost members = { upper };
+    ghost members = { is_upper_char };
 
     fn has(token: char) -> bool {
         is_uppercase(token)
@@ -180,7 +180,7 @@ impl Text for Lower {
 }
 
 impl Class<char> for Lower {
-    ghost members = { lower };
+    ghost members = { is_lower_char };
 
     fn has(token: char) -> bool {
         is_lowercase(token)
@@ -200,7 +200,7 @@ impl Text for Letter {
 }
 
 impl Class<char> for Letter {
-    ghost members = { letter };
+    ghost members = { is_letter_char };
 
     fn has(token: char) -> bool {
         // The table's way is longer.
@@ -224,7 +224,7 @@ impl Text for AlphaNum {
 }
 
 impl Class<char> for AlphaNum {
-    ghost members = { alpha_num };
+    ghost members = { is_alpha_num_char };
 
     fn has(token: char) -> bool {
         Letter::has(token)

@@ -1,47 +1,47 @@
-//! The parsers that the functions of `char` answer.
+//! The parsers that the functions of `char` return.
 
 use crate::char::classes;
-use crate::class::types::InClass;
+use crate::class::types::ClassParser;
 use crate::fits::{By, Equal};
 use crate::named::Named;
 use crate::pair::WholePair;
-use crate::text::InText;
+use crate::text::TextParser;
 use crate::texts;
 use combine_repeat::repeat::types::SkipMany;
 
 /// The parser of [`digit`](crate::char::digit).
-pub type Digit<Input> = InClass<Input, classes::Digit>;
+pub type Digit<Input> = ClassParser<Input, classes::Digit>;
 
 /// The parser of [`oct_digit`](crate::char::oct_digit).
-pub type OctDigit<Input> = InClass<Input, classes::OctDigit>;
+pub type OctDigit<Input> = ClassParser<Input, classes::OctDigit>;
 
 /// The parser of [`hex_digit`](crate::char::hex_digit).
-pub type HexDigit<Input> = InClass<Input, classes::HexDigit>;
+pub type HexDigit<Input> = ClassParser<Input, classes::HexDigit>;
 
 /// The parser of [`space`](crate::char::space).
-pub type Space<Input> = InClass<Input, classes::Space>;
+pub type Space<Input> = ClassParser<Input, classes::Space>;
 
 /// The parser of [`newline`](crate::char::newline).
-pub type Newline<Input> = InClass<Input, classes::Newline>;
+pub type Newline<Input> = ClassParser<Input, classes::Newline>;
 
 /// The parser of [`tab`](crate::char::tab).
-pub type Tab<Input> = InClass<Input, classes::Tab>;
+pub type Tab<Input> = ClassParser<Input, classes::Tab>;
 
 /// The parser of [`upper`](crate::char::upper).
-pub type Upper<Input> = InClass<Input, classes::Upper>;
+pub type Upper<Input> = ClassParser<Input, classes::Upper>;
 
 /// The parser of [`lower`](crate::char::lower).
-pub type Lower<Input> = InClass<Input, classes::Lower>;
+pub type Lower<Input> = ClassParser<Input, classes::Lower>;
 
 /// The parser of [`letter`](crate::char::letter).
-pub type Letter<Input> = InClass<Input, classes::Letter>;
+pub type Letter<Input> = ClassParser<Input, classes::Letter>;
 
 /// The parser of [`alpha_num`](crate::char::alpha_num).
-pub type AlphaNum<Input> = InClass<Input, classes::AlphaNum>;
+pub type AlphaNum<Input> = ClassParser<Input, classes::AlphaNum>;
 
 /// The parser of [`crlf`](crate::char::crlf).
 pub type CrLf<Input> = Named<
-    WholePair<(InClass<Input, classes::CarriageReturn>, Newline<Input>)>,
+    WholePair<(ClassParser<Input, classes::CarriageReturn>, Newline<Input>)>,
     texts::CrLf,
 >;
 
@@ -49,7 +49,7 @@ pub type CrLf<Input> = Named<
 pub type Spaces<Input> = Named<SkipMany<Space<Input>>, texts::Spaces>;
 
 /// The parser of [`string`](crate::char::string).
-pub type Str<Input> = InText<Input, Equal>;
+pub type Str<Input> = TextParser<Input, Equal>;
 
 /// The parser of [`string_cmp`](crate::char::string_cmp).
-pub type StrCmp<Input, C> = InText<Input, By<C>>;
+pub type StrCmp<Input, C> = TextParser<Input, By<C>>;

@@ -1,8 +1,8 @@
-//! The parser that `in_class` answers.
+//! The parser that `in_class` returns.
 ghost use Rattle.std.specs.Prelude.{◌≡◌};
 ghost use Rattle.combine_base.specs.Error.Errors.{Only};
 ghost use Rattle.combine_base.specs.Error.Items.{Expected, Fixed};
-ghost use Rattle.combine_token.specs.OneToken.{of_function, of_function_is_predicate, satisfied, satisfied_is_test, takes_one, takes_one_is_meaning, takes_one_means_one};
+ghost use Rattle.combine_token.specs.Token.OneToken.{of_function, of_function_is_predicate, satisfied, satisfied_is_test, takes_one, takes_one_is_meaning, takes_one_means_one};
 
 use crate::class::Class;
 use combine_base::error::{ErrorOffset, Info, ParseError, ParseResult, Tracked};
@@ -11,19 +11,21 @@ use combine_base::stream::{Stream, StreamOnce};
 use combine_token::token::reading::token_if;
 use std::marker::PhantomData;
 
-/// The parser of a token of that class. It keeps no state.
+/// The parser of a token of that class.
+///
+/// It keeps no state.
 #[derive(Drop)]
 #[derive_where(Clone, Copy; C)]
-pub struct InClass<Input, C> {
+pub struct ClassParser<Input, C> {
     pub(super) reads: PhantomData<Input>,
     pub(super) class: PhantomData<C>,
 }
 
-impl<Input: StreamOnce, C> Outputs<Input> for InClass<Input, C> {
+impl<Input: StreamOnce, C> Outputs<Input> for ClassParser<Input, C> {
     type Output = Input::Token;
 }
 
-impl<Input: Stream, C: Class<Input::Token>> Parser<Input> for InClass<Input, C> {
+impl<Input: Stream, C: Class<Input::Token>> Parser<Input> for ClassParser<Input, C> {
     type PartialState = ();
 
     ghost lawful = { λ p. Unit {0} };
@@ -32,7 +34,7 @@ impl<Input: Stream, C: Class<Input::Token>> Parser<Input> for InClass<Input, C> 
 
     ghost valid = { λ s. Unit {0} };
 
-    ghost meaning = { λ p. takes_one Input.Error.seen (satisfied (of_function C.members)) (Unit {0}) (Only (Expected (Fixed C.bytes))) };
+    ghost meaning = { λ p. takes_one Input.Error.observers (satisfied (of_function C.members)) (Unit {0}) (Only (Expected (Fixed C.bytes))) };
 
     ghost parts = { λ p. 1 };
 
@@ -64,7 +66,7 @@ impl<Input: Stream, C: Class<Input::Token>> Parser<Input> for InClass<Input, C> 
 
     ghost default_valid = { λ s d. tt };
 
-    ghost laws = { λ p l. takes_one_is_meaning Input.Error.seen (satisfied (of_function C.members)) _ _ _ _ };
+    ghost laws = { λ p l. takes_one_is_meaning Input.Error.observers (satisfied (of_function C.members)) _ _ _ _ };
 
-    ghost single = { λ p l d. takes_one_means_one Input.Error.seen (satisfied (of_function C.members)) _ _ _ (satisfied_is_test _ (of_function_is_predicate C.members)) };
+    ghost single = { λ p l d. takes_one_means_one Input.Error.observers (satisfied (of_function C.members)) _ _ _ (satisfied_is_test _ (of_function_is_predicate C.members)) };
 }

@@ -1,14 +1,13 @@
 //! Choices over the alternatives of a slice or an array.
 ghost use Rattle.std.specs.Prelude.{◌≡◌, ◌<◌, length, true};
 ghost use Rattle.std.specs.List.{All};
-ghost use Rattle.combine_base.specs.Error.Errors.{Says};
+ghost use Rattle.combine_base.specs.Error.Errors.{AddsItems};
 ghost use Rattle.combine_base.specs.Parser.AnswersCalls.{AnswersCall};
 ghost use Rattle.combine_base.specs.Parser.Meaning.{MeansSame};
 ghost use Rattle.combine_base.specs.Parser.Reasons.{ReasonedCall};
 ghost use Rattle.combine_base.specs.Stream.Calls.{Passes};
-ghost use Rattle.combine_choice.specs.Chosen.{choice_of, slice_valid};
-ghost use Rattle.combine_choice.specs.OneTurn.{NoAlternative, Resumes};
-ghost use Rattle.combine_choice.specs.SliceCall.{ChoseFrom, TurnCall};
+ghost use Rattle.combine_choice.specs.ListChoice.{choice_of, slice_valid};
+ghost use Rattle.combine_choice.specs.SliceCalls.{NoAlternative, ResumesAlternative, ChoseFrom, TurnCall};
 
 use super::{ChoiceOutputs, ChoiceParser};
 use combine_base::error::{ParseResult, Tracked};
@@ -39,11 +38,15 @@ impl<S> Default for SliceState<S> {
     }
 }
 
-/// The alternatives of a slice. In the crate the slice itself is a choice.
+/// The alternatives of a slice, for a choice.
+///
+/// In the crate the slice itself is a choice.
 #[derive(Drop)]
 pub struct Slice<'a, P>(pub &'a mut [P]);
 
-/// The alternative at an index goes on, or begins. On need of more it is kept in `state`.
+/// Runs the alternative at an index, which goes on, or begins.
+///
+/// On need of more it is kept in `state`.
 #[inline(always)]
 fn take_turn<Input: Stream, P: Parser<Input>, M: ParseMode>(
     alternative: &mut P,
@@ -60,8 +63,8 @@ fn take_turn<Input: Stream, P: Parser<Input>, M: ParseMode>(
     ensures valid { slice_valid P.valid state.new }
     ensures same { MeansSame (P.meaning alternative.old) (P.meaning alternative.new) }
     ensures passes { Passes (Input.marks input.old) (Input.marks input.new) (Input.failures input.old) (Input.failures input.new) }
-    ensures turn { TurnCall Input.StreamOnce Input.Error.seen P.Parser P.PartialState.is_default index alternative.old (M.first mode) kept state.new input.old input.new result }
-    ensures refuses { ReasonedCall Input.Error.seen (P.meaning alternative.old) (M.first mode) kept (Input.view input.old) (Input.view input.new) result }
+    ensures turn { TurnCall Input.StreamOnce Input.Error.observers P.Parser P.PartialState.is_default index alternative.old (M.first mode) kept state.new input.old input.new result }
+    ensures refuses { ReasonedCall Input.Error.observers (P.meaning alternative.old) (M.first mode) kept (Input.view input.old) (Input.view input.new) result }
 {
     let mut kept = kept;
     let answer = alternative.parse_mode(mode, input, &mut kept);
@@ -71,7 +74,7 @@ fn take_turn<Input: Stream, P: Parser<Input>, M: ParseMode>(
     answer
 }
 
-/// The alternatives from that index on, the first of them from that state, the later ones afresh.
+/// Runs the alternatives from that index on, the first of them from that state, the later ones afresh.
 #[inline(always)]
 fn choose<Input: Stream, P: Parser<Input>, M: ParseMode>(
     alternatives: &mut [P],
@@ -86,7 +89,7 @@ fn choose<Input: Stream, P: Parser<Input>, M: ParseMode>(
     requires valid { P.valid kept }
     requires fresh { M.first mode ≡ true → P.PartialState.is_default kept }
     requires state { state.old ≡ SliceState.Peek }
-    ensures { ChoseFrom Input.StreamOnce Input.Error.seen Input.Position.cmp P.Parser index (M.first mode) kept alternatives.old alternatives.new state.new input.old input.new result }
+    ensures { ChoseFrom Input.StreamOnce Input.Error.observers Input.Position.cmp P.Parser index (M.first mode) kept alternatives.old alternatives.new state.new input.old input.new result }
 {
     let start = input.checkpoint();
     let position = input.position();
@@ -113,7 +116,7 @@ fn choose<Input: Stream, P: Parser<Input>, M: ParseMode>(
     ParseResult::PeekErr(refused)
 }
 
-/// As `choose`, for a call that resumes: apart from the code of calls that begin afresh, which holds the loop once.
+/// Runs the alternatives as `choose` does, in a call that resumes: apart from the code of calls that begin afresh, which holds the loop once.
 fn resume<Input: Stream, P: Parser<Input>, M: ParseMode>(
     alternatives: &mut [P],
     index: usize,
@@ -127,23 +130,25 @@ fn resume<Input: Stream, P: Parser<Input>, M: ParseMode>(
     requires valid { P.valid kept }
     requires fresh { M.first mode ≡ true → P.PartialState.is_default kept }
     requires state { state.old ≡ SliceState.Peek }
-    ensures { ChoseFrom Input.StreamOnce Input.Error.seen Input.Position.cmp P.Parser index (M.first mode) kept alternatives.old alternatives.new state.new input.old input.new result }
+    ensures { ChoseFrom Input.StreamOnce Input.Error.observers Input.Position.cmp P.Parser index (M.first mode) kept alternatives.old alternatives.new state.new input.old input.new result }
 {
     choose(alternatives, index, mode, input, kept, state)
 }
 
-/// The answer of a choice among no alternatives.
+/// Refuses a choice among no alternatives.
 fn no_alternative<O, Input: Stream>(input: &Input) -> ParseResult<O, Input::Error>
-    ensures { NoAlternative Input.Error.seen (Input.view input.now).position result }
+    ensures { NoAlternative Input.Error.observers (Input.view input.now).position result }
 {
     let error = refusal_saying(input, input.position(), "parser choice is empty");
     peeked(Tracked::from(error))
 }
 
-/// The alternative of so many that a call goes on with, and its state: `Peek` where the call begins afresh, also where no alternative has that index.
+/// Returns the alternative of so many that a call goes on with, and its state.
+///
+/// That is `Peek` where the call begins afresh, also where no alternative has that index.
 #[inline(always)]
 fn running<S: Drop, M: ParseMode>(kept: SliceState<S>, count: usize, mode: M) -> SliceState<S>
-    ensures { Resumes (M.first mode) kept count result }
+    ensures { ResumesAlternative (M.first mode) kept count result }
 {
     if mode.is_first() {
         return SliceState::Peek;
@@ -159,7 +164,7 @@ fn running<S: Drop, M: ParseMode>(kept: SliceState<S>, count: usize, mode: M) ->
     }
 }
 
-/// The choice of the alternatives of a slice.
+/// Chooses among the alternatives of a slice.
 #[inline(always)]
 fn parse_slice<Input: Stream, P: Parser<Input>, M: ParseMode>(
     alternatives: &mut [P],
@@ -171,10 +176,10 @@ fn parse_slice<Input: Stream, P: Parser<Input>, M: ParseMode>(
     requires valid { slice_valid P.valid state.old }
     ensures lawful { All P.lawful alternatives.new }
     ensures valid { slice_valid P.valid state.new }
-    ensures same { MeansSame (choice_of Input.Error.seen Input.Position.cmp P.meaning alternatives.old) (choice_of Input.Error.seen Input.Position.cmp P.meaning alternatives.new) }
+    ensures same { MeansSame (choice_of Input.Error.observers Input.Position.cmp P.meaning alternatives.old) (choice_of Input.Error.observers Input.Position.cmp P.meaning alternatives.new) }
     ensures passes { Passes (Input.marks input.old) (Input.marks input.new) (Input.failures input.old) (Input.failures input.new) }
-    ensures answers { AnswersCall Input.StreamOnce Input.Error.seen (λ s. s ≡ SliceState.Peek) (choice_of Input.Error.seen Input.Position.cmp P.meaning alternatives.old) (M.first mode) state.old state.new input.old input.new result }
-    ensures refuses { ReasonedCall Input.Error.seen (choice_of Input.Error.seen Input.Position.cmp P.meaning alternatives.old) (M.first mode) state.old (Input.view input.old) (Input.view input.new) result }
+    ensures answers { AnswersCall Input.StreamOnce Input.Error.observers (λ s. s ≡ SliceState.Peek) (choice_of Input.Error.observers Input.Position.cmp P.meaning alternatives.old) (M.first mode) state.old state.new input.old input.new result }
+    ensures refuses { ReasonedCall Input.Error.observers (choice_of Input.Error.observers Input.Position.cmp P.meaning alternatives.old) (M.first mode) state.old (Input.view input.old) (Input.view input.new) result }
 {
     let kept = replace(state, SliceState::Peek);
     if alternatives.is_empty() {
@@ -198,15 +203,15 @@ fn parse_slice<Input: Stream, P: Parser<Input>, M: ParseMode>(
     }
 }
 
-/// What the alternatives add to an error, in order.
+/// Adds to an error what the alternatives add, in order.
 fn add_errors<Input: Stream, P: Parser<Input>>(
     alternatives: &mut [P],
     error: &mut Tracked<Input::Error>,
 )
     requires { All P.lawful alternatives.old }
     ensures lawful { All P.lawful alternatives.new }
-    ensures same { MeansSame (choice_of Input.Error.seen Input.Position.cmp P.meaning alternatives.old) (choice_of Input.Error.seen Input.Position.cmp P.meaning alternatives.new) }
-    ensures says { Says Input.Error.seen (choice_of Input.Error.seen Input.Position.cmp P.meaning alternatives.old).lean (choice_of Input.Error.seen Input.Position.cmp P.meaning alternatives.old).adds error.old.error error.new.error }
+    ensures same { MeansSame (choice_of Input.Error.observers Input.Position.cmp P.meaning alternatives.old) (choice_of Input.Error.observers Input.Position.cmp P.meaning alternatives.new) }
+    ensures says { AddsItems Input.Error.observers (choice_of Input.Error.observers Input.Position.cmp P.meaning alternatives.old).heapless (choice_of Input.Error.observers Input.Position.cmp P.meaning alternatives.old).adds error.old.error error.new.error }
 {
     for at in 0..alternatives.len() {
         alternatives[at].add_error(error);
@@ -220,7 +225,7 @@ impl<'a, Input, P: Outputs<Input>> ChoiceOutputs<Input> for Slice<'a, P> {
 impl<'a, Input: Stream, P: Parser<Input>> ChoiceParser<Input> for Slice<'a, P> {
     ghost use Rattle.std.specs.List.{All};
     ghost use Rattle.combine_base.specs.Parser.Meaning.{IsMeaning, MeansOne};
-    ghost use Rattle.combine_choice.specs.Chosen.{chosen_is_meaning, chosen_means_one, choice_of, every_all, every_both, slice_valid};
+    ghost use Rattle.combine_choice.specs.ListChoice.{chosen_is_meaning, chosen_means_one, choice_of, every_all, every_both, slice_valid};
 
     type PartialState = SliceState<P::PartialState>;
 
@@ -230,13 +235,13 @@ impl<'a, Input: Stream, P: Parser<Input>> ChoiceParser<Input> for Slice<'a, P> {
 
     ghost valid = { slice_valid P.valid };
 
-    ghost meaning = { λ p. choice_of Input.Error.seen Input.Position.cmp P.meaning p.0.now };
+    ghost meaning = { λ p. choice_of Input.Error.observers Input.Position.cmp P.meaning p.0.now };
 
     ghost default_valid = { λ s d. rw d tt };
 
-    ghost laws = { λ p l. chosen_is_meaning Input.Error.seen Input.Position.cmp P.meaning P.PartialState.is_default P.valid p.0.now (every_all P.meaning P.lawful (IsMeaning P.PartialState.is_default P.valid) P.laws p.0.now l) };
+    ghost laws = { λ p l. chosen_is_meaning Input.Error.observers Input.Position.cmp P.meaning P.PartialState.is_default P.valid p.0.now (every_all P.meaning P.lawful (IsMeaning P.PartialState.is_default P.valid) P.laws p.0.now l) };
 
-    ghost single = { λ p l d. chosen_means_one Input.Error.seen Input.Position.cmp P.meaning P.PartialState.is_default P.valid p.0.now (every_both P.meaning P.lawful P.determined (MeansOne P.valid) P.single p.0.now l d) };
+    ghost single = { λ p l d. chosen_means_one Input.Error.observers Input.Position.cmp P.meaning P.PartialState.is_default P.valid p.0.now (every_both P.meaning P.lawful P.determined (MeansOne P.valid) P.single p.0.now l d) };
 
     #[inline(always)]
     fn parse_mode_choice<M: ParseMode>(
@@ -261,7 +266,7 @@ impl<Input, P: Outputs<Input>, const N: usize> ChoiceOutputs<Input> for [P; N] {
 impl<Input: Stream, P: Parser<Input>, const N: usize> ChoiceParser<Input> for [P; N] {
     ghost use Rattle.std.specs.List.{All};
     ghost use Rattle.combine_base.specs.Parser.Meaning.{IsMeaning, MeansOne};
-    ghost use Rattle.combine_choice.specs.Chosen.{chosen_is_meaning, chosen_means_one, choice_of, every_all, every_both, slice_valid};
+    ghost use Rattle.combine_choice.specs.ListChoice.{chosen_is_meaning, chosen_means_one, choice_of, every_all, every_both, slice_valid};
 
     type PartialState = SliceState<P::PartialState>;
 
@@ -271,13 +276,13 @@ impl<Input: Stream, P: Parser<Input>, const N: usize> ChoiceParser<Input> for [P
 
     ghost valid = { slice_valid P.valid };
 
-    ghost meaning = { λ p. choice_of Input.Error.seen Input.Position.cmp P.meaning p };
+    ghost meaning = { λ p. choice_of Input.Error.observers Input.Position.cmp P.meaning p };
 
     ghost default_valid = { λ s d. rw d tt };
 
-    ghost laws = { λ p l. chosen_is_meaning Input.Error.seen Input.Position.cmp P.meaning P.PartialState.is_default P.valid p (every_all P.meaning P.lawful (IsMeaning P.PartialState.is_default P.valid) P.laws p l) };
+    ghost laws = { λ p l. chosen_is_meaning Input.Error.observers Input.Position.cmp P.meaning P.PartialState.is_default P.valid p (every_all P.meaning P.lawful (IsMeaning P.PartialState.is_default P.valid) P.laws p l) };
 
-    ghost single = { λ p l d. chosen_means_one Input.Error.seen Input.Position.cmp P.meaning P.PartialState.is_default P.valid p (every_both P.meaning P.lawful P.determined (MeansOne P.valid) P.single p l d) };
+    ghost single = { λ p l d. chosen_means_one Input.Error.observers Input.Position.cmp P.meaning P.PartialState.is_default P.valid p (every_both P.meaning P.lawful P.determined (MeansOne P.valid) P.single p l d) };
 
     #[inline(always)]
     fn parse_mode_choice<M: ParseMode>(

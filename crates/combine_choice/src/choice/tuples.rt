@@ -4,7 +4,7 @@ use super::{ChoiceOutputs, ChoiceParser};
 use combine_base::error::{ParseResult, Tracked};
 use combine_base::parser::{Outputs, ParseMode, Parser};
 use combine_base::stream::Stream;
-use combine_token::choice::lent::{Alternatives, First};
+use combine_token::choice::alternatives::{Alternatives, FirstHalf};
 use combine_token::choice::types::Or;
 
 /// Three alternatives as choices of two.
@@ -70,7 +70,7 @@ impl<Input: Stream, A: Parser<Input>, B: Parser<Input, Output = A::Output>> Choi
     for (A, B) {
     ghost use Rattle.std.specs.Prelude.{◌≡◌};
     ghost use Rattle.combine_token.specs.declared.choice.OrState.TheVariants.{Peek};
-    ghost use Rattle.combine_choice.specs.Nested.{nest_laws, nest_one, or_2};
+    ghost use Rattle.combine_choice.specs.NestedChoice.{nest_laws, nest_one, or_2};
 
     type PartialState = <Or<A, B> as Parser<Input>>::PartialState;
 
@@ -96,7 +96,7 @@ impl<Input: Stream, A: Parser<Input>, B: Parser<Input, Output = A::Output>> Choi
         state: &mut Self::PartialState,
     ) -> ParseResult<A::Output, Input::Error> {
         let mut halves = (&mut self.0, &mut self.1);
-        halves.choose::<_, First>(mode, input, state)
+        halves.choose::<_, FirstHalf>(mode, input, state)
     }
 
     fn add_error_choice(&mut self, error: &mut Tracked<Input::Error>) {
@@ -117,7 +117,7 @@ impl<
 > ChoiceParser<Input> for (A, B, C) {
     ghost use Rattle.std.specs.Prelude.{◌≡◌};
     ghost use Rattle.combine_token.specs.declared.choice.OrState.TheVariants.{Peek};
-    ghost use Rattle.combine_choice.specs.Nested.{nest_laws, nest_one, or_3};
+    ghost use Rattle.combine_choice.specs.NestedChoice.{nest_laws, nest_one, or_3};
 
     type PartialState = <Or3<A, B, C> as Parser<Input>>::PartialState;
 
@@ -143,7 +143,7 @@ impl<
         state: &mut Self::PartialState,
     ) -> ParseResult<A::Output, Input::Error> {
         let mut halves = (&mut self.0, (&mut self.1, &mut self.2));
-        halves.choose::<_, First>(mode, input, state)
+        halves.choose::<_, FirstHalf>(mode, input, state)
     }
 
     fn add_error_choice(&mut self, error: &mut Tracked<Input::Error>) {
@@ -166,7 +166,7 @@ impl<
 > ChoiceParser<Input> for (A, B, C, D) {
     ghost use Rattle.std.specs.Prelude.{◌≡◌};
     ghost use Rattle.combine_token.specs.declared.choice.OrState.TheVariants.{Peek};
-    ghost use Rattle.combine_choice.specs.Nested.{nest_laws, nest_one, or_4};
+    ghost use Rattle.combine_choice.specs.NestedChoice.{nest_laws, nest_one, or_4};
 
     type PartialState = <Or4<A, B, C, D> as Parser<Input>>::PartialState;
 
@@ -192,7 +192,7 @@ impl<
         state: &mut Self::PartialState,
     ) -> ParseResult<A::Output, Input::Error> {
         let mut halves = ((&mut self.0, &mut self.1), (&mut self.2, &mut self.3));
-        halves.choose::<_, First>(mode, input, state)
+        halves.choose::<_, FirstHalf>(mode, input, state)
     }
 
     fn add_error_choice(&mut self, error: &mut Tracked<Input::Error>) {
@@ -217,7 +217,7 @@ impl<
 > ChoiceParser<Input> for (A, B, C, D, E) {
     ghost use Rattle.std.specs.Prelude.{◌≡◌};
     ghost use Rattle.combine_token.specs.declared.choice.OrState.TheVariants.{Peek};
-    ghost use Rattle.combine_choice.specs.Nested.{nest_laws, nest_one, or_5};
+    ghost use Rattle.combine_choice.specs.NestedChoice.{nest_laws, nest_one, or_5};
 
     type PartialState = <Or5<A, B, C, D, E> as Parser<Input>>::PartialState;
 
@@ -246,7 +246,7 @@ impl<
             &mut self.0,
             ((&mut self.1, &mut self.2), (&mut self.3, &mut self.4)),
         );
-        halves.choose::<_, First>(mode, input, state)
+        halves.choose::<_, FirstHalf>(mode, input, state)
     }
 
     fn add_error_choice(&mut self, error: &mut Tracked<Input::Error>) {
@@ -273,7 +273,7 @@ impl<
 > ChoiceParser<Input> for (A, B, C, D, E, F) {
     ghost use Rattle.std.specs.Prelude.{◌≡◌};
     ghost use Rattle.combine_token.specs.declared.choice.OrState.TheVariants.{Peek};
-    ghost use Rattle.combine_choice.specs.Nested.{nest_laws, nest_one, or_6};
+    ghost use Rattle.combine_choice.specs.NestedChoice.{nest_laws, nest_one, or_6};
 
     type PartialState = <Or6<A, B, C, D, E, F> as Parser<Input>>::PartialState;
 
@@ -302,7 +302,7 @@ impl<
             (&mut self.0, &mut self.1),
             ((&mut self.2, &mut self.3), (&mut self.4, &mut self.5)),
         );
-        halves.choose::<_, First>(mode, input, state)
+        halves.choose::<_, FirstHalf>(mode, input, state)
     }
 
     fn add_error_choice(&mut self, error: &mut Tracked<Input::Error>) {
@@ -331,7 +331,7 @@ impl<
 > ChoiceParser<Input> for (A, B, C, D, E, F, G) {
     ghost use Rattle.std.specs.Prelude.{◌≡◌};
     ghost use Rattle.combine_token.specs.declared.choice.OrState.TheVariants.{Peek};
-    ghost use Rattle.combine_choice.specs.Nested.{nest_laws, nest_one, nest_one_4, or_7};
+    ghost use Rattle.combine_choice.specs.NestedChoice.{nest_laws, nest_one, nest_one_4, or_7};
 
     type PartialState = <Or7<A, B, C, D, E, F, G> as Parser<Input>>::PartialState;
 
@@ -360,7 +360,7 @@ impl<
             (&mut self.0, (&mut self.1, &mut self.2)),
             ((&mut self.3, &mut self.4), (&mut self.5, &mut self.6)),
         );
-        halves.choose::<_, First>(mode, input, state)
+        halves.choose::<_, FirstHalf>(mode, input, state)
     }
 
     fn add_error_choice(&mut self, error: &mut Tracked<Input::Error>) {
@@ -392,7 +392,7 @@ impl<
 > ChoiceParser<Input> for (A, B, C, D, E, F, G, H) {
     ghost use Rattle.std.specs.Prelude.{◌≡◌};
     ghost use Rattle.combine_token.specs.declared.choice.OrState.TheVariants.{Peek};
-    ghost use Rattle.combine_choice.specs.Nested.{nest_laws, nest_one_8, or_8};
+    ghost use Rattle.combine_choice.specs.NestedChoice.{nest_laws, nest_one_8, or_8};
 
     type PartialState = <Or8<A, B, C, D, E, F, G, H> as Parser<Input>>::PartialState;
 
@@ -421,7 +421,7 @@ impl<
             ((&mut self.0, &mut self.1), (&mut self.2, &mut self.3)),
             ((&mut self.4, &mut self.5), (&mut self.6, &mut self.7)),
         );
-        halves.choose::<_, First>(mode, input, state)
+        halves.choose::<_, FirstHalf>(mode, input, state)
     }
 
     fn add_error_choice(&mut self, error: &mut Tracked<Input::Error>) {

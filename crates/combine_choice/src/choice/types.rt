@@ -1,4 +1,4 @@
-//! The parsers that the functions of `choice` answer.
+//! The parsers that the functions of `choice` return.
 
 use super::{ChoiceOutputs, ChoiceParser};
 use combine_base::error::{ErrorOffset, ParseResult, Tracked};
@@ -6,7 +6,7 @@ use combine_base::parser::{Outputs, ParseMode, Parser};
 use combine_base::stream::Stream;
 pub use combine_token::choice::types::{Optional, Or};
 
-/// The choice of alternatives, as `choice` makes it.
+/// The parser of [`choice`](crate::choice::choice).
 #[derive(Clone, Copy, Drop)]
 pub struct Choice<P>(pub(super) P);
 
@@ -43,12 +43,12 @@ impl<Input: Stream, P: ChoiceParser<Input>> Parser<Input> for Choice<P> {
         self.0.parse_mode_choice(mode, input, state)
     }
 
-    /// What the alternatives add, in order.
+    /// Adds what the alternatives add, in order.
     fn add_error(&mut self, error: &mut Tracked<Input::Error>) {
         self.0.add_error_choice(error)
     }
 
-    /// A choice counts as one parser.
+    /// Counts as one parser.
     fn parser_count(&self) -> ErrorOffset {
         ErrorOffset(1)
     }

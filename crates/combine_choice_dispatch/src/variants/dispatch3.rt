@@ -1,5 +1,5 @@
 //! A parser that is one of three.
-ghost use Rattle.combine_choice_dispatch.specs.Held.{Started, within};
+ghost use Rattle.combine_choice_dispatch.specs.HeldParser.{Started, state_within};
 ghost use Rattle.combine_choice_dispatch.specs.Halves.{nest_3};
 ghost use Rattle.combine_choice_dispatch.specs.Variants2.{pick_left, pick_right};
 
@@ -9,9 +9,9 @@ use combine_base::parser::{Outputs, ParseMode, Parser};
 use combine_base::stream::Stream;
 use std::mem::take;
 
-/// One of three parsers, which means the one that it holds; or the state of one of them. In the crate `dispatch!` makes such an enum.
+/// One of three parsers, which means the one that it holds; or the state of one of them.
 ///
-/// A kept state of another variant than the parser holds is the beginning.
+/// A kept state of another variant than the parser holds is the beginning. In the crate `dispatch!` makes such an enum.
 #[derive(Drop)]
 pub enum Dispatch3<A, B, C> {
     A(A),
@@ -40,7 +40,7 @@ impl<A: Default + Drop, B: Default + Drop, C: Default + Drop> Dispatch3<A, B, C>
 
     #[inline(always)]
     fn start_b(&mut self) -> B
-        ensures { Started B.is_default (within pick_left (pick_right (nest_3 self.old))) result }
+        ensures { Started B.is_default (state_within pick_left (pick_right (nest_3 self.old))) result }
     {
         match self {
             Dispatch3::B(kept) => take(kept),
@@ -50,7 +50,7 @@ impl<A: Default + Drop, B: Default + Drop, C: Default + Drop> Dispatch3<A, B, C>
 
     #[inline(always)]
     fn start_c(&mut self) -> C
-        ensures { Started C.is_default (within pick_right (pick_right (nest_3 self.old))) result }
+        ensures { Started C.is_default (state_within pick_right (pick_right (nest_3 self.old))) result }
     {
         match self {
             Dispatch3::C(kept) => take(kept),
@@ -69,7 +69,7 @@ impl<
     B: Parser<Input, Output = A::Output>,
     C: Parser<Input, Output = A::Output>,
 > Parser<Input> for Dispatch3<A, B, C> {
-    ghost use Rattle.combine_choice_dispatch.specs.Held.{nested, nested_is_meaning, nested_means_one};
+    ghost use Rattle.combine_choice_dispatch.specs.HeldParser.{nested, nested_is_meaning, nested_means_one};
     ghost use Rattle.combine_choice_dispatch.specs.Variants2.{each_2_into, variant_2_is_meaning, variant_2_means_one};
 
     type PartialState = Dispatch3<A::PartialState, B::PartialState, C::PartialState>;
@@ -119,7 +119,7 @@ impl<
         }
     }
 
-    /// What the parser inside adds.
+    /// Adds what the parser inside adds.
     fn add_error(&mut self, error: &mut Tracked<Input::Error>) {
         match self {
             Dispatch3::A(parser) => parser.add_error(error),

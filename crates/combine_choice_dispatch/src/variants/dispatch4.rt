@@ -1,5 +1,5 @@
 //! A parser that is one of four.
-ghost use Rattle.combine_choice_dispatch.specs.Held.{Started, within};
+ghost use Rattle.combine_choice_dispatch.specs.HeldParser.{Started, state_within};
 ghost use Rattle.combine_choice_dispatch.specs.Halves.{nest_4};
 ghost use Rattle.combine_choice_dispatch.specs.Variants2.{pick_left, pick_right};
 
@@ -9,9 +9,9 @@ use combine_base::parser::{Outputs, ParseMode, Parser};
 use combine_base::stream::Stream;
 use std::mem::take;
 
-/// One of four parsers, which means the one that it holds; or the state of one of them. In the crate `dispatch!` makes such an enum.
+/// One of four parsers, which means the one that it holds; or the state of one of them.
 ///
-/// A kept state of another variant than the parser holds is the beginning.
+/// A kept state of another variant than the parser holds is the beginning. In the crate `dispatch!` makes such an enum.
 #[derive(Drop)]
 pub enum Dispatch4<A, B, C, D> {
     A(A),
@@ -36,7 +36,7 @@ impl<A: Default + Drop, B: Default + Drop, C: Default + Drop, D: Default + Drop>
 > {
     #[inline(always)]
     fn start_a(&mut self) -> A
-        ensures { Started A.is_default (within pick_left (pick_left (nest_4 self.old))) result }
+        ensures { Started A.is_default (state_within pick_left (pick_left (nest_4 self.old))) result }
     {
         match self {
             Dispatch4::A(kept) => take(kept),
@@ -46,7 +46,7 @@ impl<A: Default + Drop, B: Default + Drop, C: Default + Drop, D: Default + Drop>
 
     #[inline(always)]
     fn start_b(&mut self) -> B
-        ensures { Started B.is_default (within pick_right (pick_left (nest_4 self.old))) result }
+        ensures { Started B.is_default (state_within pick_right (pick_left (nest_4 self.old))) result }
     {
         match self {
             Dispatch4::B(kept) => take(kept),
@@ -56,7 +56,7 @@ impl<A: Default + Drop, B: Default + Drop, C: Default + Drop, D: Default + Drop>
 
     #[inline(always)]
     fn start_c(&mut self) -> C
-        ensures { Started C.is_default (within pick_left (pick_right (nest_4 self.old))) result }
+        ensures { Started C.is_default (state_within pick_left (pick_right (nest_4 self.old))) result }
     {
         match self {
             Dispatch4::C(kept) => take(kept),
@@ -66,7 +66,7 @@ impl<A: Default + Drop, B: Default + Drop, C: Default + Drop, D: Default + Drop>
 
     #[inline(always)]
     fn start_d(&mut self) -> D
-        ensures { Started D.is_default (within pick_right (pick_right (nest_4 self.old))) result }
+        ensures { Started D.is_default (state_within pick_right (pick_right (nest_4 self.old))) result }
     {
         match self {
             Dispatch4::D(kept) => take(kept),
@@ -86,7 +86,7 @@ impl<
     C: Parser<Input, Output = A::Output>,
     D: Parser<Input, Output = A::Output>,
 > Parser<Input> for Dispatch4<A, B, C, D> {
-    ghost use Rattle.combine_choice_dispatch.specs.Held.{nested, nested_is_meaning, nested_means_one};
+    ghost use Rattle.combine_choice_dispatch.specs.HeldParser.{nested, nested_is_meaning, nested_means_one};
     ghost use Rattle.combine_choice_dispatch.specs.Variants2.{each_2_into, variant_2_is_meaning, variant_2_means_one};
 
     type PartialState = Dispatch4<
@@ -147,7 +147,7 @@ impl<
         }
     }
 
-    /// What the parser inside adds.
+    /// Adds what the parser inside adds.
     fn add_error(&mut self, error: &mut Tracked<Input::Error>) {
         match self {
             Dispatch4::A(parser) => parser.add_error(error),

@@ -1,5 +1,5 @@
 //! A parser that is one of seven.
-ghost use Rattle.combine_choice_dispatch.specs.Held.{Started, within};
+ghost use Rattle.combine_choice_dispatch.specs.HeldParser.{Started, state_within};
 ghost use Rattle.combine_choice_dispatch.specs.Halves.{nest_7};
 ghost use Rattle.combine_choice_dispatch.specs.Variants2.{pick_left, pick_right};
 
@@ -9,9 +9,9 @@ use combine_base::parser::{Outputs, ParseMode, Parser};
 use combine_base::stream::Stream;
 use std::mem::take;
 
-/// One of seven parsers, which means the one that it holds; or the state of one of them. In the crate `dispatch!` makes such an enum.
+/// One of seven parsers, which means the one that it holds; or the state of one of them.
 ///
-/// A kept state of another variant than the parser holds is the beginning.
+/// A kept state of another variant than the parser holds is the beginning. In the crate `dispatch!` makes such an enum.
 #[derive(Drop)]
 pub enum Dispatch7<A, B, C, D, E, F, G> {
     A(A),
@@ -43,7 +43,7 @@ impl<
 > Dispatch7<A, B, C, D, E, F, G> {
     #[inline(always)]
     fn start_a(&mut self) -> A
-        ensures { Started A.is_default (within pick_left (pick_left (nest_7 self.old))) result }
+        ensures { Started A.is_default (state_within pick_left (pick_left (nest_7 self.old))) result }
     {
         match self {
             Dispatch7::A(kept) => take(kept),
@@ -58,7 +58,7 @@ impl<
 
     #[inline(always)]
     fn start_b(&mut self) -> B
-        ensures { Started B.is_default (within pick_left (within pick_right (pick_left (nest_7 self.old)))) result }
+        ensures { Started B.is_default (state_within pick_left (state_within pick_right (pick_left (nest_7 self.old)))) result }
     {
         match self {
             Dispatch7::B(kept) => take(kept),
@@ -73,7 +73,7 @@ impl<
 
     #[inline(always)]
     fn start_c(&mut self) -> C
-        ensures { Started C.is_default (within pick_right (within pick_right (pick_left (nest_7 self.old)))) result }
+        ensures { Started C.is_default (state_within pick_right (state_within pick_right (pick_left (nest_7 self.old)))) result }
     {
         match self {
             Dispatch7::C(kept) => take(kept),
@@ -88,7 +88,7 @@ impl<
 
     #[inline(always)]
     fn start_d(&mut self) -> D
-        ensures { Started D.is_default (within pick_left (within pick_left (pick_right (nest_7 self.old)))) result }
+        ensures { Started D.is_default (state_within pick_left (state_within pick_left (pick_right (nest_7 self.old)))) result }
     {
         match self {
             Dispatch7::D(kept) => take(kept),
@@ -103,7 +103,7 @@ impl<
 
     #[inline(always)]
     fn start_e(&mut self) -> E
-        ensures { Started E.is_default (within pick_right (within pick_left (pick_right (nest_7 self.old)))) result }
+        ensures { Started E.is_default (state_within pick_right (state_within pick_left (pick_right (nest_7 self.old)))) result }
     {
         match self {
             Dispatch7::E(kept) => take(kept),
@@ -118,7 +118,7 @@ impl<
 
     #[inline(always)]
     fn start_f(&mut self) -> F
-        ensures { Started F.is_default (within pick_left (within pick_right (pick_right (nest_7 self.old)))) result }
+        ensures { Started F.is_default (state_within pick_left (state_within pick_right (pick_right (nest_7 self.old)))) result }
     {
         match self {
             Dispatch7::F(kept) => take(kept),
@@ -133,7 +133,7 @@ impl<
 
     #[inline(always)]
     fn start_g(&mut self) -> G
-        ensures { Started G.is_default (within pick_right (within pick_right (pick_right (nest_7 self.old)))) result }
+        ensures { Started G.is_default (state_within pick_right (state_within pick_right (pick_right (nest_7 self.old)))) result }
     {
         match self {
             Dispatch7::G(kept) => take(kept),
@@ -161,7 +161,7 @@ impl<
     F: Parser<Input, Output = A::Output>,
     G: Parser<Input, Output = A::Output>,
 > Parser<Input> for Dispatch7<A, B, C, D, E, F, G> {
-    ghost use Rattle.combine_choice_dispatch.specs.Held.{nested, nested_is_meaning, nested_means_one};
+    ghost use Rattle.combine_choice_dispatch.specs.HeldParser.{nested, nested_is_meaning, nested_means_one};
     ghost use Rattle.combine_choice_dispatch.specs.Variants2.{each_2_into, variant_2_is_meaning, variant_2_means_one};
 
     type PartialState = Dispatch7<
@@ -243,7 +243,7 @@ impl<
         }
     }
 
-    /// What the parser inside adds.
+    /// Adds what the parser inside adds.
     fn add_error(&mut self, error: &mut Tracked<Input::Error>) {
         match self {
             Dispatch7::A(parser) => parser.add_error(error),

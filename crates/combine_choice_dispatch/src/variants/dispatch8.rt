@@ -1,5 +1,5 @@
 //! A parser that is one of eight.
-ghost use Rattle.combine_choice_dispatch.specs.Held.{Started, within};
+ghost use Rattle.combine_choice_dispatch.specs.HeldParser.{Started, state_within};
 ghost use Rattle.combine_choice_dispatch.specs.Halves.{nest_8};
 ghost use Rattle.combine_choice_dispatch.specs.Variants2.{pick_left, pick_right};
 
@@ -9,9 +9,9 @@ use combine_base::parser::{Outputs, ParseMode, Parser};
 use combine_base::stream::Stream;
 use std::mem::take;
 
-/// One of eight parsers, which means the one that it holds; or the state of one of them. In the crate `dispatch!` makes such an enum.
+/// One of eight parsers, which means the one that it holds; or the state of one of them.
 ///
-/// A kept state of another variant than the parser holds is the beginning.
+/// A kept state of another variant than the parser holds is the beginning. In the crate `dispatch!` makes such an enum.
 #[derive(Drop)]
 pub enum Dispatch8<A, B, C, D, E, F, G, H> {
     A(A),
@@ -53,7 +53,7 @@ impl<
 > Dispatch8<A, B, C, D, E, F, G, H> {
     #[inline(always)]
     fn start_a(&mut self) -> A
-        ensures { Started A.is_default (within pick_left (within pick_left (pick_left (nest_8 self.old)))) result }
+        ensures { Started A.is_default (state_within pick_left (state_within pick_left (pick_left (nest_8 self.old)))) result }
     {
         match self {
             Dispatch8::A(kept) => take(kept),
@@ -69,7 +69,7 @@ impl<
 
     #[inline(always)]
     fn start_b(&mut self) -> B
-        ensures { Started B.is_default (within pick_right (within pick_left (pick_left (nest_8 self.old)))) result }
+        ensures { Started B.is_default (state_within pick_right (state_within pick_left (pick_left (nest_8 self.old)))) result }
     {
         match self {
             Dispatch8::B(kept) => take(kept),
@@ -85,7 +85,7 @@ impl<
 
     #[inline(always)]
     fn start_c(&mut self) -> C
-        ensures { Started C.is_default (within pick_left (within pick_right (pick_left (nest_8 self.old)))) result }
+        ensures { Started C.is_default (state_within pick_left (state_within pick_right (pick_left (nest_8 self.old)))) result }
     {
         match self {
             Dispatch8::C(kept) => take(kept),
@@ -101,7 +101,7 @@ impl<
 
     #[inline(always)]
     fn start_d(&mut self) -> D
-        ensures { Started D.is_default (within pick_right (within pick_right (pick_left (nest_8 self.old)))) result }
+        ensures { Started D.is_default (state_within pick_right (state_within pick_right (pick_left (nest_8 self.old)))) result }
     {
         match self {
             Dispatch8::D(kept) => take(kept),
@@ -117,7 +117,7 @@ impl<
 
     #[inline(always)]
     fn start_e(&mut self) -> E
-        ensures { Started E.is_default (within pick_left (within pick_left (pick_right (nest_8 self.old)))) result }
+        ensures { Started E.is_default (state_within pick_left (state_within pick_left (pick_right (nest_8 self.old)))) result }
     {
         match self {
             Dispatch8::E(kept) => take(kept),
@@ -133,7 +133,7 @@ impl<
 
     #[inline(always)]
     fn start_f(&mut self) -> F
-        ensures { Started F.is_default (within pick_right (within pick_left (pick_right (nest_8 self.old)))) result }
+        ensures { Started F.is_default (state_within pick_right (state_within pick_left (pick_right (nest_8 self.old)))) result }
     {
         match self {
             Dispatch8::F(kept) => take(kept),
@@ -149,7 +149,7 @@ impl<
 
     #[inline(always)]
     fn start_g(&mut self) -> G
-        ensures { Started G.is_default (within pick_left (within pick_right (pick_right (nest_8 self.old)))) result }
+        ensures { Started G.is_default (state_within pick_left (state_within pick_right (pick_right (nest_8 self.old)))) result }
     {
         match self {
             Dispatch8::G(kept) => take(kept),
@@ -165,7 +165,7 @@ impl<
 
     #[inline(always)]
     fn start_h(&mut self) -> H
-        ensures { Started H.is_default (within pick_right (within pick_right (pick_right (nest_8 self.old)))) result }
+        ensures { Started H.is_default (state_within pick_right (state_within pick_right (pick_right (nest_8 self.old)))) result }
     {
         match self {
             Dispatch8::H(kept) => take(kept),
@@ -196,7 +196,7 @@ impl<
     G: Parser<Input, Output = A::Output>,
     H: Parser<Input, Output = A::Output>,
 > Parser<Input> for Dispatch8<A, B, C, D, E, F, G, H> {
-    ghost use Rattle.combine_choice_dispatch.specs.Held.{nested, nested_is_meaning, nested_means_one};
+    ghost use Rattle.combine_choice_dispatch.specs.HeldParser.{nested, nested_is_meaning, nested_means_one};
     ghost use Rattle.combine_choice_dispatch.specs.Variants2.{each_2_into, variant_2_is_meaning, variant_2_means_one};
 
     type PartialState = Dispatch8<
@@ -285,7 +285,7 @@ impl<
         }
     }
 
-    /// What the parser inside adds.
+    /// Adds what the parser inside adds.
     fn add_error(&mut self, error: &mut Tracked<Input::Error>) {
         match self {
             Dispatch8::A(parser) => parser.add_error(error),

@@ -1,5 +1,5 @@
 //! A parser that is one of two.
-ghost use Rattle.combine_choice_dispatch.specs.Held.{Started};
+ghost use Rattle.combine_choice_dispatch.specs.HeldParser.{Started};
 ghost use Rattle.combine_choice_dispatch.specs.Variants2.{each_2, pick_left, pick_right};
 
 use super::passed_on;
@@ -11,6 +11,20 @@ use std::mem::take;
 /// One of two parsers, which means the one that it holds; or the state of one of them.
 ///
 /// A kept state of another variant than the parser holds is the beginning.
+///
+/// # Examples
+///
+/// ```
+/// fn number(input: &[u8]) -> Result<(u32, &[u8]), UnexpectedParse> {
+///     let of_kind = |kind: u8| match kind {
+///         4 => Either::Left(be_u32()),
+///         _ => Either::Right(map(be_u16(), |number: u16| u32::from(number))),
+///     };
+///     then(any(), of_kind).parse(input)
+/// }
+/// ```
+///
+/// On `b"\x04\0\0\x01\0;"` it returns `(256, b";")`, and on `b"\x02\x01\0;"` `(256, b";")`.
 #[derive(Drop)]
 pub enum Either<L, R> {
     Left(L),
@@ -96,7 +110,7 @@ impl<Input: Stream, L: Parser<Input>, R: Parser<Input, Output = L::Output>> Pars
         }
     }
 
-    /// What the parser inside adds.
+    /// Adds what the parser inside adds.
     fn add_error(&mut self, error: &mut Tracked<Input::Error>) {
         match self {
             Either::Left(parser) => parser.add_error(error),

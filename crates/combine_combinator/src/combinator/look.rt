@@ -1,29 +1,29 @@
 //! Parsers whose calls each begin again: their outcome is read off that of their part, which keeps no state.
 ghost use Rattle.std.specs.Prelude.{◌≡◌};
-ghost use Rattle.combine_base.specs.Error.Errors.{Nothing};
+ghost use Rattle.combine_base.specs.Error.Errors.{AddsNothing};
 ghost use Rattle.combine_base.specs.Stream.Calls.{Passes};
-ghost use Rattle.combine_combinator.specs.Backs.{PutBackFor, RefusesFollowed};
-ghost use Rattle.combine_combinator.specs.Parsers.{denied_part, look_part, whole_part};
-ghost use Rattle.combine_combinator.specs.Tables.{by_table, is_not, looks, looks_is_table, not_is_table, stays, stays_is_table, table_is_meaning, table_means_one};
+ghost use Rattle.combine_combinator.specs.ResetAnswers.{PutBackFor, RefusesFollowed};
+ghost use Rattle.combine_combinator.specs.CombinatorParsers.{denied_part, look_part, whole_part};
+ghost use Rattle.combine_combinator.specs.Tables.{by_table, is_not, looks, looks_is_table, not_is_table, same_outcome, stays_is_table, table_is_meaning, table_means_one};
 
 use super::types::refuses;
 use combine_base::error::{ErrorOffset, ParseError, ParseResult, Tracked};
 use combine_base::parser::{Outputs, ParseMode, Parser};
 use combine_base::stream::{Kind, Positioned, ResetStream, Stream, StreamOnce, needs_more};
 
-/// The value of its part, peeked, and nothing is taken.
+/// The parser of [`look_ahead`](crate::combinator::look_ahead).
 #[derive(Clone, Copy, Drop)]
 pub struct LookAhead<P>(pub(super) P);
 
-/// Accepts, peeked, where its part refuses, and takes nothing.
+/// The parser of [`not_followed_by`](crate::combinator::not_followed_by).
 #[derive(Clone, Copy, Drop)]
 pub struct NotFollowedBy<P>(pub(super) P);
 
-/// As its part, which begins again after need of more.
+/// The parser of [`no_partial`](crate::combinator::no_partial).
 #[derive(Clone, Copy, Drop)]
 pub struct NoPartial<P>(pub(super) P);
 
-/// Puts the stream back, and answers so, or the fault that it could not be put back.
+/// Puts the stream back, and returns that result, or the fault that it could not be put back.
 #[inline]
 fn put_back<O: Drop, Input: Stream>(
     input: &mut Input,
@@ -32,7 +32,7 @@ fn put_back<O: Drop, Input: Stream>(
     answer: ParseResult<O, Input::Error>,
 ) -> ParseResult<O, Input::Error>
     ensures passes { Passes (Input.marks input.old) (Input.marks input.new) (Input.failures input.old) (Input.failures input.new) }
-    ensures back { PutBackFor Input.steady Input.step Input.Error.seen.kind (Input.stands input.old start) (Input.view input.old) (Input.view input.new) (Input.failures input.old) (Input.failures input.new) answer result }
+    ensures back { PutBackFor Input.counts_failures Input.step Input.Error.observers.kind (Input.stands input.old start) (Input.view input.old) (Input.view input.new) (Input.failures input.old) (Input.failures input.new) answer result }
 {
     match input.reset(start) {
         Ok(()) => answer,
@@ -89,13 +89,13 @@ impl<Input: Stream, P: Parser<Input>> Parser<Input> for LookAhead<P> {
         }
     }
 
-    /// What its part adds.
+    /// Adds what its part adds.
     #[inline]
     fn add_error(&mut self, error: &mut Tracked<Input::Error>) {
         self.0.add_error(error);
     }
 
-    /// As for its part.
+    /// Counts as its part does.
     #[inline]
     fn parser_count(&self) -> ErrorOffset {
         self.0.parser_count()
@@ -115,15 +115,15 @@ impl<Input: Stream, P: Parser<Input>> Parser<Input> for NotFollowedBy<P> {
 
     ghost valid = { λ _. Unit {0} };
 
-    ghost meaning = { λ p. by_table is_not (P.meaning (denied_part p)) Nothing (RefusesFollowed Input.Error.seen) };
+    ghost meaning = { λ p. by_table is_not (P.meaning (denied_part p)) AddsNothing (RefusesFollowed Input.Error.observers) };
 
     ghost parts = { λ p. P.parts (denied_part p) };
 
     ghost default_valid = { λ s d. tt };
 
-    ghost laws = { λ p l. table_is_meaning is_not not_is_table _ _ Nothing (RefusesFollowed Input.Error.seen) (P.laws (denied_part p) l) };
+    ghost laws = { λ p l. table_is_meaning is_not not_is_table _ _ AddsNothing (RefusesFollowed Input.Error.observers) (P.laws (denied_part p) l) };
 
-    ghost single = { λ p l d. table_means_one is_not not_is_table _ Nothing (RefusesFollowed Input.Error.seen) (P.single (denied_part p) l d) };
+    ghost single = { λ p l d. table_means_one is_not not_is_table _ AddsNothing (RefusesFollowed Input.Error.observers) (P.single (denied_part p) l d) };
 
     #[inline]
     fn parse_mode<M: ParseMode>(
@@ -172,7 +172,7 @@ impl<Input: Stream, P: Parser<Input>> Parser<Input> for NotFollowedBy<P> {
     #[inline]
     fn add_error(&mut self, error: &mut Tracked<Input::Error>) {}
 
-    /// As for its part.
+    /// Counts as its part does.
     #[inline]
     fn parser_count(&self) -> ErrorOffset {
         self.0.parser_count()
@@ -192,15 +192,15 @@ impl<Input: Stream, P: Parser<Input>> Parser<Input> for NoPartial<P> {
 
     ghost valid = { λ _. Unit {0} };
 
-    ghost meaning = { λ p. by_table stays (P.meaning (whole_part p)) (P.meaning (whole_part p)).adds (P.meaning (whole_part p)).refuses };
+    ghost meaning = { λ p. by_table same_outcome (P.meaning (whole_part p)) (P.meaning (whole_part p)).adds (P.meaning (whole_part p)).refuses };
 
     ghost parts = { λ p. P.parts (whole_part p) };
 
     ghost default_valid = { λ s d. tt };
 
-    ghost laws = { λ p l. table_is_meaning stays stays_is_table _ _ (P.meaning (whole_part p)).adds (P.meaning (whole_part p)).refuses (P.laws (whole_part p) l) };
+    ghost laws = { λ p l. table_is_meaning same_outcome stays_is_table _ _ (P.meaning (whole_part p)).adds (P.meaning (whole_part p)).refuses (P.laws (whole_part p) l) };
 
-    ghost single = { λ p l d. table_means_one stays stays_is_table _ (P.meaning (whole_part p)).adds (P.meaning (whole_part p)).refuses (P.single (whole_part p) l d) };
+    ghost single = { λ p l d. table_means_one same_outcome stays_is_table _ (P.meaning (whole_part p)).adds (P.meaning (whole_part p)).refuses (P.single (whole_part p) l d) };
 
     #[inline]
     fn parse_mode<M: ParseMode>(
@@ -224,13 +224,13 @@ impl<Input: Stream, P: Parser<Input>> Parser<Input> for NoPartial<P> {
         }
     }
 
-    /// What its part adds.
+    /// Adds what its part adds.
     #[inline]
     fn add_error(&mut self, error: &mut Tracked<Input::Error>) {
         self.0.add_error(error);
     }
 
-    /// As for its part.
+    /// Counts as its part does.
     #[inline]
     fn parser_count(&self) -> ErrorOffset {
         self.0.parser_count()

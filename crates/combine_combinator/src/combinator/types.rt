@@ -1,24 +1,22 @@
-//! The parsers that the functions of `combinator` answer.
+//! The parsers that the functions of `combinator` return.
 ghost use Rattle.std.specs.Prelude.{◌≡◌};
-ghost use Rattle.combine_combinator.specs.Attempt.{HasValid, attempted, attempted_is_meaning, attempted_means_one, losing, refusing};
-ghost use Rattle.combine_combinator.specs.Parsers.{attempt_part, map_function, map_of, map_part};
-ghost use Rattle.combine_combinator.specs.PutBack.{KeepsDistance, PutsBack};
-ghost use Rattle.combine_base.specs.Parser.Given.{GivesOnly};
-ghost use Rattle.combine_base.specs.Parser.Mapped.{mapped, mapped_is_meaning, mapped_means_one};
+ghost use Rattle.combine_combinator.specs.Attempt.{HasValidTry, attempted, attempted_is_meaning, attempted_means_one, losing, refusing, KeepsTokenDistance, PutsBack};
+ghost use Rattle.combine_combinator.specs.CombinatorParsers.{attempt_part, map_function, map_of, map_part};
+ghost use Rattle.combine_base.specs.Parser.GivenValues.{GivesOnly};
+ghost use Rattle.combine_base.specs.Parser.ValueMap.{mapped, mapped_is_meaning, mapped_means_one};
 ghost use Rattle.combine_base.specs.Stream.Calls.{Passes};
 
 use super::TryState;
 pub use super::look::{LookAhead, NoPartial, NotFollowedBy};
 pub use super::values::{Ignore, Nothing, Pick, Picked};
-use combine_base::distance::{measure, pass_over};
-use combine_base::error::{ErrorOffset, ParseError, ParseResult, Tracked};
+use combine_base::distance::{measure, pass_tokens};
+use combine_base::error::{ErrorOffset, ParseError, ParseResult, Tracked, accepted_after};
 use combine_base::maps::Maps;
 use combine_base::parser::{Outputs, ParseMode, Parser};
-use combine_base::sequence::accepted_after;
 use combine_base::stream::{Kind, Positioned, ResetStream, Stream, StreamOnce, needs_more};
 use std::marker::PhantomData;
 
-/// As its part, the value changed by its function into a `B`; the state is that of the part.
+/// The parser of [`map`](crate::combinator::map), whose function makes a `B`; the state is that of its part.
 #[derive(Drop)]
 #[derive_where(Clone, Copy; P, F)]
 pub struct Map<P, F, B> {
@@ -28,7 +26,7 @@ pub struct Map<P, F, B> {
 }
 
 impl<P, F, B> Map<P, F, B> {
-    /// The parser of this part and this function.
+    /// Returns the parser of this part and this function.
     #[inline]
     pub(super) fn new(part: P, function: F) -> Self
         ensures { result ≡ map_of part function }
@@ -80,20 +78,20 @@ impl<Input: Stream, P: Parser<Input>, B: Drop, F: Maps<P::Output, B>> Parser<Inp
         }
     }
 
-    /// What the parser adds whose value is changed.
+    /// Adds what the parser adds whose value is changed.
     #[inline]
     fn add_error(&mut self, error: &mut Tracked<Input::Error>) {
         self.part.add_error(error);
     }
 
-    /// As for the parser whose value is changed.
+    /// Counts as the parser whose value is changed does.
     #[inline]
     fn parser_count(&self) -> ErrorOffset {
         self.part.parser_count()
     }
 }
 
-/// As its part, but every refusal is peeked and put back; the state is a `TryState`.
+/// The parser of [`attempt`](crate::combinator::attempt); its state is a `TryState`.
 #[derive(Clone, Copy, Drop)]
 pub struct Try<P>(pub(super) P);
 
@@ -108,7 +106,7 @@ impl<Input: Stream, P: Parser<Input>> Parser<Input> for Try<P> {
 
     ghost determined = { λ p. P.determined (attempt_part p) };
 
-    ghost valid = { HasValid P.valid };
+    ghost valid = { HasValidTry P.valid };
 
     ghost meaning = { λ p. attempted Input.step (P.meaning (attempt_part p)) };
 
@@ -130,7 +128,7 @@ impl<Input: Stream, P: Parser<Input>> Parser<Input> for Try<P> {
         let start = input.checkpoint();
         let position = input.position();
         let distance = state.begin(mode.is_first());
-        if let Err(kind) = pass_over(input, distance) {
+        if let Err(kind) = pass_tokens(input, distance) {
             return fault(input, lost(kind), position, &mut state.part);
         }
         match self.0.parse_mode(mode, input, &mut state.part) {
@@ -152,20 +150,20 @@ impl<Input: Stream, P: Parser<Input>> Parser<Input> for Try<P> {
         }
     }
 
-    /// What the parser adds whose refusals are put back.
+    /// Adds what the parser adds whose refusals are put back.
     #[inline]
     fn add_error(&mut self, error: &mut Tracked<Input::Error>) {
         self.0.add_error(error);
     }
 
-    /// As for the parser whose refusals are put back.
+    /// Counts as the parser whose refusals are put back does.
     #[inline]
     fn parser_count(&self) -> ErrorOffset {
         self.0.parser_count()
     }
 }
 
-/// The kind of a failure to pass over the kept distance.
+/// Returns the kind of a failure to pass over the kept distance.
 #[inline]
 fn lost(kind: Kind) -> Kind
     ensures { result ≡ losing kind }
@@ -176,7 +174,7 @@ fn lost(kind: Kind) -> Kind
     }
 }
 
-/// Whether an error of that kind, where it isn't need of more, is a refusal.
+/// Returns whether an error of that kind, where it isn't need of more, is a refusal.
 #[inline]
 pub(super) fn refuses(kind: Kind) -> bool
     ensures { result ≡ refusing kind }
@@ -184,7 +182,7 @@ pub(super) fn refuses(kind: Kind) -> bool
     matches!(kind, Kind::Refused | Kind::End)
 }
 
-/// Puts the stream back to where the part began, refused peeked.
+/// Refuses peeked, with the stream put back to where the part began.
 #[inline(always)]
 fn put_back<O, Input: Stream, S: Default + Drop>(
     input: &mut Input,
@@ -194,7 +192,7 @@ fn put_back<O, Input: Stream, S: Default + Drop>(
     state: &mut S,
 ) -> ParseResult<O, Input::Error>
     ensures passes { Passes (Input.marks input.old) (Input.marks input.new) (Input.failures input.old) (Input.failures input.new) }
-    ensures back { PutsBack Input.steady Input.step (Input.stands input.old start) (Input.view input.old) (Input.view input.new) (Input.failures input.old) (Input.failures input.new) Input.Error.seen.kind S.is_default state.old state.new refusal result }
+    ensures back { PutsBack Input.counts_failures Input.step (Input.stands input.old start) (Input.view input.old) (Input.view input.new) (Input.failures input.old) (Input.failures input.new) Input.Error.observers.kind S.is_default state.old state.new refusal result }
 {
     match input.reset(start) {
         Ok(()) => ParseResult::PeekErr(refusal),
@@ -211,7 +209,7 @@ fn keep_distance<O, Input: Stream, S: Default + Drop>(
     state: &mut TryState<S>,
 ) -> ParseResult<O, Input::Error>
     ensures passes { Passes (Input.marks input.old) (Input.marks input.new) (Input.failures input.old) (Input.failures input.new) }
-    ensures keeps { KeepsDistance Input.steady Input.step (Input.stands input.old start) (Input.view input.old) (Input.view input.new) (Input.failures input.old) (Input.failures input.new) Input.Error.seen.kind S.is_default state.old state.new need result }
+    ensures keeps { KeepsTokenDistance Input.counts_failures Input.step (Input.stands input.old start) (Input.view input.old) (Input.view input.new) (Input.failures input.old) (Input.failures input.new) Input.Error.observers.kind S.is_default state.old state.new need result }
 {
     match measure(input, start) {
         Ok(distance) => {
@@ -222,7 +220,7 @@ fn keep_distance<O, Input: Stream, S: Default + Drop>(
     }
 }
 
-/// A fault at that position, which leaves a default state.
+/// Returns a fault at that position, and leaves a default state.
 #[cold]
 fn fault<O, Input: Stream, S: Default + Drop>(
     input: &Input,
@@ -230,7 +228,7 @@ fn fault<O, Input: Stream, S: Default + Drop>(
     position: Input::Position,
     state: &mut S,
 ) -> ParseResult<O, Input::Error>
-    ensures error { (e : Input.Error) × (result ≡ ParseResult.CommitErr e) × (Input.Error.seen.kind e ≡ why) }
+    ensures error { (e : Input.Error) × (result ≡ ParseResult.CommitErr e) × (Input.Error.observers.kind e ≡ why) }
     ensures fresh { S.is_default state.new }
 {
     *state = S::default();

@@ -1,8 +1,8 @@
 //! Parsers that keep a part of another parser's value.
 ghost use Rattle.std.specs.Prelude.{◌≡◌, ℕ};
-ghost use Rattle.combine_base.specs.Parser.Mapped.{mapped, mapped_is_meaning, mapped_means_one};
-ghost use Rattle.combine_combinator.specs.Parsers.{picked_of, picked_part};
-ghost use Rattle.combine_combinator.specs.Picks.{Picks};
+ghost use Rattle.combine_base.specs.Parser.ValueMap.{mapped, mapped_is_meaning, mapped_means_one};
+ghost use Rattle.combine_combinator.specs.CombinatorParsers.{picked_of, picked_part};
+ghost use Rattle.combine_combinator.specs.ValueParts.{Picks};
 
 use combine_base::error::{ErrorOffset, ParseResult, Tracked};
 use combine_base::parser::{Outputs, ParseMode, Parser};
@@ -29,7 +29,7 @@ pub trait Pick<A> {
         ensures { result.0 ≡ counted inside.0 };
 }
 
-/// As its part, of whose value `W` says what is kept, a `B`; the state is that of the part.
+/// A parser of whose part's value `W` says what is kept, a `B`; the state is that of the part.
 #[derive(Drop)]
 #[derive_where(Clone, Copy; P)]
 pub struct Picked<P, W, B> {
@@ -116,7 +116,7 @@ impl<Input: Stream, P: Parser<Input>, B: Drop, W: Pick<P::Output, Output = B>> P
         }
     }
 
-    /// What the parser adds of whose value a part is kept.
+    /// Adds what the parser adds of whose value a part is kept.
     #[inline]
     fn add_error(&mut self, error: &mut Tracked<Input::Error>) {
         self.part.add_error(error);

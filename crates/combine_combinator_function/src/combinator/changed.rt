@@ -1,8 +1,8 @@
 //! A parser whose value is changed, or refused.
 ghost use Rattle.std.specs.Prelude.{◌≡◌};
-ghost use Rattle.combine_base.specs.Parser.Given.{GivesOnly};
-ghost use Rattle.combine_combinator_function.specs.Changes.{ChangesOne, changed, changed_is_meaning, changed_means_one, spares};
-ghost use Rattle.combine_combinator_function.specs.Parsers.{changed_of, changed_part, change_part};
+ghost use Rattle.combine_base.specs.Parser.GivenValues.{GivesOnly};
+ghost use Rattle.combine_combinator_function.specs.Changes.{ChangesOne, changed_meaning, changed_is_meaning, changed_means_one, spares};
+ghost use Rattle.combine_combinator_function.specs.ChangeParsers.{changed_of, changed_part, change_part};
 
 use combine_base::error::{ErrorOffset, ParseResult, Tracked};
 use combine_base::parser::{Outputs, ParseMode, Parser};
@@ -10,8 +10,10 @@ use combine_base::refusal::peeked;
 use combine_base::stream::{Positioned, Stream, StreamOnce};
 use std::marker::PhantomData;
 
-/// How a value is changed, or refused. Our own: the crate writes each of its parsers by itself.
-pub trait Change<Input: Stream, A> {
+/// How a value is changed, or refused. Our own.
+///
+/// The crate writes each of its parsers by itself.
+pub trait ValueChange<Input: Stream, A> {
     ghost use Rattle.std.specs.Prelude.{◌≡◌, ℕ};
     ghost use Rattle.combine_base.specs.Stream.Calls.{Passes};
     ghost use Rattle.combine_combinator_function.specs.Changes.{Changes};
@@ -37,7 +39,9 @@ pub trait Change<Input: Stream, A> {
     /// As how many parsers a parser counts whose value is changed so, where its part counts so many.
     ghost counted: { ℕ → ℕ };
 
-    /// The value changed, or the error of a refusal or of a fault; the stream is left in place. The parser began at that position.
+    /// Returns the value changed, or the error of a refusal or of a fault; the stream is left in place.
+    ///
+    /// The parser began at that position.
     fn change(
         &self,
         value: A,
@@ -48,9 +52,9 @@ pub trait Change<Input: Stream, A> {
         ensures passes { Passes (Input.marks input.old) (Input.marks input.new) (Input.failures input.old) (Input.failures input.new) }
         ensures view { Input.view input.new ≡ Input.view input.old }
         ensures failures { Input.failures input.new ≡ Input.failures input.old }
-        ensures changes { Changes Input.Error.seen (gives self.now (Input.view input.old).position value) (denies self.now value) (starves self.now value) (says self.now began value) result };
+        ensures changes { Changes Input.Error.observers (gives self.now (Input.view input.old).position value) (denies self.now value) (starves self.now value) (says self.now began value) result };
 
-    /// As how many parsers a parser counts, of whose part that is the count.
+    /// Returns as how many parsers a parser counts, of whose part that is the count.
     fn count(part: ErrorOffset) -> ErrorOffset
         ensures { result.0 ≡ counted part.0 };
 }
@@ -65,7 +69,7 @@ pub struct Changed<P, C, B> {
 }
 
 impl<P, C, B> Changed<P, C, B> {
-    /// The parser of this part and this change.
+    /// Returns the parser of this part and this change.
     #[inline]
     pub fn new(part: P, change: C) -> Self
         ensures { result ≡ changed_of part change }
@@ -82,7 +86,7 @@ impl<Input, P, C, B: Drop> Outputs<Input> for Changed<P, C, B> {
     type Output = B;
 }
 
-impl<Input: Stream, P: Parser<Input>, B: Drop, C: Change<Input, P::Output, Output = B>> Parser<
+impl<Input: Stream, P: Parser<Input>, B: Drop, C: ValueChange<Input, P::Output, Output = B>> Parser<
     Input,
 > for Changed<P, C, B> {
     type PartialState = P::PartialState;
@@ -93,7 +97,7 @@ impl<Input: Stream, P: Parser<Input>, B: Drop, C: Change<Input, P::Output, Outpu
 
     ghost valid = { P.valid };
 
-    ghost meaning = { λ p. changed Input.step (C.gives (change_part p)) (C.denies (change_part p)) (C.says (change_part p)) (GivesOnly P.valid (P.meaning (changed_part p)) (spares (C.starves (change_part p)))) (P.meaning (changed_part p)) };
+    ghost meaning = { λ p. changed_meaning Input.step (C.gives (change_part p)) (C.denies (change_part p)) (C.says (change_part p)) (GivesOnly P.valid (P.meaning (changed_part p)) (spares (C.starves (change_part p)))) (P.meaning (changed_part p)) };
 
     ghost parts = { λ p. C.counted (P.parts (changed_part p)) };
 
@@ -125,7 +129,7 @@ impl<Input: Stream, P: Parser<Input>, B: Drop, C: Change<Input, P::Output, Outpu
         }
     }
 
-    /// What the parser adds whose value is changed.
+    /// Adds what the parser adds whose value is changed.
     #[inline]
     fn add_error(&mut self, error: &mut Tracked<Input::Error>) {
         self.part.add_error(error);

@@ -2,30 +2,30 @@
 ghost use Rattle.std.specs.Prelude.{◌≡◌, ◌⊎◌, Result, Ok, Err};
 ghost use Rattle.std.specs.Str.{IsUtf8};
 ghost use Rattle.combine_base.specs.declared.stream.Kind.TheVariants as kinds;
-ghost use Rattle.combine_combinator_function.specs.Changes.{AnsweredItem, AnsweredKind, ErrorKinds, GivesAt, InPlace, ItemKinds, MadeOf, MadeSaying, Misread, unreadable};
+ghost use Rattle.combine_combinator_function.specs.Changes.{AnsweredItem, AnsweredKind, ErrorKinds, GivesAt, AnswerLeavesStream, ItemKinds, MadeOf, MadeSaying, Misread, unreadable};
 
-use super::changed::Change;
+use super::changed::ValueChange;
 use super::text::StrLike;
 use combine_base::error::{DetailedError, ErrorOffset, Info, ParseError, StreamError};
 use combine_base::stream::{Kind, Stream, StreamOnce};
 use std::marker::PhantomData;
 use std::str::FromStr;
 
-/// A function that answers a value, or the error of the stream that the value is refused with.
+/// A function that returns a value, or the error of the stream that the value is refused with.
 #[derive(Clone, Copy, Drop)]
-pub struct Answering<F>(pub(super) F);
+pub struct FlatMapFn<F>(pub(super) F);
 
-impl<Input: Stream, A, B: Drop, F: Fn(A) -> Result<B, Input::Error>> Change<Input, A>
-    for Answering<F> {
+impl<Input: Stream, A, B: Drop, F: Fn(A) -> Result<B, Input::Error>> ValueChange<Input, A>
+    for FlatMapFn<F> {
     type Output = B;
 
-    ghost callable = { λ f a. F.pre f.0 a × ErrorKinds Input.Error.seen.kind (F.post f.0 a) };
+    ghost callable = { λ f a. F.pre f.0 a × ErrorKinds Input.Error.observers.kind (F.post f.0 a) };
 
     ghost gives = { λ f at a b. F.post f.0 a (Ok b) };
 
-    ghost denies = { λ f a. AnsweredKind Input.Error.seen.kind (F.post f.0) kinds.Refused a };
+    ghost denies = { λ f a. AnsweredKind Input.Error.observers.kind (F.post f.0) kinds.Refused a };
 
-    ghost starves = { λ f a. AnsweredKind Input.Error.seen.kind (F.post f.0) kinds.Memory a };
+    ghost starves = { λ f a. AnsweredKind Input.Error.observers.kind (F.post f.0) kinds.Memory a };
 
     ghost says = { λ f at a e. F.post f.0 a (Err e) };
 
@@ -41,16 +41,16 @@ impl<Input: Stream, A, B: Drop, F: Fn(A) -> Result<B, Input::Error>> Change<Inpu
         (self.0)(value)
     }
 
-    /// As the part.
+    /// Counts as the part does.
     #[inline]
     fn count(part: ErrorOffset) -> ErrorOffset {
         part
     }
 }
 
-/// A function that answers a value, or what the error says that the value is refused with.
+/// A function that returns a value, or what the error says that the value is refused with.
 #[derive(Clone, Copy, Drop)]
-pub struct Trying<F>(pub(super) F);
+pub struct AndThenFn<F>(pub(super) F);
 
 impl<
     Input: Stream,
@@ -60,7 +60,7 @@ impl<
         <Input::Error as DetailedError<Input::Token, Input::Range, Input::Position>>::StreamError,
     >,
     F: Fn(A) -> Result<B, E>,
-> Change<Input, A> for Trying<F>
+> ValueChange<Input, A> for AndThenFn<F>
 where
     Input::Error: DetailedError<Input::Token, Input::Range, Input::Position>,
 {
@@ -74,7 +74,7 @@ where
 
     ghost starves = { λ f a. AnsweredItem Input.Error.StreamError.kind (F.post f.0) E.converts kinds.Memory a };
 
-    ghost says = { λ f at a. MadeOf Input.Error.seen Input.Error.StreamError.items (F.post f.0) E.converts at a };
+    ghost says = { λ f at a. MadeOf Input.Error.observers Input.Error.StreamError.items (F.post f.0) E.converts at a };
 
     ghost counted = { λ n. n };
 
@@ -96,7 +96,7 @@ where
         }
     }
 
-    /// As the part.
+    /// Counts as the part does.
     #[inline]
     fn count(part: ErrorOffset) -> ErrorOffset {
         part
@@ -105,12 +105,12 @@ where
 
 /// A function of the value and of the stream, which it leaves in place.
 #[derive(Clone, Copy, Drop)]
-pub struct Seeing<F>(pub(super) F);
+pub struct MapInputFn<F>(pub(super) F);
 
-impl<Input: Stream, A, B: Drop, F: Fn(A, &mut Input) -> B> Change<Input, A> for Seeing<F> {
+impl<Input: Stream, A, B: Drop, F: Fn(A, &mut Input) -> B> ValueChange<Input, A> for MapInputFn<F> {
     type Output = B;
 
-    ghost callable = { λ f a. ((i : _) → F.pre f.0 a i) × InPlace Input.view Input.marks Input.failures (λ i b l. F.post f.0 a i b l) };
+    ghost callable = { λ f a. ((i : _) → F.pre f.0 a i) × AnswerLeavesStream Input.view Input.marks Input.failures (λ i b l. F.post f.0 a i b l) };
 
     ghost gives = { λ f. GivesAt Input.view (λ a i b l. F.post f.0 a i b l) };
 
@@ -132,7 +132,7 @@ impl<Input: Stream, A, B: Drop, F: Fn(A, &mut Input) -> B> Change<Input, A> for 
         Ok((self.0)(value, input))
     }
 
-    /// As the part.
+    /// Counts as the part does.
     #[inline]
     fn count(part: ErrorOffset) -> ErrorOffset {
         part
@@ -142,9 +142,9 @@ impl<Input: Stream, A, B: Drop, F: Fn(A, &mut Input) -> B> Change<Input, A> for 
 /// The text of the value, read as a `T`.
 #[derive(Drop)]
 #[derive_where(Clone, Copy)]
-pub struct Read<T>(pub(super) PhantomData<T>);
+pub struct FromStrFn<T>(pub(super) PhantomData<T>);
 
-impl<Input: Stream, A: StrLike + Drop, T: FromStr + Drop> Change<Input, A> for Read<T>
+impl<Input: Stream, A: StrLike + Drop, T: FromStr + Drop> ValueChange<Input, A> for FromStrFn<T>
 where
     T::Err: Drop,
 {
@@ -158,7 +158,7 @@ where
 
     ghost starves = { λ f a. ⊥ };
 
-    ghost says = { λ f at a. MadeSaying Input.Error.seen (unreadable T.from_str_gives (A.bytes a)) at };
+    ghost says = { λ f at a. MadeSaying Input.Error.observers (unreadable T.from_str_gives (A.bytes a)) at };
 
     ghost counted = { λ n. 1 };
 
@@ -184,7 +184,7 @@ where
         }
     }
 
-    /// As one parser.
+    /// Counts as one parser.
     #[inline]
     fn count(_part: ErrorOffset) -> ErrorOffset {
         ErrorOffset(1)

@@ -4,7 +4,9 @@ ghost use Rattle.std.specs.Prelude.{◌≡◌, MatchOption};
 use std::str;
 use std::string::String;
 
-/// What holds the bytes of a text, perhaps. Open to callers, where the crate's is sealed.
+/// What holds the bytes of a text, perhaps.
+///
+/// It is open to callers, where the crate's is sealed.
 pub trait StrLike {
     ghost use Rattle.std.specs.Prelude.{◌≡◌, ℕ, List, MatchOption};
     ghost use Rattle.std.specs.Str.{IsUtf8};

@@ -1,9 +1,9 @@
-//! The parser that the functions of `error` answer.
+//! The parser that the functions of `error` return.
 ghost use Rattle.std.specs.Prelude.{◌≡◌, MatchResult};
 ghost use Rattle.combine_base.specs.Error.Errors.{Only};
 ghost use Rattle.combine_base.specs.Error.Items.{Unexpected as SaysUnexpected, shown};
-ghost use Rattle.combine_token.specs.ListAnswers.{NoText};
-ghost use Rattle.combine_combinator_function.specs.Refusing.{refuses_all, refuses_all_is_meaning, refuses_all_means_one, unexpected_info};
+ghost use Rattle.combine_token.specs.Token.Lists.ListAnswers.{NoText};
+ghost use Rattle.combine_combinator_function.specs.Unexpected.{refuses_all, refuses_all_is_meaning, refuses_all_means_one, unexpected_info};
 
 use combine_base::error::{ErrorOffset, Info, ParseError, ParseResult, Tracked};
 use combine_base::parser::{Outputs, ParseMode, Parser};
@@ -11,7 +11,9 @@ use combine_base::stream::{Kind, Positioned, Stream, StreamOnce};
 use std::alloc::AllocError;
 use std::marker::PhantomData;
 
-/// The parser of [`unexpected`](crate::error::unexpected) and of [`unexpected_any`](crate::error::unexpected_any), whose value would be a `V`. `I` is an `Info`, in the crate what is turned into one.
+/// The parser of [`unexpected`](crate::error::unexpected) and of [`unexpected_any`](crate::error::unexpected_any), whose value would be a `V`.
+///
+/// `I` is an `Info`, in the crate what is turned into one.
 #[derive(Drop)]
 pub struct Unexpected<Input, V, I> {
     pub(super) info: I,
@@ -33,7 +35,7 @@ impl<Input, V, A: Copy, R: Copy> Clone for Unexpected<Input, V, Info<A, R>> {
     }
 }
 
-/// An info that speaks of the same; a text of its own is cloned, which takes memory.
+/// Returns an info that speaks of the same; a text of its own is cloned, which takes memory.
 fn copied<T: Copy, R: Copy>(info: &Info<T, R>) -> Result<Info<T, R>, AllocError>
     ensures { MatchResult result (λ i. shown i ≡ shown info.now) (λ _. NoText info.now → ⊥) }
 {
@@ -60,7 +62,7 @@ impl<Input: Stream, V: Drop> Parser<Input>
 
     ghost valid = { λ s. Unit {0} };
 
-    ghost meaning = { λ p. refuses_all Input.Error.seen (Only (SaysUnexpected (shown (unexpected_info p)))) };
+    ghost meaning = { λ p. refuses_all Input.Error.observers (Only (SaysUnexpected (shown (unexpected_info p)))) };
 
     ghost parts = { λ p. 1 };
 

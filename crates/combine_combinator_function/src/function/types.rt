@@ -1,4 +1,4 @@
-//! The parsers that the functions of `function` answer.
+//! The parsers that the functions of `function` return.
 ghost use Rattle.std.specs.Prelude.{◌≡◌, IfOk, IfErr};
 ghost use Rattle.combine_base.specs.Error.Results.{from_standard};
 ghost use Rattle.combine_base.specs.Parser.Meaning.{IsSingle};
@@ -19,13 +19,13 @@ pub trait Call<Input: Stream> {
 
     ghost callable: { Self → Type 0 };
 
-    /// What a call may answer for a stream, which it then leaves so.
+    /// What a call may return for a stream, which it then leaves so.
     ghost answers: { Self → Input → ParseResult Self.Value Input.Error → Input → Type 0 };
 
     /// No call finds no memory for what the function is given.
     ghost infallible: { Self → Type 0 };
 
-    /// Calls it; or what it is to be given found no memory, and the stream is as it was.
+    /// Calls it, or returns that what it is to be given found no memory, and the stream is as it was.
     fn call(&self, input: &mut Input) -> Result<ParseResult<Self::Value, Input::Error>, NoMemory>
         requires { callable self.now }
         ensures answers { IfOk result (λ answer. answers self.now input.old answer input.new) }
@@ -38,7 +38,7 @@ pub struct NoMemory;
 
 /// A function of the stream.
 #[derive(Clone, Copy, Drop)]
-pub struct Plain<F>(pub(super) F);
+pub struct WithoutEnv<F>(pub(super) F);
 
 /// A function of what it needs, and of the stream.
 #[derive(Clone, Copy, Drop)]
@@ -48,7 +48,7 @@ pub struct WithEnv<E, F> {
 }
 
 impl<Input: Stream, O: Drop, F: Fn(&mut Input) -> StdParseResult<O, Input>> Call<Input>
-    for Plain<F> {
+    for WithoutEnv<F> {
     type Value = O;
 
     ghost callable = { λ f. F.IsAlwaysCallable f.0 };
@@ -82,7 +82,9 @@ impl<Input: Stream, O: Drop, E: Clone, F: Fn(E, &mut Input) -> StdParseResult<O,
     }
 }
 
-/// The parser that calls a function. It keeps no state: on need of more the stream is put back, and the next call begins again.
+/// The parser that calls a function.
+///
+/// It keeps no state: on need of more the stream is put back, and the next call begins again.
 #[derive(Drop)]
 #[derive_where(Clone, Copy; C)]
 pub struct Called<Input, C> {
@@ -91,7 +93,7 @@ pub struct Called<Input, C> {
 }
 
 /// The parser of [`parser`](crate::function::parser).
-pub type FnParser<Input, F> = Called<Input, Plain<F>>;
+pub type FnParser<Input, F> = Called<Input, WithoutEnv<F>>;
 
 /// The parser of [`env_parser`](crate::function::env_parser), with the type of the function as `F`, where the crate has that of the value.
 pub type EnvParser<E, Input, F> = Called<Input, WithEnv<E, F>>;
@@ -103,13 +105,13 @@ impl<Input: Stream, C: Call<Input>> Outputs<Input> for Called<Input, C> {
 impl<Input: Stream, C: Call<Input>> Parser<Input> for Called<Input, C> {
     type PartialState = ();
 
-    ghost lawful = { λ p. C.callable (call_of p) × IsFunction Input.step Input.Error.seen.kind Input.view (C.answers (call_of p)) Input.marks Input.failures Input.steady };
+    ghost lawful = { λ p. C.callable (call_of p) × IsFunction Input.step Input.Error.observers.kind Input.view (C.answers (call_of p)) Input.marks Input.failures Input.counts_failures };
 
-    ghost determined = { λ p. IsSingle (FunctionReading Input.step Input.Error.seen.kind Input.view (C.answers (call_of p))) };
+    ghost determined = { λ p. IsSingle (FunctionReading Input.step Input.Error.observers.kind Input.view (C.answers (call_of p))) };
 
     ghost valid = { λ s. Unit {0} };
 
-    ghost meaning = { λ p. as_function Input.step Input.Error.seen.kind Input.view (C.answers (call_of p)) (C.infallible (call_of p) × NeedsNoMemory Input.step Input.Error.seen.kind Input.view (C.answers (call_of p))) };
+    ghost meaning = { λ p. as_function Input.step Input.Error.observers.kind Input.view (C.answers (call_of p)) (C.infallible (call_of p) × NeedsNoMemory Input.step Input.Error.observers.kind Input.view (C.answers (call_of p))) };
 
     ghost parts = { λ p. 1 };
 
@@ -152,7 +154,7 @@ impl<Input: Stream, C: Call<Input>> Parser<Input> for Called<Input, C> {
 
     ghost default_valid = { λ s d. tt };
 
-    ghost laws = { λ p l. as_function_is_meaning Input.step Input.Error.seen.kind Input.view (C.answers (call_of p)) _ _ _ };
+    ghost laws = { λ p l. as_function_is_meaning Input.step Input.Error.observers.kind Input.view (C.answers (call_of p)) _ _ _ };
 
-    ghost single = { λ p l d. as_function_means_one Input.step Input.Error.seen.kind Input.view (C.answers (call_of p)) _ _ d };
+    ghost single = { λ p l d. as_function_means_one Input.step Input.Error.observers.kind Input.view (C.answers (call_of p)) _ _ d };
 }

@@ -1,8 +1,8 @@
 //! A parser that was made, and what is kept of it.
 ghost use Rattle.std.specs.Prelude.{◌≡◌, true};
 ghost use Rattle.combine_base.specs.Stream.Calls.{Passes};
-ghost use Rattle.combine_combinator_lazy.specs.Calling.{CalledMade, RunsMade};
-ghost use Rattle.combine_combinator_lazy.specs.Made.{InPlace, MadeAt, MadeFor};
+ghost use Rattle.combine_combinator_lazy.specs.MadeCalls.{CalledMade, RunsMade};
+ghost use Rattle.combine_combinator_lazy.specs.MadeParsers.{MakerLeavesStream, MadeAt, MadeFor};
 
 use combine_base::error::ParseResult;
 use combine_base::parser::{Calls, ParseMode, Parser};
@@ -25,7 +25,7 @@ pub enum MadeState<N, U> {
 }
 
 impl<N, U> Default for MadeState<N, U> {
-    ghost use Rattle.combine_combinator_lazy.specs.Made.{is_unmade};
+    ghost use Rattle.combine_combinator_lazy.specs.MadeParsers.{is_unmade};
 
     ghost is_default = { is_unmade };
 
@@ -35,7 +35,9 @@ impl<N, U> Default for MadeState<N, U> {
     }
 }
 
-/// Runs a parser that was made, from its state. Need of more is kept in `state`, which is a default one.
+/// Runs a parser that was made, from its state.
+///
+/// Need of more is kept in `state`, which is a default one.
 #[inline(always)]
 pub fn run_made<Input: Stream, N: Parser<Input> + Drop, M: ParseMode>(
     mode: M,
@@ -46,7 +48,7 @@ pub fn run_made<Input: Stream, N: Parser<Input> + Drop, M: ParseMode>(
     requires ready { ⟦<N as Calls<Input>>⟧.ready from.parser from.state }
     requires starts { M.first mode ≡ true → N.PartialState.is_default from.state }
     requires fresh { state.old ≡ MadeState.Unmade }
-    ensures { CalledMade N.Parser Input.StreamOnce Input.Error.seen N.PartialState.is_default input.old input.new from state.new result }
+    ensures { CalledMade N.Parser Input.StreamOnce Input.Error.observers N.PartialState.is_default input.old input.new from state.new result }
 {
     let Made {
         mut parser,
@@ -69,7 +71,7 @@ pub fn run_made<Input: Stream, N: Parser<Input> + Drop, M: ParseMode>(
     }
 }
 
-/// As `run_made`, for a call that resumes: apart from the code of calls that begin afresh.
+/// Runs the parser as `run_made` does, in a call that resumes: apart from the code of calls that begin afresh.
 #[inline(never)]
 pub fn resume_made<Input: Stream, N: Parser<Input> + Drop, M: ParseMode>(
     mode: M,
@@ -80,7 +82,7 @@ pub fn resume_made<Input: Stream, N: Parser<Input> + Drop, M: ParseMode>(
     requires ready { ⟦<N as Calls<Input>>⟧.ready from.parser from.state }
     requires starts { M.first mode ≡ true → N.PartialState.is_default from.state }
     requires fresh { state.old ≡ MadeState.Unmade }
-    ensures { CalledMade N.Parser Input.StreamOnce Input.Error.seen N.PartialState.is_default input.old input.new from state.new result }
+    ensures { CalledMade N.Parser Input.StreamOnce Input.Error.observers N.PartialState.is_default input.old input.new from state.new result }
 {
     run_made(mode, input, from, state)
 }
@@ -89,7 +91,7 @@ pub fn resume_made<Input: Stream, N: Parser<Input> + Drop, M: ParseMode>(
 #[inline(always)]
 fn ask<Input: Stream, N, F: Fn(&mut Input) -> N>(maker: &F, input: &mut Input) -> N
     requires callable { F.IsAlwaysCallable maker.now }
-    requires in_place { InPlace Input.view Input.marks Input.failures (λ i n l. F.post maker.now i n l) }
+    requires in_place { MakerLeavesStream Input.view Input.marks Input.failures (λ i n l. F.post maker.now i n l) }
     ensures made { MadeFor Input.view (λ i n l. F.post maker.now i n l) input.old input.new result }
     ensures passes { Passes (Input.marks input.old) (Input.marks input.new) (Input.failures input.old) (Input.failures input.new) }
     ensures view { Input.view input.new ≡ Input.view input.old }
@@ -98,7 +100,9 @@ fn ask<Input: Stream, N, F: Fn(&mut Input) -> N>(maker: &F, input: &mut Input) -
     maker(input)
 }
 
-/// Asks a maker that leaves the stream in place, and runs the parser that it answers from its beginning. Need of more is kept in `state`.
+/// Asks a maker that leaves the stream in place, and runs the parser that it returns from its beginning.
+///
+/// Need of more is kept in `state`.
 #[inline(always)]
 pub fn make_and_run<Input: Stream, N: Parser<Input> + Drop, F: Fn(&mut Input) -> N, M: ParseMode>(
     maker: &F,
@@ -107,10 +111,10 @@ pub fn make_and_run<Input: Stream, N: Parser<Input> + Drop, F: Fn(&mut Input) ->
     state: &mut MadeState<N, N::PartialState>,
 ) -> ParseResult<N::Output, Input::Error>
     requires callable { F.IsAlwaysCallable maker.now }
-    requires in_place { InPlace Input.view Input.marks Input.failures (λ i n l. F.post maker.now i n l) }
+    requires in_place { MakerLeavesStream Input.view Input.marks Input.failures (λ i n l. F.post maker.now i n l) }
     requires lawful { (n : N) → MadeAt Input.view (λ i n l. F.post maker.now i n l) (Input.view input.old) n → N.lawful n }
     requires fresh { state.old ≡ MadeState.Unmade }
-    ensures { RunsMade N.Parser Input.StreamOnce Input.Error.seen N.PartialState.is_default (λ i n l. F.post maker.now i n l) input.old input.new state.new result }
+    ensures { RunsMade N.Parser Input.StreamOnce Input.Error.observers N.PartialState.is_default (λ i n l. F.post maker.now i n l) input.old input.new state.new result }
 {
     let parser = ask(maker, input);
     let made = Made {

@@ -1,9 +1,9 @@
-//! The parsers that the functions of this module answer.
+//! The parsers that the functions of this module return.
 ghost use Rattle.std.specs.Prelude.{◌≡◌};
-ghost use Rattle.combine_base.specs.Error.Errors.{Nothing};
-ghost use Rattle.combine_base.specs.Parser.Kept.{KeptOf};
+ghost use Rattle.combine_base.specs.Error.Errors.{AddsNothing};
+ghost use Rattle.combine_base.specs.Parser.KeptParsers.{KeptOf};
 ghost use Rattle.combine_base.specs.Stream.View.{View};
-ghost use Rattle.combine_combinator_lazy.specs.Made.{Adds, InPlace, MadeAt, MakesOne, at_any, at_any_lasts, by_factory, by_lazy, factory_maker, is_unmade_valid, lazy_maker, made, made_at_lasts, made_is_meaning, made_means_one, valid_made};
+ghost use Rattle.combine_combinator_lazy.specs.MadeParsers.{Adds, MakerLeavesStream, MadeAt, MakesOne, at_any, at_any_lasts, by_factory, by_lazy, factory_maker, is_unmade_valid, lazy_maker, made_meaning, made_at_lasts, made_is_meaning, made_means_one, valid_made};
 
 pub use super::made::{Made, MadeState};
 use super::made::{make_and_run, resume_made, run_made};
@@ -12,7 +12,9 @@ use combine_base::parser::{Outputs, ParseMode, Parser};
 use combine_base::sequence::take_state;
 use combine_base::stream::Stream;
 
-/// A function that makes a parser. Our own: by it the value of a [`Lazy`] is known without its maker's signature, of which an impl of `Outputs` can say nothing.
+/// A function that makes a parser. Our own.
+///
+/// By it the value of a [`Lazy`] is known without its maker's signature, of which an impl of `Outputs` can say nothing.
 pub trait Makes {
     ghost use Rattle.std.specs.Prelude.{◌≡◌};
 
@@ -24,6 +26,7 @@ pub trait Makes {
     /// Which parsers it may make.
     ghost makes: { Self → Self.Made → Type 0 };
 
+    /// Makes a parser.
     fn make(&self) -> Self::Made
         requires { callable self.now }
         ensures { makes self.now result };
@@ -49,6 +52,7 @@ pub trait MakesAt<Input> {
 
     ghost callable: { Self → Type 0 };
 
+    /// Makes a parser for that stream.
     fn make_at(&self, input: &mut Input) -> Self::Made
         requires { callable self.now };
 }
@@ -84,7 +88,7 @@ impl<Input: Stream, N: Parser<Input> + Drop, F: Fn() -> N> Parser<Input> for Laz
 
     ghost valid = { valid_made (KeptOf N.lawful N.meaning (by_lazy F.Fn N.lawful)) N.valid };
 
-    ghost meaning = { λ p. made (at_any (F.post (lazy_maker p))) (by_lazy F.Fn N.lawful) N.meaning (Adds (F.post (lazy_maker p)) N.meaning) };
+    ghost meaning = { λ p. made_meaning (at_any (F.post (lazy_maker p))) (by_lazy F.Fn N.lawful) N.meaning (Adds (F.post (lazy_maker p)) N.meaning) };
 
     ghost parts = { λ p. 1 };
 
@@ -112,14 +116,14 @@ impl<Input: Stream, N: Parser<Input> + Drop, F: Fn() -> N> Parser<Input> for Laz
         run_made(mode, input, made, state)
     }
 
-    /// What a parser of the maker adds.
+    /// Adds what a parser of the maker adds.
     #[inline]
     fn add_error(&mut self, error: &mut Tracked<Input::Error>) {
         let mut parser = (self.0)();
         parser.add_error(error);
     }
 
-    /// One, whatever the parser counts that the maker answers.
+    /// Counts as one parser, whatever the parser of the maker counts.
     #[inline]
     fn parser_count(&self) -> ErrorOffset {
         ErrorOffset(1)
@@ -140,13 +144,13 @@ where
 impl<Input: Stream, N: Parser<Input> + Drop, F: Fn(&mut Input) -> N> Parser<Input> for Factory<F> {
     type PartialState = MadeState<N, N::PartialState>;
 
-    ghost lawful = { λ p. F.IsAlwaysCallable (factory_maker p) × InPlace Input.view Input.marks Input.failures (λ i n l. F.post (factory_maker p) i n l) × ((v : View Input.Position Input.Token) (n : N) → MadeAt Input.view (λ i n l. F.post (factory_maker p) i n l) v n → N.lawful n) };
+    ghost lawful = { λ p. F.IsAlwaysCallable (factory_maker p) × MakerLeavesStream Input.view Input.marks Input.failures (λ i n l. F.post (factory_maker p) i n l) × ((v : View Input.Position Input.Token) (n : N) → MadeAt Input.view (λ i n l. F.post (factory_maker p) i n l) v n → N.lawful n) };
 
     ghost determined = { λ p. ((n : N) → by_factory Input.view Input.marks Input.failures F.Fn N.lawful n → N.determined n) × MakesOne (MadeAt Input.view (λ i n l. F.post (factory_maker p) i n l)) (λ n. (N.meaning n).whole) };
 
     ghost valid = { valid_made (KeptOf N.lawful N.meaning (by_factory Input.view Input.marks Input.failures F.Fn N.lawful)) N.valid };
 
-    ghost meaning = { λ p. made (MadeAt Input.view (λ i n l. F.post (factory_maker p) i n l)) (by_factory Input.view Input.marks Input.failures F.Fn N.lawful) N.meaning Nothing };
+    ghost meaning = { λ p. made_meaning (MadeAt Input.view (λ i n l. F.post (factory_maker p) i n l)) (by_factory Input.view Input.marks Input.failures F.Fn N.lawful) N.meaning AddsNothing };
 
     ghost parts = { λ p. 1 };
 
@@ -169,11 +173,11 @@ impl<Input: Stream, N: Parser<Input> + Drop, F: Fn(&mut Input) -> N> Parser<Inpu
         make_and_run(&self.0, mode, input, state)
     }
 
-    /// Nothing.
+    /// Adds nothing.
     #[inline]
     fn add_error(&mut self, error: &mut Tracked<Input::Error>) {}
 
-    /// One, whatever the parser counts that the maker answers.
+    /// Counts as one parser, whatever the parser of the maker counts.
     #[inline]
     fn parser_count(&self) -> ErrorOffset {
         ErrorOffset(1)

@@ -1,6 +1,6 @@
-//! The parser that `recognize` answers.
+//! The parser that `recognize` returns.
 ghost use Rattle.std.specs.Prelude.{◌≡◌};
-ghost use Rattle.combine_combinator_recognize.specs.Gathered.{HasValid, IsFresh, collected_by, parser_of, recognized, recognized_is_meaning, recognized_means_one};
+ghost use Rattle.combine_combinator_recognize.specs.RecognizedTokens.{HasValidCollecting, IsFreshCollecting, collected_by, recognize_part, recognized_collecting, recognized_collecting_is_meaning, recognized_collecting_means_one};
 
 use crate::collecting::collect_since;
 use combine_base::error::{ErrorOffset, ParseResult, Tracked};
@@ -16,11 +16,12 @@ use std::marker::PhantomData;
 pub enum Collected<F> {
     /// There is no collection yet.
     Nothing,
+    /// These tokens were taken.
     Tokens(F),
 }
 
 impl<F: Drop> Collected<F> {
-    // What the tokens of the next call are appended to.
+    // Returns what the tokens of the next call are appended to.
     #[inline(always)]
     fn or_empty<T>(self, alloc: Global) -> F
     where
@@ -42,7 +43,7 @@ pub struct RecognizeState<F, S> {
 }
 
 impl<F, S: Default> Default for RecognizeState<F, S> {
-    ghost is_default = { IsFresh S.is_default };
+    ghost is_default = { IsFreshCollecting S.is_default };
 
     #[inline]
     fn default() -> Self {
@@ -69,21 +70,21 @@ impl<Input, F: Drop, P> Outputs<Input> for Recognize<F, P> {
 impl<Input: Stream, P: Parser<Input>, F: Append<Input::Token>> Parser<Input> for Recognize<F, P> {
     type PartialState = RecognizeState<F, P::PartialState>;
 
-    ghost lawful = { λ p. P.lawful (parser_of p) };
+    ghost lawful = { λ p. P.lawful (recognize_part p) };
 
-    ghost determined = { λ p. P.determined (parser_of p) };
+    ghost determined = { λ p. P.determined (recognize_part p) };
 
-    ghost valid = { HasValid P.valid };
+    ghost valid = { HasValidCollecting P.valid };
 
-    ghost meaning = { λ p. recognized F.held F.none F.more F.lean (P.meaning (parser_of p)) };
+    ghost meaning = { λ p. recognized_collecting F.held F.none F.more F.heapless (P.meaning (recognize_part p)) };
 
     ghost parts = { λ p. 1 };
 
     ghost default_valid = { λ s d. P.default_valid _ d.1 };
 
-    ghost laws = { λ p l. recognized_is_meaning F.held F.none F.more F.lean (P.laws (parser_of p) l) };
+    ghost laws = { λ p l. recognized_collecting_is_meaning F.held F.none F.more F.heapless (P.laws (recognize_part p) l) };
 
-    ghost single = { λ p l d. recognized_means_one F.held F.none F.more F.lean (P.single (parser_of p) l d) };
+    ghost single = { λ p l d. recognized_collecting_means_one F.held F.none F.more F.heapless (P.single (recognize_part p) l d) };
 
     #[inline(always)]
     fn parse_mode<M: ParseMode>(
@@ -125,13 +126,13 @@ impl<Input: Stream, P: Parser<Input>, F: Append<Input::Token>> Parser<Input> for
         }
     }
 
-    /// What the parser adds whose tokens are collected.
+    /// Adds what the parser adds whose tokens are collected.
     #[inline]
     fn add_error(&mut self, error: &mut Tracked<Input::Error>) {
         self.parser.add_error(error);
     }
 
-    /// One, whatever the parser counts.
+    /// Counts as one parser, whatever the parser counts.
     #[inline]
     fn parser_count(&self) -> ErrorOffset {
         ErrorOffset(1)

@@ -1,6 +1,6 @@
-//! The parser that `spanned` answers.
+//! The parser that `spanned` returns.
 ghost use Rattle.std.specs.Prelude.{◌≡◌};
-ghost use Rattle.combine_combinator_spanned.specs.Spanned.{Spans, SpansAnswer, spanned, spanned_is_meaning, spanned_means_one, spanned_part};
+ghost use Rattle.combine_combinator_spanned.specs.SpannedErrors.{Spans, SpansAnswer, spanned, spanned_is_meaning, spanned_means_one, spanned_part};
 
 use combine_base::error::{DetailedError, ErrorOffset, ParseError, ParseResult, Tracked};
 use combine_base::parser::{Outputs, ParseMode, Parser};
@@ -11,10 +11,10 @@ use combine_error::span::Span;
 #[derive(Clone, Drop)]
 pub struct Spanned<P>(pub(super) P);
 
-// Has an error that stands at one position stand at that span.
+// Makes an error that stands at one position stand at that span.
 #[inline]
 fn set_span<T, R, Q: Ord + Copy, E: DetailedError<T, R, Span<Q>>>(error: &mut E, span: Span<Q>)
-    ensures { Spans Q.cmp E.seen span error.old error.new }
+    ensures { Spans Q.cmp E.observers span error.old error.new }
 {
     if let Some(place) = error.position() {
         if place.start.cmp(&place.end).is_eq() {
@@ -23,13 +23,13 @@ fn set_span<T, R, Q: Ord + Copy, E: DetailedError<T, R, Span<Q>>>(error: &mut E,
     }
 }
 
-// Has the error of an answer stand at that span, where it stands at one position.
+// Makes the error of a result stand at that span, where it stands at one position.
 #[inline]
 fn at_span<O, T, R, Q: Ord + Copy, E: DetailedError<T, R, Span<Q>>>(
     answer: ParseResult<O, E>,
     span: Span<Q>,
 ) -> ParseResult<O, E>
-    ensures { SpansAnswer Q.cmp E.seen span answer result }
+    ensures { SpansAnswer Q.cmp E.observers span answer result }
 {
     match answer {
         ParseResult::CommitErr(error) => {
@@ -64,15 +64,15 @@ where
 
     ghost valid = { P.valid };
 
-    ghost meaning = { λ p. spanned Q.cmp Input.Error.seen Input.step (P.meaning (spanned_part p)) };
+    ghost meaning = { λ p. spanned Q.cmp Input.Error.observers Input.step (P.meaning (spanned_part p)) };
 
     ghost parts = { λ p. 1 };
 
     ghost default_valid = { P.default_valid };
 
-    ghost laws = { λ p l. spanned_is_meaning Q.cmp Input.Error.seen Input.step (P.laws (spanned_part p) l) };
+    ghost laws = { λ p l. spanned_is_meaning Q.cmp Input.Error.observers Input.step (P.laws (spanned_part p) l) };
 
-    ghost single = { λ p l d. spanned_means_one Q.cmp Input.Error.seen Input.step (P.single (spanned_part p) l d) };
+    ghost single = { λ p l d. spanned_means_one Q.cmp Input.Error.observers Input.step (P.single (spanned_part p) l d) };
 
     #[inline(always)]
     fn parse_mode<M: ParseMode>(
@@ -87,13 +87,13 @@ where
         at_span(answer, Span { start, end })
     }
 
-    /// What the parser adds.
+    /// Adds what the parser adds.
     #[inline]
     fn add_error(&mut self, error: &mut Tracked<Input::Error>) {
         self.0.add_error(error);
     }
 
-    /// One, whatever the parser counts.
+    /// Counts as one parser, whatever the parser counts.
     #[inline]
     fn parser_count(&self) -> ErrorOffset {
         ErrorOffset(1)

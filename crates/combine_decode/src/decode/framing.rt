@@ -1,19 +1,19 @@
-//! A message behind its length, and the parser that is answered for a length.
+//! A message after its length, and the parser for a length.
 ghost use Rattle.std.specs.Prelude.{◌≡◌};
 ghost use Rattle.combine_decode.specs.Frames.{framing_of};
-ghost use Rattle.combine_sequence.specs.Answered.{forget};
-ghost use Rattle.combine_token.specs.TokenParsers.{any_parser};
-ghost use Rattle.combine_repeat_turns.specs.RepeatParsers.{count_min_max_of};
+ghost use Rattle.combine_sequence.specs.Then.{forget};
+ghost use Rattle.combine_token.specs.Token.TokenParsers.{any_parser};
+ghost use Rattle.combine_repeat_turns.specs.Repeat.RepeatParsers.{count_min_max_of};
 
 use combine_repeat_turns::repeat::count_min_max;
 use combine_repeat_turns::repeat::types::CountMinMax;
-use combine_sequence::sequence::types::Asked;
+use combine_sequence::sequence::types::NextParser;
 use combine_token::token::any;
 use combine_token::token::types::Any;
 use std::alloc::Global;
 use std::marker::PhantomData;
 
-/// Is asked for the parser of so many bytes, which are collected. Our own.
+/// The function from a length to the parser of so many bytes, which are collected. Our own.
 #[derive(Drop)]
 #[derive_where(Clone, Copy)]
 pub struct Framing<Input> {
@@ -22,7 +22,7 @@ pub struct Framing<Input> {
 }
 
 impl<Input> Framing<Input> {
-    /// Collects bytes with this allocator.
+    /// Returns the function, which collects bytes with this allocator.
     pub(super) fn new(alloc: Global) -> Self
         ensures { result ≡ framing_of alloc }
     {
@@ -33,7 +33,7 @@ impl<Input> Framing<Input> {
     }
 }
 
-impl<Input> Asked<u16> for Framing<Input> {
+impl<Input> NextParser<u16> for Framing<Input> {
     ghost use Rattle.combine_decode.specs.Frames.{allocator_of};
 
     type Parser = CountMinMax<Vec<u8>, Any<Input>>;

@@ -5,7 +5,7 @@ ghost use Rattle.combine_base.specs.Parser.Outcome.{Outcome};
 ghost use Rattle.combine_base.specs.Stream.View.{View};
 ghost use Rattle.combine_decode.specs.Frames.{frame_of, framed};
 ghost use Rattle.combine_decode.specs.MessageLaws.{AreOne, CutsAgree, GoOn};
-ghost use Rattle.combine_decode.specs.Messages.{IsMade, SharesMeaning, made};
+ghost use Rattle.combine_decode.specs.Messages.{IsMade, SharesMeaning, made_reading};
 
 use crate::decode::types::Frame;
 use combine_base::error::ParseError;
@@ -13,29 +13,33 @@ use combine_base::parser::Parser;
 use combine_base::stream::{Stream, fed};
 use std::alloc::Global;
 
-/// The messages of tokens with more behind them begin with those of the tokens, and go on with those of what was left and the rest.
+/// The law that the messages of tokens with more after them begin with those of the tokens, and go on with those of what was left and the rest.
 pub fn messages_go_on<F: Fn() -> P, P: Parser<fed::Stream<T>>, T: Copy + 'static>(maker: &F)
     requires { IsMade (F.post maker.now) P.lawful }
-    ensures { GoOn (made P.meaning (F.post maker.now)) }
+    ensures { GoOn (made_reading P.meaning (F.post maker.now)) }
 {}
 
-/// Tokens have one division into messages, and one end, where the maker's parsers share one meaning that has one outcome. A message's value is any that the meaning allows.
+/// The law that tokens have one division into messages, and one end, where the maker's parsers share one meaning that has one outcome.
+///
+/// A message's value is any that the meaning allows.
 pub fn messages_are_one<F: Fn() -> P, P: Parser<fed::Stream<T>>, T: Copy + 'static>(maker: &F)
     requires lawful { IsMade (F.post maker.now) P.lawful }
     requires determined { IsMade (F.post maker.now) P.determined }
     requires shared { SharesMeaning P.meaning (F.post maker.now) }
-    ensures { AreOne (made P.meaning (F.post maker.now)) }
+    ensures { AreOne (made_reading P.meaning (F.post maker.now)) }
 {}
 
-/// However the same tokens are cut into pieces, there are as many messages, and the same end, where the maker's parsers share one meaning that has one outcome.
+/// The law that however the same tokens are cut into pieces, there are as many messages, and the same end, where the maker's parsers share one meaning that has one outcome.
 pub fn cuts_agree<F: Fn() -> P, P: Parser<fed::Stream<T>>, T: Copy + 'static>(maker: &F)
     requires lawful { IsMade (F.post maker.now) P.lawful }
     requires determined { IsMade (F.post maker.now) P.determined }
     requires shared { SharesMeaning P.meaning (F.post maker.now) }
-    ensures { CutsAgree (made P.meaning (F.post maker.now)) }
+    ensures { CutsAgree (made_reading P.meaning (F.post maker.now)) }
 {}
 
-/// What `frame` answers is exactly the bytes behind a length, as many as it says. Where some are missing more is asked for, or ended input is refused; nothing else is.
+/// The law that the value of `frame` is exactly the bytes after a length, as many as it says.
+///
+/// If some are missing more is asked for, or ended input is refused; nothing else is.
 pub fn frame_is_a_length_and_its_bytes<Input: Stream<Token = u8>>(alloc: Global)
 where
     Input::Error: ParseError<u8, Input::Range, Input::Position>,

@@ -1,30 +1,44 @@
 //! Messages of pieces, decoded as one input.
 ghost use Rattle.std.specs.Prelude.{◌≡◌, ◌++◌, map, MatchResult};
-ghost use Rattle.combine_decode.specs.Messages.{IsMade, made};
-ghost use Rattle.combine_decode.specs.Pieces.{DecodesPieces, FeedsMore};
+ghost use Rattle.combine_decode.specs.Messages.{IsMade, made_reading};
+ghost use Rattle.combine_decode.specs.DecodedPieces.{DecodesPieces, FeedsMore};
 
 use crate::decode::{Batch, BatchEnd, DecodeError, Decoder};
 use combine_base::parser::Parser;
 use combine_base::stream::{Kind, fed};
 use std::alloc::{AllocError, Global};
 
-/// Decodes the pieces as one input; those behind an end other than `More` are not looked at. Our own.
+/// Decodes the pieces as one input. Our own.
 ///
-/// However the input is cut, the messages are those of all of it, in order, and so is their end. Where there are no pieces, it is the end of the messages of nothing. The maker may always be called, and each parser that it answers is lawful.
+/// However the input is cut, the messages are those of all of it, in order, and so is their end. If there are no pieces, it is the end of the messages of nothing. Pieces after an end other than `More` are not looked at. The maker may always be called, and each parser that it returns is lawful.
 ///
 /// # Errors
 ///
 /// An error gives no message, also none of those that pieces before it completed.
 ///
-/// - `TooLong` where a message and the piece that goes on with it are more than 2^64 - 1 tokens.
-/// - `Memory` where a piece finds no room.
-/// - `Fault`, of kind `Memory`, where a growth is refused later: a parser's, or that of a list of messages.
+/// - `TooLong` if a message and the piece that goes on with it are more than 2^64 - 1 tokens.
+/// - `Memory` if a piece finds no room.
+/// - `Fault`, of kind `Memory`, if a growth is refused later: a parser's, or that of a list of messages.
 ///
-/// `Closed` and `Failed` are never answered.
+/// `Closed` and `Failed` never come.
 ///
 /// # Partial input
 ///
 /// The end of the pieces is open, and no message is judged by it: one that isn't complete there is left, and the end is `More`.
+///
+/// # Examples
+///
+/// ```
+/// fn all_words(alloc: Global, pieces: &[&[u8]]) -> Result<Batch<Vec<u8>>, DecodeError> {
+///     let word = move || {
+///         let letters = many1::<Vec<u8>, _>(alloc, satisfy(|byte: u8| byte.is_ascii_lowercase()));
+///         skip(letters, token(b';'))
+///     };
+///     decode_pieces(alloc, word, pieces)
+/// }
+/// ```
+///
+/// Of the pieces `b"a;b"` and `b"c;d"` the messages are `b"a"` and `b"bc"`, and the end is `More`.
 pub fn decode_pieces<F: Fn() -> P + Drop, P: Parser<fed::Stream<T>> + Drop, T: Copy + 'static>(
     alloc: Global,
     maker: F,
@@ -32,7 +46,7 @@ pub fn decode_pieces<F: Fn() -> P + Drop, P: Parser<fed::Stream<T>> + Drop, T: C
 ) -> Result<Batch<P::Output>, DecodeError>
     requires callable { F.IsAlwaysCallable maker }
     requires lawful { IsMade (F.post maker) P.lawful }
-    ensures { DecodesPieces (made P.meaning (F.post maker)) (map (λ p. p.now) pieces.now) result }
+    ensures { DecodesPieces (made_reading P.meaning (F.post maker)) (map (λ p. p.now) pieces.now) result }
 {
     let mut decoder = Decoder::new(alloc, maker);
     let mut messages = Vec::new(alloc);
@@ -45,14 +59,14 @@ pub fn decode_pieces<F: Fn() -> P + Drop, P: Parser<fed::Stream<T>> + Drop, T: C
             Err(error) => return Err(error),
         }
     }
-    // Where there are no pieces, nothing was parsed yet.
+    // If there are no pieces, nothing was parsed yet.
     match feed_more(&mut decoder, &[], &mut messages) {
         Ok(end) => Ok(Batch { messages, end }),
         Err(error) => Err(error),
     }
 }
 
-/// Feeds a piece, puts its messages behind those before, and answers why there are no more.
+/// Feeds a piece, puts its messages after those before, and returns why there are no more.
 fn feed_more<F: Fn() -> P, P: Parser<fed::Stream<T>> + Drop, T: Copy + 'static>(
     decoder: &mut Decoder<F, P, T>,
     piece: &[T],
@@ -77,7 +91,7 @@ fn feed_more<F: Fn() -> P, P: Parser<fed::Stream<T>> + Drop, T: Copy + 'static>(
     }
 }
 
-/// Puts messages behind those before.
+/// Puts messages after those before.
 fn append<V: Drop>(messages: &mut Vec<V>, more: Vec<V>) -> Result<(), AllocError>
     ensures { MatchResult result (λ _. messages.new.items ≡ messages.old.items ++ more.items) (λ _. Unit {0}) }
 {

@@ -7,7 +7,7 @@ use combine_base::error::Info;
 use std::fmt;
 use std::fmt::Display;
 
-/// `Unexpected ..`, `Expected ..`, or the message alone. Tokens and ranges stand in backquotes.
+/// Writes `Unexpected ..`, `Expected ..`, or the message alone. Tokens and ranges stand in backquotes.
 impl<T: Display, R: Display> Display for Error<T, R> {
     fn fmt<W: fmt::Write>(&self, f: &mut fmt::Formatter<W>) -> fmt::Result {
         match self {
@@ -24,7 +24,9 @@ impl<T: Display, R: Display> Display for Error<T, R> {
     }
 }
 
-/// The position, and then a line for each item but those that say what was expected, which share one. Each line ends with a line feed.
+/// Writes the position, and then a line for each item but those that say what was expected, which share one.
+///
+/// Each line ends with a line feed.
 impl<T: Display, R: Display, P: Display> Display for Errors<T, R, P> {
     fn fmt<W: fmt::Write>(&self, f: &mut fmt::Formatter<W>) -> fmt::Result {
         let position = &self.position;
@@ -35,7 +37,7 @@ impl<T: Display, R: Display, P: Display> Display for Errors<T, R, P> {
     }
 }
 
-// A token or a range in backquotes, or a text.
+// Writes a token or a range in backquotes, or a text.
 fn write_info<T: Display, R: Display, W: fmt::Write>(
     info: &Info<T, R>,
     f: &mut fmt::Formatter<W>,
@@ -49,7 +51,7 @@ fn write_info<T: Display, R: Display, W: fmt::Write>(
     }
 }
 
-// A line for each item that was not expected.
+// Writes a line for each item that was not expected.
 fn write_unexpected<T: Display, R: Display, W: fmt::Write>(
     errors: &[Error<T, R>],
     f: &mut fmt::Formatter<W>,
@@ -62,7 +64,7 @@ fn write_unexpected<T: Display, R: Display, W: fmt::Write>(
     Ok(())
 }
 
-// What stands before the n-th of so many expected items, the first being number 0.
+// Writes what stands before the n-th of so many expected items, the first being number 0.
 fn write_separator<W: fmt::Write>(
     n: usize,
     count: usize,
@@ -77,7 +79,7 @@ fn write_separator<W: fmt::Write>(
     write!(f, " or ")
 }
 
-// A line of all that was expected, if anything was: `Expected a, b or c`.
+// Writes a line of all that was expected, if anything was: `Expected a, b or c`.
 fn write_expected<T: Display, R: Display, W: fmt::Write>(
     errors: &[Error<T, R>],
     f: &mut fmt::Formatter<W>,
@@ -97,7 +99,7 @@ fn write_expected<T: Display, R: Display, W: fmt::Write>(
     writeln!(f)
 }
 
-// A line for each message.
+// Writes a line for each message.
 fn write_messages<T: Display, R: Display, W: fmt::Write>(
     errors: &[Error<T, R>],
     f: &mut fmt::Formatter<W>,

@@ -1,6 +1,6 @@
 //! Streams whose errors keep items.
 ghost use Rattle.std.specs.Prelude.{◌≡◌};
-ghost use Rattle.combine_error.specs.Easy.{inside};
+ghost use Rattle.combine_error.specs.Easy.{inner_stream};
 
 use crate::easy::Errors;
 use combine_base::maps::Maps;
@@ -9,9 +9,13 @@ use combine_stream::position;
 use combine_stream::range::{Range, RangeStream};
 use std::alloc::Global;
 
-/// The stream, whose parsers are refused with errors that keep items.
+/// A stream whose parsers are refused with errors that keep items.
 ///
-/// An error as the stream makes it has no items and takes no memory. In the crate it is `Stream(pub S)`; this one keeps an allocator, from which items that are added take their memory.
+/// An error as the stream makes it has no items and takes no memory.
+///
+/// # Differences from combine
+///
+/// In the crate it is `Stream(pub S)`. This one keeps an allocator, from which items that are added take their memory.
 #[derive(Drop)]
 pub struct Stream<S> {
     inner: S,
@@ -28,7 +32,7 @@ impl<S> Stream<S> {
     /// Makes the stream, with errors whose items take their memory from there.
     #[inline]
     pub fn new(alloc: Global, inner: S) -> Self
-        ensures { inside result ≡ inner }
+        ensures { inner_stream result ≡ inner }
     {
         Stream { inner, alloc }
     }
@@ -36,7 +40,7 @@ impl<S> Stream<S> {
     /// Returns the stream inside.
     #[inline]
     pub fn into_inner(self) -> S
-        ensures { result ≡ inside self }
+        ensures { result ≡ inner_stream self }
     {
         let Stream { inner, alloc: _ } = self;
         inner
@@ -66,7 +70,7 @@ where
 
     ghost failures = { λ s. S.failures s.inner };
 
-    ghost steady = { S.steady };
+    ghost counts_failures = { S.counts_failures };
 
     ghost moves = { λ s n h k. S.moves s.inner n h k };
 

@@ -1,12 +1,12 @@
 //! The parsers that shape errors.
 ghost use Rattle.std.specs.Prelude.{◌≡◌, ◌↔◌, true};
-ghost use Rattle.combine_base.specs.Error.Errors.{Nothing, Only};
+ghost use Rattle.combine_base.specs.Error.Errors.{AddsNothing, Only};
 ghost use Rattle.combine_base.specs.Error.Items as items;
 ghost use Rattle.combine_base.specs.Error.Items.{shown};
-ghost use Rattle.combine_base.specs.Parser.Judged.{IsRefusal};
+ghost use Rattle.combine_base.specs.Parser.DriverAnswers.{IsRefusal};
 ghost use Rattle.combine_error.specs.Copies.{NoText};
-ghost use Rattle.combine_error.specs.Saying.{AndThen, Hushes, InPlace, Tells, ToldLess, saying, saying_is_meaning, saying_means_one, told_less_is_monotone, told_more, told_more_is_monotone, unchanged, unchanged_is_monotone};
-ghost use Rattle.combine_error.specs.Shaped.{hushed_part, named_info, named_part, told_info, told_part};
+ghost use Rattle.combine_error.specs.RewordedErrors.{WithOneMore, ClearsExpected, ReplacesExpected, AddsOnRefusal, RefusesWithoutExpected, saying, saying_is_meaning, saying_means_one, refuses_without_expected_is_monotone, refuses_with_item, refuses_with_item_is_monotone, part_refusals, part_refusals_is_monotone};
+ghost use Rattle.combine_error.specs.ErrorParsers.{silent_part, expected_info, expected_part, message_info, message_part};
 
 use crate::info::copied;
 use combine_base::error::{ErrorOffset, Info, ParseError, ParseResult, Tracked};
@@ -14,14 +14,18 @@ use combine_base::parser::{Outputs, ParseMode, Parser};
 use combine_base::stream::{Kind, Stream, StreamOnce};
 use std::alloc::AllocError;
 
-/// The parser of [`message`](crate::error::message). `I` is an `Info`, in the crate what is turned into one.
+/// The parser of [`message`](crate::error::message).
+///
+/// `I` is an `Info`, in the crate what is turned into one.
 #[derive(Drop)]
 pub struct Message<P, I> {
     pub(super) parser: P,
     pub(super) info: I,
 }
 
-/// The parser of [`expected`](crate::error::expected). `I` is an `Info`, in the crate what is turned into one.
+/// The parser of [`expected`](crate::error::expected).
+///
+/// `I` is an `Info`, in the crate what is turned into one.
 #[derive(Drop)]
 pub struct Expected<P, I> {
     pub(super) parser: P,
@@ -33,9 +37,9 @@ pub struct Expected<P, I> {
 pub struct Silent<P>(pub(super) P);
 
 impl<P: Clone, A: Copy, R: Copy> Clone for Message<P, Info<A, R>> {
-    ghost is_clone = { λ p q. P.is_clone (told_part p) (told_part q) × (shown (told_info q) ≡ shown (told_info p)) };
+    ghost is_clone = { λ p q. P.is_clone (message_part p) (message_part q) × (shown (message_info q) ≡ shown (message_info p)) };
 
-    ghost is_infallible = { λ p. P.is_infallible (told_part p) × NoText (told_info p) };
+    ghost is_infallible = { λ p. P.is_infallible (message_part p) × NoText (message_info p) };
 
     fn clone(&self) -> Result<Self, AllocError> {
         Ok(Message {
@@ -46,9 +50,9 @@ impl<P: Clone, A: Copy, R: Copy> Clone for Message<P, Info<A, R>> {
 }
 
 impl<P: Clone, A: Copy, R: Copy> Clone for Expected<P, Info<A, R>> {
-    ghost is_clone = { λ p q. P.is_clone (named_part p) (named_part q) × (shown (named_info q) ≡ shown (named_info p)) };
+    ghost is_clone = { λ p q. P.is_clone (expected_part p) (expected_part q) × (shown (expected_info q) ≡ shown (expected_info p)) };
 
-    ghost is_infallible = { λ p. P.is_infallible (named_part p) × NoText (named_info p) };
+    ghost is_infallible = { λ p. P.is_infallible (expected_part p) × NoText (expected_info p) };
 
     fn clone(&self) -> Result<Self, AllocError> {
         Ok(Expected {
@@ -58,10 +62,10 @@ impl<P: Clone, A: Copy, R: Copy> Clone for Expected<P, Info<A, R>> {
     }
 }
 
-// Whether a committed error is a refusal: no need of more, and no fault.
+// Returns whether a committed error is a refusal: no need of more, and no fault.
 #[inline]
 fn is_refusal<Input: Stream>(input: &Input, error: &Input::Error) -> bool
-    ensures { (result ≡ true) ↔ IsRefusal (Input.view input.now).is_open (Input.Error.seen.kind error.now) }
+    ensures { (result ≡ true) ↔ IsRefusal (Input.view input.now).is_open (Input.Error.observers.kind error.now) }
 {
     match error.kind() {
         Kind::Refused => true,
@@ -70,13 +74,13 @@ fn is_refusal<Input: Stream>(input: &Input, error: &Input::Error) -> bool
     }
 }
 
-// Has a committed refusal say this too.
+// Makes a committed refusal say this too.
 fn tell<O: Drop, Input: Stream>(
     input: &Input,
     info: &Info<Input::Token, Input::Range>,
     answer: ParseResult<O, Input::Error>,
 ) -> ParseResult<O, Input::Error>
-    ensures { Tells Input.Error.seen (Input.view input.now).is_open (Only (items.Message (shown info.now))) answer result }
+    ensures { AddsOnRefusal Input.Error.observers (Input.view input.now).is_open (Only (items.Message (shown info.now))) answer result }
 {
     match answer {
         ParseResult::CommitErr(error) => {
@@ -93,12 +97,12 @@ fn tell<O: Drop, Input: Stream>(
     }
 }
 
-// Has a refusal no longer say what was expected.
+// Makes a refusal no longer say what was expected.
 fn hush<O: Drop, Input: Stream>(
     input: &Input,
     answer: ParseResult<O, Input::Error>,
 ) -> ParseResult<O, Input::Error>
-    ensures { Hushes Input.Error.seen (Input.view input.now).is_open answer result }
+    ensures { ClearsExpected Input.Error.observers (Input.view input.now).is_open answer result }
 {
     match answer {
         ParseResult::CommitErr(error) => {
@@ -127,21 +131,21 @@ impl<Input: Stream, P: Parser<Input>> Parser<Input>
     for Message<P, Info<Input::Token, Input::Range>> {
     type PartialState = P::PartialState;
 
-    ghost lawful = { λ p. P.lawful (told_part p) };
+    ghost lawful = { λ p. P.lawful (message_part p) };
 
-    ghost determined = { λ p. P.determined (told_part p) };
+    ghost determined = { λ p. P.determined (message_part p) };
 
     ghost valid = { P.valid };
 
-    ghost meaning = { λ p. saying (P.meaning (told_part p)) (AndThen (P.meaning (told_part p)).adds (items.Message (shown (told_info p)))) (told_more Input.Error.seen (items.Message (shown (told_info p)))) };
+    ghost meaning = { λ p. saying (P.meaning (message_part p)) (WithOneMore (P.meaning (message_part p)).adds (items.Message (shown (message_info p)))) (refuses_with_item Input.Error.observers (items.Message (shown (message_info p)))) };
 
-    ghost parts = { λ p. P.parts (told_part p) };
+    ghost parts = { λ p. P.parts (message_part p) };
 
     ghost default_valid = { P.default_valid };
 
-    ghost laws = { λ p l. saying_is_meaning P.PartialState.is_default P.valid (P.meaning (told_part p)) _ _ (told_more_is_monotone Input.Error.seen (items.Message (shown (told_info p)))) (P.laws (told_part p) l) };
+    ghost laws = { λ p l. saying_is_meaning P.PartialState.is_default P.valid (P.meaning (message_part p)) _ _ (refuses_with_item_is_monotone Input.Error.observers (items.Message (shown (message_info p)))) (P.laws (message_part p) l) };
 
-    ghost single = { λ p l d. saying_means_one P.valid (P.meaning (told_part p)) _ (told_more Input.Error.seen (items.Message (shown (told_info p)))) (P.single (told_part p) l d) };
+    ghost single = { λ p l d. saying_means_one P.valid (P.meaning (message_part p)) _ (refuses_with_item Input.Error.observers (items.Message (shown (message_info p)))) (P.single (message_part p) l d) };
 
     #[inline(always)]
     fn parse_mode<M: ParseMode>(
@@ -154,13 +158,13 @@ impl<Input: Stream, P: Parser<Input>> Parser<Input>
         tell(input, &self.info, answer)
     }
 
-    /// What the parser adds, and then the message.
+    /// Adds what the parser adds, and then the message.
     fn add_error(&mut self, error: &mut Tracked<Input::Error>) {
         self.parser.add_error(error);
         error.error.add_message(&self.info);
     }
 
-    /// As for the parser.
+    /// Counts as the parser does.
     fn parser_count(&self) -> ErrorOffset {
         self.parser.parser_count()
     }
@@ -173,21 +177,21 @@ impl<Input, P: Outputs<Input>> Outputs<Input> for Silent<P> {
 impl<Input: Stream, P: Parser<Input>> Parser<Input> for Silent<P> {
     type PartialState = P::PartialState;
 
-    ghost lawful = { λ p. P.lawful (hushed_part p) };
+    ghost lawful = { λ p. P.lawful (silent_part p) };
 
-    ghost determined = { λ p. P.determined (hushed_part p) };
+    ghost determined = { λ p. P.determined (silent_part p) };
 
     ghost valid = { P.valid };
 
-    ghost meaning = { λ p. saying (P.meaning (hushed_part p)) Nothing (ToldLess Input.Error.seen) };
+    ghost meaning = { λ p. saying (P.meaning (silent_part p)) AddsNothing (RefusesWithoutExpected Input.Error.observers) };
 
-    ghost parts = { λ p. P.parts (hushed_part p) };
+    ghost parts = { λ p. P.parts (silent_part p) };
 
     ghost default_valid = { P.default_valid };
 
-    ghost laws = { λ p l. saying_is_meaning P.PartialState.is_default P.valid (P.meaning (hushed_part p)) Nothing (ToldLess Input.Error.seen) (told_less_is_monotone Input.Error.seen) (P.laws (hushed_part p) l) };
+    ghost laws = { λ p l. saying_is_meaning P.PartialState.is_default P.valid (P.meaning (silent_part p)) AddsNothing (RefusesWithoutExpected Input.Error.observers) (refuses_without_expected_is_monotone Input.Error.observers) (P.laws (silent_part p) l) };
 
-    ghost single = { λ p l d. saying_means_one P.valid (P.meaning (hushed_part p)) Nothing (ToldLess Input.Error.seen) (P.single (hushed_part p) l d) };
+    ghost single = { λ p l d. saying_means_one P.valid (P.meaning (silent_part p)) AddsNothing (RefusesWithoutExpected Input.Error.observers) (P.single (silent_part p) l d) };
 
     #[inline(always)]
     fn parse_mode<M: ParseMode>(
@@ -203,7 +207,7 @@ impl<Input: Stream, P: Parser<Input>> Parser<Input> for Silent<P> {
     /// Adds nothing.
     fn add_error(&mut self, error: &mut Tracked<Input::Error>) {}
 
-    /// As for the parser.
+    /// Counts as the parser does.
     fn parser_count(&self) -> ErrorOffset {
         self.0.parser_count()
     }
@@ -217,21 +221,21 @@ impl<Input: Stream, P: Parser<Input>> Parser<Input>
     for Expected<P, Info<Input::Token, Input::Range>> {
     type PartialState = P::PartialState;
 
-    ghost lawful = { λ p. P.lawful (named_part p) };
+    ghost lawful = { λ p. P.lawful (expected_part p) };
 
-    ghost determined = { λ p. P.determined (named_part p) };
+    ghost determined = { λ p. P.determined (expected_part p) };
 
     ghost valid = { P.valid };
 
-    ghost meaning = { λ p. saying (P.meaning (named_part p)) (InPlace (P.meaning (named_part p)).adds (items.Expected (shown (named_info p)))) unchanged };
+    ghost meaning = { λ p. saying (P.meaning (expected_part p)) (ReplacesExpected (P.meaning (expected_part p)).adds (items.Expected (shown (expected_info p)))) part_refusals };
 
-    ghost parts = { λ p. P.parts (named_part p) };
+    ghost parts = { λ p. P.parts (expected_part p) };
 
     ghost default_valid = { P.default_valid };
 
-    ghost laws = { λ p l. saying_is_meaning P.PartialState.is_default P.valid (P.meaning (named_part p)) (InPlace (P.meaning (named_part p)).adds (items.Expected (shown (named_info p)))) unchanged unchanged_is_monotone (P.laws (named_part p) l) };
+    ghost laws = { λ p l. saying_is_meaning P.PartialState.is_default P.valid (P.meaning (expected_part p)) (ReplacesExpected (P.meaning (expected_part p)).adds (items.Expected (shown (expected_info p)))) part_refusals part_refusals_is_monotone (P.laws (expected_part p) l) };
 
-    ghost single = { λ p l d. saying_means_one P.valid (P.meaning (named_part p)) (InPlace (P.meaning (named_part p)).adds (items.Expected (shown (named_info p)))) unchanged (P.single (named_part p) l d) };
+    ghost single = { λ p l d. saying_means_one P.valid (P.meaning (expected_part p)) (ReplacesExpected (P.meaning (expected_part p)).adds (items.Expected (shown (expected_info p)))) part_refusals (P.single (expected_part p) l d) };
 
     #[inline(always)]
     fn parse_mode<M: ParseMode>(
@@ -243,7 +247,7 @@ impl<Input: Stream, P: Parser<Input>> Parser<Input>
         self.parser.parse_mode(mode, input, state)
     }
 
-    /// What the parser adds but what it says was expected, and then that this was.
+    /// Adds what the parser adds but what it says was expected, and then that this was.
     fn add_error(&mut self, error: &mut Tracked<Input::Error>) {
         let kept = error.error.count_items();
         self.parser.add_error(error);
@@ -251,7 +255,7 @@ impl<Input: Stream, P: Parser<Input>> Parser<Input>
         error.error.add_expected(&self.info);
     }
 
-    /// As for the parser.
+    /// Counts as the parser does.
     fn parser_count(&self) -> ErrorOffset {
         self.parser.parser_count()
     }

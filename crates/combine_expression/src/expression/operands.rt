@@ -1,8 +1,8 @@
 //! An expression that isn't over: the operators that wait for operands, and the operand that they wait for.
 ghost use Rattle.std.specs.Prelude.{◌≡◌, [], ◌∷◌, ◌++◌, MatchResult, None, length, reverse, slice_get, vec_items};
-ghost use Rattle.combine_expression.specs.Levels.{Expression, Infix, Operand, Postfix, Prefix};
+ghost use Rattle.combine_expression.specs.Levels.{IsExpression, Infix, Operand, Postfix, Prefix};
 ghost use Rattle.combine_expression.specs.Shapes.{fits_behind, fits_in_front, sides_of};
-ghost use Rattle.combine_expression.specs.Waiting.{EndsEarly, Follows, Holds, Misfits, Reduced, ReducedAbove, StandsIn, asked, blames, makes_of, operator_refuses};
+ghost use Rattle.combine_expression.specs.OpenExpressions.{EndsEarly, AddsThing, HoldsOperand, Misfits, Reduced, ReducedAbove, StandsIn, asked_level, blames, makes_of, operator_refuses};
 
 use super::{Fixity, Operator};
 use std::alloc::{AllocError, Global};
@@ -10,7 +10,7 @@ use std::alloc::{AllocError, Global};
 /// The message of an operator that doesn't fit where it stands.
 const OPERATOR: &str = "operator cannot stand here";
 
-/// The message of an operand behind an operand.
+/// The message of an operand after an operand.
 const OPERAND: &str = "operand cannot stand here";
 
 /// The message of an end where an operand is awaited.
@@ -31,7 +31,7 @@ pub struct Pending<O, V> {
 #[derive(Drop)]
 pub struct Held<V> {
     pub(super) value: V,
-    /// The level of its outermost operator; that behind the last one where it has none.
+    /// The level of its outermost operator; that after the last one where it has none.
     pub(super) level: usize,
 }
 
@@ -45,7 +45,7 @@ pub(super) struct Lowest {
 /// Why an expression doesn't go on.
 #[derive(Drop)]
 pub(super) enum Fault {
-    /// Want of memory.
+    /// No memory is left.
     Memory,
     /// What follows doesn't fit, which this message says.
     Misfit(&'static str),
@@ -63,23 +63,23 @@ pub struct Operands<O, V, const N: usize> {
     pub(super) held: Option<Held<V>>,
 }
 
-/// How many levels there are: the level of an operand in which no operator stands outermost.
+/// Returns how many levels there are: the level of an operand in which no operator stands outermost.
 fn number_of(levels: &[Fixity]) -> usize
     ensures { result ≡ length levels.now }
 {
     levels.len()
 }
 
-/// The fixity of a level, if there is one.
+/// Returns the fixity of a level, if there is one.
 fn fixity_at(levels: &[Fixity], level: usize) -> Option<Fixity>
     ensures { result ≡ slice_get levels.now level }
 {
     levels.get(level).copied()
 }
 
-/// Whether an operator of a level is a prefix operator that fits where such a level is asked for.
+/// Returns whether an operator of a level is a prefix operator that fits where such a level is asked for.
 fn is_prefix(levels: &[Fixity], asked: usize, level: usize) -> bool
-    ensures { result ≡ fits_in_front (slice_get levels.now level) asked level }
+    ensures { result ≡ fits_in_front (slice_get levels.now level) asked_level level }
 {
     let Some(fixity) = fixity_at(levels, level) else {
         return false;
@@ -90,7 +90,7 @@ fn is_prefix(levels: &[Fixity], asked: usize, level: usize) -> bool
     }
 }
 
-/// Whether an operator of a level is a postfix operator that fits behind an operand of such a level.
+/// Returns whether an operator of a level is a postfix operator that fits after an operand of such a level.
 fn is_postfix(levels: &[Fixity], held: usize, level: usize) -> bool
     ensures { result ≡ fits_behind (slice_get levels.now level) held level }
 {
@@ -103,7 +103,7 @@ fn is_postfix(levels: &[Fixity], held: usize, level: usize) -> bool
     }
 }
 
-/// The lowest levels of an infix operator's operands, where the operators of the level are infix.
+/// Returns the lowest levels of an infix operator's operands, where the operators of the level are infix.
 fn sides(levels: &[Fixity], level: usize) -> Option<Lowest>
     ensures { result ≡ sides_of level (slice_get levels.now level) }
 {
@@ -124,9 +124,9 @@ fn sides(levels: &[Fixity], level: usize) -> Option<Lowest>
     }
 }
 
-/// The lowest level that the awaited operand may have.
+/// Returns the lowest level that the awaited operand may have.
 fn asked_by<O, V>(pending: &Vec<Pending<O, V>>) -> usize
-    ensures { result ≡ asked (reverse (vec_items pending.now)) }
+    ensures { result ≡ asked_level (reverse (vec_items pending.now)) }
 {
     match pending.as_slice().last() {
         Some(innermost) => innermost.asks,
@@ -134,7 +134,7 @@ fn asked_by<O, V>(pending: &Vec<Pending<O, V>>) -> usize
     }
 }
 
-/// Those that wait, and one more.
+/// Returns those that wait, and one more.
 fn wait<O: Drop, V: Drop>(
     pending: Vec<Pending<O, V>>,
     waits: Pending<O, V>,
@@ -146,7 +146,7 @@ fn wait<O: Drop, V: Drop>(
     Ok(pending)
 }
 
-/// What an operator makes of its operands.
+/// Returns what an operator makes of its operands.
 fn operate<O: Operator>(
     operator: O,
     left: Option<O::Value>,
@@ -160,7 +160,7 @@ fn operate<O: Operator>(
     }
 }
 
-/// An operator with its operands, as an operand.
+/// Returns an operator with its operands, as an operand.
 fn reduce<O: Operator>(
     waits: Pending<O, O::Value>,
     right: O::Value,
@@ -202,7 +202,7 @@ fn reduce_all<O: Operator>(
     pending: Vec<Pending<O, O::Value>>,
     held: Held<O::Value>,
 ) -> Result<O::Value, Fault>
-    ensures { MatchResult result (λ v. (levels : _) (ts : _) → Holds levels O.changes O.joins (reverse (vec_items pending)) held ts → Expression levels O.changes O.joins 0 ts v) (blames O.refuses_operand O.refuses_operands ⊥) }
+    ensures { MatchResult result (λ v. (levels : _) (ts : _) → HoldsOperand levels O.changes O.joins (reverse (vec_items pending)) held ts → IsExpression levels O.changes O.joins 0 ts v) (blames O.refuses_operand O.refuses_operands ⊥) }
 {
     let mut pending = pending;
     let mut held = held;
@@ -213,7 +213,7 @@ fn reduce_all<O: Operator>(
 }
 
 impl<O, V, const N: usize> Operands<O, V, N> {
-    /// An expression of which nothing was read.
+    /// Returns an expression of which nothing was read.
     pub(super) fn new(alloc: Global, levels: [Fixity; N]) -> Operands<O, V, N>
         ensures levels { result.levels ≡ levels.entry }
         ensures pending { vec_items result.pending ≡ [] }
@@ -228,9 +228,9 @@ impl<O, V, const N: usize> Operands<O, V, N> {
 }
 
 impl<O: Operator, const N: usize> Operands<O, O::Value, N> {
-    /// The operand that is awaited.
+    /// Reads the operand that is awaited.
     pub(super) fn operand(self, value: O::Value) -> Result<Self, Fault>
-        ensures { MatchResult result (λ r. Follows O.changes O.joins self r (Operand value)) (blames O.refuses_operand O.refuses_operands (Misfits O.changes O.joins self (Operand value))) }
+        ensures { MatchResult result (λ r. AddsThing O.changes O.joins self r (Operand value)) (blames O.refuses_operand O.refuses_operands (Misfits O.changes O.joins self (Operand value))) }
     {
         let Operands {
             levels,
@@ -248,9 +248,9 @@ impl<O: Operator, const N: usize> Operands<O, O::Value, N> {
         })
     }
 
-    /// A prefix operator in front of the operand that is awaited.
+    /// Reads a prefix operator in front of the operand that is awaited.
     pub(super) fn prefix(self, level: usize, operator: O) -> Result<Self, Fault>
-        ensures { MatchResult result (λ r. Follows O.changes O.joins self r (Prefix level operator)) (blames O.refuses_operand O.refuses_operands (Misfits O.changes O.joins self (Prefix level operator))) }
+        ensures { MatchResult result (λ r. AddsThing O.changes O.joins self r (Prefix level operator)) (blames O.refuses_operand O.refuses_operands (Misfits O.changes O.joins self (Prefix level operator))) }
     {
         let Operands {
             levels,
@@ -279,9 +279,9 @@ impl<O: Operator, const N: usize> Operands<O, O::Value, N> {
         })
     }
 
-    /// An infix operator behind an operand.
+    /// Reads an infix operator after an operand.
     pub(super) fn infix(self, level: usize, operator: O) -> Result<Self, Fault>
-        ensures { MatchResult result (λ r. Follows O.changes O.joins self r (Infix level operator)) (blames O.refuses_operand O.refuses_operands (Misfits O.changes O.joins self (Infix level operator))) }
+        ensures { MatchResult result (λ r. AddsThing O.changes O.joins self r (Infix level operator)) (blames O.refuses_operand O.refuses_operands (Misfits O.changes O.joins self (Infix level operator))) }
     {
         let Operands {
             levels,
@@ -314,9 +314,9 @@ impl<O: Operator, const N: usize> Operands<O, O::Value, N> {
         })
     }
 
-    /// A postfix operator behind an operand.
+    /// Reads a postfix operator after an operand.
     pub(super) fn postfix(self, level: usize, operator: O) -> Result<Self, Fault>
-        ensures { MatchResult result (λ r. Follows O.changes O.joins self r (Postfix level operator)) (blames O.refuses_operand O.refuses_operands (Misfits O.changes O.joins self (Postfix level operator))) }
+        ensures { MatchResult result (λ r. AddsThing O.changes O.joins self r (Postfix level operator)) (blames O.refuses_operand O.refuses_operands (Misfits O.changes O.joins self (Postfix level operator))) }
     {
         let Operands {
             levels,
@@ -344,9 +344,9 @@ impl<O: Operator, const N: usize> Operands<O, O::Value, N> {
         })
     }
 
-    /// The value, where nothing more follows.
+    /// Returns the value, where nothing more follows.
     pub(super) fn close(self) -> Result<O::Value, Fault>
-        ensures { MatchResult result (λ v. (ts : _) → StandsIn O.changes O.joins self ts → Expression self.levels O.changes O.joins 0 ts v) (blames O.refuses_operand O.refuses_operands (EndsEarly O.changes O.joins self)) }
+        ensures { MatchResult result (λ v. (ts : _) → StandsIn O.changes O.joins self ts → IsExpression self.levels O.changes O.joins 0 ts v) (blames O.refuses_operand O.refuses_operands (EndsEarly O.changes O.joins self)) }
     {
         let Operands {
             levels: _,

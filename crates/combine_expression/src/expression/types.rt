@@ -1,6 +1,6 @@
 //! What an expression's parser is made of.
 ghost use Rattle.std.specs.Prelude.{◌≡◌, MatchResult};
-ghost use Rattle.combine_expression.specs.Parts.{Begins, MakesOutermost, closed_as, part_joins, part_takes, stayed_as};
+ghost use Rattle.combine_expression.specs.ExpressionParts.{BeginsPart, MakesOutermost, closed_as, part_joins, part_takes, stayed_as};
 
 use super::operands::{Fault, Operands};
 use super::{Fixity, Item, Operator};
@@ -14,7 +14,7 @@ use std::marker::PhantomData;
 /// The parser of [`expression`](crate::expression::expression).
 pub type Expression<O, V, A, B, C, const N: usize> = Nested<Outermost<O, V, N>, Steps<A, B, C>>;
 
-/// The steps of an expression: what stands where an operand is awaited, and behind one, in brackets and outside of them.
+/// The steps of an expression: what stands where an operand is awaited, and after one, in brackets and outside of them.
 pub type Steps<A, B, C> = IfElse<Awaits, A, IfElse<InBrackets, B, C>>;
 
 /// An expression that isn't over, or the part of one that is in brackets.
@@ -27,7 +27,7 @@ pub struct Part<O, V, const N: usize> {
 
 impl<O: Drop, V: Drop, const N: usize> Part<O, V, N> {
     fn new(alloc: Global, levels: [Fixity; N], in_brackets: bool) -> Part<O, V, N>
-        ensures { Begins levels.entry in_brackets result }
+        ensures { BeginsPart levels.entry in_brackets result }
     {
         Part {
             alloc,
@@ -36,7 +36,7 @@ impl<O: Drop, V: Drop, const N: usize> Part<O, V, N> {
         }
     }
 
-    /// What comes of a part to which that became.
+    /// Returns what comes of a part that became that.
     fn stay(
         alloc: Global,
         in_brackets: bool,
@@ -56,7 +56,7 @@ impl<O: Drop, V: Drop, const N: usize> Part<O, V, N> {
         }
     }
 
-    /// What comes of a part that was closed so.
+    /// Returns what comes of a part that was closed so.
     fn close(became: Result<V, Fault>) -> Result<Next<Part<O, V, N>, V>, AllocError>
         ensures { MatchResult result (closed_as became) (λ _. Unit {0}) }
     {
@@ -147,7 +147,7 @@ impl<O: Drop, V: Drop, const N: usize> Makes for Outermost<O, V, N> {
 
     ghost callable = { λ _. Unit {0} };
 
-    ghost makes = { λ r p. Begins r.levels false p };
+    ghost makes = { λ r p. BeginsPart r.levels false p };
 
     #[inline]
     fn make(&self) -> Part<O, V, N> {
@@ -160,7 +160,7 @@ impl<O: Drop, V: Drop, const N: usize> Makes for Outermost<O, V, N> {
 pub struct Awaits;
 
 impl<O, V, const N: usize> Test<Part<O, V, N>> for Awaits {
-    ghost use Rattle.combine_expression.specs.Parts.{awaits};
+    ghost use Rattle.combine_expression.specs.ExpressionParts.{awaits};
 
     ghost callable = { λ _. Unit {0} };
 

@@ -1,20 +1,20 @@
-//! What answers the parser of the next step.
+//! What returns the parser of the next step.
 ghost use Rattle.std.specs.Prelude.{◌≡◌};
 
 use combine_choice_dispatch::variants::Either;
 
-/// What answers the parser of the next step, by the innermost frame.
+/// A function that returns the parser of the next step, by the innermost frame.
 pub trait Ask<F> {
-    /// The parser that it answers.
+    /// The parser that it returns.
     type Parser;
 
     /// It may be asked.
     ghost callable: { Self → Type 0 };
 
-    /// Which parsers it may answer for a frame.
+    /// Which parsers it may return for a frame.
     ghost answers: { Self → F → Self.Parser → Type 0 };
 
-    /// Answers the parser of the next step. It may be asked.
+    /// Returns the parser of the next step. It may be asked.
     fn ask(&self, frame: &F) -> Self::Parser
         requires { callable self.now }
         ensures { answers self.now frame.now result };
@@ -42,7 +42,7 @@ pub trait Test<F> {
     /// It may be called.
     ghost callable: { Self → Type 0 };
 
-    /// What it may answer of a frame.
+    /// What it may return for a frame.
     ghost tells: { Self → F → Bool → Type 0 };
 
     /// Returns whether it holds of the frame. It may be called.

@@ -1,13 +1,12 @@
 //! One step's parser, run, and what becomes of the frames.
 ghost use Rattle.std.specs.Prelude.{◌≡◌, ◌||◌, true, MatchResult, reverse, vec_items};
-ghost use Rattle.combine_nested.specs.Nesting.{around, begins_steps, settles};
-ghost use Rattle.combine_nested.specs.StepCalls.{CalledStep, Denies, TakesItem, ends_of, item_did};
+ghost use Rattle.combine_nested.specs.NestedSteps.{frames_around, begins_steps, settles_frames};
+ghost use Rattle.combine_nested.specs.StepCalls.{CalledStep, Denies, TakesItem, ends_of, step_item_did};
 
 use super::{Frame, Next};
-use combine_base::error::{ParseResult, Tracked};
+use combine_base::error::{ParseResult, Tracked, accepted_after, refused_after};
 use combine_base::parser::{Calls, ParseMode, Parser};
 use combine_base::refusal::{peeked, refusal_saying};
-use combine_base::sequence::{accepted_after, refused_after};
 use combine_base::stream::{Kind, Stream, has_taken, needs_more};
 use std::alloc::AllocError;
 
@@ -52,28 +51,30 @@ impl<F, N, U> Default for NestedState<F, N, U> {
 pub(super) enum Did<F, V, E> {
     /// The next step comes, over these frames, and whether a step was committed.
     Goes(Frames<F>, bool),
-    /// This is the answer.
+    /// This is the result.
     Stops(ParseResult<V, E>),
 }
 
 /// What became of the frames.
 #[derive(Drop)]
 pub(super) enum Settled<F, V> {
+    /// The frames that are open.
     Open(Frames<F>),
     /// The outermost is closed.
     Closed(V),
     /// A frame refuses.
     Denied(&'static str),
+    /// A frame too many was opened.
     TooDeep,
 }
 
-/// What becomes of the frames round one of which that came: the value of each that is closed is given to the one round it.
+/// Settles the frames round one of which that came: the value of each that is closed is given to the one round it.
 pub(super) fn settle<F: Frame>(
     depth: usize,
     outer: Vec<F>,
     next: Next<F, F::Value>,
 ) -> Result<Settled<F, F::Value>, AllocError>
-    ensures { MatchResult result (λ r. settles depth F.joins (reverse (vec_items outer)) next (ends_of r)) (λ _. Unit {0}) }
+    ensures { MatchResult result (λ r. settles_frames depth F.joins (reverse (vec_items outer)) next (ends_of r)) (λ _. Unit {0}) }
 {
     let mut outer = outer;
     let mut next = next;
@@ -98,13 +99,13 @@ pub(super) fn settle<F: Frame>(
     }
 }
 
-/// An item that the innermost frame takes.
+/// Lets the innermost frame take an item.
 fn take_item<F: Frame>(
     depth: usize,
     frames: Frames<F>,
     item: F::Item,
 ) -> Result<Settled<F, F::Value>, AllocError>
-    ensures { MatchResult result (λ r. TakesItem depth F.takes F.joins frames.top (around frames) item (ends_of r)) (λ _. Unit {0}) }
+    ensures { MatchResult result (λ r. TakesItem depth F.takes F.joins frames.top (frames_around frames) item (ends_of r)) (λ _. Unit {0}) }
 {
     let Frames { top, outer } = frames;
     settle(depth, outer, top.take(item)?)
@@ -117,14 +118,14 @@ fn one_of(first: bool, second: bool) -> bool
     first || second
 }
 
-/// What a frame's refusal answers: committed where a step was.
+/// Refuses as a frame does: committed where a step was.
 fn denied<V, Input: Stream>(
     input: &Input,
     position: Input::Position,
     committed: bool,
     message: &'static str,
 ) -> ParseResult<V, Input::Error>
-    ensures { Denies Input.Error.seen position message.now committed result }
+    ensures { Denies Input.Error.observers position message.now committed result }
 {
     let error = refusal_saying(input, position, message);
     if committed {
@@ -133,7 +134,7 @@ fn denied<V, Input: Stream>(
     peeked(Tracked::from(error))
 }
 
-/// What a step did whose parser was accepted with that item.
+/// Returns what a step did whose parser was accepted with that item.
 fn finish_step<Input: Stream, F: Frame>(
     input: &Input,
     position: Input::Position,
@@ -143,7 +144,7 @@ fn finish_step<Input: Stream, F: Frame>(
     committed: bool,
     took: bool,
 ) -> Did<F, F::Value, Input::Error>
-    ensures { item_did depth F.takes F.joins Input.Error.seen position frames committed took item result }
+    ensures { step_item_did depth F.takes F.joins Input.Error.observers position frames committed took item result }
 {
     let before = frames.outer.len();
     match take_item(depth, frames, item) {
@@ -164,7 +165,9 @@ fn finish_step<Input: Stream, F: Frame>(
     }
 }
 
-/// Runs a step's parser from its state. Need of more is kept in `state`, which is a default one.
+/// Runs a step's parser from its state.
+///
+/// Need of more is kept in `state`, which is a default one.
 pub(super) fn run_step<
     Input: Stream,
     F: Frame,
@@ -180,7 +183,7 @@ pub(super) fn run_step<
     requires ready { ⟦<N as Calls<Input>>⟧.ready from.parser from.state }
     requires starts { M.first mode ≡ true → N.PartialState.is_default from.state }
     requires fresh { begins_steps state.old }
-    ensures { CalledStep N.Parser Input.StreamOnce Input.Error.seen N.PartialState.is_default depth F.takes F.joins input.old input.new from state.new result }
+    ensures { CalledStep N.Parser Input.StreamOnce Input.Error.observers N.PartialState.is_default depth F.takes F.joins input.old input.new from state.new result }
 {
     let RunningStep {
         frames,

@@ -1,10 +1,9 @@
-//! The parser that `nested` answers, and its state.
+//! The parser of `nested`, and its state.
 ghost use Rattle.std.specs.Prelude.{◌≡◌};
-ghost use Rattle.combine_base.specs.Parser.Kept.{KeptOf};
+ghost use Rattle.combine_base.specs.Parser.KeptParsers.{KeptOf};
 ghost use Rattle.combine_nested.specs.Asks.{asked_by_some, asked_so};
-ghost use Rattle.combine_nested.specs.Nesting.{asked_part, depth_part, root_part, starts_valid, valid_step};
-ghost use Rattle.combine_nested.specs.NestingLaws.{nesting, nesting_is_meaning};
-ghost use Rattle.combine_nested.specs.NestingOne.{NestsOne, nesting_means_one};
+ghost use Rattle.combine_nested.specs.NestedSteps.{step_asker, depth_part, root_part, steps_start_valid, valid_steps, nesting, nesting_is_meaning};
+ghost use Rattle.combine_nested.specs.AlikeFrames.{NestsOne, nesting_means_one};
 
 use super::Frame;
 use super::asked::Ask;
@@ -43,21 +42,21 @@ impl<
 > Parser<Input> for Nested<R, S> {
     type PartialState = NestedState<F, N, N::PartialState>;
 
-    ghost lawful = { λ p. R.callable (root_part p) × S.callable (asked_part p) × ((f : F) (n : N) → S.answers (asked_part p) f n → N.lawful n) };
+    ghost lawful = { λ p. R.callable (root_part p) × S.callable (step_asker p) × ((f : F) (n : N) → S.answers (step_asker p) f n → N.lawful n) };
 
-    ghost determined = { λ p. ((n : N) → asked_by_some S.callable S.answers N.lawful n → N.determined n) × NestsOne (R.makes (root_part p)) (S.answers (asked_part p)) F.takes F.joins (asked_by_some S.callable S.answers N.lawful) N.meaning N.valid F.alike F.alike_items F.alike_values };
+    ghost determined = { λ p. ((n : N) → asked_by_some S.callable S.answers N.lawful n → N.determined n) × NestsOne (R.makes (root_part p)) (S.answers (step_asker p)) F.takes F.joins (asked_by_some S.callable S.answers N.lawful) N.meaning N.valid F.alike F.alike_items F.alike_values };
 
-    ghost valid = { valid_step (KeptOf N.lawful N.meaning (asked_by_some S.callable S.answers N.lawful)) N.valid };
+    ghost valid = { valid_steps (KeptOf N.lawful N.meaning (asked_by_some S.callable S.answers N.lawful)) N.valid };
 
-    ghost meaning = { λ p. nesting Input.step Input.Error.seen (depth_part p) (R.makes (root_part p)) (S.answers (asked_part p)) F.takes F.joins (asked_by_some S.callable S.answers N.lawful) N.meaning };
+    ghost meaning = { λ p. nesting Input.step Input.Error.observers (depth_part p) (R.makes (root_part p)) (S.answers (step_asker p)) F.takes F.joins (asked_by_some S.callable S.answers N.lawful) N.meaning };
 
     ghost parts = { λ _. 1 };
 
-    ghost default_valid = { starts_valid (KeptOf N.lawful N.meaning (asked_by_some S.callable S.answers N.lawful)) N.valid };
+    ghost default_valid = { steps_start_valid (KeptOf N.lawful N.meaning (asked_by_some S.callable S.answers N.lawful)) N.valid };
 
-    ghost laws = { λ p l. nesting_is_meaning Input.step (depth_part p) (R.makes (root_part p)) (S.answers (asked_part p)) F.takes F.joins (asked_by_some S.callable S.answers N.lawful) N.meaning N.lawful N.laws l.2 Input.Error.seen };
+    ghost laws = { λ p l. nesting_is_meaning Input.step (depth_part p) (R.makes (root_part p)) (S.answers (step_asker p)) F.takes F.joins (asked_by_some S.callable S.answers N.lawful) N.meaning N.lawful N.laws l.2 Input.Error.observers };
 
-    ghost single = { λ p l d. nesting_means_one Input.step (depth_part p) d.1 N.lawful (λ n i. N.single n (i.all n i.made) (d.0 n i)) (asked_so (asked_part p) l.1 l.2) Input.Error.seen };
+    ghost single = { λ p l d. nesting_means_one Input.step (depth_part p) d.1 N.lawful (λ n i. N.single n (i.all n i.made) (d.0 n i)) (asked_so (step_asker p) l.1 l.2) Input.Error.observers };
 
     fn parse_mode<M: ParseMode>(
         &mut self,
@@ -89,11 +88,11 @@ impl<
         }
     }
 
-    /// Nothing.
+    /// Adds nothing.
     #[inline]
     fn add_error(&mut self, error: &mut Tracked<Input::Error>) {}
 
-    /// One, however many steps there are.
+    /// Counts as one parser, however many steps there are.
     #[inline]
     fn parser_count(&self) -> ErrorOffset {
         ErrorOffset(1)

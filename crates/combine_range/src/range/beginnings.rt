@@ -1,16 +1,15 @@
 //! Longest beginnings under a test.
-ghost use Rattle.std.specs.Prelude.{◌≡◌, true, false};
+ghost use Rattle.std.specs.Prelude.{◌≡◌};
 ghost use Rattle.combine_base.specs.Parser.AnswersCalls.{AnswersCall};
 ghost use Rattle.combine_base.specs.Parser.Reasons.{ReasonedCall};
 ghost use Rattle.combine_base.specs.Stream.Calls.{Passes};
-ghost use Rattle.combine_stream.specs.RangeFacts.{IsPredicate};
-ghost use Rattle.combine_range.specs.Kept.{kept_is_meaning, kept_means_one};
-ghost use Rattle.combine_range.specs.Beginnings.{beginning_is_reading, beginning_is_single};
-ghost use Rattle.combine_range.specs.BeginningMeaning.{takes_beginning};
+ghost use Rattle.combine_stream.specs.Range.Ranges.{IsPredicate};
+ghost use Rattle.combine_range.specs.KeptDistance.{kept_is_meaning, kept_means_one};
+ghost use Rattle.combine_range.specs.Range.Beginnings.{beginning_is_reading, beginning_is_single, takes_beginning};
 
 use crate::distance::Distance;
-use crate::passing::{
-    begin, hand_out, keep_distance, may_go_on, not_passed, pass_items, refused_here,
+use crate::kept_distance::{
+    begin, hand_out, is_undecided_end, keep_distance, not_passed, pass_items, refused_here,
 };
 use combine_base::error::{ErrorOffset, ParseResult, Tracked};
 use combine_base::maps::Maps;
@@ -19,21 +18,20 @@ use combine_base::stream::{Kind, Positioned, ResetStream, Stream, StreamOnce};
 use combine_stream::range::{Range, RangeStream};
 use std::marker::PhantomData;
 
-/// The parser of [`take_while`](crate::range::take_while); its state is the distance that was read.
+/// The parser of `take_while` and of `take_while1`, which refuses an empty beginning (`SOME`); its state is the distance that was read.
 #[derive(Drop)]
-pub struct TakeWhile<Input, F> {
+pub struct TakeBeginning<Input, F, const SOME: bool> {
     pub(super) predicate: F,
     pub(super) reads: PhantomData<Input>,
 }
 
-/// The parser of [`take_while1`](crate::range::take_while1); its state is the distance that was read.
-#[derive(Drop)]
-pub struct TakeWhile1<Input, F> {
-    pub(super) predicate: F,
-    pub(super) reads: PhantomData<Input>,
-}
+/// The parser of [`take_while`](crate::range::take_while).
+pub type TakeWhile<Input, F> = TakeBeginning<Input, F, false>;
 
-// One call. An empty beginning is refused where `some` is true.
+/// The parser of [`take_while1`](crate::range::take_while1).
+pub type TakeWhile1<Input, F> = TakeBeginning<Input, F, true>;
+
+// Makes one call. An empty beginning is refused where `some` is true.
 #[inline(always)]
 fn take_beginning<Input: RangeStream, F: Maps<Input::Token, bool>>(
     test: &F,
@@ -46,8 +44,8 @@ where
     Input::Range: Range,
     requires { (t : Input.Token) → F.callable test.now t }
     ensures passes { Passes (Input.marks input.old) (Input.marks input.new) (Input.failures input.old) (Input.failures input.new) }
-    ensures answers { AnswersCall Input.StreamOnce Input.Error.seen ⟦<Distance as Default>⟧.is_default (takes_beginning Input.Error.seen Input.size Input.spells (F.answers test.now) some) first state.old state.new input.old input.new result }
-    ensures refuses { ReasonedCall Input.Error.seen (takes_beginning Input.Error.seen Input.size Input.spells (F.answers test.now) some) first state.old (Input.view input.old) (Input.view input.new) result }
+    ensures answers { AnswersCall Input.StreamOnce Input.Error.observers ⟦<Distance as Default>⟧.is_default (takes_beginning Input.Error.observers Input.size Input.spells (F.answers test.now) some) first state.old state.new input.old input.new result }
+    ensures refuses { ReasonedCall Input.Error.observers (takes_beginning Input.Error.observers Input.size Input.spells (F.answers test.now) some) first state.old (Input.view input.old) (Input.view input.new) result }
 {
     let start = input.checkpoint();
     let position = input.position();
@@ -57,7 +55,7 @@ where
     }
     match input.uncons_while(test) {
         Ok(range) => {
-            if may_go_on(input) {
+            if is_undecided_end(input) {
                 return keep_distance(start, position, input, state);
             }
             if distance > 0 {
@@ -75,11 +73,12 @@ where
     }
 }
 
-impl<Input: StreamOnce, F> Outputs<Input> for TakeWhile<Input, F> {
+impl<Input: StreamOnce, F, const SOME: bool> Outputs<Input> for TakeBeginning<Input, F, SOME> {
     type Output = Input::Range;
 }
 
-impl<Input: RangeStream, F: Maps<Input::Token, bool>> Parser<Input> for TakeWhile<Input, F>
+impl<Input: RangeStream, F: Maps<Input::Token, bool>, const SOME: bool> Parser<Input>
+    for TakeBeginning<Input, F, SOME>
 where
     Input::Range: Range,
 {
@@ -91,7 +90,7 @@ where
 
     ghost valid = { λ s. Unit {0} };
 
-    ghost meaning = { λ p. takes_beginning Input.Error.seen Input.size Input.spells (F.answers p.predicate) false };
+    ghost meaning = { λ p. takes_beginning Input.Error.observers Input.size Input.spells (F.answers p.predicate) SOME };
 
     ghost parts = { λ p. 1 };
 
@@ -102,7 +101,7 @@ where
         input: &mut Input,
         state: &mut Distance,
     ) -> ParseResult<Input::Range, Input::Error> {
-        take_beginning(&self.predicate, false, mode.is_first(), input, state)
+        take_beginning(&self.predicate, SOME, mode.is_first(), input, state)
     }
 
     #[inline]
@@ -115,52 +114,7 @@ where
 
     ghost default_valid = { λ s d. tt };
 
-    ghost laws = { λ p l. kept_is_meaning _ _ _ _ _ (beginning_is_reading _ _ _ false Input.filled) };
+    ghost laws = { λ p l. kept_is_meaning _ _ _ _ _ (beginning_is_reading _ _ _ SOME Input.filled) };
 
-    ghost single = { λ p l d. kept_means_one _ _ _ _ _ (beginning_is_single _ _ _ false Input.filled d) };
-}
-
-impl<Input: StreamOnce, F> Outputs<Input> for TakeWhile1<Input, F> {
-    type Output = Input::Range;
-}
-
-impl<Input: RangeStream, F: Maps<Input::Token, bool>> Parser<Input> for TakeWhile1<Input, F>
-where
-    Input::Range: Range,
-{
-    type PartialState = Distance;
-
-    ghost lawful = { λ p. (t : Input.Token) → F.callable p.predicate t };
-
-    ghost determined = { λ p. IsPredicate (F.answers p.predicate) };
-
-    ghost valid = { λ s. Unit {0} };
-
-    ghost meaning = { λ p. takes_beginning Input.Error.seen Input.size Input.spells (F.answers p.predicate) true };
-
-    ghost parts = { λ p. 1 };
-
-    #[inline(always)]
-    fn parse_mode<M: ParseMode>(
-        &mut self,
-        mode: M,
-        input: &mut Input,
-        state: &mut Distance,
-    ) -> ParseResult<Input::Range, Input::Error> {
-        take_beginning(&self.predicate, true, mode.is_first(), input, state)
-    }
-
-    #[inline]
-    fn add_error(&mut self, error: &mut Tracked<Input::Error>) {}
-
-    #[inline]
-    fn parser_count(&self) -> ErrorOffset {
-        ErrorOffset(1)
-    }
-
-    ghost default_valid = { λ s d. tt };
-
-    ghost laws = { λ p l. kept_is_meaning _ _ _ _ _ (beginning_is_reading _ _ _ true Input.filled) };
-
-    ghost single = { λ p l d. kept_means_one _ _ _ _ _ (beginning_is_single _ _ _ true Input.filled d) };
+    ghost single = { λ p l d. kept_means_one _ _ _ _ _ (beginning_is_single _ _ _ SOME Input.filled d) };
 }

@@ -1,13 +1,13 @@
 //! Ranges of a given length.
 ghost use Rattle.std.specs.Prelude.{◌≡◌};
-ghost use Rattle.combine_base.specs.Error.Errors.{Nothing, Only};
+ghost use Rattle.combine_base.specs.Error.Errors.{AddsNothing, Only};
 ghost use Rattle.combine_base.specs.Error.Items.{Expected, OfRange};
-ghost use Rattle.combine_token.specs.Stateless.{stateless, stateless_is_meaning, stateless_means_one};
-ghost use Rattle.combine_range.specs.Lengths.{matching, matching_is_reading, matching_is_single, taking, taking_is_reading, taking_is_single};
-ghost use Rattle.combine_range.specs.Reasons.{RefusesDiffering, RefusesLength};
-ghost use Rattle.combine_range.specs.Wanted.{Fair, given};
+ghost use Rattle.combine_token.specs.Token.Stateless.{stateless, stateless_is_meaning, stateless_means_one};
+ghost use Rattle.combine_range.specs.Range.Lengths.{matching_range, matching_range_is_reading, matching_range_is_single, taking, taking_is_reading, taking_is_single};
+ghost use Rattle.combine_range.specs.RangeReasons.{RefusesDiffering, RefusesLength};
+ghost use Rattle.combine_range.specs.WantedRanges.{Fair, equal_range};
 
-use crate::passing::no_range;
+use crate::kept_distance::no_range;
 use combine_base::error::{ErrorOffset, Info, ParseError, ParseResult, Tracked};
 use combine_base::parser::{Outputs, ParseMode, Parser};
 use combine_base::stream::{Kind, Positioned, ResetStream, Stream, StreamOnce};
@@ -21,7 +21,9 @@ pub struct Take<Input> {
     pub(super) reads: PhantomData<Input>,
 }
 
-/// The parser of [`range`](crate::range::range), with the stream's ranges as `R`. The crate's has no such parameter.
+/// The parser of [`range`](crate::range::range), with the stream's ranges as `R`.
+///
+/// The crate's has no such parameter.
 #[derive(Drop)]
 pub struct Range<Input, R> {
     pub(super) wanted: R,
@@ -44,7 +46,7 @@ where
 
     ghost valid = { λ s. Unit {0} };
 
-    ghost meaning = { λ p. stateless (taking Input.size Input.spells p.count) ⊥ (Unit {0}) Nothing (RefusesLength Input.Error.seen Input.size Input.spells p.count) };
+    ghost meaning = { λ p. stateless (taking Input.size Input.spells p.count) ⊥ (Unit {0}) AddsNothing (RefusesLength Input.Error.observers Input.size Input.spells p.count) };
 
     ghost parts = { λ p. 1 };
 
@@ -101,8 +103,8 @@ where
 
     ghost valid = { λ s. Unit {0} };
 
-    ghost meaning = { λ p. stateless (matching Input.size Input.spells (given Input.Range.count Input.Range.eq p.wanted)) ⊥ (Unit {0}) (Only (Expected (OfRange p.wanted)))
-        (RefusesDiffering Input.Error.seen Input.size Input.spells (given Input.Range.count Input.Range.eq p.wanted)) };
+    ghost meaning = { λ p. stateless (matching_range Input.size Input.spells (equal_range Input.Range.count Input.Range.eq p.wanted)) ⊥ (Unit {0}) (Only (Expected (OfRange p.wanted)))
+        (RefusesDiffering Input.Error.observers Input.size Input.spells (equal_range Input.Range.count Input.Range.eq p.wanted)) };
 
     ghost parts = { λ p. 1 };
 
@@ -145,7 +147,7 @@ where
 
     ghost default_valid = { λ s d. tt };
 
-    ghost laws = { λ p l. stateless_is_meaning _ _ _ _ _ _ _ (matching_is_reading _ _ Input.filled _) };
+    ghost laws = { λ p l. stateless_is_meaning _ _ _ _ _ _ _ (matching_range_is_reading _ _ Input.filled _) };
 
-    ghost single = { λ p l d. stateless_means_one _ _ _ _ _ _ (matching_is_single _ _ Input.filled _ d) };
+    ghost single = { λ p l d. stateless_means_one _ _ _ _ _ _ (matching_range_is_single _ _ Input.filled _ d) };
 }

@@ -1,11 +1,11 @@
 //! What a parser takes, as a range.
 ghost use Rattle.std.specs.Prelude.{◌≡◌, if◌then◌else◌};
-ghost use Rattle.combine_base.specs.Parser.Mapped.{mapped, mapped_is_meaning, mapped_means_one};
+ghost use Rattle.combine_base.specs.Parser.ValueMap.{mapped, mapped_is_meaning, mapped_means_one};
 ghost use Rattle.combine_base.specs.Stream.Calls.{Passes};
 ghost use Rattle.combine_base.specs.Stream.View.{View, Takes};
-ghost use Rattle.combine_range.specs.Recognized.{HasValid, IsFresh, beside, recognized, recognized_is_meaning, recognized_means_one};
+ghost use Rattle.combine_range.specs.Range.RecognizedRange.{HasValidRecognizing, IsFreshRecognizing, beside_value, recognized, recognized_is_meaning, recognized_means_one};
 
-use crate::passing::{hand_out, not_passed, pass_items};
+use crate::kept_distance::{hand_out, not_passed, pass_items};
 use combine_base::error::{ErrorOffset, ParseResult, Tracked};
 use combine_base::parser::{Outputs, ParseMode, Parser};
 use combine_base::stream::{Positioned, ResetStream, Stream, StreamOnce, needs_more};
@@ -19,7 +19,7 @@ pub struct RecognizeState<S> {
 }
 
 impl<S: Default> Default for RecognizeState<S> {
-    ghost is_default = { IsFresh S.is_default };
+    ghost is_default = { IsFreshRecognizing S.is_default };
 
     #[inline]
     fn default() -> Self {
@@ -43,10 +43,10 @@ impl<S> RecognizeState<S> {
     }
 }
 
-// The answer, with a value beside its own.
+// Returns the result with a value beside its own.
 #[inline(always)]
 fn with_value<R, V: Drop, E>(answer: ParseResult<R, E>, value: V) -> ParseResult<(R, V), E>
-    ensures { result ≡ beside value answer }
+    ensures { result ≡ beside_value value answer }
 {
     match answer {
         ParseResult::CommitOk(range) => ParseResult::CommitOk((range, value)),
@@ -74,17 +74,17 @@ where
 
     ghost determined = { λ p. P.determined p.0 };
 
-    ghost valid = { HasValid P.valid };
+    ghost valid = { HasValidRecognizing P.valid };
 
-    ghost meaning = { λ p. recognized Input.Error.seen Input.size Input.spells Input.step (P.meaning p.0) };
+    ghost meaning = { λ p. recognized Input.Error.observers Input.size Input.spells Input.step (P.meaning p.0) };
 
     ghost parts = { λ p. 1 };
 
     ghost default_valid = { λ s d. P.default_valid _ d.1 };
 
-    ghost laws = { λ p l. recognized_is_meaning Input.Error.seen Input.size Input.spells Input.step Input.filled P.PartialState.is_default P.valid (P.meaning p.0) (P.laws p.0 l) };
+    ghost laws = { λ p l. recognized_is_meaning Input.Error.observers Input.size Input.spells Input.step Input.filled P.PartialState.is_default P.valid (P.meaning p.0) (P.laws p.0 l) };
 
-    ghost single = { λ p l d. recognized_means_one Input.Error.seen Input.size Input.spells Input.step Input.filled P.valid (P.meaning p.0) (P.single p.0 l d) };
+    ghost single = { λ p l d. recognized_means_one Input.Error.observers Input.size Input.spells Input.step Input.filled P.valid (P.meaning p.0) (P.single p.0 l d) };
 
     #[inline(always)]
     fn parse_mode<M: ParseMode>(
@@ -119,7 +119,7 @@ where
         }
     }
 
-    /// What the parser adds whose tokens are taken.
+    /// Adds what the parser adds whose tokens are taken.
     #[inline]
     fn add_error(&mut self, error: &mut Tracked<Input::Error>) {
         self.0.add_error(error);
@@ -149,17 +149,17 @@ where
 
     ghost determined = { λ p. P.determined p.0.0 };
 
-    ghost valid = { HasValid P.valid };
+    ghost valid = { HasValidRecognizing P.valid };
 
-    ghost meaning = { λ p. mapped (recognized Input.Error.seen Input.size Input.spells Input.step (P.meaning p.0.0)) (λ both range. range ≡ both.0) };
+    ghost meaning = { λ p. mapped (recognized Input.Error.observers Input.size Input.spells Input.step (P.meaning p.0.0)) (λ both range. range ≡ both.0) };
 
     ghost parts = { λ p. 1 };
 
     ghost default_valid = { λ s d. P.default_valid _ d.1 };
 
-    ghost laws = { λ p l. mapped_is_meaning (IsFresh P.PartialState.is_default) (HasValid P.valid) _ _ (recognized_is_meaning Input.Error.seen Input.size Input.spells Input.step Input.filled P.PartialState.is_default P.valid (P.meaning p.0.0) (P.laws p.0.0 l)) };
+    ghost laws = { λ p l. mapped_is_meaning (IsFreshRecognizing P.PartialState.is_default) (HasValidRecognizing P.valid) _ _ (recognized_is_meaning Input.Error.observers Input.size Input.spells Input.step Input.filled P.PartialState.is_default P.valid (P.meaning p.0.0) (P.laws p.0.0 l)) };
 
-    ghost single = { λ p l d. mapped_means_one (HasValid P.valid) _ _ (recognized_means_one Input.Error.seen Input.size Input.spells Input.step Input.filled P.valid (P.meaning p.0.0) (P.single p.0.0 l d)) };
+    ghost single = { λ p l d. mapped_means_one (HasValidRecognizing P.valid) _ _ (recognized_means_one Input.Error.observers Input.size Input.spells Input.step Input.filled P.valid (P.meaning p.0.0) (P.single p.0.0 l d)) };
 
     #[inline(always)]
     fn parse_mode<M: ParseMode>(
@@ -176,7 +176,7 @@ where
         }
     }
 
-    /// What the parser adds whose tokens are taken.
+    /// Adds what the parser adds whose tokens are taken.
     #[inline]
     fn add_error(&mut self, error: &mut Tracked<Input::Error>) {
         Parser::<Input>::add_error(&mut self.0, error);

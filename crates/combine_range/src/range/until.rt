@@ -1,13 +1,13 @@
 //! What stands before the first occurrence of a range.
 ghost use Rattle.std.specs.Prelude.{◌≡◌};
-ghost use Rattle.combine_base.specs.Error.Errors.{Nothing};
-ghost use Rattle.combine_range.specs.Kept.{kept, kept_is_meaning, kept_means_one};
-ghost use Rattle.combine_range.specs.Reasons.{RefusesKept, RefusesMissing};
-ghost use Rattle.combine_range.specs.Until.{until_is_reading, until_is_single, until_range};
-ghost use Rattle.combine_range.specs.Wanted.{Fair, given};
+ghost use Rattle.combine_base.specs.Error.Errors.{AddsNothing};
+ghost use Rattle.combine_range.specs.KeptDistance.{kept, kept_is_meaning, kept_means_one};
+ghost use Rattle.combine_range.specs.RangeReasons.{RefusesKept, RefusesMissing};
+ghost use Rattle.combine_range.specs.Range.UntilRange.{until_range_is_reading, until_range_is_single, until_range};
+ghost use Rattle.combine_range.specs.WantedRanges.{Fair, equal_range};
 
 use crate::distance::Distance;
-use crate::passing::{begin, hand_out, keep_distance, not_passed, pass_items};
+use crate::kept_distance::{begin, hand_out, keep_distance, not_passed, pass_items};
 use crate::places::seek;
 use combine_base::error::{ErrorOffset, ParseResult, Tracked};
 use combine_base::parser::{Outputs, ParseMode, Parser};
@@ -16,7 +16,9 @@ use combine_base::stream::{Kind, Positioned, ResetStream, StreamOnce};
 use combine_stream::range::{Range, RangeStream};
 use std::marker::PhantomData;
 
-/// The parser of [`take_until_range`](crate::range::take_until_range), with the stream's ranges as `R`; its state is the distance that was searched. The crate's has no parameter `R`.
+/// The parser of [`take_until_range`](crate::range::take_until_range), with the stream's ranges as `R`; its state is the distance that was searched.
+///
+/// The crate's has no parameter `R`.
 #[derive(Drop)]
 pub struct TakeUntilRange<Input, R> {
     pub(super) wanted: R,
@@ -40,8 +42,8 @@ where
 
     ghost valid = { λ s. Unit {0} };
 
-    ghost meaning = { λ p. kept Input.size (until_range Input.size Input.spells (given Input.Range.count Input.Range.eq p.wanted)) Nothing
-        (RefusesKept Input.Error.seen Input.size (RefusesMissing Input.Error.seen Input.size Input.spells (given Input.Range.count Input.Range.eq p.wanted))) };
+    ghost meaning = { λ p. kept Input.size (until_range Input.size Input.spells (equal_range Input.Range.count Input.Range.eq p.wanted)) AddsNothing
+        (RefusesKept Input.Error.observers Input.size (RefusesMissing Input.Error.observers Input.size Input.spells (equal_range Input.Range.count Input.Range.eq p.wanted))) };
 
     ghost parts = { λ p. 1 };
 
@@ -83,7 +85,7 @@ where
 
     ghost default_valid = { λ s d. tt };
 
-    ghost laws = { λ p l. kept_is_meaning _ _ _ _ _ (until_is_reading _ _ _ Input.filled) };
+    ghost laws = { λ p l. kept_is_meaning _ _ _ _ _ (until_range_is_reading _ _ _ Input.filled) };
 
-    ghost single = { λ p l d. kept_means_one _ _ _ _ _ (until_is_single _ _ _ Input.filled d) };
+    ghost single = { λ p l d. kept_means_one _ _ _ _ _ (until_range_is_single _ _ _ Input.filled d) };
 }

@@ -1,23 +1,23 @@
-//! The two parts: a value as a length, and the parser that is answered for a length.
+//! The two parts: a value as a length, and the parser for a length.
 ghost use Rattle.std.specs.Prelude.{◌≡◌, Ok};
 ghost use Rattle.combine_combinator_function.specs.Changes.{MadeSaying};
 ghost use Rattle.combine_range_length_prefix.specs.Prefixes.{FitsNone, out_of_range};
-ghost use Rattle.combine_range.specs.RangeParsers.{take_of};
-ghost use Rattle.combine_sequence.specs.Answered.{forget};
+ghost use Rattle.combine_range.specs.Range.RangeParsers.{take_of};
+ghost use Rattle.combine_sequence.specs.Then.{forget};
 
 use combine_base::error::{ErrorOffset, Info, ParseError};
 use combine_base::stream::{Kind, Stream, StreamOnce};
-use combine_combinator_function::combinator::Change;
+use combine_combinator_function::combinator::ValueChange;
 use combine_range::range::take;
 use combine_range::range::types::Take;
-use combine_sequence::sequence::types::Asked;
+use combine_sequence::sequence::types::NextParser;
 use std::marker::PhantomData;
 
 /// The value as a `usize`; one that is none is refused. Our own.
 #[derive(Clone, Copy, Drop)]
 pub struct AsLength;
 
-impl<Input: Stream, A: TryInto<usize>> Change<Input, A> for AsLength
+impl<Input: Stream, A: TryInto<usize>> ValueChange<Input, A> for AsLength
 where
     A::Error: Drop,
 {
@@ -31,7 +31,7 @@ where
 
     ghost starves = { λ c a. ⊥ };
 
-    ghost says = { λ c at a. MadeSaying Input.Error.seen (out_of_range A.try_into_gives a) at };
+    ghost says = { λ c at a. MadeSaying Input.Error.observers (out_of_range A.try_into_gives a) at };
 
     ghost counted = { λ n. n };
 
@@ -52,19 +52,19 @@ where
         }
     }
 
-    /// As the part.
+    /// Counts as the part does.
     #[inline]
     fn count(part: ErrorOffset) -> ErrorOffset {
         part
     }
 }
 
-/// Is asked for the parser of so many items. Our own.
+/// The function from a length to the parser of so many items. Our own.
 #[derive(Drop)]
 #[derive_where(Clone, Copy)]
 pub struct Taking<Input>(pub(super) PhantomData<Input>);
 
-impl<Input> Asked<usize> for Taking<Input> {
+impl<Input> NextParser<usize> for Taking<Input> {
     type Parser = Take<Input>;
 
     type Kept = ();

@@ -1,6 +1,6 @@
-//! The parsers that the functions of `range` answer.
+//! The parsers that the functions of `range` return.
 
-use crate::search::{Asked, Searching};
+use crate::search::{FindByFn, Searching};
 
 /// The parser of [`take_fn`](crate::range::take_fn); its state is the distance that need not be searched again.
-pub type TakeFn<F, Input> = Searching<Input, Asked<F>>;
+pub type TakeFn<F, Input> = Searching<Input, FindByFn<F>>;

@@ -1,23 +1,23 @@
-//! The parsers that the functions of this module answer.
+//! The parsers that the functions of this module return.
 ghost use Rattle.std.specs.Prelude.{◌≡◌};
-ghost use Rattle.combine_base.specs.Parser.Given.{GivesOnly};
-ghost use Rattle.combine_base.specs.Parser.Mapped.{mapped_is_meaning, mapped_means_one};
+ghost use Rattle.combine_base.specs.Parser.GivenValues.{GivesOnly};
+ghost use Rattle.combine_base.specs.Parser.ValueMap.{mapped_is_meaning, mapped_means_one};
 ghost use Rattle.combine_repeat_sep.specs.Pair.{fewer_is_meaning, fewer_means_one, led_valid};
 ghost use Rattle.combine_repeat_chain.specs.ChainParsers.{right_operator, right_part};
 ghost use Rattle.combine_repeat_chain.specs.Chains.{nothing_good, each_operand, kept_good, operands, right_fold};
-ghost use Rattle.combine_repeat_sep.specs.JoinedLaws.{joined_is_meaning, joined_means_one};
+ghost use Rattle.combine_repeat_sep.specs.Elements.{joined_is_meaning, joined_means_one};
 ghost use Rattle.combine_repeat_sep.specs.Separated.{separated_default, separated_valid};
-ghost use Rattle.combine_repeat_turns.specs.Bounded.{begun_valid, running_turn};
+ghost use Rattle.combine_repeat_turns.specs.Turns.Bounds.{fresh_turns_valid, running_turn};
 
-use crate::operands::{EachOperand, Operands};
+use crate::operands::{ChainOperands, EachOperand};
 use combine_base::error::{ErrorOffset, ParseResult, Tracked};
 use combine_base::parser::{Outputs, ParseMode, Parser};
 use combine_base::sequence::State2;
 use combine_base::stream::Stream;
 use combine_combinator::combinator::types::{Ignore, NoPartial};
 use combine_repeat::repeat::types::SkipMany;
-use combine_repeat_sep::separated::{Folds, Operator, Separated, SeparatedState};
-use combine_repeat_turns::turns::{TurnsState, take_joined};
+use combine_repeat_sep::separated::{ChainOperator, Folds, Separated, SeparatedState};
+use combine_repeat_turns::turns::{TurnsState, reduce_turns};
 use combine_token::choice::OrState;
 use combine_token::choice::types::Or;
 use combine_token::token::types::Token;
@@ -35,11 +35,11 @@ pub type EscapedState<Input, P, T, Q> = TurnsState<
     OrState<<P as Parser<Input>>::PartialState, State2<Input, Token<Input, T>, Q>>,
 >;
 
-/// As `chainr1`, but it keeps its operands on need of more. Our own.
+/// Parses as `chainr1`, but keeps its operands on need of more. Our own.
 #[derive(Clone, Copy, Drop)]
 pub struct RightFold<P, S> {
     pub(super) alloc: Global,
-    pub(super) turn: Separated<P, S, Operator>,
+    pub(super) turn: Separated<P, S, ChainOperator>,
 }
 
 impl<Input, P: Outputs<Input>, S> Outputs<Input> for RightFold<P, S> {
@@ -51,10 +51,10 @@ where
     S::Output: Folds<P::Output>,
 {
     ghost use Rattle.std.specs.Prelude.{None};
-    ghost use Rattle.combine_repeat_turns.specs.declared.turns.Bounds.TheVariants.{Joined};
+    ghost use Rattle.combine_repeat_turns.specs.declared.turns.Bounds.TheVariants.{OwnFirst};
 
     type PartialState = TurnsState<
-        Operands<S::Output, P::Output>,
+        ChainOperands<S::Output, P::Output>,
         SeparatedState<S::Output, S::PartialState, P::PartialState>,
     >;
 
@@ -64,15 +64,15 @@ where
 
     ghost valid = { λ s. separated_valid P.valid (led_valid (λ f. S.Output.callable f) S.valid P.valid) (running_turn s) × kept_good (λ f. S.Output.callable f) s };
 
-    ghost meaning = { λ p. right_fold Input.step Input.Error.seen (λ f x y r. S.Output.answers f x y r) (P.meaning (right_part p)) (S.meaning (right_operator p)) };
+    ghost meaning = { λ p. right_fold Input.step Input.Error.observers (λ f x y r. S.Output.answers f x y r) (P.meaning (right_part p)) (S.meaning (right_operator p)) };
 
     ghost parts = { λ _. 1 };
 
-    ghost default_valid = { λ s d. (begun_valid _ _ (separated_default _ _ _ P.default_valid) s d, nothing_good (λ f. S.Output.callable f) s d.0) };
+    ghost default_valid = { λ s d. (fresh_turns_valid _ _ (separated_default _ _ _ P.default_valid) s d, nothing_good (λ f. S.Output.callable f) s d.0) };
 
-    ghost laws = { λ p l. mapped_is_meaning _ _ _ _ (fewer_is_meaning (λ s d. d.0) (joined_is_meaning Input.step Input.Error.seen (Joined 1 None) each_operand (λ f. S.Output.callable f) _ _ _ _ _ _ (P.laws (right_part p) l.2) (S.laws (right_operator p) l.1))) };
+    ghost laws = { λ p l. mapped_is_meaning _ _ _ _ (fewer_is_meaning (λ s d. d.0) (joined_is_meaning Input.step Input.Error.observers (OwnFirst 1 None) each_operand (λ f. S.Output.callable f) _ _ _ _ _ _ (P.laws (right_part p) l.2) (S.laws (right_operator p) l.1))) };
 
-    ghost single = { λ p l d. mapped_means_one _ _ _ (fewer_means_one (λ s d. d.0) (joined_means_one Input.step Input.Error.seen (Joined 1 None) each_operand (λ f. S.Output.callable f) _ _ _ _ (P.single (right_part p) l.2 d.1) (S.single (right_operator p) l.1 d.0))) };
+    ghost single = { λ p l d. mapped_means_one _ _ _ (fewer_means_one (λ s d. d.0) (joined_means_one Input.step Input.Error.observers (OwnFirst 1 None) each_operand (λ f. S.Output.callable f) _ _ _ _ (P.single (right_part p) l.2 d.1) (S.single (right_operator p) l.1 d.0))) };
 
     #[inline(always)]
     fn parse_mode<M: ParseMode>(
@@ -82,13 +82,13 @@ where
         state: &mut Self::PartialState,
     ) -> ParseResult<P::Output, Input::Error> {
         let alloc = self.alloc;
-        match take_joined::<EachOperand<S::Output, P::Output>, Input, Separated<P, S, Operator>, M>(
-            &mut self.turn,
-            alloc,
-            mode,
-            input,
-            state,
-        ) {
+        match reduce_turns::<
+            EachOperand<S::Output, P::Output>,
+            Input,
+            Separated<P, S, ChainOperator>,
+            M,
+        >(&mut self.turn, alloc, mode, input, state)
+        {
             ParseResult::CommitOk(operands) => ParseResult::CommitOk(operands.fold()),
             ParseResult::PeekOk(operands) => ParseResult::PeekOk(operands.fold()),
             ParseResult::CommitErr(error) => ParseResult::CommitErr(error),
@@ -96,13 +96,13 @@ where
         }
     }
 
-    /// What the parser of the operands adds.
+    /// Adds what the parser of the operands adds.
     #[inline]
     fn add_error(&mut self, error: &mut Tracked<Input::Error>) {
         self.turn.parser.add_error(error);
     }
 
-    /// It counts as one parser.
+    /// Counts as one parser.
     #[inline]
     fn parser_count(&self) -> ErrorOffset {
         ErrorOffset(1)

@@ -4,33 +4,32 @@ ghost use Rattle.combine_base.specs.Parser.AnswersCalls.{AnswersCall};
 ghost use Rattle.combine_base.specs.Parser.Meaning.{MeansSame, begun_refuses};
 ghost use Rattle.combine_base.specs.Parser.Reasons.{Reasoned};
 ghost use Rattle.combine_base.specs.Stream.Calls.{Passes};
-ghost use Rattle.combine_repeat_iterate.specs.Items.{begins_items};
+ghost use Rattle.combine_repeat_iterate.specs.ItemParsers.{begins_items};
 ghost use Rattle.combine_repeat_iterate.specs.ItemCalls.{CalledItem, Stores};
 ghost use Rattle.combine_repeat_iterate.specs.ItemErrors.{item_refuses};
 
-use combine_base::error::ParseResult;
+use combine_base::error::{ParseResult, refused_after};
 use combine_base::parser::{Calls, ParseMode, Parser};
 use combine_base::repeat::Append;
-use combine_base::sequence::refused_after;
 use combine_base::stream::{Kind, Stream, needs_more};
 use std::alloc::AllocError;
 
 /// What is kept of the items: the values of those that are over, whether there are some, whether one of them was committed, and an iterator of those that are left.
 #[derive(Drop)]
-pub struct Collected<C, I> {
+pub struct CollectedItems<C, I> {
     pub(super) values: C,
     pub(super) is_begun: bool,
     pub(super) committed: bool,
     pub(super) items: I,
 }
 
-impl<C, I> Collected<C, I> {
-    /// No item is over.
+impl<C, I> CollectedItems<C, I> {
+    /// Returns what is kept where no item is over.
     #[inline]
-    pub(super) fn none_yet(values: C, items: I) -> Collected<C, I>
+    pub(super) fn none_yet(values: C, items: I) -> CollectedItems<C, I>
         ensures { result ≡ record { values = values; is_begun = false; committed = false; items = items } }
     {
-        Collected {
+        CollectedItems {
             values,
             is_begun: false,
             committed: false,
@@ -42,7 +41,7 @@ impl<C, I> Collected<C, I> {
 /// What is kept of an item whose parser runs: that parser, its state, and what is kept of the other items.
 #[derive(Drop)]
 pub struct RunningItem<C, I, N, U> {
-    pub(super) before: Collected<C, I>,
+    pub(super) before: CollectedItems<C, I>,
     pub(super) parser: N,
     pub(super) state: U,
 }
@@ -68,28 +67,28 @@ impl<C, I, N, U> Default for IterateState<C, I, N, U> {
 /// What an item's parser did.
 pub(super) enum Item<C, I, E> {
     /// It was accepted, and the next item's turn comes.
-    Goes(Collected<C, I>),
-    /// That is the answer.
+    Goes(CollectedItems<C, I>),
+    /// That is the result.
     Stops(ParseResult<C, E>),
 }
 
-/// One more item is over, with that value.
+/// Adds the value of one more item.
 #[inline(always)]
 fn store<B, C: Append<B>, I: Drop>(
-    before: Collected<C, I>,
+    before: CollectedItems<C, I>,
     value: B,
     committed: bool,
-) -> Result<Collected<C, I>, AllocError>
-    ensures { MatchResult result (Stores C.held C.more before value committed) (λ _. C.lean → ⊥) }
+) -> Result<CollectedItems<C, I>, AllocError>
+    ensures { MatchResult result (Stores C.held C.more before value committed) (λ _. C.heapless → ⊥) }
 {
-    let Collected {
+    let CollectedItems {
         mut values,
         is_begun: _,
         committed: earlier,
         items,
     } = before;
     values.append(value)?;
-    Ok(Collected {
+    Ok(CollectedItems {
         values,
         is_begun: true,
         committed: earlier || committed,
@@ -97,7 +96,9 @@ fn store<B, C: Append<B>, I: Drop>(
     })
 }
 
-/// Calls an item's parser. A peeked refusal behind the first item is put back to where it began, and explained by it; the first item's is left as it is.
+/// Calls an item's parser.
+///
+/// A peeked refusal after the first item is put back to where it began, and explained by it; the first item's is left as it is.
 #[inline(always)]
 fn call_item<Input: Stream, N: Parser<Input>, M: ParseMode>(
     is_begun: bool,
@@ -112,8 +113,8 @@ fn call_item<Input: Stream, N: Parser<Input>, M: ParseMode>(
     ensures valid { N.valid state.new }
     ensures same { MeansSame (N.meaning parser.old) (N.meaning parser.new) }
     ensures passes { Passes (Input.marks input.old) (Input.marks input.new) (Input.failures input.old) (Input.failures input.new) }
-    ensures answers { AnswersCall Input.StreamOnce Input.Error.seen N.PartialState.is_default (N.meaning parser.old) (M.first mode) state.old state.new input.old input.new result }
-    ensures refuses { Reasoned Input.Error.seen.kind (Input.view input.new).is_open (item_refuses Input.Error.seen (N.meaning parser.old) (begun_refuses (N.meaning parser.old) (M.first mode) state.old) (Input.view input.old) (Input.view input.new) is_begun) result }
+    ensures answers { AnswersCall Input.StreamOnce Input.Error.observers N.PartialState.is_default (N.meaning parser.old) (M.first mode) state.old state.new input.old input.new result }
+    ensures refuses { Reasoned Input.Error.observers.kind (Input.view input.new).is_open (item_refuses Input.Error.observers (N.meaning parser.old) (begun_refuses (N.meaning parser.old) (M.first mode) state.old) (Input.view input.old) (Input.view input.new) is_begun) result }
 {
     if is_begun {
         return parser.parse_explained(mode, input, state);
@@ -121,7 +122,9 @@ fn call_item<Input: Stream, N: Parser<Input>, M: ParseMode>(
     parser.parse_mode(mode, input, state)
 }
 
-/// Runs an item's parser from its state. Need of more is kept in `state`, which is a default one.
+/// Runs an item's parser from its state.
+///
+/// Need of more is kept in `state`, which is a default one.
 #[inline(always)]
 pub(super) fn parse_item<
     Input: Stream,
@@ -138,7 +141,7 @@ pub(super) fn parse_item<
     requires ready { ⟦<N as Calls<Input>>⟧.ready from.parser from.state }
     requires starts { M.first mode ≡ true → N.PartialState.is_default from.state }
     requires fresh { begins_items state.old }
-    ensures { CalledItem N.Parser Input.StreamOnce Input.Error.seen N.PartialState.is_default C.held C.more C.lean input.old input.new from state.new result }
+    ensures { CalledItem N.Parser Input.StreamOnce Input.Error.observers N.PartialState.is_default C.held C.more C.heapless input.old input.new from state.new result }
 {
     let RunningItem {
         before,
@@ -172,7 +175,7 @@ pub(super) fn parse_item<
     }
 }
 
-/// As `parse_item`, for a call that resumes: apart from the code of calls that begin afresh.
+/// Runs an item's parser as `parse_item` does, in a call that resumes: apart from the code of calls that begin afresh.
 #[inline(never)]
 pub(super) fn resume_item<
     Input: Stream,
@@ -189,7 +192,7 @@ pub(super) fn resume_item<
     requires ready { ⟦<N as Calls<Input>>⟧.ready from.parser from.state }
     requires starts { M.first mode ≡ true → N.PartialState.is_default from.state }
     requires fresh { begins_items state.old }
-    ensures { CalledItem N.Parser Input.StreamOnce Input.Error.seen N.PartialState.is_default C.held C.more C.lean input.old input.new from state.new result }
+    ensures { CalledItem N.Parser Input.StreamOnce Input.Error.observers N.PartialState.is_default C.held C.more C.heapless input.old input.new from state.new result }
 {
     parse_item(mode, input, from, state)
 }

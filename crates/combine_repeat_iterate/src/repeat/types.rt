@@ -1,14 +1,14 @@
-//! The parser that `iterate` answers, and its state.
-ghost use Rattle.combine_base.specs.Parser.Kept.{KeptOf};
-ghost use Rattle.combine_repeat_iterate.specs.Iterated.{InPlace, ListsOne, any_of, asks, asked_part, gives_all, gives_one, items_part, lists};
-ghost use Rattle.combine_repeat_iterate.specs.Items.{AnswersOne, iterated, iterated_is_meaning, iterated_means_one, starts_valid, valid_item};
+//! The parser of `iterate`, and its state.
+ghost use Rattle.combine_base.specs.Parser.KeptParsers.{KeptOf};
+ghost use Rattle.combine_repeat_iterate.specs.ListedItems.{AskedLeavesStream, ListsOne, any_of, asks_item, item_asker, iterator_gives, gives_one, items_part, lists};
+ghost use Rattle.combine_repeat_iterate.specs.ItemParsers.{ItemAnswersOne, iterated, iterated_is_meaning, iterated_means_one, items_start_valid, valid_item};
 
-use super::items::{Collected, Item, parse_item, resume_item};
+use super::items::{CollectedItems, Item, parse_item, resume_item};
 pub use super::items::{IterateState, RunningItem};
-use combine_base::error::{ErrorOffset, ParseResult, Tracked};
+use combine_base::error::{ErrorOffset, ParseResult, Tracked, accepted_after};
 use combine_base::parser::{FirstMode, Outputs, ParseMode, Parser};
 use combine_base::repeat::Append;
-use combine_base::sequence::{accepted_after, take_state};
+use combine_base::sequence::take_state;
 use combine_base::stream::{Kind, Stream};
 use std::alloc::Global;
 use std::marker::PhantomData;
@@ -41,21 +41,21 @@ where
 {
     type PartialState = IterateState<C, J::IntoIter, N, N::PartialState>;
 
-    ghost lawful = { λ p. F.IsAlwaysCallable (asked_part p) × InPlace (λ a i n l. F.post (asked_part p) a i n l) Input.view Input.marks Input.failures × ((a : _) (n : _) → asks F.Fn (asked_part p) a n → N.lawful n) × ((is : _) × lists J.Clone J.IntoIterator J.IntoIter.Iterator (items_part p) is) };
+    ghost lawful = { λ p. F.IsAlwaysCallable (item_asker p) × AskedLeavesStream (λ a i n l. F.post (item_asker p) a i n l) Input.view Input.marks Input.failures × ((a : _) (n : _) → asks_item F.Fn (item_asker p) a n → N.lawful n) × ((is : _) × lists J.Clone J.IntoIterator J.IntoIter.Iterator (items_part p) is) };
 
-    ghost determined = { λ p. AnswersOne (asks F.Fn (asked_part p)) (λ n. (N.meaning n).whole) × ((n : N) → any_of Input.StreamOnce F.Fn N.lawful n → N.determined n) × ListsOne J.Clone J.IntoIterator J.IntoIter.Iterator (items_part p) };
+    ghost determined = { λ p. ItemAnswersOne (asks_item F.Fn (item_asker p)) (λ n. (N.meaning n).whole) × ((n : N) → any_of Input.StreamOnce F.Fn N.lawful n → N.determined n) × ListsOne J.Clone J.IntoIterator J.IntoIter.Iterator (items_part p) };
 
-    ghost valid = { valid_item (KeptOf N.lawful N.meaning (any_of Input.StreamOnce F.Fn N.lawful)) N.valid (gives_all J.IntoIter.Iterator) };
+    ghost valid = { valid_item (KeptOf N.lawful N.meaning (any_of Input.StreamOnce F.Fn N.lawful)) N.valid (iterator_gives J.IntoIter.Iterator) };
 
-    ghost meaning = { λ p. iterated Input.step Input.Error.seen (asks F.Fn (asked_part p)) (any_of Input.StreamOnce F.Fn N.lawful) N.meaning C.held C.none C.more (gives_all J.IntoIter.Iterator) (lists J.Clone J.IntoIterator J.IntoIter.Iterator (items_part p)) (C.lean × J.is_infallible (items_part p)) };
+    ghost meaning = { λ p. iterated Input.step Input.Error.observers (asks_item F.Fn (item_asker p)) (any_of Input.StreamOnce F.Fn N.lawful) N.meaning C.held C.none C.more (iterator_gives J.IntoIter.Iterator) (lists J.Clone J.IntoIterator J.IntoIter.Iterator (items_part p)) (C.heapless × J.is_infallible (items_part p)) };
 
     ghost parts = { λ _. 1 };
 
-    ghost default_valid = { starts_valid _ _ _ };
+    ghost default_valid = { items_start_valid _ _ _ };
 
-    ghost laws = { λ p l. iterated_is_meaning Input.step Input.Error.seen _ _ N.meaning C.held C.none C.more _ _ _ N.lawful N.laws l.2 };
+    ghost laws = { λ p l. iterated_is_meaning Input.step Input.Error.observers _ _ N.meaning C.held C.none C.more _ _ _ N.lawful N.laws l.2 };
 
-    ghost single = { λ p l d. iterated_means_one Input.step Input.Error.seen _ _ N.meaning C.held C.none C.more _ _ _ d.0 N.lawful (λ n i. N.single n (i.all i.item n i.answered) (d.1 n i)) d.2 (gives_one J.IntoIter.can_next J.IntoIter.remaining J.IntoIter.next_gives) };
+    ghost single = { λ p l d. iterated_means_one Input.step Input.Error.observers _ _ N.meaning C.held C.none C.more _ _ _ d.0 N.lawful (λ n i. N.single n (i.all i.item n i.answered) (d.1 n i)) d.2 (gives_one J.IntoIter.can_next J.IntoIter.remaining J.IntoIter.next_gives) };
 
     fn parse_mode<M: ParseMode>(
         &mut self,
@@ -63,14 +63,14 @@ where
         input: &mut Input,
         state: &mut Self::PartialState,
     ) -> ParseResult<C, Input::Error> {
-        let mut collected: Collected<C, J::IntoIter>;
+        let mut collected: CollectedItems<C, J::IntoIter>;
         match take_state(mode, state) {
             IterateState::Running(item) => match resume_item(mode, input, item, state) {
                 Item::Goes(next) => collected = next,
                 Item::Stops(answer) => return answer,
             },
             IterateState::Start => match self.items.clone() {
-                Ok(items) => collected = Collected::none_yet(
+                Ok(items) => collected = CollectedItems::none_yet(
                     C::empty(self.alloc),
                     items.into_iter(),
                 ),
@@ -96,11 +96,11 @@ where
         }
     }
 
-    /// Nothing is added.
+    /// Adds nothing.
     #[inline]
     fn add_error(&mut self, error: &mut Tracked<Input::Error>) {}
 
-    /// One, however many items there are.
+    /// Counts as one parser, however many items there are.
     #[inline]
     fn parser_count(&self) -> ErrorOffset {
         ErrorOffset(1)

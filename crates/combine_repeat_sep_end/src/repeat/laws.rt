@@ -2,27 +2,27 @@
 ghost use Rattle.combine_base.specs.Parser.Meaning.{MeansSame};
 ghost use Rattle.combine_repeat_sep_end.specs.SepEnd.{sep_end_by, sep_end_by1};
 ghost use Rattle.combine_repeat_sep_end.specs.SepEndParsers.{ended_by_part, ended_by_separator};
-ghost use Rattle.combine_repeat_turns.specs.Counts.{appended};
+ghost use Rattle.combine_repeat_turns.specs.Repeat.Repeated.{appended};
 
 use crate::repeat::types::{SepEndBy, SepEndBy1};
 use combine_base::parser::Parser;
 use combine_base::repeat::Append;
 use combine_base::stream::Stream;
 
-/// The parser of `sep_end_by` means any number of elements, and a separator that may stand behind the last.
+/// The law that the parser of `sep_end_by` means any number of elements, and a separator that may stand after the last.
 pub fn sep_end_by_is_turns<F, Input: Stream, P: Parser<Input>, S: Parser<Input>>(
     parser: &SepEndBy<F, P, S>,
 )
 where
     F: Append<P::Output>,
-    ensures { MeansSame (⟦<SepEndBy<F, P, S> as Parser<Input>>⟧.meaning parser.now) (sep_end_by Input.step Input.Error.seen (appended F.held F.none F.more F.lean) (P.meaning (ended_by_part parser.now)) (S.meaning (ended_by_separator parser.now))) }
+    ensures { MeansSame (⟦<SepEndBy<F, P, S> as Parser<Input>>⟧.meaning parser.now) (sep_end_by Input.step Input.Error.observers (appended F.held F.none F.more F.heapless) (P.meaning (ended_by_part parser.now)) (S.meaning (ended_by_separator parser.now))) }
 {}
 
-/// The parser of `sep_end_by1` means at least one element, and a separator that may stand behind the last.
+/// The law that the parser of `sep_end_by1` means at least one element, and a separator that may stand after the last.
 pub fn sep_end_by1_is_turns<F, Input: Stream, P: Parser<Input>, S: Parser<Input>>(
     parser: &SepEndBy1<F, P, S>,
 )
 where
     F: Append<P::Output>,
-    ensures { MeansSame (⟦<SepEndBy1<F, P, S> as Parser<Input>>⟧.meaning parser.now) (sep_end_by1 Input.step Input.Error.seen (appended F.held F.none F.more F.lean) (P.meaning (ended_by_part parser.now)) (S.meaning (ended_by_separator parser.now))) }
+    ensures { MeansSame (⟦<SepEndBy1<F, P, S> as Parser<Input>>⟧.meaning parser.now) (sep_end_by1 Input.step Input.Error.observers (appended F.held F.none F.more F.heapless) (P.meaning (ended_by_part parser.now)) (S.meaning (ended_by_separator parser.now))) }
 {}

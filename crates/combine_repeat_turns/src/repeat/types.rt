@@ -1,22 +1,23 @@
 //! The parser of turns, and its names for the functions of this module.
 ghost use Rattle.std.specs.Prelude.{◌≡◌, ◌&&◌, if◌then◌else◌};
-ghost use Rattle.combine_repeat_turns.specs.Bounded.{begun_valid, gathered, is_unbounded, running_turn};
-ghost use Rattle.combine_repeat_turns.specs.CountLaws.{repeated_is_meaning, repeated_means_one};
-ghost use Rattle.combine_repeat_turns.specs.Counts.{repeated};
-ghost use Rattle.combine_repeat_turns.specs.RepeatParsers.{bounds_of, repeat_of, repeated_by};
+ghost use Rattle.combine_repeat_turns.specs.Turns.Bounds.{fresh_turns_valid, gathered, is_unbounded, running_turn};
+ghost use Rattle.combine_repeat_turns.specs.Repeat.Repeated.{repeated_is_meaning, repeated_means_one, repeated};
+ghost use Rattle.combine_repeat_turns.specs.Repeat.RepeatParsers.{repeat_bounds, repeat_of, repeated_by};
 
-use crate::each::{Dropped, Each, Plain};
-use crate::turns::limits::{Between, Bounded};
-use crate::turns::{Collect, Gathers, Turns, TurnsState, take_turns};
+use crate::each::{Dropped, Each, SameParser};
+use crate::turns::turn_bounds::{MinToMax, TurnBounds};
+use crate::turns::{Collect, Gathers, TurnProgress, TurnsState, take_turns};
 use combine_base::error::{ErrorOffset, ParseResult, Tracked};
 use combine_base::parser::{Outputs, ParseMode, Parser};
 use combine_base::stream::{Kind, Positioned, Stream, StreamOnce};
 
-/// Turns of a parser, so many as `B` says, whose values `G` gathers. The types of the repetitions of one parser are its aliases.
+/// Turns of a parser, so many as `B` says, whose values `G` gathers.
+///
+/// The types of the repetitions of one parser are its aliases.
 #[derive(Clone, Copy, Drop)]
 pub struct Repeat<G, P, B> {
     gather: G,
-    turn: Plain<P>,
+    turn: SameParser<P>,
     bounds: B,
 }
 
@@ -28,31 +29,31 @@ impl<G, P, B> Repeat<G, P, B> {
     {
         Repeat {
             gather,
-            turn: Plain(parser),
+            turn: SameParser(parser),
             bounds,
         }
     }
 }
 
 /// The parser of [`count_min_max`](crate::repeat::count_min_max).
-pub type CountMinMax<F, P> = Repeat<Each<F>, P, Between>;
+pub type CountMinMax<F, P> = Repeat<Each<F>, P, MinToMax>;
 
 /// The parser of [`skip_count_min_max`](crate::repeat::skip_count_min_max).
-pub type SkipCountMinMax<P> = Repeat<Dropped, P, Between>;
+pub type SkipCountMinMax<P> = Repeat<Dropped, P, MinToMax>;
 
 /// The parser of [`count`](crate::repeat::count).
-pub type Count<F, P> = Repeat<Each<F>, P, Between>;
+pub type Count<F, P> = Repeat<Each<F>, P, MinToMax>;
 
 /// The parser of [`skip_count`](crate::repeat::skip_count).
-pub type SkipCount<P> = Repeat<Dropped, P, Between>;
+pub type SkipCount<P> = Repeat<Dropped, P, MinToMax>;
 
-/// Answers that no memory was found before anything was read, and leaves a default state.
+/// Returns that no memory was found before anything was read, and leaves a default state.
 #[cold]
 fn without_room<O, Input: Stream, S: Default + Drop>(
     input: &Input,
     state: &mut S,
 ) -> ParseResult<O, Input::Error>
-    ensures error { (e : Input.Error) × (result ≡ ParseResult.CommitErr e) × (Input.Error.seen.kind e ≡ Kind.Memory) }
+    ensures error { (e : Input.Error) × (result ≡ ParseResult.CommitErr e) × (Input.Error.observers.kind e ≡ Kind.Memory) }
     ensures fresh { S.is_default state.new }
 {
     *state = S::default();
@@ -60,12 +61,12 @@ fn without_room<O, Input: Stream, S: Default + Drop>(
 }
 
 impl<Input, G: Gathers, P, B> Outputs<Input> for Repeat<G, P, B> {
-    type Output = G::Into;
+    type Output = G::Collection;
 }
 
-impl<Input: Stream, P: Parser<Input>, G: Collect<P::Output>, B: Bounded> Parser<Input>
+impl<Input: Stream, P: Parser<Input>, G: Collect<P::Output>, B: TurnBounds> Parser<Input>
     for Repeat<G, P, B> {
-    type PartialState = TurnsState<G::Into, P::PartialState>;
+    type PartialState = TurnsState<G::Collection, P::PartialState>;
 
     ghost lawful = { λ p. P.lawful (repeated_by p) };
 
@@ -73,15 +74,15 @@ impl<Input: Stream, P: Parser<Input>, G: Collect<P::Output>, B: Bounded> Parser<
 
     ghost valid = { λ s. P.valid (running_turn s) };
 
-    ghost meaning = { λ p. repeated Input.step Input.Error.seen (B.bounds (bounds_of p)) (gathered G.held G.none G.more G.lean) (P.meaning (repeated_by p)) };
+    ghost meaning = { λ p. repeated Input.step Input.Error.observers (B.bounds (repeat_bounds p)) (gathered G.held G.none G.more G.heapless) (P.meaning (repeated_by p)) };
 
-    ghost parts = { λ p. if is_unbounded (B.bounds (bounds_of p)) && G.keeps then P.parts (repeated_by p) else 1 };
+    ghost parts = { λ p. if is_unbounded (B.bounds (repeat_bounds p)) && G.keeps then P.parts (repeated_by p) else 1 };
 
-    ghost default_valid = { begun_valid P.PartialState.is_default P.valid P.default_valid };
+    ghost default_valid = { fresh_turns_valid P.PartialState.is_default P.valid P.default_valid };
 
-    ghost laws = { λ p l. repeated_is_meaning Input.step Input.Error.seen (B.bounds (bounds_of p)) (gathered G.held G.none G.more G.lean) P.PartialState.is_default P.valid (P.meaning (repeated_by p)) (P.laws (repeated_by p) l) };
+    ghost laws = { λ p l. repeated_is_meaning Input.step Input.Error.observers (B.bounds (repeat_bounds p)) (gathered G.held G.none G.more G.heapless) P.PartialState.is_default P.valid (P.meaning (repeated_by p)) (P.laws (repeated_by p) l) };
 
-    ghost single = { λ p l d. repeated_means_one Input.step Input.Error.seen (B.bounds (bounds_of p)) (gathered G.held G.none G.more G.lean) P.valid (P.meaning (repeated_by p)) (P.single (repeated_by p) l d) };
+    ghost single = { λ p l d. repeated_means_one Input.step Input.Error.observers (B.bounds (repeat_bounds p)) (gathered G.held G.none G.more G.heapless) P.valid (P.meaning (repeated_by p)) (P.single (repeated_by p) l d) };
 
     #[inline(always)]
     fn parse_mode<M: ParseMode>(
@@ -89,7 +90,7 @@ impl<Input: Stream, P: Parser<Input>, G: Collect<P::Output>, B: Bounded> Parser<
         mode: M,
         input: &mut Input,
         state: &mut Self::PartialState,
-    ) -> ParseResult<G::Into, Input::Error> {
+    ) -> ParseResult<G::Collection, Input::Error> {
         let room = if mode.is_first() {
             self.bounds.room()
         } else {
@@ -98,8 +99,8 @@ impl<Input: Stream, P: Parser<Input>, G: Collect<P::Output>, B: Bounded> Parser<
         let Ok(empty) = self.gather.empty(room) else {
             return without_room(input, state);
         };
-        let start = Turns::none_yet(empty);
-        take_turns::<G, Input, Plain<P>, M, B>(
+        let start = TurnProgress::none_yet(empty);
+        take_turns::<G, Input, SameParser<P>, M, B>(
             &mut self.turn,
             self.bounds,
             start,
@@ -109,13 +110,13 @@ impl<Input: Stream, P: Parser<Input>, G: Collect<P::Output>, B: Bounded> Parser<
         )
     }
 
-    /// What the parser of a turn adds.
+    /// Adds what the parser of a turn adds.
     #[inline]
     fn add_error(&mut self, error: &mut Tracked<Input::Error>) {
         self.turn.0.add_error(error);
     }
 
-    /// As for the parser of a turn; where the number of turns is bounded, or their values are dropped, it counts as one parser.
+    /// Counts as the parser of a turn does; where the number of turns is bounded, or their values are dropped, it counts as one parser.
     #[inline]
     fn parser_count(&self) -> ErrorOffset {
         if self.bounds.is_unbounded() && self.gather.keeps() {

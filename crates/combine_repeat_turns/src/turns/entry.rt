@@ -1,7 +1,7 @@
 //! How a turn is called: a type each, so that it is known where the turn is compiled.
 ghost use Rattle.std.specs.Prelude.{true, false};
 
-use crate::turns::Turn;
+use crate::turns::TurnParser;
 use combine_base::error::ParseResult;
 use combine_base::parser::{FirstMode, ParseMode};
 use combine_base::stream::{Stream, needs_more};
@@ -12,7 +12,7 @@ pub trait Entry {
     ghost use Rattle.combine_base.specs.Parser.AnswersCalls.{AnswersCall};
     ghost use Rattle.combine_base.specs.Parser.Reasons.{ReasonedCall};
     ghost use Rattle.combine_base.specs.Stream.Calls.{Passes};
-    ghost use Rattle.combine_repeat_turns.specs.Turn.{TurnsSame, called};
+    ghost use Rattle.combine_repeat_turns.specs.Turns.Turn.{TurnsSame, called};
 
     /// The entries that begin afresh.
     ghost first: { Self → Bool };
@@ -21,7 +21,7 @@ pub trait Entry {
     ghost later: { Self → Bool };
 
     /// Calls the turn.
-    fn enter<Input: Stream, P: Turn<Input>>(
+    fn enter<Input: Stream, P: TurnParser<Input>>(
         self,
         parser: &mut P,
         input: &mut Input,
@@ -34,11 +34,13 @@ pub trait Entry {
         ensures valid { P.valid state.new }
         ensures same { TurnsSame (P.meaning parser.old) (P.again parser.old) (P.meaning parser.new) (P.again parser.new) }
         ensures passes { Passes (Input.marks input.old) (Input.marks input.new) (Input.failures input.old) (Input.failures input.new) }
-        ensures answers { AnswersCall Input.StreamOnce Input.Error.seen P.Running.is_default (called (P.meaning parser.old) (P.again parser.old) (later self)) (first self) state.old state.new input.old input.new result }
-        ensures refuses { ReasonedCall Input.Error.seen (called (P.meaning parser.old) (P.again parser.old) (later self)) (first self) state.old (Input.view input.old) (Input.view input.new) result };
+        ensures answers { AnswersCall Input.StreamOnce Input.Error.observers P.Running.is_default (called (P.meaning parser.old) (P.again parser.old) (later self)) (first self) state.old state.new input.old input.new result }
+        ensures refuses { ReasonedCall Input.Error.observers (called (P.meaning parser.old) (P.again parser.old) (later self)) (first self) state.old (Input.view input.old) (Input.view input.new) result };
 }
 
-/// A turn that begins afresh: a first-mode call, so that the mode is known where it is compiled, with a state of its own, which is stored on need of more alone.
+/// A turn that begins afresh, with a state of its own, which is stored on need of more alone.
+///
+/// It is a first-mode call, so that the mode is known where it is compiled.
 pub struct Afresh {
     /// Whether it is a later turn than the first.
     pub later: bool,
@@ -50,7 +52,7 @@ impl Entry for Afresh {
     ghost later = { λ e. e.later };
 
     #[inline(always)]
-    fn enter<Input: Stream, P: Turn<Input>>(
+    fn enter<Input: Stream, P: TurnParser<Input>>(
         self,
         parser: &mut P,
         input: &mut Input,
@@ -70,6 +72,7 @@ impl Entry for Afresh {
 
 /// The first turn that runs in a call, which may resume.
 pub struct Resumed<M> {
+    /// How the call begins.
     pub mode: M,
 }
 
@@ -79,7 +82,7 @@ impl<M: ParseMode> Entry for Resumed<M> {
     ghost later = { λ _. false };
 
     #[inline(always)]
-    fn enter<Input: Stream, P: Turn<Input>>(
+    fn enter<Input: Stream, P: TurnParser<Input>>(
         self,
         parser: &mut P,
         input: &mut Input,

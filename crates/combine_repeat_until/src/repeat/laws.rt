@@ -1,12 +1,14 @@
 //! What repetitions up to a place mean beside one another. The function does nothing: its contract is the law.
 ghost use Rattle.combine_repeat_until.specs.Until.{some_appended};
-ghost use Rattle.combine_repeat_until.specs.UntilCompared.{RepeatOrSkip};
+ghost use Rattle.combine_repeat_until.specs.UntilParsers.{RepeatOrSkip};
 
 use combine_base::parser::Parser;
 use combine_base::repeat::Append;
 use combine_base::stream::Stream;
 
-/// `repeat_skip_until(p, end)` has the count and kind of `repeat_until(p, end)`; with `any` for `p` that is said of `skip_until` and `take_until`.
+/// The law that `repeat_skip_until(p, end)` has the count and kind of `repeat_until(p, end)`.
+///
+/// With `any` for `p` that is said of `skip_until` and `take_until`.
 pub fn repeat_skip_until_is_repeat_until_dropped<
     F,
     Input: Stream,
@@ -15,5 +17,5 @@ pub fn repeat_skip_until_is_repeat_until_dropped<
 >(parser: &P, end: &E)
 where
     F: Append<P::Output>,
-    ensures { RepeatOrSkip Input.step Input.Error.seen Input.Position.cmp (some_appended F.held F.none F.more F.lean) (P.meaning parser.now) (E.meaning end.now) }
+    ensures { RepeatOrSkip Input.step Input.Error.observers Input.Position.cmp (some_appended F.held F.none F.more F.heapless) (P.meaning parser.now) (E.meaning end.now) }
 {}

@@ -1,8 +1,7 @@
-//! The parsers that the functions of this module answer.
-ghost use Rattle.combine_token.specs.Or.{or_valid};
+//! The parsers that the functions of this module return.
+ghost use Rattle.combine_token.specs.Choice.Or.{or_valid};
 ghost use Rattle.combine_repeat_until.specs.Next.{next_is_meaning, next_once};
-ghost use Rattle.combine_repeat_until.specs.Until.{some_appended, some_dropped, until_valid};
-ghost use Rattle.combine_repeat_until.specs.UntilLaws.{until_is_meaning, until_means_one};
+ghost use Rattle.combine_repeat_until.specs.Until.{some_appended, some_dropped, until_valid, until_is_meaning, until_means_one};
 ghost use Rattle.combine_repeat_until.specs.UntilParsers.{blocks_end, blocks_part, repeat_until, skipped_end, skipped_part};
 
 pub use crate::mute::Mute;
@@ -21,15 +20,17 @@ use std::marker::PhantomData;
 pub type RepeatUntil<F, A, P, E> = BlocksUntil<F, A, P, Mute<E>>;
 
 /// The parser of [`repeat_skip_until`](crate::repeat::repeat_skip_until).
-pub type SkipRepeatUntil<A, P, E> = Ignore<Skips<A, P, Mute<E>>>;
+pub type SkipRepeatUntil<A, P, E> = Ignore<SkipBlocksUntil<A, P, Mute<E>>>;
 
 /// The parser of [`take_until`](crate::repeat::take_until), with the stream's tokens as `T`.
 pub type TakeUntil<F, Input, T, E> = BlocksUntil<F, T, Any<Input>, E>;
 
 /// The parser of [`skip_until`](crate::repeat::skip_until).
-pub type SkipUntil<Input, T, E> = Ignore<Skips<T, Any<Input>, E>>;
+pub type SkipUntil<Input, T, E> = Ignore<SkipBlocksUntil<T, Any<Input>, E>>;
 
-/// Blocks of a parser up to a place, their values collected; `A` is the value of a block. Our own: the crate has a parser each for `repeat_until` and `take_until`.
+/// Blocks of a parser up to a place, their values collected. Our own.
+///
+/// `A` is the value of a block. The crate has a parser each for `repeat_until` and `take_until`.
 #[derive(Drop)]
 #[derive_where(Clone, Copy; P, E)]
 pub struct BlocksUntil<F, A, P, E> {
@@ -53,15 +54,15 @@ impl<Input: Stream, A: Drop, P: Parser<Input, Output = A>, E: Parser<Input>, F: 
 
     ghost valid = { until_valid (or_valid E.valid P.valid) };
 
-    ghost meaning = { λ p. repeat_until Input.step Input.Error.seen Input.Position.cmp (some_appended F.held F.none F.more F.lean) (P.meaning (blocks_part p)) (E.meaning (blocks_end p)) };
+    ghost meaning = { λ p. repeat_until Input.step Input.Error.observers Input.Position.cmp (some_appended F.held F.none F.more F.heapless) (P.meaning (blocks_part p)) (E.meaning (blocks_end p)) };
 
     ghost parts = { λ _. 1 };
 
     ghost default_valid = { λ s d. rw d tt };
 
-    ghost laws = { λ p l. until_is_meaning Input.step Input.Error.seen (some_appended F.held F.none F.more F.lean) _ _ _ (next_is_meaning Input.Error.seen Input.Position.cmp _ _ (E.laws (blocks_end p) l.0) (P.laws (blocks_part p) l.1)) };
+    ghost laws = { λ p l. until_is_meaning Input.step Input.Error.observers (some_appended F.held F.none F.more F.heapless) _ _ _ (next_is_meaning Input.Error.observers Input.Position.cmp _ _ (E.laws (blocks_end p) l.0) (P.laws (blocks_part p) l.1)) };
 
-    ghost single = { λ p l d. until_means_one Input.step Input.Error.seen (some_appended F.held F.none F.more F.lean) _ _ (next_once Input.Error.seen Input.Position.cmp E.PartialState.is_default _ P.PartialState.is_default _ _ _ (E.single (blocks_end p) l.0 d.0) (P.single (blocks_part p) l.1 d.1)) };
+    ghost single = { λ p l d. until_means_one Input.step Input.Error.observers (some_appended F.held F.none F.more F.heapless) _ _ (next_once Input.Error.observers Input.Position.cmp E.PartialState.is_default _ P.PartialState.is_default _ _ _ (E.single (blocks_end p) l.0 d.0) (P.single (blocks_part p) l.1 d.1)) };
 
     #[inline(always)]
     fn parse_mode<M: ParseMode>(
@@ -74,13 +75,13 @@ impl<Input: Stream, A: Drop, P: Parser<Input, Output = A>, E: Parser<Input>, F: 
         take_blocks::<A, F, Input, Next<A, P, E>, M>(&mut self.turn, empty, mode, input, state)
     }
 
-    /// What `end` adds, and then what the parser of a block does.
+    /// Adds what `end` adds, and then what the parser of a block does.
     #[inline]
     fn add_error(&mut self, error: &mut Tracked<Input::Error>) {
         self.turn.add_error(error);
     }
 
-    /// It counts as one parser.
+    /// Counts as one parser.
     #[inline]
     fn parser_count(&self) -> ErrorOffset {
         ErrorOffset(1)
@@ -90,16 +91,16 @@ impl<Input: Stream, A: Drop, P: Parser<Input, Output = A>, E: Parser<Input>, F: 
 /// As `BlocksUntil`, with the values dropped. Our own.
 #[derive(Drop)]
 #[derive_where(Clone, Copy; P, E)]
-pub struct Skips<A, P, E> {
+pub struct SkipBlocksUntil<A, P, E> {
     pub(super) turn: Next<A, P, E>,
 }
 
-impl<Input, A, P, E> Outputs<Input> for Skips<A, P, E> {
+impl<Input, A, P, E> Outputs<Input> for SkipBlocksUntil<A, P, E> {
     type Output = Sink;
 }
 
 impl<Input: Stream, A: Drop, P: Parser<Input, Output = A>, E: Parser<Input>> Parser<Input>
-    for Skips<A, P, E> {
+    for SkipBlocksUntil<A, P, E> {
     type PartialState = UntilState<Sink, NextState<Input, P, E>>;
 
     ghost lawful = { λ p. E.lawful (skipped_end p) × P.lawful (skipped_part p) };
@@ -108,15 +109,15 @@ impl<Input: Stream, A: Drop, P: Parser<Input, Output = A>, E: Parser<Input>> Par
 
     ghost valid = { until_valid (or_valid E.valid P.valid) };
 
-    ghost meaning = { λ p. repeat_until Input.step Input.Error.seen Input.Position.cmp some_dropped (P.meaning (skipped_part p)) (E.meaning (skipped_end p)) };
+    ghost meaning = { λ p. repeat_until Input.step Input.Error.observers Input.Position.cmp some_dropped (P.meaning (skipped_part p)) (E.meaning (skipped_end p)) };
 
     ghost parts = { λ _. 1 };
 
     ghost default_valid = { λ s d. rw d tt };
 
-    ghost laws = { λ p l. until_is_meaning Input.step Input.Error.seen some_dropped _ _ _ (next_is_meaning Input.Error.seen Input.Position.cmp _ _ (E.laws (skipped_end p) l.0) (P.laws (skipped_part p) l.1)) };
+    ghost laws = { λ p l. until_is_meaning Input.step Input.Error.observers some_dropped _ _ _ (next_is_meaning Input.Error.observers Input.Position.cmp _ _ (E.laws (skipped_end p) l.0) (P.laws (skipped_part p) l.1)) };
 
-    ghost single = { λ p l d. until_means_one Input.step Input.Error.seen some_dropped _ _ (next_once Input.Error.seen Input.Position.cmp E.PartialState.is_default _ P.PartialState.is_default _ _ _ (E.single (skipped_end p) l.0 d.0) (P.single (skipped_part p) l.1 d.1)) };
+    ghost single = { λ p l d. until_means_one Input.step Input.Error.observers some_dropped _ _ (next_once Input.Error.observers Input.Position.cmp E.PartialState.is_default _ P.PartialState.is_default _ _ _ (E.single (skipped_end p) l.0 d.0) (P.single (skipped_part p) l.1 d.1)) };
 
     #[inline(always)]
     fn parse_mode<M: ParseMode>(
@@ -128,13 +129,13 @@ impl<Input: Stream, A: Drop, P: Parser<Input, Output = A>, E: Parser<Input>> Par
         take_blocks::<A, Sink, Input, Next<A, P, E>, M>(&mut self.turn, Sink, mode, input, state)
     }
 
-    /// What `end` adds, and then what the parser of a block does.
+    /// Adds what `end` adds, and then what the parser of a block does.
     #[inline]
     fn add_error(&mut self, error: &mut Tracked<Input::Error>) {
         self.turn.add_error(error);
     }
 
-    /// It counts as one parser.
+    /// Counts as one parser.
     #[inline]
     fn parser_count(&self) -> ErrorOffset {
         ErrorOffset(1)

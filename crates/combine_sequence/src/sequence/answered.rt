@@ -1,24 +1,23 @@
-//! A parser, and then one that a function of its value answers.
+//! A parser, and then one that a function of its value returns.
 ghost use Rattle.std.specs.Prelude.{◌≡◌, true};
-ghost use Rattle.combine_base.specs.Parser.Given.{GivesOnly, gives_as};
-ghost use Rattle.combine_base.specs.Parser.Kept.{KeptOf};
-ghost use Rattle.combine_sequence.specs.Answered.{AnsweredBySome, AsksOne, answered_of, asked_part, asks_lawful, first_part, some_lawful, starts_first, starts_valid, then, then_is_meaning, then_means_one, valid_step};
-ghost use Rattle.combine_sequence.specs.Thens.{CalledAnswered};
+ghost use Rattle.combine_base.specs.Parser.GivenValues.{GivesOnly, gives_as};
+ghost use Rattle.combine_base.specs.Parser.KeptParsers.{KeptOf};
+ghost use Rattle.combine_sequence.specs.Then.{AnsweredBySome, AsksOne, answered_of, then_asker, asks_lawful, first_part, some_lawful, starts_first, answered_starts_valid, then_meaning, then_is_meaning, then_means_one, valid_answered, CalledAnswered};
 
-pub(super) mod asked;
+pub(super) mod next_parser;
 pub(super) mod state;
 
-use asked::{Asked, ByMut, ByRef, ByValue, Join};
-use combine_base::error::{ErrorOffset, ParseResult, Tracked};
+use combine_base::error::{ErrorOffset, ParseResult, Tracked, accepted_after, refused_after};
 use combine_base::parser::{Calls, FirstMode, Outputs, ParseMode, Parser};
-use combine_base::sequence::{accepted_after, refused_after, take_state};
+use combine_base::sequence::take_state;
 use combine_base::stream::{Stream, needs_more};
-use state::{AnsweredState, Answering};
+use next_parser::{ByMut, ByRef, ByValue, Join, NextParser};
+use state::{AnsweredProgress, AnsweredState};
 use std::marker::PhantomData;
 
-/// A parser, and then the one that a function answers for its value.
+/// A parser, and then the one that a function returns for its value.
 ///
-/// The state keeps the answered parser, which is not asked for again.
+/// The state keeps that parser, which is not asked for again.
 #[derive(Drop)]
 #[derive_where(Clone, Copy; P, K)]
 pub struct Answered<P, K, B> {
@@ -28,7 +27,7 @@ pub struct Answered<P, K, B> {
 }
 
 impl<P, K, B> Answered<P, K, B> {
-    /// Makes the parser that is this one, and then one that is asked for so.
+    /// Returns the parser that is this one, and then one that is asked for so.
     #[inline]
     pub fn new(first: P, asked: K) -> Self
         ensures { result ≡ answered_of first asked }
@@ -60,25 +59,25 @@ impl<
     N: Parser<Input> + Drop,
     B: Drop,
     V: Join<N::Output, Joined = B> + Drop,
-    K: Asked<P::Output, Parser = N, Kept = V>,
+    K: NextParser<P::Output, Parser = N, Kept = V>,
 > Parser<Input> for Answered<P, K, B> {
     type PartialState = AnsweredState<P::PartialState, V, N, N::PartialState>;
 
-    ghost lawful = { λ p. P.lawful (first_part p) × GivesOnly P.valid (P.meaning (first_part p)) (asks_lawful K.callable K.answers N.lawful (asked_part p)) };
+    ghost lawful = { λ p. P.lawful (first_part p) × GivesOnly P.valid (P.meaning (first_part p)) (asks_lawful K.callable K.answers N.lawful (then_asker p)) };
 
-    ghost determined = { λ p. P.determined (first_part p) × ((n : N) → AnsweredBySome K.callable K.answers N.lawful P.lawful P.valid P.meaning n → N.determined n) × AsksOne P.valid (P.meaning (first_part p)) (K.answers (asked_part p)) (λ n. (N.meaning n).whole) };
+    ghost determined = { λ p. P.determined (first_part p) × ((n : N) → AnsweredBySome K.callable K.answers N.lawful P.lawful P.valid P.meaning n → N.determined n) × AsksOne P.valid (P.meaning (first_part p)) (K.answers (then_asker p)) (λ n. (N.meaning n).whole) };
 
-    ghost valid = { valid_step P.valid (KeptOf N.lawful N.meaning (AnsweredBySome K.callable K.answers N.lawful P.lawful P.valid P.meaning)) N.valid };
+    ghost valid = { valid_answered P.valid (KeptOf N.lawful N.meaning (AnsweredBySome K.callable K.answers N.lawful P.lawful P.valid P.meaning)) N.valid };
 
-    ghost meaning = { λ p. then Input.step Input.Error.seen K.keeps V.joined (K.answers (asked_part p)) (AnsweredBySome K.callable K.answers N.lawful P.lawful P.valid P.meaning) (P.meaning (first_part p)) N.meaning };
+    ghost meaning = { λ p. then_meaning Input.step Input.Error.observers K.keeps V.joined (K.answers (then_asker p)) (AnsweredBySome K.callable K.answers N.lawful P.lawful P.valid P.meaning) (P.meaning (first_part p)) N.meaning };
 
     ghost parts = { λ _. 1 };
 
-    ghost default_valid = { starts_valid (KeptOf N.lawful N.meaning (AnsweredBySome K.callable K.answers N.lawful P.lawful P.valid P.meaning)) N.valid P.default_valid };
+    ghost default_valid = { answered_starts_valid (KeptOf N.lawful N.meaning (AnsweredBySome K.callable K.answers N.lawful P.lawful P.valid P.meaning)) N.valid P.default_valid };
 
-    ghost laws = { λ p l. then_is_meaning Input.step Input.Error.seen K.keeps V.joined (K.answers (asked_part p)) (AnsweredBySome K.callable K.answers N.lawful P.lawful P.valid P.meaning) N.lawful (P.laws (first_part p) l.0) N.laws (gives_as (λ a h. h.1) l.1) };
+    ghost laws = { λ p l. then_is_meaning Input.step Input.Error.observers K.keeps V.joined (K.answers (then_asker p)) (AnsweredBySome K.callable K.answers N.lawful P.lawful P.valid P.meaning) N.lawful (P.laws (first_part p) l.0) N.laws (gives_as (λ a h. h.1) l.1) };
 
-    ghost single = { λ p l d. then_means_one Input.step Input.Error.seen K.keeps V.joined _ _ N.lawful (P.single (first_part p) l.0 d.0) (λ n i. N.single n (some_lawful K.callable K.answers N.lawful P.lawful P.valid P.meaning n i) (d.1 n i)) d.2 };
+    ghost single = { λ p l d. then_means_one Input.step Input.Error.observers K.keeps V.joined _ _ N.lawful (P.single (first_part p) l.0 d.0) (λ n i. N.single n (some_lawful K.callable K.answers N.lawful P.lawful P.valid P.meaning n i) (d.1 n i)) d.2 };
 
     #[inline(always)]
     fn parse_mode<M: ParseMode>(
@@ -101,7 +100,7 @@ impl<
             ParseResult::PeekErr(refusal) => return ParseResult::PeekErr(refusal),
         };
         let (value, parser) = self.asked.ask(value);
-        let next = Answering {
+        let next = AnsweredProgress {
             value,
             parser,
             committed,
@@ -110,20 +109,22 @@ impl<
         parse_answered(FirstMode, input, next, state)
     }
 
-    /// What the first parser adds.
+    /// Adds what the first parser adds.
     #[inline]
     fn add_error(&mut self, error: &mut Tracked<Input::Error>) {
         self.first.add_error(error);
     }
 
-    /// One, whatever the two parsers count.
+    /// Counts as one parser, whatever the two parsers count.
     #[inline]
     fn parser_count(&self) -> ErrorOffset {
         ErrorOffset(1)
     }
 }
 
-/// Runs an answered parser, from what is kept of it. A peeked refusal is put back to where it began, and explained by it. Need of more is kept in `state`, which is a default one.
+/// Runs the parser that was asked for, from what is kept of it.
+///
+/// A peeked refusal is put back to where it began, and explained by it. Need of more is kept in `state`, which is a default one.
 #[inline(always)]
 fn parse_answered<
     Input: Stream,
@@ -134,15 +135,15 @@ fn parse_answered<
 >(
     mode: M,
     input: &mut Input,
-    from: Answering<V, N, N::PartialState>,
+    from: AnsweredProgress<V, N, N::PartialState>,
     state: &mut AnsweredState<S, V, N, N::PartialState>,
 ) -> ParseResult<V::Joined, Input::Error>
     requires ready { ⟦<N as Calls<Input>>⟧.ready from.parser from.state }
     requires starts { M.first mode ≡ true → N.PartialState.is_default from.state }
     requires fresh { starts_first S.is_default state.old }
-    ensures { CalledAnswered N.Parser Input.StreamOnce Input.Error.seen N.PartialState.is_default S.is_default V.joined input.old input.new from state.new result }
+    ensures { CalledAnswered N.Parser Input.StreamOnce Input.Error.observers N.PartialState.is_default S.is_default V.joined input.old input.new from state.new result }
 {
-    let Answering {
+    let AnsweredProgress {
         value,
         mut parser,
         committed,
@@ -153,7 +154,7 @@ fn parse_answered<
         ParseResult::PeekOk(last) => accepted_after(committed, value.join(last)),
         ParseResult::CommitErr(error) => {
             if needs_more(input, &error) {
-                *state = AnsweredState::Second(Answering {
+                *state = AnsweredState::Second(AnsweredProgress {
                     value,
                     parser,
                     committed,
@@ -167,7 +168,7 @@ fn parse_answered<
     }
 }
 
-/// As `parse_answered`, for a call that resumes: apart from the code of calls that begin afresh.
+/// Runs the parser as `parse_answered` does, in a call that resumes: apart from the code of calls that begin afresh.
 #[inline(never)]
 fn resume_answered<
     Input: Stream,
@@ -178,13 +179,13 @@ fn resume_answered<
 >(
     mode: M,
     input: &mut Input,
-    from: Answering<V, N, N::PartialState>,
+    from: AnsweredProgress<V, N, N::PartialState>,
     state: &mut AnsweredState<S, V, N, N::PartialState>,
 ) -> ParseResult<V::Joined, Input::Error>
     requires ready { ⟦<N as Calls<Input>>⟧.ready from.parser from.state }
     requires starts { M.first mode ≡ true → N.PartialState.is_default from.state }
     requires fresh { starts_first S.is_default state.old }
-    ensures { CalledAnswered N.Parser Input.StreamOnce Input.Error.seen N.PartialState.is_default S.is_default V.joined input.old input.new from state.new result }
+    ensures { CalledAnswered N.Parser Input.StreamOnce Input.Error.observers N.PartialState.is_default S.is_default V.joined input.old input.new from state.new result }
 {
     parse_answered(mode, input, from, state)
 }

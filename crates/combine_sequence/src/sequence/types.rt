@@ -1,7 +1,7 @@
-//! The parsers that the functions of `sequence` answer.
+//! The parsers that the functions of `sequence` return.
 
-pub use super::answered::asked::{Asked, ByMut, ByRef, ByValue, Join};
-pub use super::answered::state::{AnsweredState, Answering};
+pub use super::answered::next_parser::{ByMut, ByRef, ByValue, Join, NextParser};
+pub use super::answered::state::{AnsweredProgress, AnsweredState};
 pub use super::answered::{Answered, Then, ThenPartial, ThenRef};
 use combine_base::error::ErrorOffset;
 use combine_combinator::combinator::types::{Pick, Picked};

@@ -9,7 +9,9 @@ use combine_base::maps::Maps;
 use combine_base::stream::{Failures, Kind, Positioned, ResetStream, Stream, StreamOnce};
 use std::alloc::AllocError;
 
-/// A slice whose position is counted, by an index from 0. It is ended.
+/// A slice whose position is counted, by an index from 0.
+///
+/// It is ended.
 pub struct SliceStream<'a, T> {
     tokens: &'a [T],
     at: usize,
@@ -30,9 +32,9 @@ impl<'a, T> Clone for SliceStream<'a, T> {
 impl<'a, T> Copy for SliceStream<'a, T> {}
 
 impl<'a, T: Copy> SliceStream<'a, T> {
-    ghost use Rattle.combine_stream.specs.Indices.{indexed_view};
+    ghost use Rattle.combine_stream.specs.Position.IndexedSlices.{indexed_view};
 
-    // The unread tokens.
+    // Returns the unread tokens.
     #[inline(always)]
     fn unread(&self) -> &'a [T]
         ensures { result.now ≡ (indexed_view self.now).unread }
@@ -42,9 +44,9 @@ impl<'a, T: Copy> SliceStream<'a, T> {
 }
 
 impl<'a, T: Copy> DefaultPositioned for &'a [T] {
-    ghost use Rattle.combine_stream.specs.Counted.{index_counts};
+    ghost use Rattle.combine_stream.specs.Position.CountedPositions.{index_counts};
 
-    type Placed = SliceStream<'a, T>;
+    type Located = SliceStream<'a, T>;
 
     ghost whole = { λ s. record { position = 0; unread = s.now; is_open = false } };
 
@@ -73,7 +75,7 @@ impl<'a, T: Copy> Windowed for &'a [T] {
 
     ghost ordered = { λ s c d p q l. l };
 
-    ghost calm = { λ s t. refl };
+    ghost never_fails = { λ s t. refl };
 
     #[inline]
     fn has_place(self, place: usize) -> bool {
@@ -111,7 +113,7 @@ impl<'a, T: Copy> Windowed for &'a [T] {
 
 impl<'a, T: Copy> StreamOnce for SliceStream<'a, T> {
     ghost use Rattle.combine_base.specs.Stream.Fed.{one_more, count_moves};
-    ghost use Rattle.combine_stream.specs.Indices.{indexed_view};
+    ghost use Rattle.combine_stream.specs.Position.IndexedSlices.{indexed_view};
 
     type Token = T;
 
@@ -131,7 +133,7 @@ impl<'a, T: Copy> StreamOnce for SliceStream<'a, T> {
 
     ghost failures = { λ _. record { reads = 0; resets = 0 } };
 
-    ghost steady = { Unit {0} };
+    ghost counts_failures = { Unit {0} };
 
     ghost moves = { λ s n h k. count_moves (indexed_view s) n h k };
 
@@ -158,7 +160,7 @@ impl<'a, T: Copy> StreamOnce for SliceStream<'a, T> {
 }
 
 impl<'a, T: Copy> ResetStream for SliceStream<'a, T> {
-    ghost use Rattle.combine_stream.specs.Indices.{indexed_view};
+    ghost use Rattle.combine_stream.specs.Position.IndexedSlices.{indexed_view};
 
     type Checkpoint = SliceStream<'a, T>;
 
@@ -205,7 +207,7 @@ impl<'a, T: Copy> Stream for SliceStream<'a, T> {}
 impl<'a, T: Copy> RangeStream for SliceStream<'a, T> {
     ghost use Rattle.std.specs.Prelude.{◌≡◌, ℕ, ◌<◌};
     ghost use Rattle.std.proofs.Common.{arith};
-    ghost use Rattle.combine_stream.specs.Measures.{slice_measured};
+    ghost use Rattle.combine_stream.specs.Range.Measures.{slice_measured};
 
     ghost size = { λ t. 1 };
 

@@ -3,10 +3,10 @@ ghost use Rattle.std.specs.Prelude.{◌≡◌, ◌↔◌, ℕ, ◌+◌, ◌<◌,
 ghost use Rattle.std.specs.Char.{len_utf8};
 ghost use Rattle.std.specs.Str.{IsCharBoundary, IsUtf8, chars};
 ghost use Rattle.combine_base.specs.Stream.View.{after_all};
-ghost use Rattle.combine_stream.specs.Ranges.{size_of};
-ghost use Rattle.combine_stream.specs.TextRanges.{Cut, uncut};
-ghost use Rattle.combine_stream.specs.Lines.{Fits, StepsOn, behind, first_place, next_place};
-ghost use Rattle.combine_stream.specs.TextWindows.{index_of};
+ghost use Rattle.combine_stream.specs.Range.Ranges.{size_of};
+ghost use Rattle.combine_stream.specs.Range.TextRanges.{Cut, uncut};
+ghost use Rattle.combine_stream.specs.Position.Lines.{CountsFit, StepsOn, place_behind, first_place, next_place};
+ghost use Rattle.combine_stream.specs.Range.TextWindows.{index_of};
 
 use crate::position::{DefaultPositioned, Windowed};
 use crate::range::texts::{bytes_while, cut};
@@ -18,7 +18,11 @@ use combine_base::stream::{
 };
 use std::fmt;
 
-/// A line and a column, both counted from 1. A line feed begins a line, at column 1; every other character is a column more. A later position is greater.
+/// A line and a column, both counted from 1.
+///
+/// A line feed begins a line, at column 1; every other character is a column more. A later position is greater.
+///
+/// # Differences from combine
 ///
 /// In the crate they are `i32`.
 #[derive(Clone, Copy, Debug, PartialEq, Eq, PartialOrd, Ord)]
@@ -30,7 +34,7 @@ pub struct SourcePosition {
 }
 
 impl Default for SourcePosition {
-    /// Line 1, column 1.
+    /// Returns line 1, column 1.
     #[inline]
     fn default() -> SourcePosition
         ensures { result ≡ first_place }
@@ -39,7 +43,7 @@ impl Default for SourcePosition {
     }
 }
 
-/// `line: 1, column: 2`, in the crate's words.
+/// Writes `line: 1, column: 2`, in the crate's words.
 impl fmt::Display for SourcePosition {
     fn fmt<W: fmt::Write>(&self, f: &mut fmt::Formatter<W>) -> fmt::Result {
         let line = self.line;
@@ -49,10 +53,10 @@ impl fmt::Display for SourcePosition {
 }
 
 impl SourcePosition {
-    // The position after a character.
+    // Returns the position after a character.
     #[inline(always)]
     fn after(self, character: char) -> SourcePosition
-        requires { Fits self 1 }
+        requires { CountsFit self 1 }
         ensures { result ≡ next_place self character }
     {
         if character == '\n' {
@@ -64,11 +68,11 @@ impl SourcePosition {
         }
     }
 
-    // Where the next line begins: a call, so that the loop over the characters of a line stays small.
+    // Returns where the next line begins: a call, so that the loop over the characters of a line stays small.
     #[cold]
     #[inline(never)]
     fn next_line(self) -> SourcePosition
-        requires { Fits self 1 }
+        requires { CountsFit self 1 }
         ensures { result ≡ record { line = self.line + 1; column = 1 } }
     {
         SourcePosition {
@@ -78,7 +82,9 @@ impl SourcePosition {
     }
 }
 
-/// A text whose position is counted, by lines and columns. It is ended.
+/// A text whose position is counted, by lines and columns.
+///
+/// It is ended.
 #[derive(Clone, Copy)]
 pub struct TextStream<'a> {
     rest: &'a str,
@@ -88,14 +94,14 @@ pub struct TextStream<'a> {
 }
 
 impl<'a> DefaultPositioned for &'a str {
-    ghost use Rattle.combine_stream.specs.Counted.{place_counts};
-    ghost use Rattle.combine_stream.specs.Lines.{behind};
+    ghost use Rattle.combine_stream.specs.Position.CountedPositions.{place_counts};
+    ghost use Rattle.combine_stream.specs.Position.Lines.{place_behind};
 
-    type Placed = TextStream<'a>;
+    type Located = TextStream<'a>;
 
     ghost whole = { λ s. record { position = first_place; unread = chars s.now; is_open = false } };
 
-    ghost behind = { λ s n. behind (chars s.now) n };
+    ghost behind = { λ s n. place_behind (chars s.now) n };
 
     ghost counts = { λ s n h. place_counts n (chars s.now) };
 
@@ -111,7 +117,7 @@ impl<'a> DefaultPositioned for &'a str {
 
 impl<'a> Windowed for &'a str {
     ghost use Rattle.std.specs.Prelude.{refl};
-    ghost use Rattle.combine_stream.specs.TextWindows.{index_orders, index_rises};
+    ghost use Rattle.combine_stream.specs.Range.TextWindows.{index_orders, index_rises};
 
     ghost places = { λ s c. IsUtf8 s.now × IsCharBoundary s.now c };
 
@@ -121,7 +127,7 @@ impl<'a> Windowed for &'a str {
 
     ghost ordered = { λ s c d p q l. index_orders s.now c d p.0 p.1 q.1 l };
 
-    ghost calm = { λ s t. refl };
+    ghost never_fails = { λ s t. refl };
 
     #[inline]
     fn has_place(self, place: usize) -> bool {
@@ -155,7 +161,7 @@ impl<'a> Windowed for &'a str {
 }
 
 impl<'a> StreamOnce for TextStream<'a> {
-    ghost use Rattle.combine_stream.specs.PlacedViews.{placed_view, placed_moves};
+    ghost use Rattle.combine_stream.specs.Position.PlacedViews.{placed_view, placed_moves};
 
     type Token = char;
 
@@ -175,7 +181,7 @@ impl<'a> StreamOnce for TextStream<'a> {
 
     ghost failures = { λ _. record { reads = 0; resets = 0 } };
 
-    ghost steady = { Unit {0} };
+    ghost counts_failures = { Unit {0} };
 
     ghost moves = { λ s n h k. placed_moves s.place n (chars s.rest.now) h k };
 
@@ -202,7 +208,7 @@ impl<'a> StreamOnce for TextStream<'a> {
 }
 
 impl<'a> ResetStream for TextStream<'a> {
-    ghost use Rattle.combine_stream.specs.PlacedViews.{placed_view};
+    ghost use Rattle.combine_stream.specs.Position.PlacedViews.{placed_view};
 
     type Checkpoint = TextStream<'a>;
 
@@ -245,7 +251,7 @@ impl<'a> Positioned for TextStream<'a> {
 impl<'a> Stream for TextStream<'a> {}
 
 impl<'a> RangeStream for TextStream<'a> {
-    ghost use Rattle.combine_stream.specs.TextRanges.{text_of, char_filled, text_measured};
+    ghost use Rattle.combine_stream.specs.Range.TextRanges.{text_of, char_filled, text_measured};
 
     ghost size = { len_utf8 };
 
@@ -285,10 +291,10 @@ impl<'a> RangeStream for TextStream<'a> {
 
 // The steps below are functions of their own since a `&str` parameter is known to be text.
 
-// The first character, and what is left behind it.
+// Returns the first character, and what is left after it.
 #[inline(always)]
 fn step_on<'a>(rest: &'a str, place: SourcePosition) -> Option<(char, TextStream<'a>)>
-    requires { Fits place (length rest.now) }
+    requires { CountsFit place (length rest.now) }
     ensures { MatchOption result (chars rest.now ≡ []) (λ p. StepsOn rest.now place p.0 p.1.rest.now p.1.place) }
 {
     match split_first(rest) {
@@ -303,10 +309,10 @@ fn step_on<'a>(rest: &'a str, place: SourcePosition) -> Option<(char, TextStream
     }
 }
 
-// The same place, whose characters are fewer than 2^64.
+// Returns the same place, whose characters are fewer than 2^64.
 #[inline(always)]
 fn here<'a>(rest: &'a str, place: SourcePosition) -> TextStream<'a>
-    requires { Fits place (length rest.now) }
+    requires { CountsFit place (length rest.now) }
     ensures rest { result.rest.now ≡ rest.now }
     ensures place { result.place ≡ place }
     ensures short { length (chars rest.now) < 2 ^ 64 }
@@ -314,9 +320,9 @@ fn here<'a>(rest: &'a str, place: SourcePosition) -> TextStream<'a>
     TextStream { rest, place }
 }
 
-// The place after a text.
+// Returns the place after a text.
 fn place_after(place: SourcePosition, text: &str) -> SourcePosition
-    requires { Fits place (length text.now) }
+    requires { CountsFit place (length text.now) }
     ensures place { result ≡ after_all next_place place (chars text.now) }
     ensures text { IsUtf8 text.now }
 {
@@ -333,24 +339,24 @@ fn place_after(place: SourcePosition, text: &str) -> SourcePosition
     }
 }
 
-// A place in a text.
+// Makes a place in a text.
 #[inline(always)]
 fn put<'a>(rest: &'a str, place: SourcePosition) -> TextStream<'a>
-    requires { Fits place (length rest.now) }
+    requires { CountsFit place (length rest.now) }
     ensures rest { result.rest.now ≡ rest.now }
     ensures place { result.place ≡ place }
 {
     TextStream { rest, place }
 }
 
-// The first n bytes, and what is left behind them.
+// Returns the first n bytes, and what is left after them.
 #[inline(always)]
 fn take_range<'a>(
     rest: &'a str,
     place: SourcePosition,
     n: usize,
 ) -> Result<(&'a str, TextStream<'a>), Kind>
-    requires { Fits place (length rest.now) }
+    requires { CountsFit place (length rest.now) }
     ensures { MatchResult result (λ p. (k : ℕ) × Cut rest.now n k p.0.now p.1.rest.now × (p.1.place ≡ after_all next_place place (take k (chars rest.now)))) (λ why. uncut rest.now n why) }
 {
     match cut(rest, n) {
@@ -359,7 +365,7 @@ fn take_range<'a>(
     }
 }
 
-// Whether what is left of a text is another part of it.
+// Returns whether what is left of a text is another part of it.
 #[inline(always)]
 fn is_apart(from: &str, to: &str) -> bool
     ensures { (k : ℕ) → k ≤ length (chars from.now) → chars to.now ≡ drop k (chars from.now) → result ≡ nat_lt 0 k }
@@ -374,7 +380,7 @@ fn bytes_between(from: &str, to: &str) -> usize
     from.len().saturating_sub(to.len())
 }
 
-// Whether a text may be cut at a place.
+// Returns whether a text may be cut at a place.
 #[inline]
 fn may_cut(text: &str, place: usize) -> bool
     ensures { (result ≡ true) ↔ (IsUtf8 text.now × IsCharBoundary text.now place) }
@@ -382,7 +388,7 @@ fn may_cut(text: &str, place: usize) -> bool
     text.is_char_boundary(place)
 }
 
-// The first place of a text.
+// Returns the first place of a text.
 #[inline]
 fn text_start(text: &str) -> usize
     ensures place { IsUtf8 text.now × IsCharBoundary text.now result }
@@ -391,7 +397,7 @@ fn text_start(text: &str) -> usize
     0
 }
 
-// The last place of a text.
+// Returns the last place of a text.
 #[inline]
 fn text_end(text: &str) -> usize
     ensures place { IsUtf8 text.now × IsCharBoundary text.now result }
@@ -400,13 +406,13 @@ fn text_end(text: &str) -> usize
     text.len()
 }
 
-// What stands between two places of a text, at the position of the first.
+// Returns what stands between two places of a text, at the position of the first.
 #[inline]
 fn part_of<'a>(text: &'a str, from: usize, to: usize, place: SourcePosition) -> TextStream<'a>
     requires from { IsCharBoundary text.now from }
     requires to { IsCharBoundary text.now to }
     requires order { from ≤ to }
-    requires place { place ≡ behind (chars text.now) (index_of text.now from) }
+    requires place { place ≡ place_behind (chars text.now) (index_of text.now from) }
     ensures rest { chars result.rest.now ≡ drop (index_of text.now from) (take (index_of text.now to) (chars text.now)) }
     ensures place { result.place ≡ place }
 {
@@ -416,7 +422,7 @@ fn part_of<'a>(text: &'a str, from: usize, to: usize, place: SourcePosition) -> 
     TextStream { rest, place }
 }
 
-// The place of what is unread of a part that ends at a place.
+// Returns the place of what is unread of a part that ends at a place.
 #[inline]
 fn place_within(text: &str, to: usize, rest: &str) -> usize
     requires { IsCharBoundary text.now to }
@@ -425,7 +431,7 @@ fn place_within(text: &str, to: usize, rest: &str) -> usize
     to.saturating_sub(rest.len())
 }
 
-// How many characters of a text stand before a place, where so many stand before an earlier one.
+// Returns how many characters of a text stand before a place, where so many stand before an earlier one.
 #[inline]
 fn count_on(text: &str, to: usize, from: usize, before: usize) -> usize
     requires from { IsCharBoundary text.now from }
@@ -439,7 +445,7 @@ fn count_on(text: &str, to: usize, from: usize, before: usize) -> usize
     before + count_characters(between)
 }
 
-// How many characters a text has.
+// Returns how many characters a text has.
 fn count_characters(text: &str) -> usize
     ensures { result ≡ length (chars text.now) }
 {

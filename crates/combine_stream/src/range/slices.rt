@@ -1,6 +1,6 @@
 //! A slice as a stream of ranges, which are slices of it.
 ghost use Rattle.std.specs.Prelude.{◌≡◌, length};
-ghost use Rattle.combine_stream.specs.Ranges.{LongestItems};
+ghost use Rattle.combine_stream.specs.Range.Ranges.{LongestItems};
 
 use crate::range::{ByteRange, Range, RangeStream};
 use combine_base::maps::Maps;
@@ -31,7 +31,7 @@ impl<'a> ByteRange for &'a [u8] {
 impl<'a, T: Copy> RangeStream for &'a [T] {
     ghost use Rattle.std.specs.Prelude.{◌≡◌, ℕ, ◌<◌};
     ghost use Rattle.std.proofs.Common.{arith};
-    ghost use Rattle.combine_stream.specs.Measures.{slice_measured};
+    ghost use Rattle.combine_stream.specs.Range.Measures.{slice_measured};
 
     ghost size = { λ t. 1 };
 
@@ -70,10 +70,10 @@ impl<'a, T: Copy> RangeStream for &'a [T] {
     }
 }
 
-// So many tokens are looked through between two looks at the length.
+// This many tokens are looked through between two looks at the length.
 const BLOCK: usize = 8;
 
-// How many tokens the longest beginning under a test has.
+// Returns how many tokens the longest beginning under a test has.
 #[inline(always)]
 pub(crate) fn count_while<T: Copy, F: Maps<T, bool>>(tokens: &[T], f: &F) -> usize
     requires { (t : T) → F.callable f.now t }
@@ -96,7 +96,7 @@ pub(crate) fn count_while<T: Copy, F: Maps<T, bool>>(tokens: &[T], f: &F) -> usi
     }
 }
 
-// The same, token by token.
+// Returns the same as `count_while`, token by token.
 #[inline(always)]
 fn count_each<T: Copy, F: Maps<T, bool>>(tokens: &[T], f: &F) -> usize
     requires { (t : T) → F.callable f.now t }

@@ -3,9 +3,9 @@ ghost use Rattle.std.specs.Prelude.{◌≡◌, ℕ, MatchResult, length, take};
 ghost use Rattle.std.specs.Str.{chars};
 ghost use Rattle.std.specs.Char.{len_utf8};
 ghost use Rattle.combine_base.specs.Stream.View.{Ahead};
-ghost use Rattle.combine_stream.specs.Ranges.{LongestItems, size_of};
+ghost use Rattle.combine_stream.specs.Range.Ranges.{LongestItems, size_of};
 ghost use Rattle.combine_base.specs.Stream.Texts.{text_view, less_char};
-ghost use Rattle.combine_stream.specs.TextRanges.{Cut, uncut, text_of};
+ghost use Rattle.combine_stream.specs.Range.TextRanges.{Cut, uncut, text_of};
 
 use crate::range::{ByteRange, Range, RangeStream};
 use combine_base::maps::Maps;
@@ -34,7 +34,7 @@ impl<'a> ByteRange for &'a str {
 }
 
 impl<'a> RangeStream for &'a str {
-    ghost use Rattle.combine_stream.specs.TextRanges.{text_of, char_filled, text_measured};
+    ghost use Rattle.combine_stream.specs.Range.TextRanges.{text_of, char_filled, text_measured};
 
     ghost size = { len_utf8 };
 
@@ -70,7 +70,7 @@ impl<'a> RangeStream for &'a str {
 
 // The steps below are functions of their own since a `&str` parameter is known to be text.
 
-// The first n bytes, and the rest.
+// Returns the first n bytes, and the rest.
 #[inline(always)]
 pub(crate) fn cut(text: &str, n: usize) -> Result<(&str, &str), Kind>
     ensures { MatchResult result (λ p. (k : ℕ) × Cut text.now n k p.0.now p.1.now) (λ why. uncut text.now n why) }
@@ -98,7 +98,7 @@ fn all(text: &str) -> &str
     text
 }
 
-// How many bytes the longest beginning under a test has.
+// Returns how many bytes the longest beginning under a test has.
 #[inline(always)]
 pub(crate) fn bytes_while<F: Maps<char, bool>>(text: &str, f: &F) -> usize
     requires { (t : ℕ) → F.callable f.now t }

@@ -1,5 +1,5 @@
 use Rattle.std.proofs.Common.{sym, ◌∙◌}
-use Rattle.combine_stream_cuts.proofs.Fitting.{fit_none, fit_more, fit_falls, fit_misplaced, fit_all}
+use Rattle.combine_stream_cuts.proofs.CutFits.{fit_none, fit_more, fit_falls, fit_misplaced, fit_all}
 use Rattle.combine_stream_cuts.proofs.cuts_fit.Goals as goal
 
 pub loop-cut-init : goal.loop-cut-init

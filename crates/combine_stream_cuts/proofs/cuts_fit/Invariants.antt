@@ -1,4 +1,4 @@
-use Rattle.combine_stream_cuts.proofs.Fitting.{FitSoFar}
+use Rattle.combine_stream_cuts.proofs.CutFits.{FitSoFar}
 use Rattle.combine_stream_cuts.proofs.cuts_fit.Given as goal
 
 abbrev pub invariant-loop-cut : goal.invariant-loop-cut

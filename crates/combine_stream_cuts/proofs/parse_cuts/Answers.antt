@@ -1,8 +1,8 @@
 use Rattle.std.proofs.Common.{◌≡◌, ◌+◌, ◌∙◌, ap, length, arith, refl}
 use Rattle.std.specs.Prelude.{Ok}
 use Rattle.std.proofs.lemmas.Result.{err_from_is_err_and}
-use Rattle.combine_base.proofs.Same.{same_none, same_more}
-use Rattle.combine_stream_cuts.proofs.CutRuns.{at_first, stops, stops_by, goes_on, ends, ends_by, fits, fits_last, fits_in_tokens, window_same}
+use Rattle.combine_base.proofs.Parsers.SameMeanings.{same_none, same_more}
+use Rattle.combine_stream_cuts.proofs.CutRuns.{before_any_cut, decided_at_cut, stops_by, asked_at_cut, decided_after_cuts, ends_by, cut_within, fits_last, fits_in_tokens, window_same}
 use Rattle.combine_stream_cuts.proofs.parse_cuts.Goals as goal
 
 pub loop-cut-init : goal.loop-cut-init
@@ -16,7 +16,7 @@ loop-cut-init g c =
       place = c.start-place.ensures.place;
       index = c.start-place.ensures.none;
       position = ap (λ v. v.position) c.new-stream.ensures ∙ g.met.S.DefaultPositioned.counts c.args.whole 0 (omega arith);
-      so_far = at_first _ _ _ _ _ _ _ _ _ _ law c.default-state.ensures;
+      so_far = before_any_cut _ _ _ _ _ _ _ _ _ _ law c.default-state.ensures;
     }
 
 pub parse_window-next-requires-clause-to : goal.parse_window-next-requires-clause-to
@@ -29,7 +29,7 @@ pub parse_window-next-requires-clause-order : goal.parse_window-next-requires-cl
 parse_window-next-requires-clause-order g c =
     let law = (g.met.P.Parser.laws _ c.requires.lawful).whole in
     let fit = fits_in_tokens _ _ _ _ (g.met.S.Windowed.rises c.args.whole) c.requires.fit in
-    let within = fits _ _ _ _ _ _ _ law fit _ _ _ c.loop-cut.invariant.so_far c.loop-cut-test.true in
+    let within = cut_within _ _ _ _ _ _ _ law fit _ _ _ c.loop-cut.invariant.so_far c.loop-cut-test.true in
     let to = c.requires.fit.placed c.loop-cut.cut-index c.loop-cut-test.true in
     g.met.S.Windowed.ordered c.args.whole _ _ c.loop-cut.invariant.place to (let i = c.loop-cut.invariant.index in let l = within.0 in omega arith)
 
@@ -50,7 +50,7 @@ returns-in_default g c =
       lawful = c.parse_window-next.ensures.lawful;
       same = same_more _ _ _ c.loop-cut.invariant.same c.parse_window-next.ensures.same;
       single = λ d. (g.met.P.Parser.single _ c.requires.lawful d).whole;
-      runs = stops _ _ _ _ _ _ _ law fit _ _ _ c.loop-cut.invariant.so_far c.loop-cut-test.true _ _ _ _ _ c.loop-cut.asked c.loop-cut.invariant.asked _ _ c.in_default.not-More c.in_ok-answer.was p;
+      runs = decided_at_cut _ _ _ _ _ _ _ law fit _ _ _ c.loop-cut.invariant.so_far c.loop-cut-test.true _ _ _ _ _ c.loop-cut.asked c.loop-cut.invariant.asked _ _ c.in_default.not-More c.in_ok-answer.was p;
     }
 
 pub loop-cut-preserved : goal.loop-cut-preserved
@@ -66,7 +66,7 @@ loop-cut-preserved g c =
       place = c.parse_window-next.ensures.place;
       index = c.parse_window-next.ensures.index;
       position = c.parse_window-next.ensures.position;
-      so_far = goes_on _ _ _ _ _ _ _ law fit _ _ _ c.loop-cut.invariant.so_far c.loop-cut-test.true _ _ _ _ _ _ (c.in_ok-answer.was ∙ ap Ok c.in-More.is) p;
+      so_far = asked_at_cut _ _ _ _ _ _ _ law fit _ _ _ c.loop-cut.invariant.so_far c.loop-cut-test.true _ _ _ _ _ _ (c.in_ok-answer.was ∙ ap Ok c.in-More.is) p;
     }
 
 pub parse_window-run-requires-clause-to : goal.parse_window-run-requires-clause-to
@@ -96,7 +96,7 @@ returns-clause-runs g c =
     let fit = fits_in_tokens _ _ _ _ (g.met.S.Windowed.rises c.args.whole) c.requires.fit in
     let p = window_same _ _ _ _ _ _ _ _ _ _ _ _ _ _ _ _ c.loop-cut.invariant.same c.parse_window-run.ensures.parses in
     let all : c.loop-cut.cut-index ≡ length c.args.cuts.now = omega arith in
-    ends _ _ _ _ _ _ _ law fit _ _ c.loop-cut.cut-index (omega arith) c.loop-cut.invariant.so_far _ _ _ _ _ all c.loop-cut.asked c.loop-cut.invariant.asked _ _ c.in_ok-parsed.was (rw c.end-end.ensures.all at p)
+    decided_after_cuts _ _ _ _ _ _ _ law fit _ _ c.loop-cut.cut-index (omega arith) c.loop-cut.invariant.so_far _ _ _ _ _ all c.loop-cut.asked c.loop-cut.invariant.asked _ _ c.in_ok-parsed.was (rw c.end-end.ensures.all at p)
 
 pub returns-in_err-answer-clause-single : goal.returns-in_err-answer-clause-single
 returns-in_err-answer-clause-single g c = λ d. (g.met.P.Parser.single _ c.requires.lawful d).whole

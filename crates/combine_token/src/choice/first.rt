@@ -1,7 +1,7 @@
 //! The first part of a choice, and what follows it. Our own: what `or` and the choices over tuples are made of.
 ghost use Rattle.std.specs.Prelude.{◌≡◌, false};
 ghost use Rattle.combine_base.specs.Stream.Calls.{Passes};
-ghost use Rattle.combine_token.specs.Turned.{GoesOn, RunsOn, Settled, Settles};
+ghost use Rattle.combine_token.specs.Choice.FirstAlternative.{JudgesFirst, RunsAlternative, SettlesLater, MayFollowRefusal};
 
 use super::{OrState, after_refusal};
 use combine_base::error::{ParseResult, Tracked};
@@ -11,11 +11,11 @@ use std::mem::replace;
 
 /// What comes of the first part of a choice.
 #[derive(Drop)]
-pub enum Turn<V, S, E> {
-    /// The choice ends with this answer.
-    Ends(ParseResult<V, E>),
+pub enum FirstResult<V, S, E> {
+    /// The choice ends with this result.
+    Done(ParseResult<V, E>),
     /// The later part goes on from that state, or begins after that refusal of the first.
-    Goes(S, Option<Tracked<E>>),
+    RunsLater(S, Option<Tracked<E>>),
 }
 
 /// Hands out the state of the part that goes on, or begins: the first one's, or that of the later one.
@@ -24,7 +24,7 @@ pub fn begin<S: Default + Drop, T: Drop, M: ParseMode>(
     state: &mut OrState<S, T>,
     mode: M,
 ) -> Result<S, T>
-    ensures begun { RunsOn S.is_default (M.first mode) state.old result }
+    ensures begun { RunsAlternative S.is_default (M.first mode) state.old result }
     ensures left { state.new ≡ OrState.Peek }
 {
     let kept = replace(state, OrState::Peek);
@@ -38,47 +38,51 @@ pub fn begin<S: Default + Drop, T: Drop, M: ParseMode>(
     }
 }
 
-/// After the first part's answer: a peeked refusal is put back, and the later part goes on; another answer ends the choice, and on need of more the first part's state is kept.
+/// Goes on after the first part's result.
+///
+/// A peeked refusal is put back, and the later part goes on. Any other result ends the choice, and on need of more the first part's state is kept.
 #[inline(always)]
-pub fn go_on<O, Input: Stream, S: Drop, T: Default + Drop>(
+pub fn settle_first<O, Input: Stream, S: Drop, T: Default + Drop>(
     start: Input::Checkpoint,
     position: Input::Position,
     input: &mut Input,
     kept: S,
     answer: ParseResult<O, Input::Error>,
     state: &mut OrState<S, T>,
-) -> Turn<O, T, Input::Error>
+) -> FirstResult<O, T, Input::Error>
     requires fresh { state.old ≡ OrState.Peek }
     ensures passes { Passes (Input.marks input.old) (Input.marks input.new) (Input.failures input.old) (Input.failures input.new) }
-    ensures goes { GoesOn Input.step Input.Error.seen.kind Input.steady T.is_default (Input.stands input.old start) kept state.new (Input.view input.old) (Input.view input.new) (Input.failures input.old) (Input.failures input.new) answer result }
+    ensures goes { JudgesFirst Input.step Input.Error.observers.kind Input.counts_failures T.is_default (Input.stands input.old start) kept state.new (Input.view input.old) (Input.view input.new) (Input.failures input.old) (Input.failures input.new) answer result }
 {
     match answer {
-        ParseResult::CommitOk(value) => Turn::Ends(ParseResult::CommitOk(value)),
-        ParseResult::PeekOk(value) => Turn::Ends(ParseResult::PeekOk(value)),
+        ParseResult::CommitOk(value) => FirstResult::Done(ParseResult::CommitOk(value)),
+        ParseResult::PeekOk(value) => FirstResult::Done(ParseResult::PeekOk(value)),
         ParseResult::CommitErr(error) => {
             if needs_more(input, &error) {
                 *state = OrState::A(kept);
             }
-            Turn::Ends(ParseResult::CommitErr(error))
+            FirstResult::Done(ParseResult::CommitErr(error))
         }
         ParseResult::PeekErr(refused) => match input.reset(start) {
-            Ok(()) => Turn::Goes(T::default(), Some(refused)),
-            Err(kind) => Turn::Ends(ParseResult::CommitErr(input.new_error(kind, position))),
+            Ok(()) => FirstResult::RunsLater(T::default(), Some(refused)),
+            Err(kind) => FirstResult::Done(ParseResult::CommitErr(input.new_error(kind, position))),
         },
     }
 }
 
-/// The answer of the later part, after that refusal of the first. On need of more its state is kept.
+/// Returns the choice's result of that of the later part, after that refusal of the first.
+///
+/// On need of more the later part's state is kept.
 #[inline(always)]
-pub fn settle<O, Input: Stream, S: Drop, T: Drop>(
+pub fn settle_second<O, Input: Stream, S: Drop, T: Drop>(
     input: &Input,
     refused: Option<Tracked<Input::Error>>,
     kept: T,
     answer: ParseResult<O, Input::Error>,
     state: &mut OrState<S, T>,
 ) -> ParseResult<O, Input::Error>
-    requires { Settles Input.Error.seen.kind refused answer }
-    ensures { Settled Input.Error.seen Input.Position.cmp (Input.view input.now).is_open refused kept state.old state.new answer result }
+    requires { MayFollowRefusal Input.Error.observers.kind refused answer }
+    ensures { SettlesLater Input.Error.observers Input.Position.cmp (Input.view input.now).is_open refused kept state.old state.new answer result }
 {
     if asks_for_more(input, &answer) {
         *state = OrState::B(kept);

@@ -1,15 +1,15 @@
-//! The parsers that the functions of `choice` answer.
+//! The parsers that the functions of `choice` return.
 ghost use Rattle.std.specs.Prelude.{◌≡◌};
-ghost use Rattle.combine_token.specs.Optional.{optional, optional_is_meaning, optional_means_one};
-ghost use Rattle.combine_token.specs.Or.{either_of, or_is_meaning, or_means_one, or_valid};
+ghost use Rattle.combine_token.specs.Choice.Optional.{optional, optional_is_meaning, optional_means_one};
+ghost use Rattle.combine_token.specs.Choice.Or.{either_of, or_is_meaning, or_means_one, or_valid};
 
 use super::OrState;
-use super::lent::{Alternatives, First};
+use super::alternatives::{Alternatives, FirstHalf};
 use combine_base::error::{ErrorOffset, ParseResult, Tracked};
 use combine_base::parser::{Outputs, ParseMode, Parser};
 use combine_base::stream::Stream;
 
-/// The choice of two parsers, as `or` makes it.
+/// The parser of [`or`](crate::choice::or).
 #[derive(Clone, Copy, Drop)]
 pub struct Or<P, Q>(pub(super) P, pub(super) Q);
 
@@ -27,15 +27,15 @@ impl<Input: Stream, P: Parser<Input>, Q: Parser<Input, Output = P::Output>> Pars
 
     ghost valid = { or_valid P.valid Q.valid };
 
-    ghost meaning = { λ p. either_of Input.Error.seen Input.Position.cmp (P.meaning p.0) (Q.meaning p.1) };
+    ghost meaning = { λ p. either_of Input.Error.observers Input.Position.cmp (P.meaning p.0) (Q.meaning p.1) };
 
     ghost parts = { λ _. 1 };
 
     ghost default_valid = { λ s d. rw d tt };
 
-    ghost laws = { λ p l. or_is_meaning Input.Error.seen Input.Position.cmp P.PartialState.is_default P.valid Q.PartialState.is_default Q.valid _ _ (P.laws p.0 l.0) (Q.laws p.1 l.1) };
+    ghost laws = { λ p l. or_is_meaning Input.Error.observers Input.Position.cmp P.PartialState.is_default P.valid Q.PartialState.is_default Q.valid _ _ (P.laws p.0 l.0) (Q.laws p.1 l.1) };
 
-    ghost single = { λ p l d. or_means_one Input.Error.seen Input.Position.cmp P.PartialState.is_default P.valid Q.PartialState.is_default Q.valid _ _ (P.single p.0 l.0 d.0) (Q.single p.1 l.1 d.1) };
+    ghost single = { λ p l d. or_means_one Input.Error.observers Input.Position.cmp P.PartialState.is_default P.valid Q.PartialState.is_default Q.valid _ _ (P.single p.0 l.0 d.0) (Q.single p.1 l.1 d.1) };
 
     #[inline(always)]
     fn parse_mode<M: ParseMode>(
@@ -45,22 +45,22 @@ impl<Input: Stream, P: Parser<Input>, Q: Parser<Input, Output = P::Output>> Pars
         state: &mut Self::PartialState,
     ) -> ParseResult<P::Output, Input::Error> {
         let mut halves = (&mut self.0, &mut self.1);
-        halves.choose::<_, First>(mode, input, state)
+        halves.choose::<_, FirstHalf>(mode, input, state)
     }
 
-    /// What the first adds, and then what the second does.
+    /// Adds what the first adds, and then what the second does.
     fn add_error(&mut self, error: &mut Tracked<Input::Error>) {
         self.0.add_error(error);
         self.1.add_error(error);
     }
 
-    /// A choice counts as one parser.
+    /// Counts as one parser.
     fn parser_count(&self) -> ErrorOffset {
         ErrorOffset(1)
     }
 }
 
-/// A parser or no value, as `optional` makes it.
+/// The parser of [`optional`](crate::choice::optional).
 #[derive(Clone, Copy, Drop)]
 pub struct Optional<P>(pub P);
 
@@ -107,12 +107,12 @@ impl<Input: Stream, P: Parser<Input>> Parser<Input> for Optional<P> {
         }
     }
 
-    /// What the parser adds.
+    /// Adds what the parser adds.
     fn add_error(&mut self, error: &mut Tracked<Input::Error>) {
         self.0.add_error(error)
     }
 
-    /// As for the parser.
+    /// Counts as the parser does.
     fn parser_count(&self) -> ErrorOffset {
         self.0.parser_count()
     }

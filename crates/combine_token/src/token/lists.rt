@@ -1,30 +1,38 @@
 //! Lists of tokens, matched one by one.
 ghost use Rattle.std.specs.Prelude.{◌≡◌};
 ghost use Rattle.combine_base.specs.Stream.Calls.{Passes};
-ghost use Rattle.combine_token.specs.Iterated.{IsIterated};
-ghost use Rattle.combine_token.specs.ListCalls.{MatchesCall, MismatchesCall};
-ghost use Rattle.combine_token.specs.TokenParsers.{tokens_cmp_of, tokens_of};
+ghost use Rattle.combine_token.specs.Token.Lists.IteratedLists.{IsIterated};
+ghost use Rattle.combine_token.specs.Token.Lists.ListCalls.{MatchesCall, MismatchesCall};
+ghost use Rattle.combine_token.specs.Token.TokenParsers.{tokens_cmp_of, tokens_of};
 
 mod answers;
 pub mod types;
 
-use answers::{accepted, mismatch, no_more, pass_over, put_back};
+use answers::{accepted, mismatch, no_more, pass_list_items, put_back};
 use combine_base::error::{Info, ParseResult};
 use combine_base::parser::ParseMode;
 use combine_base::stream::{Kind, Stream, StreamOnce, ends_open};
 use std::marker::PhantomData;
 use types::{Tokens, TokensCmp, TokensState};
 
-/// Takes the tokens of a list, one after another; its value is a clone of the list.
+/// Takes the tokens of a list, one after another.
 ///
-/// `cmp` is given each item of the list with the token at its place, and says whether the token fits.
-/// `expected` is what errors say was expected.
-/// A token that doesn't fit, or the end of ended input, refuses: peeked where no token was matched before it, else committed. The end of an open piece asks for more. An empty list is accepted peeked.
-/// A clone of the list that finds no memory is the fault `Memory`.
+/// Its value is a clone of the list.
 ///
-/// An iterator of each clone of the list gives equally many items, fewer than 2^64.
+/// `cmp` is given each item of the list with the token at its place, and says whether the token fits. `expected` is what errors say was expected. An iterator of each clone of the list has to give equally many items, fewer than 2^64. An empty list is accepted peeked.
 ///
-/// Unlike the crate's, `cmp` is an `Fn`, and `expected` is owned and turned into an `Info` here.
+/// # Errors
+///
+/// - A token that doesn't fit, or the end of ended input, refuses: peeked if no token was matched before it, else committed.
+/// - A clone of the list that finds no memory is the fault `Memory`.
+///
+/// # Partial input
+///
+/// The end of an open piece is need of more. Nothing is left unread: the state keeps how many tokens were matched.
+///
+/// # Differences from combine
+///
+/// `cmp` is an `Fn`, and `expected` is owned and turned into an `Info` here.
 pub fn tokens<C, E, T, Input: StreamOnce>(
     cmp: C,
     expected: E,
@@ -42,9 +50,13 @@ where
     }
 }
 
-/// Takes the tokens of a list as `tokens` does, but the error of a committed mismatch says only which token stands there, and nothing is said to be expected.
+/// Takes the tokens of a list as `tokens` does, but says nothing of what was expected.
 ///
-/// Unlike the crate's, `cmp` is an `Fn`.
+/// The error of a committed mismatch says only which token stands there.
+///
+/// # Differences from combine
+///
+/// `cmp` is an `Fn`.
 pub fn tokens_cmp<C, T, Input>(tokens: T, cmp: C) -> TokensCmp<C, T, Input>
     ensures { result ≡ tokens_cmp_of tokens cmp }
 {
@@ -55,11 +67,13 @@ pub fn tokens_cmp<C, T, Input>(tokens: T, cmp: C) -> TokensCmp<C, T, Input>
     }
 }
 
-/// Makes one call of a parser of a list of tokens, whose value is a clone of `value` (our own: the crate has no such call).
+/// Makes one call of a parser of a list of tokens, whose value is a clone of `value`. Our own.
 ///
-/// `expected` is what the error of a committed mismatch says was expected, if it says so. A clone of the list or of the value that finds no memory is the fault `Memory`.
+/// `expected` is what the error of a committed mismatch says was expected, if it says so. `cmp` may always be called. An iterator of each clone of the list has to give equally many items, fewer than 2^64.
 ///
-/// `cmp` may always be called. An iterator of each clone of the list gives equally many items, fewer than 2^64.
+/// # Errors
+///
+/// A mismatch is refused as by [`tokens`]. A clone of the list or of the value that finds no memory is the fault `Memory`.
 #[inline(always)]
 pub fn match_list<'a, C, T, V, Input: Stream, M: ParseMode>(
     cmp: &C,
@@ -78,8 +92,8 @@ where
     requires callable { C.IsAlwaysCallable cmp.now }
     requires list { IsIterated T.is_clone T.into_iter_gives T.IntoIter.next_gives list.now T.IntoIter.can_next T.IntoIter.remaining }
     ensures passes { Passes (Input.marks input.old) (Input.marks input.new) (Input.failures input.old) (Input.failures input.new) }
-    ensures answers { MatchesCall Input.StreamOnce Input.Error.seen T.Clone T.IntoIterator T.IntoIter.Iterator list.now C.Fn cmp.now V.Clone value.now expected.entry (M.first mode) state.old state.new input.old input.new result }
-    ensures refuses { MismatchesCall Input.StreamOnce Input.Error.seen T.Clone T.IntoIterator T.IntoIter.Iterator list.now C.Fn cmp.now expected.entry (M.first mode) state.old input.old input.new result }
+    ensures answers { MatchesCall Input.StreamOnce Input.Error.observers T.Clone T.IntoIterator T.IntoIter.Iterator list.now C.Fn cmp.now V.Clone value.now expected.entry (M.first mode) state.old state.new input.old input.new result }
+    ensures refuses { MismatchesCall Input.StreamOnce Input.Error.observers T.Clone T.IntoIterator T.IntoIter.Iterator list.now C.Fn cmp.now expected.entry (M.first mode) state.old input.old input.new result }
 {
     let mut matched = state.begin(!mode.is_first());
     let start = input.checkpoint();
@@ -88,7 +102,7 @@ where
         Ok(list) => list.into_iter(),
         Err(_refused) => return ParseResult::CommitErr(input.new_error(Kind::Memory, position)),
     };
-    match pass_over(&mut items, matched) {
+    match pass_list_items(&mut items, matched) {
         Ok(()) => {}
         Err(count) => return accepted(value, count > 0, position, input),
     }

@@ -2,19 +2,27 @@
 ghost use Rattle.combine_base.specs.Parser.Answer.{world};
 ghost use Rattle.combine_base.specs.Parser.Reasons.{Reasoned};
 ghost use Rattle.combine_base.specs.Stream.Calls.{Passes};
-ghost use Rattle.combine_token.specs.OneToken.{holds, of_token, PutBack, ReadsToken, ReadsTokenIf};
-ghost use Rattle.combine_token.specs.Reasons.{RefusesToken};
+ghost use Rattle.combine_token.specs.Token.OneToken.{holds, of_token, PeekedLeaves, ReadsToken, ReadsTokenIf};
+ghost use Rattle.combine_token.specs.Token.TokenReasons.{RefusesToken};
 
 pub use crate::token::lists::match_list;
 use combine_base::error::{ParseResult, Tracked};
 use combine_base::refusal::no_token;
 use combine_base::stream::{Kind, Stream};
 
-/// Reads what comes first, a token (`Some`) or the end of an ended list (`None`), under a test (our own: the crate has no such call).
+/// Reads what comes first, a token (`Some`) or the end of ended input (`None`), under a test. Our own.
 ///
-/// A token that the test answers a value for is taken, and accepted committed with that value; such an end is accepted peeked. What the test answers `None` for is refused peeked, a token being put back. The end of an open list is need of more, and nothing is taken then.
+/// A token that the test gives a value for is taken, and accepted committed with that value. Such an end is accepted peeked.
 ///
-/// A failed read or reset is the fault `Read` or `Reset`. Where an error keeps items, one that finds no memory for "end of input" is the fault `Memory`.
+/// # Errors
+///
+/// - What the test gives `None` for is refused peeked, a token being put back.
+/// - A failed read or reset is the fault `Read` or `Reset`.
+/// - If an error keeps items, one that finds no memory for "end of input" is the fault `Memory`.
+///
+/// # Partial input
+///
+/// The end of open input is need of more, and nothing is taken then.
 #[inline(always)]
 pub fn one_token<B, Input: Stream, F: FnOnce(Option<Input::Token>) -> Option<B>>(
     test: F,
@@ -22,9 +30,9 @@ pub fn one_token<B, Input: Stream, F: FnOnce(Option<Input::Token>) -> Option<B>>
 ) -> ParseResult<B, Input::Error>
     requires { F.IsAlwaysCallable test }
     ensures passes { Passes (Input.marks input.old) (Input.marks input.new) (Input.failures input.old) (Input.failures input.new) }
-    ensures reads { ReadsToken (world Input.step Input.Error.seen Input.steady ⟦<() as Default>⟧.is_default) (F.post test) (Input.view input.old) (Input.view input.new) (Input.failures input.old) (Input.failures input.new) result }
-    ensures back { PutBack (Input.view input.old) (Input.view input.new) result }
-    ensures refuses { Reasoned Input.Error.seen.kind (Input.view input.new).is_open (RefusesToken Input.Error.seen (Input.view input.old) (Input.view input.new)) result }
+    ensures reads { ReadsToken (world Input.step Input.Error.observers Input.counts_failures ⟦<() as Default>⟧.is_default) (F.post test) (Input.view input.old) (Input.view input.new) (Input.failures input.old) (Input.failures input.new) result }
+    ensures back { PeekedLeaves (Input.view input.old) (Input.view input.new) result }
+    ensures refuses { Reasoned Input.Error.observers.kind (Input.view input.new).is_open (RefusesToken Input.Error.observers (Input.view input.old) (Input.view input.new)) result }
 {
     let start = input.checkpoint();
     let position = input.position();
@@ -52,7 +60,9 @@ pub fn one_token<B, Input: Stream, F: FnOnce(Option<Input::Token>) -> Option<B>>
     }
 }
 
-/// Reads a token that the function answers a value for, as `one_token` does (our own). Another token, and the end of an ended list, is refused peeked.
+/// Reads a token that the function gives a value for, as `one_token` does. Our own.
+///
+/// Another token, and the end of ended input, is refused peeked.
 #[inline(always)]
 pub fn token_map<B, Input: Stream, F: FnOnce(Input::Token) -> Option<B>>(
     function: F,
@@ -60,9 +70,9 @@ pub fn token_map<B, Input: Stream, F: FnOnce(Input::Token) -> Option<B>>(
 ) -> ParseResult<B, Input::Error>
     requires { F.IsAlwaysCallable function }
     ensures passes { Passes (Input.marks input.old) (Input.marks input.new) (Input.failures input.old) (Input.failures input.new) }
-    ensures reads { ReadsToken (world Input.step Input.Error.seen Input.steady ⟦<() as Default>⟧.is_default) (of_token (F.post function)) (Input.view input.old) (Input.view input.new) (Input.failures input.old) (Input.failures input.new) result }
-    ensures back { PutBack (Input.view input.old) (Input.view input.new) result }
-    ensures refuses { Reasoned Input.Error.seen.kind (Input.view input.new).is_open (RefusesToken Input.Error.seen (Input.view input.old) (Input.view input.new)) result }
+    ensures reads { ReadsToken (world Input.step Input.Error.observers Input.counts_failures ⟦<() as Default>⟧.is_default) (of_token (F.post function)) (Input.view input.old) (Input.view input.new) (Input.failures input.old) (Input.failures input.new) result }
+    ensures back { PeekedLeaves (Input.view input.old) (Input.view input.new) result }
+    ensures refuses { Reasoned Input.Error.observers.kind (Input.view input.new).is_open (RefusesToken Input.Error.observers (Input.view input.old) (Input.view input.new)) result }
 {
     one_token(
         |first: Option<Input::Token>| -> Option<B>
@@ -78,7 +88,7 @@ pub fn token_map<B, Input: Stream, F: FnOnce(Input::Token) -> Option<B>>(
     )
 }
 
-/// Reads a token that the predicate holds of, as `token_map` does (our own).
+/// Reads a token that the predicate holds of, as `token_map` does. Our own.
 #[inline(always)]
 pub fn token_if<Input: Stream, F: FnOnce(Input::Token) -> bool>(
     predicate: F,
@@ -86,9 +96,9 @@ pub fn token_if<Input: Stream, F: FnOnce(Input::Token) -> bool>(
 ) -> ParseResult<Input::Token, Input::Error>
     requires { F.IsAlwaysCallable predicate }
     ensures passes { Passes (Input.marks input.old) (Input.marks input.new) (Input.failures input.old) (Input.failures input.new) }
-    ensures reads { ReadsTokenIf (world Input.step Input.Error.seen Input.steady ⟦<() as Default>⟧.is_default) (F.post predicate) (Input.view input.old) (Input.view input.new) (Input.failures input.old) (Input.failures input.new) result }
-    ensures back { PutBack (Input.view input.old) (Input.view input.new) result }
-    ensures refuses { Reasoned Input.Error.seen.kind (Input.view input.new).is_open (RefusesToken Input.Error.seen (Input.view input.old) (Input.view input.new)) result }
+    ensures reads { ReadsTokenIf (world Input.step Input.Error.observers Input.counts_failures ⟦<() as Default>⟧.is_default) (F.post predicate) (Input.view input.old) (Input.view input.new) (Input.failures input.old) (Input.failures input.new) result }
+    ensures back { PeekedLeaves (Input.view input.old) (Input.view input.new) result }
+    ensures refuses { Reasoned Input.Error.observers.kind (Input.view input.new).is_open (RefusesToken Input.Error.observers (Input.view input.old) (Input.view input.new)) result }
 {
     token_map(
         |token: Input::Token| -> Option<Input::Token>

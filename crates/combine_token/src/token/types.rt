@@ -1,9 +1,9 @@
-//! The parsers that the functions of `token` answer.
+//! The parsers that the functions of `token` return.
 ghost use Rattle.std.specs.Prelude.{◌≡◌, codes, true};
-ghost use Rattle.combine_base.specs.Error.Errors.{Nothing, Only};
+ghost use Rattle.combine_base.specs.Error.Errors.{AddsNothing, Only};
 ghost use Rattle.combine_base.specs.Error.Items.{Expected, Fixed, OfToken};
-ghost use Rattle.combine_token.specs.OneToken.{IsPredicate, IsTest, ends_there, ends_there_is_test, of_function, of_function_is_predicate, of_token, of_token_is_test, satisfied, satisfied_is_test, takes_one, takes_one_is_meaning, takes_one_means_one};
-ghost use Rattle.combine_token.specs.Given.{gives, gives_is_meaning, gives_means_one};
+ghost use Rattle.combine_token.specs.Token.OneToken.{IsPredicate, IsTest, ends_there, ends_there_is_test, of_function, of_function_is_predicate, of_token, of_token_is_test, satisfied, satisfied_is_test, takes_one, takes_one_is_meaning, takes_one_means_one};
+ghost use Rattle.combine_token.specs.Token.PureValues.{given_meaning, gives_is_meaning, gives_means_one};
 
 pub use crate::token::among::types::{NoneOf, OneOf};
 pub use crate::token::lists::types::{Tokens, TokensCmp};
@@ -38,7 +38,9 @@ pub struct SatisfyMap<Input, F, B> {
     pub(super) gives: PhantomData<B>,
 }
 
-/// The parser of [`token`](crate::token::token), with the stream's tokens as `T`. The crate's has no such parameter; a type that holds an associated type could be neither `Copy` nor used over a borrowed slice.
+/// The parser of [`token`](crate::token::token), with the stream's tokens as `T`.
+///
+/// The crate's has no such parameter. A type that holds an associated type could be neither `Copy` nor used over a borrowed slice.
 #[derive(Drop)]
 #[derive_where(Clone, Copy; T)]
 pub struct Token<Input, T> {
@@ -90,7 +92,7 @@ impl<Input: Stream> Parser<Input> for Any<Input> {
 
     ghost valid = { λ s. Unit {0} };
 
-    ghost meaning = { λ p. takes_one Input.Error.seen (satisfied (of_function (λ t. true))) (Unit {0}) Nothing };
+    ghost meaning = { λ p. takes_one Input.Error.observers (satisfied (of_function (λ t. true))) (Unit {0}) AddsNothing };
 
     ghost parts = { λ p. 1 };
 
@@ -119,9 +121,9 @@ impl<Input: Stream> Parser<Input> for Any<Input> {
 
     ghost default_valid = { λ s d. tt };
 
-    ghost laws = { λ p l. takes_one_is_meaning Input.Error.seen (satisfied (of_function (λ t. true))) _ _ _ _ };
+    ghost laws = { λ p l. takes_one_is_meaning Input.Error.observers (satisfied (of_function (λ t. true))) _ _ _ _ };
 
-    ghost single = { λ p l d. takes_one_means_one Input.Error.seen (satisfied (of_function (λ t. true))) _ _ _ (satisfied_is_test _ (of_function_is_predicate (λ t. true))) };
+    ghost single = { λ p l d. takes_one_means_one Input.Error.observers (satisfied (of_function (λ t. true))) _ _ _ (satisfied_is_test _ (of_function_is_predicate (λ t. true))) };
 }
 
 impl<Input: StreamOnce, F> Outputs<Input> for Satisfy<Input, F> {
@@ -137,7 +139,7 @@ impl<Input: Stream, F: Maps<Input::Token, bool>> Parser<Input> for Satisfy<Input
 
     ghost valid = { λ s. Unit {0} };
 
-    ghost meaning = { λ p. takes_one Input.Error.seen (satisfied (F.answers p.predicate)) (Unit {0}) Nothing };
+    ghost meaning = { λ p. takes_one Input.Error.observers (satisfied (F.answers p.predicate)) (Unit {0}) AddsNothing };
 
     ghost parts = { λ p. 1 };
 
@@ -168,9 +170,9 @@ impl<Input: Stream, F: Maps<Input::Token, bool>> Parser<Input> for Satisfy<Input
 
     ghost default_valid = { λ s d. tt };
 
-    ghost laws = { λ p l. takes_one_is_meaning Input.Error.seen (satisfied (F.answers p.predicate)) _ _ _ _ };
+    ghost laws = { λ p l. takes_one_is_meaning Input.Error.observers (satisfied (F.answers p.predicate)) _ _ _ _ };
 
-    ghost single = { λ p l d. takes_one_means_one Input.Error.seen (satisfied (F.answers p.predicate)) _ _ _ (satisfied_is_test _ d) };
+    ghost single = { λ p l d. takes_one_means_one Input.Error.observers (satisfied (F.answers p.predicate)) _ _ _ (satisfied_is_test _ d) };
 }
 
 impl<Input, B: Drop, F> Outputs<Input> for SatisfyMap<Input, F, B> {
@@ -187,7 +189,7 @@ impl<Input: Stream, B: Drop, F: Maps<Input::Token, Option<B>>> Parser<Input>
 
     ghost valid = { λ s. Unit {0} };
 
-    ghost meaning = { λ p. takes_one Input.Error.seen (of_token (F.answers p.predicate)) (Unit {0}) Nothing };
+    ghost meaning = { λ p. takes_one Input.Error.observers (of_token (F.answers p.predicate)) (Unit {0}) AddsNothing };
 
     ghost parts = { λ p. 1 };
 
@@ -218,9 +220,9 @@ impl<Input: Stream, B: Drop, F: Maps<Input::Token, Option<B>>> Parser<Input>
 
     ghost default_valid = { λ s d. tt };
 
-    ghost laws = { λ p l. takes_one_is_meaning Input.Error.seen (of_token (F.answers p.predicate)) _ _ _ _ };
+    ghost laws = { λ p l. takes_one_is_meaning Input.Error.observers (of_token (F.answers p.predicate)) _ _ _ _ };
 
-    ghost single = { λ p l d. takes_one_means_one Input.Error.seen (of_token (F.answers p.predicate)) _ _ _ (of_token_is_test _ d) };
+    ghost single = { λ p l d. takes_one_means_one Input.Error.observers (of_token (F.answers p.predicate)) _ _ _ (of_token_is_test _ d) };
 }
 
 impl<Input, T: Drop> Outputs<Input> for Token<Input, T> {
@@ -239,7 +241,7 @@ where
 
     ghost valid = { λ s. Unit {0} };
 
-    ghost meaning = { λ p. takes_one Input.Error.seen (satisfied (of_function (λ t. Input.Token.eq t p.token))) (Unit {0}) (Only (Expected (OfToken p.token))) };
+    ghost meaning = { λ p. takes_one Input.Error.observers (satisfied (of_function (λ t. Input.Token.eq t p.token))) (Unit {0}) (Only (Expected (OfToken p.token))) };
 
     ghost parts = { λ p. 1 };
 
@@ -271,9 +273,9 @@ where
 
     ghost default_valid = { λ s d. tt };
 
-    ghost laws = { λ p l. takes_one_is_meaning Input.Error.seen (satisfied (of_function (λ t. Input.Token.eq t p.token))) _ _ _ _ };
+    ghost laws = { λ p l. takes_one_is_meaning Input.Error.observers (satisfied (of_function (λ t. Input.Token.eq t p.token))) _ _ _ _ };
 
-    ghost single = { λ p l d. takes_one_means_one Input.Error.seen (satisfied (of_function (λ t. Input.Token.eq t p.token))) _ _ _ (satisfied_is_test _ (of_function_is_predicate (λ t. Input.Token.eq t p.token))) };
+    ghost single = { λ p l d. takes_one_means_one Input.Error.observers (satisfied (of_function (λ t. Input.Token.eq t p.token))) _ _ _ (satisfied_is_test _ (of_function_is_predicate (λ t. Input.Token.eq t p.token))) };
 }
 
 impl<Input: StreamOnce> Outputs<Input> for Position<Input> {
@@ -289,7 +291,7 @@ impl<Input: Stream> Parser<Input> for Position<Input> {
 
     ghost valid = { λ s. Unit {0} };
 
-    ghost meaning = { λ p. gives (λ at v. v ≡ at) (Unit {0}) Nothing };
+    ghost meaning = { λ p. given_meaning (λ at v. v ≡ at) (Unit {0}) AddsNothing };
 
     ghost parts = { λ p. 1 };
 
@@ -331,7 +333,7 @@ impl<Input: Stream, T: Clone> Parser<Input> for Value<Input, T> {
 
     ghost valid = { λ s. Unit {0} };
 
-    ghost meaning = { λ p. gives (λ at v. T.is_clone p.value v) (T.is_infallible p.value) Nothing };
+    ghost meaning = { λ p. given_meaning (λ at v. T.is_clone p.value v) (T.is_infallible p.value) AddsNothing };
 
     ghost parts = { λ p. 1 };
 
@@ -376,7 +378,7 @@ impl<Input: Stream, B: Drop, F: Fn() -> B> Parser<Input> for Produce<Input, F, B
 
     ghost valid = { λ s. Unit {0} };
 
-    ghost meaning = { λ p. gives (λ at v. F.post p.function v) (Unit {0}) Nothing };
+    ghost meaning = { λ p. given_meaning (λ at v. F.post p.function v) (Unit {0}) AddsNothing };
 
     ghost parts = { λ p. 1 };
 
@@ -418,7 +420,7 @@ impl<Input: Stream> Parser<Input> for Eof<Input> {
 
     ghost valid = { λ s. Unit {0} };
 
-    ghost meaning = { λ p. takes_one Input.Error.seen ends_there (Unit {0}) (Only (Expected (Fixed (codes "end of input")))) };
+    ghost meaning = { λ p. takes_one Input.Error.observers ends_there (Unit {0}) (Only (Expected (Fixed (codes "end of input")))) };
 
     ghost parts = { λ p. 1 };
 
@@ -454,7 +456,7 @@ impl<Input: Stream> Parser<Input> for Eof<Input> {
 
     ghost default_valid = { λ s d. tt };
 
-    ghost laws = { λ p l. takes_one_is_meaning Input.Error.seen ends_there _ _ _ _ };
+    ghost laws = { λ p l. takes_one_is_meaning Input.Error.observers ends_there _ _ _ _ };
 
-    ghost single = { λ p l d. takes_one_means_one Input.Error.seen ends_there _ _ _ ends_there_is_test };
+    ghost single = { λ p l d. takes_one_means_one Input.Error.observers ends_there _ _ _ ends_there_is_test };
 }

@@ -5,7 +5,7 @@ use super::{Header, request_head_over};
 use combine::parser::Answer;
 use std::alloc::{AllocError, Global};
 
-/// A head of 22 bytes, and a byte behind it.
+/// A head of 22 bytes, and a byte after it.
 const SHORT: &[u8] = b"G / HTTP/1.0\r\nA: b\r\n\r\nx";
 
 /// Whether `SHORT` is read, with so many windows that ask for more.

@@ -26,55 +26,43 @@ pub(super) fn hello_headers() -> [Header<&'static [u8]>; 3] {
     ]
 }
 
-/// Each row has an input, its method, target and version, and what is behind the head.
+/// Each row has an input, its method, target and version, and what is after the head.
 #[test]
 fn request_lines(rt: HostRuntime) {
-    let rows: [(&[u8], &[u8], &[u8], &[u8], &[u8]); 6] = [
-        (b"GET / HTTP/1.1\r\n\r\n", b"GET", b"/", b"HTTP/1.1", b""),
+    let rows: [(&[u8], [&[u8]; 3], &[u8]); 6] = [
+        (b"GET / HTTP/1.1\r\n\r\n", [b"GET", b"/", b"HTTP/1.1"], b""),
         (
             b"OPTIONS * HTTP/1.1\r\n\r\nbody",
-            b"OPTIONS",
-            b"*",
-            b"HTTP/1.1",
+            [b"OPTIONS", b"*", b"HTTP/1.1"],
             b"body",
         ),
         (
             b"CONNECT www.example.com:80 HTTP/1.0\r\n\r\n\r\n",
-            b"CONNECT",
-            b"www.example.com:80",
-            b"HTTP/1.0",
+            [b"CONNECT", b"www.example.com:80", b"HTTP/1.0"],
             b"\r\n",
         ),
         (
             b"GET http://www.example.org/where?q=now HTTP/1.1\r\n\r\n",
-            b"GET",
-            b"http://www.example.org/where?q=now",
-            b"HTTP/1.1",
+            [b"GET", b"http://www.example.org/where?q=now", b"HTTP/1.1"],
             b"",
         ),
         (
             b"!#$%&'*+-.^_`|~09azAZ ~! HTTP/1.9\r\n\r\n",
-            b"!#$%&'*+-.^_`|~09azAZ",
-            b"~!",
-            b"HTTP/1.9",
+            [b"!#$%&'*+-.^_`|~09azAZ", b"~!", b"HTTP/1.9"],
             b"",
         ),
         (
             b"g \x80\xff HTTP/1.1\r\n\r\n",
-            b"g",
-            b"\x80\xff",
-            b"HTTP/1.1",
+            [b"g", b"\x80\xff", b"HTTP/1.1"],
             b"",
         ),
     ];
-    for (input, method, target, version, behind) in rows {
+    for (input, line, after) in rows {
         match request_head(rt.alloc(), input) {
             Ok((head, rest)) => {
-                assert_eq!(rt; head.method, method);
-                assert_eq!(rt; head.target, target);
-                assert_eq!(rt; head.version, version);
+                assert_eq!(rt; [head.method, head.target, head.version], line);
                 assert!(rt; head.headers.is_empty());
-                assert_eq!(rt; rest, behind);
+                assert_eq!(rt; rest, after);
             }
             Err(_refusal) => assert!(rt; false, "refused: {input:?}"),
         }

@@ -1,4 +1,4 @@
-//! The parsers that the functions of `byte` answer.
+//! The parsers that the functions of `byte` return.
 
 pub use combine_char::byte::types::{
     AlphaNum, Bytes, BytesCmp, CrLf, Digit, HexDigit, Letter, Lower, Newline, OctDigit, Space,

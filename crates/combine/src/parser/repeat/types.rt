@@ -1,4 +1,4 @@
-//! The parsers that the functions of `repeat` answer.
+//! The parsers that the functions of `repeat` return.
 
 pub use combine_repeat::repeat::types::{Many, Many1, SkipMany, SkipMany1};
 pub use combine_repeat_chain::repeat::types::{Chainr1, Escaped};

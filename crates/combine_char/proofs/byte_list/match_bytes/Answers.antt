@@ -1,4 +1,4 @@
-use Rattle.combine_char.proofs.Spelling.{given_answers, slice_iterated, slice_within, within_slice, spelled_reasons}
+use Rattle.combine_char.proofs.SpelledLists.{given_answers, slice_iterated, slice_within, within_slice, spelled_reasons}
 use Rattle.combine_char.proofs.byte_list.match_bytes.Goals as goal
 
 pub match_list-requires-clause-list : goal.match_list-requires-clause-list
@@ -20,4 +20,4 @@ returns-clause-refuses g c =
     let compares = g.F.Fits.compares c.args.fits.now in
     let items = c.listed_items-items.result in
     let bytes = c.args.bytes.now in
-    spelled_reasons g.Input.Error.ParseError.seen _ _ _ (slice_within items bytes k.rest compares) _ _ _ _ _ c.match_list.ensures.refuses
+    spelled_reasons g.Input.Error.ParseError.observers _ _ _ (slice_within items bytes k.rest compares) _ _ _ _ _ c.match_list.ensures.refuses

@@ -1,4 +1,4 @@
-use Rattle.combine_char.proofs.Spelling.{chars_iterated, chars_within, given_answers, within_chars, spelled_reasons}
+use Rattle.combine_char.proofs.SpelledLists.{chars_iterated, chars_within, given_answers, within_chars, spelled_reasons}
 use Rattle.combine_char.proofs.text.match_text.Goals as goal
 
 pub match_list-requires-clause-list : goal.match_list-requires-clause-list
@@ -20,4 +20,4 @@ returns-clause-refuses g c =
     let compares = g.F.Fits.compares c.args.fits.now in
     let items = c.characters-items.result in
     let text = c.args.text.now in
-    spelled_reasons g.Input.Error.ParseError.seen _ _ _ (chars_within items text k.valid k.rest compares) _ _ _ _ _ c.match_list.ensures.refuses
+    spelled_reasons g.Input.Error.ParseError.observers _ _ _ (chars_within items text k.valid k.rest compares) _ _ _ _ _ c.match_list.ensures.refuses

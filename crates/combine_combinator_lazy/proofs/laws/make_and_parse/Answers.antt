@@ -1,5 +1,5 @@
-use Rattle.combine_combinator_lazy.specs.Made.{made_at_of_for}
-use Rattle.combine_combinator_lazy.proofs.Making.{refuses_made, starts_made}
+use Rattle.combine_combinator_lazy.specs.MadeParsers.{made_at_of_for}
+use Rattle.combine_combinator_lazy.proofs.MadeAnswers.{refuses_made, starts_made}
 use Rattle.combine_combinator_lazy.proofs.laws.make_and_parse.Goals as goal
 
 pub make_and_run-requires-clause-lawful : goal.make_and_run-requires-clause-lawful
@@ -13,6 +13,6 @@ returns g c =
       asked = run.asked;
       parser = run.parser;
       made = run.made;
-      answers = starts_made g.N.Parser g.Input.StreamOnce g.Input.Error.ParseError.seen g.N.PartialState.Default.is_default run.called run.view run.failures run.is_default (g.met.N.Parser.laws _ lawful);
-      refuses = refuses_made g.N.Parser g.Input.StreamOnce g.Input.Error.ParseError.seen g.N.PartialState.Default.is_default run.called run.view run.is_default (g.met.N.Parser.laws _ lawful);
+      answers = starts_made g.N.Parser g.Input.StreamOnce g.Input.Error.ParseError.observers g.N.PartialState.Default.is_default run.called run.view run.failures run.is_default (g.met.N.Parser.laws _ lawful);
+      refuses = refuses_made g.N.Parser g.Input.StreamOnce g.Input.Error.ParseError.observers g.N.PartialState.Default.is_default run.called run.view run.is_default (g.met.N.Parser.laws _ lawful);
     }

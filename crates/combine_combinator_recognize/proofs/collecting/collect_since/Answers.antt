@@ -1,6 +1,6 @@
 use Rattle.std.proofs.Common.{sym}
 use Rattle.std.proofs.lemmas.Result.{err_from_is_err_and}
-use Rattle.combine_combinator_recognize.proofs.Gathering.{collect_again, collect_unreset}
+use Rattle.combine_combinator_recognize.proofs.TokenCollection.{collect_again, collect_unreset}
 use Rattle.combine_combinator_recognize.proofs.collecting.collect_since.Goals as goal
 
 pub returns-in_err-reset-clause-collects : goal.returns-in_err-reset-clause-collects

@@ -1,10 +1,10 @@
 use Rattle.std.proofs.Common.{◌∙◌, ◌+◌, arith, refl, ap, sym}
 use Rattle.std.proofs.lemmas.Result.{err_from_is_err_and}
 use Rattle.combine_base.specs.Stream.View.{View}
-use Rattle.combine_base.proofs.Distances.{takes_token, not_yet, reached}
-use Rattle.combine_base.proofs.Progress.{takes_more, takes_none}
-use Rattle.combine_base.proofs.Same.{passes_more, passes_none}
-use Rattle.combine_combinator_recognize.proofs.Gathering.{collect_starved, collect_stopped, one_more}
+use Rattle.combine_base.proofs.Streams.Distances.{takes_one_token, not_yet, position_reached}
+use Rattle.combine_base.proofs.Parsers.Progress.{takes_more, takes_none}
+use Rattle.combine_base.proofs.Parsers.SameMeanings.{passes_more, passes_none}
+use Rattle.combine_combinator_recognize.proofs.TokenCollection.{collect_starved, collect_stopped, one_more_collected}
 use Rattle.combine_combinator_recognize.proofs.collecting.collect_to.Goals as goal
 
 pub tokens-init : goal.tokens-init
@@ -38,7 +38,7 @@ pub returns-in-Err-clause-collects : goal.returns-in-Err-clause-collects
 returns-in-Err-clause-collects g c n v t e =
     let i = c.tokens.invariant in
     let u = c.in_ok-token.ensures.read.is in
-    collect_starved _ _ _ _ _ _ _ _ (g.Input.StreamOnce.view c.uncons.new.self) _ _ _ n i.taken (record { count = 1; taken = takes_token _ _ _ _ _ _ _ u }) c.in-Err.ensures.0
+    collect_starved _ _ _ _ _ _ _ _ (g.Input.StreamOnce.view c.uncons.new.self) _ _ _ n i.taken (record { count = 1; taken = takes_one_token _ _ _ _ _ _ _ u }) c.in-Err.ensures.0
 
 pub tokens-preserved : goal.tokens-preserved
 tokens-preserved g c =
@@ -47,8 +47,8 @@ tokens-preserved g c =
     record {
       passes = passes_more _ _ _ _ _ _ i.passes c.uncons.ensures.passes;
       count = i.count + 1;
-      taken = takes_more _ _ _ _ _ _ i.taken (takes_token _ _ _ _ _ _ _ u);
-      held = c.in_default.ensures ∙ ap (λ h. g.F.Append.more h c.in_ok-token.token) i.held ∙ one_more g.F.Append.more (g.F.Append.held c.args.into) i.count (g.Input.StreamOnce.view c.args.input.now).unread (g.Input.StreamOnce.view c.uncons.new.self).unread c.in_ok-token.token (sym (ap (λ (v : View _ _). v.unread) i.taken.rest) ∙ u.unread);
+      taken = takes_more _ _ _ _ _ _ i.taken (takes_one_token _ _ _ _ _ _ _ u);
+      held = c.in_default.ensures ∙ ap (λ h. g.F.Append.more h c.in_ok-token.token) i.held ∙ one_more_collected g.F.Append.more (g.F.Append.held c.args.into) i.count (g.Input.StreamOnce.view c.args.input.now).unread (g.Input.StreamOnce.view c.uncons.new.self).unread c.in_ok-token.token (sym (ap (λ (v : View _ _). v.unread) i.taken.rest) ∙ u.unread);
       failures = λ s. u.failures s ∙ i.failures s;
       before = λ n v t e.
           let o = c.position.ensures in
@@ -69,5 +69,5 @@ returns-clause-collects g c n v t e =
     let l = c.cmp.ensures in
     let m = c.is_lt.ensures in
     let q = c.tokens-test.false in
-    let k = reached g.Input.Position.Ord.cmp g.Input.StreamOnce.step g.Input.StreamOnce.view g.met.Input.Position.Ord.total g.met.Input.StreamOnce.moves _ n _ c.tokens.input v i.taken t (i.before n v t e) (cc) in
+    let k = position_reached g.Input.Position.Ord.cmp g.Input.StreamOnce.step g.Input.StreamOnce.view g.met.Input.Position.Ord.total g.met.Input.StreamOnce.moves _ n _ c.tokens.input v i.taken t (i.before n v t e) (cc) in
     record { is = (rw (← k) i.held, rw (← k) i.taken, i.failures) }

@@ -1,6 +1,6 @@
 use Rattle.std.proofs.Common.{◌≡◌, ◌↔◌, true, length, List}
-use Rattle.combine_decode.specs.Messages.{Told, made}
-use Rattle.combine_decode.proofs.Decoding.{SoFar, remaining}
+use Rattle.combine_decode.specs.Messages.{AnswersMessage, made_reading}
+use Rattle.combine_decode.proofs.OneMessage.{GaveMessages, remaining}
 use Rattle.combine_decode.proofs.decode.drain.Given as goal
 
 -- the messages so far, and what the session was told of the tokens behind them
@@ -8,7 +8,7 @@ abbrev pub invariant-messages : goal.invariant-messages
 invariant-messages g l = record {
   is_open : l.session.seen.is_open ≡ true;
   limit : l.session.limit ≡ l.fn.session.limit;
-  far : (tokens : List g.row.T.Denot) → Told (made g.P.Parser.meaning (λ p. g.F.Fn.post l.maker tt p)) g.P.Parser.meaning tokens l.fn.session l.fn.first → ((l.fn.boundary ≡ true) ↔ (length tokens ≡ 0)) → SoFar (made g.P.Parser.meaning (λ p. g.F.Fn.post l.maker tt p)) g.P.Parser.meaning tokens l.messages.items l.session l.answer l.at_boundary;
+  far : (tokens : List g.row.T.Denot) → AnswersMessage (made_reading g.P.Parser.meaning (λ p. g.F.Fn.post l.maker tt p)) g.P.Parser.meaning tokens l.fn.session l.fn.first → ((l.fn.boundary ≡ true) ↔ (length tokens ≡ 0)) → GaveMessages (made_reading g.P.Parser.meaning (λ p. g.F.Fn.post l.maker tt p)) g.P.Parser.meaning tokens l.messages.items l.session l.answer l.at_boundary;
 }
 
 abbrev pub decreases-messages : goal.decreases-messages

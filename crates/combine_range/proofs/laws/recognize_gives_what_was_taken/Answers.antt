@@ -1,4 +1,4 @@
-use Rattle.combine_range.proofs.Exact.{recognized_exactly}
+use Rattle.combine_range.proofs.RecognizedRange.{recognized_exactly}
 use Rattle.combine_range.proofs.laws.recognize_gives_what_was_taken.Goals as goal
 
 pub returns : goal.returns

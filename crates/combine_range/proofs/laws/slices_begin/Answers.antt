@@ -1,4 +1,4 @@
-use Rattle.combine_range.proofs.Tokens.{equal_of_begins, begins_of_equal}
+use Rattle.combine_range.proofs.FairTests.{equal_of_begins, begins_of_equal}
 use Rattle.combine_range.proofs.laws.slices_begin.Goals as goal
 
 pub returns : goal.returns

@@ -1,4 +1,4 @@
-use Rattle.combine_range.proofs.Testing.{fails_slice}
+use Rattle.combine_range.proofs.RangeTests.{fails_slice}
 use Rattle.combine_range.proofs.laws.slices_fail.Goals as goal
 
 pub returns : goal.returns

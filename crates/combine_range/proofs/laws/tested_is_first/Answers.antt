@@ -1,4 +1,4 @@
-use Rattle.combine_range.specs.Tested.{first_of_tested, nowhere_of_tested}
+use Rattle.combine_range.specs.RangeTests.{first_of_tested, nowhere_of_tested}
 use Rattle.combine_range.proofs.laws.tested_is_first.Goals as goal
 
 pub returns-clause-first : goal.returns-clause-first

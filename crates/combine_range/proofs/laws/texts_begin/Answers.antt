@@ -1,4 +1,4 @@
-use Rattle.combine_range.proofs.Tokens.{chars_of_begins, begins_of_chars}
+use Rattle.combine_range.proofs.FairTests.{chars_of_begins, begins_of_chars}
 use Rattle.combine_range.proofs.laws.texts_begin.Goals as goal
 
 pub returns : goal.returns

@@ -1,4 +1,4 @@
-use Rattle.combine_range.proofs.Testing.{fails_text}
+use Rattle.combine_range.proofs.RangeTests.{fails_text}
 use Rattle.combine_range.proofs.laws.texts_fail.Goals as goal
 
 pub returns : goal.returns

@@ -1,6 +1,6 @@
-use Rattle.combine_base.proofs.Same.{passes_more}
+use Rattle.combine_base.proofs.Parsers.SameMeanings.{passes_more}
 use Rattle.std.proofs.Common.{arith}
-use Rattle.combine_range.proofs.Seeking.{sought_more, seeks_end, seeks_none, seeks_broken, seeks_unread}
+use Rattle.combine_range.proofs.RangePlaces.{sought_range_more, seeks_end, seeks_none, seeks_broken, seeks_unread}
 use Rattle.combine_range.proofs.places.seek.Goals as goal
 
 pub returns-in-Ok-None-clause-seeks : goal.returns-in-Ok-None-clause-seeks
@@ -16,7 +16,7 @@ loop-found-preserved g c =
     let t = rw c.in-Ok-Some.field-0-is at c.in-Ok-Some.ensures.tells in
     record {
       passes = passes_more _ _ _ _ _ _ (passes_more _ _ _ _ _ _ c.loop-found.invariant.passes c.begins_with.ensures.passes) c.uncons.ensures.passes;
-      sought = sought_more _ _ _ _ _ _ _ _ _ _ _ c.loop-found.invariant.sought (rw c.if-found.false at t) _ _ _ c.in-Ok.ensures.read;
+      sought = sought_range_more _ _ _ _ _ _ _ _ _ _ _ c.loop-found.invariant.sought (rw c.if-found.false at t) _ _ _ c.in-Ok.ensures.read;
     }
 
 pub returns-in-Err-End-clause-seeks : goal.returns-in-Err-End-clause-seeks

@@ -1,13 +1,13 @@
 use Rattle.std.proofs.Common.{length}
 use Rattle.combine_base.specs.Stream.Calls.{Passes}
-use Rattle.combine_range.specs.Wanted.{given}
-use Rattle.combine_range.specs.Tested.{Sought}
+use Rattle.combine_range.specs.WantedRanges.{equal_range}
+use Rattle.combine_range.specs.RangeTests.{SoughtRange}
 use Rattle.combine_range.proofs.places.seek.Given as goal
 
 abbrev pub invariant-loop-found : goal.invariant-loop-found
 invariant-loop-found g l = record {
   passes : Passes (g.Input.StreamOnce.marks l.fn.input) (g.Input.StreamOnce.marks l.input) (g.Input.StreamOnce.failures l.fn.input) (g.Input.StreamOnce.failures l.input);
-  sought : Sought g.Input.StreamOnce.steady g.Input.StreamOnce.step g.Input.RangeStream.size g.Input.RangeStream.spells (given g.Input.Range.Range.count g.Input.Range.PartialEq.eq l.fn.wanted)
+  sought : SoughtRange g.Input.StreamOnce.counts_failures g.Input.StreamOnce.step g.Input.RangeStream.size g.Input.RangeStream.spells (equal_range g.Input.Range.Range.count g.Input.Range.PartialEq.eq l.fn.wanted)
       (g.Input.StreamOnce.view l.fn.input) (g.Input.StreamOnce.view l.input) (g.Input.StreamOnce.failures l.fn.input) (g.Input.StreamOnce.failures l.input);
 }
 

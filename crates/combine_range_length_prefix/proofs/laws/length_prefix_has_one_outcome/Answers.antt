@@ -1,7 +1,7 @@
 use Rattle.combine_range_length_prefix.proofs.OneLengths.{answers_one, decides_one}
 use Rattle.combine_range_length_prefix.proofs.laws.length_prefix_has_one_outcome.Goals as goal
-use Rattle.combine_range.specs.Lengths.{taking_is_single}
-use Rattle.combine_range.specs.RangeParsers.{take_of}
+use Rattle.combine_range.specs.Range.Lengths.{taking_is_single}
+use Rattle.combine_range.specs.Range.RangeParsers.{take_of}
 
 pub returns : goal.returns
 returns g c =

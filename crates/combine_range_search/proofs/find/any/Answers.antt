@@ -1,6 +1,6 @@
 use Rattle.std.proofs.Common.{◌≡◌, ◌||◌, Bool, true, false, refl}
 use Rattle.std.proofs.lemmas.List.{drop_more}
-use Rattle.combine_range_search.proofs.Scanning.{none_more}
+use Rattle.combine_range_search.proofs.ByteScans.{none_more}
 use Rattle.combine_range_search.proofs.find.any.Goals as goal
 
 neither : (a b : Bool) → (a || b) ≡ false → (a ≡ false) × (b ≡ false)

@@ -1,6 +1,6 @@
 use Rattle.std.proofs.Common.{sym, ◌∙◌, nat_eq, ap}
 use Rattle.std.specs.Cmp.Lexicographic.{pointwise}
-use Rattle.combine_range_search.proofs.Scanning.{equal_stands, stands_equal}
+use Rattle.combine_range_search.proofs.ByteScans.{equal_stands, stands_equal}
 use Rattle.combine_range_search.proofs.find.begins.Goals as goal
 
 pub returns : goal.returns

@@ -1,7 +1,7 @@
 use Rattle.std.proofs.Common.{arith, refl, sym, subst, ap, ◌≡◌, ◌∷◌, ◌∙◌, [], List, ℕ, length, ◌-◌}
 use Rattle.std.proofs.lemmas.Bool.{false≢true}
-use Rattle.combine_range_search.specs.InBytes.{Stands, these_bytes}
-use Rattle.combine_range_search.proofs.Scanning.{empty_first, needle_found, needle_nowhere, sought_more, within_bytes}
+use Rattle.combine_range_search.specs.Bytes.ByteSearch.{BeginsWithBytes, these_bytes}
+use Rattle.combine_range_search.proofs.ByteScans.{empty_first, needle_found, needle_nowhere, sought_bytes_more, within_bytes}
 use Rattle.combine_range_search.proofs.find.find_bytes.Goals as goal
 
 none : (xs : List ℕ) → length xs ≡ 0 → xs ≡ []
@@ -17,12 +17,12 @@ split_at-requires c = within_bytes _ _ _ c.first_byte.ensures
 pub returns-then-begins : goal.returns-then-begins
 returns-then-begins c =
     let b = c.split_at.ensures.back in
-    needle_found _ _ _ _ _ c.in-Some.ensures.cases.0 c.loop-rest.invariant.sought _ c.first_byte.ensures _ (ap (λ xs. length c.args.bytes.now - length xs) b) (subst (Stands (these_bytes c.args.needle.now)) b (c.begins.ensures.0 c.if-begins.true))
+    needle_found _ _ _ _ _ c.in-Some.ensures.cases.0 c.loop-rest.invariant.sought _ c.first_byte.ensures _ (ap (λ xs. length c.args.bytes.now - length xs) b) (subst (BeginsWithBytes (these_bytes c.args.needle.now)) b (c.begins.ensures.0 c.if-begins.true))
 
 pub loop-rest-preserved : goal.loop-rest-preserved
 loop-rest-preserved c =
     let b = c.split_at.ensures.back in
-    record { sought = sought_more _ _ _ _ _ c.in-Some.ensures.cases.0 c.loop-rest.invariant.sought _ c.first_byte.ensures (λ s. false≢true (sym c.if-begins.false ∙ c.begins.ensures.1 (subst (Stands (these_bytes c.args.needle.now)) (sym b) s))) _ _ (sym b ∙ c.in-Some-split_first.ensures.cases.0) }
+    record { sought = sought_bytes_more _ _ _ _ _ c.in-Some.ensures.cases.0 c.loop-rest.invariant.sought _ c.first_byte.ensures (λ s. false≢true (sym c.if-begins.false ∙ c.begins.ensures.1 (subst (BeginsWithBytes (these_bytes c.args.needle.now)) (sym b) s))) _ _ (sym b ∙ c.in-Some-split_first.ensures.cases.0) }
 
 pub returns-in-None : goal.returns-in-None
 returns-in-None c =

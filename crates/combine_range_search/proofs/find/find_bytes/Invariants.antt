@@ -1,10 +1,10 @@
 use Rattle.std.proofs.Common.{length}
-use Rattle.combine_range_search.proofs.Scanning.{Sought}
+use Rattle.combine_range_search.proofs.ByteScans.{SoughtBytes}
 use Rattle.combine_range_search.proofs.find.find_bytes.Given as goal
 
 abbrev pub invariant-loop-rest : goal.invariant-loop-rest
 invariant-loop-rest l = record {
-  sought : Sought l.fn.needle l.fn.bytes l.rest;
+  sought : SoughtBytes l.fn.needle l.fn.bytes l.rest;
 }
 
 abbrev pub decreases-loop-rest : goal.decreases-loop-rest

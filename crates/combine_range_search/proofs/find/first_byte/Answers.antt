@@ -1,5 +1,5 @@
 use Rattle.std.proofs.Common.{arith}
-use Rattle.combine_range_search.proofs.Scanning.{first_behind, within_bytes}
+use Rattle.combine_range_search.proofs.ByteScans.{first_behind, within_bytes}
 use Rattle.combine_range_search.proofs.find.first_byte.Goals as goal
 
 pub overflow_add-result : goal.overflow_add-result

@@ -1,7 +1,7 @@
 use Rattle.std.proofs.Common.{sym, ap, subst, ◌∙◌, ◌+◌}
 use Rattle.std.proofs.lemmas.List.{drop_more}
-use Rattle.combine_range_search.specs.Scans.{FirstByte}
-use Rattle.combine_range_search.proofs.Scanning.{first_here, none_more}
+use Rattle.combine_range_search.specs.Bytes.ByteScans.{FirstByte}
+use Rattle.combine_range_search.proofs.ByteScans.{first_here, none_more}
 use Rattle.combine_range_search.proofs.find.scan.Goals as goal
 
 pub returns-then-holds : goal.returns-then-holds

@@ -1,6 +1,6 @@
 use Rattle.std.proofs.Common.{◌≡◌, take}
-use Rattle.combine_stream.specs.Ranges.{Longest}
-use Rattle.combine_range_search.specs.Scans.{fails_all}
+use Rattle.combine_stream.specs.Range.Ranges.{Longest}
+use Rattle.combine_range_search.specs.Bytes.ByteScans.{fails_all}
 use Rattle.combine_range_search.proofs.find.scan.Given as goal
 
 abbrev pub invariant-loop-byte : goal.invariant-loop-byte

@@ -1,6 +1,6 @@
 use Rattle.std.proofs.Common.{sym, ◌∙◌, ap, ◌++◌, drop}
 use Rattle.std.proofs.lemmas.List.{take-append-drop}
-use Rattle.combine_range_search.proofs.Scanning.{without_more}
+use Rattle.combine_range_search.proofs.ByteScans.{without_more}
 use Rattle.combine_range_search.proofs.find.skip_blocks.Goals as goal
 
 pub loop-rest-preserved : goal.loop-rest-preserved

@@ -1,5 +1,5 @@
 use Rattle.std.proofs.Common.{length}
-use Rattle.combine_range_search.specs.Scans.{Without}
+use Rattle.combine_range_search.specs.Bytes.ByteScans.{Without}
 use Rattle.combine_range_search.proofs.find.skip_blocks.Given as goal
 
 abbrev pub invariant-loop-rest : goal.invariant-loop-rest

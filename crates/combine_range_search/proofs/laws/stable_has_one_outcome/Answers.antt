@@ -1,4 +1,4 @@
-use Rattle.combine_range_search.specs.Stable.{stable_is_one}
+use Rattle.combine_range_search.specs.Search.StableFunctions.{stable_is_one}
 use Rattle.combine_range_search.proofs.laws.stable_has_one_outcome.Goals as goal
 
 pub returns : goal.returns

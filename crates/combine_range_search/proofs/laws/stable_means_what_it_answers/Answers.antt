@@ -1,4 +1,4 @@
-use Rattle.combine_range_search.specs.Stable.{found_is, missing_is, searching_as}
+use Rattle.combine_range_search.specs.Search.StableFunctions.{found_is, missing_is, searching_as}
 use Rattle.combine_range_search.proofs.laws.stable_means_what_it_answers.Goals as goal
 
 pub returns : goal.returns

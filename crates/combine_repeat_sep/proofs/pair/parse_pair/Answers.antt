@@ -1,10 +1,10 @@
 use Rattle.std.proofs.Common.{refl}
 use Rattle.combine_base.specs.Parser.Answer.{world}
-use Rattle.combine_base.proofs.Following.{last_called, sequence_called}
-use Rattle.combine_base.proofs.Refusing.{reasoned_at_rest}
-use Rattle.combine_base.proofs.Starting.{at_rest}
+use Rattle.combine_base.proofs.Sequences.SequenceCalls.{last_called, sequence_called}
+use Rattle.combine_base.proofs.Errors.MeantRefusals.{reasoned_at_rest}
+use Rattle.combine_base.proofs.Parsers.CallStarts.{at_rest}
 use Rattle.combine_repeat_sep.specs.Pair.{pair_place, put_to}
-use Rattle.combine_repeat_sep.proofs.Leading.{led_rest, runs_still}
+use Rattle.combine_repeat_sep.proofs.Separators.{led_rest, runs_still}
 use Rattle.combine_repeat_sep.proofs.pair.parse_pair.Goals as goal
 
 pub parse_mode-answer-requires-clause-valid : goal.parse_mode-answer-requires-clause-valid
@@ -12,15 +12,15 @@ parse_mode-answer-requires-clause-valid g c = rw c.in-Separator.is at c.requires
 
 pub returns-in-Separator-clause-called : goal.returns-in-Separator-clause-called
 returns-in-Separator-clause-called g c =
-    let around = world g.Input.StreamOnce.step g.Input.Error.ParseError.seen g.Input.StreamOnce.steady g.S.PartialState.Default.is_default in
+    let around = world g.Input.StreamOnce.step g.Input.Error.ParseError.observers g.Input.StreamOnce.counts_failures g.S.PartialState.Default.is_default in
     let call = c.parse_mode-answer.ensures in
     let laws = g.met.S.Parser.laws _ c.requires.lawful.0 in
     let answers = at_rest around _ _ laws _ (λ h. rw c.in-Separator.is at c.requires.starts h) _ call.answers in
-    sequence_called pair_place put_to c.requires.fresh g.met.S.Parser.default_valid laws (g.met.P.Parser.laws _ c.requires.lawful.1) (rw c.in-Separator.is refl) c.requires.valid call.valid call.same call.passes answers (reasoned_at_rest laws g.Input.Error.ParseError.seen (λ h. rw c.in-Separator.is at c.requires.starts h) call.refuses) c.parse_rest.ensures
+    sequence_called pair_place put_to c.requires.fresh g.met.S.Parser.default_valid laws (g.met.P.Parser.laws _ c.requires.lawful.1) (rw c.in-Separator.is refl) c.requires.valid call.valid call.same call.passes answers (reasoned_at_rest laws g.Input.Error.ParseError.observers (λ h. rw c.in-Separator.is at c.requires.starts h) call.refuses) c.parse_rest.ensures
 
 pub returns-in-Separator-clause-led : goal.returns-in-Separator-clause-led
 returns-in-Separator-clause-led g c =
-    let around = world g.Input.StreamOnce.step g.Input.Error.ParseError.seen g.Input.StreamOnce.steady g.S.PartialState.Default.is_default in
+    let around = world g.Input.StreamOnce.step g.Input.Error.ParseError.observers g.Input.StreamOnce.counts_failures g.S.PartialState.Default.is_default in
     let call = c.parse_mode-answer.ensures in
     let laws = g.met.S.Parser.laws _ c.requires.lawful.0 in
     let answers = at_rest around _ _ laws _ (λ h. rw c.in-Separator.is at c.requires.starts h) _ call.answers in

@@ -1,6 +1,6 @@
 use Rattle.std.proofs.Common.{refl, sym, ◌∙◌, inl, inr}
 use Rattle.std.proofs.lemmas.Bool.{false≢true}
-use Rattle.combine_repeat_sep_end.specs.Ended.{within_same}
+use Rattle.combine_repeat_sep_end.specs.Ended.{optional_part_same}
 use Rattle.combine_repeat_sep_end.proofs.ended.run_later.Goals as goal
 
 pub returns-in-CommitOk-clause-ran : goal.returns-in-CommitOk-clause-ran
@@ -19,16 +19,16 @@ pub returns-clause-ran : goal.returns-clause-ran
 returns-clause-ran g c = record { stopped = _; answer = _; answers = c.in-PeekErr.ensures.called.answers; refuses = c.in-PeekErr.ensures.called.refuses; is = refl; leaves = inr (λ q. q, refl) }
 
 pub returns-in-CommitOk-clause-parts : goal.returns-in-CommitOk-clause-parts
-returns-in-CommitOk-clause-parts g c = (c.in-CommitOk.ensures.parts.0, within_same _ _ c.in-CommitOk.ensures.parts.1)
+returns-in-CommitOk-clause-parts g c = (c.in-CommitOk.ensures.parts.0, optional_part_same _ _ c.in-CommitOk.ensures.parts.1)
 
 pub returns-in-PeekOk-clause-parts : goal.returns-in-PeekOk-clause-parts
-returns-in-PeekOk-clause-parts g c = (c.in-PeekOk.ensures.parts.0, within_same _ _ c.in-PeekOk.ensures.parts.1)
+returns-in-PeekOk-clause-parts g c = (c.in-PeekOk.ensures.parts.0, optional_part_same _ _ c.in-PeekOk.ensures.parts.1)
 
 pub returns-then-needs_more-clause-parts : goal.returns-then-needs_more-clause-parts
-returns-then-needs_more-clause-parts g c = (c.in-CommitErr.ensures.parts.0, within_same _ _ c.in-CommitErr.ensures.parts.1)
+returns-then-needs_more-clause-parts g c = (c.in-CommitErr.ensures.parts.0, optional_part_same _ _ c.in-CommitErr.ensures.parts.1)
 
 pub returns-in-CommitErr-clause-parts : goal.returns-in-CommitErr-clause-parts
-returns-in-CommitErr-clause-parts g c = (c.in-CommitErr.ensures.parts.0, within_same _ _ c.in-CommitErr.ensures.parts.1)
+returns-in-CommitErr-clause-parts g c = (c.in-CommitErr.ensures.parts.0, optional_part_same _ _ c.in-CommitErr.ensures.parts.1)
 
 pub returns-clause-parts : goal.returns-clause-parts
-returns-clause-parts g c = (c.in-PeekErr.ensures.parts.0, within_same _ _ c.in-PeekErr.ensures.parts.1)
+returns-clause-parts g c = (c.in-PeekErr.ensures.parts.0, optional_part_same _ _ c.in-PeekErr.ensures.parts.1)

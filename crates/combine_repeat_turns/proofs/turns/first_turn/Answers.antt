@@ -1,8 +1,8 @@
 use Rattle.std.proofs.Common.{false, true, refl, sym, ◌∙◌}
-use Rattle.combine_base.proofs.Refusing.{reasoned_meant}
+use Rattle.combine_base.proofs.Errors.MeantRefusals.{reasoned_meant}
 use Rattle.std.proofs.lemmas.Bool.{false≢true}
-use Rattle.combine_repeat_turns.specs.FirstTurn.{FirstInTurn, FirstUnstored}
-use Rattle.combine_repeat_turns.proofs.Judging.{accepts_by}
+use Rattle.combine_repeat_turns.specs.Turns.FirstTurn.{FirstInTurn, FirstUnstored}
+use Rattle.combine_repeat_turns.proofs.OneTurn.{accepts_by}
 use Rattle.combine_repeat_turns.proofs.turns.first_turn.Goals as goal
 use Rattle.combine_repeat_turns.proofs.turns.first_turn.Goals.{in-CommitOk, in-PeekOk}
 

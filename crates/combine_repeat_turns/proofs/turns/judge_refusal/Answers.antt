@@ -1,17 +1,17 @@
 use Rattle.std.proofs.Common.{refl, sym, ◌∙◌}
-use Rattle.combine_repeat_turns.specs.OneTurn.{PutBack}
-use Rattle.combine_repeat_turns.specs.TurnRefusals.{Few}
-use Rattle.combine_repeat_turns.proofs.Judging.{put_back, not_put_back, ran_answers}
+use Rattle.combine_repeat_turns.specs.Turns.OneTurn.{EndedByRefusal}
+use Rattle.combine_repeat_turns.specs.Turns.Bounds.{Few}
+use Rattle.combine_repeat_turns.proofs.OneTurn.{turn_put_back, turn_not_put_back, ran_answers}
 use Rattle.combine_repeat_turns.proofs.turns.judge_refusal.Goals as goal
 
 pub returns-in-Err-clause-halted : goal.returns-in-Err-clause-halted
-returns-in-Err-clause-halted g c = λ p later r n a. not_put_back _ _ _ _ _ _ _ _ _ _ _ _ _ _ _ _ (ran_answers _ _ _ _ _ _ n _ a) _ c.in-Err.ensures.to.is (rw n.failures at n.resets) _ c.new_error.ensures.kind
+returns-in-Err-clause-halted g c = λ p later r n a. turn_not_put_back _ _ _ _ _ _ _ _ _ _ _ _ _ _ _ _ (ran_answers _ _ _ _ _ _ n _ a) _ c.in-Err.ensures.to.is (rw n.failures at n.resets) _ c.new_error.ensures.kind
 
 pub returns-then-is_enough-clause-halted : goal.returns-then-is_enough-clause-halted
 returns-then-is_enough-clause-halted g c = λ p later r n a.
     let i = c.in_default.ensures.to.is in
     let e = i.0 _ n.begun_at in
-    PutBack (sym c.is_enough.ensures ∙ c.if-is_enough.true) (put_back _ _ _ _ _ _ _ _ _ _ _ _ (ran_answers _ _ _ _ _ _ n _ a) e i.1) e refl
+    EndedByRefusal (sym c.is_enough.ensures ∙ c.if-is_enough.true) (turn_put_back _ _ _ _ _ _ _ _ _ _ _ _ (ran_answers _ _ _ _ _ _ n _ a) e i.1) e refl
 
 pub returns-clause-refuses : goal.returns-clause-refuses
-returns-clause-refuses g c = λ p later. record { is = λ first s v q x. record { is = (refl, Few refl (sym c.is_enough.ensures ∙ c.if-is_enough.false) (sym c.owns.ensures ∙ c.if-owns.false) c.args.refusal.error x (rw (q, ← c.missing.ensures, c.from.ensures) c.too_few-error.ensures.says)) } }
+returns-clause-refuses g c = λ p later. record { is = λ first s v q x. record { is = (refl, Few refl (sym c.is_enough.ensures ∙ c.if-is_enough.false) (sym c.keeps_refusal.ensures ∙ c.if-keeps_refusal.false) c.args.refusal.error x (rw (q, ← c.missing.ensures, c.from.ensures) c.too_few-error.ensures.says)) } }

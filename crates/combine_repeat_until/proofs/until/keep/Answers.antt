@@ -1,5 +1,5 @@
 use Rattle.std.proofs.Common.{refl, inr}
-use Rattle.combine_base.proofs.Progress.{moves_more}
+use Rattle.combine_base.proofs.Parsers.Progress.{moves_more}
 use Rattle.combine_repeat_until.proofs.until.keep.Goals as goal
 
 pub returns-in-Err-clause-keeps : goal.returns-in-Err-clause-keeps

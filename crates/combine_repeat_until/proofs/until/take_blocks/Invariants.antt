@@ -5,7 +5,7 @@ use Rattle.combine_base.specs.Parser.Meaning.{MeansSame}
 use Rattle.combine_base.specs.Stream.Calls.{Passes}
 use Rattle.combine_repeat_until.specs.Until.{blocks_so_far, some_appended}
 use Rattle.combine_repeat_until.specs.declared.until.UntilState.TheVariants.{Begin}
-use Rattle.combine_repeat_until.proofs.UntilCalls.{Reaches}
+use Rattle.combine_repeat_until.proofs.UntilCalls.{ReachesBlock}
 use Rattle.combine_repeat_until.proofs.UntilErrors.{LeadsTo}
 use Rattle.combine_repeat_until.proofs.until.take_blocks.Given as goal
 
@@ -16,16 +16,16 @@ invariant-turns g l = record {
   same : MeansSame (g.N.Parser.meaning l.fn.parser) (g.N.Parser.meaning l.parser);
   passes : Passes (g.Input.StreamOnce.marks l.fn.input) (g.Input.StreamOnce.marks l.input) (g.Input.StreamOnce.failures l.fn.input) (g.Input.StreamOnce.failures l.input);
   cleared : l.state ≡ Begin;
-  there : (at : View _ _) × (g.Input.ResetStream.stands l.input l.place at) × (Reaches
-      (world g.Input.StreamOnce.step g.Input.Error.ParseError.seen g.Input.StreamOnce.steady g.N.PartialState.Default.is_default)
-      g.Input.Error.ParseError.seen
-      (some_appended g.F.Append.held g.F.Append.none g.F.Append.more g.F.Append.lean)
+  there : (at : View _ _) × (g.Input.ResetStream.stands l.input l.place at) × (ReachesBlock
+      (world g.Input.StreamOnce.step g.Input.Error.ParseError.observers g.Input.StreamOnce.counts_failures g.N.PartialState.Default.is_default)
+      g.Input.Error.ParseError.observers
+      (some_appended g.F.Append.held g.F.Append.none g.F.Append.more g.F.Append.heapless)
       (g.N.Parser.meaning l.fn.parser)
       (g.M.ParseMode.first l.fn.mode) l.fn.state (g.Input.StreamOnce.view l.fn.input) (g.Input.StreamOnce.failures l.fn.input)
       (g.M.ParseMode.first l.fn.mode) l.running at (g.Input.StreamOnce.view l.input) (g.Input.StreamOnce.failures l.input)
       (blocks_so_far g.F.Append.held l.blocks));
-  errors : LeadsTo g.Input.StreamOnce.step g.Input.Error.ParseError.seen
-      (some_appended g.F.Append.held g.F.Append.none g.F.Append.more g.F.Append.lean)
+  errors : LeadsTo g.Input.StreamOnce.step g.Input.Error.ParseError.observers
+      (some_appended g.F.Append.held g.F.Append.none g.F.Append.more g.F.Append.heapless)
       (g.N.Parser.meaning l.fn.parser)
       (g.M.ParseMode.first l.fn.mode) l.fn.state (g.Input.StreamOnce.view l.fn.input)
       (g.M.ParseMode.first l.fn.mode) l.running l.blocks.begun (g.Input.StreamOnce.view l.input);

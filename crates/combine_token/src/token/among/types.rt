@@ -1,9 +1,9 @@
-//! The parsers that `one_of` and `none_of` answer.
+//! The parsers that `one_of` and `none_of` return.
 ghost use Rattle.std.specs.Prelude.{◌≡◌, not};
 ghost use Rattle.std.specs.Iterator.{IsFinite};
-ghost use Rattle.combine_base.specs.Error.Errors.{Nothing};
-ghost use Rattle.combine_token.specs.Among.{EndsAlways, Finds, among, beside, expects_each, not_is_predicate};
-ghost use Rattle.combine_token.specs.OneToken.{IsPredicate, satisfied, satisfied_is_test, takes_one, takes_one_is_meaning, takes_one_means_one};
+ghost use Rattle.combine_base.specs.Error.Errors.{AddsNothing};
+ghost use Rattle.combine_token.specs.Token.Among.{EndsAlways, FindsAmong, among, none_among, expects_each, not_is_predicate};
+ghost use Rattle.combine_token.specs.Token.OneToken.{IsPredicate, satisfied, satisfied_is_test, takes_one, takes_one_is_meaning, takes_one_means_one};
 
 use crate::token::among::{expect_each, is_among};
 use crate::token::reading::token_if;
@@ -44,7 +44,7 @@ where
 
     ghost valid = { λ s. Unit {0} };
 
-    ghost meaning = { λ p. takes_one Input.Error.seen (satisfied (among T.is_clone T.into_iter_gives T.IntoIter.next_gives p.tokens Input.Token.eq)) (T.is_infallible p.tokens) (expects_each T.is_clone T.into_iter_gives T.IntoIter.next_gives p.tokens) };
+    ghost meaning = { λ p. takes_one Input.Error.observers (satisfied (among T.is_clone T.into_iter_gives T.IntoIter.next_gives p.tokens Input.Token.eq)) (T.is_infallible p.tokens) (expects_each T.is_clone T.into_iter_gives T.IntoIter.next_gives p.tokens) };
 
     ghost parts = { λ p. 1 };
 
@@ -64,7 +64,7 @@ where
         token_if(
             move |token: Input::Token| -> bool
                 requires { T.IntoIter.can_next items × IsFinite (T.IntoIter.remaining items) }
-                ensures { Finds T.IntoIter.next_gives (λ x. Input.Token.eq x token) items result }
+                ensures { FindsAmong T.IntoIter.next_gives (λ x. Input.Token.eq x token) items result }
             { is_among(items, token) },
             input,
         )
@@ -85,9 +85,9 @@ where
 
     ghost default_valid = { λ s d. tt };
 
-    ghost laws = { λ p l. takes_one_is_meaning Input.Error.seen (satisfied (among T.is_clone T.into_iter_gives T.IntoIter.next_gives p.tokens Input.Token.eq)) _ _ _ _ };
+    ghost laws = { λ p l. takes_one_is_meaning Input.Error.observers (satisfied (among T.is_clone T.into_iter_gives T.IntoIter.next_gives p.tokens Input.Token.eq)) _ _ _ _ };
 
-    ghost single = { λ p l d. takes_one_means_one Input.Error.seen (satisfied (among T.is_clone T.into_iter_gives T.IntoIter.next_gives p.tokens Input.Token.eq)) _ _ _ (satisfied_is_test _ d) };
+    ghost single = { λ p l d. takes_one_means_one Input.Error.observers (satisfied (among T.is_clone T.into_iter_gives T.IntoIter.next_gives p.tokens Input.Token.eq)) _ _ _ (satisfied_is_test _ d) };
 }
 
 impl<Input: StreamOnce, T> Outputs<Input> for NoneOf<T, Input> {
@@ -106,7 +106,7 @@ where
 
     ghost valid = { λ s. Unit {0} };
 
-    ghost meaning = { λ p. takes_one Input.Error.seen (satisfied (beside T.is_clone T.into_iter_gives T.IntoIter.next_gives p.tokens Input.Token.eq)) (T.is_infallible p.tokens) Nothing };
+    ghost meaning = { λ p. takes_one Input.Error.observers (satisfied (none_among T.is_clone T.into_iter_gives T.IntoIter.next_gives p.tokens Input.Token.eq)) (T.is_infallible p.tokens) AddsNothing };
 
     ghost parts = { λ p. 1 };
 
@@ -126,7 +126,7 @@ where
         token_if(
             move |token: Input::Token| -> bool
                 requires { T.IntoIter.can_next items × IsFinite (T.IntoIter.remaining items) }
-                ensures { Finds T.IntoIter.next_gives (λ x. Input.Token.eq x token) items (not result) }
+                ensures { FindsAmong T.IntoIter.next_gives (λ x. Input.Token.eq x token) items (not result) }
             { !is_among(items, token) },
             input,
         )
@@ -142,7 +142,7 @@ where
 
     ghost default_valid = { λ s d. tt };
 
-    ghost laws = { λ p l. takes_one_is_meaning Input.Error.seen (satisfied (beside T.is_clone T.into_iter_gives T.IntoIter.next_gives p.tokens Input.Token.eq)) _ _ _ _ };
+    ghost laws = { λ p l. takes_one_is_meaning Input.Error.observers (satisfied (none_among T.is_clone T.into_iter_gives T.IntoIter.next_gives p.tokens Input.Token.eq)) _ _ _ _ };
 
-    ghost single = { λ p l d. takes_one_means_one Input.Error.seen (satisfied (beside T.is_clone T.into_iter_gives T.IntoIter.next_gives p.tokens Input.Token.eq)) _ _ _ (satisfied_is_test _ (not_is_predicate _ d)) };
+    ghost single = { λ p l d. takes_one_means_one Input.Error.observers (satisfied (none_among T.is_clone T.into_iter_gives T.IntoIter.next_gives p.tokens Input.Token.eq)) _ _ _ (satisfied_is_test _ (not_is_predicate _ d)) };
 }

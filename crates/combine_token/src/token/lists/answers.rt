@@ -1,22 +1,21 @@
-//! How the items of a list are passed over, and how its match is answered.
+//! How the items of a list are passed over, and what a match of it comes to.
 ghost use Rattle.std.specs.Prelude.{◌≡◌, ◌↔◌, ◌+◌, ◌<◌, ◌≤◌, MatchResult, true};
 ghost use Rattle.std.specs.Iterator.{IsFinite, size};
 ghost use Rattle.std.specs.Option.{option_copied};
 ghost use Rattle.combine_base.specs.Error.Errors.{New};
 ghost use Rattle.combine_base.specs.Parser.Reasons.{Reasoned};
 ghost use Rattle.combine_base.specs.Stream.Calls.{Passes};
-ghost use Rattle.combine_token.specs.Iterated.{Gave, GaveAll};
-ghost use Rattle.combine_token.specs.ListAnswers.{Accepted, FindsNone, Mismatch, PutBack};
-ghost use Rattle.combine_token.specs.Reasons.{SaysEnded, peeked_only};
+ghost use Rattle.combine_token.specs.Token.Lists.IteratedLists.{Gave, GaveAll};
+ghost use Rattle.combine_token.specs.Token.Lists.ListAnswers.{AcceptsList, FindsNone, Mismatch, PutsBackList};
+ghost use Rattle.combine_token.specs.Token.TokenReasons.{SaysEnded, peeked_only};
 
-use combine_base::error::{Info, ParseError, ParseResult, Tracked};
+use combine_base::error::{Info, ParseError, ParseResult, Tracked, accepted_after, refused_after};
 use combine_base::refusal::{add_unexpected_token, no_token};
-use combine_base::sequence::{accepted_after, refused_after};
 use combine_base::stream::{Kind, Stream};
 
-/// Takes the first `n` items, or answers how many there were, if there were fewer.
+/// Takes the first `n` items, or returns how many there were, if there were fewer.
 #[inline]
-pub(super) fn pass_over<I: Iterator>(items: &mut I, n: usize) -> Result<(), usize>
+pub(super) fn pass_list_items<I: Iterator>(items: &mut I, n: usize) -> Result<(), usize>
 where
     I::Item: Drop,
     requires can { I.can_next items.old }
@@ -32,7 +31,7 @@ where
     Ok(())
 }
 
-/// An acceptance with a clone of the value.
+/// Accepts with a clone of the value.
 #[inline]
 pub(super) fn accepted<V: Clone, Input: Stream>(
     value: &V,
@@ -40,7 +39,7 @@ pub(super) fn accepted<V: Clone, Input: Stream>(
     position: Input::Position,
     input: &Input,
 ) -> ParseResult<V, Input::Error>
-    ensures { Accepted Input.Error.seen.kind (V.is_clone value.now) (V.is_infallible value.now) committed result }
+    ensures { AcceptsList Input.Error.observers.kind (V.is_clone value.now) (V.is_infallible value.now) committed result }
 {
     match value.clone() {
         Ok(value) => accepted_after(committed, value),
@@ -48,14 +47,14 @@ pub(super) fn accepted<V: Clone, Input: Stream>(
     }
 }
 
-/// The error of a refusal at a token that doesn't fit.
+/// Makes the error of a refusal at a token that doesn't fit.
 pub(super) fn mismatch<Input: Stream>(
     token: Input::Token,
     expected: Option<&Info<Input::Token, Input::Range>>,
     position: Input::Position,
     input: &Input,
 ) -> Input::Error
-    ensures { Mismatch Input.Error.seen position token (option_copied expected.entry) result }
+    ensures { Mismatch Input.Error.observers position token (option_copied expected.entry) result }
 {
     let mut error = input.new_error(Kind::Refused, position);
     add_unexpected_token(&mut error, token);
@@ -65,14 +64,14 @@ pub(super) fn mismatch<Input: Stream>(
     error
 }
 
-/// A peeked refusal, with the stream put back to where the call began.
+/// Refuses peeked, with the stream put back to where the call began.
 pub(super) fn put_back<O, Input: Stream>(
     start: Input::Checkpoint,
     position: Input::Position,
     input: &mut Input,
 ) -> ParseResult<O, Input::Error>
-    ensures back { PutBack Input.steady Input.step Input.Error.seen.kind (Input.stands input.old start) (Input.view input.old) (Input.view input.new) (Input.failures input.old) (Input.failures input.new) result }
-    ensures refuses { Reasoned Input.Error.seen.kind (Input.view input.new).is_open (peeked_only (New Input.Error.seen Kind.Refused position)) result }
+    ensures back { PutsBackList Input.counts_failures Input.step Input.Error.observers.kind (Input.stands input.old start) (Input.view input.old) (Input.view input.new) (Input.failures input.old) (Input.failures input.new) result }
+    ensures refuses { Reasoned Input.Error.observers.kind (Input.view input.new).is_open (peeked_only (New Input.Error.observers Kind.Refused position)) result }
     ensures passes { Passes (Input.marks input.old) (Input.marks input.new) (Input.failures input.old) (Input.failures input.new) }
 {
     if let Err(kind) = input.reset(start) {
@@ -81,15 +80,15 @@ pub(super) fn put_back<O, Input: Stream>(
     ParseResult::PeekErr(Tracked::from(input.new_error(Kind::Refused, position)))
 }
 
-/// What is answered where a read gave no token: at the end of ended input a refusal.
+/// Returns the result where a read gave no token: at the end of ended input a refusal.
 pub(super) fn no_more<O, Input: Stream>(
     committed: bool,
     why: Kind,
     position: Input::Position,
     input: &Input,
 ) -> ParseResult<O, Input::Error>
-    ensures finds { FindsNone Input.Error.seen.kind Input.Error.seen.frugal (Input.view input.now).is_open committed why result }
-    ensures refuses { why ≡ Kind.End → Reasoned Input.Error.seen.kind (Input.view input.now).is_open (SaysEnded Input.Error.seen position committed) result }
+    ensures finds { FindsNone Input.Error.observers.kind Input.Error.observers.never_allocates (Input.view input.now).is_open committed why result }
+    ensures refuses { why ≡ Kind.End → Reasoned Input.Error.observers.kind (Input.view input.now).is_open (SaysEnded Input.Error.observers position committed) result }
 {
     match no_token::<O, Input>(input, why, position) {
         ParseResult::PeekErr(refusal) => refused_after(committed, refusal),

@@ -1,11 +1,11 @@
 //! The parsers of lists of tokens, and their state.
 ghost use Rattle.std.specs.Prelude.{◌≡◌, not, if◌then◌else◌, MatchResult, None, Some};
-ghost use Rattle.combine_base.specs.Error.Errors.{Nothing, Only};
+ghost use Rattle.combine_base.specs.Error.Errors.{AddsNothing, Only};
 ghost use Rattle.combine_base.specs.Error.Items.{Expected, shown};
-ghost use Rattle.combine_token.specs.ListAnswers.{NoText};
-ghost use Rattle.combine_token.specs.TokenLists.{ComparesOnce};
-ghost use Rattle.combine_token.specs.TokenListLaws.{token_list, token_list_is_meaning, token_list_means_one};
-ghost use Rattle.combine_token.specs.Iterated.{IsIterated, iterated, iterated_ends_once};
+ghost use Rattle.combine_token.specs.Token.Lists.ListAnswers.{NoText};
+ghost use Rattle.combine_token.specs.Token.Lists.TokenLists.{ComparesOnce};
+ghost use Rattle.combine_token.specs.Token.Lists.ListMeaning.{token_list, token_list_is_meaning, token_list_means_one};
+ghost use Rattle.combine_token.specs.Token.Lists.IteratedLists.{IsIterated, iterated_tokens, iterated_ends_once};
 
 use crate::token::lists::match_list;
 use combine_base::error::{ErrorOffset, Info, ParseError, ParseResult, Tracked};
@@ -14,10 +14,12 @@ use combine_base::stream::Stream;
 use std::alloc::AllocError;
 use std::marker::PhantomData;
 
-/// The parser that `tokens` makes.
+/// The parser of [`tokens`](crate::token::tokens).
 ///
 /// Its errors at a committed mismatch say which token stands there and what was expected, at the position where the call began.
+///
 /// On need of more nothing is left unread: the state keeps how many tokens were matched.
+///
 /// `E` is an `Info`, in the crate what is turned into one.
 #[derive(Drop)]
 pub struct Tokens<C, E, T, Input> {
@@ -42,7 +44,7 @@ impl<C: Clone, A: Copy, R: Copy, T: Clone, Input> Clone for Tokens<C, Info<A, R>
     }
 }
 
-/// An equal info; the clone of a text takes memory.
+/// Returns an equal info; the clone of a text takes memory.
 fn copied<T: Copy, R: Copy>(info: &Info<T, R>) -> Result<Info<T, R>, AllocError>
     ensures { MatchResult result (λ i. shown i ≡ shown info.now) (λ _. NoText info.now → ⊥) }
 {
@@ -86,19 +88,19 @@ where
 
     ghost lawful = { λ p. C.IsAlwaysCallable p.cmp × IsIterated T.is_clone T.into_iter_gives T.IntoIter.next_gives p.tokens T.IntoIter.can_next T.IntoIter.remaining };
 
-    ghost determined = { λ p. ComparesOnce (iterated T.is_clone T.into_iter_gives T.IntoIter.next_gives p.tokens (λ x t b. C.post p.cmp x t b)) };
+    ghost determined = { λ p. ComparesOnce (iterated_tokens T.is_clone T.into_iter_gives T.IntoIter.next_gives p.tokens (λ x t b. C.post p.cmp x t b)) };
 
     ghost valid = { λ s. Unit {0} };
 
-    ghost meaning = { λ p. token_list Input.Error.seen (iterated T.is_clone T.into_iter_gives T.IntoIter.next_gives p.tokens (λ x t b. C.post p.cmp x t b)) (Some p.expected) (T.is_clone p.tokens) (λ s. s.matched) (T.is_infallible p.tokens) (Only (Expected (shown p.expected))) };
+    ghost meaning = { λ p. token_list Input.Error.observers (iterated_tokens T.is_clone T.into_iter_gives T.IntoIter.next_gives p.tokens (λ x t b. C.post p.cmp x t b)) (Some p.expected) (T.is_clone p.tokens) (λ s. s.matched) (T.is_infallible p.tokens) (Only (Expected (shown p.expected))) };
 
     ghost parts = { λ _. 1 };
 
     ghost default_valid = { λ s d. tt };
 
-    ghost laws = { λ p l. token_list_is_meaning Input.Error.seen _ _ _ _ _ _ _ _ (λ s d. d) };
+    ghost laws = { λ p l. token_list_is_meaning Input.Error.observers _ _ _ _ _ _ _ _ (λ s d. d) };
 
-    ghost single = { λ p l d. token_list_means_one Input.Error.seen _ _ _ _ _ _ (λ _. Unit {0}) (λ _. Unit {0}) (iterated_ends_once _ _ _ _ _ _ _ l.1) d };
+    ghost single = { λ p l d. token_list_means_one Input.Error.observers _ _ _ _ _ _ (λ _. Unit {0}) (λ _. Unit {0}) (iterated_ends_once _ _ _ _ _ _ _ l.1) d };
 
     #[inline(always)]
     fn parse_mode<M: ParseMode>(
@@ -127,9 +129,10 @@ where
     }
 }
 
-/// The parser that `tokens_cmp` makes.
+/// The parser of [`tokens_cmp`](crate::token::tokens_cmp).
 ///
-/// Its errors at a committed mismatch say which token stands there, at the position where the call began; what was expected is never said.
+/// Its errors at a committed mismatch say which token stands there, at the position where the call began. What was expected is never said.
+///
 /// On need of more nothing is left unread: the state keeps how many tokens were matched.
 #[derive(Drop)]
 #[derive_where(Clone; C, T)]
@@ -152,19 +155,19 @@ where
 
     ghost lawful = { λ p. C.IsAlwaysCallable p.cmp × IsIterated T.is_clone T.into_iter_gives T.IntoIter.next_gives p.tokens T.IntoIter.can_next T.IntoIter.remaining };
 
-    ghost determined = { λ p. ComparesOnce (iterated T.is_clone T.into_iter_gives T.IntoIter.next_gives p.tokens (λ x t b. C.post p.cmp x t b)) };
+    ghost determined = { λ p. ComparesOnce (iterated_tokens T.is_clone T.into_iter_gives T.IntoIter.next_gives p.tokens (λ x t b. C.post p.cmp x t b)) };
 
     ghost valid = { λ s. Unit {0} };
 
-    ghost meaning = { λ p. token_list Input.Error.seen (iterated T.is_clone T.into_iter_gives T.IntoIter.next_gives p.tokens (λ x t b. C.post p.cmp x t b)) None (T.is_clone p.tokens) (λ s. s.matched) (T.is_infallible p.tokens) Nothing };
+    ghost meaning = { λ p. token_list Input.Error.observers (iterated_tokens T.is_clone T.into_iter_gives T.IntoIter.next_gives p.tokens (λ x t b. C.post p.cmp x t b)) None (T.is_clone p.tokens) (λ s. s.matched) (T.is_infallible p.tokens) AddsNothing };
 
     ghost parts = { λ _. 1 };
 
     ghost default_valid = { λ s d. tt };
 
-    ghost laws = { λ p l. token_list_is_meaning Input.Error.seen _ _ _ _ _ _ _ _ (λ s d. d) };
+    ghost laws = { λ p l. token_list_is_meaning Input.Error.observers _ _ _ _ _ _ _ _ (λ s d. d) };
 
-    ghost single = { λ p l d. token_list_means_one Input.Error.seen _ _ _ _ _ _ (λ _. Unit {0}) (λ _. Unit {0}) (iterated_ends_once _ _ _ _ _ _ _ l.1) d };
+    ghost single = { λ p l d. token_list_means_one Input.Error.observers _ _ _ _ _ _ (λ _. Unit {0}) (λ _. Unit {0}) (iterated_ends_once _ _ _ _ _ _ _ l.1) d };
 
     #[inline(always)]
     fn parse_mode<M: ParseMode>(

@@ -1,5 +1,5 @@
 use Rattle.std.proofs.Common.{rules, arith, length-drop}
-use Rattle.diff_answers.proofs.Iterated.{letters_are_iterated}
+use Rattle.diff_answers.proofs.LetterParsers.{letters_are_iterated}
 use Rattle.diff_answers.proofs.letters.visit_tokens.Goals as goal
 
 pub visit-requires-clause-lawful : goal.visit-requires-clause-lawful

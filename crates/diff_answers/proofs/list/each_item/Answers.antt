@@ -1,5 +1,5 @@
 use Rattle.std.proofs.Common.{rules}
-use Rattle.combine_repeat_iterate.proofs.Ranges.{range_lists}
+use Rattle.combine_repeat_iterate.proofs.NumberRanges.{range_lists}
 use Rattle.diff_answers.proofs.list.each_item.Goals as goal
 
 pub answer_over_bytes-requires : goal.answer_over_bytes-requires

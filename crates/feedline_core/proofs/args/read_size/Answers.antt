@@ -1,6 +1,6 @@
 use Rattle.std.proofs.Common.{ℕ, ◌<◌, ◌≤◌, ◌^◌, arith}
 use Rattle.std.proofs.Math.Nat.{pow-le-pow_right}
-use Rattle.feedline_core.proofs.Sizing.{says_size}
+use Rattle.feedline_core.proofs.Sizes.{says_size}
 use Rattle.feedline_core.proofs.args.read_size.Goals as goal
 
 -- up to six digits write a number below a million

@@ -1,11 +1,11 @@
 use Rattle.std.proofs.Common.{◌≡◌, ◌+◌, ◌<◌, map, length, arith}
 use Rattle.std.proofs.lemmas.List.{length-map, get_or-map}
-use Rattle.combine_decode.proofs.Dividing.{made_is_reading}
-use Rattle.feedline_core.proofs.Batches.{ends_at, ends_behind, goes_on, line_behind, none_written, room_at, room_behind}
+use Rattle.combine_decode.proofs.MessageDivision.{made_is_reading}
+use Rattle.feedline_core.proofs.Batches.{lines_end_at, lines_end_after, lines_go_on, line_behind, no_message_written, room_at, room_behind}
 use Rattle.feedline_core.proofs.decoding.decode.Goals as goal
 
 pub pieces-init : goal.pieces-init
-pieces-init g c = record { maker = c.new-decoder.ensures.maker; written = none_written _ _ _ _ _ c.new-decoder.ensures.maker c.new-decoder.ensures.stands }
+pieces-init g c = record { maker = c.new-decoder.ensures.maker; written = no_message_written _ _ _ _ _ c.new-decoder.ensures.maker c.new-decoder.ensures.stands }
 
 pub decode_piece-requires-clause-room : goal.decode_piece-requires-clause-room
 decode_piece-requires-clause-room g c =
@@ -20,14 +20,14 @@ returns-in_default g c =
     let within : c.pieces.index < length pieces = rw length-map c.pieces-test.true in
     let at = get_or-map (λ p. p.now) c.args.pieces.now c.pieces.index _ _ c.pieces-test.true in
     let line = line_behind c.decode_piece.new.decoder.at_boundary c.args.pieces.now (c.pieces.index + 1) _ _ c.write_last.result (rw c.at_boundary.ensures at c.write_last.ensures) in
-    ends_at _ _ _ (made_is_reading _ _ _ _ _ c.requires.lawful g.met.P.Parser.laws) pieces _ _ _ _ c.pieces.invariant.written _ within at _ _ _ c.in_ok-decode_piece.ensures c.in_default.not-More _ _ line
+    lines_end_at _ _ _ (made_is_reading _ _ _ _ _ c.requires.lawful g.met.P.Parser.laws) pieces _ _ _ _ c.pieces.invariant.written _ within at _ _ _ c.in_ok-decode_piece.ensures c.in_default.not-More _ _ line
 
 pub pieces-preserved : goal.pieces-preserved
 pieces-preserved g c =
     let pieces = map (λ p. p.now) c.args.pieces.now in
     let within : c.pieces.index < length pieces = rw length-map c.pieces-test.true in
     let at = get_or-map (λ p. p.now) c.args.pieces.now c.pieces.index _ _ c.pieces-test.true in
-    let written = goes_on _ _ _ (made_is_reading _ _ _ _ _ c.requires.lawful g.met.P.Parser.laws) pieces _ _ _ _ c.pieces.invariant.written _ within at _ _ _ c.in_ok-decode_piece.ensures c.in-More.is in
+    let written = lines_go_on _ _ _ (made_is_reading _ _ _ _ _ c.requires.lawful g.met.P.Parser.laws) pieces _ _ _ _ c.pieces.invariant.written _ within at _ _ _ c.in_ok-decode_piece.ensures c.in-More.is in
     record { maker = written.far.maker; written = written }
 
 pub decode_piece-requires-2-clause-room : goal.decode_piece-requires-2-clause-room
@@ -41,4 +41,4 @@ returns g c =
     let pieces = map (λ p. p.now) c.args.pieces.now in
     let all : c.pieces.index ≡ length pieces = rw length-map (omega arith) in
     let line = rw c.at_boundary-2.ensures at c.write_last-2.ensures in
-    ends_behind _ _ _ (made_is_reading _ _ _ _ _ c.requires.lawful g.met.P.Parser.laws) pieces _ _ _ _ c.pieces.invariant.written all _ _ _ c.in_ok-decode_piece-2.ensures _ _ line
+    lines_end_after _ _ _ (made_is_reading _ _ _ _ _ c.requires.lawful g.met.P.Parser.laws) pieces _ _ _ _ c.pieces.invariant.written all _ _ _ c.in_ok-decode_piece-2.ensures _ _ line

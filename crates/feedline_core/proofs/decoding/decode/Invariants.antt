@@ -1,11 +1,11 @@
 use Rattle.std.proofs.Common.{◌≡◌, take, map}
 use Rattle.combine_base.specs.Parser.Pieces.{concatenated}
-use Rattle.feedline_core.proofs.Batches.{Written}
+use Rattle.feedline_core.proofs.Batches.{WrittenMessages}
 use Rattle.feedline_core.proofs.decoding.decode.Given as goal
 
 -- the lines of the messages so far are written, and the decoder goes on behind them
 abbrev pub invariant-pieces : goal.invariant-pieces
 invariant-pieces g l = record {
   maker : l.decoder.maker ≡ l.fn.maker;
-  written : Written (λ f p. g.F.Fn.post f tt p) g.P.Parser.meaning l.fn.maker (g.W.Write.contents l.fn.out) (g.W.Write.contents l.out) (concatenated (take l.index (map (λ p. p.now) l.pieces))) l.decoder;
+  written : WrittenMessages (λ f p. g.F.Fn.post f tt p) g.P.Parser.meaning l.fn.maker (g.W.Write.contents l.fn.out) (g.W.Write.contents l.out) (concatenated (take l.index (map (λ p. p.now) l.pieces))) l.decoder;
 }

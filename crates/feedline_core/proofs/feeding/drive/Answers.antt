@@ -1,9 +1,9 @@
 use Rattle.std.proofs.Common.{◌≡◌, ◌<◌, ◌≤◌, ◌∙◌, map, length, arith}
 use Rattle.std.proofs.lemmas.List.{length-map, get_or-map}
 use Rattle.std.proofs.lemmas.Result.{err_from_is_err_and}
-use Rattle.combine_base.proofs.Pieces.{further_at, limit_stays, stops_at, ends_at}
-use Rattle.feedline_core.proofs.Running.{one_more_at, decided, fits_all, fits_at, gives_up}
-use Rattle.feedline_core.proofs.Sessions.{asked_so_far, feeds_end, feeds_within, has_room, leaves_unread}
+use Rattle.combine_base.proofs.Parsers.Pieces.{further_at, limit_stays, stops_at, decided_after_pieces}
+use Rattle.feedline_core.proofs.RunLines.{one_more_at, lines_decided, fits_all, fits_at, gives_up}
+use Rattle.feedline_core.proofs.SessionRoom.{asked_so_far, feeds_end, feeds_within, has_room, leaves_unread}
 use Rattle.feedline_core.proofs.feeding.drive.Goals as goal
 
 pub feed-requires-clause-fits : goal.feed-requires-clause-fits
@@ -32,7 +32,7 @@ returns-in_default g c =
     let at = get_or-map (λ p. p.now) c.args.pieces.now c.pieces.piece-index _ _ c.pieces-test.true in
     let i = c.pieces.invariant in
     let fit = rw i.limit at (feeds_within _ _ _ _ i.far.stage _ _ c.in_ok-answer.ensures) in
-    decided _ _ _ pieces _ _ _ _ i.written most _ (fits_at _ _ _ pieces _ _ _ _ i.written most _ within at fit) _ (stops_at _ _ _ pieces _ _ i.far _ within at _ (g.met.P.Parser.laws _ c.requires.lawful).whole _ c.in_default.not-More c.in_ok-answer.ensures) _ c.write_decision.ensures
+    lines_decided _ _ _ pieces _ _ _ _ i.written most _ (fits_at _ _ _ pieces _ _ _ _ i.written most _ within at fit) _ (stops_at _ _ _ pieces _ _ i.far _ within at _ (g.met.P.Parser.laws _ c.requires.lawful).whole _ c.in_default.not-More c.in_ok-answer.ensures) _ c.write_decision.ensures
 
 pub pieces-preserved : goal.pieces-preserved
 pieces-preserved g c =
@@ -56,4 +56,4 @@ returns g c =
     let all : c.pieces.piece-index ≡ length pieces = rw length-map (omega arith) in
     let most : c.pieces.piece-index ≤ length pieces = omega arith in
     let i = c.pieces.invariant in
-    decided _ _ _ pieces _ _ _ _ i.written most _ (fits_all _ _ _ pieces _ _ _ _ i.written most all) _ (ends_at _ _ _ pieces _ _ i.far all _ _ c.in_ok-answer-2.ensures) _ c.write_decision-2.ensures
+    lines_decided _ _ _ pieces _ _ _ _ i.written most _ (fits_all _ _ _ pieces _ _ _ _ i.written most all) _ (decided_after_pieces _ _ _ pieces _ _ i.far all _ _ c.in_ok-answer-2.ensures) _ c.write_decision-2.ensures

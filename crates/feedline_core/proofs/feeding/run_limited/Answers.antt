@@ -7,9 +7,9 @@ use Rattle.combine_base.specs.declared.sequence.PartialState4.{PartialState4}
 use Rattle.combine_combinator.specs.declared.combinator.TryState.{TryState}
 use Rattle.combine_combinator.specs.declared.combinator.types.Try.{Try}
 use Rattle.combine_token.specs.declared.token.types.Token.{Token}
-use Rattle.feedline_core.proofs.OnInput.{joined_whole, runs_on}
+use Rattle.feedline_core.proofs.OnInput.{joined_whole, runs_on_input}
 use Rattle.feedline_core.proofs.Single.{message_is_single}
-use Rattle.feedline_core.specs.Runs.{Runs}
+use Rattle.feedline_core.specs.Runs.{RunsPieces}
 use Rattle.feedline_core.specs.Messages.{all_four, delete_after, message, or_set}
 use Rattle.feedline_core.proofs.feeding.run_limited.Goals as goal
 
@@ -27,6 +27,6 @@ drive_after-requires-clause-fits g c =
 pub returns : goal.returns
 returns g c =
     let del = rw c.token-4.ensures at rw c.token-3.ensures at rw c.token-2.ensures at rw c.token.ensures at c.attempt-del.ensures in
-    let drove = subst (λ d. Runs (or_set (delete_after (of_parts d))).whole (or_set (delete_after (of_parts d))).rest c.args.limit (map (λ p. p.now) c.deref.result.now) (g.W.Write.contents c.args.out.now) (g.W.Write.contents c.drive_after.new.out) c.drive_after.result) del c.drive_after.ensures in
+    let drove = subst (λ d. RunsPieces (or_set (delete_after (of_parts d))).whole (or_set (delete_after (of_parts d))).rest c.args.limit (map (λ p. p.now) c.deref.result.now) (g.W.Write.contents c.args.out.now) (g.W.Write.contents c.drive_after.new.out) c.drive_after.result) del c.drive_after.ensures in
     let pieces = ap (map (λ p. p.now)) c.deref.ensures.value ∙ c.in_ok-pieces.ensures in
-    runs_on message.whole message.rest c.args.limit message_is_single _ _ _ _ _ (subst (λ ps. Runs message.whole message.rest c.args.limit ps (g.W.Write.contents c.args.out.now) (g.W.Write.contents c.drive_after.new.out) c.drive_after.result) pieces drove)
+    runs_on_input message.whole message.rest c.args.limit message_is_single _ _ _ _ _ (subst (λ ps. RunsPieces message.whole message.rest c.args.limit ps (g.W.Write.contents c.args.out.now) (g.W.Write.contents c.drive_after.new.out) c.drive_after.result) pieces drove)

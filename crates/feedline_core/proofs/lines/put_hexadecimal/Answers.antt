@@ -1,4 +1,4 @@
-use Rattle.feedline_core.proofs.Writing.{hexadecimal_more}
+use Rattle.feedline_core.proofs.WrittenLines.{hexadecimal_more}
 use Rattle.feedline_core.proofs.lines.put_hexadecimal.Goals as goal
 
 pub bytes-preserved : goal.bytes-preserved

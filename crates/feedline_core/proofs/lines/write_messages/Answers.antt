@@ -1,5 +1,5 @@
 use Rattle.std.proofs.Common.{sym}
-use Rattle.feedline_core.proofs.Writing.{message_more}
+use Rattle.feedline_core.proofs.WrittenLines.{message_more}
 use Rattle.feedline_core.proofs.lines.write_messages.Goals as goal
 
 pub messages-preserved : goal.messages-preserved

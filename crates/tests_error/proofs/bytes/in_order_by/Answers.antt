@@ -1,5 +1,5 @@
 use Rattle.std.proofs.Common.{rules, arith}
-use Rattle.combine_token.proofs.StdLists.{slice_is_iterated}
+use Rattle.combine_token.proofs.Lists.StdLists.{slice_is_iterated}
 use Rattle.tests_error.proofs.bytes.in_order_by.Goals as goal
 
 pub check-requires : goal.check-requires

@@ -1,5 +1,5 @@
 use Rattle.std.proofs.Common.{rules}
-use Rattle.combine_repeat_iterate.proofs.Ranges.{range_lists}
+use Rattle.combine_repeat_iterate.proofs.NumberRanges.{range_lists}
 use Rattle.tests_error_messages.proofs.repetitions.items.Goals as goal
 
 pub check-requires : goal.check-requires

@@ -1,7 +1,7 @@
 use Rattle.std.proofs.Common.{[], ◌∙◌, ◌∷◌, ◌≡◌, arith, nat_eq, of_calls, rules}
 use Rattle.std.proofs.lemmas.List.Elements.{same_from_all_zip}
-use Rattle.combine_token.proofs.Listing.{iterated_compares_once}
-use Rattle.combine_token.proofs.StdLists.{array_is_iterated, array_lists}
+use Rattle.combine_token.proofs.Lists.ListClones.{iterated_compares_once}
+use Rattle.combine_token.proofs.Lists.StdLists.{array_is_iterated, array_lists}
 use Rattle.tests_promises.proofs.asking.any_lists.Goals as goal
 
 pub call_afresh-tokens-requires-clause-lawful : goal.call_afresh-tokens-requires-clause-lawful

@@ -3,8 +3,8 @@ use Rattle.combine_base.specs.Error.Errors.{Only}
 use Rattle.combine_base.specs.Error.Items.{Expected, OfToken}
 use Rattle.combine_base.specs.Error.NoItems.{no_items}
 use Rattle.combine_base.specs.Error.Results.{from_standard}
-use Rattle.combine_token.specs.OneToken.{of_function, of_function_is_predicate, one_token_is_reading, one_token_is_single, satisfied, satisfied_is_test, takes_one}
-use Rattle.combine_combinator_function.proofs.Promised.{env_is_single, env_needs_no_memory, plain_is_single, plain_needs_no_memory}
+use Rattle.combine_token.specs.Token.OneToken.{of_function, of_function_is_predicate, one_token_is_reading, one_token_is_single, satisfied, satisfied_is_test, takes_one}
+use Rattle.combine_combinator_function.proofs.PlainFunctions.{env_is_single, env_needs_no_memory, plain_is_single, plain_needs_no_memory}
 use Rattle.tests_promises.proofs.called.promised.Goals as goal
 
 pub puts_back_without_memory-requires-clause-determined : goal.puts_back_without_memory-requires-clause-determined
@@ -12,8 +12,8 @@ puts_back_without_memory-requires-clause-determined c =
     let test = satisfied (of_function (λ t. nat_eq t 97)) in
     plain_is_single _ no_items _ _ _ (λ s. Unit {0}) (takes_one no_items test (Unit {0}) (Only (Expected (OfToken 97)))) from_standard _ (λ shown after own p. p) (one_token_is_reading test) (one_token_is_single test (satisfied_is_test _ (of_function_is_predicate (λ t. nat_eq t 97))))
 
-pub puts_back_without_memory-requires-clause-lean : goal.puts_back_without_memory-requires-clause-lean
-puts_back_without_memory-requires-clause-lean c =
+pub puts_back_without_memory-requires-clause-heapless : goal.puts_back_without_memory-requires-clause-heapless
+puts_back_without_memory-requires-clause-heapless c =
     let test = satisfied (of_function (λ t. nat_eq t 97)) in
     (tt, plain_needs_no_memory _ no_items _ _ _ (λ s. Unit {0}) (takes_one no_items test (Unit {0}) (Only (Expected (OfToken 97)))) from_standard _ (λ shown after own p. p) tt tt)
 
@@ -22,7 +22,7 @@ puts_back_without_memory-requires-2-clause-determined c =
     let test = satisfied (of_function (λ t. nat_eq t 97)) in
     rw c.env_parser.ensures (env_is_single _ no_items _ _ _ (λ s. Unit {0}) (takes_one no_items test (Unit {0}) (Only (Expected (OfToken 97)))) from_standard _ _ (λ env shown after own i p. rw i at p) (one_token_is_reading test) (one_token_is_single test (satisfied_is_test _ (of_function_is_predicate (λ t. nat_eq t 97)))))
 
-pub puts_back_without_memory-requires-2-clause-lean : goal.puts_back_without_memory-requires-2-clause-lean
-puts_back_without_memory-requires-2-clause-lean c =
+pub puts_back_without_memory-requires-2-clause-heapless : goal.puts_back_without_memory-requires-2-clause-heapless
+puts_back_without_memory-requires-2-clause-heapless c =
     let test = satisfied (of_function (λ t. nat_eq t 97)) in
     rw c.env_parser.ensures (tt, env_needs_no_memory _ no_items _ _ _ (λ s. Unit {0}) (takes_one no_items test (Unit {0}) (Only (Expected (OfToken 97)))) from_standard _ _ (λ env shown after own i p. rw i at p) tt tt)

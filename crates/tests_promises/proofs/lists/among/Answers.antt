@@ -1,7 +1,7 @@
 use Rattle.std.proofs.Common.{[], ◌∙◌, ◌∷◌, nat_eq, refl}
 use Rattle.std.proofs.lemmas.List.Elements.{same_from_all_zip}
-use Rattle.combine_token.proofs.KnownItems.{among_is_predicate}
-use Rattle.combine_token.proofs.StdLists.{array_lists}
+use Rattle.combine_token.proofs.Lists.KnownItems.{among_is_predicate}
+use Rattle.combine_token.proofs.Lists.StdLists.{array_lists}
 use Rattle.tests_promises.proofs.lists.among.Goals as goal
 
 pub keeps_without_memory-requires-clause-determined : goal.keeps_without_memory-requires-clause-determined

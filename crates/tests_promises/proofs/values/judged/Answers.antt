@@ -1,4 +1,4 @@
-use Rattle.tests_promises.proofs.Deciding.{any_decides}
+use Rattle.tests_promises.proofs.OneOutcome.{any_decides}
 use Rattle.tests_promises.proofs.values.judged.Goals as goal
 
 pub keeps_without_memory-requires-clause-determined : goal.keeps_without_memory-requires-clause-determined

@@ -1,5 +1,5 @@
 use Rattle.std.proofs.Common.{rules}
-use Rattle.combine_repeat_iterate.proofs.Ranges.{range_lists}
+use Rattle.combine_repeat_iterate.proofs.NumberRanges.{range_lists}
 use Rattle.tests_repeat.proofs.items.more_each_time.Goals as goal
 
 pub parse_pieces-requires-after_bounds : goal.parse_pieces-requires-after_bounds

@@ -1,5 +1,5 @@
 use Rattle.std.proofs.Common.{rules, arith}
-use Rattle.combine_token.proofs.StdLists.{slice_is_iterated}
+use Rattle.combine_token.proofs.Lists.StdLists.{slice_is_iterated}
 use Rattle.tests_token.proofs.tokens.get_word.Goals as goal
 
 pub parse-requires : goal.parse-requires

@@ -1,13 +1,13 @@
 use Rattle.std.proofs.Common.{rules, length, ◌≡◌}
 use Rattle.std.proofs.lemmas.List.{nil_from_length}
-use Rattle.bench_measures.proofs.Feeding.{none_fed, one_more, stopped, ended, gives_within}
+use Rattle.bench_measures.proofs.FedBytes.{none_fed, fed_one_more, stopped, fed_to_end, gives_within}
 use Rattle.bench_measures.proofs.run.PiecesRunFedStreamU8.run.Goals as goal
 
 pub pieces-init : goal.pieces-init
 pieces-init g c = none_fed _ _ c.args.parser _ _ _ c.new-session.ensures
 
 pub pieces-preserved : goal.pieces-preserved
-pieces-preserved g c = one_more _ _ c.args.parser _ _ _ c.pieces.invariant _ _ _ c.cut.ensures.both (rw c.in-More.is at c.in-Ok.ensures)
+pieces-preserved g c = fed_one_more _ _ c.args.parser _ _ _ c.pieces.invariant _ _ _ c.cut.ensures.both (rw c.in-More.is at c.in-Ok.ensures)
 
 pub returns-in_default-answer : goal.returns-in_default-answer
 returns-in_default-answer g c =
@@ -18,7 +18,7 @@ returns-in_default-answer g c =
 pub returns-in-Ok-end-clause-gives : goal.returns-in-Ok-end-clause-gives
 returns-in-Ok-end-clause-gives g c =
     let none : length c.pieces.rest.now ≡ 0 = search rules in
-    rw c.decided-in-Ok-end.ensures (ended _ _ c.args.parser _ _ _ c.pieces.invariant _ (nil_from_length _ none) _ c.in-Ok-end.ensures)
+    rw c.decided-in-Ok-end.ensures (fed_to_end _ _ c.args.parser _ _ _ c.pieces.invariant _ (nil_from_length _ none) _ c.in-Ok-end.ensures)
 
 pub returns-in-Ok-end-clause-within : goal.returns-in-Ok-end-clause-within
 returns-in-Ok-end-clause-within g c = gives_within _ _ (g.met.P.Parser.laws _ c.requires).whole _ (returns-in-Ok-end-clause-gives g c)

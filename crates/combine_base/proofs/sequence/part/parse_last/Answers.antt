@@ -1,8 +1,8 @@
 use Rattle.std.proofs.Common.{inl, inr, ap, refl}
 use Rattle.combine_base.specs.Parser.Answer.{world}
 use Rattle.combine_base.specs.declared.error.ParseResult.TheVariants.{CommitOk, CommitErr}
-use Rattle.combine_base.proofs.Refusing.{explained_at_rest}
-use Rattle.combine_base.proofs.Starting.{at_rest}
+use Rattle.combine_base.proofs.Errors.MeantRefusals.{explained_at_rest}
+use Rattle.combine_base.proofs.Parsers.CallStarts.{at_rest}
 use Rattle.combine_base.proofs.sequence.part.parse_last.Goals as goal
 
 pub returns-in-CommitOk : goal.returns-in-CommitOk
@@ -41,7 +41,7 @@ returns-in-PeekOk g c =
 
 pub returns-then-needs_more : goal.returns-then-needs_more
 returns-then-needs_more g c =
-    let around = world g.Input.StreamOnce.step g.Input.Error.ParseError.seen g.Input.StreamOnce.steady g.P.PartialState.Default.is_default in
+    let around = world g.Input.StreamOnce.step g.Input.Error.ParseError.observers g.Input.StreamOnce.counts_failures g.P.PartialState.Default.is_default in
     let call = c.in-CommitErr.ensures in
     record {
       lawful = call.lawful;

@@ -1,7 +1,7 @@
 use Rattle.std.proofs.Common.{sym, ◌∙◌}
 use Rattle.combine_base.specs.Sequence.Places.{begins_valid_1, place_2}
 use Rattle.combine_base.specs.Sequence.Tuples.{push_1, tuple_1, tuple_1_is_meaning}
-use Rattle.combine_base.proofs.Following.{last_called, sequence_called}
+use Rattle.combine_base.proofs.Sequences.SequenceCalls.{last_called, sequence_called}
 use Rattle.combine_base.proofs.sequence.tuple.parse_2.Goals as goal
 
 pub parse_1-answer-requires-clause-ready : goal.parse_1-answer-requires-clause-ready

@@ -1,5 +1,5 @@
 use Rattle.std.proofs.Common.{arith, ap, sym, ◌+◌, ◌*◌, ◌∙◌}
-use Rattle.combine_byte_num.proofs.Bytes.{big_fits, big_more}
+use Rattle.combine_byte_num.proofs.ByteSums.{big_fits, big_more}
 use Rattle.combine_byte_num.proofs.order.BigEndianOrderU8.push.Goals as goal
 
 pub overflow_mul-result : goal.overflow_mul-result

@@ -1,6 +1,6 @@
 use Rattle.std.proofs.Common.{arith, ap, sym, ◌≡◌, ◌+◌, ◌*◌, ◌^◌, ◌∙◌, length}
 use Rattle.combine_byte_num.specs.Numbers.{little_endian}
-use Rattle.combine_byte_num.proofs.Bytes.{little_fits, little_more, shifted}
+use Rattle.combine_byte_num.proofs.ByteSums.{little_fits, little_more, shifted}
 use Rattle.combine_byte_num.proofs.order.LittleEndianOrderU8.push.Goals as goal
 
 pub overflow_add-result : goal.overflow_add-result

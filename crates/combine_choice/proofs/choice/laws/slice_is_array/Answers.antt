@@ -1,4 +1,4 @@
-use Rattle.combine_base.proofs.Same.{same_none}
+use Rattle.combine_base.proofs.Parsers.SameMeanings.{same_none}
 use Rattle.combine_choice.proofs.choice.laws.slice_is_array.Goals as goal
 
 pub returns : goal.returns

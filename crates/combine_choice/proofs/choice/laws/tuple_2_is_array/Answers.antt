@@ -3,4 +3,4 @@ use Rattle.combine_choice.specs.ListChoice.{both_start, one_starts}
 use Rattle.combine_choice.proofs.choice.laws.tuple_2_is_array.Goals as goal
 
 pub returns : goal.returns
-returns g c = both_start g.Input.Error.ParseError.seen g.Input.Position.Ord.cmp g.P.Parser.meaning (c.args.a.now ∷ []) (c.args.b.now ∷ []) (one_starts g.Input.Error.ParseError.seen g.Input.Position.Ord.cmp g.P.Parser.meaning _) (one_starts g.Input.Error.ParseError.seen g.Input.Position.Ord.cmp g.P.Parser.meaning _)
+returns g c = both_start g.Input.Error.ParseError.observers g.Input.Position.Ord.cmp g.P.Parser.meaning (c.args.a.now ∷ []) (c.args.b.now ∷ []) (one_starts g.Input.Error.ParseError.observers g.Input.Position.Ord.cmp g.P.Parser.meaning _) (one_starts g.Input.Error.ParseError.observers g.Input.Position.Ord.cmp g.P.Parser.meaning _)

@@ -1,8 +1,8 @@
 use Rattle.std.proofs.Common.{◌≤◌, ◌<◌, ◌∙◌, length, arith, rules, refl}
 use Rattle.std.proofs.lemmas.List.{drop-set-lt}
 use Rattle.std.proofs.lemmas.List.Elements.{All-set}
-use Rattle.combine_choice.specs.Chosen.{chosen_same}
-use Rattle.combine_choice.proofs.Listed.{drop_here, drop_past, same_self, same_set}
+use Rattle.combine_choice.specs.ListChoice.{chosen_same}
+use Rattle.combine_choice.proofs.AlternativeLists.{drop_here, drop_past, same_self, same_set}
 use Rattle.combine_choice.proofs.SliceCalls.{adding_all, adding_more, adding_none}
 use Rattle.combine_choice.proofs.choice.slice.add_errors.Goals as goal
 
@@ -11,7 +11,7 @@ loop-at-init g c = record {
   lawful = c.requires;
   same = same_self g.P.Parser.meaning _;
   untried = λ k l. refl;
-  adding = adding_none g.Input.Error.ParseError.seen g.P.Parser.meaning _ _;
+  adding = adding_none g.Input.Error.ParseError.observers g.P.Parser.meaning _ _;
 }
 
 pub loop-at-preserved : goal.loop-at-preserved
@@ -22,13 +22,13 @@ loop-at-preserved g c =
       lawful = All-set g.P.Parser.lawful _ _ _ c.add_error.ensures.lawful c.loop-at.invariant.lawful;
       same = same_set g.P.Parser.meaning _ _ _ c.index-alternatives-at.result _ c.loop-at.invariant.same within c.add_error.ensures.same;
       untried = λ k l. drop-set-lt k c.loop-at.alternatives c.loop-at.at _ (omega arith) ∙ c.loop-at.invariant.untried k (omega arith);
-      adding = adding_more g.Input.Error.ParseError.seen g.P.Parser.meaning _ _ _ _ _ _ _ here c.loop-at.invariant.adding c.add_error.ensures.says;
+      adding = adding_more g.Input.Error.ParseError.observers g.P.Parser.meaning _ _ _ _ _ _ _ here c.loop-at.invariant.adding c.add_error.ensures.says;
     }
 
 pub returns-clause-same : goal.returns-clause-same
-returns-clause-same g c = chosen_same g.Input.Error.ParseError.seen g.Input.Position.Ord.cmp g.P.Parser.meaning _ _ c.loop-at.invariant.same
+returns-clause-same g c = chosen_same g.Input.Error.ParseError.observers g.Input.Position.Ord.cmp g.P.Parser.meaning _ _ c.loop-at.invariant.same
 
 pub returns-clause-says : goal.returns-clause-says
 returns-clause-says g c =
     let past : length c.args.alternatives.now ≤ c.loop-at.at = search (rules, arith) in
-    adding_all g.Input.Error.ParseError.seen g.P.Parser.meaning _ _ _ _ (drop_past _ _ past) c.loop-at.invariant.adding
+    adding_all g.Input.Error.ParseError.observers g.P.Parser.meaning _ _ _ _ (drop_past _ _ past) c.loop-at.invariant.adding

@@ -1,4 +1,4 @@
-use Rattle.combine_choice.specs.OneTurn.{PastLast}
+use Rattle.combine_choice.specs.SliceCalls.{PastLast}
 use Rattle.combine_choice.proofs.choice.slice.running.Goals as goal
 
 pub returns-else-index-count : goal.returns-else-index-count

@@ -1,4 +1,4 @@
-use Rattle.combine_combinator_lazy.specs.Made.{made_at_of_for}
+use Rattle.combine_combinator_lazy.specs.MadeParsers.{made_at_of_for}
 use Rattle.combine_combinator_lazy.proofs.combinator.made.make_and_run.Goals as goal
 
 pub run_made-requires-clause-ready : goal.run_made-requires-clause-ready

@@ -1,5 +1,5 @@
 use Rattle.std.proofs.Common.{sym, ◌∙◌}
-use Rattle.combine_combinator_spanned.proofs.Spanning.{equal_is, spans_at_one}
+use Rattle.combine_combinator_spanned.proofs.SpannedAnswers.{equal_is, spans_at_one}
 use Rattle.combine_combinator_spanned.proofs.combinator.types.set_span.Goals as goal
 
 pub returns-then-is_eq : goal.returns-then-is_eq

@@ -1,4 +1,4 @@
-use Rattle.combine_decode.proofs.Dividing.{cuts_agree, made_is_single}
+use Rattle.combine_decode.proofs.MessageDivision.{cuts_agree, made_is_single}
 use Rattle.combine_decode.proofs.decode.laws.cuts_agree.Goals as goal
 
 pub returns : goal.returns

@@ -1,18 +1,18 @@
 use Rattle.std.specs.Global.{Vec}
 use Rattle.std.proofs.Common.{ℕ, [], ◌∷◌, ◌++◌, true}
-use Rattle.combine_decode.proofs.Counting.{counted}
-use Rattle.combine_decode.proofs.Framing.{is_framed}
+use Rattle.combine_decode.proofs.TokenTurns.{counted_tokens}
+use Rattle.combine_decode.proofs.FrameAnswers.{is_framed}
 use Rattle.combine_decode.proofs.decode.laws.frame_is_a_length_and_its_bytes.Goals as goal
-use Rattle.combine_token.specs.OneToken.{of_function, one_token, satisfied}
-use Rattle.combine_token.specs.TokenParsers.{any_parser}
-use Rattle.combine_repeat_turns.specs.Bounded.{bounded, none_yet}
-use Rattle.combine_repeat_turns.specs.RepeatParsers.{count_min_max_of, least_of, most_of}
-use Rattle.combine_repeat_turns.specs.Counts.{appended, never}
-use Rattle.combine_repeat_turns.specs.Turns.{Turned}
+use Rattle.combine_token.specs.Token.OneToken.{of_function, one_token, satisfied}
+use Rattle.combine_token.specs.Token.TokenParsers.{any_parser}
+use Rattle.combine_repeat_turns.specs.Turns.Bounds.{bounded, none_yet}
+use Rattle.combine_repeat_turns.specs.Repeat.RepeatParsers.{count_min_max_of, repeat_min, repeat_max}
+use Rattle.combine_repeat_turns.specs.Repeat.Repeated.{appended, no_value_ends}
+use Rattle.combine_repeat_turns.specs.Turns.Blocks.{TurnsOutcome}
 use Rattle.combine_repeat_turns.specs.declared.turns.Bounds.TheVariants.{Counted}
 
 pub returns : goal.returns
 returns g c v o h =
     let step = g.Input.StreamOnce.step in
     let any_token = one_token (satisfied (of_function (λ (t : ℕ). true))) in
-    is_framed step (λ n. count_min_max_of c.args.alloc n n any_parser) (λ p. Turned step (bounded (Counted (least_of p) (most_of p)) never) (appended (λ (m : Vec ℕ). m.items) [] (λ xs x. xs ++ x ∷ []) ⊥) (λ _. any_token) any_token (none_yet [])) (λ n. counted step n (λ (m : Vec ℕ). m.items) ⊥) v o h
+    is_framed step (λ n. count_min_max_of c.args.alloc n n any_parser) (λ p. TurnsOutcome step (bounded (Counted (repeat_min p) (repeat_max p)) no_value_ends) (appended (λ (m : Vec ℕ). m.items) [] (λ xs x. xs ++ x ∷ []) ⊥) (λ _. any_token) any_token (none_yet [])) (λ n. counted_tokens step n (λ (m : Vec ℕ). m.items) ⊥) v o h

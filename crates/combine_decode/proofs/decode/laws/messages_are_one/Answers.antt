@@ -1,4 +1,4 @@
-use Rattle.combine_decode.proofs.Dividing.{are_one, made_is_single}
+use Rattle.combine_decode.proofs.MessageDivision.{are_one, made_is_single}
 use Rattle.combine_decode.proofs.decode.laws.messages_are_one.Goals as goal
 
 pub returns : goal.returns

@@ -1,4 +1,4 @@
-use Rattle.combine_decode.proofs.Dividing.{go_on, made_is_reading}
+use Rattle.combine_decode.proofs.MessageDivision.{go_on, made_is_reading}
 use Rattle.combine_decode.proofs.decode.laws.messages_go_on.Goals as goal
 
 pub returns : goal.returns

@@ -1,11 +1,11 @@
 use Rattle.std.proofs.Common.{◌≡◌, ◌<◌, ◌∙◌, ap, get_or, map, length, arith, sym, refl}
 use Rattle.std.proofs.lemmas.List.{length-map, get_or-map}
-use Rattle.combine_decode.proofs.Dividing.{made_is_reading}
-use Rattle.combine_decode.proofs.Pieces.{at_first, ends_at, ends_behind, fails_at, fails_behind, goes_on_at}
+use Rattle.combine_decode.proofs.MessageDivision.{made_is_reading}
+use Rattle.combine_decode.proofs.DecodedPieces.{decoder_fed_nothing, decoder_ends_at, decoder_ends_after, decoder_fails_at, fails_behind, decoder_goes_on_at}
 use Rattle.combine_decode.proofs.decode.pieces.decode_pieces.Goals as goal
 
 pub pieces-init : goal.pieces-init
-pieces-init g c = record { maker = c.new-decoder.ensures.maker; far = rw c.new-messages.ensures.items (at_first _ _ _ _ c.new-decoder.ensures.maker c.new-decoder.ensures.stands) }
+pieces-init g c = record { maker = c.new-decoder.ensures.maker; far = rw c.new-messages.ensures.items (decoder_fed_nothing _ _ _ _ c.new-decoder.ensures.maker c.new-decoder.ensures.stands) }
 
 pub returns-in_default : goal.returns-in_default
 returns-in_default g c =
@@ -13,7 +13,7 @@ returns-in_default g c =
     let within : c.pieces.piece-index < length pieces = rw length-map c.pieces-test.true in
     let item = c.piece-item.result in
     let at : get_or pieces c.pieces.piece-index item.now ≡ item.now = get_or-map (λ p. p.now) c.args.pieces.now c.pieces.piece-index item item.now c.pieces-test.true ∙ ap (λ p. p.now) (sym c.piece-item.is) in
-    ends_at _ _ _ (made_is_reading _ _ _ _ _ c.requires.lawful g.met.P.Parser.laws) pieces _ _ _ c.pieces.invariant.far _ _ _ within at _ c.in_default.not-More c.in-Ok.ensures _ refl refl
+    decoder_ends_at _ _ _ (made_is_reading _ _ _ _ _ c.requires.lawful g.met.P.Parser.laws) pieces _ _ _ c.pieces.invariant.far _ _ _ within at _ c.in_default.not-More c.in-Ok.ensures _ refl refl
 
 pub returns-in-Err : goal.returns-in-Err
 returns-in-Err g c =
@@ -21,7 +21,7 @@ returns-in-Err g c =
     let within : c.pieces.piece-index < length pieces = rw length-map c.pieces-test.true in
     let item = c.piece-item.result in
     let at : get_or pieces c.pieces.piece-index item.now ≡ item.now = get_or-map (λ p. p.now) c.args.pieces.now c.pieces.piece-index item item.now c.pieces-test.true ∙ ap (λ p. p.now) (sym c.piece-item.is) in
-    fails_at _ _ _ (made_is_reading _ _ _ _ _ c.requires.lawful g.met.P.Parser.laws) pieces _ _ _ c.pieces.invariant.far _ _ _ within at _ c.in-Err.ensures
+    decoder_fails_at _ _ _ (made_is_reading _ _ _ _ _ c.requires.lawful g.met.P.Parser.laws) pieces _ _ _ c.pieces.invariant.far _ _ _ within at _ c.in-Err.ensures
 
 pub pieces-preserved : goal.pieces-preserved
 pieces-preserved g c =
@@ -30,14 +30,14 @@ pieces-preserved g c =
     let item = c.piece-item.result in
     let at : get_or pieces c.pieces.piece-index item.now ≡ item.now = get_or-map (λ p. p.now) c.args.pieces.now c.pieces.piece-index item item.now c.pieces-test.true ∙ ap (λ p. p.now) (sym c.piece-item.is) in
     let fed = rw c.in-More.is at c.in-Ok.ensures in
-    let far = goes_on_at _ _ _ (made_is_reading _ _ _ _ _ c.requires.lawful g.met.P.Parser.laws) pieces _ _ _ c.pieces.invariant.far _ _ _ within at fed in
+    let far = decoder_goes_on_at _ _ _ (made_is_reading _ _ _ _ _ c.requires.lawful g.met.P.Parser.laws) pieces _ _ _ c.pieces.invariant.far _ _ _ within at fed in
     record { maker = far.maker; far = far }
 
 pub returns-in-Ok-feed_more : goal.returns-in-Ok-feed_more
 returns-in-Ok-feed_more g c =
     let pieces = map (λ p. p.now) c.args.pieces.now in
     let all : c.pieces.piece-index ≡ length pieces = rw length-map (omega arith) in
-    ends_behind _ _ _ (made_is_reading _ _ _ _ _ c.requires.lawful g.met.P.Parser.laws) pieces _ _ _ c.pieces.invariant.far _ _ all _ _ c.in-Ok-feed_more.ensures refl refl
+    decoder_ends_after _ _ _ (made_is_reading _ _ _ _ _ c.requires.lawful g.met.P.Parser.laws) pieces _ _ _ c.pieces.invariant.far _ _ all _ _ c.in-Ok-feed_more.ensures refl refl
 
 pub returns : goal.returns
 returns g c =

@@ -1,11 +1,11 @@
 use Rattle.std.proofs.Common.{◌≡◌, take, map}
 use Rattle.combine_base.specs.Parser.Pieces.{concatenated}
-use Rattle.combine_decode.proofs.Pieces.{SoFar}
+use Rattle.combine_decode.proofs.DecodedPieces.{DecoderWasFed}
 use Rattle.combine_decode.proofs.decode.pieces.decode_pieces.Given as goal
 
 -- the messages so far are those of the pieces so far, behind which the decoder goes on
 abbrev pub invariant-pieces : goal.invariant-pieces
 invariant-pieces g l = record {
   maker : l.decoder.maker ≡ l.fn.maker;
-  far : SoFar (λ f p. g.F.Fn.post f tt p) g.P.Parser.meaning l.fn.maker (concatenated (take l.piece-index (map (λ p. p.now) l.pieces))) l.messages.items l.decoder;
+  far : DecoderWasFed (λ f p. g.F.Fn.post f tt p) g.P.Parser.meaning l.fn.maker (concatenated (take l.piece-index (map (λ p. p.now) l.pieces))) l.messages.items l.decoder;
 }

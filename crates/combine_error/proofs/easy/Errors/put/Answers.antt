@@ -1,5 +1,5 @@
 use Rattle.std.proofs.Common.{refl, sym, ◌∙◌}
-use Rattle.combine_error.proofs.Lists.{said_before, said_now}
+use Rattle.combine_error.proofs.ItemLists.{said_before, said_now}
 use Rattle.combine_error.proofs.easy.Errors.put.Goals as goal
 
 pub returns-then-is_there : goal.returns-then-is_there

@@ -1,6 +1,6 @@
 use Rattle.std.proofs.Common.{Some, ◌∙◌, ap, map, sym, arith}
 use Rattle.combine_error.specs.Easy.{said}
-use Rattle.combine_error.proofs.Clearing.{cleared_all, cleared_said}
+use Rattle.combine_error.proofs.ClearedItems.{cleared_all, cleared_said}
 use Rattle.combine_error.proofs.easy.ErrorsParseError.clear_expected_after.Goals as goal
 
 pub returns : goal.returns

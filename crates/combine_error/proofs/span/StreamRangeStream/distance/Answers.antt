@@ -1,4 +1,4 @@
-use Rattle.combine_error.proofs.Spanning.{span_distance}
+use Rattle.combine_error.proofs.SpanStreams.{span_distance}
 use Rattle.combine_error.proofs.span.StreamRangeStream.distance.Goals as goal
 
 pub returns : goal.returns

@@ -1,4 +1,4 @@
-use Rattle.combine_error.proofs.Spanning.{span_passes, span_uncons_range}
+use Rattle.combine_error.proofs.SpanStreams.{span_passes, span_uncons_range}
 use Rattle.combine_error.proofs.span.StreamRangeStream.uncons_range.Goals as goal
 
 pub returns-clause-read : goal.returns-clause-read

@@ -1,4 +1,4 @@
-use Rattle.combine_error.proofs.Spanning.{span_moved}
+use Rattle.combine_error.proofs.SpanStreams.{span_moved}
 use Rattle.combine_error.proofs.span.StreamResetStream.has_moved.Goals as goal
 
 pub returns : goal.returns

@@ -1,4 +1,4 @@
-use Rattle.combine_error.proofs.Spanning.{span_passes, span_reset}
+use Rattle.combine_error.proofs.SpanStreams.{span_passes, span_reset}
 use Rattle.combine_error.proofs.span.StreamResetStream.reset.Goals as goal
 
 pub returns-clause-to : goal.returns-clause-to

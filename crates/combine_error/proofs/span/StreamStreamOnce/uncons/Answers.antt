@@ -1,4 +1,4 @@
-use Rattle.combine_error.proofs.Spanning.{span_passes, span_uncons}
+use Rattle.combine_error.proofs.SpanStreams.{span_passes, span_uncons}
 use Rattle.combine_error.proofs.span.StreamStreamOnce.uncons.Goals as goal
 
 pub returns-clause-read : goal.returns-clause-read

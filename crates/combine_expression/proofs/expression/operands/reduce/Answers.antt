@@ -1,4 +1,4 @@
-use Rattle.combine_expression.proofs.Standing.{refuses_so}
+use Rattle.combine_expression.proofs.OpenExpressions.{refuses_so}
 use Rattle.combine_expression.proofs.expression.operands.reduce.Goals as goal
 
 pub returns-in-Err : goal.returns-in-Err

@@ -1,6 +1,6 @@
 use Rattle.std.proofs.Common.{arith, refl, vec_items, ◌∙◌}
-use Rattle.combine_expression.proofs.Reducing.{pop_reduced}
-use Rattle.combine_expression.proofs.Standing.{none_asked, pop_shape, stay_shape}
+use Rattle.combine_expression.proofs.Reductions.{pop_reduced}
+use Rattle.combine_expression.proofs.OpenExpressions.{none_asked, pop_shape, stay_shape}
 use Rattle.combine_expression.proofs.expression.operands.reduce_above.Goals as goal
 
 pub innermost-init : goal.innermost-init

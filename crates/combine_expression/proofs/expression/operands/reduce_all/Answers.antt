@@ -1,5 +1,5 @@
 use Rattle.std.proofs.Common.{arith, vec_items}
-use Rattle.combine_expression.proofs.Reducing.{complete_at, pop_reduced}
+use Rattle.combine_expression.proofs.Reductions.{complete_at, pop_reduced}
 use Rattle.combine_expression.proofs.expression.operands.reduce_all.Goals as goal
 
 pub innermost-preserved : goal.innermost-preserved

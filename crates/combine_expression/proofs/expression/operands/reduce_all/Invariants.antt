@@ -1,11 +1,11 @@
 use Rattle.std.proofs.Common.{List, reverse, vec_items, vec_len}
 use Rattle.combine_expression.specs.Levels.{Thing}
-use Rattle.combine_expression.specs.Waiting.{Holds}
+use Rattle.combine_expression.specs.OpenExpressions.{HoldsOperand}
 use Rattle.combine_expression.specs.declared.expression.Fixity.{Fixity}
 use Rattle.combine_expression.proofs.expression.operands.reduce_all.Given as goal
 
 abbrev pub invariant-innermost : goal.invariant-innermost
-invariant-innermost g l = (levels : List Fixity) (ts : List (Thing g.row.O.Denot g.row.O-Value.Denot)) → Holds levels g.O.Operator.changes g.O.Operator.joins (reverse (vec_items l.fn.pending)) l.fn.held ts → Holds levels g.O.Operator.changes g.O.Operator.joins (reverse (vec_items l.pending)) l.held ts
+invariant-innermost g l = (levels : List Fixity) (ts : List (Thing g.row.O.Denot g.row.O-Value.Denot)) → HoldsOperand levels g.O.Operator.changes g.O.Operator.joins (reverse (vec_items l.fn.pending)) l.fn.held ts → HoldsOperand levels g.O.Operator.changes g.O.Operator.joins (reverse (vec_items l.pending)) l.held ts
 
 abbrev pub decreases-innermost : goal.decreases-innermost
 decreases-innermost g l = vec_len l.pending

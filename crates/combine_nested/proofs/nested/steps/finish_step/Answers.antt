@@ -1,6 +1,6 @@
 use Rattle.std.proofs.Common.{rules, inl, inr, vec_items}
 use Rattle.combine_nested.specs.StepCalls.{TakesNothing}
-use Rattle.combine_nested.proofs.Settling.{none_fewer}
+use Rattle.combine_nested.proofs.FrameStack.{none_fewer}
 use Rattle.combine_nested.proofs.nested.steps.finish_step.Goals as goal
 
 pub returns-else-len-before : goal.returns-else-len-before

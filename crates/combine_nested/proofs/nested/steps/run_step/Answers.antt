@@ -1,7 +1,7 @@
 use Rattle.std.proofs.Common.{inl, inr, refl, ap}
 use Rattle.combine_base.specs.Parser.Answer.{world}
-use Rattle.combine_base.proofs.Refusing.{explained_at_rest}
-use Rattle.combine_base.proofs.Starting.{at_rest}
+use Rattle.combine_base.proofs.Errors.MeantRefusals.{explained_at_rest}
+use Rattle.combine_base.proofs.Parsers.CallStarts.{at_rest}
 use Rattle.combine_base.specs.declared.error.ParseResult.TheVariants.{CommitOk, PeekOk, CommitErr, PeekErr}
 use Rattle.combine_nested.specs.declared.nested.steps.Did.TheVariants as dids
 use Rattle.combine_nested.proofs.nested.steps.run_step.Goals as goal
@@ -10,7 +10,7 @@ use Rattle.combine_nested.proofs.nested.steps.run_step.Goals.{in-CommitOk, in-Pe
 pub returns-then-needs_more : goal.returns-then-needs_more
 returns-then-needs_more g c =
     let call = c.parse_explained.ensures in
-    let around = world g.Input.StreamOnce.step g.Input.Error.ParseError.seen g.Input.StreamOnce.steady g.N.PartialState.Default.is_default in
+    let around = world g.Input.StreamOnce.step g.Input.Error.ParseError.observers g.Input.StreamOnce.counts_failures g.N.PartialState.Default.is_default in
     record {
       parser = _;
       lawful = call.lawful;
@@ -27,7 +27,7 @@ returns-then-needs_more g c =
 pub returns-in-CommitErr : goal.returns-in-CommitErr
 returns-in-CommitErr g c =
     let call = c.parse_explained.ensures in
-    let around = world g.Input.StreamOnce.step g.Input.Error.ParseError.seen g.Input.StreamOnce.steady g.N.PartialState.Default.is_default in
+    let around = world g.Input.StreamOnce.step g.Input.Error.ParseError.observers g.Input.StreamOnce.counts_failures g.N.PartialState.Default.is_default in
     record {
       parser = _;
       lawful = call.lawful;
@@ -44,7 +44,7 @@ returns-in-CommitErr g c =
 pub returns-in-PeekErr : goal.returns-in-PeekErr
 returns-in-PeekErr g c =
     let call = c.parse_explained.ensures in
-    let around = world g.Input.StreamOnce.step g.Input.Error.ParseError.seen g.Input.StreamOnce.steady g.N.PartialState.Default.is_default in
+    let around = world g.Input.StreamOnce.step g.Input.Error.ParseError.observers g.Input.StreamOnce.counts_failures g.N.PartialState.Default.is_default in
     record {
       parser = _;
       lawful = call.lawful;
@@ -61,7 +61,7 @@ returns-in-PeekErr g c =
 pub returns : goal.returns
 returns g c =
     let call = c.parse_explained.ensures in
-    let around = world g.Input.StreamOnce.step g.Input.Error.ParseError.seen g.Input.StreamOnce.steady g.N.PartialState.Default.is_default in
+    let around = world g.Input.StreamOnce.step g.Input.Error.ParseError.observers g.Input.StreamOnce.counts_failures g.N.PartialState.Default.is_default in
     elim c.match-parse_explained.branch [
       | in-CommitOk w ↦ record {
         parser = _;

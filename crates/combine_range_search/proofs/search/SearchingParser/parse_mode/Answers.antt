@@ -1,17 +1,17 @@
 use Rattle.std.proofs.Common.{sym, subst, refl, ◌≡◌, ◌∙◌, ◌+◌, arith}
 use Rattle.std.proofs.lemmas.Bool.{false≢true}
-use Rattle.combine_base.specs.Error.Errors.{Nothing}
-use Rattle.combine_base.specs.Parser.Answer.{Run, World, world}
+use Rattle.combine_base.specs.Error.Errors.{AddsNothing}
+use Rattle.combine_base.specs.Parser.Answer.{CallRecord, World, world}
 use Rattle.combine_base.specs.Stream.View.{Takes}
-use Rattle.combine_base.proofs.Progress.{moves_more, takes_more, takes_open}
+use Rattle.combine_base.proofs.Parsers.Progress.{moves_more, takes_more, takes_open}
 use Rattle.combine_range.specs.declared.distance.Distance.{Distance}
-use Rattle.combine_range.proofs.Kept.{breaks}
-use Rattle.combine_base.proofs.Reasoning.{reasons_ok, reasons_peek_ok}
-use Rattle.combine_range.proofs.Reasons.{kept_reasons, reasons_broke, reasons_handed, reasons_keeping, reasons_none, reasons_unpassed}
-use Rattle.combine_range_search.specs.Reasons.{RefusesSearch}
-use Rattle.combine_range_search.specs.Searches.{Split, searching}
-use Rattle.combine_range_search.proofs.Calling.{found_commits, found_hands, found_none, found_peeks, found_says, found_waits, missing_keeps, missing_refuses, missing_says}
-use Rattle.combine_range_search.proofs.Reasons.{reasons_absent}
+use Rattle.combine_range.proofs.KeptDistance.{breaks}
+use Rattle.combine_base.proofs.Errors.CallReasons.{reasons_ok, reasons_peek_ok}
+use Rattle.combine_range.proofs.RangeReasons.{kept_reasons, reasons_broke, reasons_handed, reasons_keeping, reasons_none, reasons_unpassed}
+use Rattle.combine_range_search.specs.Search.SearchReasons.{RefusesSearch}
+use Rattle.combine_range_search.specs.Search.Searches.{Split, searching}
+use Rattle.combine_range_search.proofs.SearchCalls.{found_commits, found_hands, found_none, found_peeks, found_says, found_waits, missing_keeps, missing_refuses, missing_says}
+use Rattle.combine_range_search.proofs.SearchReasons.{reasons_absent}
 use Rattle.combine_range_search.proofs.search.SearchingParser.parse_mode.Goals as goal
 
 pub returns-then-distance-gt0-clause-answers : goal.returns-then-distance-gt0-clause-answers
@@ -82,17 +82,17 @@ returns-in-Err-pass_up_to-clause-answers g c =
 pub returns-in-Err-clause-refuses : goal.returns-in-Err-clause-refuses
 returns-in-Err-clause-refuses g c =
     let e = rw c.is_first.ensures at c.begin-distance.ensures.begun in
-    let seen = g.Input.Error.ParseError.seen in
+    let observers = g.Input.Error.ParseError.observers in
     let size = g.Input.RangeStream.size in
     let spells = g.Input.RangeStream.spells in
     let step = g.Input.StreamOnce.step in
     let finds = g.S.Searcher.search c.args.self.now.searcher in
-    let says = RefusesSearch seen step size spells finds in
+    let says = RefusesSearch observers step size spells finds in
     let d = c.begin-distance.result in
     let old = g.Input.StreamOnce.view c.args.input.now in
     let new = g.Input.StreamOnce.view c.pass_items.new.input in
-    let said = reasons_unpassed seen (says d old new) old.position _ _ size _ old new _ _ d (λ q i x n. record { unfit = Split i refl; leaves = q; says = n }) _ _ c.in-Err.ensures.over c.not_passed.ensures.answers (rw c.position-position.ensures at c.not_passed.ensures.says) in
-    kept_reasons size (searching size spells finds) Nothing says d (g.M.ParseMode.first c.args.mode) c.args.state.now e old new said
+    let said = reasons_unpassed observers (says d old new) old.position _ _ size _ old new _ _ d (λ q i x n. record { unfit = Split i refl; leaves = q; says = n }) _ _ c.in-Err.ensures.over c.not_passed.ensures.answers (rw c.position-position.ensures at c.not_passed.ensures.says) in
+    kept_reasons size (searching size spells finds) AddsNothing says d (g.M.ParseMode.first c.args.mode) c.args.state.now e old new said
 
 pub returns-then-distance-gt0-clause-refuses : goal.returns-then-distance-gt0-clause-refuses
 returns-then-distance-gt0-clause-refuses g c =
@@ -120,44 +120,44 @@ pub returns-else-may_grow-clause-refuses : goal.returns-else-may_grow-clause-ref
 returns-else-may_grow-clause-refuses g c =
     let e = rw c.is_first.ensures at c.begin-distance.ensures.begun in
     let z = c.in-Found.ensures (g.Input.StreamOnce.view c.pass_items.new.input).unread c.range-unread.ensures in
-    let seen = g.Input.Error.ParseError.seen in
+    let observers = g.Input.Error.ParseError.observers in
     let size = g.Input.RangeStream.size in
     let spells = g.Input.RangeStream.spells in
     let step = g.Input.StreamOnce.step in
     let finds = g.S.Searcher.search c.args.self.now.searcher in
-    let says = RefusesSearch seen step size spells finds in
+    let says = RefusesSearch observers step size spells finds in
     let d = c.begin-distance.result in
     let old = g.Input.StreamOnce.view c.args.input.now in
     let mid = g.Input.StreamOnce.view c.pass_items.new.input in
     let new = g.Input.StreamOnce.view c.uncons_range.new.self in
-    let run : Run _ _ Distance = record { first = g.M.ParseMode.first c.args.mode; state = c.args.state.now; left = c.begin-distance.new.state; old = old; new = mid; before = g.Input.StreamOnce.failures c.args.input.now; after = g.Input.StreamOnce.failures c.pass_items.new.input } in
-    let around : World _ _ Distance _ = world step seen g.Input.StreamOnce.steady (λ s. s.items ≡ 0) in
-    let said = reasons_none seen (says d old new) old.position _ _ size _ mid new _ _ _
-    (λ q u x h. found_says around size g.met.Input.RangeStream.filled spells finds Nothing says run d e _ _ _ _ c.in_default.ensures.over _ z seen new q u x h)
+    let run : CallRecord _ _ Distance = record { first = g.M.ParseMode.first c.args.mode; state = c.args.state.now; left = c.begin-distance.new.state; old = old; new = mid; before = g.Input.StreamOnce.failures c.args.input.now; after = g.Input.StreamOnce.failures c.pass_items.new.input } in
+    let around : World _ _ Distance _ = world step observers g.Input.StreamOnce.counts_failures (λ s. s.items ≡ 0) in
+    let said = reasons_none observers (says d old new) old.position _ _ size _ mid new _ _ _
+    (λ q u x h. found_says around size g.met.Input.RangeStream.filled spells finds AddsNothing says run d e _ _ _ _ c.in_default.ensures.over _ z observers new q u x h)
     _ _ c.in-Err-uncons_range.ensures.read c.no_range.ensures.answers (rw c.position-position.ensures at c.no_range.ensures.says) in
-    kept_reasons size (searching size spells finds) Nothing says d (g.M.ParseMode.first c.args.mode) c.args.state.now e old new said
+    kept_reasons size (searching size spells finds) AddsNothing says d (g.M.ParseMode.first c.args.mode) c.args.state.now e old new said
 
 pub returns-then-not-is_partial-clause-refuses : goal.returns-then-not-is_partial-clause-refuses
 returns-then-not-is_partial-clause-refuses g c =
     let e = rw c.is_first.ensures at c.begin-distance.ensures.begun in
     let z = c.in-NotFound.ensures (g.Input.StreamOnce.view c.pass_items.new.input).unread c.range-unread.ensures in
-    let seen = g.Input.Error.ParseError.seen in
+    let observers = g.Input.Error.ParseError.observers in
     let size = g.Input.RangeStream.size in
     let spells = g.Input.RangeStream.spells in
     let step = g.Input.StreamOnce.step in
     let finds = g.S.Searcher.search c.args.self.now.searcher in
-    let says = RefusesSearch seen step size spells finds in
+    let says = RefusesSearch observers step size spells finds in
     let d = c.begin-distance.result in
     let old = g.Input.StreamOnce.view c.args.input.now in
     let mid = g.Input.StreamOnce.view c.pass_items.new.input in
     let new = mid in
     let m = g.met.Input.RangeStream.measured _ _ c.range-unread.ensures in
-    let run : Run _ _ Distance = record { first = g.M.ParseMode.first c.args.mode; state = c.args.state.now; left = c.begin-distance.new.state; old = old; new = mid; before = g.Input.StreamOnce.failures c.args.input.now; after = g.Input.StreamOnce.failures c.pass_items.new.input } in
-    let around : World _ _ Distance _ = world step seen g.Input.StreamOnce.steady (λ s. s.items ≡ 0) in
-    let said = reasons_absent seen (says d old new) old.position _ _
-    (λ k x b h. missing_says around size g.met.Input.RangeStream.filled spells finds Nothing says run d e _ _ _ _ c.in_default.ensures.over _ z c.is_nothing.result ((λ i. let a = c.is_nothing.ensures.0 i in (a.0, sym m ∙ a.1)), (λ a. c.is_nothing.ensures.1 (a.0, m ∙ a.1))) (sym c.is_partial.ensures ∙ c.if-not-is_partial.true) refl refl c.begin-distance.ensures.left seen k x b h)
+    let run : CallRecord _ _ Distance = record { first = g.M.ParseMode.first c.args.mode; state = c.args.state.now; left = c.begin-distance.new.state; old = old; new = mid; before = g.Input.StreamOnce.failures c.args.input.now; after = g.Input.StreamOnce.failures c.pass_items.new.input } in
+    let around : World _ _ Distance _ = world step observers g.Input.StreamOnce.counts_failures (λ s. s.items ≡ 0) in
+    let said = reasons_absent observers (says d old new) old.position _ _
+    (λ k x b h. missing_says around size g.met.Input.RangeStream.filled spells finds AddsNothing says run d e _ _ _ _ c.in_default.ensures.over _ z c.is_nothing.result ((λ i. let a = c.is_nothing.ensures.0 i in (a.0, sym m ∙ a.1)), (λ a. c.is_nothing.ensures.1 (a.0, m ∙ a.1))) (sym c.is_partial.ensures ∙ c.if-not-is_partial.true) refl refl c.begin-distance.ensures.left observers k x b h)
     _ c.not_found.ensures.refuses (rw c.position-position.ensures at c.not_found.ensures.says) in
-    kept_reasons size (searching size spells finds) Nothing says d (g.M.ParseMode.first c.args.mode) c.args.state.now e old new said
+    kept_reasons size (searching size spells finds) AddsNothing says d (g.M.ParseMode.first c.args.mode) c.args.state.now e old new said
 
 pub returns-in-Ok-pass_up_to-clause-refuses : goal.returns-in-Ok-pass_up_to-clause-refuses
 returns-in-Ok-pass_up_to-clause-refuses g c =

@@ -1,6 +1,6 @@
 use Rattle.std.proofs.Common.{sym, refl, ◌∙◌}
-use Rattle.combine_repeat_iterate.proofs.Stepping.{gives_block, ends_turns, progress_block}
-use Rattle.combine_repeat_iterate.specs.declared.repeat.Turn.TheVariants.{Over, Fails}
+use Rattle.combine_repeat_iterate.proofs.NextCalls.{gives_block, ends_turns, progress_block}
+use Rattle.combine_repeat_iterate.specs.declared.repeat.IterStep.TheVariants.{Over, Fails}
 use Rattle.combine_repeat_iterate.proofs.repeat.IterIterator.next.Goals as goal
 
 pub returns-in-Gives-clause-steps : goal.returns-in-Gives-clause-steps

@@ -1,6 +1,6 @@
-use Rattle.combine_base.proofs.Same.{answers_alike}
+use Rattle.combine_base.proofs.Parsers.SameMeanings.{answers_alike}
 use Rattle.combine_repeat_until.specs.Mute.{mute_alike, mute_means_same}
-use Rattle.combine_repeat_until.proofs.Muting.{mute_reasons}
+use Rattle.combine_repeat_until.proofs.MutedRefusals.{mute_reasons}
 use Rattle.combine_repeat_until.proofs.mute.MuteParser.parse_mode.Goals as goal
 
 pub returns-clause-same : goal.returns-clause-same

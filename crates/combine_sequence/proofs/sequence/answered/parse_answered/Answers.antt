@@ -2,8 +2,8 @@ use Rattle.std.proofs.Common.{inl, inr, refl, ap, ◌∙◌}
 use Rattle.combine_base.specs.Parser.Answer.{world}
 use Rattle.combine_base.specs.Sequence.Parts.{accepted_as}
 use Rattle.combine_base.specs.declared.error.ParseResult.TheVariants.{CommitErr, CommitOk}
-use Rattle.combine_base.proofs.Refusing.{explained_at_rest}
-use Rattle.combine_base.proofs.Starting.{at_rest}
+use Rattle.combine_base.proofs.Errors.MeantRefusals.{explained_at_rest}
+use Rattle.combine_base.proofs.Parsers.CallStarts.{at_rest}
 use Rattle.combine_sequence.proofs.sequence.answered.parse_answered.Goals as goal
 
 pub returns-in-CommitOk : goal.returns-in-CommitOk
@@ -45,7 +45,7 @@ returns-in-PeekOk g c =
 pub returns-then-needs_more : goal.returns-then-needs_more
 returns-then-needs_more g c =
     let call = c.parse_explained.ensures in
-    let around = world g.Input.StreamOnce.step g.Input.Error.ParseError.seen g.Input.StreamOnce.steady g.N.PartialState.Default.is_default in
+    let around = world g.Input.StreamOnce.step g.Input.Error.ParseError.observers g.Input.StreamOnce.counts_failures g.N.PartialState.Default.is_default in
     record {
       parser = _;
       lawful = call.lawful;

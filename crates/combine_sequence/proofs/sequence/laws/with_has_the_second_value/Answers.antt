@@ -1,6 +1,6 @@
-use Rattle.combine_base.proofs.Same.{same_none}
+use Rattle.combine_base.proofs.Parsers.SameMeanings.{same_none}
 use Rattle.combine_sequence.specs.Values.{second_value}
 use Rattle.combine_sequence.proofs.sequence.laws.with_has_the_second_value.Goals as goal
 
 pub returns : goal.returns
-returns g c = same_none (second_value _ g.Input.Error.ParseError.seen (g.P.Parser.meaning c.args.p.now) (g.Q.Parser.meaning c.args.q.now))
+returns g c = same_none (second_value _ g.Input.Error.ParseError.observers (g.P.Parser.meaning c.args.p.now) (g.Q.Parser.meaning c.args.q.now))

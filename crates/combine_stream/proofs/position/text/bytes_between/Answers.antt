@@ -1,5 +1,5 @@
 use Rattle.std.proofs.Common.{◌∙◌}
-use Rattle.combine_stream.proofs.Placing.{bytes_apart}
+use Rattle.combine_stream.proofs.PlacedTexts.{bytes_apart}
 use Rattle.combine_stream.proofs.position.text.bytes_between.Goals as goal
 
 pub returns : goal.returns

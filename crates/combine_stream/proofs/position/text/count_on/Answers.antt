@@ -2,7 +2,7 @@ use Rattle.std.proofs.Common.{arith, ap, length, drop, take, ◌∙◌}
 use Rattle.std.proofs.lemmas.List.{length-take-le}
 use Rattle.std.proofs.lemmas.Str.{IsUtf8-take}
 use Rattle.std.specs.Str.{chars}
-use Rattle.combine_base.proofs.Characters.{few_chars}
+use Rattle.combine_base.proofs.Streams.FirstCharacter.{few_chars}
 use Rattle.combine_stream.proofs.TextParts.{count_between}
 use Rattle.combine_stream.proofs.position.text.count_on.Goals as goal
 

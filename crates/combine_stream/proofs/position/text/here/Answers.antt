@@ -1,5 +1,5 @@
 use Rattle.std.proofs.Common.{arith}
-use Rattle.combine_base.proofs.Characters.{few_chars}
+use Rattle.combine_base.proofs.Streams.FirstCharacter.{few_chars}
 use Rattle.combine_stream.proofs.position.text.here.Goals as goal
 
 pub returns-clause-short : goal.returns-clause-short

@@ -1,4 +1,4 @@
-use Rattle.combine_stream.proofs.Placing.{other_part}
+use Rattle.combine_stream.proofs.PlacedTexts.{other_part}
 use Rattle.combine_stream.proofs.position.text.is_apart.Goals as goal
 
 pub returns : goal.returns

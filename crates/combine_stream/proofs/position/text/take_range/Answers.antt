@@ -1,8 +1,8 @@
 use Rattle.std.proofs.Common.{arith, ap, sym, subst, length, ◌∙◌}
 use Rattle.combine_base.specs.Stream.View.{after_all}
-use Rattle.combine_stream.specs.TextRanges.{Cut}
-use Rattle.combine_stream.specs.Lines.{Fits, next_place}
-use Rattle.combine_stream.proofs.Placing.{front_size, front_within, front_chars, back_fits}
+use Rattle.combine_stream.specs.Range.TextRanges.{Cut}
+use Rattle.combine_stream.specs.Position.Lines.{CountsFit, next_place}
+use Rattle.combine_stream.proofs.PlacedTexts.{front_size, front_within, front_chars, back_fits}
 use Rattle.combine_stream.proofs.position.text.take_range.Goals as goal
 
 pub place_after-requires : goal.place_after-requires
@@ -17,7 +17,7 @@ place_after-requires c =
 pub put-requires : goal.put-requires
 put-requires c =
     let h = c.in-Ok.ensures in
-    subst (λ p. Fits p (length c.in-Ok.back.now)) (sym c.place_after.ensures.place) (back_fits _ _ _ _ _ h.1 c.args.place c.requires c.utf8.rest c.place_after.ensures.text)
+    subst (λ p. CountsFit p (length c.in-Ok.back.now)) (sym c.place_after.ensures.place) (back_fits _ _ _ _ _ h.1 c.args.place c.requires c.utf8.rest c.place_after.ensures.text)
 
 pub returns-in-Ok : goal.returns-in-Ok
 returns-in-Ok c =

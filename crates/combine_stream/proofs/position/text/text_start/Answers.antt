@@ -1,7 +1,7 @@
 use Rattle.std.proofs.Common.{take, arith}
 use Rattle.std.proofs.lemmas.List.{length-take-le}
 use Rattle.std.proofs.lemmas.Str.{IsCharBoundary-start, IsUtf8-take}
-use Rattle.combine_base.proofs.Characters.{few_chars}
+use Rattle.combine_base.proofs.Streams.FirstCharacter.{few_chars}
 use Rattle.combine_stream.proofs.position.text.text_start.Goals as goal
 
 pub returns-clause-place : goal.returns-clause-place

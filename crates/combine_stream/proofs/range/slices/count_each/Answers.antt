@@ -1,6 +1,6 @@
 use Rattle.std.proofs.Common.{refl, arith, ap, sym, ◌∙◌, ◌∷◌, ◌+◌, drop}
 use Rattle.std.proofs.lemmas.List.{drop_more, drop_all}
-use Rattle.combine_stream.proofs.Passing.{passed_none, passed_more, passed_stop, passed_end}
+use Rattle.combine_stream.proofs.TokenWalks.{passed_none, passed_more, passed_stop, passed_end}
 use Rattle.combine_stream.proofs.range.slices.count_each.Goals as goal
 
 pub loop-token-init : goal.loop-token-init

@@ -1,9 +1,9 @@
 use Rattle.std.proofs.Common.{◌≡◌, drop}
-use Rattle.combine_stream.proofs.Passing.{Passed}
+use Rattle.combine_stream.proofs.TokenWalks.{PassesTest}
 use Rattle.combine_stream.proofs.range.slices.count_each.Given as goal
 
 abbrev pub invariant-loop-token : goal.invariant-loop-token
 invariant-loop-token g l = record {
   count : l.n ≡ l.token-index;
-  passed : Passed (λ t. 1) (g.F.Maps.answers l.fn.f) l.fn.tokens (drop l.token-index l.fn.tokens) l.n;
+  passed : PassesTest (λ t. 1) (g.F.Maps.answers l.fn.f) l.fn.tokens (drop l.token-index l.fn.tokens) l.n;
 }

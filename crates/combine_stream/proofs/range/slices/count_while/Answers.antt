@@ -1,6 +1,6 @@
 use Rattle.std.proofs.Common.{length, take, arith, ap, ◌∙◌, length-drop, length-take-le}
-use Rattle.combine_stream.proofs.Blocks.{few, passed_block, passed_inside, passed_rest, within}
-use Rattle.combine_stream.proofs.Passing.{passed_none}
+use Rattle.combine_stream.proofs.BlockWalks.{few, passed_block, passed_inside, passed_rest, block_within}
+use Rattle.combine_stream.proofs.TokenWalks.{passed_none}
 use Rattle.combine_stream.proofs.range.slices.count_while.Goals as goal
 
 pub walk-init : goal.walk-init
@@ -12,7 +12,7 @@ overflow_add-n g c =
     let block = rw split.1 at c.count_each-passed.ensures in
     let m = few (g.F.Maps.answers c.args.f.now) (take 8 c.walk.rest.now) _ block in
     let e = length-take-le 8 c.walk.rest.now split.0 in
-    let w = within _ _ _ _ c.walk.invariant c.count_each-passed.result (omega arith) in
+    let w = block_within _ _ _ _ c.walk.invariant c.count_each-passed.result (omega arith) in
     omega arith
 
 pub returns-then-passed-lt-BLOCK : goal.returns-then-passed-lt-BLOCK
@@ -34,7 +34,7 @@ walk-preserved g c =
 pub overflow_add-result : goal.overflow_add-result
 overflow_add-result g c =
     let m = few _ _ _ c.count_each.ensures in
-    let w = within _ _ _ _ c.walk.invariant c.count_each.result m in
+    let w = block_within _ _ _ _ c.walk.invariant c.count_each.result m in
     omega arith
 
 pub returns-in-None : goal.returns-in-None

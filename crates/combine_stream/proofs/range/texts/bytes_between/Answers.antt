@@ -1,7 +1,7 @@
 use Rattle.std.proofs.Common.{◌∙◌}
 use Rattle.std.specs.Char.{len_utf8}
 use Rattle.combine_base.specs.Stream.Texts.{text_view, less_char}
-use Rattle.combine_stream.proofs.Slicing.{distance_is}
+use Rattle.combine_stream.proofs.SliceLengths.{distance_is}
 use Rattle.combine_stream.proofs.TextCuts.{text_size}
 use Rattle.combine_stream.proofs.range.texts.bytes_between.Goals as goal
 

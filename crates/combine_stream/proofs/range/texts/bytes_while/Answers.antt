@@ -1,7 +1,7 @@
 use Rattle.std.proofs.Common.{arith, ◌≡◌, ◌+◌, ◌-◌, length, subst}
 use Rattle.std.specs.Char.{len_utf8}
 use Rattle.std.specs.Str.{chars}
-use Rattle.combine_stream.proofs.Passing.{Passed, passed_more, passed_stop, passed_end}
+use Rattle.combine_stream.proofs.TokenWalks.{PassesTest, passed_more, passed_stop, passed_end}
 use Rattle.combine_stream.proofs.range.texts.bytes_while.Goals as goal
 
 pub returns-then-not-map_one : goal.returns-then-not-map_one
@@ -15,7 +15,7 @@ loop-first-preserved g c =
     record {
       text = i.text;
       size = let z = c.loop-first.invariant.size in omega arith;
-      passed = subst (Passed len_utf8 (g.F.Maps.answers c.args.f.now) (chars c.args.text.now) (chars c.in-Some.after.now)) e (passed_more _ _ _ _ _ c.loop-first.invariant.passed _ _ i.characters c.if-not-map_one.ensures);
+      passed = subst (PassesTest len_utf8 (g.F.Maps.answers c.args.f.now) (chars c.args.text.now) (chars c.in-Some.after.now)) e (passed_more _ _ _ _ _ c.loop-first.invariant.passed _ _ i.characters c.if-not-map_one.ensures);
     }
 
 pub returns-in-None : goal.returns-in-None

@@ -3,14 +3,14 @@ use denote.Text.{Utf8}
 use denote.Shadow.{shadow}
 use Rattle.std.specs.Char.{len_utf8}
 use Rattle.std.specs.Str.{chars}
-use Rattle.combine_stream.proofs.Passing.{Passed}
+use Rattle.combine_stream.proofs.TokenWalks.{PassesTest}
 use Rattle.combine_stream.proofs.range.texts.bytes_while.Given as goal
 
 abbrev pub invariant-loop-first : goal.invariant-loop-first
 invariant-loop-first g l = record {
   text : shadow (Utf8 l.rest);
   size : l.passed + length l.rest ≡ length l.fn.text;
-  passed : Passed len_utf8 (g.F.Maps.answers l.fn.f) (chars l.fn.text) (chars l.rest) l.passed;
+  passed : PassesTest len_utf8 (g.F.Maps.answers l.fn.f) (chars l.fn.text) (chars l.rest) l.passed;
 }
 
 abbrev pub decreases-loop-first : goal.decreases-loop-first

@@ -1,34 +1,34 @@
 use Rattle.std.proofs.Common.{rules, arith, refl, sym, ◌∙◌, lt-ltb, le-ltb}
 use Rattle.std.proofs.lemmas.Bool.{false≢true}
-use Rattle.combine_base.proofs.Same.{passes_none, passes_more}
-use Rattle.combine_token.specs.Iterated.{iterated_ends_once}
-use Rattle.combine_token.proofs.Iterating.{reached, reached_more, stands_there, ends, ends_early}
-use Rattle.combine_token.proofs.Matches.{arrived_first, arrived_next}
-use Rattle.combine_token.proofs.ListAnswered.{match_accepted, match_refused, match_put_back, match_unread, match_asks, mismatch_told}
-use Rattle.combine_base.proofs.Reasoning.{reasons_fault, reasons_need}
-use Rattle.combine_token.proofs.ListReasons.{accepted_reasons, mismatch_reasons, put_back_reasons, unread_reasons}
+use Rattle.combine_base.proofs.Parsers.SameMeanings.{passes_none, passes_more}
+use Rattle.combine_token.specs.Token.Lists.IteratedLists.{iterated_ends_once}
+use Rattle.combine_token.proofs.Lists.IteratorCalls.{iterator_after, reached_more, stands_there, list_ends, list_ends_early}
+use Rattle.combine_token.proofs.Lists.Matches.{arrived_first, arrived_next}
+use Rattle.combine_token.proofs.Lists.ListAnswers.{match_accepted, match_refused, match_put_back, match_unread, match_asks, mismatch_told}
+use Rattle.combine_base.proofs.Errors.CallReasons.{reasons_fault, reasons_need}
+use Rattle.combine_token.proofs.Lists.ListReasons.{accepted_reasons, mismatch_reasons, put_back_reasons, unread_reasons}
 use Rattle.combine_base.specs.declared.stream.Kind.TheVariants as kinds
 use Rattle.combine_token.proofs.token.lists.match_list.Goals as goal
 
 pub items-init : goal.items-init
 items-init g c =
     let i = c.into_iter-item-iterator.ensures.into_iter_gives in
-    let z = c.in-Ok-pass_over.ensures.gave in
+    let z = c.in-Ok-pass_list_items.ensures.gave in
     let x = c.requires.list.ready _ _ c.in-Ok.ensures.cases c.into_iter-items.ensures.into_iter_gives in
-    let y = c.in-Ok-pass_over.ensures.left in
+    let y = c.in-Ok-pass_list_items.ensures.left in
     record {
       passes = passes_none _ _;
       cleared = c.begin-matched.ensures.left;
-      reached = rw i (reached _ _ _ _ _ _ _ _ c.in-Ok.ensures.cases c.into_iter-items.ensures.into_iter_gives z);
+      reached = rw i (iterator_after _ _ _ _ _ _ _ _ c.in-Ok.ensures.cases c.into_iter-items.ensures.into_iter_gives z);
       few = rw i (omega (arith, x.2, y.2));
       arrived = arrived_first _ _ _ _ _ _ _ _ _ _ _ _ _ (rw c.is_first.ensures at c.begin-matched.ensures.matched);
     }
 
-pub returns-in-Err-pass_over-clause-answers : goal.returns-in-Err-pass_over-clause-answers
-returns-in-Err-pass_over-clause-answers g c =
-    let z = c.in-Err-pass_over.ensures.gave in
+pub returns-in-Err-pass_list_items-clause-answers : goal.returns-in-Err-pass_list_items-clause-answers
+returns-in-Err-pass_list_items-clause-answers g c =
+    let z = c.in-Err-pass_list_items.ensures.gave in
     let a = arrived_first _ _ _ _ _ _ _ _ _ _ _ _ _ (rw c.is_first.ensures at c.begin-matched.ensures.matched) in
-    match_accepted _ _ _ _ _ _ _ _ _ _ _ _ a c.begin-matched.ensures.left _ (omega (arith, z.0)) (ends_early _ _ _ _ _ _ _ c.in-Ok.ensures.cases c.into_iter-items.ensures.into_iter_gives z.1) refl refl _ (λ l. l.1) _ refl _ c.accepted.ensures
+    match_accepted _ _ _ _ _ _ _ _ _ _ _ _ a c.begin-matched.ensures.left _ (omega (arith, z.0)) (list_ends_early _ _ _ _ _ _ _ c.in-Ok.ensures.cases c.into_iter-items.ensures.into_iter_gives z.1) refl refl _ (λ l. l.1) _ refl _ c.accepted.ensures
 
 pub returns-then-matched-gt0-clause-passes : goal.returns-then-matched-gt0-clause-passes
 returns-then-matched-gt0-clause-passes g c = passes_more _ _ _ _ _ _ c.items.invariant.passes c.uncons.ensures.passes
@@ -92,13 +92,13 @@ items-preserved g c =
 pub returns-clause-answers : goal.returns-clause-answers
 returns-clause-answers g c =
     let i = c.items.invariant in
-    match_accepted _ _ _ _ _ _ _ _ _ _ _ _ i.arrived i.cleared _ (omega arith) (ends _ _ _ _ _ _ _ i.reached c.in-None.ensures.steps) refl refl _ (λ l. l.1) _ refl _ c.accepted-2.ensures
+    match_accepted _ _ _ _ _ _ _ _ _ _ _ _ i.arrived i.cleared _ (omega arith) (list_ends _ _ _ _ _ _ _ i.reached c.in-None.ensures.steps) refl refl _ (λ l. l.1) _ refl _ c.accepted-2.ensures
 
 pub returns-in-Err-clause-refuses : goal.returns-in-Err-clause-refuses
 returns-in-Err-clause-refuses g c = reasons_fault _ _ _ _ kinds.Memory c.new_error.ensures.kind tt
 
-pub returns-in-Err-pass_over-clause-refuses : goal.returns-in-Err-pass_over-clause-refuses
-returns-in-Err-pass_over-clause-refuses g c = accepted_reasons _ _ _ _ _ _ _ c.accepted.ensures
+pub returns-in-Err-pass_list_items-clause-refuses : goal.returns-in-Err-pass_list_items-clause-refuses
+returns-in-Err-pass_list_items-clause-refuses g c = accepted_reasons _ _ _ _ _ _ _ c.accepted.ensures
 
 pub returns-then-matched-gt0-clause-refuses : goal.returns-then-matched-gt0-clause-refuses
 returns-then-matched-gt0-clause-refuses g c =

@@ -1,8 +1,8 @@
 use Rattle.std.proofs.Common.{rules, sym, ◌∙◌}
-use Rattle.combine_token.proofs.OneToken.{accepts_end, needs_token, not_put_back}
+use Rattle.combine_token.proofs.Tokens.OneToken.{accepts_end, needs_token, token_not_put_back}
 use Rattle.combine_base.specs.declared.stream.Kind.TheVariants as kinds
-use Rattle.combine_base.proofs.Reasoning.{reasons_ok, reasons_peek_ok, reasons_fault, reasons_need}
-use Rattle.combine_token.proofs.TokenReasons.{refused_token, refused_end}
+use Rattle.combine_base.proofs.Errors.CallReasons.{reasons_ok, reasons_peek_ok, reasons_fault, reasons_need}
+use Rattle.combine_token.proofs.Tokens.TokenReasons.{refused_token, refused_end}
 use Rattle.combine_token.proofs.token.reading.one_token.Goals as goal
 
 pub returns-then-is_partial-clause-reads : goal.returns-then-is_partial-clause-reads
@@ -25,7 +25,7 @@ returns-in-Ok-reset-clause-back g c =
 
 pub returns-in-Err-reset-clause-reads : goal.returns-in-Err-reset-clause-reads
 returns-in-Err-reset-clause-reads g c =
-    not_put_back _ _ _ _ _ _ _ _ _ _ _ _ c.in-Ok.ensures.read c.in-Err-reset.ensures.to c.in-Ok.ensures.passes.resets c.new_error-in-Err-reset.ensures.kind
+    token_not_put_back _ _ _ _ _ _ _ _ _ _ _ _ c.in-Ok.ensures.read c.in-Err-reset.ensures.to c.in-Ok.ensures.passes.resets c.new_error-in-Err-reset.ensures.kind
 
 pub returns-in-Some-clause-refuses : goal.returns-in-Some-clause-refuses
 returns-in-Some-clause-refuses g c = reasons_ok _ _ _ _

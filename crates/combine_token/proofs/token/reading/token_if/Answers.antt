@@ -1,4 +1,4 @@
-use Rattle.combine_token.proofs.OneToken.{reads_if}
+use Rattle.combine_token.proofs.Tokens.OneToken.{reads_if}
 use Rattle.combine_token.proofs.token.reading.token_if.Goals as goal
 
 pub returns-clause-reads : goal.returns-clause-reads

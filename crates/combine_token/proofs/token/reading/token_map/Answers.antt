@@ -1,4 +1,4 @@
-use Rattle.combine_token.proofs.OneToken.{reads_under}
+use Rattle.combine_token.proofs.Tokens.OneToken.{reads_under}
 use Rattle.combine_token.proofs.token.reading.token_map.Goals as goal
 
 pub returns-clause-reads : goal.returns-clause-reads

@@ -1,5 +1,5 @@
 use Rattle.std.proofs.Common.{arith}
-use Rattle.diff_answers.proofs.Iterated.{letters_are_iterated}
+use Rattle.diff_answers.proofs.LetterParsers.{letters_are_iterated}
 use Rattle.diff_answers.proofs.lists.Letters2Listed.list.Goals as goal
 
 pub returns-clause-iterated : goal.returns-clause-iterated

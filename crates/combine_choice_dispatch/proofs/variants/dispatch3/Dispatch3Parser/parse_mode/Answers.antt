@@ -1,8 +1,8 @@
 use Rattle.std.proofs.Common.{refl}
-use Rattle.combine_choice_dispatch.specs.Held.{held_means_same, within}
+use Rattle.combine_choice_dispatch.specs.HeldParser.{held_means_same, state_within}
 use Rattle.combine_choice_dispatch.specs.Halves.{nest_3}
 use Rattle.combine_choice_dispatch.specs.Variants2.{pick_left, pick_right}
-use Rattle.combine_choice_dispatch.proofs.Holding.{held_answers, held_reasons, held_twice}
+use Rattle.combine_choice_dispatch.proofs.HeldAnswers.{held_answers, held_reasons, held_twice}
 use Rattle.combine_choice_dispatch.proofs.variants.dispatch3.Dispatch3Parser.parse_mode.Goals as goal
 
 pub returns-in-A-clause-same : goal.returns-in-A-clause-same
@@ -11,12 +11,12 @@ returns-in-A-clause-same g c = rw c.in-A.is (held_means_same (λ s. pick_left (n
 pub returns-in-A-clause-answers : goal.returns-in-A-clause-answers
 returns-in-A-clause-answers g c =
     let l = rw c.in-A.is at c.requires.lawful in
-    rw (c.in-A.is, c.passed_on.ensures) (held_answers g.Input.StreamOnce.step g.Input.Error.ParseError.seen g.Input.StreamOnce.steady _ (λ s. pick_left (nest_3 s)) (g.met.A.Parser.laws _ l) _ _ _ c.start_a-kept.ensures _ _ _ _ refl (λ d. d) _ _ refl _ c.parse_mode-answer.ensures.answers)
+    rw (c.in-A.is, c.passed_on.ensures) (held_answers g.Input.StreamOnce.step g.Input.Error.ParseError.observers g.Input.StreamOnce.counts_failures _ (λ s. pick_left (nest_3 s)) (g.met.A.Parser.laws _ l) _ _ _ c.start_a-kept.ensures _ _ _ _ refl (λ d. d) _ _ refl _ c.parse_mode-answer.ensures.answers)
 
 pub returns-in-A-clause-refuses : goal.returns-in-A-clause-refuses
 returns-in-A-clause-refuses g c =
     let l = rw c.in-A.is at c.requires.lawful in
-    rw (c.in-A.is, c.passed_on.ensures) (held_reasons (λ s. pick_left (nest_3 s)) (g.met.A.Parser.laws _ l) refl g.Input.Error.ParseError.seen (g.M.ParseMode.first c.args.mode) _ _ c.start_a-kept.ensures _ _ _ c.parse_mode-answer.ensures.refuses)
+    rw (c.in-A.is, c.passed_on.ensures) (held_reasons (λ s. pick_left (nest_3 s)) (g.met.A.Parser.laws _ l) refl g.Input.Error.ParseError.observers (g.M.ParseMode.first c.args.mode) _ _ c.start_a-kept.ensures _ _ _ c.parse_mode-answer.ensures.refuses)
 
 pub returns-in-B-clause-same : goal.returns-in-B-clause-same
 returns-in-B-clause-same g c = rw c.in-B.is (held_means_same (λ s. pick_right (nest_3 s)) _ _ (held_means_same pick_left _ _ c.parse_mode-answer-in-B.ensures.same))
@@ -24,12 +24,12 @@ returns-in-B-clause-same g c = rw c.in-B.is (held_means_same (λ s. pick_right (
 pub returns-in-B-clause-answers : goal.returns-in-B-clause-answers
 returns-in-B-clause-answers g c =
     let l = rw c.in-B.is at c.requires.lawful in
-    rw (c.in-B.is, c.passed_on-in-B.ensures) (held_answers g.Input.StreamOnce.step g.Input.Error.ParseError.seen g.Input.StreamOnce.steady _ (λ s. within pick_left (pick_right (nest_3 s))) (g.met.B.Parser.laws _ l) _ _ _ c.start_b-kept.ensures _ _ _ _ refl (λ d. d) _ _ (held_twice nest_3 pick_right pick_left _) _ c.parse_mode-answer-in-B.ensures.answers)
+    rw (c.in-B.is, c.passed_on-in-B.ensures) (held_answers g.Input.StreamOnce.step g.Input.Error.ParseError.observers g.Input.StreamOnce.counts_failures _ (λ s. state_within pick_left (pick_right (nest_3 s))) (g.met.B.Parser.laws _ l) _ _ _ c.start_b-kept.ensures _ _ _ _ refl (λ d. d) _ _ (held_twice nest_3 pick_right pick_left _) _ c.parse_mode-answer-in-B.ensures.answers)
 
 pub returns-in-B-clause-refuses : goal.returns-in-B-clause-refuses
 returns-in-B-clause-refuses g c =
     let l = rw c.in-B.is at c.requires.lawful in
-    rw (c.in-B.is, c.passed_on-in-B.ensures) (held_reasons (λ s. within pick_left (pick_right (nest_3 s))) (g.met.B.Parser.laws _ l) (held_twice nest_3 pick_right pick_left _) g.Input.Error.ParseError.seen (g.M.ParseMode.first c.args.mode) _ _ c.start_b-kept.ensures _ _ _ c.parse_mode-answer-in-B.ensures.refuses)
+    rw (c.in-B.is, c.passed_on-in-B.ensures) (held_reasons (λ s. state_within pick_left (pick_right (nest_3 s))) (g.met.B.Parser.laws _ l) (held_twice nest_3 pick_right pick_left _) g.Input.Error.ParseError.observers (g.M.ParseMode.first c.args.mode) _ _ c.start_b-kept.ensures _ _ _ c.parse_mode-answer-in-B.ensures.refuses)
 
 pub returns-in-C-clause-same : goal.returns-in-C-clause-same
 returns-in-C-clause-same g c = rw c.in-C.is (held_means_same (λ s. pick_right (nest_3 s)) _ _ (held_means_same pick_right _ _ c.parse_mode-answer-in-C.ensures.same))
@@ -37,9 +37,9 @@ returns-in-C-clause-same g c = rw c.in-C.is (held_means_same (λ s. pick_right (
 pub returns-in-C-clause-answers : goal.returns-in-C-clause-answers
 returns-in-C-clause-answers g c =
     let l = rw c.in-C.is at c.requires.lawful in
-    rw (c.in-C.is, c.passed_on-in-C.ensures) (held_answers g.Input.StreamOnce.step g.Input.Error.ParseError.seen g.Input.StreamOnce.steady _ (λ s. within pick_right (pick_right (nest_3 s))) (g.met.C.Parser.laws _ l) _ _ _ c.start_c-kept.ensures _ _ _ _ refl (λ d. d) _ _ (held_twice nest_3 pick_right pick_right _) _ c.parse_mode-answer-in-C.ensures.answers)
+    rw (c.in-C.is, c.passed_on-in-C.ensures) (held_answers g.Input.StreamOnce.step g.Input.Error.ParseError.observers g.Input.StreamOnce.counts_failures _ (λ s. state_within pick_right (pick_right (nest_3 s))) (g.met.C.Parser.laws _ l) _ _ _ c.start_c-kept.ensures _ _ _ _ refl (λ d. d) _ _ (held_twice nest_3 pick_right pick_right _) _ c.parse_mode-answer-in-C.ensures.answers)
 
 pub returns-in-C-clause-refuses : goal.returns-in-C-clause-refuses
 returns-in-C-clause-refuses g c =
     let l = rw c.in-C.is at c.requires.lawful in
-    rw (c.in-C.is, c.passed_on-in-C.ensures) (held_reasons (λ s. within pick_right (pick_right (nest_3 s))) (g.met.C.Parser.laws _ l) (held_twice nest_3 pick_right pick_right _) g.Input.Error.ParseError.seen (g.M.ParseMode.first c.args.mode) _ _ c.start_c-kept.ensures _ _ _ c.parse_mode-answer-in-C.ensures.refuses)
+    rw (c.in-C.is, c.passed_on-in-C.ensures) (held_reasons (λ s. state_within pick_right (pick_right (nest_3 s))) (g.met.C.Parser.laws _ l) (held_twice nest_3 pick_right pick_right _) g.Input.Error.ParseError.observers (g.M.ParseMode.first c.args.mode) _ _ c.start_c-kept.ensures _ _ _ c.parse_mode-answer-in-C.ensures.refuses)

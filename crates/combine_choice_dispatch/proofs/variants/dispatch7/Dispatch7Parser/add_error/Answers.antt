@@ -1,4 +1,4 @@
-use Rattle.combine_choice_dispatch.specs.Held.{held_means_same}
+use Rattle.combine_choice_dispatch.specs.HeldParser.{held_means_same}
 use Rattle.combine_choice_dispatch.specs.Halves.{nest_7}
 use Rattle.combine_choice_dispatch.specs.Variants2.{pick_left, pick_right}
 use Rattle.combine_choice_dispatch.proofs.variants.dispatch7.Dispatch7Parser.add_error.Goals as goal

@@ -1,14 +1,14 @@
 use Rattle.std.proofs.Common.{refl, sym, ◌∙◌, true, false}
 use Rattle.std.proofs.lemmas.Bool.{false≢true}
 use Rattle.combine_base.specs.Parser.Answer.{world}
-use Rattle.combine_base.proofs.Reasoning.{reasons_peek_ok}
+use Rattle.combine_base.proofs.Errors.CallReasons.{reasons_peek_ok}
 use Rattle.combine_combinator.specs.Tables.{looks}
-use Rattle.combine_combinator.proofs.Looking.{asks_reasons, back_reasons, table_accepts, table_answers, table_asks_back, table_fails, table_reasons, table_refuses}
+use Rattle.combine_combinator.proofs.TableAnswers.{asks_reasons, back_reasons, table_accepts, table_answers, table_asks_back, table_fails, table_reasons, table_refuses}
 use Rattle.combine_combinator.proofs.combinator.look.LookAheadParser.parse_mode.Goals as goal
 
 pub returns-in-CommitOk-clause-answers : goal.returns-in-CommitOk-clause-answers
 returns-in-CommitOk-clause-answers g c =
-    let w = world g.Input.StreamOnce.step g.Input.Error.ParseError.seen g.Input.StreamOnce.steady g.P.PartialState.Default.is_default in
+    let w = world g.Input.StreamOnce.step g.Input.Error.ParseError.observers g.Input.StreamOnce.counts_failures g.P.PartialState.Default.is_default in
     let m = g.P.Parser.meaning c.args.self.now.0 in
     let stands = g.met.Input.ResetStream.lasts _ _ _ _ c.parse_lazy.ensures.passes.marks c.checkpoint-start.ensures.stands in
     let a = c.in-CommitOk.ensures.answers in
@@ -16,7 +16,7 @@ returns-in-CommitOk-clause-answers g c =
 
 pub returns-in-PeekOk-clause-answers : goal.returns-in-PeekOk-clause-answers
 returns-in-PeekOk-clause-answers g c =
-    let w = world g.Input.StreamOnce.step g.Input.Error.ParseError.seen g.Input.StreamOnce.steady g.P.PartialState.Default.is_default in
+    let w = world g.Input.StreamOnce.step g.Input.Error.ParseError.observers g.Input.StreamOnce.counts_failures g.P.PartialState.Default.is_default in
     let m = g.P.Parser.meaning c.args.self.now.0 in
     let stands = g.met.Input.ResetStream.lasts _ _ _ _ c.parse_lazy.ensures.passes.marks c.checkpoint-start.ensures.stands in
     let a = c.in-PeekOk.ensures.answers in
@@ -24,7 +24,7 @@ returns-in-PeekOk-clause-answers g c =
 
 pub returns-then-needs_more-clause-answers : goal.returns-then-needs_more-clause-answers
 returns-then-needs_more-clause-answers g c =
-    let w = world g.Input.StreamOnce.step g.Input.Error.ParseError.seen g.Input.StreamOnce.steady g.P.PartialState.Default.is_default in
+    let w = world g.Input.StreamOnce.step g.Input.Error.ParseError.observers g.Input.StreamOnce.counts_failures g.P.PartialState.Default.is_default in
     let m = g.P.Parser.meaning c.args.self.now.0 in
     let stands = g.met.Input.ResetStream.lasts _ _ _ _ c.parse_lazy.ensures.passes.marks c.checkpoint-start.ensures.stands in
     let a = c.in-CommitErr.ensures.answers in
@@ -32,7 +32,7 @@ returns-then-needs_more-clause-answers g c =
 
 pub returns-else-needs_more-clause-answers : goal.returns-else-needs_more-clause-answers
 returns-else-needs_more-clause-answers g c =
-    let w = world g.Input.StreamOnce.step g.Input.Error.ParseError.seen g.Input.StreamOnce.steady g.P.PartialState.Default.is_default in
+    let w = world g.Input.StreamOnce.step g.Input.Error.ParseError.observers g.Input.StreamOnce.counts_failures g.P.PartialState.Default.is_default in
     let m = g.P.Parser.meaning c.args.self.now.0 in
     let stands = g.met.Input.ResetStream.lasts _ _ _ _ c.parse_lazy.ensures.passes.marks c.checkpoint-start.ensures.stands in
     let a = c.in-CommitErr.ensures.answers in
@@ -40,7 +40,7 @@ returns-else-needs_more-clause-answers g c =
 
 pub returns-in-PeekErr-clause-answers : goal.returns-in-PeekErr-clause-answers
 returns-in-PeekErr-clause-answers g c =
-    let w = world g.Input.StreamOnce.step g.Input.Error.ParseError.seen g.Input.StreamOnce.steady g.P.PartialState.Default.is_default in
+    let w = world g.Input.StreamOnce.step g.Input.Error.ParseError.observers g.Input.StreamOnce.counts_failures g.P.PartialState.Default.is_default in
     let m = g.P.Parser.meaning c.args.self.now.0 in
     let stands = g.met.Input.ResetStream.lasts _ _ _ _ c.parse_lazy.ensures.passes.marks c.checkpoint-start.ensures.stands in
     let a = c.in-PeekErr.ensures.answers in
@@ -66,7 +66,7 @@ returns-in-PeekOk-clause-refuses g c =
 
 pub returns-then-needs_more-clause-refuses : goal.returns-then-needs_more-clause-refuses
 returns-then-needs_more-clause-refuses g c =
-    let w = world g.Input.StreamOnce.step g.Input.Error.ParseError.seen g.Input.StreamOnce.steady g.P.PartialState.Default.is_default in
+    let w = world g.Input.StreamOnce.step g.Input.Error.ParseError.observers g.Input.StreamOnce.counts_failures g.P.PartialState.Default.is_default in
     let m = g.P.Parser.meaning c.args.self.now.0 in
     let first = g.M.ParseMode.first c.args.mode in
     let old = g.Input.StreamOnce.view c.args.input.now in

@@ -1,7 +1,7 @@
-use Rattle.combine_base.proofs.Giving.{good_ok, good_peek_ok}
-use Rattle.combine_base.proofs.Mapped.{mapped_err, mapped_ok, mapped_peek_err, mapped_peek_ok}
-use Rattle.combine_base.specs.Parser.Mapped.{mapped_means_same}
-use Rattle.combine_base.proofs.Reasoning.{reasons_err, reasons_peek_err}
+use Rattle.combine_base.proofs.Parsers.GivenValues.{good_ok, good_peek_ok}
+use Rattle.combine_base.proofs.Parsers.ValueMap.{mapped_err, mapped_ok, mapped_peek_err, mapped_peek_ok}
+use Rattle.combine_base.specs.Parser.ValueMap.{mapped_means_same}
+use Rattle.combine_base.proofs.Errors.CallReasons.{reasons_err, reasons_peek_err}
 use Rattle.combine_combinator.proofs.combinator.types.MapParser.parse_mode.Goals as goal
 
 pub map_one-requires : goal.map_one-requires

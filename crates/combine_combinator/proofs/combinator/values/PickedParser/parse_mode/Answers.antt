@@ -1,6 +1,6 @@
-use Rattle.combine_base.proofs.Mapped.{mapped_err, mapped_ok, mapped_peek_err, mapped_peek_ok}
-use Rattle.combine_base.specs.Parser.Mapped.{mapped_means_same}
-use Rattle.combine_base.proofs.Reasoning.{reasons_err, reasons_peek_err}
+use Rattle.combine_base.proofs.Parsers.ValueMap.{mapped_err, mapped_ok, mapped_peek_err, mapped_peek_ok}
+use Rattle.combine_base.specs.Parser.ValueMap.{mapped_means_same}
+use Rattle.combine_base.proofs.Errors.CallReasons.{reasons_err, reasons_peek_err}
 use Rattle.combine_combinator.proofs.combinator.values.PickedParser.parse_mode.Goals as goal
 
 pub returns-in-CommitOk-clause-same : goal.returns-in-CommitOk-clause-same

@@ -1,19 +1,19 @@
-use Rattle.combine_base.proofs.Refusing.{reasoned_in_mode}
-use Rattle.combine_base.proofs.Starting.{in_mode}
-use Rattle.combine_base.specs.Parser.Kept.{KeptOf}
-use Rattle.combine_combinator_lazy.specs.Made.{Adds, at_any, at_any_lasts, by_lazy, lazy_maker, made_is_meaning}
-use Rattle.combine_combinator_lazy.proofs.Making.{begins_made, makable_kept, kept_valid, leaves_valid, reasons_made, resumes_made}
+use Rattle.combine_base.proofs.Errors.MeantRefusals.{reasoned_in_mode}
+use Rattle.combine_base.proofs.Parsers.CallStarts.{in_mode}
+use Rattle.combine_base.specs.Parser.KeptParsers.{KeptOf}
+use Rattle.combine_combinator_lazy.specs.MadeParsers.{Adds, at_any, at_any_lasts, by_lazy, lazy_maker, made_is_meaning}
+use Rattle.combine_combinator_lazy.proofs.MadeAnswers.{begins_made, makable_kept, made_kept_valid, made_leaves_valid, reasons_made, resumes_made}
 use Rattle.combine_combinator_lazy.proofs.combinator.types.LazyParser.parse_mode.Goals as goal
 
 pub resume_made-requires-clause-ready : goal.resume_made-requires-clause-ready
-resume_made-requires-clause-ready g c = let v = kept_valid (KeptOf g.N.Parser.lawful g.N.Parser.meaning (by_lazy g.F.Fn g.N.Parser.lawful)) g.N.Parser.valid c.in-Kept.ensures.from c.requires.valid in record { lawful = v.0.is_lawful; valid = v.1 }
+resume_made-requires-clause-ready g c = let v = made_kept_valid (KeptOf g.N.Parser.lawful g.N.Parser.meaning (by_lazy g.F.Fn g.N.Parser.lawful)) g.N.Parser.valid c.in-Kept.ensures.from c.requires.valid in record { lawful = v.0.is_lawful; valid = v.1 }
 
 pub returns-in-Kept-clause-valid : goal.returns-in-Kept-clause-valid
 returns-in-Kept-clause-valid g c =
     let makable = by_lazy g.F.Fn g.N.Parser.lawful in
     let answers = g.F.Fn.post (lazy_maker c.args.self.now) tt in
-    let v = kept_valid (KeptOf g.N.Parser.lawful g.N.Parser.meaning makable) g.N.Parser.valid c.in-Kept.ensures.from c.requires.valid in
-    leaves_valid g.N.Parser g.Input.StreamOnce g.Input.Error.ParseError.seen g.N.PartialState.Default.is_default (at_any answers) makable (Adds answers g.N.Parser.meaning) v.0 c.resume_made.ensures
+    let v = made_kept_valid (KeptOf g.N.Parser.lawful g.N.Parser.meaning makable) g.N.Parser.valid c.in-Kept.ensures.from c.requires.valid in
+    made_leaves_valid g.N.Parser g.Input.StreamOnce g.Input.Error.ParseError.observers g.N.PartialState.Default.is_default (at_any answers) makable (Adds answers g.N.Parser.meaning) v.0 c.resume_made.ensures
 
 pub returns-in-Kept-clause-answers : goal.returns-in-Kept-clause-answers
 returns-in-Kept-clause-answers g c =
@@ -21,15 +21,15 @@ returns-in-Kept-clause-answers g c =
     let answers = g.F.Fn.post (lazy_maker c.args.self.now) tt in
     let from = c.in-Kept.ensures.from in
     let laws = made_is_meaning (at_any answers) makable g.N.Parser.meaning (Adds answers g.N.Parser.meaning) g.N.Parser.lawful (at_any_lasts answers) g.met.N.Parser.laws (λ v. c.requires.lawful.1) in
-    in_mode _ _ _ laws _ _ _ _ from _ _ _ _ _ (resumes_made g.N.Parser g.Input.StreamOnce g.Input.Error.ParseError.seen g.N.PartialState.Default.is_default (at_any answers) makable (Adds answers g.N.Parser.meaning) (kept_valid (KeptOf g.N.Parser.lawful g.N.Parser.meaning makable) g.N.Parser.valid from c.requires.valid).0 c.resume_made.ensures)
+    in_mode _ _ _ laws _ _ _ _ from _ _ _ _ _ (resumes_made g.N.Parser g.Input.StreamOnce g.Input.Error.ParseError.observers g.N.PartialState.Default.is_default (at_any answers) makable (Adds answers g.N.Parser.meaning) (made_kept_valid (KeptOf g.N.Parser.lawful g.N.Parser.meaning makable) g.N.Parser.valid from c.requires.valid).0 c.resume_made.ensures)
 
 pub returns-clause-valid : goal.returns-clause-valid
 returns-clause-valid g c =
     let makable = by_lazy g.F.Fn g.N.Parser.lawful in
     let answers = g.F.Fn.post (lazy_maker c.args.self.now) tt in
     let every = c.requires.lawful.1 in
-    let kept = makable_kept g.N.Parser g.Input.StreamOnce g.Input.Error.ParseError.seen g.N.PartialState.Default.is_default (at_any answers) makable (Adds answers g.N.Parser.meaning) c.call-parser.result (every c.call-parser.result c.call-parser.ensures) (record { maker = lazy_maker c.args.self.now; is_callable = c.requires.lawful.0; all = every; made = c.call-parser.ensures }) in
-    leaves_valid g.N.Parser g.Input.StreamOnce g.Input.Error.ParseError.seen g.N.PartialState.Default.is_default (at_any answers) makable (Adds answers g.N.Parser.meaning) kept c.run_made.ensures
+    let kept = makable_kept g.N.Parser g.Input.StreamOnce g.Input.Error.ParseError.observers g.N.PartialState.Default.is_default (at_any answers) makable (Adds answers g.N.Parser.meaning) c.call-parser.result (every c.call-parser.result c.call-parser.ensures) (record { maker = lazy_maker c.args.self.now; is_callable = c.requires.lawful.0; all = every; made = c.call-parser.ensures }) in
+    made_leaves_valid g.N.Parser g.Input.StreamOnce g.Input.Error.ParseError.observers g.N.PartialState.Default.is_default (at_any answers) makable (Adds answers g.N.Parser.meaning) kept c.run_made.ensures
 
 pub returns-clause-answers : goal.returns-clause-answers
 returns-clause-answers g c =
@@ -39,15 +39,15 @@ returns-clause-answers g c =
     let every = c.requires.lawful.1 in
     let laws = made_is_meaning (at_any answers) makable g.N.Parser.meaning (Adds answers g.N.Parser.meaning) g.N.Parser.lawful (at_any_lasts answers) g.met.N.Parser.laws (λ v. every) in
     let lawful = every c.call-parser.result c.call-parser.ensures in
-    let kept = makable_kept g.N.Parser g.Input.StreamOnce g.Input.Error.ParseError.seen g.N.PartialState.Default.is_default (at_any answers) makable (Adds answers g.N.Parser.meaning) c.call-parser.result lawful (record { maker = lazy_maker c.args.self.now; is_callable = c.requires.lawful.0; all = every; made = c.call-parser.ensures }) in
-    in_mode _ _ _ laws _ _ _ _ from _ _ _ _ _ (begins_made g.N.Parser g.Input.StreamOnce g.Input.Error.ParseError.seen g.N.PartialState.Default.is_default (at_any answers) makable (Adds answers g.N.Parser.meaning) kept c.run_made.ensures (at_any_lasts answers) (g.met.N.Parser.laws _ lawful) c.default.ensures c.call-parser.ensures)
+    let kept = makable_kept g.N.Parser g.Input.StreamOnce g.Input.Error.ParseError.observers g.N.PartialState.Default.is_default (at_any answers) makable (Adds answers g.N.Parser.meaning) c.call-parser.result lawful (record { maker = lazy_maker c.args.self.now; is_callable = c.requires.lawful.0; all = every; made = c.call-parser.ensures }) in
+    in_mode _ _ _ laws _ _ _ _ from _ _ _ _ _ (begins_made g.N.Parser g.Input.StreamOnce g.Input.Error.ParseError.observers g.N.PartialState.Default.is_default (at_any answers) makable (Adds answers g.N.Parser.meaning) kept c.run_made.ensures (at_any_lasts answers) (g.met.N.Parser.laws _ lawful) c.default.ensures c.call-parser.ensures)
 
 pub returns-in-Kept-clause-refuses : goal.returns-in-Kept-clause-refuses
 returns-in-Kept-clause-refuses g c =
     let makable = by_lazy g.F.Fn g.N.Parser.lawful in
     let answers = g.F.Fn.post (lazy_maker c.args.self.now) tt in
     let laws = made_is_meaning (at_any answers) makable g.N.Parser.meaning (Adds answers g.N.Parser.meaning) g.N.Parser.lawful (at_any_lasts answers) g.met.N.Parser.laws (λ v. c.requires.lawful.1) in
-    reasoned_in_mode laws g.Input.Error.ParseError.seen c.in-Kept.ensures.from c.resume_made.ensures.refuses
+    reasoned_in_mode laws g.Input.Error.ParseError.observers c.in-Kept.ensures.from c.resume_made.ensures.refuses
 
 pub returns-clause-refuses : goal.returns-clause-refuses
 returns-clause-refuses g c =
@@ -56,5 +56,5 @@ returns-clause-refuses g c =
     let every = c.requires.lawful.1 in
     let laws = made_is_meaning (at_any answers) makable g.N.Parser.meaning (Adds answers g.N.Parser.meaning) g.N.Parser.lawful (at_any_lasts answers) g.met.N.Parser.laws (λ v. every) in
     let lawful = every c.call-parser.result c.call-parser.ensures in
-    let kept = makable_kept g.N.Parser g.Input.StreamOnce g.Input.Error.ParseError.seen g.N.PartialState.Default.is_default (at_any answers) makable (Adds answers g.N.Parser.meaning) c.call-parser.result lawful (record { maker = lazy_maker c.args.self.now; is_callable = c.requires.lawful.0; all = every; made = c.call-parser.ensures }) in
-    reasoned_in_mode laws g.Input.Error.ParseError.seen c.in_default.ensures.from (reasons_made g.N.Parser g.Input.StreamOnce g.Input.Error.ParseError.seen g.N.PartialState.Default.is_default (at_any answers) makable (Adds answers g.N.Parser.meaning) kept c.run_made.ensures (g.met.N.Parser.laws _ lawful) c.default.ensures c.call-parser.ensures)
+    let kept = makable_kept g.N.Parser g.Input.StreamOnce g.Input.Error.ParseError.observers g.N.PartialState.Default.is_default (at_any answers) makable (Adds answers g.N.Parser.meaning) c.call-parser.result lawful (record { maker = lazy_maker c.args.self.now; is_callable = c.requires.lawful.0; all = every; made = c.call-parser.ensures }) in
+    reasoned_in_mode laws g.Input.Error.ParseError.observers c.in_default.ensures.from (reasons_made g.N.Parser g.Input.StreamOnce g.Input.Error.ParseError.observers g.N.PartialState.Default.is_default (at_any answers) makable (Adds answers g.N.Parser.meaning) kept c.run_made.ensures (g.met.N.Parser.laws _ lawful) c.default.ensures c.call-parser.ensures)

@@ -1,4 +1,4 @@
-use Rattle.combine_combinator_spanned.specs.Spanned.{spanned_means_same}
+use Rattle.combine_combinator_spanned.specs.SpannedErrors.{spanned_means_same}
 use Rattle.combine_combinator_spanned.proofs.combinator.types.SpannedParser.add_error.Goals as goal
 
 pub returns-clause-same : goal.returns-clause-same

@@ -1,5 +1,5 @@
-use Rattle.combine_combinator_spanned.specs.Spanned.{spanned_means_same, spanned_part}
-use Rattle.combine_combinator_spanned.proofs.Spanning.{spanned_answers, spanned_reasons}
+use Rattle.combine_combinator_spanned.specs.SpannedErrors.{spanned_means_same, spanned_part}
+use Rattle.combine_combinator_spanned.proofs.SpannedAnswers.{spanned_answers, spanned_reasons}
 use Rattle.combine_combinator_spanned.proofs.combinator.types.SpannedParser.parse_mode.Goals as goal
 
 pub returns-clause-answers : goal.returns-clause-answers

@@ -1,4 +1,4 @@
-use Rattle.combine_expression.proofs.Standing.{closes_so, ends_early}
+use Rattle.combine_expression.proofs.OpenExpressions.{closes_so, ends_early}
 use Rattle.combine_expression.proofs.expression.operands.Operands+O+O+Value+N.close.Goals as goal
 
 pub returns-in_default : goal.returns-in_default

@@ -1,5 +1,5 @@
 use Rattle.std.proofs.Common.{arith, refl, sym, vec_items, ◌∙◌}
-use Rattle.combine_expression.proofs.Standing.{follows_infix, infix_misfits, infix_misplaced, infix_too_low}
+use Rattle.combine_expression.proofs.OpenExpressions.{follows_infix, infix_misfits, infix_misplaced, infix_too_low}
 use Rattle.combine_expression.proofs.expression.operands.Operands+O+O+Value+N.infix.Goals as goal
 
 pub returns-in_default : goal.returns-in_default

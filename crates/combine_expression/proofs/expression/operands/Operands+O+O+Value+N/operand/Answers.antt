@@ -1,5 +1,5 @@
 use Rattle.std.proofs.Common.{Some, ap, refl, rules}
-use Rattle.combine_expression.proofs.Standing.{follows_operand, none_of, operand_misfits}
+use Rattle.combine_expression.proofs.OpenExpressions.{follows_operand, none_of, operand_misfits}
 use Rattle.combine_expression.proofs.expression.operands.Operands+O+O+Value+N.operand.Goals as goal
 
 pub returns-then-is_some : goal.returns-then-is_some

@@ -1,5 +1,5 @@
 use Rattle.std.proofs.Common.{refl, vec_items}
-use Rattle.combine_expression.proofs.Standing.{follows_postfix, postfix_misfits, postfix_misplaced}
+use Rattle.combine_expression.proofs.OpenExpressions.{follows_postfix, postfix_misfits, postfix_misplaced}
 use Rattle.combine_expression.proofs.expression.operands.Operands+O+O+Value+N.postfix.Goals as goal
 
 pub returns-in_default : goal.returns-in_default

@@ -1,5 +1,5 @@
 use Rattle.std.proofs.Common.{refl, rules}
-use Rattle.combine_expression.proofs.Standing.{follows_prefix, none_of, prefix_misfits, prefix_misplaced}
+use Rattle.combine_expression.proofs.OpenExpressions.{follows_prefix, none_of, prefix_misfits, prefix_misplaced}
 use Rattle.combine_expression.proofs.expression.operands.Operands+O+O+Value+N.prefix.Goals as goal
 
 pub returns-then-is_some : goal.returns-then-is_some

@@ -1,5 +1,5 @@
 use Rattle.combine_expression.specs.Levels.{Operand}
-use Rattle.combine_expression.proofs.Parting.{stayed_goes}
+use Rattle.combine_expression.proofs.PartSteps.{stayed_goes}
 use Rattle.combine_expression.proofs.expression.types.PartFrame.join.Goals as goal
 
 pub returns : goal.returns

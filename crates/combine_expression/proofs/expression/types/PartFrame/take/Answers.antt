@@ -1,4 +1,4 @@
-use Rattle.combine_expression.proofs.Parting.{takes_close, takes_infix, takes_operand, takes_postfix, takes_prefix}
+use Rattle.combine_expression.proofs.PartSteps.{takes_close, takes_infix, takes_operand, takes_postfix, takes_prefix}
 use Rattle.combine_expression.proofs.expression.types.PartFrame.take.Goals as goal
 
 pub returns-in-Operand : goal.returns-in-Operand

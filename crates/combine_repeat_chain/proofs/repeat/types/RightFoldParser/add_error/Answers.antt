@@ -1,11 +1,11 @@
 use Rattle.std.proofs.Common.{None}
-use Rattle.combine_base.proofs.Same.{same_none}
-use Rattle.combine_base.specs.Parser.Mapped.{mapped_means_same}
+use Rattle.combine_base.proofs.Parsers.SameMeanings.{same_none}
+use Rattle.combine_base.specs.Parser.ValueMap.{mapped_means_same}
 use Rattle.combine_repeat_chain.specs.ChainParsers.{right_operator}
 use Rattle.combine_repeat_chain.specs.Chains.{each_operand}
-use Rattle.combine_repeat_sep.specs.JoinedLaws.{joined_means_same}
-use Rattle.combine_repeat_turns.specs.declared.turns.Bounds.TheVariants.{Joined}
+use Rattle.combine_repeat_sep.specs.Elements.{joined_means_same}
+use Rattle.combine_repeat_turns.specs.declared.turns.Bounds.TheVariants.{OwnFirst}
 use Rattle.combine_repeat_chain.proofs.repeat.types.RightFoldParser.add_error.Goals as goal
 
 pub returns-clause-same : goal.returns-clause-same
-returns-clause-same g c = mapped_means_same _ _ _ (joined_means_same _ _ (Joined 1 None) each_operand _ _ _ _ c.add_error.ensures.same (same_none (g.S.Parser.meaning (right_operator c.args.self.now))))
+returns-clause-same g c = mapped_means_same _ _ _ (joined_means_same _ _ (OwnFirst 1 None) each_operand _ _ _ _ c.add_error.ensures.same (same_none (g.S.Parser.meaning (right_operator c.args.self.now))))

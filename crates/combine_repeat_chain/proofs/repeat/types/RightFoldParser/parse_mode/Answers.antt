@@ -1,24 +1,24 @@
 use Rattle.std.proofs.Common.{None}
-use Rattle.combine_base.proofs.Reasoning.{reasons_err, reasons_peek_err}
-use Rattle.combine_base.proofs.Refusing.{reasoned_accepted, reasoned_peeked}
-use Rattle.combine_base.proofs.Mapped.{mapped_err, mapped_ok, mapped_peek_err, mapped_peek_ok}
-use Rattle.combine_base.specs.Parser.Mapped.{mapped_means_same}
-use Rattle.combine_repeat_turns.specs.BoundedLaws.{turns_means_same}
-use Rattle.combine_repeat_turns.specs.Counts.{never}
-use Rattle.combine_repeat_turns.specs.declared.turns.Bounds.TheVariants.{Joined}
+use Rattle.combine_base.proofs.Errors.CallReasons.{reasons_err, reasons_peek_err}
+use Rattle.combine_base.proofs.Errors.MeantRefusals.{reasoned_accepted, reasoned_peeked}
+use Rattle.combine_base.proofs.Parsers.ValueMap.{mapped_err, mapped_ok, mapped_peek_err, mapped_peek_ok}
+use Rattle.combine_base.specs.Parser.ValueMap.{mapped_means_same}
+use Rattle.combine_repeat_turns.specs.Turns.Bounds.{turns_means_same}
+use Rattle.combine_repeat_turns.specs.Repeat.Repeated.{no_value_ends}
+use Rattle.combine_repeat_turns.specs.declared.turns.Bounds.TheVariants.{OwnFirst}
 use Rattle.combine_repeat_chain.proofs.repeat.types.RightFoldParser.parse_mode.Goals as goal
 
 pub returns-in-CommitOk-clause-same : goal.returns-in-CommitOk-clause-same
-returns-in-CommitOk-clause-same g c = mapped_means_same _ _ _ (turns_means_same _ _ (Joined 1 None) never _ _ _ _ _ _ c.take_joined.ensures.same)
+returns-in-CommitOk-clause-same g c = mapped_means_same _ _ _ (turns_means_same _ _ (OwnFirst 1 None) no_value_ends _ _ _ _ _ _ c.reduce_turns.ensures.same)
 
 pub returns-in-PeekOk-clause-same : goal.returns-in-PeekOk-clause-same
-returns-in-PeekOk-clause-same g c = mapped_means_same _ _ _ (turns_means_same _ _ (Joined 1 None) never _ _ _ _ _ _ c.take_joined.ensures.same)
+returns-in-PeekOk-clause-same g c = mapped_means_same _ _ _ (turns_means_same _ _ (OwnFirst 1 None) no_value_ends _ _ _ _ _ _ c.reduce_turns.ensures.same)
 
 pub returns-in-CommitErr-clause-same : goal.returns-in-CommitErr-clause-same
-returns-in-CommitErr-clause-same g c = mapped_means_same _ _ _ (turns_means_same _ _ (Joined 1 None) never _ _ _ _ _ _ c.take_joined.ensures.same)
+returns-in-CommitErr-clause-same g c = mapped_means_same _ _ _ (turns_means_same _ _ (OwnFirst 1 None) no_value_ends _ _ _ _ _ _ c.reduce_turns.ensures.same)
 
 pub returns-in-PeekErr-clause-same : goal.returns-in-PeekErr-clause-same
-returns-in-PeekErr-clause-same g c = mapped_means_same _ _ _ (turns_means_same _ _ (Joined 1 None) never _ _ _ _ _ _ c.take_joined.ensures.same)
+returns-in-PeekErr-clause-same g c = mapped_means_same _ _ _ (turns_means_same _ _ (OwnFirst 1 None) no_value_ends _ _ _ _ _ _ c.reduce_turns.ensures.same)
 
 pub returns-in-CommitErr-clause-answers : goal.returns-in-CommitErr-clause-answers
 returns-in-CommitErr-clause-answers g c = mapped_err _ _ _ _ _ c.in-CommitErr.ensures.answers
@@ -33,16 +33,16 @@ pub returns-in-PeekOk-clause-answers : goal.returns-in-PeekOk-clause-answers
 returns-in-PeekOk-clause-answers g c = mapped_peek_ok _ _ _ _ _ _ c.fold-in-PeekOk.ensures c.in-PeekOk.ensures.answers
 
 pub returns-in-CommitOk-clause-valid : goal.returns-in-CommitOk-clause-valid
-returns-in-CommitOk-clause-valid g c = (c.take_joined.ensures.valid, c.take_joined.ensures.sound.kept)
+returns-in-CommitOk-clause-valid g c = (c.reduce_turns.ensures.valid, c.reduce_turns.ensures.sound.kept)
 
 pub returns-in-PeekOk-clause-valid : goal.returns-in-PeekOk-clause-valid
-returns-in-PeekOk-clause-valid g c = (c.take_joined.ensures.valid, c.take_joined.ensures.sound.kept)
+returns-in-PeekOk-clause-valid g c = (c.reduce_turns.ensures.valid, c.reduce_turns.ensures.sound.kept)
 
 pub returns-in-CommitErr-clause-valid : goal.returns-in-CommitErr-clause-valid
-returns-in-CommitErr-clause-valid g c = (c.take_joined.ensures.valid, c.take_joined.ensures.sound.kept)
+returns-in-CommitErr-clause-valid g c = (c.reduce_turns.ensures.valid, c.reduce_turns.ensures.sound.kept)
 
 pub returns-in-PeekErr-clause-valid : goal.returns-in-PeekErr-clause-valid
-returns-in-PeekErr-clause-valid g c = (c.take_joined.ensures.valid, c.take_joined.ensures.sound.kept)
+returns-in-PeekErr-clause-valid g c = (c.reduce_turns.ensures.valid, c.reduce_turns.ensures.sound.kept)
 
 pub fold-requires : goal.fold-requires
 fold-requires g c = record { callable = c.in-CommitOk.ensures.sound.value }

@@ -1,11 +1,11 @@
 use Rattle.std.proofs.Common.{None}
-use Rattle.combine_repeat_turns.specs.BoundedLaws.{turns_means_same}
-use Rattle.combine_repeat_turns.specs.Counts.{never}
-use Rattle.combine_repeat_turns.specs.declared.turns.Bounds.TheVariants.{Joined}
+use Rattle.combine_repeat_turns.specs.Turns.Bounds.{turns_means_same}
+use Rattle.combine_repeat_turns.specs.Repeat.Repeated.{no_value_ends}
+use Rattle.combine_repeat_turns.specs.declared.turns.Bounds.TheVariants.{OwnFirst}
 use Rattle.combine_repeat_sep.proofs.repeat.types.Chainl1Parser.parse_mode.Goals as goal
 
 pub returns-clause-same : goal.returns-clause-same
-returns-clause-same g c = turns_means_same _ _ (Joined 1 None) never _ _ _ _ _ _ c.take_joined.ensures.same
+returns-clause-same g c = turns_means_same _ _ (OwnFirst 1 None) no_value_ends _ _ _ _ _ _ c.reduce_turns.ensures.same
 
 pub returns-clause-refuses : goal.returns-clause-refuses
-returns-clause-refuses g c = c.take_joined.ensures.refuses
+returns-clause-refuses g c = c.reduce_turns.ensures.refuses

@@ -1,5 +1,5 @@
 use Rattle.std.proofs.Common.{◌∙◌}
-use Rattle.combine_stream.proofs.Indexing.{index_apart}
+use Rattle.combine_stream.proofs.IndexedSlices.{index_apart}
 use Rattle.combine_stream.proofs.position.slice.SliceStreamRangeStream.distance.Goals as goal
 
 pub returns : goal.returns

@@ -1,7 +1,7 @@
 use Rattle.std.proofs.Common.{arith, ap, refl, drop, length, take}
-use Rattle.combine_stream.specs.Measures.{ones}
-use Rattle.combine_stream.proofs.Slicing.{slice_place}
-use Rattle.combine_stream.proofs.Indexing.{index_takes}
+use Rattle.combine_stream.specs.Range.Measures.{ones}
+use Rattle.combine_stream.proofs.SliceLengths.{slice_place}
+use Rattle.combine_stream.proofs.IndexedSlices.{index_takes}
 use Rattle.combine_stream.proofs.position.slice.SliceStreamRangeStream.uncons_range.Goals as goal
 
 pub returns-then-n-unread-clause-read : goal.returns-then-n-unread-clause-read

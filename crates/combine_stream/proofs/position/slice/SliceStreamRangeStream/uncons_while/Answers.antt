@@ -1,9 +1,9 @@
 use Rattle.std.proofs.Common.{arith, ap, refl, sym, take}
 use Rattle.std.proofs.lemmas.List.{length-take-le}
-use Rattle.combine_stream.proofs.Blocks.{few}
-use Rattle.combine_stream.proofs.Indexing.{index_takes, index_within, longest_same}
-use Rattle.combine_stream.proofs.Passing.{while_by_range}
-use Rattle.combine_stream.proofs.Slicing.{slice_place}
+use Rattle.combine_stream.proofs.BlockWalks.{few}
+use Rattle.combine_stream.proofs.IndexedSlices.{index_takes, index_within, longest_same}
+use Rattle.combine_stream.proofs.TokenWalks.{while_by_range}
+use Rattle.combine_stream.proofs.SliceLengths.{slice_place}
 use Rattle.combine_stream.proofs.position.slice.SliceStreamRangeStream.uncons_while.Goals as goal
 
 pub overflow_add-self : goal.overflow_add-self

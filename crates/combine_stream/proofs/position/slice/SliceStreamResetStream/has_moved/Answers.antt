@@ -1,4 +1,4 @@
-use Rattle.combine_stream.proofs.Indexing.{index_moved}
+use Rattle.combine_stream.proofs.IndexedSlices.{index_moved}
 use Rattle.combine_stream.proofs.position.slice.SliceStreamResetStream.has_moved.Goals as goal
 
 pub returns : goal.returns

@@ -1,7 +1,7 @@
 use Rattle.std.proofs.Common.{sym, ap, ◌∙◌, length}
 use Rattle.combine_base.specs.Stream.View.{View}
-use Rattle.combine_stream.specs.Measures.{ones}
-use Rattle.combine_stream.proofs.Slicing.{distance_is}
+use Rattle.combine_stream.specs.Range.Measures.{ones}
+use Rattle.combine_stream.proofs.SliceLengths.{distance_is}
 use Rattle.combine_stream.proofs.range.slices.RefSliceRangeStream.distance.Goals as goal
 
 pub returns : goal.returns

@@ -1,7 +1,7 @@
 use Rattle.std.proofs.Common.{arith, refl}
-use Rattle.combine_stream.proofs.Blocks.{few}
-use Rattle.combine_stream.proofs.Passing.{while_by_range}
-use Rattle.combine_stream.proofs.Slicing.{slice_place, slice_takes}
+use Rattle.combine_stream.proofs.BlockWalks.{few}
+use Rattle.combine_stream.proofs.TokenWalks.{while_by_range}
+use Rattle.combine_stream.proofs.SliceLengths.{slice_place, slice_takes}
 use Rattle.combine_stream.proofs.range.slices.RefSliceRangeStream.uncons_while.Goals as goal
 
 pub split_at-requires : goal.split_at-requires

@@ -1,5 +1,5 @@
-use Rattle.combine_stream.specs.TextRanges.{char_filled}
-use Rattle.combine_stream.proofs.Passing.{while_by_range}
+use Rattle.combine_stream.specs.Range.TextRanges.{char_filled}
+use Rattle.combine_stream.proofs.TokenWalks.{while_by_range}
 use Rattle.combine_stream.proofs.range.texts.RefStrRangeStream.uncons_while.Goals as goal
 
 pub returns-clause-read : goal.returns-clause-read

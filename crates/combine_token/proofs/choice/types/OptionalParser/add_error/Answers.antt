@@ -1,4 +1,4 @@
-use Rattle.combine_token.specs.Optional.{optional_means_same}
+use Rattle.combine_token.specs.Choice.Optional.{optional_means_same}
 use Rattle.combine_token.proofs.choice.types.OptionalParser.add_error.Goals as goal
 
 pub returns-clause-same : goal.returns-clause-same

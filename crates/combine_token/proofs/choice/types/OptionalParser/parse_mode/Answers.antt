@@ -1,9 +1,9 @@
 use Rattle.std.proofs.Common.{refl, ◌∙◌}
 use Rattle.combine_base.specs.declared.stream.Kind.TheVariants as kinds
-use Rattle.combine_base.proofs.Calls.{refusal_unreset}
-use Rattle.combine_token.specs.Optional.{optional_means_same}
-use Rattle.combine_token.proofs.Optionals.{optional_ok, optional_peek_ok, optional_err, optional_none, optional_reasons}
-use Rattle.combine_base.proofs.Reasoning.{reasons_ok, reasons_peek_ok, reasons_fault}
+use Rattle.combine_base.proofs.Errors.CallErrors.{refusal_unreset}
+use Rattle.combine_token.specs.Choice.Optional.{optional_means_same}
+use Rattle.combine_token.proofs.Choices.Optionals.{optional_ok, optional_peek_ok, optional_err, optional_none, optional_reasons}
+use Rattle.combine_base.proofs.Errors.CallReasons.{reasons_ok, reasons_peek_ok, reasons_fault}
 use Rattle.combine_token.proofs.choice.types.OptionalParser.parse_mode.Goals as goal
 
 pub returns-in-CommitOk-clause-answers : goal.returns-in-CommitOk-clause-answers
@@ -46,7 +46,7 @@ pub returns-in-PeekOk-clause-refuses : goal.returns-in-PeekOk-clause-refuses
 returns-in-PeekOk-clause-refuses g c = reasons_peek_ok _ _ _ _
 
 pub returns-in-CommitErr-clause-refuses : goal.returns-in-CommitErr-clause-refuses
-returns-in-CommitErr-clause-refuses g c = optional_reasons g.Input.Error.ParseError.seen.kind _ (g.P.Parser.meaning c.args.self.now.0) (g.M.ParseMode.first c.args.mode) c.args.state.now _ _ _ c.in-CommitErr.ensures.refuses
+returns-in-CommitErr-clause-refuses g c = optional_reasons g.Input.Error.ParseError.observers.kind _ (g.P.Parser.meaning c.args.self.now.0) (g.M.ParseMode.first c.args.mode) c.args.state.now _ _ _ c.in-CommitErr.ensures.refuses
 
 pub returns-in-Ok-clause-refuses : goal.returns-in-Ok-clause-refuses
 returns-in-Ok-clause-refuses g c = reasons_peek_ok _ _ _ _

@@ -1,6 +1,6 @@
 use Rattle.std.proofs.Common.{refl}
-use Rattle.combine_token.proofs.ListAnswered.{end_refused}
-use Rattle.combine_base.proofs.Reasoning.{reasons_after, reasons_unended}
+use Rattle.combine_token.proofs.Lists.ListAnswers.{end_refused}
+use Rattle.combine_base.proofs.Errors.CallReasons.{reasons_after, reasons_unended}
 use Rattle.combine_token.proofs.token.lists.answers.no_more.Goals as goal
 
 pub returns-in-PeekErr-clause-finds : goal.returns-in-PeekErr-clause-finds

@@ -1,6 +1,6 @@
-use Rattle.combine_base.proofs.Same.{same_none}
-use Rattle.combine_base.proofs.Reasoning.{reasons_peek_ok}
-use Rattle.combine_token.proofs.Given.{value_given}
+use Rattle.combine_base.proofs.Parsers.SameMeanings.{same_none}
+use Rattle.combine_base.proofs.Errors.CallReasons.{reasons_peek_ok}
+use Rattle.combine_token.proofs.Tokens.PureValues.{value_given}
 use Rattle.combine_token.proofs.token.types.ProduceParser.parse_mode.Goals as goal
 
 pub returns-clause-same : goal.returns-clause-same

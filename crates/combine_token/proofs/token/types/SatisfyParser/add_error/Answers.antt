@@ -1,4 +1,4 @@
-use Rattle.combine_base.proofs.Same.{same_none}
+use Rattle.combine_base.proofs.Parsers.SameMeanings.{same_none}
 use Rattle.combine_token.proofs.token.types.SatisfyParser.add_error.Goals as goal
 
 pub returns-clause-same : goal.returns-clause-same

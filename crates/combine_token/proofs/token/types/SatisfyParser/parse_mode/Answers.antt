@@ -1,8 +1,8 @@
-use Rattle.combine_base.proofs.Same.{same_none}
-use Rattle.combine_base.specs.Error.Errors.{Nothing}
-use Rattle.combine_token.specs.OneToken.{satisfied}
-use Rattle.combine_token.proofs.TokenReasons.{token_reasons}
-use Rattle.combine_token.proofs.OneToken.{takes_if}
+use Rattle.combine_base.proofs.Parsers.SameMeanings.{same_none}
+use Rattle.combine_base.specs.Error.Errors.{AddsNothing}
+use Rattle.combine_token.specs.Token.OneToken.{satisfied}
+use Rattle.combine_token.proofs.Tokens.TokenReasons.{token_reasons}
+use Rattle.combine_token.proofs.Tokens.OneToken.{takes_if}
 use Rattle.combine_token.proofs.token.types.SatisfyParser.parse_mode.Goals as goal
 
 pub returns-clause-answers : goal.returns-clause-answers
@@ -12,4 +12,4 @@ pub returns-clause-same : goal.returns-clause-same
 returns-clause-same g c = same_none _
 
 pub returns-clause-refuses : goal.returns-clause-refuses
-returns-clause-refuses g c = token_reasons g.Input.Error.ParseError.seen (satisfied (g.F.Maps.answers c.args.self.now.predicate)) (Unit {0}) Nothing (g.M.ParseMode.first c.args.mode) c.args.state.now _ _ _ c.token_if.ensures.refuses
+returns-clause-refuses g c = token_reasons g.Input.Error.ParseError.observers (satisfied (g.F.Maps.answers c.args.self.now.predicate)) (Unit {0}) AddsNothing (g.M.ParseMode.first c.args.mode) c.args.state.now _ _ _ c.token_if.ensures.refuses

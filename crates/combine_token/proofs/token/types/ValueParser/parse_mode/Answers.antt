@@ -1,7 +1,7 @@
 use Rattle.combine_base.specs.declared.stream.Kind.TheVariants as kinds
-use Rattle.combine_base.proofs.Same.{same_none}
-use Rattle.combine_token.proofs.Given.{value_given, value_unmade}
-use Rattle.combine_base.proofs.Reasoning.{reasons_peek_ok, reasons_fault}
+use Rattle.combine_base.proofs.Parsers.SameMeanings.{same_none}
+use Rattle.combine_token.proofs.Tokens.PureValues.{value_given, value_unmade}
+use Rattle.combine_base.proofs.Errors.CallReasons.{reasons_peek_ok, reasons_fault}
 use Rattle.combine_token.proofs.token.types.ValueParser.parse_mode.Goals as goal
 
 pub returns-in-Ok-clause-same : goal.returns-in-Ok-clause-same

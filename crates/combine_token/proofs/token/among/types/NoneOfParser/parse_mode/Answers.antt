@@ -1,21 +1,21 @@
 use Rattle.combine_base.specs.declared.stream.Kind.TheVariants as kinds
-use Rattle.combine_base.proofs.Reasoning.{reasons_fault}
-use Rattle.combine_base.proofs.Same.{same_none}
-use Rattle.combine_token.specs.Among.{beside}
-use Rattle.combine_base.specs.Error.Errors.{Nothing}
-use Rattle.combine_token.specs.OneToken.{satisfied}
-use Rattle.combine_token.proofs.TokenReasons.{token_reasons}
-use Rattle.combine_token.proofs.OneToken.{takes_if}
+use Rattle.combine_base.proofs.Errors.CallReasons.{reasons_fault}
+use Rattle.combine_base.proofs.Parsers.SameMeanings.{same_none}
+use Rattle.combine_token.specs.Token.Among.{none_among}
+use Rattle.combine_base.specs.Error.Errors.{AddsNothing}
+use Rattle.combine_token.specs.Token.OneToken.{satisfied}
+use Rattle.combine_token.proofs.Tokens.TokenReasons.{token_reasons}
+use Rattle.combine_token.proofs.Tokens.OneToken.{takes_if}
 use Rattle.combine_token.proofs.token.among.types.NoneOfParser.parse_mode.Goals as goal
 
 pub returns-clause-same : goal.returns-clause-same
 returns-clause-same g c = same_none _
 
 pub returns-clause-answers : goal.returns-clause-answers
-returns-clause-answers g c = takes_if _ _ _ (beside g.T.Clone.is_clone g.T.IntoIterator.into_iter_gives g.T.IntoIter.Iterator.next_gives c.args.self.now.tokens g.Input.Token.PartialEq.eq) _ _ _ tt _ c.token_if.ensures.reads (λ t b e. (c.into_iter-items.result, record { clone = c.in-Ok.list; is_clone = c.in-Ok.ensures.cases; made = c.into_iter-items.ensures.into_iter_gives }, e))
+returns-clause-answers g c = takes_if _ _ _ (none_among g.T.Clone.is_clone g.T.IntoIterator.into_iter_gives g.T.IntoIter.Iterator.next_gives c.args.self.now.tokens g.Input.Token.PartialEq.eq) _ _ _ tt _ c.token_if.ensures.reads (λ t b e. (c.into_iter-items.result, record { clone = c.in-Ok.list; is_clone = c.in-Ok.ensures.cases; made = c.into_iter-items.ensures.into_iter_gives }, e))
 
 pub returns-clause-refuses : goal.returns-clause-refuses
-returns-clause-refuses g c = token_reasons g.Input.Error.ParseError.seen (satisfied (beside g.T.Clone.is_clone g.T.IntoIterator.into_iter_gives g.T.IntoIter.Iterator.next_gives c.args.self.now.tokens g.Input.Token.PartialEq.eq)) (g.T.Clone.is_infallible c.args.self.now.tokens) Nothing (g.M.ParseMode.first c.args.mode) c.args.state.now _ _ _ c.token_if.ensures.refuses
+returns-clause-refuses g c = token_reasons g.Input.Error.ParseError.observers (satisfied (none_among g.T.Clone.is_clone g.T.IntoIterator.into_iter_gives g.T.IntoIter.Iterator.next_gives c.args.self.now.tokens g.Input.Token.PartialEq.eq)) (g.T.Clone.is_infallible c.args.self.now.tokens) AddsNothing (g.M.ParseMode.first c.args.mode) c.args.state.now _ _ _ c.token_if.ensures.refuses
 
 pub returns-in-Err-clause-same : goal.returns-in-Err-clause-same
 returns-in-Err-clause-same g c = same_none _

@@ -1,0 +1,5 @@
+-- tuples, by the calls of their parts
+pub mod SequenceAnswers
+pub mod SequenceCalls
+pub mod SequenceResumes
+pub mod SingleAnswers

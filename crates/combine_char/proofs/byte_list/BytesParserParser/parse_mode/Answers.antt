@@ -1,0 +1,18 @@
+use Rattle.combine_base.proofs.Parsers.SameMeanings.{same_none}
+use Rattle.std.proofs.Common.{◌≡◌, None}
+use Rattle.combine_char.specs.SpelledLists.{SaysRange}
+use Rattle.combine_token.specs.Token.Lists.KnownLists.{listed_tokens}
+use Rattle.combine_token.specs.Token.TokenParsers.{matched_before}
+use Rattle.combine_token.proofs.Lists.ListReasons.{list_reasons}
+use Rattle.combine_token.proofs.Lists.GivenItems.{list_within_same}
+use Rattle.combine_char.proofs.SpelledLists.{spelled_answers}
+use Rattle.combine_char.proofs.byte_list.BytesParserParser.parse_mode.Goals as goal
+
+pub returns-clause-same : goal.returns-clause-same
+returns-clause-same g c = same_none _
+
+pub returns-clause-answers : goal.returns-clause-answers
+returns-clause-answers g c = spelled_answers _ _ _ _ _ (list_within_same _) (list_within_same _) _ _ _ tt _ _ _ _ c.match_bytes.ensures.answers
+
+pub returns-clause-refuses : goal.returns-clause-refuses
+returns-clause-refuses g c = list_reasons g.Input.Error.ParseError.observers (listed_tokens (g.F.Fits.compares c.args.self.now.fits) c.args.self.now.bytes.now) None (λ v. v ≡ c.args.self.now.bytes) matched_before (Unit {0}) (SaysRange (g.Input.Range.ShowsBytes.shows c.args.self.now.bytes.now)) (g.M.ParseMode.first c.args.mode) c.args.state.now _ _ _ c.match_bytes.ensures.refuses

@@ -1,0 +1,183 @@
+-- one message of a decoder, by what its session promises
+use Rattle.std.proofs.Common.{ℕ, ◌+◌, ◌<◌, ◌≤◌, ◌≡◌, ◌↔◌, nat_lt, if◌then◌else◌, ◌∷◌, refl, sym, ◌∙◌, ap, subst, List, [], ◌++◌, length, drop, Option, Bool, true, false, append_assoc, arith, ltb-true, eqb-true, lt-ltb, nat_eq, eq-eqb, Result, Ok}
+use Rattle.std.proofs.lemmas.List.{drop-append-le, drop-drop, length-append, length-drop}
+use Rattle.combine_base.specs.Parser.Outcome.{Outcome, Accepted, Refused, Undecided}
+use Rattle.combine_base.specs.Parser.Meaning.{Meaning, Reading}
+use Rattle.combine_base.specs.Parser.Sessions.{Course, BeginsSession, BeginsAgain, Feeds, anew_by_stage, by_stage, left_of_session}
+use Rattle.combine_base.specs.Parser.Sessions as session
+use Rattle.combine_base.specs.declared.error.UnexpectedParse.{UnexpectedParse}
+use Rattle.combine_base.specs.declared.parser.answer.Answer.{Answer}
+use Rattle.combine_base.specs.declared.parser.answer.Answer.TheVariants as answers
+use Rattle.combine_base.specs.declared.parser.session.SessionError.{SessionError}
+use Rattle.combine_base.specs.declared.parser.session.Stage.{Stage}
+use Rattle.combine_base.specs.declared.parser.session.Stage.TheVariants as stages
+use Rattle.combine_decode.specs.declared.decode.Batch.{Batch}
+use Rattle.combine_decode.specs.declared.decode.BatchEnd.TheVariants as ends
+use Rattle.combine_decode.specs.Messages.{After, DividesMessages, GivesMessages, AnswersMessage, made_reading, on_open, ends_messages, answers_message}
+
+module _ {P T R E V S : Type 0} (meaning : P → Meaning ℕ T R E V S) where
+  -- a session of a parser that was made stands at the beginning of a message
+  pub message_begins : (valid : S → Type 0) (determined : P → Type 0) (makes : P → Type 0) (most : Option ℕ) (p : P) (c : Course P T S) → makes p → BeginsSession meaning valid determined most p c → After (made_reading meaning makes) meaning [] c
+  message_begins valid determined makes most p c m h = record {
+    left = λ x o l. (p, m, (h.left x true o).0 l);
+    within = let t = h.taken in omega arith;
+    unread = h.unread ∙ (rw h.taken refl);
+    stage = h.stage;
+  }
+
+  module _ (valid : S → Type 0) (message : Reading ℕ T V) (l : List T) (c : Course P T S) (far : After message meaning l c) (piece : List T) (new : Course P T S) where
+    fed_now : (r : Result (Answer V UnexpectedParse) SessionError) → Feeds meaning valid c new piece true r → session.feeds_session meaning valid c new piece true r
+    fed_now r h = subst (λ s. by_stage meaning valid c new piece true (session.feeds_session meaning valid c new piece true) s r) far.stage h.is
+
+    -- what is unread then is what follows the tokens that were taken
+    all_unread : c.seen.unread ++ piece ≡ drop c.seen.position (l ++ piece)
+    all_unread = ap (λ us. us ++ piece) far.unread ∙ sym (drop-append-le c.seen.position l piece far.within)
+
+    module _ (h : session.LeavesUnread meaning valid c new piece true) where
+      left_within : new.seen.position ≤ length (l ++ piece)
+      left_within =
+          let a = h.within in
+          let b = h.taken in
+          let u = ap length all_unread in
+          let w = far.within in
+          omega (arith, length-drop c.seen.position (l ++ piece), length-append l piece)
+
+      left_unread : new.seen.unread ≡ drop new.seen.position (l ++ piece)
+      left_unread = h.unread ∙ ap (drop h.count) all_unread ∙ drop-drop h.count c.seen.position (l ++ piece) ∙ ap (λ n. drop n (l ++ piece)) (sym h.taken)
+
+    onward : ((x : List T) (m : Bool) (o : Outcome V) → left_of_session meaning new x m o → left_of_session meaning c (piece ++ x) m o) → (x : List T) (o : Outcome V) → left_of_session meaning new x true o → on_open message ((l ++ piece) ++ x) o
+    onward f x o h = subst (λ z. on_open message z o) (sym (append_assoc l piece x)) (far.left (piece ++ x) o (f x true o h))
+
+    -- what the session answered to the piece, as told of all tokens of the message
+    tells : (a : Answer V UnexpectedParse) → session.ParsesPiece meaning valid c new piece true (Ok a) → answers_message message meaning (l ++ piece) new a
+    tells answers.More h = (
+      far.left piece Undecided h.is.means.is,
+      record {
+        left = onward h.is.left;
+        within = left_within h.is.leaves;
+        unread = left_unread h.is.leaves;
+        stage = h.stage;
+      },
+    )
+    tells (answers.Accepted v t k) h =
+        let e = h.is.all in
+        (far.left piece (Accepted v t k) h.is.means.is, subst (λ n. n ≤ length (l ++ piece)) e (left_within h.is.leaves), left_unread h.is.leaves ∙ ap (λ n. drop n (l ++ piece)) e)
+    tells (answers.Refused e k) h =
+        let u = ap length (left_unread h.is.leaves) in
+        (far.left piece (Refused k) h.is.means.is, omega (arith, length-drop new.seen.position (l ++ piece)))
+
+    -- it is open where the parse was
+    stays_open : (a : Answer V UnexpectedParse) → session.ParsesPiece meaning valid c new piece true (Ok a) → new.seen.is_open ≡ true
+    stays_open answers.More h = h.is.leaves.is_open
+    stays_open (answers.Accepted v t k) h = h.is.leaves.is_open
+    stays_open (answers.Refused e k) h = h.is.leaves.is_open
+
+    parses_told : (a : Answer V UnexpectedParse) → session.ParsesPiece meaning valid c new piece true (Ok a) → AnswersMessage message meaning (l ++ piece) new a
+    parses_told a h = record { is = tells a h; is_open = stays_open a h }
+
+    pub feeds_told : (a : Answer V UnexpectedParse) → Feeds meaning valid c new piece true (Ok a) → AnswersMessage message meaning (l ++ piece) new a
+    feeds_told a h = parses_told a (fed_now (Ok a) h).1
+
+  -- a session that answered to a piece is open
+  pub feeds_open : (valid : S → Type 0) (c new : Course P T S) (piece : List T) (a : Answer V UnexpectedParse) → Feeds meaning valid c new piece true (Ok a) → new.seen.is_open ≡ true
+  feeds_open valid c new piece a h = by_its_stage c.stage h.is
+    where
+      opened : (b : Answer V UnexpectedParse) → session.ParsesPiece meaning valid c new piece true (Ok b) → new.seen.is_open ≡ true
+      opened answers.More i = i.is.leaves.is_open
+      opened (answers.Accepted v t k) i = i.is.leaves.is_open
+      opened (answers.Refused e k) i = i.is.leaves.is_open
+
+      by_its_stage : (s : Stage) → by_stage meaning valid c new piece true (session.feeds_session meaning valid c new piece true) s (Ok a) → new.seen.is_open ≡ true
+      by_its_stage stages.Running i = opened a i.1
+      by_its_stage stages.Decided i = absurd (let e = i.0 in cc)
+      by_its_stage stages.Failed i = absurd (let e = i.0 in cc)
+
+  -- a session that begins again with a parser that was made has what was unread of a message, and no other tokens
+  pub again_told : (valid : S → Type 0) (determined : P → Type 0) (makes : P → Type 0) (p : P) (old new : Course P T S) (a : Answer V UnexpectedParse) → makes p → old.seen.is_open ≡ true → BeginsAgain meaning valid determined p old new (Ok a) → AnswersMessage (made_reading meaning makes) meaning old.seen.unread new a × (new.limit ≡ old.limit)
+  again_told valid determined makes p old new a m o h = by_its_stage old.stage h.is
+    where
+      begun : session.Anew meaning valid determined p old new (Ok a) → AnswersMessage (made_reading meaning makes) meaning old.seen.unread new a × (new.limit ≡ old.limit)
+      begun i =
+          let parsed : session.ParsesPiece meaning valid i.begun new old.seen.unread true (Ok a) = subst (λ b. session.ParsesPiece meaning valid i.begun new old.seen.unread b (Ok a)) o i.parses in
+          (parses_told valid (made_reading meaning makes) [] i.begun (message_begins valid determined makes old.limit p i.begun m i.begins) old.seen.unread new a parsed, parsed.limit ∙ i.begins.limit)
+
+      by_its_stage : (s : Stage) → anew_by_stage meaning valid determined p old new (Ok a) s → AnswersMessage (made_reading meaning makes) meaning old.seen.unread new a × (new.limit ≡ old.limit)
+      by_its_stage stages.Running i = begun i
+      by_its_stage stages.Decided i = begun i
+      by_its_stage stages.Failed i = absurd (let e = i.0 in cc)
+
+-- how much is left to do: the unread tokens, and whether a message was read that takes some
+abbrev pub remaining : {V : Type 0} → ℕ → Answer V UnexpectedParse → ℕ
+remaining u answers.More = u
+remaining u (answers.Accepted v t k) = u + (if nat_lt 0 t then 1 else 0)
+remaining u (answers.Refused e k) = u
+
+pub smaller : {V : Type 0} (u : ℕ) (a : Answer V UnexpectedParse) (v : V) (t : ℕ) (k : Bool) → a ≡ answers.Accepted v t k → 0 < t → (n : ℕ) → n ≤ u → n < remaining u a
+smaller u a v t k e i n h = subst (λ z. n < remaining u z) (sym e) (subst (λ b. n < u + (if b then 1 else 0)) (sym (lt-ltb 0 t i)) (omega arith))
+
+-- whether nothing is left, by its length
+pub by_length : (b : Bool) (n : ℕ) → b ≡ nat_eq n 0 → ((b ≡ true) ↔ (n ≡ 0))
+by_length b n e = (λ i. eqb-true n 0 (sym e ∙ i), λ i. e ∙ eq-eqb n 0 i)
+
+module _ {P T R E V S : Type 0} (message : Reading ℕ T V) (meaning : P → Meaning ℕ T R E V S) where
+  -- the messages so far of these tokens, and what the session was told of those behind them
+  pub record GaveMessages (l : List T) (vs : List V) (c : Course P T S) (a : Answer V UnexpectedParse) (at : Bool) : Type 0 where
+    pub behind : List T
+    pub divided : DividesMessages message l vs behind
+    pub told : AnswersMessage message meaning behind c a
+    pub boundary : (at ≡ true) ↔ (length behind ≡ 0)
+
+  -- one message more
+  one_more : (l : List T) (vs : List V) (behind : List T) (v : V) (t : ℕ) (k : Bool) → 0 < t → DividesMessages message l vs behind → on_open message behind (Accepted v t k) → DividesMessages message l (vs ++ v ∷ []) (drop t behind)
+  one_more l [] behind v t k i d h = (t, k, i, subst (λ z. on_open message z (Accepted v t k)) (sym d) h, ap (drop t) d)
+  one_more l (w ∷ vs) behind v t k i d h = (d.0, d.1, d.2, d.3, one_more (drop d.0 l) vs behind v t k i d.4 h)
+
+  pub messages_start : (l : List T) (c : Course P T S) (a : Answer V UnexpectedParse) (at : Bool) → AnswersMessage message meaning l c a → ((at ≡ true) ↔ (length l ≡ 0)) → GaveMessages l [] c a at
+  messages_start l c a at h b = record { behind = l; divided = refl; told = h; boundary = b }
+
+  module _ (l : List T) (b : Batch V) (c : Course P T S) (at : Bool) where
+    pub gives_more : b.end ≡ ends.More → GaveMessages l b.messages.items c answers.More at → GivesMessages message meaning l c at b
+    gives_more e h = record {
+      behind = h.behind;
+      divided = h.divided;
+      stop = subst (ends_messages (on_open message h.behind)) (sym e) h.told.is.0;
+      goes_on = λ i. h.told.is.1;
+      boundary = h.boundary;
+    }
+
+    pub gives_refused : (e : UnexpectedParse) (k : Bool) → b.end ≡ ends.Refused k → GaveMessages l b.messages.items c (answers.Refused e k) at → GivesMessages message meaning l c at b
+    gives_refused x k e h = record {
+      behind = h.behind;
+      divided = h.divided;
+      stop = subst (ends_messages (on_open message h.behind)) (sym e) h.told.is.0;
+      goes_on = λ i. absurd (let j = sym e ∙ i in cc);
+      boundary = h.boundary;
+    }
+
+    pub gives_empty : (v : V) (t : ℕ) (k : Bool) → t ≡ 0 → b.end ≡ ends.EmptyMessage → GaveMessages l b.messages.items c (answers.Accepted v t k) at → GivesMessages message meaning l c at b
+    gives_empty v t k z e h = record {
+      behind = h.behind;
+      divided = h.divided;
+      stop = subst (ends_messages (on_open message h.behind)) (sym e) (v, k, subst (λ n. on_open message h.behind (Accepted v n k)) z h.told.is.0);
+      goes_on = λ i. absurd (let j = sym e ∙ i in cc);
+      boundary = h.boundary;
+    }
+
+  -- the next session was fed what the last message left
+  pub next_message_fed : (l : List T) (vs : List V) (c : Course P T S) (v : V) (t : ℕ) (k : Bool) (at : Bool) → GaveMessages l vs c (answers.Accepted v t k) at → 0 < t → (new : Course P T S) (a : Answer V UnexpectedParse) (next : Bool) → AnswersMessage message meaning c.seen.unread new a → ((next ≡ true) ↔ (length c.seen.unread ≡ 0)) → GaveMessages l (vs ++ v ∷ []) new a next
+  next_message_fed l vs c v t k at h i new a next told b = record {
+    behind = c.seen.unread;
+    divided = subst (DividesMessages message l (vs ++ v ∷ [])) (sym h.told.is.2) (one_more l vs h.behind v t k i h.divided h.told.is.0);
+    told = told;
+    boundary = b;
+  }
+
+  -- less is left to do
+  pub less_to_decode : (l : List T) (c : Course P T S) (a : Answer V UnexpectedParse) → AnswersMessage message meaning l c a → remaining (length c.seen.unread) a ≤ length l
+  less_to_decode l c answers.More h = let e = ap length h.is.1.unread in omega (arith, length-drop c.seen.position l)
+  less_to_decode l c (answers.Accepted v t k) h = by_test (nat_lt 0 t) refl (ap length h.is.2) h.is.1
+    where
+      by_test : (b : Bool) → nat_lt 0 t ≡ b → length c.seen.unread ≡ length (drop t l) → t ≤ length l → length c.seen.unread + (if b then 1 else 0) ≤ length l
+      by_test true i e w = let j = ltb-true 0 t i in omega (arith, length-drop t l)
+      by_test false i e w = omega (arith, length-drop t l)
+  less_to_decode l c (answers.Refused e k) h = h.is.1

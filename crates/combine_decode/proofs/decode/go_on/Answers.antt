@@ -1,5 +1,0 @@
-use Rattle.combine_decode.proofs.Decoding.{again_told}
-use Rattle.combine_decode.proofs.decode.go_on.Goals as goal
-
-pub returns-in-Ok : goal.returns-in-Ok
-returns-in-Ok g c = again_told _ _ _ _ _ _ _ _ c.maker.ensures c.requires.is_open c.in-Ok.ensures

@@ -1,0 +1,26 @@
+-- the parsers of ranges, by their parts
+use Rattle.combine_range.specs.declared.range.beginnings.TakeBeginning.{TakeBeginning}
+use Rattle.std.specs.Prelude.{ℕ}
+use Rattle.combine_range.specs.declared.range.lengths.Range.{Range}
+use Rattle.combine_range.specs.declared.range.lengths.Take.{Take}
+use Rattle.combine_range.specs.declared.range.recognized.Recognize.{Recognize}
+use Rattle.combine_range.specs.declared.range.recognized.RecognizeWithValue.{RecognizeWithValue}
+use Rattle.combine_range.specs.declared.range.until.TakeUntilRange.{TakeUntilRange}
+
+abbrev pub take_beginning_of : {Input F : Type 0} → {some : ℕ} → F → TakeBeginning Input F some
+take_beginning_of f = record { predicate = f; reads = record {} }
+
+abbrev pub take_until_range_of : {Input R : Type 0} → R → TakeUntilRange Input R
+take_until_range_of r = record { wanted = r; reads = record {} }
+
+abbrev pub recognize_with_value_of : {Q : Type 0} → Q → RecognizeWithValue Q
+recognize_with_value_of q = record { 0 = q }
+
+abbrev pub recognize_of : {Q : Type 0} → Q → Recognize Q
+recognize_of q = record { 0 = recognize_with_value_of q }
+
+abbrev pub take_of : {Input : Type 0} → ℕ → Take Input
+take_of n = record { count = n; reads = record {} }
+
+abbrev pub range_of : {Input R : Type 0} → R → Range Input R
+range_of r = record { wanted = r; reads = record {} }

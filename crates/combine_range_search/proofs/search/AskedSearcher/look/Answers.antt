@@ -1,5 +1,0 @@
-use Rattle.combine_range_search.specs.Asking.{asked}
-use Rattle.combine_range_search.proofs.search.AskedSearcher.look.Goals as goal
-
-pub returns : goal.returns
-returns g c = λ us s. asked _ _ _ us c.args.range s c.into.result (c.call.result, c.call.ensures, c.into.ensures)

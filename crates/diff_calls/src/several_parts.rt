@@ -1,0 +1,89 @@
+//! Choices and tuples, and their calls.
+ghost use Rattle.std.specs.Prelude.{◌≡◌};
+ghost use Rattle.diff_calls.specs.CallMeanings.{first_of_two, pair_reading, triple};
+
+use crate::{Binary, BinaryCall, Ternary, TernaryCall, Visitor};
+use combine_base::error::ParseError;
+use combine_base::parser::Parser;
+use combine_base::stream::Stream;
+use combine_token::choice::or;
+use std::alloc::Global;
+
+/// `or(A, B)`.
+pub type OrCall<A, B> = BinaryCall<Or, A, B>;
+
+/// `(A, B)`.
+pub type Tuple2Call<A, B> = BinaryCall<Tuple2, A, B>;
+
+/// `(A, B, C)`.
+pub type Tuple3Call<A, B, C> = TernaryCall<Tuple3, A, B, C>;
+
+/// `or`.
+#[derive(Drop)]
+pub struct Or;
+
+impl<A: Drop> Binary<A, A> for Or {
+    type Output = A;
+
+    ghost reading = { λ P step r q. first_of_two r q };
+
+    #[inline(always)]
+    fn build<
+        Input: Stream<Token = u8>,
+        P: Parser<Input, Output = A> + Drop,
+        Q: Parser<Input, Output = A> + Drop,
+        V: Visitor<Input, A>,
+    >(alloc: Global, first: P, second: Q, visitor: V) -> V::Answer
+    where
+        Input::Error: ParseError<u8, Input::Range, Input::Position>,
+    {
+        visitor.visit(or(first, second))
+    }
+}
+
+/// A tuple of two.
+#[derive(Drop)]
+pub struct Tuple2;
+
+impl<A: Drop, B: Drop> Binary<A, B> for Tuple2 {
+    type Output = (A, B);
+
+    ghost reading = { λ P step r q. pair_reading step r q };
+
+    #[inline(always)]
+    fn build<
+        Input: Stream<Token = u8>,
+        P: Parser<Input, Output = A> + Drop,
+        Q: Parser<Input, Output = B> + Drop,
+        V: Visitor<Input, (A, B)>,
+    >(alloc: Global, first: P, second: Q, visitor: V) -> V::Answer
+    where
+        Input::Error: ParseError<u8, Input::Range, Input::Position>,
+    {
+        visitor.visit((first, second))
+    }
+}
+
+/// A tuple of three.
+#[derive(Drop)]
+pub struct Tuple3;
+
+impl<A: Drop, B: Drop, C: Drop> Ternary<A, B, C> for Tuple3 {
+    type Output = (A, B, C);
+
+    ghost reading = { λ P step r q t. triple step r q t };
+
+    #[inline(always)]
+    fn build<
+        Input: Stream<Token = u8>,
+        P: Parser<Input, Output = A> + Drop,
+        Q: Parser<Input, Output = B> + Drop,
+        R: Parser<Input, Output = C> + Drop,
+        V: Visitor<Input, (A, B, C)>,
+    >(first: P, second: Q, third: R, visitor: V) -> V::Answer
+    where
+        Input::Error: ParseError<u8, Input::Range, Input::Position>,
+    {
+        visitor.visit((first, second, third))
+    }
+}
