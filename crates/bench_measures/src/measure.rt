@@ -17,7 +17,7 @@ pub(crate) trait Number<O: Drop> {
     ghost number_of: { O → ℕ → ℕ };
 
     fn number(value: O, taken: u64) -> u64
-        ensures { result ≡ number_of value taken_count };
+        ensures { result ≡ number_of value taken };
 }
 
 /// How many bytes were taken.

@@ -35,7 +35,7 @@ pub trait Class {
     ghost holds: { ℕ → Bool };
 
     fn has(byte: u8) -> bool
-        ensures { result ≡ holds byte_reading };
+        ensures { result ≡ holds byte };
 }
 
 /// `satisfy(C::has)`.
@@ -72,7 +72,7 @@ pub trait Picks {
     ghost picks: { ℕ → Option Self.Output → Type 0 };
 
     fn pick(byte: u8) -> Option<Self::Output>
-        ensures { picks byte_reading result };
+        ensures { picks byte result };
 }
 
 /// `satisfy_map(F::pick)`.

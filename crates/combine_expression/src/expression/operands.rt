@@ -79,7 +79,7 @@ fn fixity_at(levels: &[Fixity], level: usize) -> Option<Fixity>
 
 /// Returns whether an operator of a level is a prefix operator that fits where such a level is asked for.
 fn is_prefix(levels: &[Fixity], asked: usize, level: usize) -> bool
-    ensures { result ≡ fits_in_front (slice_get levels.now level) asked_level level }
+    ensures { result ≡ fits_in_front (slice_get levels.now level) asked level }
 {
     let Some(fixity) = fixity_at(levels, level) else {
         return false;
