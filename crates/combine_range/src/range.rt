@@ -2,7 +2,7 @@
 //!
 //! They run over every stream that hands out ranges. On need of more each puts the stream back to where it began.
 ghost use Rattle.std.specs.Prelude.{◌≡◌};
-ghost use Rattle.combine_range.specs.Range.RangeParsers.{range_of, recognize_of, recognize_with_value_of, take_of, take_until_range_of, take_beginning_of};
+ghost use Rattle.combine_range.specs.Range.RangeParsers.{range_of, recognize_of, recognize_with_value_of, take_of, take_until_range_of, take_while_of, take_while1_of};
 
 mod beginnings;
 mod lengths;
@@ -12,10 +12,7 @@ mod until;
 
 pub use recognized::RecognizeState;
 use std::marker::PhantomData;
-use types::{
-    Range, Recognize, RecognizeWithValue, Take, TakeBeginning, TakeUntilRange, TakeWhile,
-    TakeWhile1,
-};
+use types::{Range, Recognize, RecognizeWithValue, Take, TakeUntilRange, TakeWhile, TakeWhile1};
 
 /// Takes as many first items as the range has, if they are that range.
 ///
@@ -117,9 +114,9 @@ pub fn take<Input>(count: usize) -> Take<Input>
 /// On `"  a"` it returns `("  ", "a")`, and on `"a"` `("", "a")`.
 #[inline]
 pub fn take_while<Input, F>(predicate: F) -> TakeWhile<Input, F>
-    ensures { result ≡ take_beginning_of predicate }
+    ensures { result ≡ take_while_of predicate }
 {
-    TakeBeginning {
+    TakeWhile {
         predicate,
         reads: PhantomData,
     }
@@ -142,9 +139,9 @@ pub fn take_while<Input, F>(predicate: F) -> TakeWhile<Input, F>
 /// On `"let x"` it returns `("let", " x")`; `" x"` is refused peeked.
 #[inline]
 pub fn take_while1<Input, F>(predicate: F) -> TakeWhile1<Input, F>
-    ensures { result ≡ take_beginning_of predicate }
+    ensures { result ≡ take_while1_of predicate }
 {
-    TakeBeginning {
+    TakeWhile1 {
         predicate,
         reads: PhantomData,
     }

@@ -1,5 +1,6 @@
 -- the parsers of ranges, by their parts
-use Rattle.combine_range.specs.declared.range.beginnings.TakeBeginning.{TakeBeginning}
+use Rattle.combine_range.specs.declared.range.beginnings.TakeWhile.{TakeWhile}
+use Rattle.combine_range.specs.declared.range.beginnings.TakeWhile1.{TakeWhile1}
 use Rattle.std.specs.Prelude.{ℕ}
 use Rattle.combine_range.specs.declared.range.lengths.Range.{Range}
 use Rattle.combine_range.specs.declared.range.lengths.Take.{Take}
@@ -7,8 +8,11 @@ use Rattle.combine_range.specs.declared.range.recognized.Recognize.{Recognize}
 use Rattle.combine_range.specs.declared.range.recognized.RecognizeWithValue.{RecognizeWithValue}
 use Rattle.combine_range.specs.declared.range.until.TakeUntilRange.{TakeUntilRange}
 
-abbrev pub take_beginning_of : {Input F : Type 0} → {some : ℕ} → F → TakeBeginning Input F some
-take_beginning_of f = record { predicate = f; reads = record {} }
+abbrev pub take_while_of : {Input F : Type 0} → F → TakeWhile Input F
+take_while_of f = record { predicate = f; reads = record {} }
+
+abbrev pub take_while1_of : {Input F : Type 0} → F → TakeWhile1 Input F
+take_while1_of f = record { predicate = f; reads = record {} }
 
 abbrev pub take_until_range_of : {Input R : Type 0} → R → TakeUntilRange Input R
 take_until_range_of r = record { wanted = r; reads = record {} }

@@ -1,5 +1,5 @@
 //! Longest beginnings under a test.
-ghost use Rattle.std.specs.Prelude.{◌≡◌};
+ghost use Rattle.std.specs.Prelude.{◌≡◌, true, false};
 ghost use Rattle.combine_base.specs.Parser.AnswersCalls.{AnswersCall};
 ghost use Rattle.combine_base.specs.Parser.Reasons.{ReasonedCall};
 ghost use Rattle.combine_base.specs.Stream.Calls.{Passes};
@@ -18,18 +18,19 @@ use combine_base::stream::{Kind, Positioned, ResetStream, Stream, StreamOnce};
 use combine_stream::range::{Range, RangeStream};
 use std::marker::PhantomData;
 
-/// The parser of `take_while` and of `take_while1`, which refuses an empty beginning (`SOME`); its state is the distance that was read.
+/// The parser of [`take_while`](crate::range::take_while); its state is the distance that was read.
 #[derive(Drop)]
-pub struct TakeBeginning<Input, F, const SOME: bool> {
+pub struct TakeWhile<Input, F> {
     pub(super) predicate: F,
     pub(super) reads: PhantomData<Input>,
 }
 
-/// The parser of [`take_while`](crate::range::take_while).
-pub type TakeWhile<Input, F> = TakeBeginning<Input, F, false>;
-
-/// The parser of [`take_while1`](crate::range::take_while1).
-pub type TakeWhile1<Input, F> = TakeBeginning<Input, F, true>;
+/// The parser of [`take_while1`](crate::range::take_while1); its state is the distance that was read.
+#[derive(Drop)]
+pub struct TakeWhile1<Input, F> {
+    pub(super) predicate: F,
+    pub(super) reads: PhantomData<Input>,
+}
 
 // Makes one call. An empty beginning is refused where `some` is true.
 #[inline(always)]
@@ -73,12 +74,11 @@ where
     }
 }
 
-impl<Input: StreamOnce, F, const SOME: bool> Outputs<Input> for TakeBeginning<Input, F, SOME> {
+impl<Input: StreamOnce, F> Outputs<Input> for TakeWhile<Input, F> {
     type Output = Input::Range;
 }
 
-impl<Input: RangeStream, F: Maps<Input::Token, bool>, const SOME: bool> Parser<Input>
-    for TakeBeginning<Input, F, SOME>
+impl<Input: RangeStream, F: Maps<Input::Token, bool>> Parser<Input> for TakeWhile<Input, F>
 where
     Input::Range: Range,
 {
@@ -90,7 +90,7 @@ where
 
     ghost valid = { λ s. Unit {0} };
 
-    ghost meaning = { λ p. takes_beginning Input.Error.observers Input.size Input.spells (F.answers p.predicate) SOME };
+    ghost meaning = { λ p. takes_beginning Input.Error.observers Input.size Input.spells (F.answers p.predicate) false };
 
     ghost parts = { λ p. 1 };
 
@@ -101,7 +101,7 @@ where
         input: &mut Input,
         state: &mut Distance,
     ) -> ParseResult<Input::Range, Input::Error> {
-        take_beginning(&self.predicate, SOME, mode.is_first(), input, state)
+        take_beginning(&self.predicate, false, mode.is_first(), input, state)
     }
 
     #[inline]
@@ -114,7 +114,52 @@ where
 
     ghost default_valid = { λ s d. tt };
 
-    ghost laws = { λ p l. kept_is_meaning _ _ _ _ _ (beginning_is_reading _ _ _ SOME Input.filled) };
+    ghost laws = { λ p l. kept_is_meaning _ _ _ _ _ (beginning_is_reading _ _ _ false Input.filled) };
 
-    ghost single = { λ p l d. kept_means_one _ _ _ _ _ (beginning_is_single _ _ _ SOME Input.filled d) };
+    ghost single = { λ p l d. kept_means_one _ _ _ _ _ (beginning_is_single _ _ _ false Input.filled d) };
+}
+
+impl<Input: StreamOnce, F> Outputs<Input> for TakeWhile1<Input, F> {
+    type Output = Input::Range;
+}
+
+impl<Input: RangeStream, F: Maps<Input::Token, bool>> Parser<Input> for TakeWhile1<Input, F>
+where
+    Input::Range: Range,
+{
+    type PartialState = Distance;
+
+    ghost lawful = { λ p. (t : Input.Token) → F.callable p.predicate t };
+
+    ghost determined = { λ p. IsPredicate (F.answers p.predicate) };
+
+    ghost valid = { λ s. Unit {0} };
+
+    ghost meaning = { λ p. takes_beginning Input.Error.observers Input.size Input.spells (F.answers p.predicate) true };
+
+    ghost parts = { λ p. 1 };
+
+    #[inline(always)]
+    fn parse_mode<M: ParseMode>(
+        &mut self,
+        mode: M,
+        input: &mut Input,
+        state: &mut Distance,
+    ) -> ParseResult<Input::Range, Input::Error> {
+        take_beginning(&self.predicate, true, mode.is_first(), input, state)
+    }
+
+    #[inline]
+    fn add_error(&mut self, error: &mut Tracked<Input::Error>) {}
+
+    #[inline]
+    fn parser_count(&self) -> ErrorOffset {
+        ErrorOffset(1)
+    }
+
+    ghost default_valid = { λ s d. tt };
+
+    ghost laws = { λ p l. kept_is_meaning _ _ _ _ _ (beginning_is_reading _ _ _ true Input.filled) };
+
+    ghost single = { λ p l d. kept_means_one _ _ _ _ _ (beginning_is_single _ _ _ true Input.filled d) };
 }

@@ -1,6 +1,6 @@
 //! The parsers that the functions of `range` return.
 
-pub use super::beginnings::{TakeBeginning, TakeWhile, TakeWhile1};
+pub use super::beginnings::{TakeWhile, TakeWhile1};
 pub use super::lengths::{Range, Take};
 pub use super::recognized::{Recognize, RecognizeWithValue};
 pub use super::until::TakeUntilRange;

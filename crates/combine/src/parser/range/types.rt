@@ -1,8 +1,7 @@
 //! The parsers that the functions of `range` return.
 
 pub use combine_range::range::types::{
-    Range, Recognize, RecognizeWithValue, Take, TakeBeginning, TakeUntilRange, TakeWhile,
-    TakeWhile1,
+    Range, Recognize, RecognizeWithValue, Take, TakeUntilRange, TakeWhile, TakeWhile1,
 };
 pub use combine_range_length_prefix::range::types::{AsLength, LengthPrefix, Taking};
 pub use combine_range_search::range::types::TakeFn;

@@ -1,4 +1,4 @@
-use Rattle.combine_range.proofs.range.beginnings.TakeBeginningParser.parse_mode.Goals as goal
+use Rattle.combine_range.proofs.range.beginnings.TakeWhileParser.parse_mode.Goals as goal
 
 pub returns-clause-answers : goal.returns-clause-answers
 returns-clause-answers g c = rw c.is_first.ensures at c.take_beginning.ensures.answers
