@@ -15,7 +15,7 @@ use combine::parser::Parser;
 use combine::parser::char::digit;
 use combine::parser::choice::or;
 use combine::parser::combinator::{and_then, map};
-use combine::parser::repeat::{Sink, many, many1};
+use combine::parser::repeat::{many1, skip_many};
 use combine::parser::sequence::{skip, with};
 use combine::parser::token::{eof, one_of, satisfy};
 use combine::stream::{Stream, position};
@@ -113,7 +113,7 @@ where
     Input::Error: DetailedError<char, Input::Range, Input::Position, StreamError = E>,
 {
     let blank = satisfy(|character: char| matches!(character, ' ' | '\t'));
-    let blanks = many::<Sink, _>(alloc, blank);
+    let blanks = skip_many(blank);
     let operand = and_then(
         many1::<String, _>(alloc, digit()),
         |digits: String| -> Result<Item<Operator, i64>, E>
