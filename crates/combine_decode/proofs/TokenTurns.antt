@@ -24,7 +24,7 @@ module _ {P T : Type 0} (step : P → T → P) (most : ℕ) where
   rule = bounded (Counted most most) no_value_ends
 
   abbrev place : ℕ → Bool → TurnIndex
-  place i g = record { number = i; begun = g }
+  place i g = record { number = i; took_before = g }
 
   abbrev view : P → List T → Bool → View P T
   view p us o = record { position = p; unread = us; is_open = o }

@@ -17,12 +17,12 @@ positive_sum n c = by_test (nat_lt 0 n) refl
     by_test true e = let i = ltb-true 0 n e in lt-ltb 0 (n + c) (omega arith)
     by_test false e = let i = ltb-false 0 n e in let z : n + c ≡ c = omega arith in ap (nat_lt 0) z
 
-begun_over : (b : Bool) (n c : ℕ) → (b || nat_lt 0 (n + c)) ≡ ((b || nat_lt 0 n) || nat_lt 0 c)
-begun_over true n c = refl
-begun_over false n c = positive_sum n c
+took_before_over : (b : Bool) (n c : ℕ) → (b || nat_lt 0 (n + c)) ≡ ((b || nat_lt 0 n) || nat_lt 0 c)
+took_before_over true n c = refl
+took_before_over false n c = positive_sum n c
 
 mark_later : {I : Type 0} (g : Bool) (k : ℕ) (p : Outcome I) → after k false (mark_taken (g || nat_lt 0 k) p) ≡ mark_taken g (after k false p)
-mark_later {I} g k (Accepted a n j) = let e = begun_over g k n in cc
+mark_later {I} g k (Accepted a n j) = let e = took_before_over g k n in cc
 mark_later g k (Refused j) = refl
 mark_later g k Undecided = refl
 

@@ -24,7 +24,7 @@ use Rattle.combine_repeat_turns.specs.declared.turns.Earlier.{Earlier}
 use Rattle.combine_repeat_turns.specs.declared.turns.Earlier.TheVariants.{Nothing, Gathered}
 
 abbrev pub first_turn_place : Bool → TurnIndex
-first_turn_place x = record { number = 0; begun = x }
+first_turn_place x = record { number = 0; took_before = x }
 
 -- what a first part took in an earlier piece doesn't matter
 module _ {A : Type 0} (ending : A → Bool) where

@@ -15,7 +15,7 @@ use Rattle.combine_base.specs.declared.error.ParseResult.{ParseResult}
 use Rattle.combine_base.specs.declared.error.ParseResult.TheVariants.{CommitErr, PeekErr}
 use Rattle.combine_repeat_turns.specs.Turns.Blocks.{Collecting}
 use Rattle.combine_repeat_turns.specs.Turns.Turn.{Start, TurnsSame, called}
-use Rattle.combine_repeat_turns.specs.Turns.Bounds.{cut_at, is_block_at, limit, turn_after, so_far}
+use Rattle.combine_repeat_turns.specs.Turns.Bounds.{cut_at, is_block_at, count_bound, turn_after, so_far}
 use Rattle.combine_repeat_turns.specs.Turns.OneTurn.{IsGathered, JudgesTurn, TurnDid, AreTurnsOver, EndedByValue, EndedByRefusal, TurnNeedsMore, HasTurnFailed, InTurn, TakesNothing, ValueUnstored, Untold, Unreset, turns_halted, CallEndedAt, then_left}
 use Rattle.combine_repeat_turns.specs.declared.turns.Bounds.{Bounds}
 use Rattle.combine_repeat_turns.specs.declared.turns.TurnIndex.{TurnIndex}
@@ -74,7 +74,7 @@ module _ {P T R A V S E : Type 0} (w : World P T S E) (b : Bounds) (ending : A �
       Unreset (q ∙ h.0) (omega arith) (record { count = y.count + x.count; taken = takes_more w.step y.count x.count old now new y.taken x.taken; state = y.state })
 
 -- a turn that is gathered, and what the next one begins with
-pub gathered_on : {A V Held : Type 0} (held : V → Held) (more : Held → A → Held → Type 0) (b : Bounds) (old joined new : TurnProgress V) (value : A) (most : ℕ) (k : Bool) → IsGathered held more joined value most new → joined ≡ record { into = old.into; committed = old.committed || k; index = old.index } → most ≡ limit b → more (held old.into) value (held new.into) × (so_far held new ≡ record { mark = turn_after b old.index; held = held new.into; committed = old.committed || k })
+pub gathered_on : {A V Held : Type 0} (held : V → Held) (more : Held → A → Held → Type 0) (b : Bounds) (old joined new : TurnProgress V) (value : A) (most : ℕ) (k : Bool) → IsGathered held more joined value most new → joined ≡ record { into = old.into; committed = old.committed || k; index = old.index } → most ≡ count_bound b → more (held old.into) value (held new.into) × (so_far held new ≡ record { mark = turn_after b old.index; held = held new.into; committed = old.committed || k })
 gathered_on held more b old joined new value most k g e l = let h = rw (e, l) at g in (h.more_held, rw (h.index, h.committed) refl)
 
 -- what a turn of one parser did is what it did of another that means the same

@@ -184,18 +184,18 @@ pub enum Bounds {
 #[derive(Clone, Copy)]
 pub struct TurnIndex {
     number: usize,
-    begun: bool,
+    took_before: bool,
 }
 
 impl TurnIndex {
     /// Returns the place of the first turn.
     #[inline(always)]
     pub fn first() -> TurnIndex
-        ensures { result ≡ record { number = 0; begun = false } }
+        ensures { result ≡ record { number = 0; took_before = false } }
     {
         TurnIndex {
             number: 0,
-            begun: false,
+            took_before: false,
         }
     }
 
@@ -218,17 +218,17 @@ impl TurnIndex {
     /// Returns the place of the next turn.
     #[inline(always)]
     fn next(self, count_bound: usize) -> TurnIndex
-        ensures { result ≡ record { number = counted_to count_bound self.number; begun = false } }
+        ensures { result ≡ record { number = counted_to count_bound self.number; took_before = false } }
     {
         if self.number < count_bound {
             return TurnIndex {
                 number: self.number + 1,
-                begun: false,
+                took_before: false,
             };
         }
         TurnIndex {
             number: count_bound,
-            begun: false,
+            took_before: false,
         }
     }
 
@@ -239,7 +239,7 @@ impl TurnIndex {
     {
         TurnIndex {
             number: self.number,
-            begun: has_taken(self.begun, since, input),
+            took_before: has_taken(self.took_before, since, input),
         }
     }
 }
@@ -256,7 +256,7 @@ impl<F> TurnProgress<F> {
     /// Returns the turns where none is over yet: the first one runs, or would if there is one.
     #[inline]
     pub fn none_yet(into: F) -> TurnProgress<F>
-        ensures { result ≡ record { into = into; committed = false; index = record { number = 0; begun = false } } }
+        ensures { result ≡ record { into = into; committed = false; index = record { number = 0; took_before = false } } }
     {
         TurnProgress {
             into,
@@ -589,7 +589,7 @@ fn first_turn<G: Reduce<P::Value>, Input: Stream, P: TurnParser<Input>, M: Parse
             committed,
             index: TurnIndex {
                 number: 1,
-                begun: false,
+                took_before: false,
             },
         }),
         Err(_refused) => FirstStep::Failed(input.new_error(Kind::Memory, position)),

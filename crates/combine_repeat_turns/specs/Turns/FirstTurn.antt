@@ -18,7 +18,7 @@ module _ {P T R A V S E : Type 0} (w : World P T S E) (c : Collecting A V) (none
     pub accepts : Accepts w m r turn.0 turn.1
     pub held : c.Held
     pub more : c.more none turn.0 held
-    pub turns : so_far c.held new ≡ record { mark = turn_after (OwnFirst 1 None) (record { number = 0; begun = false }); held = held; committed = turn.1 }
+    pub turns : so_far c.held new ≡ record { mark = turn_after (OwnFirst 1 None) (record { number = 0; took_before = false }); held = held; committed = turn.1 }
 
   pub record FirstMore (e : E) : Type 0 where
     pub needs : (w.kind e ≡ kinds.End) × (r.new.is_open ≡ true)

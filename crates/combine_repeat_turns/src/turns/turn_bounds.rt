@@ -1,7 +1,7 @@
 //! Bounds of turns: a type each, so that what some turns don't need isn't compiled with them.
 ghost use Rattle.std.specs.Prelude.{◌≡◌, ℕ};
 ghost use Rattle.combine_base.specs.Stream.View.{View, Takes};
-ghost use Rattle.combine_repeat_turns.specs.Turns.Bounds.{counted_bounds, enough, is_joined_block, joined_between, takes_token};
+ghost use Rattle.combine_repeat_turns.specs.Turns.Bounds.{counted_bounds, is_enough, is_first_or_takes_token, own_first_bounds, takes_token};
 
 use crate::turns::{Bounds, TurnIndex};
 use combine_base::stream::{Stream, has_taken};
@@ -10,7 +10,7 @@ use combine_base::stream::{Stream, has_taken};
 pub trait TurnBounds: Copy {
     ghost use Rattle.std.specs.Prelude.{◌≡◌, ℕ};
     ghost use Rattle.combine_base.specs.Stream.View.{View, Takes};
-    ghost use Rattle.combine_repeat_turns.specs.Turns.Bounds.{full_at, is_block_at, is_unbounded, limit, missing_turns, owns};
+    ghost use Rattle.combine_repeat_turns.specs.Turns.Bounds.{count_bound, full_at, is_block_at, is_unbounded, keeps_refusal, missing_turns};
     ghost use Rattle.combine_repeat_turns.specs.declared.turns.Bounds.{Bounds};
 
     /// What they are.
@@ -18,7 +18,7 @@ pub trait TurnBounds: Copy {
 
     /// Returns how far turns are counted.
     fn count_bound(self) -> usize
-        ensures { result ≡ limit (bounds self) };
+        ensures { result ≡ count_bound (bounds self) };
 
     /// Returns whether there may be any number of turns.
     fn is_unbounded(self) -> bool
@@ -37,7 +37,7 @@ pub trait TurnBounds: Copy {
 
     /// Returns whether a refusal of this turn is its own result.
     fn keeps_refusal(self, index: TurnIndex) -> bool
-        ensures { result ≡ owns (bounds self) index };
+        ensures { result ≡ keeps_refusal (bounds self) index };
 
     /// Returns whether an accepted turn counts: `since` is where its part in this piece began, `committed` how it was accepted.
     fn accepts_turn<Input: Stream>(
@@ -53,7 +53,7 @@ pub trait TurnBounds: Copy {
 /// Returns whether no turn is missing.
 #[inline(always)]
 pub fn is_enough<B: TurnBounds>(bounds: B, index: TurnIndex) -> bool
-    ensures { result ≡ enough (B.bounds bounds) index }
+    ensures { result ≡ is_enough (B.bounds bounds) index }
 {
     let missing = bounds.missing(index);
     !(0 < missing)
@@ -120,7 +120,7 @@ fn takes_token<Input: Stream>(
 ) -> bool
     ensures { (n : ℕ) (v : View Input.Position Input.Token) → Input.stands input.now since v → Takes Input.step n v (Input.view input.now) → result ≡ takes_token index n committed }
 {
-    committed && has_taken(index.begun, since, input)
+    committed && has_taken(index.took_before, since, input)
 }
 
 /// Returns the same as `takes_token`, but for a first turn that is a part of its own and may take nothing.
@@ -131,7 +131,7 @@ fn is_first_or_takes_token<Input: Stream>(
     since: Input::Checkpoint,
     input: &Input,
 ) -> bool
-    ensures { (n : ℕ) (v : View Input.Position Input.Token) → Input.stands input.now since v → Takes Input.step n v (Input.view input.now) → result ≡ is_joined_block index n committed }
+    ensures { (n : ℕ) (v : View Input.Position Input.Token) → Input.stands input.now since v → Takes Input.step n v (Input.view input.now) → result ≡ is_first_or_takes_token index n committed }
 {
     if index.number < 1 {
         return true;
@@ -203,7 +203,7 @@ pub struct FirstThenUpTo {
 }
 
 impl TurnBounds for FirstThenUpTo {
-    ghost bounds = { joined_between };
+    ghost bounds = { own_first_bounds };
 
     #[inline(always)]
     fn count_bound(self) -> usize {

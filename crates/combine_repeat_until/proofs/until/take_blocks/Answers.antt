@@ -19,7 +19,7 @@ turns-init g c =
       passes = p;
       cleared = c.hand_out-before.ensures.left;
       there = (_, a.stood, z);
-      errors = until_leads_first _ _ _ _ h _ _ c.hand_out-before.result c.args.empty _ o (ap (λ b. b.begun) c.or_committed-blocks.ensures) _ _ _ a.first a.then;
+      errors = until_leads_first _ _ _ _ h _ _ c.hand_out-before.result c.args.empty _ o (ap (λ b. b.took_before) c.or_committed-blocks.ensures) _ _ _ a.first a.then;
     }
 
 pub turns-smaller : goal.turns-smaller
