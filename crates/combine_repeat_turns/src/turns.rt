@@ -145,7 +145,7 @@ pub trait Collect<A>: Gather<A> {
     /// Whether what is gathered shows the values.
     ghost keeps: { Bool };
 
-    /// Returns an empty gathering, with room for so many values.
+    /// Returns an empty gathering, with room for that many values.
     fn empty(&self, room: usize) -> Result<Self::Collection, AllocError>
         ensures { MatchResult result (λ i. Self.held i ≡ Self.none) (λ _. Self.heapless → ⊥) };
 
@@ -199,7 +199,7 @@ impl TurnIndex {
         }
     }
 
-    /// Returns whether so many turns were before it.
+    /// Returns whether `max` turns were before it.
     #[inline(always)]
     fn reaches(self, max: usize) -> bool
         ensures { result ≡ not (nat_lt self.number max) }
@@ -207,7 +207,7 @@ impl TurnIndex {
         !(self.number < max)
     }
 
-    /// Returns how many turns are missing before it, if there must be so many.
+    /// Returns how many of `min` turns are missing before it.
     #[inline(always)]
     fn short_of(self, min: usize) -> usize
         ensures { result ≡ min - self.number }
@@ -489,7 +489,7 @@ fn judge_refusal<G: Gather<P::Value>, Input: Stream, P: TurnParser<Input>, B: Tu
     TurnStop::Refused(turns, Tracked::from(error))
 }
 
-/// Runs one turn, called so, and gathers its value where it is a block.
+/// Runs one turn as `entry` calls it, and gathers its value where it is a block.
 #[inline(always)]
 fn one_turn<G: Gather<P::Value>, Input: Stream, P: TurnParser<Input>, B: TurnBounds, C: Entry>(
     parser: &mut P,

@@ -1,4 +1,4 @@
-//! A collection with room for so many values, and what parsers that collect in it answer.
+//! A collection that takes a number of values and no more, and what parsers that collect in it answer.
 ghost use Rattle.std.specs.Prelude.{ℕ, ◌+◌};
 
 use combine_base::error::{Commit, ParseResult, Tracked, UnexpectedParse};
@@ -90,7 +90,7 @@ fn answers_failed<P: Parser<fed::Stream<u8>>>(session: &mut Session<P, u8>) -> b
 /// What became of the values.
 #[derive(Clone, Copy, Debug, PartialEq)]
 pub enum CollectOutcome {
-    /// Accepted, so many of them.
+    /// Accepted, that many of them.
     Values(usize),
     /// Accepted; they aren't seen.
     Unseen,

@@ -1,4 +1,4 @@
-//! Each parser that collects, with a collection that has room for so many values.
+//! Each parser that collects, with a collection that takes a number of values and no more.
 use crate::capped::{Capped, CollectOutcome, Counted, from_start, in_session, seen, unseen};
 use combine_base::parser::Parser;
 use combine_base::repeat::{Append, Sink};

@@ -143,7 +143,7 @@ fn no_alternative<O, Input: Stream>(input: &Input) -> ParseResult<O, Input::Erro
     peeked(Tracked::from(error))
 }
 
-/// Returns the alternative of so many that a call goes on with, and its state.
+/// Returns which of `count` alternatives a call goes on with, and its state.
 ///
 /// That is `Peek` where the call begins afresh, also where no alternative has that index.
 #[inline(always)]

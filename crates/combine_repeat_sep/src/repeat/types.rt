@@ -19,7 +19,7 @@ use combine_repeat_turns::turns::{TurnProgress, TurnsState, reduce_turns, take_t
 use std::alloc::Global;
 use std::marker::PhantomData;
 
-/// Elements with a separator between two of them, so many as `B` says, collected.
+/// Elements with a separator between two of them, as many as `B` says, collected.
 ///
 /// The types of the separated repetitions are its aliases.
 #[derive(Drop)]

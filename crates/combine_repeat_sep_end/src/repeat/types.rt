@@ -19,7 +19,7 @@ use combine_token::choice::optional;
 use std::alloc::Global;
 use std::marker::PhantomData;
 
-/// Elements with a separator between two of them and perhaps after the last, so many as `B` says, collected.
+/// Elements with a separator between two of them and perhaps after the last, as many as `B` says, collected.
 #[derive(Drop)]
 #[derive_where(Clone, Copy; P, S, B)]
 pub struct RepeatEnded<F, P, S, B> {

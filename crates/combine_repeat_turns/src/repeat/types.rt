@@ -11,7 +11,7 @@ use combine_base::error::{ErrorOffset, ParseResult, Tracked};
 use combine_base::parser::{Outputs, ParseMode, Parser};
 use combine_base::stream::{Kind, Positioned, Stream, StreamOnce};
 
-/// Turns of a parser, so many as `B` says, whose values `G` gathers.
+/// Turns of a parser, as many as `B` says, whose values `G` gathers.
 ///
 /// The types of the repetitions of one parser are its aliases.
 #[derive(Clone, Copy, Drop)]

@@ -139,7 +139,7 @@ fn is_first_or_takes_token<Input: Stream>(
     takes_token(index, committed, since, input)
 }
 
-/// At least so many turns, of which the first is a part of its own.
+/// At least `MIN` turns, of which the first is a part of its own.
 ///
 /// That one may take nothing, and its refusal is the result unless there need be none. Each later one takes a token.
 #[derive(Clone, Copy)]
@@ -193,7 +193,7 @@ impl<const MIN: usize> TurnBounds for FirstThenMore<MIN> {
     }
 }
 
-/// As `FirstThenMore`, and at most so many.
+/// At least `min` and at most `max` turns, otherwise as `FirstThenMore`.
 #[derive(Clone, Copy)]
 pub struct FirstThenUpTo {
     /// How many there are at least.
@@ -247,7 +247,7 @@ impl TurnBounds for FirstThenUpTo {
     }
 }
 
-/// At least and at most so many; they may take nothing.
+/// At least `min` and at most `max` turns, which may take nothing.
 #[derive(Clone, Copy)]
 pub struct MinToMax {
     /// How many there are at least.
