@@ -6,9 +6,10 @@ use Rattle.combine_base.specs.Error.Items.{ErrorItem}
 use Rattle.combine_base.specs.Parser.Answer.{Answers, Asks, CallRecord, World, asks_or_refuses, world}
 use Rattle.combine_base.specs.Parser.Drivers.{Starts, afresh}
 use Rattle.combine_base.specs.Parser.DriverAnswers.{NeedsMore}
-use Rattle.combine_base.specs.Parser.Meaning.{Meaning, Reading}
+use Rattle.combine_base.specs.Parser.Meaning.{Meaning, Reading, any_error}
 use Rattle.combine_base.specs.Stream.Calls.{ResetTo}
 use Rattle.combine_base.specs.Stream.View.{View}
+use Rattle.combine_base.specs.Parser.RunOnce.{once_world}
 use Rattle.combine_base.proofs.Errors.CallErrors.{need_of_more, same_mark, unreset}
 use Rattle.combine_base.proofs.Parsers.InnerCalls.{InsideCall, KeepsAround, inside_asks, inside_commits, inside_fails, inside_peeks, inside_refuses}
 use Rattle.combine_base.proofs.Parsers.Progress.{progress_none, takes_more}
@@ -19,7 +20,7 @@ use Rattle.combine_base.specs.declared.stream.Failures.{Failures}
 use Rattle.combine_base.specs.declared.stream.Kind.{Kind}
 use Rattle.combine_base.specs.declared.stream.Kind.TheVariants as kinds
 use Rattle.combine_token.proofs.Tokens.Stateless.{stateless_asks, into_begun}
-use Rattle.bench_grammar.specs.Apart.{Anything, RunsOnce, any_error, apart, once, once_world}
+use Rattle.bench_grammar.specs.Apart.{Anything, RunsApart, apart, run_apart}
 
 -- whatever items were added
 module _ {T R P E : Type 0} (s : Observers T R P E) (heapless : Type 0) (adds : List (ErrorItem T R) → Type 0) (old new : E) where
@@ -39,7 +40,7 @@ module _ {P T R E A S : Type 0} (step : P → T → P) (s : Observers T R P E) (
   w1 = once_world step s counts_failures
 
   abbrev whole : Meaning P T R E A Bool
-  whole = once {R = R} {E = E} m.whole
+  whole = run_apart {R = R} {E = E} m.whole
 
   module _ (from to : S) where
     abbrev part : CallRecord P T S
@@ -88,12 +89,12 @@ module _ {I P T R E C S V : Type 0} (step : P → T → P) (s : Observers T R P 
   m = apart read
 
   abbrev ran : Bool → Bool → CallRecord P T Bool
-  ran from to = afresh here1 (once {R = R} {E = E} read) from to (view input) (view mid) (failures input) (failures mid)
+  ran from to = afresh here1 (run_apart {R = R} {E = E} read) from to (view input) (view mid) (failures input) (failures mid)
 
   abbrev run : View P T → Failures → CallRecord P T S
   run new later = record { first = first; state = state; left = left; old = view input; new = new; before = failures input; after = later }
 
-  as_run : (from to : Bool) → InsideCall here1 fresh (once {R = R} {E = E} read) m (ran from to) first state left (view input) (failures input) false read
+  as_run : (from to : Bool) → InsideCall here1 fresh (run_apart {R = R} {E = E} read) m (ran from to) first state left (view input) (failures input) false read
   as_run from to = record {
     progress = progress_here here1 _ read (view input) (failures input) (λ v o p. into_begun read ⊥ ⊥ (Anything {R = R}) (any_error {E = E}) first state v o p);
     reads = omega arith;
@@ -104,7 +105,7 @@ module _ {I P T R E C S V : Type 0} (step : P → T → P) (s : Observers T R P 
   }
 
   abbrev Runs : ParseResult V E → Type 0
-  Runs = RunsOnce step s counts_failures view marks failures read input mid
+  Runs = RunsApart step s counts_failures view marks failures read input mid
 
   -- no need of more
   pub again : (y : ParseResult V E) → (NeedsMore s.kind (view mid).is_open y → ⊥) → Runs y → Answers here m (run (view mid) (failures mid)) y
@@ -116,10 +117,10 @@ module _ {I P T R E C S V : Type 0} (step : P → T → P) (s : Observers T R P 
   module _ (marked : View P T → Type 0) (i : marked (view input)) (new : View P T) (later : Failures) where
     module _ (e : E) (q : (s.kind e ≡ kinds.End) × ((view mid).is_open ≡ true)) (x : Runs (CommitErr e)) where
       is_open : (view input).is_open ≡ true
-      is_open = sym (same_mark here1 (once {R = R} {E = E} read) (ran x.answers.state x.answers.left) e x.answers.answers) ∙ q.1
+      is_open = sym (same_mark here1 (run_apart {R = R} {E = E} read) (ran x.answers.state x.answers.left) e x.answers.answers) ∙ q.1
 
-      asked : Asks here1 (once {R = R} {E = E} read) (ran x.answers.state x.answers.left)
-      asked = need_of_more here1 (once {R = R} {E = E} read) (ran x.answers.state x.answers.left) e q.0 is_open x.answers.answers
+      asked : Asks here1 (run_apart {R = R} {E = E} read) (ran x.answers.state x.answers.left)
+      asked = need_of_more here1 (run_apart {R = R} {E = E} read) (ran x.answers.state x.answers.left) e q.0 is_open x.answers.answers
 
       put_back : ResetTo counts_failures step marked (view mid) new (failures mid) later (Ok tt) → Answers here m (run new later) (CommitErr e)
       put_back b =

@@ -7,6 +7,7 @@ use Rattle.combine_base.specs.Parser.Drivers.{afresh}
 use Rattle.combine_base.specs.Parser.Meaning.{Meaning, Reading, Refusing}
 use Rattle.combine_base.specs.Stream.Calls.{ResetTo}
 use Rattle.combine_base.specs.Stream.View.{View}
+use Rattle.combine_base.specs.Parser.RunOnce.{once_world}
 use Rattle.combine_base.proofs.Errors.CallErrors.{need_of_more, same_mark, unreset}
 use Rattle.combine_base.proofs.Parsers.InnerCalls.{InsideCall, inside_commits, inside_fails, inside_peeks, inside_refuses}
 use Rattle.combine_base.proofs.Parsers.Progress.{takes_more}
@@ -19,14 +20,14 @@ use Rattle.combine_base.specs.declared.stream.Kind.{Kind}
 use Rattle.combine_base.specs.declared.stream.Kind.TheVariants as kinds
 use Rattle.combine_token.specs.Token.Stateless.{stateless}
 use Rattle.combine_token.proofs.Tokens.Stateless.{stateless_asks, into_begun}
-use Rattle.combine_combinator_function.specs.Once.{RunsOnce, once, once_world}
+use Rattle.combine_combinator_function.specs.Once.{RunsOnce, once}
 
 module _ {I P T R E C S V : Type 0} (step : P → T → P) (s : Observers T R P E) (counts_failures : Type 0) (view : I → View P T) (marks : I → C → View P T → Type 0) (failures : I → Failures) (fresh : S → Type 0) (read : Reading P T V) (refuses : Refusing P T E) (first : Bool) (state left : S) (d : fresh left) (input mid : I) where
   abbrev w : World P T S E
   w = world step s counts_failures fresh
 
   abbrev w1 : World P T Bool E
-  w1 = once_world step s counts_failures view marks failures
+  w1 = once_world step s counts_failures
 
   abbrev m : Meaning P T R E V S
   m = stateless read ⊥ (Unit {0}) AddsNothing refuses

@@ -1,13 +1,9 @@
 -- items added one after another
 use Rattle.std.proofs.Common.{◌≡◌, ◌⊎◌, inl, inr, List, [], ◌∷◌, ◌++◌, ap, sym, ◌∙◌, refl}
 use Rattle.combine_base.specs.Error.Items.{ErrorItem}
-use Rattle.combine_base.specs.Error.Errors.{Observers, Only, Added, Unstored, AddsItems, with_items, with_item}
+use Rattle.combine_base.specs.Error.Errors.{Observers, Only, Added, Unstored, AddsItems, with_items, with_items_append}
 
 module _ {T R P E : Type 0} (s : Observers T R P E) where
-  pub with_items_append : (is js xs : List (ErrorItem T R)) → with_items s (is ++ js) xs ≡ with_items s js (with_items s is xs)
-  with_items_append [] js xs = refl
-  with_items_append (i ∷ is) js xs = with_items_append is js (with_item s i xs)
-
   -- one more of a list
   pub says_more : (is : List (ErrorItem T R)) (i : ErrorItem T R) (e e' e'' : E) → AddsItems s (Unit {0}) (λ x. x ≡ is) e e' → AddsItems s (Unit {0}) (Only i) e' e'' → AddsItems s (Unit {0}) (λ x. x ≡ is ++ i ∷ []) e e''
   says_more is i e e' e'' a b = record { is = both a.is b.is }

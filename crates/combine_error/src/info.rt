@@ -1,7 +1,6 @@
 //! Copies of what an item speaks of.
 ghost use Rattle.std.specs.Prelude.{◌≡◌, MatchResult};
-ghost use Rattle.combine_base.specs.Error.Items.{shown};
-ghost use Rattle.combine_error.specs.Copies.{NoText};
+ghost use Rattle.combine_base.specs.Error.Items.{shown, NoText};
 
 use combine_base::error::Info;
 use std::alloc::AllocError;

@@ -5,9 +5,9 @@ use Rattle.combine_base.specs.Parser.Answer.{World, CallRecord, Answers, Accepts
 use Rattle.combine_base.specs.Parser.Drivers.{Explained}
 use Rattle.combine_base.specs.Parser.KeptParsers.{KeptOf}
 use Rattle.combine_base.specs.Parser.Meaning.{Meaning, Reading, Refusing, IsMeaning, MeansSame, refusals_from}
-use Rattle.combine_base.specs.Parser.Outcome.{Outcome, Accepted, Refused, Undecided, after, or_assoc, or_false, or_true}
+use Rattle.combine_base.specs.Parser.Outcome.{Outcome, Accepted, Refused, Undecided, after, or_false, or_true}
 use Rattle.combine_base.specs.Parser.Reasons.{Reasoned, ReasonedCall}
-use Rattle.combine_base.specs.Sequence.JoinedOutcome.{joined}
+use Rattle.combine_base.specs.Sequence.JoinedOutcome.{joined, unchanged, last_value, joined_none, joined_twice}
 use Rattle.combine_base.specs.Sequence.Parts.{RunsFrom, refused_as, call_from}
 use Rattle.combine_base.specs.Sequence.Readings.{following}
 use Rattle.combine_base.specs.Stream.View.{View, Takes, advanced}
@@ -26,7 +26,7 @@ use Rattle.combine_base.specs.declared.stream.Failures.{Failures}
 use Rattle.combine_base.specs.declared.stream.Kind.TheVariants as kinds
 use Rattle.combine_base.specs.declared.stream.StreamOnce as stream
 use Rattle.combine_nested.specs.Asks.{asked_by_some, asked_so}
-use Rattle.combine_nested.specs.NestedSteps.{FramesChange, Opened, Closed, Denied, TooDeep, frames_around, begins_steps, valid_steps, steps_start_valid, marked_taken, last_value, unchanged, runs, stepping, after_item, after_progress, ended_refuses, goes_refuses, nested_refuses, running_step_refuses, runs_refuse, marked_is_reading, nesting}
+use Rattle.combine_nested.specs.NestedSteps.{FramesChange, Opened, Closed, Denied, TooDeep, frames_around, begins_steps, valid_steps, steps_start_valid, marked_taken, runs, stepping, after_item, after_progress, ended_refuses, goes_refuses, nested_refuses, running_step_refuses, runs_refuse, marked_is_reading, nesting}
 use Rattle.combine_nested.proofs.FrameStack.{one_higher}
 use Rattle.combine_nested.proofs.StepErrors.{next_step_refuses}
 use Rattle.combine_nested.proofs.StepCuts.{marked_resumes, one_more_step}
@@ -38,25 +38,6 @@ use Rattle.combine_nested.specs.declared.nested.steps.Frames.{Frames}
 use Rattle.combine_nested.specs.declared.nested.steps.RunningStep.{RunningStep}
 use Rattle.combine_nested.specs.declared.nested.steps.NestedState.{NestedState}
 use Rattle.combine_nested.specs.declared.nested.steps.NestedState.TheVariants as states
-
--- what comes after two parts, of which one or the other was committed
-joined_twice : {B C : Type 0} (c k : Bool) (b : B) (p : Outcome C) → joined 0 (c || k) unchanged p ≡ joined 0 c unchanged (joined 0 k (last_value b) p)
-joined_twice c k b (Accepted a n j) = let e = or_assoc c k j in let i : 0 + n ≡ 0 + (0 + n) = omega arith in cc
-joined_twice c k b (Refused j) = ap Refused (or_assoc c k j)
-joined_twice c k b Undecided = refl
-
-joined_none : {C : Type 0} (p : Outcome C) → joined 0 false unchanged p ≡ p
-joined_none (Accepted a n j) = let i : 0 + n ≡ n = omega arith in cc
-joined_none (Refused j) = refl
-joined_none Undecided = refl
-
--- what a call begins from is valid
-pub valid_from : {S : Type 0} {fresh valid : S → Type 0} {first : Bool} {given s : S} → ((s : S) → fresh s → valid s) → RunsFrom fresh first given s → valid given → valid s
-valid_from {S} {fresh} {valid} {first} {given} {s} h r v = by_mode first r
-  where
-    by_mode : (first : Bool) → RunsFrom fresh first given s → valid s
-    by_mode true r = h s (r.afresh refl)
-    by_mode false r = subst valid (sym (r.kept refl)) v
 
 module _ {F I V N Input U Checkpoint T R P E : Type 0} (p : parser.Ghosts N Input U I Checkpoint T R P E) (i : stream.Ghosts Input T R P E) (observers : Observers T R P E) (fresh : U → Type 0) (depth : ℕ) (roots : F → Type 0) (answers : F → N → Type 0) (takes : F → I → Next F V → Type 0) (joins : F → V → Next F V → Type 0) (some : N → Type 0) where
   abbrev all : Meaning P T R E V (NestedState F N U)

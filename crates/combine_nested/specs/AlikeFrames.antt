@@ -6,9 +6,9 @@ use Rattle.combine_base.specs.Stream.View.{View, advanced}
 use Rattle.combine_base.specs.Parser.KeptParsers.{KeptOf}
 use Rattle.combine_base.specs.Parser.Outcome.{Outcome, Accepted, Refused, Undecided, shape}
 use Rattle.combine_base.specs.Parser.Meaning.{Meaning, Reading, IsSingle, MeansOne}
-use Rattle.combine_base.specs.Sequence.JoinedOutcome.{joined_one}
+use Rattle.combine_base.specs.Sequence.JoinedOutcome.{joined_one, unchanged, last_value}
 use Rattle.combine_base.specs.Sequence.Readings.{continues, following_is_single}
-use Rattle.combine_nested.specs.NestedSteps.{FramesChange, Opened, Closed, Denied, TooDeep, answered_for_frame, frames_around, after_step, after_progress, last_value, mark_taken, marked_taken, nested_rest, nested_whole, opens_frame, runs, settles_frames, stepping, steps_at_most, after_item, unchanged, valid_steps, nesting}
+use Rattle.combine_nested.specs.NestedSteps.{FramesChange, Opened, Closed, Denied, TooDeep, answered_for_frame, frames_around, after_step, after_progress, mark_taken, marked_taken, nested_rest, nested_whole, opens_frame, runs, settles_frames, stepping, steps_at_most, after_item, valid_steps, nesting}
 use Rattle.combine_nested.specs.declared.nested.Next.{Next}
 use Rattle.combine_nested.specs.declared.nested.Next.TheVariants as nexts
 use Rattle.combine_nested.specs.declared.nested.steps.NestedState.{NestedState}

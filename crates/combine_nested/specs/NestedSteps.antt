@@ -19,6 +19,7 @@ use Rattle.combine_base.specs.Sequence.PartErrors.{RefusesLast}
 use Rattle.combine_base.specs.declared.stream.Kind.TheVariants as kinds
 use Rattle.std.proofs.Common.{sym, ◌∙◌, subst, arith, ap, refl}
 use Rattle.combine_base.specs.Parser.KeptParsers.{KeptOf}
+use Rattle.combine_base.specs.Sequence.JoinedOutcome.{unchanged, last_value}
 
 -- the parser of this root and these steps
 abbrev pub nested_of : {R S : Type 0} → Global → ℕ → R → S → Nested R S
@@ -82,12 +83,6 @@ mark_taken g Undecided = Undecided
 
 abbrev pub marked_taken : {P T I : Type 0} → Bool → Reading P T I → Reading P T (I × Bool)
 marked_taken {P} {T} {I} g r v o = (p : Outcome I) × r v p × (o ≡ mark_taken g p)
-
-abbrev pub last_value : {B C : Type 0} → B → C → C
-last_value b c = c
-
-abbrev pub unchanged : {C : Type 0} → C → C
-unchanged c = c
 
 module _ {P T R E F I V N U : Type 0} (step : P → T → P) (depth : ℕ) (roots : F → Type 0) (answers : F → N → Type 0) (takes : F → I → Next F V → Type 0) (joins : F → V → Next F V → Type 0) (some : N → Type 0) (means : N → Meaning P T R E I U) where
   -- any parser that is answered for the frame

@@ -6,7 +6,7 @@ use Rattle.combine_base.specs.Parser.Outcome.{Outcome, Accepted, Refused, Undeci
 use Rattle.combine_base.specs.Parser.Meaning.{Meaning, Reading, IsReading, IsMeaning, MeansSame, begun}
 use Rattle.combine_base.specs.Parser.Answer.{CallRecord, World, Answers, Accepts, Refuses, Asks, Leaves, fails, peeks, loses}
 use Rattle.combine_base.specs.Parser.Drivers.{Broke}
-use Rattle.combine_base.specs.Distances.{stops_distance}
+use Rattle.combine_base.specs.Distances.{stops_distance, losing}
 use Rattle.combine_base.specs.Error.Errors.{Observers}
 use Rattle.combine_base.specs.Sequence.Parts.{accepted_as}
 use Rattle.combine_base.proofs.Parsers.Progress.{takes_more, takes_none, takes_open, after_none}
@@ -18,7 +18,7 @@ use Rattle.combine_base.specs.declared.stream.Failures.{Failures}
 use Rattle.combine_base.specs.declared.error.Tracked.{Tracked}
 use Rattle.combine_base.specs.declared.error.ParseResult.{ParseResult}
 use Rattle.combine_base.specs.declared.error.ParseResult.TheVariants.{CommitErr, PeekErr}
-use Rattle.combine_combinator.specs.Attempt.{LosesTry, Short, LostWithin, losing}
+use Rattle.combine_combinator.specs.Attempt.{LosesTry, Short, LostWithin}
 use Rattle.combine_repeat_turns.specs.Turns.Blocks.{Block, outcome, taken, values, any_committed, TakesBlock, StopsTurns, Collecting, TurnsSoFar, FoldsAll, DividesBlocks, HoldsCollected}
 use Rattle.combine_repeat_until.specs.Until.{block_at, until_judged, until_rule, stop_at, stopped_at, Until, no_blocks, blocks_so_far, until_fresh, until_valid, until_is_rule, until_into, until, until_lost}
 use Rattle.combine_repeat_until.specs.UntilTurn.{HoldsNothing, HandsOutBlocks, handed, IsPlaceAhead, IsUntilBlock, EndsHere, BlockNeedsMore, HasBlockFailed, InTurn, TakesNothing, BlockUnstored, Unreset, BlockDid, blocks_halted, block_did, HasKept, HasBroken, KeepsBlocks, KeepsRunning, SettlesBlocks}
@@ -441,10 +441,6 @@ module _ {P T R A V S E : Type 0} (w : World P T S E) (c : Collecting (Option A)
 
   pub turn_back : (x : BlockStep V E) → BlockDid w m' c r marked b x → BlockDid w m c r marked b x
   turn_back x p = record { is = turned_back x p.is }
-
-pub begun_reads : {P T R E A S : Type 0} (fresh valid : S → Type 0) (m : Meaning P T R E A S) → IsMeaning fresh valid m → (first : Bool) (s : S) → valid s → IsReading (begun m first s)
-begun_reads fresh valid m h true s v = h.whole
-begun_reads fresh valid m h false s v = h.rest s v
 
 module _ {V S : Type 0} (fresh valid : S → Type 0) (h : (s : S) → fresh s → valid s) (into : V) (k : KeptBlocks V S) where
   handed_so : (first : Bool) (state : UntilState V S) → handed fresh into first state k → until_valid valid state → valid k.running

@@ -1,7 +1,7 @@
 -- the errors of blocks up to a place: each turn goes on to those of the next, and a way out has one of them
 use Rattle.std.proofs.Common.{ℕ, ◌+◌, ◌≤◌, ◌≡◌, ◌⊎◌, inl, inr, List, [], ◌∷◌, Bool, true, false, ◌||◌, ◌&&◌, Option, Some, length, ap, arith, sym, subst, refl, ◌∙◌, nat_lt}
 use Rattle.combine_base.specs.Error.Errors.{Observers}
-use Rattle.combine_base.specs.Distances.{stops_distance}
+use Rattle.combine_base.specs.Distances.{stops_distance, losing}
 use Rattle.combine_base.specs.Parser.Answer.{World, CallRecord, Asks, world}
 use Rattle.combine_base.specs.Parser.Drivers.{Broke}
 use Rattle.combine_base.specs.Parser.DriverAnswers.{IsRefusal}
@@ -18,7 +18,6 @@ use Rattle.combine_base.specs.declared.error.ParseResult.TheVariants.{CommitErr}
 use Rattle.combine_base.specs.declared.stream.Failures.{Failures}
 use Rattle.combine_base.specs.declared.stream.Kind.{Kind}
 use Rattle.combine_base.specs.declared.stream.Kind.TheVariants as kinds
-use Rattle.combine_combinator.specs.Attempt.{losing}
 use Rattle.combine_repeat_turns.specs.Turns.Turn.{Start, from_start, from_state, started}
 use Rattle.combine_repeat_turns.specs.Turns.Bounds.{StartsInto}
 use Rattle.combine_repeat_turns.specs.Turns.Blocks.{Block, Collecting}

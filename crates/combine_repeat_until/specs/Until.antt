@@ -1,9 +1,9 @@
 -- blocks of a parser, up to the first place where it says that they end, all put back on need of more: which error a refusal has, what they mean, and their laws
-use Rattle.std.specs.Prelude.{ℕ, ◌+◌, ◌≡◌, ◌≤◌, Bool, true, false, ◌||◌, ◌&&◌, nat_lt, List, [], ◌∷◌, length, Option, Some, None, codes, ◌⊎◌, ◌<◌, refl, ◌↔◌}
+use Rattle.std.specs.Prelude.{ℕ, ◌+◌, ◌≡◌, ◌≤◌, Bool, true, false, ◌||◌, ◌&&◌, nat_lt, List, [], ◌∷◌, length, Option, Some, None, codes, ◌⊎◌, ◌<◌, refl, ◌↔◌, is_none}
 use Rattle.combine_base.specs.Stream.View.{View, advanced, extended}
 use Rattle.combine_base.specs.Parser.Outcome.{Outcome, Accepted, Refused, Undecided, shape, after, IsDecided, IsCommitted, both_false, decided_shape}
 use Rattle.combine_base.specs.Parser.Meaning.{Reading, Meaning, Refusing, MeantRefusal, IsReading, IsSingle, IsMeaning, MeansOne, MeansSame, SameReasons}
-use Rattle.combine_repeat_turns.specs.Turns.Bounds.{gathered, took_before_over, StartsInto}
+use Rattle.combine_repeat_turns.specs.Turns.Bounds.{gathered, StartsInto}
 use Rattle.combine_repeat_turns.specs.Turns.Blocks.{Block, taken, values, any_committed, Verdict, TakesBlock, StopsTurns, Rule, Collecting, TurnsSoFar, FoldsAll, DividesBlocks, HoldsCollected, outcome, IsRule, IsJudgedOnce, divides_one, divides_ended, divides_stands, divides_within, divides_into}
 use Rattle.combine_repeat_until.specs.declared.until.Blocks.{Blocks}
 use Rattle.combine_repeat_until.specs.declared.until.UntilState.{UntilState}
@@ -17,12 +17,7 @@ use Rattle.combine_repeat_turns.specs.Turns.Turn.{Start, from_start, from_state,
 use Rattle.combine_combinator.specs.Attempt.{LosesTry, Short, LostWithin}
 use Rattle.std.proofs.Common.{arith, ap, sym, subst, ◌∙◌, inl, inr, length-append, length-drop, ltb-false}
 use Rattle.combine_base.specs.Sequence.PartErrors.{refusal_into}
-use Rattle.combine_base.specs.Stream.Advance.{advanced_extended, open_follows}
-
--- no value: the blocks end
-abbrev pub is_none : {A : Type 0} → Option A → Bool
-is_none None = true
-is_none (Some a) = false
+use Rattle.combine_base.specs.Stream.Advance.{advanced_extended, open_follows, took_before_over}
 
 -- an accepted value is a block where it took a token, now or before a cut; else it takes nothing and is refused, committed
 abbrev pub block_at : Bool → Verdict

@@ -6,7 +6,7 @@ ghost use Rattle.combine_base.specs.Parser.Reasons.{ReasonedCall};
 ghost use Rattle.combine_base.specs.Sequence.Parts.{accepted_as};
 ghost use Rattle.combine_base.specs.Stream.Calls.{Passes};
 ghost use Rattle.combine_base.specs.Stream.View.{Takes, View};
-ghost use Rattle.combine_combinator.specs.Attempt.{losing};
+ghost use Rattle.combine_base.specs.Distances.{losing};
 ghost use Rattle.combine_repeat_until.specs.Until.{blocks_so_far, some_appended, until_fresh, until_valid, until};
 ghost use Rattle.combine_repeat_until.specs.UntilTurn.{OneBlockCall, ReachesPlace, HandsOutBlocks, KeepsBlocks, KeepsRunning, RefusesTurn, SettlesBlocks};
 

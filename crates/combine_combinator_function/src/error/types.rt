@@ -1,8 +1,7 @@
 //! The parser that the functions of `error` return.
 ghost use Rattle.std.specs.Prelude.{◌≡◌, MatchResult};
 ghost use Rattle.combine_base.specs.Error.Errors.{Only};
-ghost use Rattle.combine_base.specs.Error.Items.{Unexpected as SaysUnexpected, shown};
-ghost use Rattle.combine_token.specs.Token.Lists.ListAnswers.{NoText};
+ghost use Rattle.combine_base.specs.Error.Items.{Unexpected as SaysUnexpected, shown, NoText};
 ghost use Rattle.combine_combinator_function.specs.Unexpected.{refuses_all, refuses_all_is_meaning, refuses_all_means_one, unexpected_info};
 
 use combine_base::error::{ErrorOffset, Info, ParseError, ParseResult, Tracked};

@@ -17,6 +17,7 @@ use Rattle.combine_base.specs.Parser.DriverAnswers.{IsRefusal}
 use Rattle.combine_base.specs.Parser.Meaning.{Meaning, begun_refuses, MeantRefusal, begun, Reading, IsMeaning, MeansOne, MeansSame, SameReasons}
 use Rattle.combine_base.specs.Refusals.{HasItems}
 use Rattle.combine_base.specs.Stream.View.{View, advanced}
+use Rattle.combine_base.specs.Stream.Advance.{took_before_over}
 use Rattle.combine_base.specs.declared.stream.Kind.TheVariants as kinds
 use Rattle.combine_repeat_turns.specs.Turns.Turn.{Start, started, from_start, from_state, IsTurn, TurnStartsSame, TurnsSame, EndsTurnsOnce, TurnsOnce}
 use Rattle.combine_repeat_turns.specs.declared.turns.FirstStep.{FirstStep}
@@ -25,7 +26,7 @@ use Rattle.combine_repeat_turns.specs.declared.turns.TurnStep.{TurnStep}
 use Rattle.combine_repeat_turns.specs.declared.turns.TurnStep.TheVariants as steps
 use Rattle.combine_repeat_turns.specs.declared.turns.TurnStop.{TurnStop}
 use Rattle.combine_repeat_turns.specs.declared.turns.TurnStop.TheVariants as stop
-use Rattle.std.proofs.Common.{arith, ap, sym, subst, ◌∙◌, lt-ltb, ltb-true, ltb-false, zero, suc, inl, inr}
+use Rattle.std.proofs.Common.{arith, ap, sym, subst, ◌∙◌, zero, suc, inl, inr}
 
 -- what bounds that are types of their own say
 abbrev pub own_first_bounds : FirstThenUpTo → Bounds
@@ -241,18 +242,6 @@ module _ {P T R E A V S : Type 0} (step : P → T → P) (errors : Observers T R
     refuses = RefusesOnward step errors b ending again (from_start m) start.mark start.committed;
     refuses_from = λ s. RefusesOnward step errors b ending again (from_state m (running_turn s)) (so_far_or start c.held s.earlier).mark (so_far_or start c.held s.earlier).committed;
   }
-
--- a token was taken in one of two parts
-positive_sum : (n c : ℕ) → nat_lt 0 (n + c) ≡ (nat_lt 0 n || nat_lt 0 c)
-positive_sum n c = by_test (nat_lt 0 n) refl
-  where
-    by_test : (b : Bool) → nat_lt 0 n ≡ b → nat_lt 0 (n + c) ≡ (b || nat_lt 0 c)
-    by_test true e = let i = ltb-true 0 n e in lt-ltb 0 (n + c) (omega arith)
-    by_test false e = let i = ltb-false 0 n e in let z : n + c ≡ c = omega arith in ap (nat_lt 0) z
-
-pub took_before_over : (b : Bool) (n c : ℕ) → (b || nat_lt 0 (n + c)) ≡ ((b || nat_lt 0 n) || nat_lt 0 c)
-took_before_over true n c = refl
-took_before_over false n c = positive_sum n c
 
 goes_over : (b : Bounds) (g : TurnIndex) (n c : ℕ) (k : Bool) → is_block_at b g (n + c) k ≡ is_block_at b (cut_at g n) c k
 goes_over Unbounded g n c k = ap (λ i. k && i) (took_before_over g.took_before n c)

@@ -1,15 +1,11 @@
 -- what two parsers add to an error, one after the other
-use Rattle.std.proofs.Common.{◌≡◌, ◌⊎◌, inl, inr, List, [], ◌∷◌, ◌++◌, ap, sym, ◌∙◌, refl}
+use Rattle.std.proofs.Common.{◌≡◌, ◌⊎◌, inl, inr, List, ◌++◌, ap, sym, ◌∙◌, refl}
 use Rattle.combine_base.specs.Error.Items.{ErrorItem}
-use Rattle.combine_base.specs.Error.Errors.{Observers, Added, Unstored, AddsItems, with_items, with_item}
+use Rattle.combine_base.specs.Error.Errors.{Observers, Added, Unstored, AddsItems, with_items, with_items_append}
 use Rattle.combine_base.specs.declared.stream.Kind.TheVariants as kinds
 use Rattle.combine_token.specs.Choice.Alternatives.{Together}
 
 module _ {T R P E : Type 0} (s : Observers T R P E) where
-  with_items_append : (is js xs : List (ErrorItem T R)) → with_items s (is ++ js) xs ≡ with_items s js (with_items s is xs)
-  with_items_append [] js xs = refl
-  with_items_append (i ∷ is) js xs = with_items_append is js (with_item s i xs)
-
   -- what was added is of a kind that includes it
   pub says_as : (heapless heapless' : Type 0) → (heapless' → heapless) → (f g : List (ErrorItem T R) → Type 0) → ((is : List (ErrorItem T R)) → f is → g is) → (e e' : E) → AddsItems s heapless f e e' → AddsItems s heapless' g e e'
   says_as heapless heapless' lend f g into e e' a = record { is = by_case a.is }

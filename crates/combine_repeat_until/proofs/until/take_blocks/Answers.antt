@@ -1,9 +1,10 @@
 use Rattle.std.proofs.Common.{ap, refl}
 use Rattle.combine_base.proofs.Parsers.SameMeanings.{passes_more, same_more, same_none}
 use Rattle.combine_repeat_until.proofs.UntilTurn.{blocks_shrink}
-use Rattle.combine_repeat_until.proofs.UntilCalls.{begun_reads, handed_valid, reaches_afresh, reaches_first_block, reaches_on, running_valid, turn_back, until_settled}
+use Rattle.combine_repeat_until.proofs.UntilCalls.{handed_valid, reaches_afresh, reaches_first_block, reaches_on, running_valid, turn_back, until_settled}
 use Rattle.combine_repeat_until.proofs.UntilErrors.{until_leads_first, until_leads_on, settled_reasons, short_reasons, stop_alike}
 use Rattle.combine_repeat_until.proofs.until.take_blocks.Goals as goal
+use Rattle.combine_base.specs.Parser.Meaning.{begun_reads}
 
 pub turns-init : goal.turns-init
 turns-init g c =

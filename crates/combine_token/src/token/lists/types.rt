@@ -1,8 +1,7 @@
 //! The parsers of lists of tokens, and their state.
 ghost use Rattle.std.specs.Prelude.{◌≡◌, not, if◌then◌else◌, MatchResult, None, Some};
 ghost use Rattle.combine_base.specs.Error.Errors.{AddsNothing, Only};
-ghost use Rattle.combine_base.specs.Error.Items.{Expected, shown};
-ghost use Rattle.combine_token.specs.Token.Lists.ListAnswers.{NoText};
+ghost use Rattle.combine_base.specs.Error.Items.{Expected, shown, NoText};
 ghost use Rattle.combine_token.specs.Token.Lists.TokenLists.{ComparesOnce};
 ghost use Rattle.combine_token.specs.Token.Lists.ListMeaning.{token_list, token_list_is_meaning, token_list_means_one};
 ghost use Rattle.combine_token.specs.Token.Lists.IteratedLists.{IsIterated, iterated_tokens, iterated_ends_once};

@@ -2,9 +2,8 @@ use Rattle.std.proofs.Common.{◌≤◌, ◌<◌, ◌∙◌, true, length, arith
 use Rattle.std.proofs.lemmas.List.{drop-set-lt}
 use Rattle.std.proofs.lemmas.List.Elements.{All-set}
 use Rattle.combine_base.specs.Parser.Answer.{world}
-use Rattle.combine_base.specs.Parser.Meaning.{begun, begun_refuses}
+use Rattle.combine_base.specs.Parser.Meaning.{begun, begun_refuses, begun_reads}
 use Rattle.combine_base.proofs.Parsers.SameMeanings.{passes_more}
-use Rattle.combine_token.proofs.Choices.ChoiceOutcomes.{begun_reads}
 use Rattle.combine_choice.specs.ListChoice.{every_drop}
 use Rattle.combine_choice.proofs.AlternativeLists.{drop_at, drop_here, drop_past, same_self, same_set}
 use Rattle.combine_choice.proofs.RefusedAlternatives.{alternative_begins, later_refuses, later_settles, peeked_no_fault, refusing_end, refusing_here, refusing_next, refusing_unreset, alternative_meant, alternative_no_fault, alternative_settles}

@@ -1,10 +1,11 @@
 use Rattle.std.proofs.Common.{refl, arith, rules}
 use Rattle.combine_base.specs.Parser.KeptParsers.{KeptOf}
+use Rattle.combine_base.specs.Sequence.Parts.{valid_from}
 use Rattle.combine_base.proofs.Parsers.SameMeanings.{passes_none, passes_more}
 use Rattle.combine_nested.specs.Asks.{asked_by_some}
 use Rattle.combine_nested.specs.NestedSteps.{step_asker, depth_part, root_part, steps_start_valid, nesting_is_meaning}
 use Rattle.combine_nested.specs.declared.nested.steps.NestedState.TheVariants as states
-use Rattle.combine_nested.proofs.EachStep.{asked_step_kept, reaches_first_step, runs_first_step, runs_next_step, step_leads, steps_fall, valid_from}
+use Rattle.combine_nested.proofs.EachStep.{asked_step_kept, reaches_first_step, runs_first_step, runs_next_step, step_leads, steps_fall}
 use Rattle.combine_nested.proofs.nested.types.NestedParser.parse_mode.Goals as goal
 use Rattle.combine_nested.proofs.nested.types.NestedParser.parse_mode.Goals.{in-Running, in-Start}
 

@@ -6,9 +6,10 @@ use Rattle.combine_base.proofs.Parsers.SameMeanings.{passes_none, passes_more}
 use Rattle.combine_base.proofs.Parsers.CallStarts.{in_mode}
 use Rattle.combine_repeat_iterate.specs.ItemParsers.{iterated_is_meaning, items_start_valid}
 use Rattle.combine_base.specs.Parser.KeptParsers.{KeptOf}
+use Rattle.combine_base.specs.Sequence.Parts.{valid_from}
 use Rattle.combine_repeat_iterate.specs.ListedItems.{AskedFor, GivesItems, ListsItems, item_asker, by_function, gives_callable, gives_none, gives_one, gives_some, items_part}
 use Rattle.combine_repeat_iterate.specs.declared.repeat.items.IterateState.TheVariants as states
-use Rattle.combine_repeat_iterate.proofs.EachItem.{asked_item_kept, item_goes, item_leaves, item_passes, item_reasons, item_stops, items_end, no_clone, reaches_first_item, runs_first_item, runs_next_item, valid_from}
+use Rattle.combine_repeat_iterate.proofs.EachItem.{asked_item_kept, item_goes, item_leaves, item_passes, item_reasons, item_stops, items_end, no_clone, reaches_first_item, runs_first_item, runs_next_item}
 use Rattle.combine_repeat_iterate.proofs.repeat.types.IterateParser.parse_mode.Given as given
 use Rattle.combine_repeat_iterate.proofs.repeat.types.IterateParser.parse_mode.Goals as goal
 use Rattle.combine_repeat_iterate.proofs.repeat.types.IterateParser.parse_mode.Goals.{in-Running+in-Goes, in-Start+in-Ok}

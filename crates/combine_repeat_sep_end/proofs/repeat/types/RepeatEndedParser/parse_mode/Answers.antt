@@ -1,4 +1,4 @@
-use Rattle.combine_repeat_sep_end.specs.Ended.{is_none}
+use Rattle.std.specs.Prelude.{is_none}
 use Rattle.combine_repeat_sep_end.specs.SepEndParsers.{sep_end_bounds}
 use Rattle.combine_repeat_turns.specs.Turns.Bounds.{turns_means_same}
 use Rattle.combine_repeat_sep_end.proofs.repeat.types.RepeatEndedParser.parse_mode.Goals as goal
