@@ -93,7 +93,14 @@ fn choose<Input: Stream, P: Parser<Input>, M: ParseMode>(
 {
     let start = input.checkpoint();
     let position = input.position();
-    let mut refused = match try_alternative(&mut alternatives[index], index, mode, input, kept, state) {
+    let mut refused = match try_alternative(
+        &mut alternatives[index],
+        index,
+        mode,
+        input,
+        kept,
+        state,
+    ) {
         ParseResult::CommitOk(value) => return ParseResult::CommitOk(value),
         ParseResult::PeekOk(value) => return ParseResult::PeekOk(value),
         ParseResult::CommitErr(error) => return ParseResult::CommitErr(error),
