@@ -15,7 +15,7 @@ module _ {T R P E : Type 0} (s : Observers T R P E) where
         record {
           kind = l.2.kind ∙ k.2.kind;
           position = l.2.position ∙ k.2.position;
-          items = l.2.items ∙ ap (λ y. with_items s y (s.items e')) l.1 ∙ ap (with_items s (i ∷ [])) (k.2.items ∙ ap (λ y. with_items s y (s.items e)) k.1) ∙ sym (with_items_append is (i ∷ []) (s.items e));
+          items = l.2.items ∙ ap (λ y. with_items s y (s.items e')) l.1 ∙ ap (with_items s (i ∷ [])) (k.2.items ∙ ap (λ y. with_items s y (s.items e)) k.1) ∙ sym (with_items_append s is (i ∷ []) (s.items e));
         },
       )
       both (inl k) (inr v) = inr (record { kind = v.kind; position = v.position ∙ k.2.position; memory = v.memory })

@@ -28,7 +28,7 @@ module _ {T R P E : Type 0} (s : Observers T R P E) where
         record {
           kind = l.2.kind ∙ k.2.kind;
           position = l.2.position ∙ k.2.position;
-          items = l.2.items ∙ ap (with_items s l.0) k.2.items ∙ sym (with_items_append k.0 l.0 (s.items e));
+          items = l.2.items ∙ ap (with_items s l.0) k.2.items ∙ sym (with_items_append s k.0 l.0 (s.items e));
         },
       )
       both (inl k) (inr v) = inr (record { kind = v.kind; position = v.position ∙ k.2.position; memory = λ h l. v.memory h l.1 })
