@@ -96,7 +96,7 @@ module _ {I P T R E C S V : Type 0} (step : P → T → P) (s : Observers T R P 
 
   as_run : (from to : Bool) → InsideCall here1 fresh (run_apart {R = R} {E = E} read) m (ran from to) first state left (view input) (failures input) false read
   as_run from to = record {
-    progress = progress_here here1 _ read (view input) (failures input) (λ v o p. into_begun read ⊥ ⊥ (Anything {R = R}) (any_error {E = E}) first state v o p);
+    progress = progress_here here1 _ read (view input) (failures input) (λ v o p. into_begun read ⊥ ⊥ (Anything {R = R}) (any_error {Error = E}) first state v o p);
     reads = omega arith;
     resets = omega arith;
     refuses = λ k x. x;
@@ -124,7 +124,7 @@ module _ {I P T R E C S V : Type 0} (step : P → T → P) (s : Observers T R P 
 
       put_back : ResetTo counts_failures step marked (view mid) new (failures mid) later (Ok tt) → Answers here m (run new later) (CommitErr e)
       put_back b =
-          let a = stateless_asks here read ⊥ ⊥ (Anything {R = R}) (any_error {E = E}) (run new later) is_open asked.meant (λ z. absurd z) (b.is.0 (view input) i) (λ z. b.is.1 z ∙ asked.failures z) in
+          let a = stateless_asks here read ⊥ ⊥ (Anything {R = R}) (any_error {Error = E}) (run new later) is_open asked.meant (λ z. absurd z) (b.is.0 (view input) i) (λ z. b.is.1 z ∙ asked.failures z) in
           record { is = rw q.0 (subst (asks_or_refuses here m (run new later)) (sym is_open) a) }
 
       stuck : (k : Kind) → ResetTo counts_failures step marked (view mid) new (failures mid) later (Err k) → (f : E) → s.kind f ≡ k → Answers here m (run new later) (CommitErr f)
