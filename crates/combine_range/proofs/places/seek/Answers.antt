@@ -15,7 +15,7 @@ pub loop-found-preserved : goal.loop-found-preserved
 loop-found-preserved g c =
     let t = rw c.in-Ok-Some.field-0-is at c.in-Ok-Some.ensures.tells in
     record {
-      passes = passes_more _ _ _ _ _ _ (passes_more _ _ _ _ _ _ c.loop-found.invariant.passes c.begins_with.ensures.passes) c.uncons.ensures.passes;
+      passes = passes_more (passes_more c.loop-found.invariant.passes c.begins_with.ensures.passes) c.uncons.ensures.passes;
       sought = sought_range_more _ _ _ _ _ _ _ _ _ _ _ c.loop-found.invariant.sought (rw c.if-found.false at t) _ _ _ c.in-Ok.ensures.read;
     }
 

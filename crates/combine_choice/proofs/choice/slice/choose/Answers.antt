@@ -89,7 +89,7 @@ returns-in-Err g c =
       lawful = c.loop-at.invariant.lawful;
       valid = rw c.loop-at.invariant.state tt;
       same = c.loop-at.invariant.same;
-      passes = passes_more _ _ _ _ _ _ c.loop-at.invariant.passes c.in-Err.ensures.passes;
+      passes = passes_more c.loop-at.invariant.passes c.in-Err.ensures.passes;
       answers = refusing_unreset g.Input.StreamOnce.step g.Input.Error.ParseError.observers g.Input.Position.Ord.cmp g.Input.StreamOnce.counts_failures g.P.PartialState.Default.is_default g.P.Parser.meaning _ _ _ _ _ _ _ _ _ _ _ _ c.loop-at.invariant.refusing _ c.in-Err.ensures.to.is c.loop-at.invariant.state _ c.new_error.ensures.kind;
       refuses = reasons_fault _ _ _ _ kinds.Reset (c.new_error.ensures.kind ∙ c.in-Err.ensures.to.is.0) tt;
     }
@@ -108,7 +108,7 @@ returns-in-CommitOk-after_refusal g c =
       lawful = All-set g.P.Parser.lawful _ _ _ c.take_turn-answer.ensures.lawful c.loop-at.invariant.lawful;
       valid = c.take_turn-answer.ensures.valid;
       same = same_set g.P.Parser.meaning _ _ _ c.index-alternatives-at.result _ c.loop-at.invariant.same within c.take_turn-answer.ensures.same;
-      passes = passes_more _ _ _ _ _ _ (passes_more _ _ _ _ _ _ c.loop-at.invariant.passes c.in-Ok.ensures.passes) c.take_turn-answer.ensures.passes;
+      passes = passes_more (passes_more c.loop-at.invariant.passes c.in-Ok.ensures.passes) c.take_turn-answer.ensures.passes;
       answers = later_settles g.Input.StreamOnce.step g.Input.Error.ParseError.observers g.Input.Position.Ord.cmp g.Input.StreamOnce.counts_failures g.P.PartialState.Default.is_default g.P.Parser.meaning _ _ _ _ _ _ _ _ here _ _ _ _ _ _ _ z _ _ _ tt c.take_turn-answer.ensures.turn c.in-CommitOk-after_refusal.ensures;
       refuses = next_reasons _ _ g.P.Parser.meaning _ _ _ _ _ here _ _ c.loop-at.invariant.goes _ _ (rw back at d) _ tt c.in-CommitOk-after_refusal.ensures;
     }
@@ -127,7 +127,7 @@ returns-in-PeekOk-after_refusal g c =
       lawful = All-set g.P.Parser.lawful _ _ _ c.take_turn-answer.ensures.lawful c.loop-at.invariant.lawful;
       valid = c.take_turn-answer.ensures.valid;
       same = same_set g.P.Parser.meaning _ _ _ c.index-alternatives-at.result _ c.loop-at.invariant.same within c.take_turn-answer.ensures.same;
-      passes = passes_more _ _ _ _ _ _ (passes_more _ _ _ _ _ _ c.loop-at.invariant.passes c.in-Ok.ensures.passes) c.take_turn-answer.ensures.passes;
+      passes = passes_more (passes_more c.loop-at.invariant.passes c.in-Ok.ensures.passes) c.take_turn-answer.ensures.passes;
       answers = later_settles g.Input.StreamOnce.step g.Input.Error.ParseError.observers g.Input.Position.Ord.cmp g.Input.StreamOnce.counts_failures g.P.PartialState.Default.is_default g.P.Parser.meaning _ _ _ _ _ _ _ _ here _ _ _ _ _ _ _ z _ _ _ tt c.take_turn-answer.ensures.turn c.in-PeekOk-after_refusal.ensures;
       refuses = next_reasons _ _ g.P.Parser.meaning _ _ _ _ _ here _ _ c.loop-at.invariant.goes _ _ (rw back at d) _ tt c.in-PeekOk-after_refusal.ensures;
     }
@@ -146,7 +146,7 @@ returns-in-CommitErr-after_refusal g c =
       lawful = All-set g.P.Parser.lawful _ _ _ c.take_turn-answer.ensures.lawful c.loop-at.invariant.lawful;
       valid = c.take_turn-answer.ensures.valid;
       same = same_set g.P.Parser.meaning _ _ _ c.index-alternatives-at.result _ c.loop-at.invariant.same within c.take_turn-answer.ensures.same;
-      passes = passes_more _ _ _ _ _ _ (passes_more _ _ _ _ _ _ c.loop-at.invariant.passes c.in-Ok.ensures.passes) c.take_turn-answer.ensures.passes;
+      passes = passes_more (passes_more c.loop-at.invariant.passes c.in-Ok.ensures.passes) c.take_turn-answer.ensures.passes;
       answers = later_settles g.Input.StreamOnce.step g.Input.Error.ParseError.observers g.Input.Position.Ord.cmp g.Input.StreamOnce.counts_failures g.P.PartialState.Default.is_default g.P.Parser.meaning _ _ _ _ _ _ _ _ here _ _ _ _ _ _ _ z _ _ _ tt c.take_turn-answer.ensures.turn c.in-CommitErr-after_refusal.ensures;
       refuses = next_reasons _ _ g.P.Parser.meaning _ _ _ _ _ here _ _ c.loop-at.invariant.goes _ _ (rw back at d) _ tt c.in-CommitErr-after_refusal.ensures;
     }
@@ -167,7 +167,7 @@ loop-at-preserved g c =
       same = same_set g.P.Parser.meaning _ _ _ c.index-alternatives-at.result _ c.loop-at.invariant.same within c.take_turn-answer.ensures.same;
       untried = λ k l. drop-set-lt k c.loop-at.alternatives c.loop-at.at _ (omega arith) ∙ c.loop-at.invariant.untried k (omega arith);
       state = q.1;
-      passes = passes_more _ _ _ _ _ _ (passes_more _ _ _ _ _ _ c.loop-at.invariant.passes c.in-Ok.ensures.passes) c.take_turn-answer.ensures.passes;
+      passes = passes_more (passes_more c.loop-at.invariant.passes c.in-Ok.ensures.passes) c.take_turn-answer.ensures.passes;
       goes = makes_up_next _ _ g.P.Parser.meaning _ _ _ _ _ here _ _ c.loop-at.invariant.goes _ _ (rw back at d) _ c.in-PeekErr-after_refusal.ensures;
       refusing = q.0;
     }

@@ -31,7 +31,7 @@ returns-in-Err-pass_list_items-clause-answers g c =
     match_accepted _ _ _ _ _ _ _ _ _ _ _ _ a c.begin-matched.ensures.left _ (omega (arith, z.0)) (list_ends_early _ _ _ _ _ _ _ c.in-Ok.ensures.cases c.into_iter-items.ensures.into_iter_gives z.1) refl refl _ (λ l. l.1) _ refl _ c.accepted.ensures
 
 pub returns-then-matched-gt0-clause-passes : goal.returns-then-matched-gt0-clause-passes
-returns-then-matched-gt0-clause-passes g c = passes_more _ _ _ _ _ _ c.items.invariant.passes c.uncons.ensures.passes
+returns-then-matched-gt0-clause-passes g c = passes_more c.items.invariant.passes c.uncons.ensures.passes
 
 pub returns-then-matched-gt0-clause-answers : goal.returns-then-matched-gt0-clause-answers
 returns-then-matched-gt0-clause-answers g c =
@@ -41,7 +41,7 @@ returns-then-matched-gt0-clause-answers g c =
     match_refused _ _ _ _ _ _ _ _ _ _ _ _ i.arrived i.cleared (_, there) _ _ _ (_, there, n) c.in-Ok-uncons.ensures.read.is _ (sym (lt-ltb 0 _ c.if-matched-gt0.true)) (mismatch_told _ _ _ _ _ c.mismatch-error.ensures) refl refl
 
 pub returns-then-not-cmp-clause-passes : goal.returns-then-not-cmp-clause-passes
-returns-then-not-cmp-clause-passes g c = passes_more _ _ _ _ _ _ c.items.invariant.passes (passes_more _ _ _ _ _ _ c.uncons.ensures.passes c.put_back.ensures.passes)
+returns-then-not-cmp-clause-passes g c = passes_more c.items.invariant.passes (passes_more c.uncons.ensures.passes c.put_back.ensures.passes)
 
 pub returns-then-not-cmp-clause-answers : goal.returns-then-not-cmp-clause-answers
 returns-then-not-cmp-clause-answers g c =
@@ -67,7 +67,7 @@ returns-then-ends_open-clause-answers g c =
     match_asks _ _ _ _ _ _ _ _ _ _ _ _ i.arrived (_, there) refl (rw k.0 at c.in-Err-uncons.ensures.read.is) k.1 _ (c.new_error-then-ends_open.ensures.kind ∙ k.0)
 
 pub returns-in-Err-uncons-clause-passes : goal.returns-in-Err-uncons-clause-passes
-returns-in-Err-uncons-clause-passes g c = passes_more _ _ _ _ _ _ c.items.invariant.passes c.uncons.ensures.passes
+returns-in-Err-uncons-clause-passes g c = passes_more c.items.invariant.passes c.uncons.ensures.passes
 
 pub returns-in-Err-uncons-clause-answers : goal.returns-in-Err-uncons-clause-answers
 returns-in-Err-uncons-clause-answers g c =
@@ -82,7 +82,7 @@ items-preserved g c =
     let s = c.in-Some.ensures.steps in
     let there = stands_there _ _ _ _ _ _ _ _ i.reached s in
     record {
-      passes = passes_more _ _ _ _ _ _ i.passes c.uncons.ensures.passes;
+      passes = passes_more i.passes c.uncons.ensures.passes;
       cleared = i.cleared;
       reached = reached_more _ _ _ _ _ _ _ _ i.reached s;
       few = let o = c.in-Some.ensures.goes.on c.items.iterator.1 in let f = i.few in omega (arith, o.2);
