@@ -46,7 +46,7 @@ returns-in-CommitErr g c =
     let here = drop_at _ _ c.index-alternatives-index.result c.requires.within in
     let h = g.met.P.Parser.laws _ (c.requires.lawful _ c.index-alternatives-index.result c.requires.within) in
     let z = alternative_begins (world g.Input.StreamOnce.step g.Input.Error.ParseError.observers g.Input.StreamOnce.counts_failures g.P.PartialState.Default.is_default) g.Input.Error.ParseError.observers g.Input.Position.Ord.cmp _ g.P.Parser.meaning _ _ _ _ here h _ _ c.requires.fresh _ _ in
-    let d = turn_meant (world g.Input.StreamOnce.step g.Input.Error.ParseError.observers g.Input.StreamOnce.counts_failures g.P.PartialState.Default.is_default) _ _ _ _ _ _ _ _ _ _ _ c.in-CommitErr.ensures.turn c.in-CommitErr.ensures.refuses in
+    let d = turn_meant c.in-CommitErr.ensures.turn c.in-CommitErr.ensures.refuses in
     record {
       lawful = All-set g.P.Parser.lawful _ _ _ c.in-CommitErr.ensures.lawful c.requires.lawful;
       valid = c.in-CommitErr.ensures.valid;
@@ -63,7 +63,7 @@ loop-at-init g c =
     let w = world g.Input.StreamOnce.step g.Input.Error.ParseError.observers g.Input.StreamOnce.counts_failures g.P.PartialState.Default.is_default in
     let t = c.in-PeekErr.ensures.turn in
     let z = alternative_begins w g.Input.Error.ParseError.observers g.Input.Position.Ord.cmp _ g.P.Parser.meaning _ _ _ _ here h _ _ c.requires.fresh _ _ in
-    let d = turn_meant w _ _ _ _ _ _ _ _ _ _ _ t c.in-PeekErr.ensures.refuses in
+    let d = turn_meant t c.in-PeekErr.ensures.refuses in
     record {
       lawful = All-set g.P.Parser.lawful _ _ _ c.in-PeekErr.ensures.lawful c.requires.lawful;
       same = same_set g.P.Parser.meaning _ _ _ c.index-alternatives-index.result _ (same_self g.P.Parser.meaning _) c.requires.within c.in-PeekErr.ensures.same;
@@ -81,7 +81,7 @@ pub after_refusal-requires-clause-first : goal.after_refusal-requires-clause-fir
 after_refusal-requires-clause-first g c = peeked_no_fault _ _ c.loop-at.invariant.refusing.peeked
 
 pub after_refusal-requires-clause-later : goal.after_refusal-requires-clause-later
-after_refusal-requires-clause-later g c = turn_no_fault (world g.Input.StreamOnce.step g.Input.Error.ParseError.observers g.Input.StreamOnce.counts_failures g.P.PartialState.Default.is_default) _ _ _ _ _ _ _ _ _ _ _ c.take_turn-answer.ensures.turn
+after_refusal-requires-clause-later g c = turn_no_fault _ c.take_turn-answer.ensures.turn
 
 pub returns-in-Err : goal.returns-in-Err
 returns-in-Err g c =
@@ -103,7 +103,7 @@ returns-in-CommitOk-after_refusal g c =
     let n = c.in-Ok.ensures.to.is in
     let back = n.0 _ (g.met.Input.ResetStream.lasts _ _ _ _ c.loop-at.invariant.passes.marks c.checkpoint-start.ensures.stands) in
     let z = refusing_here w g.Input.Error.ParseError.observers g.Input.Position.Ord.cmp g.P.Parser.meaning _ _ _ _ _ _ _ _ here _ _ _ c.loop-at.invariant.refusing _ h _ _ c.default-fresh.ensures _ _ back n.1 c.in-Ok.ensures.passes in
-    let d = turn_meant (world g.Input.StreamOnce.step g.Input.Error.ParseError.observers g.Input.StreamOnce.counts_failures g.P.PartialState.Default.is_default) _ _ _ _ _ _ _ _ _ _ _ c.take_turn-answer.ensures.turn c.take_turn-answer.ensures.refuses in
+    let d = turn_meant c.take_turn-answer.ensures.turn c.take_turn-answer.ensures.refuses in
     record {
       lawful = All-set g.P.Parser.lawful _ _ _ c.take_turn-answer.ensures.lawful c.loop-at.invariant.lawful;
       valid = c.take_turn-answer.ensures.valid;
@@ -122,7 +122,7 @@ returns-in-PeekOk-after_refusal g c =
     let n = c.in-Ok.ensures.to.is in
     let back = n.0 _ (g.met.Input.ResetStream.lasts _ _ _ _ c.loop-at.invariant.passes.marks c.checkpoint-start.ensures.stands) in
     let z = refusing_here w g.Input.Error.ParseError.observers g.Input.Position.Ord.cmp g.P.Parser.meaning _ _ _ _ _ _ _ _ here _ _ _ c.loop-at.invariant.refusing _ h _ _ c.default-fresh.ensures _ _ back n.1 c.in-Ok.ensures.passes in
-    let d = turn_meant (world g.Input.StreamOnce.step g.Input.Error.ParseError.observers g.Input.StreamOnce.counts_failures g.P.PartialState.Default.is_default) _ _ _ _ _ _ _ _ _ _ _ c.take_turn-answer.ensures.turn c.take_turn-answer.ensures.refuses in
+    let d = turn_meant c.take_turn-answer.ensures.turn c.take_turn-answer.ensures.refuses in
     record {
       lawful = All-set g.P.Parser.lawful _ _ _ c.take_turn-answer.ensures.lawful c.loop-at.invariant.lawful;
       valid = c.take_turn-answer.ensures.valid;
@@ -141,7 +141,7 @@ returns-in-CommitErr-after_refusal g c =
     let n = c.in-Ok.ensures.to.is in
     let back = n.0 _ (g.met.Input.ResetStream.lasts _ _ _ _ c.loop-at.invariant.passes.marks c.checkpoint-start.ensures.stands) in
     let z = refusing_here w g.Input.Error.ParseError.observers g.Input.Position.Ord.cmp g.P.Parser.meaning _ _ _ _ _ _ _ _ here _ _ _ c.loop-at.invariant.refusing _ h _ _ c.default-fresh.ensures _ _ back n.1 c.in-Ok.ensures.passes in
-    let d = turn_meant (world g.Input.StreamOnce.step g.Input.Error.ParseError.observers g.Input.StreamOnce.counts_failures g.P.PartialState.Default.is_default) _ _ _ _ _ _ _ _ _ _ _ c.take_turn-answer.ensures.turn c.take_turn-answer.ensures.refuses in
+    let d = turn_meant c.take_turn-answer.ensures.turn c.take_turn-answer.ensures.refuses in
     record {
       lawful = All-set g.P.Parser.lawful _ _ _ c.take_turn-answer.ensures.lawful c.loop-at.invariant.lawful;
       valid = c.take_turn-answer.ensures.valid;
@@ -161,7 +161,7 @@ loop-at-preserved g c =
     let back = n.0 _ (g.met.Input.ResetStream.lasts _ _ _ _ c.loop-at.invariant.passes.marks c.checkpoint-start.ensures.stands) in
     let z = refusing_here w g.Input.Error.ParseError.observers g.Input.Position.Ord.cmp g.P.Parser.meaning _ _ _ _ _ _ _ _ here _ _ _ c.loop-at.invariant.refusing _ h _ _ c.default-fresh.ensures _ _ back n.1 c.in-Ok.ensures.passes in
     let q = later_refuses g.Input.StreamOnce.step g.Input.Error.ParseError.observers g.Input.Position.Ord.cmp g.Input.StreamOnce.counts_failures g.P.PartialState.Default.is_default g.P.Parser.meaning _ _ _ _ _ _ _ _ here _ _ _ _ _ _ _ z (begun_reads _ _ _ h true _ (g.met.P.Parser.default_valid _ c.default-fresh.ensures)) _ _ _ c.take_turn-answer.ensures.turn c.in-PeekErr-after_refusal.ensures c.loop-at.invariant.refusing.peeked c.take_turn-answer.ensures.passes (every_drop g.P.Parser.meaning (λ a. a.keeps) _ _) (every_drop g.P.Parser.meaning (λ a. a.puts_back) _ _) (every_drop g.P.Parser.meaning (λ a. a.heapless) _ _) in
-    let d = turn_meant w _ _ _ _ _ _ _ _ _ _ _ c.take_turn-answer.ensures.turn c.take_turn-answer.ensures.refuses in
+    let d = turn_meant c.take_turn-answer.ensures.turn c.take_turn-answer.ensures.refuses in
     record {
       lawful = All-set g.P.Parser.lawful _ _ _ c.take_turn-answer.ensures.lawful c.loop-at.invariant.lawful;
       same = same_set g.P.Parser.meaning _ _ _ c.index-alternatives-at.result _ c.loop-at.invariant.same within c.take_turn-answer.ensures.same;
