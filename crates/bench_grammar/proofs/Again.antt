@@ -69,14 +69,14 @@ module _ {P T R E A S : Type 0} (step : P → T → P) (s : Observers T R P E) (
     fails_once e a = by_need (need_or_not (s.kind e) new.is_open)
       where
         by_need : ((s.kind e ≡ kinds.End) × (new.is_open ≡ true)) ⊎ ((s.kind e ≡ kinds.End) × (new.is_open ≡ true) → ⊥) → (left : Bool) × Answers w1 whole (afresh w1 whole false left old new before after) (CommitErr e)
-        by_need (inl i) = (true, inside_asks _ _ _ _ _ _ _ _ _ _ _ _ (inside true) keeping e i a)
-        by_need (inr i) = (false, inside_fails _ _ _ _ _ _ _ _ _ _ _ _ (inside false) (λ k. refl) e i a)
+        by_need (inl i) = (true, inside_asks (inside true) keeping e i a)
+        by_need (inr i) = (false, inside_fails (inside false) (λ k. refl) e i a)
 
   pub run_once : (from to : S) (y : ParseResult A E) → Answers w m (part from to) y → Starts w1 whole old new before after y
-  run_once from to (CommitOk v) a = record { state = false; left = false; answers = inside_commits _ _ _ _ _ _ _ _ _ _ _ _ (inside from to false) (λ k. refl) (λ v. v) (λ v n k x. x) v a }
-  run_once from to (PeekOk v) a = record { state = false; left = false; answers = inside_peeks _ _ _ _ _ _ _ _ _ _ _ _ (inside from to false) (λ k. refl) (λ v. v) (λ v n k x. x) v a }
+  run_once from to (CommitOk v) a = record { state = false; left = false; answers = inside_commits (inside from to false) (λ k. refl) (λ v. v) (λ v n k x. x) v a }
+  run_once from to (PeekOk v) a = record { state = false; left = false; answers = inside_peeks (inside from to false) (λ k. refl) (λ v. v) (λ v n k x. x) v a }
   run_once from to (CommitErr e) a = let x = fails_once from to e a in record { state = false; left = x.0; answers = x.1 }
-  run_once from to (PeekErr t) a = record { state = false; left = false; answers = inside_refuses _ _ _ _ _ _ _ _ _ _ _ _ (inside from to false) (λ k. refl) t a }
+  run_once from to (PeekErr t) a = record { state = false; left = false; answers = inside_refuses (inside from to false) (λ k. refl) t a }
 
 module _ {I P T R E C S V : Type 0} (step : P → T → P) (s : Observers T R P E) (counts_failures : Type 0) (view : I → View P T) (marks : I → C → View P T → Type 0) (failures : I → Failures) (fresh : S → Type 0) (read : Reading P T V) (first : Bool) (state left : S) (d : fresh left) (input mid : I) where
   abbrev here : World P T S E
@@ -109,10 +109,10 @@ module _ {I P T R E C S V : Type 0} (step : P → T → P) (s : Observers T R P 
 
   -- no need of more
   pub again : (y : ParseResult V E) → (NeedsMore s.kind (view mid).is_open y → ⊥) → Runs y → Answers here m (run (view mid) (failures mid)) y
-  again (CommitOk v) n x = inside_commits _ _ _ _ _ _ _ _ _ _ _ _ (as_run x.answers.state x.answers.left) (λ k. d) (λ a. a) (λ a n k y. y) v x.answers.answers
-  again (PeekOk v) n x = inside_peeks _ _ _ _ _ _ _ _ _ _ _ _ (as_run x.answers.state x.answers.left) (λ k. d) (λ a. a) (λ a n k y. y) v x.answers.answers
-  again (CommitErr e) n x = inside_fails _ _ _ _ _ _ _ _ _ _ _ _ (as_run x.answers.state x.answers.left) (λ k. d) e n x.answers.answers
-  again (PeekErr t) n x = inside_refuses _ _ _ _ _ _ _ _ _ _ _ _ (as_run x.answers.state x.answers.left) (λ k. d) t x.answers.answers
+  again (CommitOk v) n x = inside_commits (as_run x.answers.state x.answers.left) (λ k. d) (λ a. a) (λ a n k y. y) v x.answers.answers
+  again (PeekOk v) n x = inside_peeks (as_run x.answers.state x.answers.left) (λ k. d) (λ a. a) (λ a n k y. y) v x.answers.answers
+  again (CommitErr e) n x = inside_fails (as_run x.answers.state x.answers.left) (λ k. d) e n x.answers.answers
+  again (PeekErr t) n x = inside_refuses (as_run x.answers.state x.answers.left) (λ k. d) t x.answers.answers
 
   module _ (marked : View P T → Type 0) (i : marked (view input)) (new : View P T) (later : Failures) where
     module _ (e : E) (q : (s.kind e ≡ kinds.End) × ((view mid).is_open ≡ true)) (x : Runs (CommitErr e)) where

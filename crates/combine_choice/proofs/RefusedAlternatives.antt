@@ -143,16 +143,17 @@ alternative_begins {X} {P} {T} {R} {E} {V} {S} w errors cmp valid m xs i x ys he
     at_here : (g : Meaning P T R E V S → Type 0) → every m g xs → every m g (x ∷ ys)
     at_here g k = subst (λ zs. every m g zs) here (every_drop m g i xs k)
 
--- what an alternative peeks is no fault
-pub alternative_no_fault : {P T R E V S S' : Type 0} (w : World P T S E) (m : Meaning P T R E V S) (peek : S') (at : S → S') (first : Bool) (given : S) (kept : S') (old new : View P T) (before after : Failures) (answer : ParseResult V E) → CallsAlternative w m peek at first given kept old new before after answer → PeeksNoFault w.kind answer
-alternative_no_fault w m peek at first given kept old new before after (CommitOk v) t = tt
-alternative_no_fault w m peek at first given kept old new before after (PeekOk v) t = tt
-alternative_no_fault w m peek at first given kept old new before after (CommitErr e) t = tt
-alternative_no_fault w m peek at first given kept old new before after (PeekErr e) t = no_fault w m (record { first = first; state = given; left = t.left; old = old; new = new; before = before; after = after }) e t.answers
+module _ {P T R E V S S' : Type 0} {w : World P T S E} {m : Meaning P T R E V S} {peek : S'} {at : S → S'} {first : Bool} {given : S} {kept : S'} {old new : View P T} {before after : Failures} where
+  -- what an alternative peeks is no fault
+  pub alternative_no_fault : (answer : ParseResult V E) → CallsAlternative w m peek at first given kept old new before after answer → PeeksNoFault w.kind answer
+  alternative_no_fault (CommitOk v) t = tt
+  alternative_no_fault (PeekOk v) t = tt
+  alternative_no_fault (CommitErr e) t = tt
+  alternative_no_fault (PeekErr e) t = no_fault w m (record { first = first; state = given; left = t.left; old = old; new = new; before = before; after = after }) e t.answers
 
--- a call of an alternative refuses with what it means to refuse with
-pub alternative_meant : {P T R E V S S' : Type 0} (w : World P T S E) (m : Meaning P T R E V S) (peek : S') (at : S → S') (first : Bool) (given : S) (kept : S') (old new : View P T) (before after : Failures) (answer : ParseResult V E) → CallsAlternative w m peek at first given kept old new before after answer → Reasoned w.kind new.is_open (begun_refuses m first given old new) answer → Reasoned w.kind new.is_open (MeantRefusal (begun m first given) (begun_refuses m first given) old new) answer
-alternative_meant w m peek at first given kept old new before after answer t r = reasoned_meant t.answers r
+  -- a call of an alternative refuses with what it means to refuse with
+  pub alternative_meant : {answer : ParseResult V E} → CallsAlternative w m peek at first given kept old new before after answer → Reasoned w.kind new.is_open (begun_refuses m first given old new) answer → Reasoned w.kind new.is_open (MeantRefusal (begun m first given) (begun_refuses m first given) old new) answer
+  alternative_meant t r = reasoned_meant t.answers r
 
 -- an answer that isn't a peeked refusal
 abbrev pub IsSettled : {V E : Type 0} → ParseResult V E → Type 0

@@ -52,18 +52,18 @@ module _ {I P T R E C S V : Type 0} (step : P → T → P) (s : Observers T R P 
   Runs = RunsOnce step s counts_failures view marks failures read input mid
 
   pub again_ok : (v : V) → Runs (CommitOk v) → Answers w m (run (view mid) (failures mid)) (CommitOk v)
-  again_ok v x = inside_commits _ _ _ _ _ _ _ _ _ _ _ _ (inside x.answers.state x.answers.left) (λ k. d) (λ a. a) (λ a n k y. y) v x.answers.answers
+  again_ok v x = inside_commits (inside x.answers.state x.answers.left) (λ k. d) (λ a. a) (λ a n k y. y) v x.answers.answers
 
   pub again_peek_ok : (v : V) → Runs (PeekOk v) → Answers w m (run (view mid) (failures mid)) (PeekOk v)
-  again_peek_ok v x = inside_peeks _ _ _ _ _ _ _ _ _ _ _ _ (inside x.answers.state x.answers.left) (λ k. d) (λ a. a) (λ a n k y. y) v x.answers.answers
+  again_peek_ok v x = inside_peeks (inside x.answers.state x.answers.left) (λ k. d) (λ a. a) (λ a n k y. y) v x.answers.answers
 
   pub again_peek_err : (t : Tracked E) → Runs (PeekErr t) → Answers w m (run (view mid) (failures mid)) (PeekErr t)
-  again_peek_err t x = inside_refuses _ _ _ _ _ _ _ _ _ _ _ _ (inside x.answers.state x.answers.left) (λ k. d) t x.answers.answers
+  again_peek_err t x = inside_refuses (inside x.answers.state x.answers.left) (λ k. d) t x.answers.answers
 
   module _ (e : E) (x : Runs (CommitErr e)) where
     -- no need of more
     pub again_err : ((s.kind e ≡ kinds.End) × ((view mid).is_open ≡ true) → ⊥) → Answers w m (run (view mid) (failures mid)) (CommitErr e)
-    again_err n = inside_fails _ _ _ _ _ _ _ _ _ _ _ _ (inside x.answers.state x.answers.left) (λ k. d) e n x.answers.answers
+    again_err n = inside_fails (inside x.answers.state x.answers.left) (λ k. d) e n x.answers.answers
 
     module _ (q : (s.kind e ≡ kinds.End) × ((view mid).is_open ≡ true)) where
       is_open : (view input).is_open ≡ true

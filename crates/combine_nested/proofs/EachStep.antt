@@ -289,10 +289,10 @@ module _ {F I V N Input U Checkpoint T R P E : Type 0} (p : parser.Ghosts N Inpu
         by_answer (CommitOk b) a d (inr k) = stopped_so g.stopped b true a.is d.took d.is k.1 y d.did
         by_answer (PeekOk b) a d (inl k) = absurd k.0
         by_answer (PeekOk b) a d (inr k) = stopped_so g.stopped b false a.is d.took d.is k.1 y d.did
-        by_answer (CommitErr e) a d (inl k) = subst (λ x. Answers whole_world all whole_run x) (stops_as d) (inside_asks _ _ _ _ _ _ _ _ _ _ _ _ (inside g.stopped) (keeping g.parser g.same g.stopped k.1) e k.0 a)
-        by_answer (CommitErr e) a d (inr k) = subst (λ x. Answers whole_world all whole_run x) (stops_as d) (inside_fails _ _ _ _ _ _ _ _ _ _ _ _ (inside g.stopped) (λ x. k.1) e k.0 a)
+        by_answer (CommitErr e) a d (inl k) = subst (λ x. Answers whole_world all whole_run x) (stops_as d) (inside_asks (inside g.stopped) (keeping g.parser g.same g.stopped k.1) e k.0 a)
+        by_answer (CommitErr e) a d (inr k) = subst (λ x. Answers whole_world all whole_run x) (stops_as d) (inside_fails (inside g.stopped) (λ x. k.1) e k.0 a)
         by_answer (PeekErr t) a d (inl k) = absurd k.0
-        by_answer (PeekErr t) a d (inr k) = subst (λ x. Answers whole_world all whole_run x) (stops_as d) (inside_refuses _ _ _ _ _ _ _ _ _ _ _ _ (inside g.stopped) (λ x. k.1) t a)
+        by_answer (PeekErr t) a d (inr k) = subst (λ x. Answers whole_world all whole_run x) (stops_as d) (inside_refuses (inside g.stopped) (λ x. k.1) t a)
 
     -- and the error of a refusal is one that the call may have
     pub step_reasons : (y : ParseResult V E) → CalledStep p i observers fresh depth takes joins input left l state (dids.Stops y) → Reasoned observers.kind (i.view left).is_open (refused_from z old (i.view left)) y

@@ -18,8 +18,9 @@ module _ {T R P E : Type 0} (s : Observers T R P E) where
   pub says_unstored : (heapless : Type 0) (f : List (ErrorItem T R) → Type 0) (e e' : E) → s.kind e' ≡ kinds.Memory → s.position e' ≡ s.position e → (heapless → ⊥) → AddsItems s heapless f e e'
   says_unstored heapless f e e' k p n = record { is = inr (record { kind = k; position = p; memory = λ h l. n l }) }
 
-  pub says_together : (heapless heapless' : Type 0) (f g : List (ErrorItem T R) → Type 0) (e e' e'' : E) → AddsItems s heapless f e e' → AddsItems s heapless' g e' e'' → AddsItems s (heapless × heapless') (Together f g) e e''
-  says_together heapless heapless' f g e e' e'' a b = record { is = both a.is b.is }
+module _ {T R P E : Type 0} {s : Observers T R P E} {heapless heapless' : Type 0} {f g : List (ErrorItem T R) → Type 0} {e e' e'' : E} where
+  pub says_together : AddsItems s heapless f e e' → AddsItems s heapless' g e' e'' → AddsItems s (heapless × heapless') (Together f g) e e''
+  says_together a b = record { is = both a.is b.is }
     where
       both : ((is : List (ErrorItem T R)) × f is × Added s is e e') ⊎ Unstored s heapless e e' → ((is : List (ErrorItem T R)) × g is × Added s is e' e'') ⊎ Unstored s heapless' e' e'' → ((is : List (ErrorItem T R)) × Together f g is × Added s is e e'') ⊎ Unstored s (heapless × heapless') e e''
       both (inl k) (inl l) = inl (

@@ -37,7 +37,7 @@ turns-preserved g c =
       lawful = c.in-Goes.ensures.lawful;
       valid = c.in-Goes.ensures.valid;
       same = same_more _ _ _ i.same c.in-Goes.ensures.same;
-      passes = passes_more _ _ _ _ _ _ i.passes q;
+      passes = passes_more i.passes q;
       cleared = i.cleared;
       there = (_, c.checkpoint-place.ensures.stands, reaches_afresh _ g.Input.Error.ParseError.observers _ _ g.N.PartialState.Default.is_default g.N.Parser.valid h _ _ _ _ _ _ _ _ _ _ t.is.accepts.state z);
       errors = until_leads_on _ _ _ _ h _ _ _ _ _ _ _ i.errors t.is.value t.is.accepts.count t.is.committed t.is.accepts.meant t.is.takes _ t.is.accepts.state _ t.is.accepts.taken.rest _ (ap (λ s. s.mark) t.is.blocks);
@@ -50,7 +50,7 @@ pub returns-in-Stops-clause-same : goal.returns-in-Stops-clause-same
 returns-in-Stops-clause-same g c = same_more _ _ _ c.turns.invariant.same c.in-Stops.ensures.same
 
 pub returns-in-Stops-clause-passes : goal.returns-in-Stops-clause-passes
-returns-in-Stops-clause-passes g c = passes_more _ _ _ _ _ _ c.turns.invariant.passes (passes_more _ _ _ _ _ _ c.in-Stops.ensures.passes c.settle_blocks.ensures.passes)
+returns-in-Stops-clause-passes g c = passes_more c.turns.invariant.passes (passes_more c.in-Stops.ensures.passes c.settle_blocks.ensures.passes)
 
 pub returns-in-Stops-clause-answers : goal.returns-in-Stops-clause-answers
 returns-in-Stops-clause-answers g c =

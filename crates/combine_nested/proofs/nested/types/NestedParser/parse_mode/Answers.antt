@@ -58,7 +58,7 @@ steps-preserved g c =
     let part = g.met.N.Parser.laws _ kept.is_lawful in
     let runs = runs_next_step p i observers fresh depth roots answers g.F.Frame.takes g.F.Frame.joins some _ _ _ _ _ _ _ loops.reaches _ met kept _ c.default.ensures part in
     let leads = step_leads p i observers fresh depth roots answers g.F.Frame.takes g.F.Frame.joins some inv.passes.reads inv.passes.resets laws part (g.met.N.Parser.default_valid _ c.default.ensures) loops.from runs (rw inv.self at c.run_step-next-in-steps.ensures) in
-    record { self = inv.self; passes = passes_more _ _ _ _ _ _ inv.passes c.run_step-next-in-steps.ensures.passes; leads = leads }
+    record { self = inv.self; passes = passes_more inv.passes c.run_step-next-in-steps.ensures.passes; leads = leads }
 
 pub run_step-next-requires-in-steps-clause-ready : goal.run_step-next-requires-in-steps-clause-ready
 run_step-next-requires-in-steps-clause-ready g c =
