@@ -7,9 +7,9 @@ use Rattle.combine_base.specs.Parser.Meaning.{Reading}
 use Rattle.combine_repeat_turns.specs.Turns.Bounds.{accepted_at, bounded, counted_to, full_at, is_enough, is_block_at, judged, turn_after, refused_at}
 use Rattle.combine_repeat_turns.specs.Repeat.Repeated.{no_value_ends}
 use Rattle.combine_repeat_turns.specs.Turns.Blocks.{StopsTurns, StopsHere}
-use Rattle.combine_repeat_turns.specs.declared.turns.Bounds.{Bounds}
-use Rattle.combine_repeat_turns.specs.declared.turns.Bounds.TheVariants.{Unbounded, OwnFirst, Counted}
-use Rattle.combine_repeat_turns.specs.declared.turns.TurnIndex.{TurnIndex}
+use Rattle.combine_repeat_turns.specs.declared.bounds.Bounds.{Bounds}
+use Rattle.combine_repeat_turns.specs.declared.bounds.Bounds.TheVariants.{Unbounded, OwnFirst, Counted}
+use Rattle.combine_repeat_turns.specs.declared.bounds.TurnIndex.{TurnIndex}
 use Rattle.combine_facts.specs.TurnReads.{so_many}
 
 -- what a test says that is turned round

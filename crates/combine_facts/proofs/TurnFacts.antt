@@ -12,8 +12,8 @@ use Rattle.combine_token.specs.Token.OneToken.{of_function, one_token, satisfied
 use Rattle.combine_repeat_turns.specs.Turns.Bounds.{bounded, count_bound, turn_after, none_yet}
 use Rattle.combine_repeat_turns.specs.Repeat.Repeated.{appended, dropped, no_value_ends}
 use Rattle.combine_repeat_turns.specs.Turns.Blocks.{Block, Collecting, DividesBlocks, FoldsAll, TurnsOutcome, any_committed, taken, values}
-use Rattle.combine_repeat_turns.specs.declared.turns.Bounds.{Bounds}
-use Rattle.combine_repeat_turns.specs.declared.turns.TurnIndex.{TurnIndex}
+use Rattle.combine_repeat_turns.specs.declared.bounds.Bounds.{Bounds}
+use Rattle.combine_repeat_turns.specs.declared.bounds.TurnIndex.{TurnIndex}
 use Rattle.combine_facts.specs.TurnReads.{all_where, each, first_and_each, gathers, listed, passed, so_many}
 use Rattle.combine_facts.specs.Reads.{Reads, one_where}
 use Rattle.combine_facts.proofs.CountFacts.{counts_up, fewest, next_fits, next_within, none_within, so_many_is, stops_with_enough, within_bounds}

@@ -12,7 +12,7 @@ use Rattle.combine_base.specs.declared.stream.Failures.{Failures}
 use Rattle.combine_base.specs.declared.error.Tracked.{Tracked}
 use Rattle.combine_base.specs.declared.error.ParseResult.TheVariants.{PeekErr}
 use Rattle.combine_repeat_turns.specs.Turns.Bounds.{is_block_at}
-use Rattle.combine_repeat_turns.specs.declared.turns.Bounds.TheVariants.{Unbounded}
+use Rattle.combine_repeat_turns.specs.declared.bounds.Bounds.TheVariants.{Unbounded}
 use Rattle.combine_repeat_iterate.specs.IteratorTurn.{JudgesIterTurn, HasIterTurnFailed, Unreset, iter_turn_place}
 
 module _ {P T R A S E : Type 0} {w : World P T S E} {m : Meaning P T R E A S} where

@@ -6,8 +6,8 @@ use Rattle.combine_base.specs.Parser.Answer.{CallRecord, World, Answers, Accepts
 use Rattle.combine_base.specs.Refusals.{IsRefusalOrMemory}
 use Rattle.combine_base.specs.Stream.Calls.{Passes}
 use Rattle.combine_repeat_turns.specs.Turns.Bounds.{is_block_at}
-use Rattle.combine_repeat_turns.specs.declared.turns.Bounds.TheVariants.{Unbounded}
-use Rattle.combine_repeat_turns.specs.declared.turns.TurnIndex.{TurnIndex}
+use Rattle.combine_repeat_turns.specs.declared.bounds.Bounds.TheVariants.{Unbounded}
+use Rattle.combine_repeat_turns.specs.declared.bounds.TurnIndex.{TurnIndex}
 use Rattle.combine_base.specs.declared.parser.Parser as parser
 use Rattle.combine_base.specs.declared.stream.StreamOnce as stream
 use Rattle.combine_base.specs.declared.stream.Kind.TheVariants as kinds

@@ -8,8 +8,8 @@ use Rattle.combine_repeat_turns.specs.Turns.Bounds.{bounded, judged, none_yet}
 use Rattle.combine_repeat_turns.specs.Repeat.Repeated.{no_value_ends}
 use Rattle.combine_repeat_turns.proofs.TurnSteps.{collects_after}
 use Rattle.combine_repeat_turns.specs.Repeat.OneThenTurns.{one_then_turns, then_turns}
-use Rattle.combine_repeat_turns.specs.declared.turns.Bounds.TheVariants.{Unbounded, OwnFirst}
-use Rattle.combine_repeat_turns.specs.declared.turns.TurnIndex.{TurnIndex}
+use Rattle.combine_repeat_turns.specs.declared.bounds.Bounds.TheVariants.{Unbounded, OwnFirst}
+use Rattle.combine_repeat_turns.specs.declared.bounds.TurnIndex.{TurnIndex}
 
 -- the places of the first turn, and of one behind the first that is asked for
 abbrev at_first : TurnIndex

@@ -17,8 +17,8 @@ use Rattle.combine_repeat_turns.specs.Turns.Blocks.{Collecting}
 use Rattle.combine_repeat_turns.specs.Turns.Turn.{Start, TurnsSame, called}
 use Rattle.combine_repeat_turns.specs.Turns.Bounds.{cut_at, is_block_at, count_bound, turn_after, so_far}
 use Rattle.combine_repeat_turns.specs.Turns.OneTurn.{IsGathered, JudgesTurn, TurnDid, AreTurnsOver, EndedByValue, EndedByRefusal, TurnNeedsMore, HasTurnFailed, InTurn, TakesNothing, ValueUnstored, Untold, Unreset, turns_halted, CallEndedAt, then_left}
-use Rattle.combine_repeat_turns.specs.declared.turns.Bounds.{Bounds}
-use Rattle.combine_repeat_turns.specs.declared.turns.TurnIndex.{TurnIndex}
+use Rattle.combine_repeat_turns.specs.declared.bounds.Bounds.{Bounds}
+use Rattle.combine_repeat_turns.specs.declared.bounds.TurnIndex.{TurnIndex}
 use Rattle.combine_repeat_turns.specs.declared.turns.TurnStep.{TurnStep}
 use Rattle.combine_repeat_turns.specs.declared.turns.TurnStep.TheVariants as steps
 use Rattle.combine_repeat_turns.specs.declared.turns.TurnStop.{TurnStop}

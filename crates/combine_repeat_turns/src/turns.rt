@@ -1,5 +1,5 @@
 //! The loop that all repetitions run, and what it keeps.
-ghost use Rattle.std.specs.Prelude.{◌≡◌, ◌-◌, ◌||◌, ℕ, Bool, false, true, nat_lt, not, MatchResult, if◌then◌else◌};
+ghost use Rattle.std.specs.Prelude.{◌≡◌, ◌||◌, ℕ, Bool, false, true, MatchResult, if◌then◌else◌};
 ghost use Rattle.combine_base.specs.Stream.View.{View, Takes};
 ghost use Rattle.combine_base.specs.Parser.AnswersCalls.{AnswersCall};
 ghost use Rattle.combine_base.specs.Parser.Reasons.{ReasonedCall};
@@ -11,22 +11,21 @@ ghost use Rattle.combine_base.specs.Sequence.Parts.{accepted_as, refused_as};
 ghost use Rattle.std.specs.Prelude.{None};
 ghost use Rattle.combine_repeat_turns.specs.Turns.OneTurn.{IsGathered, stopped_answer, stopped_state};
 ghost use Rattle.combine_repeat_turns.specs.Turns.SoundValues.{LeavesSound, kept_sound};
-ghost use Rattle.combine_repeat_turns.specs.Turns.Bounds.{FirstRefuses, JudgesRefusal, TurnStepRefuses, turns_from, gathered, cut_at, counted_to, fresh_turns, kept_or, none_yet, running_turn, so_far};
+ghost use Rattle.combine_repeat_turns.specs.Turns.Bounds.{FirstRefuses, JudgesRefusal, TurnStepRefuses, turns_from, gathered, cut_at, fresh_turns, kept_or, none_yet, running_turn, so_far};
 ghost use Rattle.combine_repeat_turns.specs.Turns.Turn.{TurnsSame, called, started};
 ghost use Rattle.combine_repeat_turns.specs.Turns.TurnCalls.{FirstTurnCall, HaltsCall, OneTurnCall, TurnsCall};
-ghost use Rattle.combine_repeat_turns.specs.declared.turns.Bounds.TheVariants.{OwnFirst};
+ghost use Rattle.combine_repeat_turns.specs.declared.bounds.Bounds.TheVariants.{OwnFirst};
 
 mod entry;
-pub mod turn_bounds;
 
+use crate::bounds::{FirstThenMore, TurnBounds, TurnIndex, is_enough};
 use combine_base::error::{Info, ParseError, ParseResult, Tracked, accepted_after, refused_after};
 use combine_base::parser::{ParseMode, Parser};
 use combine_base::refusal::refusal_saying;
-use combine_base::stream::{Kind, Stream, has_taken, needs_more};
+use combine_base::stream::{Kind, Stream, needs_more};
 use entry::{Afresh, Entry, Resumed};
 use std::alloc::AllocError;
 use std::mem;
-use turn_bounds::{FirstThenMore, TurnBounds, is_enough};
 
 /// What runs in a turn: the first one, or any later one, which may differ.
 pub trait TurnParser<Input: Stream> {
@@ -167,81 +166,6 @@ pub trait Reduce<A>: Gather<A> {
     /// Makes what is gathered of the first value.
     fn begin(from: Self::Seed, value: A) -> Result<Self::Collection, AllocError>
         ensures { MatchResult result (λ i. Self.more Self.none value (Self.held i)) (λ _. Self.heapless → ⊥) };
-}
-
-/// How many turns there are, for contracts: a type of `turn_bounds` says which are meant.
-#[derive(Clone, Copy)]
-pub enum Bounds {
-    /// Any number; each takes a token.
-    Unbounded,
-    /// The first is a part of its own: it may take nothing, and its refusal is the answer unless there need be none. Each later one takes a token.
-    OwnFirst { min: usize, max: Option<usize> },
-    /// A number; they may take nothing.
-    Counted { min: usize, max: usize },
-}
-
-/// The running turn: its index, counted up to the limit of the bounds, and whether it already took a token in an earlier piece.
-#[derive(Clone, Copy)]
-pub struct TurnIndex {
-    number: usize,
-    took_before: bool,
-}
-
-impl TurnIndex {
-    /// Returns the place of the first turn.
-    #[inline(always)]
-    pub fn first() -> TurnIndex
-        ensures { result ≡ record { number = 0; took_before = false } }
-    {
-        TurnIndex {
-            number: 0,
-            took_before: false,
-        }
-    }
-
-    /// Returns whether `max` turns were before it.
-    #[inline(always)]
-    fn reaches(self, max: usize) -> bool
-        ensures { result ≡ not (nat_lt self.number max) }
-    {
-        !(self.number < max)
-    }
-
-    /// Returns how many of `min` turns are missing before it.
-    #[inline(always)]
-    fn short_of(self, min: usize) -> usize
-        ensures { result ≡ min - self.number }
-    {
-        min.saturating_sub(self.number)
-    }
-
-    /// Returns the place of the next turn.
-    #[inline(always)]
-    fn next(self, count_bound: usize) -> TurnIndex
-        ensures { result ≡ record { number = counted_to count_bound self.number; took_before = false } }
-    {
-        if self.number < count_bound {
-            return TurnIndex {
-                number: self.number + 1,
-                took_before: false,
-            };
-        }
-        TurnIndex {
-            number: count_bound,
-            took_before: false,
-        }
-    }
-
-    /// Returns the index of the same turn in the next piece.
-    #[inline(always)]
-    fn cut<Input: Stream>(self, since: Input::Checkpoint, input: &Input) -> TurnIndex
-        ensures { (n : ℕ) (v : View Input.Position Input.Token) → Input.stands input.now since v → Takes Input.step n v (Input.view input.now) → result ≡ cut_at self n }
-    {
-        TurnIndex {
-            number: self.number,
-            took_before: has_taken(self.took_before, since, input),
-        }
-    }
 }
 
 /// The turns so far: what is gathered, whether one committed, and which one runs.

@@ -6,7 +6,7 @@ use Rattle.combine_base.specs.Parser.Meaning.{Reading}
 use Rattle.combine_repeat_turns.specs.Turns.Blocks.{Collecting, TurnsOutcome}
 use Rattle.combine_repeat_turns.specs.Turns.Bounds.{bounded}
 use Rattle.combine_repeat_turns.specs.Repeat.Repeated.{no_value_ends}
-use Rattle.combine_repeat_turns.specs.declared.turns.Bounds.TheVariants.{Unbounded}
+use Rattle.combine_repeat_turns.specs.declared.bounds.Bounds.TheVariants.{Unbounded}
 
 module _ {P T A V : Type 0} (step : P → T → P) (c : Collecting A V) (first later : Reading P T A) where
   -- behind an acceptance, whose value is collected, turns that each take a token, up to a peeked refusal; else there are none

@@ -2,11 +2,11 @@
 use Rattle.std.specs.Prelude.{ℕ, ◌≡◌, ◌+◌, ◌-◌, Bool, true, false, ◌||◌, ◌&&◌, not, nat_lt, if◌then◌else◌, Some, None, List, [], ◌∷◌, codes, ◌<◌, ◌⊎◌, refl, ◌↔◌}
 use Rattle.combine_base.specs.Parser.Outcome.{Outcome, Accepted, Refused, Undecided, after, shape, IsDecided, IsCommitted}
 use Rattle.combine_repeat_turns.specs.Turns.Blocks.{Verdict, TakesBlock, StopsTurns, Rule, Collecting, TurnsSoFar, Block, outcome, TurnsOutcome, IsRule, IsJudgedOnce, turned_is_reading, turned_is_single, turned_into}
-use Rattle.combine_repeat_turns.specs.declared.turns.Bounds.{Bounds}
-use Rattle.combine_repeat_turns.specs.declared.turns.Bounds.TheVariants.{Unbounded, OwnFirst, Counted}
-use Rattle.combine_repeat_turns.specs.declared.turns.TurnIndex.{TurnIndex}
-use Rattle.combine_repeat_turns.specs.declared.turns.turn_bounds.FirstThenUpTo.{FirstThenUpTo}
-use Rattle.combine_repeat_turns.specs.declared.turns.turn_bounds.MinToMax.{MinToMax}
+use Rattle.combine_repeat_turns.specs.declared.bounds.Bounds.{Bounds}
+use Rattle.combine_repeat_turns.specs.declared.bounds.Bounds.TheVariants.{Unbounded, OwnFirst, Counted}
+use Rattle.combine_repeat_turns.specs.declared.bounds.TurnIndex.{TurnIndex}
+use Rattle.combine_repeat_turns.specs.declared.bounds.FirstThenUpTo.{FirstThenUpTo}
+use Rattle.combine_repeat_turns.specs.declared.bounds.MinToMax.{MinToMax}
 use Rattle.combine_repeat_turns.specs.declared.turns.TurnProgress.{TurnProgress}
 use Rattle.combine_repeat_turns.specs.declared.turns.TurnsState.{TurnsState}
 use Rattle.combine_repeat_turns.specs.declared.turns.Earlier.{Earlier}

@@ -6,7 +6,7 @@ use Rattle.combine_repeat_turns.specs.Turns.Blocks.{Collecting}
 use Rattle.combine_repeat_turns.specs.Turns.Bounds.{turn_after, so_far}
 use Rattle.combine_base.specs.declared.stream.Kind.TheVariants as kinds
 use Rattle.combine_base.specs.declared.error.ParseResult.TheVariants.{CommitErr, PeekErr}
-use Rattle.combine_repeat_turns.specs.declared.turns.Bounds.TheVariants.{OwnFirst}
+use Rattle.combine_repeat_turns.specs.declared.bounds.Bounds.TheVariants.{OwnFirst}
 use Rattle.combine_repeat_turns.specs.declared.turns.FirstStep.{FirstStep}
 use Rattle.combine_repeat_turns.specs.declared.turns.FirstStep.TheVariants.{Goes, Refused, More, Failed}
 use Rattle.combine_repeat_turns.specs.declared.turns.TurnProgress.{TurnProgress}

@@ -12,8 +12,8 @@ use Rattle.combine_base.specs.declared.stream.Kind.TheVariants as kinds
 use Rattle.combine_base.specs.declared.error.Tracked.{Tracked}
 use Rattle.combine_base.specs.declared.error.ParseResult.{ParseResult}
 use Rattle.combine_base.specs.declared.error.ParseResult.TheVariants.{CommitErr, PeekErr}
-use Rattle.combine_repeat_turns.specs.declared.turns.Bounds.{Bounds}
-use Rattle.combine_repeat_turns.specs.declared.turns.TurnIndex.{TurnIndex}
+use Rattle.combine_repeat_turns.specs.declared.bounds.Bounds.{Bounds}
+use Rattle.combine_repeat_turns.specs.declared.bounds.TurnIndex.{TurnIndex}
 use Rattle.combine_repeat_turns.specs.declared.turns.TurnStep.{TurnStep}
 use Rattle.combine_repeat_turns.specs.declared.turns.TurnStep.TheVariants as steps
 use Rattle.combine_repeat_turns.specs.declared.turns.TurnStop.{TurnStop}

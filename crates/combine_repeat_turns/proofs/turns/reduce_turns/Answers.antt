@@ -1,6 +1,6 @@
 use Rattle.std.proofs.Common.{true, false, refl, sym, ◌∙◌, None}
 use Rattle.combine_base.specs.Parser.Answer.{world}
-use Rattle.combine_repeat_turns.specs.declared.turns.Bounds.TheVariants.{OwnFirst}
+use Rattle.combine_repeat_turns.specs.declared.bounds.Bounds.TheVariants.{OwnFirst}
 use Rattle.combine_base.proofs.Parsers.SameMeanings.{passes_none, passes_more}
 use Rattle.combine_repeat_turns.specs.Turns.Bounds.{gathered, none_yet}
 use Rattle.combine_repeat_turns.proofs.OneTurn.{called_same, turned_same, turns_same_more}

@@ -80,7 +80,7 @@ pub after_refusal-requires-clause-first : goal.after_refusal-requires-clause-fir
 after_refusal-requires-clause-first g c = peeked_no_fault _ _ c.loop-at.invariant.refusing.peeked
 
 pub after_refusal-requires-clause-later : goal.after_refusal-requires-clause-later
-after_refusal-requires-clause-later g c = alternative_no_fault _ c.take_turn-answer.ensures.calls
+after_refusal-requires-clause-later g c = alternative_no_fault _ c.try_alternative-answer.ensures.calls
 
 pub returns-in-Err : goal.returns-in-Err
 returns-in-Err g c =
@@ -102,13 +102,13 @@ returns-in-CommitOk-after_refusal g c =
     let n = c.in-Ok.ensures.to.is in
     let back = n.0 _ (g.met.Input.ResetStream.lasts _ _ _ _ c.loop-at.invariant.passes.marks c.checkpoint-start.ensures.stands) in
     let z = refusing_here w g.Input.Error.ParseError.observers g.Input.Position.Ord.cmp g.P.Parser.meaning _ _ _ _ _ _ _ _ here _ _ _ c.loop-at.invariant.refusing _ h _ _ c.default-fresh.ensures _ _ back n.1 c.in-Ok.ensures.passes in
-    let d = alternative_meant c.take_turn-answer.ensures.calls c.take_turn-answer.ensures.refuses in
+    let d = alternative_meant c.try_alternative-answer.ensures.calls c.try_alternative-answer.ensures.refuses in
     record {
-      lawful = All-set g.P.Parser.lawful _ _ _ c.take_turn-answer.ensures.lawful c.loop-at.invariant.lawful;
-      valid = c.take_turn-answer.ensures.valid;
-      same = same_set g.P.Parser.meaning _ _ _ c.index-alternatives-at.result _ c.loop-at.invariant.same within c.take_turn-answer.ensures.same;
-      passes = passes_more (passes_more c.loop-at.invariant.passes c.in-Ok.ensures.passes) c.take_turn-answer.ensures.passes;
-      answers = later_settles g.Input.StreamOnce.step g.Input.Error.ParseError.observers g.Input.Position.Ord.cmp g.Input.StreamOnce.counts_failures g.P.PartialState.Default.is_default g.P.Parser.meaning _ _ _ _ _ _ _ _ here _ _ _ _ _ _ _ z _ _ _ tt c.take_turn-answer.ensures.calls c.in-CommitOk-after_refusal.ensures;
+      lawful = All-set g.P.Parser.lawful _ _ _ c.try_alternative-answer.ensures.lawful c.loop-at.invariant.lawful;
+      valid = c.try_alternative-answer.ensures.valid;
+      same = same_set g.P.Parser.meaning _ _ _ c.index-alternatives-at.result _ c.loop-at.invariant.same within c.try_alternative-answer.ensures.same;
+      passes = passes_more (passes_more c.loop-at.invariant.passes c.in-Ok.ensures.passes) c.try_alternative-answer.ensures.passes;
+      answers = later_settles g.Input.StreamOnce.step g.Input.Error.ParseError.observers g.Input.Position.Ord.cmp g.Input.StreamOnce.counts_failures g.P.PartialState.Default.is_default g.P.Parser.meaning _ _ _ _ _ _ _ _ here _ _ _ _ _ _ _ z _ _ _ tt c.try_alternative-answer.ensures.calls c.in-CommitOk-after_refusal.ensures;
       refuses = next_reasons _ _ g.P.Parser.meaning _ _ _ _ _ here _ _ c.loop-at.invariant.goes _ _ (rw back at d) _ tt c.in-CommitOk-after_refusal.ensures;
     }
 
@@ -121,13 +121,13 @@ returns-in-PeekOk-after_refusal g c =
     let n = c.in-Ok.ensures.to.is in
     let back = n.0 _ (g.met.Input.ResetStream.lasts _ _ _ _ c.loop-at.invariant.passes.marks c.checkpoint-start.ensures.stands) in
     let z = refusing_here w g.Input.Error.ParseError.observers g.Input.Position.Ord.cmp g.P.Parser.meaning _ _ _ _ _ _ _ _ here _ _ _ c.loop-at.invariant.refusing _ h _ _ c.default-fresh.ensures _ _ back n.1 c.in-Ok.ensures.passes in
-    let d = alternative_meant c.take_turn-answer.ensures.calls c.take_turn-answer.ensures.refuses in
+    let d = alternative_meant c.try_alternative-answer.ensures.calls c.try_alternative-answer.ensures.refuses in
     record {
-      lawful = All-set g.P.Parser.lawful _ _ _ c.take_turn-answer.ensures.lawful c.loop-at.invariant.lawful;
-      valid = c.take_turn-answer.ensures.valid;
-      same = same_set g.P.Parser.meaning _ _ _ c.index-alternatives-at.result _ c.loop-at.invariant.same within c.take_turn-answer.ensures.same;
-      passes = passes_more (passes_more c.loop-at.invariant.passes c.in-Ok.ensures.passes) c.take_turn-answer.ensures.passes;
-      answers = later_settles g.Input.StreamOnce.step g.Input.Error.ParseError.observers g.Input.Position.Ord.cmp g.Input.StreamOnce.counts_failures g.P.PartialState.Default.is_default g.P.Parser.meaning _ _ _ _ _ _ _ _ here _ _ _ _ _ _ _ z _ _ _ tt c.take_turn-answer.ensures.calls c.in-PeekOk-after_refusal.ensures;
+      lawful = All-set g.P.Parser.lawful _ _ _ c.try_alternative-answer.ensures.lawful c.loop-at.invariant.lawful;
+      valid = c.try_alternative-answer.ensures.valid;
+      same = same_set g.P.Parser.meaning _ _ _ c.index-alternatives-at.result _ c.loop-at.invariant.same within c.try_alternative-answer.ensures.same;
+      passes = passes_more (passes_more c.loop-at.invariant.passes c.in-Ok.ensures.passes) c.try_alternative-answer.ensures.passes;
+      answers = later_settles g.Input.StreamOnce.step g.Input.Error.ParseError.observers g.Input.Position.Ord.cmp g.Input.StreamOnce.counts_failures g.P.PartialState.Default.is_default g.P.Parser.meaning _ _ _ _ _ _ _ _ here _ _ _ _ _ _ _ z _ _ _ tt c.try_alternative-answer.ensures.calls c.in-PeekOk-after_refusal.ensures;
       refuses = next_reasons _ _ g.P.Parser.meaning _ _ _ _ _ here _ _ c.loop-at.invariant.goes _ _ (rw back at d) _ tt c.in-PeekOk-after_refusal.ensures;
     }
 
@@ -140,13 +140,13 @@ returns-in-CommitErr-after_refusal g c =
     let n = c.in-Ok.ensures.to.is in
     let back = n.0 _ (g.met.Input.ResetStream.lasts _ _ _ _ c.loop-at.invariant.passes.marks c.checkpoint-start.ensures.stands) in
     let z = refusing_here w g.Input.Error.ParseError.observers g.Input.Position.Ord.cmp g.P.Parser.meaning _ _ _ _ _ _ _ _ here _ _ _ c.loop-at.invariant.refusing _ h _ _ c.default-fresh.ensures _ _ back n.1 c.in-Ok.ensures.passes in
-    let d = alternative_meant c.take_turn-answer.ensures.calls c.take_turn-answer.ensures.refuses in
+    let d = alternative_meant c.try_alternative-answer.ensures.calls c.try_alternative-answer.ensures.refuses in
     record {
-      lawful = All-set g.P.Parser.lawful _ _ _ c.take_turn-answer.ensures.lawful c.loop-at.invariant.lawful;
-      valid = c.take_turn-answer.ensures.valid;
-      same = same_set g.P.Parser.meaning _ _ _ c.index-alternatives-at.result _ c.loop-at.invariant.same within c.take_turn-answer.ensures.same;
-      passes = passes_more (passes_more c.loop-at.invariant.passes c.in-Ok.ensures.passes) c.take_turn-answer.ensures.passes;
-      answers = later_settles g.Input.StreamOnce.step g.Input.Error.ParseError.observers g.Input.Position.Ord.cmp g.Input.StreamOnce.counts_failures g.P.PartialState.Default.is_default g.P.Parser.meaning _ _ _ _ _ _ _ _ here _ _ _ _ _ _ _ z _ _ _ tt c.take_turn-answer.ensures.calls c.in-CommitErr-after_refusal.ensures;
+      lawful = All-set g.P.Parser.lawful _ _ _ c.try_alternative-answer.ensures.lawful c.loop-at.invariant.lawful;
+      valid = c.try_alternative-answer.ensures.valid;
+      same = same_set g.P.Parser.meaning _ _ _ c.index-alternatives-at.result _ c.loop-at.invariant.same within c.try_alternative-answer.ensures.same;
+      passes = passes_more (passes_more c.loop-at.invariant.passes c.in-Ok.ensures.passes) c.try_alternative-answer.ensures.passes;
+      answers = later_settles g.Input.StreamOnce.step g.Input.Error.ParseError.observers g.Input.Position.Ord.cmp g.Input.StreamOnce.counts_failures g.P.PartialState.Default.is_default g.P.Parser.meaning _ _ _ _ _ _ _ _ here _ _ _ _ _ _ _ z _ _ _ tt c.try_alternative-answer.ensures.calls c.in-CommitErr-after_refusal.ensures;
       refuses = next_reasons _ _ g.P.Parser.meaning _ _ _ _ _ here _ _ c.loop-at.invariant.goes _ _ (rw back at d) _ tt c.in-CommitErr-after_refusal.ensures;
     }
 
@@ -159,14 +159,14 @@ loop-at-preserved g c =
     let n = c.in-Ok.ensures.to.is in
     let back = n.0 _ (g.met.Input.ResetStream.lasts _ _ _ _ c.loop-at.invariant.passes.marks c.checkpoint-start.ensures.stands) in
     let z = refusing_here w g.Input.Error.ParseError.observers g.Input.Position.Ord.cmp g.P.Parser.meaning _ _ _ _ _ _ _ _ here _ _ _ c.loop-at.invariant.refusing _ h _ _ c.default-fresh.ensures _ _ back n.1 c.in-Ok.ensures.passes in
-    let q = later_refuses g.Input.StreamOnce.step g.Input.Error.ParseError.observers g.Input.Position.Ord.cmp g.Input.StreamOnce.counts_failures g.P.PartialState.Default.is_default g.P.Parser.meaning _ _ _ _ _ _ _ _ here _ _ _ _ _ _ _ z (begun_reads _ _ _ h true _ (g.met.P.Parser.default_valid _ c.default-fresh.ensures)) _ _ _ c.take_turn-answer.ensures.calls c.in-PeekErr-after_refusal.ensures c.loop-at.invariant.refusing.peeked c.take_turn-answer.ensures.passes (every_drop g.P.Parser.meaning (λ a. a.keeps) _ _) (every_drop g.P.Parser.meaning (λ a. a.puts_back) _ _) (every_drop g.P.Parser.meaning (λ a. a.heapless) _ _) in
-    let d = alternative_meant c.take_turn-answer.ensures.calls c.take_turn-answer.ensures.refuses in
+    let q = later_refuses g.Input.StreamOnce.step g.Input.Error.ParseError.observers g.Input.Position.Ord.cmp g.Input.StreamOnce.counts_failures g.P.PartialState.Default.is_default g.P.Parser.meaning _ _ _ _ _ _ _ _ here _ _ _ _ _ _ _ z (begun_reads _ _ _ h true _ (g.met.P.Parser.default_valid _ c.default-fresh.ensures)) _ _ _ c.try_alternative-answer.ensures.calls c.in-PeekErr-after_refusal.ensures c.loop-at.invariant.refusing.peeked c.try_alternative-answer.ensures.passes (every_drop g.P.Parser.meaning (λ a. a.keeps) _ _) (every_drop g.P.Parser.meaning (λ a. a.puts_back) _ _) (every_drop g.P.Parser.meaning (λ a. a.heapless) _ _) in
+    let d = alternative_meant c.try_alternative-answer.ensures.calls c.try_alternative-answer.ensures.refuses in
     record {
       lawful = All-set g.P.Parser.lawful _ _ _ c.try_alternative-answer.ensures.lawful c.loop-at.invariant.lawful;
       same = same_set g.P.Parser.meaning _ _ _ c.index-alternatives-at.result _ c.loop-at.invariant.same within c.try_alternative-answer.ensures.same;
       untried = λ k l. drop-set-lt k c.loop-at.alternatives c.loop-at.at _ (omega arith) ∙ c.loop-at.invariant.untried k (omega arith);
       state = q.1;
-      passes = passes_more (passes_more c.loop-at.invariant.passes c.in-Ok.ensures.passes) c.take_turn-answer.ensures.passes;
+      passes = passes_more (passes_more c.loop-at.invariant.passes c.in-Ok.ensures.passes) c.try_alternative-answer.ensures.passes;
       goes = makes_up_next _ _ g.P.Parser.meaning _ _ _ _ _ here _ _ c.loop-at.invariant.goes _ _ (rw back at d) _ c.in-PeekErr-after_refusal.ensures;
       refusing = q.0;
     }

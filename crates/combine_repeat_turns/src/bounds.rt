@@ -1,17 +1,91 @@
-//! Bounds of turns: a type each, so that what some turns don't need isn't compiled with them.
-ghost use Rattle.std.specs.Prelude.{◌≡◌, ℕ};
+//! How many turns there are: a type for each kind of bounds, so that what some turns don't need isn't compiled with them.
+ghost use Rattle.std.specs.Prelude.{◌≡◌, ◌-◌, ℕ, false, nat_lt, not};
 ghost use Rattle.combine_base.specs.Stream.View.{View, Takes};
-ghost use Rattle.combine_repeat_turns.specs.Turns.Bounds.{counted_bounds, is_enough, is_first_or_takes_token, own_first_bounds, takes_token};
+ghost use Rattle.combine_repeat_turns.specs.Turns.Bounds.{counted_bounds, counted_to, cut_at, is_enough, is_first_or_takes_token, own_first_bounds, takes_token};
 
-use crate::turns::{Bounds, TurnIndex};
 use combine_base::stream::{Stream, has_taken};
+
+/// How many turns there are, for contracts: a type of `TurnBounds` says which are meant.
+#[derive(Clone, Copy)]
+pub enum Bounds {
+    /// Any number; each takes a token.
+    Unbounded,
+    /// The first is a part of its own: it may take nothing, and its refusal is the answer unless there need be none. Each later one takes a token.
+    OwnFirst { min: usize, max: Option<usize> },
+    /// A number; they may take nothing.
+    Counted { min: usize, max: usize },
+}
+
+/// The running turn: its index, counted up to the limit of the bounds, and whether it already took a token in an earlier piece.
+#[derive(Clone, Copy)]
+pub struct TurnIndex {
+    pub(crate) number: usize,
+    pub(crate) took_before: bool,
+}
+
+impl TurnIndex {
+    /// Returns the place of the first turn.
+    #[inline(always)]
+    pub fn first() -> TurnIndex
+        ensures { result ≡ record { number = 0; took_before = false } }
+    {
+        TurnIndex {
+            number: 0,
+            took_before: false,
+        }
+    }
+
+    /// Returns whether `max` turns were before it.
+    #[inline(always)]
+    pub(crate) fn reaches(self, max: usize) -> bool
+        ensures { result ≡ not (nat_lt self.number max) }
+    {
+        !(self.number < max)
+    }
+
+    /// Returns how many of `min` turns are missing before it.
+    #[inline(always)]
+    pub(crate) fn short_of(self, min: usize) -> usize
+        ensures { result ≡ min - self.number }
+    {
+        min.saturating_sub(self.number)
+    }
+
+    /// Returns the place of the next turn.
+    #[inline(always)]
+    pub(crate) fn next(self, count_bound: usize) -> TurnIndex
+        ensures { result ≡ record { number = counted_to count_bound self.number; took_before = false } }
+    {
+        if self.number < count_bound {
+            return TurnIndex {
+                number: self.number + 1,
+                took_before: false,
+            };
+        }
+        TurnIndex {
+            number: count_bound,
+            took_before: false,
+        }
+    }
+
+    /// Returns the index of the same turn in the next piece.
+    #[inline(always)]
+    pub(crate) fn cut<Input: Stream>(self, since: Input::Checkpoint, input: &Input) -> TurnIndex
+        ensures { (n : ℕ) (v : View Input.Position Input.Token) → Input.stands input.now since v → Takes Input.step n v (Input.view input.now) → result ≡ cut_at self n }
+    {
+        TurnIndex {
+            number: self.number,
+            took_before: has_taken(self.took_before, since, input),
+        }
+    }
+}
 
 /// How many turns there are.
 pub trait TurnBounds: Copy {
     ghost use Rattle.std.specs.Prelude.{◌≡◌, ℕ};
     ghost use Rattle.combine_base.specs.Stream.View.{View, Takes};
     ghost use Rattle.combine_repeat_turns.specs.Turns.Bounds.{count_bound, full_at, is_block_at, is_unbounded, keeps_refusal, missing_turns};
-    ghost use Rattle.combine_repeat_turns.specs.declared.turns.Bounds.{Bounds};
+    ghost use Rattle.combine_repeat_turns.specs.declared.bounds.Bounds.{Bounds};
 
     /// What they are.
     ghost bounds: { Self → Bounds };
@@ -60,11 +134,12 @@ pub fn is_enough<B: TurnBounds>(bounds: B, index: TurnIndex) -> bool
 }
 
 /// Any number; each takes a token.
-#[derive(Clone, Copy)]
-pub struct ZeroOrMore;
+///
+/// It is `()`, which costs the text of a nested parser's type least.
+pub type ZeroOrMore = ();
 
 impl TurnBounds for ZeroOrMore {
-    ghost use Rattle.combine_repeat_turns.specs.declared.turns.Bounds.TheVariants.{Unbounded};
+    ghost use Rattle.combine_repeat_turns.specs.declared.bounds.Bounds.TheVariants.{Unbounded};
 
     ghost bounds = { λ _. Unbounded };
 
@@ -147,7 +222,7 @@ pub struct FirstThenMore<const MIN: usize>;
 
 impl<const MIN: usize> TurnBounds for FirstThenMore<MIN> {
     ghost use Rattle.std.specs.Prelude.{None};
-    ghost use Rattle.combine_repeat_turns.specs.declared.turns.Bounds.TheVariants.{OwnFirst};
+    ghost use Rattle.combine_repeat_turns.specs.declared.bounds.Bounds.TheVariants.{OwnFirst};
 
     ghost bounds = { λ _. OwnFirst MIN None };
 

@@ -2,7 +2,7 @@ use Rattle.combine_repeat_sep.specs.SeparatedParsers.{sep_bounds}
 use Rattle.combine_repeat_turns.specs.Turns.Bounds.{turns_means_same}
 use Rattle.combine_repeat_turns.specs.Repeat.Repeated.{no_value_ends}
 use Rattle.combine_repeat_sep.specs.Separators.{any_given}
-use Rattle.combine_repeat_sep.proofs.repeat.types.RepeatSeparatedParser.parse_mode.Goals as goal
+use Rattle.combine_repeat_sep.proofs.repeat.SepRepeatParser.parse_mode.Goals as goal
 
 pub returns-clause-same : goal.returns-clause-same
 returns-clause-same g c = turns_means_same _ _ (g.B.TurnBounds.bounds (sep_bounds c.args.self.now)) no_value_ends _ _ _ _ _ _ c.take_turns.ensures.same

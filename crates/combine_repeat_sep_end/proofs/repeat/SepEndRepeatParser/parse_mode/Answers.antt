@@ -1,7 +1,7 @@
 use Rattle.std.specs.Prelude.{is_none}
 use Rattle.combine_repeat_sep_end.specs.SepEndParsers.{sep_end_bounds}
 use Rattle.combine_repeat_turns.specs.Turns.Bounds.{turns_means_same}
-use Rattle.combine_repeat_sep_end.proofs.repeat.types.RepeatEndedParser.parse_mode.Goals as goal
+use Rattle.combine_repeat_sep_end.proofs.repeat.SepEndRepeatParser.parse_mode.Goals as goal
 
 pub returns-clause-same : goal.returns-clause-same
 returns-clause-same g c = turns_means_same _ _ (g.B.TurnBounds.bounds (sep_end_bounds c.args.self.now)) is_none _ _ _ _ _ _ c.take_turns.ensures.same
