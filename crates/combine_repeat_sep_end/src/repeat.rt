@@ -23,8 +23,9 @@ use combine_base::error::{ErrorOffset, ParseResult, Tracked};
 use combine_base::parser::{Outputs, ParseMode, Parser};
 use combine_base::repeat::Append;
 use combine_base::stream::Stream;
+use combine_repeat_sep::bounds::ElementBounds;
 use combine_repeat_sep::separated::SeparatedState;
-use combine_repeat_turns::bounds::{FirstThenMore, TurnBounds};
+use combine_repeat_turns::bounds::FirstThenMore;
 use combine_repeat_turns::turns::{TurnProgress, TurnsState, take_turns};
 use combine_token::choice::optional;
 use std::alloc::Global;
@@ -63,7 +64,7 @@ impl<Input, F: Drop, P, S, B> Outputs<Input> for SepEndRepeat<F, P, S, B> {
     type Output = F;
 }
 
-impl<Input: Stream, P: Parser<Input>, S: Parser<Input>, F: Append<P::Output>, B: TurnBounds> Parser<
+impl<Input: Stream, P: Parser<Input>, S: Parser<Input>, F: Append<P::Output>, B: ElementBounds> Parser<
     Input,
 > for SepEndRepeat<F, P, S, B> {
     type PartialState = TurnsState<F, SeparatedState<S::Output, S::PartialState, P::PartialState>>;
@@ -92,9 +93,9 @@ impl<Input: Stream, P: Parser<Input>, S: Parser<Input>, F: Append<P::Output>, B:
         state: &mut Self::PartialState,
     ) -> ParseResult<F, Input::Error> {
         let start = TurnProgress::none_yet(F::empty(self.alloc));
-        take_turns::<EachSome<F>, Input, Ended<P, S>, M, B>(
+        take_turns::<EachSome<F>, Input, Ended<P, S>, M, B::Turns>(
             &mut self.turn,
-            self.bounds,
+            self.bounds.turns(),
             start,
             mode,
             input,
@@ -133,7 +134,7 @@ impl<Input: Stream, P: Parser<Input>, S: Parser<Input>, F: Append<P::Output>, B:
 pub fn sep_end_by<F, P, S>(alloc: Global, parser: P, separator: S) -> SepEndBy<F, P, S>
     ensures { result ≡ sep_end_by_of alloc parser separator }
 {
-    SepEndRepeat::new(alloc, FirstThenMore::<0>, parser, separator)
+    SepEndRepeat::new(alloc, (), parser, separator)
 }
 
 /// Takes at least one element, which are `parser`'s, with what `separator` takes between two of them and perhaps after the last.

@@ -13,14 +13,14 @@ use crate::separated::{ChainOperator, Folds, Separated, SeparatedState};
 use combine_base::error::{ErrorOffset, ParseResult, Tracked};
 use combine_base::parser::{Outputs, ParseMode, Parser};
 use combine_base::stream::Stream;
-use combine_repeat_turns::bounds::{FirstThenMore, FirstThenUpTo};
+use combine_repeat_turns::bounds::{FirstThenMore, FirstThenUpTo, ZeroOrMore};
 use combine_repeat_turns::turns::{TurnsState, reduce_turns};
 
 /// The parser of [`sep_count_min_max`](crate::repeat::sep_count_min_max).
 pub type SepCountMinMax<F, P, S> = SepRepeat<F, P, S, FirstThenUpTo>;
 
 /// The parser of [`sep_by`](crate::repeat::sep_by).
-pub type SepBy<F, P, S> = SepRepeat<F, P, S, FirstThenMore<0>>;
+pub type SepBy<F, P, S> = SepRepeat<F, P, S, ZeroOrMore>;
 
 /// The parser of [`sep_by1`](crate::repeat::sep_by1).
 pub type SepBy1<F, P, S> = SepRepeat<F, P, S, FirstThenMore<1>>;
