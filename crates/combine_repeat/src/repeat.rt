@@ -18,10 +18,10 @@ pub mod laws;
 pub mod types;
 
 pub use combine_base::repeat::{Append, Sink};
+use combine_repeat_turns::bounds::FirstThenMore;
 use combine_repeat_turns::each::{Dropped, Each};
 use combine_repeat_turns::repeat::Repeat;
 pub use combine_repeat_turns::turns::TurnsState;
-use combine_repeat_turns::bounds::FirstThenMore;
 use std::alloc::Global;
 use types::{Many, Many1, SkipMany, SkipMany1};
 

@@ -48,12 +48,7 @@ pub struct SepRepeat<F, P, S, B> {
 impl<F, P, S, B> SepRepeat<F, P, S, B> {
     /// Returns the parser of these elements.
     #[inline(always)]
-    fn new(
-        alloc: Global,
-        bounds: B,
-        parser: P,
-        separator: S,
-    ) -> SepRepeat<F, P, S, B>
+    fn new(alloc: Global, bounds: B, parser: P, separator: S) -> SepRepeat<F, P, S, B>
         ensures { result ≡ sep_repeat_of alloc bounds parser separator }
     {
         SepRepeat {
@@ -73,9 +68,13 @@ impl<Input, F: Drop, P, S, B> Outputs<Input> for SepRepeat<F, P, S, B> {
     type Output = F;
 }
 
-impl<Input: Stream, P: Parser<Input>, S: Parser<Input>, F: Append<P::Output>, B: ElementBounds> Parser<
-    Input,
-> for SepRepeat<F, P, S, B> {
+impl<
+    Input: Stream,
+    P: Parser<Input>,
+    S: Parser<Input>,
+    F: Append<P::Output>,
+    B: ElementBounds,
+> Parser<Input> for SepRepeat<F, P, S, B> {
     type PartialState = TurnsState<F, SeparatedState<S::Output, S::PartialState, P::PartialState>>;
 
     ghost lawful = { λ p. S.lawful (sep_separator p) × P.lawful (sep_part p) };
