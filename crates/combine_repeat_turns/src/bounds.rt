@@ -98,8 +98,8 @@ pub trait TurnBounds: Copy {
     fn is_unbounded(self) -> bool
         ensures { result ≡ is_unbounded (bounds self) };
 
-    /// Returns for how many values a collection asks for room when the turns begin.
-    fn room(self) -> usize;
+    /// Returns for how many values a collection asks for room: for none in a call that resumes.
+    fn room(self, first: bool) -> usize;
 
     /// Returns whether there are as many turns as there may be.
     fn is_full(self, index: TurnIndex) -> bool
@@ -154,7 +154,7 @@ impl TurnBounds for ZeroOrMore {
     }
 
     #[inline(always)]
-    fn room(self) -> usize {
+    fn room(self, first: bool) -> usize {
         0
     }
 
@@ -237,7 +237,7 @@ impl<const MIN: usize> TurnBounds for FirstThenMore<MIN> {
     }
 
     #[inline(always)]
-    fn room(self) -> usize {
+    fn room(self, first: bool) -> usize {
         0
     }
 
@@ -291,7 +291,7 @@ impl TurnBounds for FirstThenUpTo {
     }
 
     #[inline(always)]
-    fn room(self) -> usize {
+    fn room(self, first: bool) -> usize {
         0
     }
 
@@ -346,8 +346,11 @@ impl TurnBounds for MinToMax {
 
     /// Returns as many as there must be, and at most 1,024, since how many there must be may be a number that was read.
     #[inline(always)]
-    fn room(self) -> usize {
-        self.min.min(1024)
+    fn room(self, first: bool) -> usize {
+        if first {
+            return self.min.min(1024);
+        }
+        0
     }
 
     #[inline(always)]

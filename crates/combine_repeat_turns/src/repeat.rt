@@ -95,19 +95,13 @@ impl<Input: Stream, P: Parser<Input>, G: Collect<P::Output>, B: TurnBounds> Pars
         input: &mut Input,
         state: &mut Self::PartialState,
     ) -> ParseResult<G::Collection, Input::Error> {
-        let room = if mode.is_first() {
-            self.bounds.room()
-        } else {
-            0
-        };
-        let Ok(empty) = self.gather.empty(room) else {
+        let Ok(empty) = self.gather.empty(self.bounds.room(mode.is_first())) else {
             return without_room(input, state);
         };
-        let start = TurnProgress::none_yet(empty);
         take_turns::<G, Input, SameParser<P>, M, B>(
             &mut self.turn,
             self.bounds,
-            start,
+            TurnProgress::none_yet(empty),
             mode,
             input,
             state,
