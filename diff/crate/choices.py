@@ -70,7 +70,7 @@ class SliceChoice(Parser):
             return self.choose(0, first, window)
         start = window.at
         at = self.running
-        result = self.take_turn(at, first, window)
+        result = self.try_alternative(at, first, window)
         if result.accepted:
             self.running = None
         if CHOICE in self.switches and not result.accepted and not result.committed:
@@ -83,7 +83,7 @@ class SliceChoice(Parser):
         """The alternatives from this one on."""
         start = window.at
         for at in range(begin, len(self.parts)):
-            result = self.take_turn(at, first, window)
+            result = self.try_alternative(at, first, window)
             if result.accepted:
                 self.running = None
                 return result
@@ -93,7 +93,7 @@ class SliceChoice(Parser):
             window.at = start
         return refused(False)
 
-    def take_turn(self, at, first, window):
+    def try_alternative(self, at, first, window):
         if at != self.last:
             self.parts[at].adopt(self.parts[self.last])
             self.last = at

@@ -6,9 +6,10 @@ use Rattle.combine_base.specs.Error.Items.{ErrorItem}
 use Rattle.combine_base.specs.Parser.Answer.{Answers, Asks, CallRecord, World, asks_or_refuses, world}
 use Rattle.combine_base.specs.Parser.Drivers.{Starts, afresh}
 use Rattle.combine_base.specs.Parser.DriverAnswers.{NeedsMore}
-use Rattle.combine_base.specs.Parser.Meaning.{Meaning, Reading}
+use Rattle.combine_base.specs.Parser.Meaning.{Meaning, Reading, any_error}
 use Rattle.combine_base.specs.Stream.Calls.{ResetTo}
 use Rattle.combine_base.specs.Stream.View.{View}
+use Rattle.combine_base.specs.Parser.RunOnce.{once_world}
 use Rattle.combine_base.proofs.Errors.CallErrors.{need_of_more, same_mark, unreset}
 use Rattle.combine_base.proofs.Parsers.InnerCalls.{InsideCall, KeepsAround, inside_asks, inside_commits, inside_fails, inside_peeks, inside_refuses}
 use Rattle.combine_base.proofs.Parsers.Progress.{progress_none, takes_more}
@@ -19,7 +20,7 @@ use Rattle.combine_base.specs.declared.stream.Failures.{Failures}
 use Rattle.combine_base.specs.declared.stream.Kind.{Kind}
 use Rattle.combine_base.specs.declared.stream.Kind.TheVariants as kinds
 use Rattle.combine_token.proofs.Tokens.Stateless.{stateless_asks, into_begun}
-use Rattle.bench_grammar.specs.Apart.{Anything, RunsOnce, any_error, apart, once, once_world}
+use Rattle.bench_grammar.specs.Apart.{Anything, RunsApart, apart, run_apart}
 
 -- whatever items were added
 module _ {T R P E : Type 0} (s : Observers T R P E) (heapless : Type 0) (adds : List (ErrorItem T R) → Type 0) (old new : E) where
@@ -39,7 +40,7 @@ module _ {P T R E A S : Type 0} (step : P → T → P) (s : Observers T R P E) (
   w1 = once_world step s counts_failures
 
   abbrev whole : Meaning P T R E A Bool
-  whole = once {R = R} {E = E} m.whole
+  whole = run_apart {R = R} {E = E} m.whole
 
   module _ (from to : S) where
     abbrev part : CallRecord P T S
@@ -68,14 +69,14 @@ module _ {P T R E A S : Type 0} (step : P → T → P) (s : Observers T R P E) (
     fails_once e a = by_need (need_or_not (s.kind e) new.is_open)
       where
         by_need : ((s.kind e ≡ kinds.End) × (new.is_open ≡ true)) ⊎ ((s.kind e ≡ kinds.End) × (new.is_open ≡ true) → ⊥) → (left : Bool) × Answers w1 whole (afresh w1 whole false left old new before after) (CommitErr e)
-        by_need (inl i) = (true, inside_asks _ _ _ _ _ _ _ _ _ _ _ _ (inside true) keeping e i a)
-        by_need (inr i) = (false, inside_fails _ _ _ _ _ _ _ _ _ _ _ _ (inside false) (λ k. refl) e i a)
+        by_need (inl i) = (true, inside_asks (inside true) keeping e i a)
+        by_need (inr i) = (false, inside_fails (inside false) (λ k. refl) e i a)
 
   pub run_once : (from to : S) (y : ParseResult A E) → Answers w m (part from to) y → Starts w1 whole old new before after y
-  run_once from to (CommitOk v) a = record { state = false; left = false; answers = inside_commits _ _ _ _ _ _ _ _ _ _ _ _ (inside from to false) (λ k. refl) (λ v. v) (λ v n k x. x) v a }
-  run_once from to (PeekOk v) a = record { state = false; left = false; answers = inside_peeks _ _ _ _ _ _ _ _ _ _ _ _ (inside from to false) (λ k. refl) (λ v. v) (λ v n k x. x) v a }
+  run_once from to (CommitOk v) a = record { state = false; left = false; answers = inside_commits (inside from to false) (λ k. refl) (λ v. v) (λ v n k x. x) v a }
+  run_once from to (PeekOk v) a = record { state = false; left = false; answers = inside_peeks (inside from to false) (λ k. refl) (λ v. v) (λ v n k x. x) v a }
   run_once from to (CommitErr e) a = let x = fails_once from to e a in record { state = false; left = x.0; answers = x.1 }
-  run_once from to (PeekErr t) a = record { state = false; left = false; answers = inside_refuses _ _ _ _ _ _ _ _ _ _ _ _ (inside from to false) (λ k. refl) t a }
+  run_once from to (PeekErr t) a = record { state = false; left = false; answers = inside_refuses (inside from to false) (λ k. refl) t a }
 
 module _ {I P T R E C S V : Type 0} (step : P → T → P) (s : Observers T R P E) (counts_failures : Type 0) (view : I → View P T) (marks : I → C → View P T → Type 0) (failures : I → Failures) (fresh : S → Type 0) (read : Reading P T V) (first : Bool) (state left : S) (d : fresh left) (input mid : I) where
   abbrev here : World P T S E
@@ -88,14 +89,14 @@ module _ {I P T R E C S V : Type 0} (step : P → T → P) (s : Observers T R P 
   m = apart read
 
   abbrev ran : Bool → Bool → CallRecord P T Bool
-  ran from to = afresh here1 (once {R = R} {E = E} read) from to (view input) (view mid) (failures input) (failures mid)
+  ran from to = afresh here1 (run_apart {R = R} {E = E} read) from to (view input) (view mid) (failures input) (failures mid)
 
   abbrev run : View P T → Failures → CallRecord P T S
   run new later = record { first = first; state = state; left = left; old = view input; new = new; before = failures input; after = later }
 
-  as_run : (from to : Bool) → InsideCall here1 fresh (once {R = R} {E = E} read) m (ran from to) first state left (view input) (failures input) false read
+  as_run : (from to : Bool) → InsideCall here1 fresh (run_apart {R = R} {E = E} read) m (ran from to) first state left (view input) (failures input) false read
   as_run from to = record {
-    progress = progress_here here1 _ read (view input) (failures input) (λ v o p. into_begun read ⊥ ⊥ (Anything {R = R}) (any_error {E = E}) first state v o p);
+    progress = progress_here here1 _ read (view input) (failures input) (λ v o p. into_begun read ⊥ ⊥ (Anything {R = R}) (any_error {Error = E}) first state v o p);
     reads = omega arith;
     resets = omega arith;
     refuses = λ k x. x;
@@ -104,26 +105,26 @@ module _ {I P T R E C S V : Type 0} (step : P → T → P) (s : Observers T R P 
   }
 
   abbrev Runs : ParseResult V E → Type 0
-  Runs = RunsOnce step s counts_failures view marks failures read input mid
+  Runs = RunsApart step s counts_failures view marks failures read input mid
 
   -- no need of more
   pub again : (y : ParseResult V E) → (NeedsMore s.kind (view mid).is_open y → ⊥) → Runs y → Answers here m (run (view mid) (failures mid)) y
-  again (CommitOk v) n x = inside_commits _ _ _ _ _ _ _ _ _ _ _ _ (as_run x.answers.state x.answers.left) (λ k. d) (λ a. a) (λ a n k y. y) v x.answers.answers
-  again (PeekOk v) n x = inside_peeks _ _ _ _ _ _ _ _ _ _ _ _ (as_run x.answers.state x.answers.left) (λ k. d) (λ a. a) (λ a n k y. y) v x.answers.answers
-  again (CommitErr e) n x = inside_fails _ _ _ _ _ _ _ _ _ _ _ _ (as_run x.answers.state x.answers.left) (λ k. d) e n x.answers.answers
-  again (PeekErr t) n x = inside_refuses _ _ _ _ _ _ _ _ _ _ _ _ (as_run x.answers.state x.answers.left) (λ k. d) t x.answers.answers
+  again (CommitOk v) n x = inside_commits (as_run x.answers.state x.answers.left) (λ k. d) (λ a. a) (λ a n k y. y) v x.answers.answers
+  again (PeekOk v) n x = inside_peeks (as_run x.answers.state x.answers.left) (λ k. d) (λ a. a) (λ a n k y. y) v x.answers.answers
+  again (CommitErr e) n x = inside_fails (as_run x.answers.state x.answers.left) (λ k. d) e n x.answers.answers
+  again (PeekErr t) n x = inside_refuses (as_run x.answers.state x.answers.left) (λ k. d) t x.answers.answers
 
   module _ (marked : View P T → Type 0) (i : marked (view input)) (new : View P T) (later : Failures) where
     module _ (e : E) (q : (s.kind e ≡ kinds.End) × ((view mid).is_open ≡ true)) (x : Runs (CommitErr e)) where
       is_open : (view input).is_open ≡ true
-      is_open = sym (same_mark here1 (once {R = R} {E = E} read) (ran x.answers.state x.answers.left) e x.answers.answers) ∙ q.1
+      is_open = sym (same_mark here1 (run_apart {R = R} {E = E} read) (ran x.answers.state x.answers.left) e x.answers.answers) ∙ q.1
 
-      asked : Asks here1 (once {R = R} {E = E} read) (ran x.answers.state x.answers.left)
-      asked = need_of_more here1 (once {R = R} {E = E} read) (ran x.answers.state x.answers.left) e q.0 is_open x.answers.answers
+      asked : Asks here1 (run_apart {R = R} {E = E} read) (ran x.answers.state x.answers.left)
+      asked = need_of_more here1 (run_apart {R = R} {E = E} read) (ran x.answers.state x.answers.left) e q.0 is_open x.answers.answers
 
       put_back : ResetTo counts_failures step marked (view mid) new (failures mid) later (Ok tt) → Answers here m (run new later) (CommitErr e)
       put_back b =
-          let a = stateless_asks here read ⊥ ⊥ (Anything {R = R}) (any_error {E = E}) (run new later) is_open asked.meant (λ z. absurd z) (b.is.0 (view input) i) (λ z. b.is.1 z ∙ asked.failures z) in
+          let a = stateless_asks here read ⊥ ⊥ (Anything {R = R}) (any_error {Error = E}) (run new later) is_open asked.meant (λ z. absurd z) (b.is.0 (view input) i) (λ z. b.is.1 z ∙ asked.failures z) in
           record { is = rw q.0 (subst (asks_or_refuses here m (run new later)) (sym is_open) a) }
 
       stuck : (k : Kind) → ResetTo counts_failures step marked (view mid) new (failures mid) later (Err k) → (f : E) → s.kind f ≡ k → Answers here m (run new later) (CommitErr f)

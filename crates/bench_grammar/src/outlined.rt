@@ -2,7 +2,7 @@
 ghost use Rattle.std.specs.Prelude.{◌≡◌};
 ghost use Rattle.combine_base.specs.Error.Errors.{AddsItems};
 ghost use Rattle.combine_base.specs.Parser.Meaning.{IsReading, IsSingle};
-ghost use Rattle.bench_grammar.specs.Apart.{Anything, RunsBehind, RunsOnce, SaysBehind, apart, apart_is_meaning, apart_means_one};
+ghost use Rattle.bench_grammar.specs.Apart.{Anything, RunsBehind, RunsApart, SaysBehind, apart, apart_is_meaning, apart_means_one};
 
 use combine_base::error::{ErrorOffset, ParseError, ParseResult, Tracked};
 use combine_base::parser::{Outputs, ParseMode, Parser};
@@ -90,7 +90,7 @@ fn run_outlined<C: Call, Input: Stream<Token = u8>>(
 ) -> ParseResult<C::Output, Input::Error>
 where
     Input::Error: ParseError<u8, Input::Range, Input::Position>,
-    ensures { RunsOnce Input.step Input.Error.observers Input.counts_failures Input.view Input.marks Input.failures (C.reading Input.Position Input.step) input.old input.new result }
+    ensures { RunsApart Input.step Input.Error.observers Input.counts_failures Input.view Input.marks Input.failures (C.reading Input.Position Input.step) input.old input.new result }
 {
     let (answer, _input) = <C as Call>::accept::<Input, RunVisitor<'_, Input>>(
         alloc,

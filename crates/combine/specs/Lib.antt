@@ -18,10 +18,13 @@ pub use Rattle.combine_base.specs.Parser.Outcome
 pub use Rattle.combine_base.specs.Parser.Pieces
 pub use Rattle.combine_base.specs.Sequence.Longer
 pub use Rattle.combine_base.specs.Sequence.Places
+pub use Rattle.combine_base.specs.Distances
+pub use Rattle.combine_base.specs.Predicates
 pub use Rattle.combine_base.specs.Refusals
 pub use Rattle.combine_base.specs.Error.Results
 pub use Rattle.combine_base.specs.Sequence.Readings
 pub use Rattle.combine_base.specs.Parser.Reasons
+pub use Rattle.combine_base.specs.Parser.RunOnce
 pub use Rattle.combine_base.specs.Sequence.Meanings
 pub use Rattle.combine_base.specs.Parser.Sessions
 pub use Rattle.combine_base.specs.Stream.Slices
@@ -102,7 +105,6 @@ pub use Rattle.combine_byte_num.specs.WholeNumbers
 pub use Rattle.combine_combinator_function.specs.Changes
 pub use Rattle.combine_combinator_function.specs.Functions
 pub use Rattle.combine_combinator_function.specs.Unexpected
-pub use Rattle.combine_error.specs.Copies
 pub use Rattle.combine_error.specs.Easy
 pub use Rattle.combine_error.specs.RewordedErrors
 pub use Rattle.combine_error.specs.ErrorParsers

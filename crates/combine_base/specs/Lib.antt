@@ -1,6 +1,7 @@
 pub mod Distances
 pub mod Error
 pub mod Parser
+pub mod Predicates
 pub mod Refusals
 pub mod Sequence
 pub mod Stream

@@ -9,7 +9,7 @@ pub trait Order<T> {
     /// The number that stands in these bytes.
     ghost number: { List T → ℕ };
 
-    /// Returns the number of so many bytes and this one after them, of the number of those.
+    /// Returns the number of `count` bytes and this one after them, from the number of the first.
     fn push(so_far: u64, count: u8, byte: T) -> u64
         requires few { count < 8 }
         requires fits { so_far < 256 ^ count }

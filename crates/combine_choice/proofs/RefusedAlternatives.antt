@@ -24,7 +24,7 @@ use Rattle.combine_token.specs.Choice.Choices.{OrElse, Later, either_into}
 use Rattle.combine_token.proofs.Choices.ChoiceOutcomes.{Tries, tries_start, tries_asks, tries_fails, tries_commit_ok, tries_peek_ok}
 use Rattle.combine_token.proofs.Choices.MergedRefusals.{no_fault}
 use Rattle.combine_choice.specs.ListChoice.{first_alternative, running_or_later, every, every_drop, choice_of, running_lost}
-use Rattle.combine_choice.specs.SliceCalls.{AlternativeCall}
+use Rattle.combine_choice.specs.SliceCalls.{CallsAlternative}
 use Rattle.combine_choice.specs.declared.choice.slice.SliceState.{SliceState}
 use Rattle.combine_choice.specs.declared.choice.slice.SliceState.TheVariants.{Peek, At}
 
@@ -143,16 +143,17 @@ alternative_begins {X} {P} {T} {R} {E} {V} {S} w errors cmp valid m xs i x ys he
     at_here : (g : Meaning P T R E V S → Type 0) → every m g xs → every m g (x ∷ ys)
     at_here g k = subst (λ zs. every m g zs) here (every_drop m g i xs k)
 
--- what a turn peeks is no fault
-pub turn_no_fault : {P T R E V S S' : Type 0} (w : World P T S E) (m : Meaning P T R E V S) (peek : S') (at : S → S') (first : Bool) (given : S) (kept : S') (old new : View P T) (before after : Failures) (answer : ParseResult V E) → AlternativeCall w m peek at first given kept old new before after answer → PeeksNoFault w.kind answer
-turn_no_fault w m peek at first given kept old new before after (CommitOk v) t = tt
-turn_no_fault w m peek at first given kept old new before after (PeekOk v) t = tt
-turn_no_fault w m peek at first given kept old new before after (CommitErr e) t = tt
-turn_no_fault w m peek at first given kept old new before after (PeekErr e) t = no_fault w m (record { first = first; state = given; left = t.left; old = old; new = new; before = before; after = after }) e t.answers
+module _ {P T R E V S S' : Type 0} {w : World P T S E} {m : Meaning P T R E V S} {peek : S'} {at : S → S'} {first : Bool} {given : S} {kept : S'} {old new : View P T} {before after : Failures} where
+  -- what an alternative peeks is no fault
+  pub alternative_no_fault : (answer : ParseResult V E) → CallsAlternative w m peek at first given kept old new before after answer → PeeksNoFault w.kind answer
+  alternative_no_fault (CommitOk v) t = tt
+  alternative_no_fault (PeekOk v) t = tt
+  alternative_no_fault (CommitErr e) t = tt
+  alternative_no_fault (PeekErr e) t = no_fault w m (record { first = first; state = given; left = t.left; old = old; new = new; before = before; after = after }) e t.answers
 
--- a turn refuses with what its alternative refuses with where it refuses
-pub turn_meant : {P T R E V S S' : Type 0} (w : World P T S E) (m : Meaning P T R E V S) (peek : S') (at : S → S') (first : Bool) (given : S) (kept : S') (old new : View P T) (before after : Failures) (answer : ParseResult V E) → AlternativeCall w m peek at first given kept old new before after answer → Reasoned w.kind new.is_open (begun_refuses m first given old new) answer → Reasoned w.kind new.is_open (MeantRefusal (begun m first given) (begun_refuses m first given) old new) answer
-turn_meant w m peek at first given kept old new before after answer t r = reasoned_meant t.answers r
+  -- a call of an alternative refuses with what it means to refuse with
+  pub alternative_meant : {answer : ParseResult V E} → CallsAlternative w m peek at first given kept old new before after answer → Reasoned w.kind new.is_open (begun_refuses m first given old new) answer → Reasoned w.kind new.is_open (MeantRefusal (begun m first given) (begun_refuses m first given) old new) answer
+  alternative_meant t r = reasoned_meant t.answers r
 
 -- an answer that isn't a peeked refusal
 abbrev pub IsSettled : {V E : Type 0} → ParseResult V E → Type 0
@@ -172,8 +173,8 @@ module _ {X P T R V S E : Type 0} (step : P → T → P) (errors : Observers T R
     abbrev whole_run : CallRecord P T (SliceState S)
     whole_run = record { first = began; state = given; left = kept; old = old; new = new; before = before; after = after }
 
-    abbrev TakesTurn : ParseResult V E → Type 0
-    TakesTurn = AlternativeCall inner (m x) Peek (λ s. At at s) first s kept now new f after
+    abbrev CallsIt : ParseResult V E → Type 0
+    CallsIt = CallsAlternative inner (m x) Peek (λ s. At at s) first s kept now new f after
 
     abbrev Now : Type 0
     Now = TriesOne inner errors cmp m xs began given old before x ys first s now f
@@ -181,11 +182,11 @@ module _ {X P T R V S E : Type 0} (step : P → T → P) (errors : Observers T R
     abbrev run_of : S → CallRecord P T S
     run_of left = record { first = first; state = s; left = left; old = now; new = new; before = f; after = after }
 
-    -- a turn's answer is the choice's, if it isn't a peeked refusal
-    pub turn_settles : Now → (result : ParseResult V E) → IsSettled result → TakesTurn result → Answers outer (choice_of errors cmp m xs) whole_run result
-    turn_settles z (CommitOk v) i t = tries_commit_ok inner (λ s. s ≡ Peek) (m x) (first_alternative m ys) (choice_of errors cmp m xs) (run_of t.left) whole_run z refl refl v (t.ends (λ a. a)) t.answers
-    turn_settles z (PeekOk v) i t = tries_peek_ok inner (λ s. s ≡ Peek) (m x) (first_alternative m ys) (choice_of errors cmp m xs) (run_of t.left) whole_run z refl refl v (t.ends (λ a. a)) t.answers
-    turn_settles z (CommitErr e) i t =
+    -- an alternative's answer is the choice's, if it isn't a peeked refusal
+    pub alternative_settles : Now → (result : ParseResult V E) → IsSettled result → CallsIt result → Answers outer (choice_of errors cmp m xs) whole_run result
+    alternative_settles z (CommitOk v) i t = tries_commit_ok inner (λ s. s ≡ Peek) (m x) (first_alternative m ys) (choice_of errors cmp m xs) (run_of t.left) whole_run z refl refl v (t.ends (λ a. a)) t.answers
+    alternative_settles z (PeekOk v) i t = tries_peek_ok inner (λ s. s ≡ Peek) (m x) (first_alternative m ys) (choice_of errors cmp m xs) (run_of t.left) whole_run z refl refl v (t.ends (λ a. a)) t.answers
+    alternative_settles z (CommitErr e) i t =
         elim (need_or_not (errors.kind e) new.is_open) [
           | inl y ↦ tries_asks inner (λ s. s ≡ Peek) (m x) (first_alternative m ys) (choice_of errors cmp m xs) (run_of t.left) whole_run z refl refl e y t.answers (resting t.left (t.asks y)) (losing t.left (t.asks y))
           | inr y ↦ tries_fails inner (λ s. s ≡ Peek) (m x) (first_alternative m ys) (choice_of errors cmp m xs) (run_of t.left) whole_run z refl refl e y t.answers (λ k. t.ends y)
@@ -200,20 +201,20 @@ module _ {X P T R V S E : Type 0} (step : P → T → P) (errors : Observers T R
         losing left k v j =
             let a : running_lost m (drop at xs) left v = subst (λ q. (choice_of errors cmp m xs).lost q v) k j in
             subst (λ zs. running_lost m zs left v) here a
-    turn_settles z (PeekErr t) i k = absurd i
+    alternative_settles z (PeekErr t) i k = absurd i
 
     -- want of memory for the merged error
-    unstored : Now → (t : Tracked E) (e : E) → TakesTurn (PeekErr t) → (errors.kind e ≡ kinds.Memory) × (errors.never_allocates → ⊥) → Answers outer (choice_of errors cmp m xs) whole_run (CommitErr e)
+    unstored : Now → (t : Tracked E) (e : E) → CallsIt (PeekErr t) → (errors.kind e ≡ kinds.Memory) × (errors.never_allocates → ⊥) → Answers outer (choice_of errors cmp m xs) whole_run (CommitErr e)
     unstored z t e k h =
         let c = peeked_refusal inner (m x) (run_of k.left) (errors.kind t.error) k.answers.is in
         let l : Leaves outer whole_run = record { count = c.leaves.count; taken = subst (λ v. Takes step c.leaves.count v new) z.same c.leaves.taken; state = k.ends (λ a. a) } in
         record { is = rw h.0 (λ f l. h.1 f, l) }
 
     -- so is what comes after peeked refusals
-    pub later_settles : Now → (so_far : E) (answer result : ParseResult V E) → IsSettled result → TakesTurn answer → AfterRefusal errors cmp so_far answer result → Answers outer (choice_of errors cmp m xs) whole_run result
-    later_settles z so_far (CommitOk v) result i t h = rw h.is (turn_settles z (CommitOk v) tt t)
-    later_settles z so_far (PeekOk v) result i t h = rw h.is (turn_settles z (PeekOk v) tt t)
-    later_settles z so_far (CommitErr e) result i t h = rw h.is (turn_settles z (CommitErr e) tt t)
+    pub later_settles : Now → (so_far : E) (answer result : ParseResult V E) → IsSettled result → CallsIt answer → AfterRefusal errors cmp so_far answer result → Answers outer (choice_of errors cmp m xs) whole_run result
+    later_settles z so_far (CommitOk v) result i t h = rw h.is (alternative_settles z (CommitOk v) tt t)
+    later_settles z so_far (PeekOk v) result i t h = rw h.is (alternative_settles z (PeekOk v) tt t)
+    later_settles z so_far (CommitErr e) result i t h = rw h.is (alternative_settles z (CommitErr e) tt t)
     later_settles z so_far (PeekErr t) result i k h = by_result result i h.is
       where
         by_result : (result : ParseResult V E) → IsSettled result → refuses_both errors cmp so_far t.error result → Answers outer (choice_of errors cmp m xs) whole_run result
@@ -223,7 +224,7 @@ module _ {X P T R V S E : Type 0} (step : P → T → P) (errors : Observers T R
         by_result (PeekErr u) i h = absurd i
 
     -- all those so far were refused peeked
-    pub later_refuses : {C : Type 0} {a d : C → View P T → Type 0} → Now → IsReading (begun (m x) first s) → (so_far : E) (answer : ParseResult V E) (e : Tracked E) → TakesTurn answer → AfterRefusal errors cmp so_far answer (PeekErr e) → IsPeeked old.is_open (errors.kind so_far) → Passes a d f after → (every m (λ a. a.keeps) xs → every m (λ a. a.keeps) ys) → (every m (λ a. a.puts_back) xs → every m (λ a. a.puts_back) ys) → (every m (λ a. a.heapless) xs → every m (λ a. a.heapless) ys) → RefusedBefore inner errors cmp m xs began given old before ys new after (errors.kind e.error) × (kept ≡ Peek)
+    pub later_refuses : {C : Type 0} {a d : C → View P T → Type 0} → Now → IsReading (begun (m x) first s) → (so_far : E) (answer : ParseResult V E) (e : Tracked E) → CallsIt answer → AfterRefusal errors cmp so_far answer (PeekErr e) → IsPeeked old.is_open (errors.kind so_far) → Passes a d f after → (every m (λ a. a.keeps) xs → every m (λ a. a.keeps) ys) → (every m (λ a. a.puts_back) xs → every m (λ a. a.puts_back) ys) → (every m (λ a. a.heapless) xs → every m (λ a. a.heapless) ys) → RefusedBefore inner errors cmp m xs began given old before ys new after (errors.kind e.error) × (kept ≡ Peek)
     later_refuses z y so_far (CommitOk v) e t h p a ke pu le = absurd (let i = h.is in cc)
     later_refuses z y so_far (PeekOk v) e t h p a ke pu le = absurd (let i = h.is in cc)
     later_refuses z y so_far (CommitErr k) e t h p a ke pu le = absurd (let i = h.is in cc)

@@ -101,7 +101,7 @@ module _ {X P T R V S E : Type 0} (errors : Observers T R P E) (m : X → Meanin
   adding_none xs e = record { rest = λ e k. k }
 
   pub adding_more : (xs zs : List X) (x : X) (ys : List X) (old now new : E) → zs ≡ x ∷ ys → Adding xs zs old now → AddsItems errors ((m x).heapless) ((m x).adds) now new → Adding xs ys old new
-  adding_more xs zs x ys old now new here h k = record { rest = λ e i. h.rest e (subst (λ qs. AddsItems errors (every m (λ a. a.heapless) qs) (adds_all m qs) now e) (sym here) (says_together errors _ _ _ _ now new e k i)) }
+  adding_more xs zs x ys old now new here h k = record { rest = λ e i. h.rest e (subst (λ qs. AddsItems errors (every m (λ a. a.heapless) qs) (adds_all m qs) now e) (sym here) (says_together k i)) }
 
   pub adding_all : (xs ys : List X) (old now : E) → ys ≡ [] → Adding xs ys old now → AddsItems errors (every m (λ a. a.heapless) xs) (adds_all m xs) old now
   adding_all xs ys old now none h = h.rest now (subst (λ qs. AddsItems errors (every m (λ a. a.heapless) qs) (adds_all m qs) now now) (sym none) (record { is = inl ([], refl, record { kind = refl; position = refl; items = refl }) }))

@@ -23,7 +23,7 @@ use Rattle.combine_choice.specs.ListChoice.{AllSame, choice_of, slice_valid}
 
 module _ {P T R V S S' E : Type 0} (w : World P T S E) (m : Meaning P T R E V S) (peek : S') (at : S → S') where
   -- the alternative's answer; on need of more its state is kept in the choice's, and else none is
-  pub record AlternativeCall (first : Bool) (given : S) (kept : S') (old new : View P T) (before after : Failures) (result : ParseResult V E) : Type 0 where
+  pub record CallsAlternative (first : Bool) (given : S) (kept : S') (old new : View P T) (before after : Failures) (result : ParseResult V E) : Type 0 where
     pub left : S
     pub answers : Answers w m (record { first = first; state = given; left = left; old = old; new = new; before = before; after = after }) result
     pub asks : NeedsMore w.kind new.is_open result → kept ≡ at left
@@ -56,9 +56,9 @@ module _ {S : Type 0} (first : Bool) (given : SliceState S) (count : ℕ) where
     pub is : resumes_alternative result
 
 module _ {X Input U V Checkpoint T R P E : Type 0} (i : stream.Ghosts Input T R P E) (observers : Observers T R P E) where
-  -- the turn of the alternative at that index
-  abbrev pub TurnCall : (q : parser.Ghosts X Input U V Checkpoint T R P E) (fresh : U → Type 0) (index : ℕ) (x : X) (first : Bool) (given : U) (kept : SliceState U) (input after : Input) → ParseResult V E → Type 0
-  TurnCall q fresh index x first given kept input after result = AlternativeCall (world i.step observers i.counts_failures fresh) (q.meaning x) Peek (λ s. At index s) first given kept (i.view input) (i.view after) (i.failures input) (i.failures after) result
+  -- the call of the alternative at that index
+  abbrev pub AlternativeCall : (q : parser.Ghosts X Input U V Checkpoint T R P E) (fresh : U → Type 0) (index : ℕ) (x : X) (first : Bool) (given : U) (kept : SliceState U) (input after : Input) → ParseResult V E → Type 0
+  AlternativeCall q fresh index x first given kept input after result = CallsAlternative (world i.step observers i.counts_failures fresh) (q.meaning x) Peek (λ s. At index s) first given kept (i.view input) (i.view after) (i.failures input) (i.failures after) result
 
   -- the alternatives from that index on, the first of them from that state
   pub record ChoseFrom (cmp : P → P → Ordering) (q : parser.Ghosts X Input U V Checkpoint T R P E) (index : ℕ) (first : Bool) (kept : U) (xs ys : List X) (left : SliceState U) (input after : Input) (result : ParseResult V E) : Type 0 where

@@ -7,7 +7,7 @@ use Rattle.combine_base.specs.Parser.Meaning.{Meaning, begun}
 use Rattle.combine_base.specs.Parser.Answer.{CallRecord, World, Answers, Accepts, Refuses, Asks, Leaves, fails, asks_or_refuses, peeks, loses}
 use Rattle.combine_base.specs.Stream.Calls.{Passes, ResetTo}
 use Rattle.combine_base.specs.Parser.Drivers.{Broke}
-use Rattle.combine_base.specs.Distances.{PassesOver, MeasuresDistance, stops_distance}
+use Rattle.combine_base.specs.Distances.{PassesOver, MeasuresDistance, stops_distance, losing}
 use Rattle.combine_base.specs.Sequence.Parts.{accepted_as}
 use Rattle.combine_base.proofs.Errors.CallErrors.{around, left_settled, needs, need_of_more, peeked_refusal, same_mark}
 use Rattle.combine_base.proofs.Parsers.Progress.{after_none, takes_none, takes_more, takes_open}
@@ -17,7 +17,7 @@ use Rattle.combine_base.specs.declared.stream.Failures.{Failures}
 use Rattle.combine_base.specs.declared.error.Tracked.{Tracked}
 use Rattle.combine_base.specs.declared.error.ParseResult.{ParseResult}
 use Rattle.combine_base.specs.declared.error.ParseResult.TheVariants.{CommitOk, PeekOk, CommitErr, PeekErr}
-use Rattle.combine_combinator.specs.Attempt.{IsFreshTry, with_peeked_refusal, refusing, losing, Attempts, LosesTry, Short, LostWithin, attempted, KeepsTokenDistance, PutsBack, keeps_token_distance}
+use Rattle.combine_combinator.specs.Attempt.{IsFreshTry, with_peeked_refusal, refusing, Attempts, LosesTry, Short, LostWithin, attempted, KeepsTokenDistance, PutsBack, keeps_token_distance}
 use Rattle.combine_combinator.specs.declared.combinator.TryState.{TryState}
 
 -- a part's refusal that could not be put back: the fault of the reset

@@ -30,15 +30,6 @@ refusing kinds.Read = false
 refusing kinds.Reset = false
 refusing kinds.Lost = false
 
--- the input ended within the distance
-abbrev pub losing : Kind → Kind
-losing kinds.End = kinds.Lost
-losing kinds.Refused = kinds.Refused
-losing kinds.Memory = kinds.Memory
-losing kinds.Read = kinds.Read
-losing kinds.Reset = kinds.Reset
-losing kinds.Lost = kinds.Lost
-
 -- a default state: no distance is kept, and the part's state is a default one
 abbrev pub IsFreshTry : {S : Type 0} → (S → Type 0) → TryState S → Type 0
 IsFreshTry fresh s = (s.distance ≡ 0) × fresh s.part

@@ -3,6 +3,7 @@ pub use Rattle.combine_base.specs.Parser.ValueMap
 pub use Rattle.combine_base.specs.Parser.Meaning
 pub use Rattle.combine_base.specs.Parser.Outcome
 pub use Rattle.combine_base.specs.Stream.View
+pub use Rattle.combine_base.specs.Distances
 pub mod Attempt
 pub mod ResetAnswers
 pub mod CombinatorParsers

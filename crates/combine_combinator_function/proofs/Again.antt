@@ -7,6 +7,7 @@ use Rattle.combine_base.specs.Parser.Drivers.{afresh}
 use Rattle.combine_base.specs.Parser.Meaning.{Meaning, Reading, Refusing}
 use Rattle.combine_base.specs.Stream.Calls.{ResetTo}
 use Rattle.combine_base.specs.Stream.View.{View}
+use Rattle.combine_base.specs.Parser.RunOnce.{once_world}
 use Rattle.combine_base.proofs.Errors.CallErrors.{need_of_more, same_mark, unreset}
 use Rattle.combine_base.proofs.Parsers.InnerCalls.{InsideCall, inside_commits, inside_fails, inside_peeks, inside_refuses}
 use Rattle.combine_base.proofs.Parsers.Progress.{takes_more}
@@ -19,14 +20,14 @@ use Rattle.combine_base.specs.declared.stream.Kind.{Kind}
 use Rattle.combine_base.specs.declared.stream.Kind.TheVariants as kinds
 use Rattle.combine_token.specs.Token.Stateless.{stateless}
 use Rattle.combine_token.proofs.Tokens.Stateless.{stateless_asks, into_begun}
-use Rattle.combine_combinator_function.specs.Once.{RunsOnce, once, once_world}
+use Rattle.combine_combinator_function.specs.Once.{RunsOnce, once}
 
 module _ {I P T R E C S V : Type 0} (step : P → T → P) (s : Observers T R P E) (counts_failures : Type 0) (view : I → View P T) (marks : I → C → View P T → Type 0) (failures : I → Failures) (fresh : S → Type 0) (read : Reading P T V) (refuses : Refusing P T E) (first : Bool) (state left : S) (d : fresh left) (input mid : I) where
   abbrev w : World P T S E
   w = world step s counts_failures fresh
 
   abbrev w1 : World P T Bool E
-  w1 = once_world step s counts_failures view marks failures
+  w1 = once_world step s counts_failures
 
   abbrev m : Meaning P T R E V S
   m = stateless read ⊥ (Unit {0}) AddsNothing refuses
@@ -51,18 +52,18 @@ module _ {I P T R E C S V : Type 0} (step : P → T → P) (s : Observers T R P 
   Runs = RunsOnce step s counts_failures view marks failures read input mid
 
   pub again_ok : (v : V) → Runs (CommitOk v) → Answers w m (run (view mid) (failures mid)) (CommitOk v)
-  again_ok v x = inside_commits _ _ _ _ _ _ _ _ _ _ _ _ (inside x.answers.state x.answers.left) (λ k. d) (λ a. a) (λ a n k y. y) v x.answers.answers
+  again_ok v x = inside_commits (inside x.answers.state x.answers.left) (λ k. d) (λ a. a) (λ a n k y. y) v x.answers.answers
 
   pub again_peek_ok : (v : V) → Runs (PeekOk v) → Answers w m (run (view mid) (failures mid)) (PeekOk v)
-  again_peek_ok v x = inside_peeks _ _ _ _ _ _ _ _ _ _ _ _ (inside x.answers.state x.answers.left) (λ k. d) (λ a. a) (λ a n k y. y) v x.answers.answers
+  again_peek_ok v x = inside_peeks (inside x.answers.state x.answers.left) (λ k. d) (λ a. a) (λ a n k y. y) v x.answers.answers
 
   pub again_peek_err : (t : Tracked E) → Runs (PeekErr t) → Answers w m (run (view mid) (failures mid)) (PeekErr t)
-  again_peek_err t x = inside_refuses _ _ _ _ _ _ _ _ _ _ _ _ (inside x.answers.state x.answers.left) (λ k. d) t x.answers.answers
+  again_peek_err t x = inside_refuses (inside x.answers.state x.answers.left) (λ k. d) t x.answers.answers
 
   module _ (e : E) (x : Runs (CommitErr e)) where
     -- no need of more
     pub again_err : ((s.kind e ≡ kinds.End) × ((view mid).is_open ≡ true) → ⊥) → Answers w m (run (view mid) (failures mid)) (CommitErr e)
-    again_err n = inside_fails _ _ _ _ _ _ _ _ _ _ _ _ (inside x.answers.state x.answers.left) (λ k. d) e n x.answers.answers
+    again_err n = inside_fails (inside x.answers.state x.answers.left) (λ k. d) e n x.answers.answers
 
     module _ (q : (s.kind e ≡ kinds.End) × ((view mid).is_open ≡ true)) where
       is_open : (view input).is_open ≡ true

@@ -53,8 +53,8 @@ module _ {P T R E : Type 0} (step : P → T → P) (s : Observers T R P E) (coun
       error_inside e a = by_need (need_or_not (s.kind e) new.is_open)
         where
           by_need : ((s.kind e ≡ kinds.End) × (new.is_open ≡ true)) ⊎ ((s.kind e ≡ kinds.End) × (new.is_open ≡ true) → ⊥) → (left : Bool) × Answers w1 whole (afresh w1 whole false left old new f0 f2) (CommitErr e)
-          by_need (inl i) = (true, inside_asks _ _ _ _ _ _ _ _ _ _ _ _ (within true) keeping e i a)
-          by_need (inr i) = (false, inside_fails _ _ _ _ _ _ _ _ _ _ _ _ (within false) (λ k. refl) e i a)
+          by_need (inl i) = (true, inside_asks (within true) keeping e i a)
+          by_need (inr i) = (false, inside_fails (within false) (λ k. refl) e i a)
 
     abbrev Ends : ParseResult B E → Type 0
     Ends y = Starts w1 whole old new f0 f2 y
@@ -63,12 +63,12 @@ module _ {P T R E : Type 0} (step : P → T → P) (s : Observers T R P E) (coun
     fails_once e a = let x = error_inside a.state a.left e a.answers in record { state = false; left = x.0; answers = x.1 }
 
     pub refuses_once : (t : Tracked E) → Starts (w fresh) m mid new f1 f2 (PeekErr t) → Ends (refused_as c t)
-    refuses_once t a = record { state = false; left = false; answers = inside_refuses _ _ _ _ _ _ _ _ _ _ _ _ (within a.state a.left false) (λ k. refl) t a.answers }
+    refuses_once t a = record { state = false; left = false; answers = inside_refuses (within a.state a.left false) (λ k. refl) t a.answers }
 
     module _ (f : A → B) (accepted : (a : A) (n : ℕ) (k : Bool) → m.whole mid (Accepted a n k) → here mid (Accepted (f a) n (c || k))) where
       pub ends_once : (y : ParseResult A E) → Starts (w fresh) m mid new f1 f2 y → Ends (joined_answer c f y)
-      ends_once (CommitOk v) a = record { state = false; left = false; answers = inside_commits _ _ _ _ _ _ _ _ _ _ _ _ (within a.state a.left false) (λ k. refl) f accepted v a.answers }
-      ends_once (PeekOk v) a = record { state = false; left = false; answers = inside_peeks _ _ _ _ _ _ _ _ _ _ _ _ (within a.state a.left false) (λ k. refl) f accepted v a.answers }
+      ends_once (CommitOk v) a = record { state = false; left = false; answers = inside_commits (within a.state a.left false) (λ k. refl) f accepted v a.answers }
+      ends_once (PeekOk v) a = record { state = false; left = false; answers = inside_peeks (within a.state a.left false) (λ k. refl) f accepted v a.answers }
       ends_once (CommitErr e) a = fails_once e a
       ends_once (PeekErr t) a = refuses_once t a
 
@@ -132,7 +132,7 @@ module _ {P T R E : Type 0} (step : P → T → P) (s : Observers T R P E) (coun
             let reads = p.reads in
             let resets = p.resets in
             record {
-              passes = passes_more (marks input) (marks mid) (marks left) (failures input) (failures mid) (failures left) p z.passes;
+              passes = passes_more p z.passes;
               answers = ends_once (λ b. b ≡ false) (once {R = R} {E = E} (q a)) tt both c (following c (f a) (q a)) (view input) (view mid) (view left) (failures input) (failures mid) (failures left) progress reads resets (λ k o. (Refused k, o, refl)) (λ o. (Undecided, o, refl)) (f a) (λ b n k o. (Accepted b n k, o, ap (λ j. Accepted (f a b) j (c || k)) (sym (zero-add n)))) y z.answers;
             }
 

@@ -1,10 +1,10 @@
 pub use Rattle.combine_base.specs.Error.Errors
+pub use Rattle.combine_base.specs.Error.Items
 pub use Rattle.combine_base.specs.Parser.Meaning
-pub use Rattle.combine_token.specs.Token.Lists.ListAnswers
 pub use Rattle.combine_token.specs.Token.Stateless
 pub mod Changes
 pub mod Functions
-pub mod Once
 pub mod ChangeParsers
 pub mod Unexpected
 pub mod OneRun
+pub mod Once

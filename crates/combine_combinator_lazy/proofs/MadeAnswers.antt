@@ -107,13 +107,13 @@ module _ {N Input V U Checkpoint T R P E : Type 0} (p : parser.Ghosts N Input U 
 
       by_answer : (y : ParseResult V E) → Answers own_world (p.meaning l.parser) call y → (NeedsMore observers.kind (i.view left).is_open y × (state ≡ Kept (record { parser = g.parser; state = g.stopped })) × p.valid g.stopped) ⊎ ((NeedsMore observers.kind (i.view left).is_open y → ⊥) × (state ≡ Unmade)) → Answers all_world all (call_from z state (i.view input) (i.view left) (i.failures input) (i.failures left)) y
       by_answer (CommitOk a) w (inl j) = absurd j.0
-      by_answer (CommitOk a) w (inr j) = inside_commits _ _ _ _ _ _ _ _ _ _ _ _ inside (λ x. j.1) (λ a. a) (λ a n k x. x) a w
+      by_answer (CommitOk a) w (inr j) = inside_commits inside (λ x. j.1) (λ a. a) (λ a n k x. x) a w
       by_answer (PeekOk a) w (inl j) = absurd j.0
-      by_answer (PeekOk a) w (inr j) = inside_peeks _ _ _ _ _ _ _ _ _ _ _ _ inside (λ x. j.1) (λ a. a) (λ a n k x. x) a w
-      by_answer (CommitErr e) w (inl j) = inside_asks _ _ _ _ _ _ _ _ _ _ _ _ inside (keeping j.1) e j.0 w
-      by_answer (CommitErr e) w (inr j) = inside_fails _ _ _ _ _ _ _ _ _ _ _ _ inside (λ x. j.1) e j.0 w
+      by_answer (PeekOk a) w (inr j) = inside_peeks inside (λ x. j.1) (λ a. a) (λ a n k x. x) a w
+      by_answer (CommitErr e) w (inl j) = inside_asks inside (keeping j.1) e j.0 w
+      by_answer (CommitErr e) w (inr j) = inside_fails inside (λ x. j.1) e j.0 w
       by_answer (PeekErr t) w (inl j) = absurd j.0
-      by_answer (PeekErr t) w (inr j) = inside_refuses _ _ _ _ _ _ _ _ _ _ _ _ inside (λ x. j.1) t w
+      by_answer (PeekErr t) w (inr j) = inside_refuses inside (λ x. j.1) t w
 
       answered : Answers all_world all (call_from z state (i.view input) (i.view left) (i.failures input) (i.failures left)) y
       answered = by_answer y g.answers g.leaves

@@ -69,10 +69,10 @@ module _ {P T R A S E F Held : Type 0} (w : World P T S E) (held : F → Held) (
     }
 
     pub recognize_fails : (e : E) → ((w.kind e ≡ kinds.End) × (mid.is_open ≡ true) → ⊥) → Answers w m call (CommitErr e) → Answers all_world all (call_around mid between) (CommitErr e)
-    recognize_fails e i p = inside_fails w (IsFreshCollecting w.fresh) m all call false s left old before false (recognizes held none more earlier (m.rest s.part)) inside (λ x. fresh) e i p
+    recognize_fails e i p = inside_fails inside (λ x. fresh) e i p
 
     pub recognize_refuses : (t : Tracked E) → Answers w m call (PeekErr t) → Answers all_world all (call_around mid between) (PeekErr t)
-    recognize_refuses t p = inside_refuses w (IsFreshCollecting w.fresh) m all call false s left old before false (recognizes held none more earlier (m.rest s.part)) inside (λ x. fresh) t p
+    recognize_refuses t p = inside_refuses inside (λ x. fresh) t p
 
     -- a peeked acceptance takes nothing, and nothing is added
     pub recognize_peeks : (f : F) → held f ≡ earlier → IsReading (m.rest s.part) → (a : A) → Answers w m call (PeekOk a) → Answers all_world all (call_around mid between) (PeekOk f)

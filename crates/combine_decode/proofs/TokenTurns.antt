@@ -8,8 +8,8 @@ use Rattle.combine_token.specs.Token.OneToken.{of_function, one_token, satisfied
 use Rattle.combine_repeat_turns.specs.Turns.Bounds.{bounded, judged, none_yet, refused_at}
 use Rattle.combine_repeat_turns.specs.Repeat.Repeated.{appended, no_value_ends}
 use Rattle.combine_repeat_turns.specs.Turns.Blocks.{Block, Collecting, HoldsCollected, DividesBlocks, FoldsAll, TakesBlock, Rule, StopsTurns, StopsHere, TurnsOutcome, any_committed, taken, values}
-use Rattle.combine_repeat_turns.specs.declared.turns.Bounds.TheVariants.{Counted}
-use Rattle.combine_repeat_turns.specs.declared.turns.TurnIndex.{TurnIndex}
+use Rattle.combine_repeat_turns.specs.declared.bounds.Bounds.TheVariants.{Counted}
+use Rattle.combine_repeat_turns.specs.declared.bounds.TurnIndex.{TurnIndex}
 
 -- what tokens appended one by one make
 folds_to : {T : Type 0} (h xs i : List T) → FoldsAll (λ us t ws. ws ≡ us ++ t ∷ []) h xs i → i ≡ h ++ xs
@@ -24,7 +24,7 @@ module _ {P T : Type 0} (step : P → T → P) (most : ℕ) where
   rule = bounded (Counted most most) no_value_ends
 
   abbrev place : ℕ → Bool → TurnIndex
-  place i g = record { number = i; begun = g }
+  place i g = record { number = i; took_before = g }
 
   abbrev view : P → List T → Bool → View P T
   view p us o = record { position = p; unread = us; is_open = o }

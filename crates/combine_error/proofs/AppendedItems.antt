@@ -1,13 +1,9 @@
 -- items added one after another
 use Rattle.std.proofs.Common.{◌≡◌, ◌⊎◌, inl, inr, List, [], ◌∷◌, ◌++◌, ap, sym, ◌∙◌, refl}
 use Rattle.combine_base.specs.Error.Items.{ErrorItem}
-use Rattle.combine_base.specs.Error.Errors.{Observers, Only, Added, Unstored, AddsItems, with_items, with_item}
+use Rattle.combine_base.specs.Error.Errors.{Observers, Only, Added, Unstored, AddsItems, with_items, with_items_append}
 
 module _ {T R P E : Type 0} (s : Observers T R P E) where
-  pub with_items_append : (is js xs : List (ErrorItem T R)) → with_items s (is ++ js) xs ≡ with_items s js (with_items s is xs)
-  with_items_append [] js xs = refl
-  with_items_append (i ∷ is) js xs = with_items_append is js (with_item s i xs)
-
   -- one more of a list
   pub says_more : (is : List (ErrorItem T R)) (i : ErrorItem T R) (e e' e'' : E) → AddsItems s (Unit {0}) (λ x. x ≡ is) e e' → AddsItems s (Unit {0}) (Only i) e' e'' → AddsItems s (Unit {0}) (λ x. x ≡ is ++ i ∷ []) e e''
   says_more is i e e' e'' a b = record { is = both a.is b.is }
@@ -19,7 +15,7 @@ module _ {T R P E : Type 0} (s : Observers T R P E) where
         record {
           kind = l.2.kind ∙ k.2.kind;
           position = l.2.position ∙ k.2.position;
-          items = l.2.items ∙ ap (λ y. with_items s y (s.items e')) l.1 ∙ ap (with_items s (i ∷ [])) (k.2.items ∙ ap (λ y. with_items s y (s.items e)) k.1) ∙ sym (with_items_append is (i ∷ []) (s.items e));
+          items = l.2.items ∙ ap (λ y. with_items s y (s.items e')) l.1 ∙ ap (with_items s (i ∷ [])) (k.2.items ∙ ap (λ y. with_items s y (s.items e)) k.1) ∙ sym (with_items_append s is (i ∷ []) (s.items e));
         },
       )
       both (inl k) (inr v) = inr (record { kind = v.kind; position = v.position ∙ k.2.position; memory = v.memory })

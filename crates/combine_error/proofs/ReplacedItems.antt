@@ -3,8 +3,7 @@ use Rattle.std.proofs.Common.{ℕ, ◌≡◌, ◌⊎◌, inl, inr, List, [], ◌
 use Rattle.std.proofs.lemmas.List.{append-nil}
 use Rattle.std.specs.List.{list_any}
 use Rattle.combine_base.specs.Error.Items.{ErrorItem, Unexpected, Expected, Message, is_expected, others}
-use Rattle.combine_base.specs.Error.Errors.{Observers, Only, AddsItems, Added, Unstored, ClearedAfter, TellsApart, with_item, with_items}
-use Rattle.combine_error.proofs.AppendedItems.{with_items_append}
+use Rattle.combine_base.specs.Error.Errors.{Observers, Only, AddsItems, Added, Unstored, ClearedAfter, TellsApart, with_item, with_items, with_items_append}
 use Rattle.combine_error.specs.RewordedErrors.{WithOneMore, ReplacesExpected}
 
 not_true : (b : Bool) → (b ≡ true → ⊥) → b ≡ false

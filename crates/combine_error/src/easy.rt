@@ -5,7 +5,6 @@ ghost use Rattle.combine_base.specs.Error.Errors.{Only, AddsItems};
 ghost use Rattle.combine_base.specs.Error.Items.{in_role, shown};
 ghost use Rattle.combine_error.specs.Easy.{about_same, cleared_from, is_other, item_same, listed_errors, said};
 
-use crate::info::copied;
 use combine_base::error::{DetailedError, Info, ParseError, Role, StreamError};
 use combine_base::stream::Kind;
 use std::cmp::Ordering;
@@ -246,7 +245,7 @@ impl<T: Copy + PartialEq, R: Copy + PartialEq, P: Ord + Copy> ParseError<T, R, P
     }
 
     fn add_info(&mut self, role: Role, info: &Info<T, R>) {
-        match copied(info) {
+        match info.copied() {
             Ok(info) => self.put(item_of(role, info)),
             Err(_refused) => self.kind = Kind::Memory,
         }

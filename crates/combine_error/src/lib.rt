@@ -3,5 +3,4 @@
 
 pub mod easy;
 pub mod error;
-mod info;
 pub mod span;

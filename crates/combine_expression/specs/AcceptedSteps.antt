@@ -4,10 +4,10 @@ use Rattle.std.proofs.Common.{subst}
 use Rattle.combine_base.specs.Stream.View.{View, advanced}
 use Rattle.combine_base.specs.Parser.Outcome.{Outcome, Accepted, Refused, Undecided}
 use Rattle.combine_base.specs.Parser.Meaning.{Meaning, Reading}
-use Rattle.combine_base.specs.Sequence.JoinedOutcome.{joined}
+use Rattle.combine_base.specs.Sequence.JoinedOutcome.{joined, last_value}
 use Rattle.combine_base.specs.Sequence.Readings.{continues}
 use Rattle.combine_nested.specs.declared.nested.Next.{Next}
-use Rattle.combine_nested.specs.NestedSteps.{FramesChange, Opened, Closed, Denied, TooDeep, answered_for_frame, after_step, after_progress, last_value, mark_taken, marked_taken, settles_frames, stepping, steps_at_most, after_item}
+use Rattle.combine_nested.specs.NestedSteps.{FramesChange, Opened, Closed, Denied, TooDeep, answered_for_frame, after_step, after_progress, mark_taken, marked_taken, settles_frames, stepping, steps_at_most, after_item}
 
 module _ {P T R E F I V N U : Type 0} (step : P → T → P) (depth : ℕ) (roots : F → Type 0) (answers : F → N → Type 0) (takes : F → I → Next F V → Type 0) (joins : F → V → Next F V → Type 0) (some : N → Type 0) (means : N → Meaning P T R E I U) where
   abbrev pub reads_item : F → Reading P T I

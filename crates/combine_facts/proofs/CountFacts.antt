@@ -4,12 +4,12 @@ use Rattle.std.proofs.Common.{arith, ltb-false, ltb-true}
 use Rattle.combine_base.specs.Stream.View.{View}
 use Rattle.combine_base.specs.Parser.Outcome.{Outcome, Accepted, Refused, Undecided}
 use Rattle.combine_base.specs.Parser.Meaning.{Reading}
-use Rattle.combine_repeat_turns.specs.Turns.Bounds.{accepted_at, bounded, counted_to, enough, full_at, is_block_at, judged, turn_after, refused_at}
+use Rattle.combine_repeat_turns.specs.Turns.Bounds.{accepted_at, bounded, counted_to, full_at, is_enough, is_block_at, judged, turn_after, refused_at}
 use Rattle.combine_repeat_turns.specs.Repeat.Repeated.{no_value_ends}
 use Rattle.combine_repeat_turns.specs.Turns.Blocks.{StopsTurns, StopsHere}
-use Rattle.combine_repeat_turns.specs.declared.turns.Bounds.{Bounds}
-use Rattle.combine_repeat_turns.specs.declared.turns.Bounds.TheVariants.{Unbounded, OwnFirst, Counted}
-use Rattle.combine_repeat_turns.specs.declared.turns.TurnIndex.{TurnIndex}
+use Rattle.combine_repeat_turns.specs.declared.bounds.Bounds.{Bounds}
+use Rattle.combine_repeat_turns.specs.declared.bounds.Bounds.TheVariants.{Unbounded, OwnFirst, Counted}
+use Rattle.combine_repeat_turns.specs.declared.bounds.TurnIndex.{TurnIndex}
 use Rattle.combine_facts.specs.TurnReads.{so_many}
 
 -- what a test says that is turned round
@@ -55,7 +55,7 @@ counts_below most n h = by_case (nat_lt n most) (λ e. ltb-false n most e)
     by_case true h = cc
     by_case false f = let i = f (cc) in absurd (omega arith)
 
-enough_has : (b : Bounds) (g : TurnIndex) → enough b g ≡ true → fewest b ≤ g.number
+enough_has : (b : Bounds) (g : TurnIndex) → is_enough b g ≡ true → fewest b ≤ g.number
 enough_has Unbounded g e = omega arith
 enough_has (OwnFirst least None) g e = let i = reached 0 (least - g.number) e in omega arith
 enough_has (OwnFirst least (Some most)) g e = let i = reached 0 (least - g.number) e in omega arith
@@ -93,13 +93,13 @@ so_many_is (OwnFirst least (Some most)) n h w = (h, w)
 so_many_is (Counted least most) n h w = (h, w)
 
 module _ {P T A : Type 0} (step : P → T → P) (b : Bounds) (turn : TurnIndex → Reading P T A) (n : ℕ) (k : Bool) (g : TurnIndex) where
-  judged_so : (o : Outcome A) → judged b no_value_ends g o ≡ StopsTurns (Accepted tt n k) → (n ≡ 0) × (enough b g ≡ true)
+  judged_so : (o : Outcome A) → judged b no_value_ends g o ≡ StopsTurns (Accepted tt n k) → (n ≡ 0) × (is_enough b g ≡ true)
   judged_so (Accepted a m c) e = by_goes (is_block_at b g m c) e
     where
-      by_goes : (goes : Bool) → accepted_at m c false goes ≡ StopsTurns (Accepted tt n k) → (n ≡ 0) × (enough b g ≡ true)
+      by_goes : (goes : Bool) → accepted_at m c false goes ≡ StopsTurns (Accepted tt n k) → (n ≡ 0) × (is_enough b g ≡ true)
       by_goes true e = absurd (cc)
       by_goes false e = absurd (cc)
-  judged_so (Refused c) e = by_case (enough b g) c e
+  judged_so (Refused c) e = by_case (is_enough b g) c e
     where
       by_case : (there c : Bool) → refused_at there c ≡ StopsTurns (Accepted tt n k) → (n ≡ 0) × (there ≡ true)
       by_case true true e = absurd (cc)

@@ -9,11 +9,11 @@ use Rattle.combine_base.specs.Stream.View.{View, advanced}
 use Rattle.combine_base.specs.Parser.Outcome.{Outcome, Accepted, Refused, Undecided, after}
 use Rattle.combine_base.specs.Parser.Meaning.{Reading}
 use Rattle.combine_token.specs.Token.OneToken.{of_function, one_token, satisfied}
-use Rattle.combine_repeat_turns.specs.Turns.Bounds.{bounded, limit, turn_after, none_yet}
+use Rattle.combine_repeat_turns.specs.Turns.Bounds.{bounded, count_bound, turn_after, none_yet}
 use Rattle.combine_repeat_turns.specs.Repeat.Repeated.{appended, dropped, no_value_ends}
 use Rattle.combine_repeat_turns.specs.Turns.Blocks.{Block, Collecting, DividesBlocks, FoldsAll, TurnsOutcome, any_committed, taken, values}
-use Rattle.combine_repeat_turns.specs.declared.turns.Bounds.{Bounds}
-use Rattle.combine_repeat_turns.specs.declared.turns.TurnIndex.{TurnIndex}
+use Rattle.combine_repeat_turns.specs.declared.bounds.Bounds.{Bounds}
+use Rattle.combine_repeat_turns.specs.declared.bounds.TurnIndex.{TurnIndex}
 use Rattle.combine_facts.specs.TurnReads.{all_where, each, first_and_each, gathers, listed, passed, so_many}
 use Rattle.combine_facts.specs.Reads.{Reads, one_where}
 use Rattle.combine_facts.proofs.CountFacts.{counts_up, fewest, next_fits, next_within, none_within, so_many_is, stops_with_enough, within_bounds}
@@ -38,7 +38,7 @@ module _ {P T A : Type 0} (step : P → T → P) (b : Bounds) {later : Reading P
       let more = divided n k bs h (turn_after b g) (advanced step x.count v) w.3 in
       let here = one.0 in
       let there = more.1 in
-      let number = counts_up (limit b) g.number in
+      let number = counts_up (count_bound b) g.number in
       let enough = more.3 in
       (more.0, omega (arith, length-drop x.count v.unread), (take x.count v.unread, take (taken bs) (drop x.count v.unread), take-add x.count (taken bs) v.unread, one.1, same_each says (take (taken bs) (drop x.count v.unread)) (values bs) more.2), omega arith, λ z. next_within b g (length (values bs)) w.0 (more.4 (next_fits b g w.0)))
 
@@ -46,9 +46,9 @@ module _ {P T A : Type 0} (step : P → T → P) (b : Bounds) {later : Reading P
   pub turns_reads : {V : Type 0} (c : Collecting A V) {begins : Reading P T A} {first : List T → A → Type 0} → Reads begins first → Reads (TurnsOutcome step (bounded b no_value_ends) c (λ _. later) begins (none_yet c.none)) (gathers b c first says)
   turns_reads {V} c {begins} {first} i = record { one = λ v a n k w. at v a n k w.blocks w.last w.held w.divided w.joined w.folded w.collected }
     where
-      at : (v : View P T) (a : V) (n : ℕ) (k : Bool) (bs : List (Block A)) (last : Outcome (Unit {0})) (held : c.Held) → DividesBlocks step (bounded b no_value_ends) (λ _. later) last begins (record { number = 0; begun = false }) bs v → Accepted tt n k ≡ after (taken bs) (false || any_committed bs) last → FoldsAll c.more c.none (values bs) held → c.held a ≡ held → (n ≤ length v.unread) × gathers b c first says (take n v.unread) a
+      at : (v : View P T) (a : V) (n : ℕ) (k : Bool) (bs : List (Block A)) (last : Outcome (Unit {0})) (held : c.Held) → DividesBlocks step (bounded b no_value_ends) (λ _. later) last begins (record { number = 0; took_before = false }) bs v → Accepted tt n k ≡ after (taken bs) (false || any_committed bs) last → FoldsAll c.more c.none (values bs) held → c.held a ≡ held → (n ≤ length v.unread) × gathers b c first says (take n v.unread) a
       at v a n k bs (Accepted u m d) held e f g l =
-          let j = divided m d bs i (record { number = 0; begun = false }) v e in
+          let j = divided m d bs i (record { number = 0; took_before = false }) v e in
           let none = j.0 in
           let some = j.1 in
           let sum : n ≡ taken bs + m = cc in

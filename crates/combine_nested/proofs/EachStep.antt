@@ -5,9 +5,9 @@ use Rattle.combine_base.specs.Parser.Answer.{World, CallRecord, Answers, Accepts
 use Rattle.combine_base.specs.Parser.Drivers.{Explained}
 use Rattle.combine_base.specs.Parser.KeptParsers.{KeptOf}
 use Rattle.combine_base.specs.Parser.Meaning.{Meaning, Reading, Refusing, IsMeaning, MeansSame, refusals_from}
-use Rattle.combine_base.specs.Parser.Outcome.{Outcome, Accepted, Refused, Undecided, after, or_assoc, or_false, or_true}
+use Rattle.combine_base.specs.Parser.Outcome.{Outcome, Accepted, Refused, Undecided, after, or_false, or_true}
 use Rattle.combine_base.specs.Parser.Reasons.{Reasoned, ReasonedCall}
-use Rattle.combine_base.specs.Sequence.JoinedOutcome.{joined}
+use Rattle.combine_base.specs.Sequence.JoinedOutcome.{joined, unchanged, last_value, joined_none, joined_twice}
 use Rattle.combine_base.specs.Sequence.Parts.{RunsFrom, refused_as, call_from}
 use Rattle.combine_base.specs.Sequence.Readings.{following}
 use Rattle.combine_base.specs.Stream.View.{View, Takes, advanced}
@@ -26,7 +26,7 @@ use Rattle.combine_base.specs.declared.stream.Failures.{Failures}
 use Rattle.combine_base.specs.declared.stream.Kind.TheVariants as kinds
 use Rattle.combine_base.specs.declared.stream.StreamOnce as stream
 use Rattle.combine_nested.specs.Asks.{asked_by_some, asked_so}
-use Rattle.combine_nested.specs.NestedSteps.{FramesChange, Opened, Closed, Denied, TooDeep, frames_around, begins_steps, valid_steps, steps_start_valid, marked_taken, last_value, unchanged, runs, stepping, after_item, after_progress, ended_refuses, goes_refuses, nested_refuses, running_step_refuses, runs_refuse, marked_is_reading, nesting}
+use Rattle.combine_nested.specs.NestedSteps.{FramesChange, Opened, Closed, Denied, TooDeep, frames_around, begins_steps, valid_steps, steps_start_valid, marked_taken, runs, stepping, after_item, after_progress, ended_refuses, goes_refuses, nested_refuses, running_step_refuses, runs_refuse, marked_is_reading, nesting}
 use Rattle.combine_nested.proofs.FrameStack.{one_higher}
 use Rattle.combine_nested.proofs.StepErrors.{next_step_refuses}
 use Rattle.combine_nested.proofs.StepCuts.{marked_resumes, one_more_step}
@@ -38,25 +38,6 @@ use Rattle.combine_nested.specs.declared.nested.steps.Frames.{Frames}
 use Rattle.combine_nested.specs.declared.nested.steps.RunningStep.{RunningStep}
 use Rattle.combine_nested.specs.declared.nested.steps.NestedState.{NestedState}
 use Rattle.combine_nested.specs.declared.nested.steps.NestedState.TheVariants as states
-
--- what comes after two parts, of which one or the other was committed
-joined_twice : {B C : Type 0} (c k : Bool) (b : B) (p : Outcome C) → joined 0 (c || k) unchanged p ≡ joined 0 c unchanged (joined 0 k (last_value b) p)
-joined_twice c k b (Accepted a n j) = let e = or_assoc c k j in let i : 0 + n ≡ 0 + (0 + n) = omega arith in cc
-joined_twice c k b (Refused j) = ap Refused (or_assoc c k j)
-joined_twice c k b Undecided = refl
-
-joined_none : {C : Type 0} (p : Outcome C) → joined 0 false unchanged p ≡ p
-joined_none (Accepted a n j) = let i : 0 + n ≡ n = omega arith in cc
-joined_none (Refused j) = refl
-joined_none Undecided = refl
-
--- what a call begins from is valid
-pub valid_from : {S : Type 0} {fresh valid : S → Type 0} {first : Bool} {given s : S} → ((s : S) → fresh s → valid s) → RunsFrom fresh first given s → valid given → valid s
-valid_from {S} {fresh} {valid} {first} {given} {s} h r v = by_mode first r
-  where
-    by_mode : (first : Bool) → RunsFrom fresh first given s → valid s
-    by_mode true r = h s (r.afresh refl)
-    by_mode false r = subst valid (sym (r.kept refl)) v
 
 module _ {F I V N Input U Checkpoint T R P E : Type 0} (p : parser.Ghosts N Input U I Checkpoint T R P E) (i : stream.Ghosts Input T R P E) (observers : Observers T R P E) (fresh : U → Type 0) (depth : ℕ) (roots : F → Type 0) (answers : F → N → Type 0) (takes : F → I → Next F V → Type 0) (joins : F → V → Next F V → Type 0) (some : N → Type 0) where
   abbrev all : Meaning P T R E V (NestedState F N U)
@@ -131,9 +112,9 @@ module _ {F I V N Input U Checkpoint T R P E : Type 0} (p : parser.Ghosts N Inpu
   }
 
   -- the next step's parser runs
-  pub runs_next_step : {valid : U → Type 0} (z : NestedState F N U) (old now : View P T) (before later : Failures) (c : Bool) (l : Frames F) → ReachesStep z old now before later c l → (n : N) → answers l.top n → kept n → (u : U) → fresh u → IsMeaning fresh valid (p.meaning n) → RunsStep z old now before later (record { frames = l; committed = c; begun = false; parser = n; state = u })
+  pub runs_next_step : {valid : U → Type 0} (z : NestedState F N U) (old now : View P T) (before later : Failures) (c : Bool) (l : Frames F) → ReachesStep z old now before later c l → (n : N) → answers l.top n → kept n → (u : U) → fresh u → IsMeaning fresh valid (p.meaning n) → RunsStep z old now before later (record { frames = l; committed = c; took_before = false; parser = n; state = u })
   runs_next_step z old now before later c l r n j k u d laws =
-      let q : RunningStep F N U = record { frames = l; committed = c; begun = false; parser = n; state = u } in
+      let q : RunningStep F N U = record { frames = l; committed = c; took_before = false; parser = n; state = u } in
       let to : (v : View P T) (o : Outcome V) → all.rest (states.Running q) v o → left_at c l v o = λ v o w. (w.0, one_more_step i.step depth roots answers takes joins some p.meaning l.top (frames_around l) v w.0 (w.1.0, (w.1.1.0, (n, j, (laws.start u v w.1.1.0 d).0 w.1.1.1), w.1.1.2), w.1.2), w.2) in
       record {
         kept = k;
@@ -164,7 +145,7 @@ module _ {F I V N Input U Checkpoint T R P E : Type 0} (p : parser.Ghosts N Inpu
     }
 
     abbrev kept_so : Bool → N → U → RunningStep F N U
-    kept_so b n stopped = record { frames = l.frames; committed = l.committed; begun = b; parser = n; state = stopped }
+    kept_so b n stopped = record { frames = l.frames; committed = l.committed; took_before = b; parser = n; state = stopped }
 
     -- what is kept of the step's parser, which its call may have changed, means what is left of it
     keeping : (n : N) → MeansSame (p.meaning l.parser) (p.meaning n) → (stopped : U) → KeepsStep p i observers fresh depth takes joins input left l n stopped state → KeepsAround part_world begins_steps (p.meaning l.parser) all (run stopped) false z state old before here r.progress.count
@@ -176,13 +157,13 @@ module _ {F I V N Input U Checkpoint T R P E : Type 0} (p : parser.Ghosts N Inpu
       puts_back = λ x. absurd x;
     }
       where
-        resumes_kept : (m : ℕ) → Takes i.step m (i.view input) (i.view left) → Resumes ((p.meaning l.parser).rest l.state) ((p.meaning l.parser).rest stopped) m (i.view input) (i.view left) → Resumes here (all.rest (states.Running (kept_so k.begun n stopped))) m (i.view input) (i.view left)
+        resumes_kept : (m : ℕ) → Takes i.step m (i.view input) (i.view left) → Resumes ((p.meaning l.parser).rest l.state) ((p.meaning l.parser).rest stopped) m (i.view input) (i.view left) → Resumes here (all.rest (states.Running (kept_so k.took_before n stopped))) m (i.view input) (i.view left)
         resumes_kept m t x =
-            let a = marked_taken l.begun ((p.meaning l.parser).rest l.state) in
-            let b = marked_taken k.begun ((p.meaning l.parser).rest stopped) in
-            let s = sequel_resumes i.step last_value (then_at l.frames.top (frames_around l.frames)) m (i.view input) (i.view left) t a b (marked_resumes l.begun k.begun ((p.meaning l.parser).rest l.state) ((p.meaning l.parser).rest stopped) m (i.view input) (i.view left) (k.took m t) x) in
+            let a = marked_taken l.took_before ((p.meaning l.parser).rest l.state) in
+            let b = marked_taken k.took_before ((p.meaning l.parser).rest stopped) in
+            let s = sequel_resumes i.step last_value (then_at l.frames.top (frames_around l.frames)) m (i.view input) (i.view left) t a b (marked_resumes l.took_before k.took_before ((p.meaning l.parser).rest l.state) ((p.meaning l.parser).rest stopped) m (i.view input) (i.view left) (k.took m t) x) in
             let y = following_resumes l.committed unchanged (step_at a l.frames.top (frames_around l.frames)) (step_at b l.frames.top (frames_around l.frames)) m (i.view input) (i.view left) s in
-            let back : (v : View P T) (o : Outcome V) → all.rest (states.Running (kept_so k.begun n stopped)) v o → following l.committed unchanged (step_at b l.frames.top (frames_around l.frames)) v o = λ v o w. (w.0, (w.1.0, (w.1.1.0, (same.rest stopped v w.1.1.0).1 w.1.1.1, w.1.1.2), w.1.2), w.2) in
+            let back : (v : View P T) (o : Outcome V) → all.rest (states.Running (kept_so k.took_before n stopped)) v o → following l.committed unchanged (step_at b l.frames.top (frames_around l.frames)) v o = λ v o w. (w.0, (w.1.0, (w.1.1.0, (same.rest stopped v w.1.1.0).1 w.1.1.1, w.1.1.2), w.1.2), w.2) in
             record { gives = λ u c o j w. y.gives u c o j (back _ o w); committed = λ u c o j q w. y.committed u c o j q (back _ o w) }
 
     module _ (stopped : U) (a : I) (k : Bool) (h : Accepts part_world (p.meaning l.parser) (run stopped) a k) where
@@ -196,21 +177,21 @@ module _ {F I V N Input U Checkpoint T R P E : Type 0} (p : parser.Ghosts N Inpu
       leaves d = record { count = taken_count; taken = taken_all; state = d }
 
       -- what comes of the item is what is left
-      at_here : (o : Outcome V) → then_at l.frames.top (frames_around l.frames) (a, l.begun || nat_lt 0 h.count) (advanced i.step h.count (i.view input)) o → here (i.view input) (joined 0 l.committed unchanged (joined h.count k (last_value {B = I × Bool} (a, l.begun || nat_lt 0 h.count)) o))
-      at_here o w = (joined h.count k (last_value {B = I × Bool} (a, l.begun || nat_lt 0 h.count)) o, (Accepted (a, l.begun || nat_lt 0 h.count) h.count k, (Accepted a h.count k, h.meant, refl), (o, w, refl)), refl)
+      at_here : (o : Outcome V) → then_at l.frames.top (frames_around l.frames) (a, l.took_before || nat_lt 0 h.count) (advanced i.step h.count (i.view input)) o → here (i.view input) (joined 0 l.committed unchanged (joined h.count k (last_value {B = I × Bool} (a, l.took_before || nat_lt 0 h.count)) o))
+      at_here o w = (joined h.count k (last_value {B = I × Bool} (a, l.took_before || nat_lt 0 h.count)) o, (Accepted (a, l.took_before || nat_lt 0 h.count) h.count k, (Accepted a h.count k, h.meant, refl), (o, w, refl)), refl)
 
-      meant_so : (o : Outcome V) → then_at l.frames.top (frames_around l.frames) (a, l.begun || nat_lt 0 h.count) (advanced i.step h.count (i.view input)) o → all.rest z old (after r.progress.count false (joined 0 l.committed unchanged (joined h.count k (last_value {B = I × Bool} (a, l.begun || nat_lt 0 h.count)) o)))
+      meant_so : (o : Outcome V) → then_at l.frames.top (frames_around l.frames) (a, l.took_before || nat_lt 0 h.count) (advanced i.step h.count (i.view input)) o → all.rest z old (after r.progress.count false (joined 0 l.committed unchanged (joined h.count k (last_value {B = I × Bool} (a, l.took_before || nat_lt 0 h.count)) o)))
       meant_so o w = progress_outcome part_world (all.rest z) here old (i.view input) before (i.failures input) r.progress _ (at_here o w)
 
       -- want of memory
       starved : begins_steps state → (e : E) → observers.kind e ≡ kinds.Memory → Answers whole_world all whole_run (CommitErr e)
       starved d e m = record { is = subst (λ y. fails whole_world all whole_run y) (sym m) (λ f x. absurd x, leaves d) }
 
-      refuses_so : begins_steps state → (j c : Bool) → (l.committed || (k || j)) ≡ c → then_at l.frames.top (frames_around l.frames) (a, l.begun || nat_lt 0 h.count) (advanced i.step h.count (i.view input)) (Refused j) → Refuses whole_world all whole_run c
+      refuses_so : begins_steps state → (j c : Bool) → (l.committed || (k || j)) ≡ c → then_at l.frames.top (frames_around l.frames) (a, l.took_before || nat_lt 0 h.count) (advanced i.step h.count (i.view input)) (Refused j) → Refuses whole_world all whole_run c
       refuses_so d j c e w = record { meant = subst (λ y. all.rest z old (Refused y)) e (meant_so (Refused j) w); leaves = leaves d; failures = λ s. h.failures s ∙ r.progress.failures s }
 
       -- a refusal that is committed whatever was before
-      refused_so : begins_steps state → then_at l.frames.top (frames_around l.frames) (a, l.begun || nat_lt 0 h.count) (advanced i.step h.count (i.view input)) (Refused true) → Refuses whole_world all whole_run true
+      refused_so : begins_steps state → then_at l.frames.top (frames_around l.frames) (a, l.took_before || nat_lt 0 h.count) (advanced i.step h.count (i.view input)) (Refused true) → Refuses whole_world all whole_run true
       refused_so d w = refuses_so d true true (ap (λ y. l.committed || y) (or_true k) ∙ or_true l.committed) w
 
       -- a frame's own
@@ -223,15 +204,15 @@ module _ {F I V N Input U Checkpoint T R P E : Type 0} (p : parser.Ghosts N Inpu
       peeks_so : (t : Tracked E) → observers.kind t.error ≡ kinds.Refused → Refuses whole_world all whole_run false → Answers whole_world all whole_run (PeekErr t)
       peeks_so t m y = record { is = subst (λ y. peeks whole_world all whole_run y) (sym m) y }
 
-      accepts_so : begins_steps state → (v : V) (c : Bool) → (l.committed || k) ≡ c → then_at l.frames.top (frames_around l.frames) (a, l.begun || nat_lt 0 h.count) (advanced i.step h.count (i.view input)) (Accepted v 0 false) → Accepts whole_world all whole_run v c
+      accepts_so : begins_steps state → (v : V) (c : Bool) → (l.committed || k) ≡ c → then_at l.frames.top (frames_around l.frames) (a, l.took_before || nat_lt 0 h.count) (advanced i.step h.count (i.view input)) (Accepted v 0 false) → Accepts whole_world all whole_run v c
       accepts_so d v c e w =
           let x : r.progress.count + (0 + (h.count + 0)) ≡ taken_count = omega arith in
           let y : (l.committed || (k || false)) ≡ c = ap (λ y. l.committed || y) (or_false k) ∙ e in
           let q : ◌≡◌ {A = Outcome V} (Accepted v (r.progress.count + (0 + (h.count + 0))) (l.committed || (k || false))) (Accepted v taken_count c) = cc in
           record { count = taken_count; meant = subst (all.rest z old) q (meant_so (Accepted v 0 false) w); taken = taken_all; state = d; failures = λ s. h.failures s ∙ r.progress.failures s }
 
-      module _ (took : Bool) (is : (n : ℕ) → Takes i.step n (i.view input) (i.view left) → took ≡ (l.begun || nat_lt 0 n)) where
-        is_here : took ≡ (l.begun || nat_lt 0 h.count)
+      module _ (took : Bool) (is : (n : ℕ) → Takes i.step n (i.view input) (i.view left) → took ≡ (l.took_before || nat_lt 0 n)) where
+        is_here : took ≡ (l.took_before || nat_lt 0 h.count)
         is_here = is h.count h.taken
 
         -- the errors of what comes of the item are errors of the call
@@ -241,13 +222,13 @@ module _ {F I V N Input U Checkpoint T R P E : Type 0} (p : parser.Ghosts N Inpu
         abbrev goes_said : Bool → F → List F → View P T → Bool → E → Type 0
         goes_said y f fs = goes_refuses i.step observers depth roots answers takes joins p.meaning (runs_refuse i.step observers depth roots answers takes joins p.meaning) (i.view input).position y (l.committed || k) f fs behind_view
 
-        refuses_behind : {x : FramesChange F V} (u : View P T) (j : Bool) (e : E) → TakesItem depth takes joins l.frames.top (frames_around l.frames) a x → ended_refuses i.step observers depth roots answers takes joins p.meaning (runs_refuse i.step observers depth roots answers takes joins p.meaning) (i.view input).position (length (frames_around l.frames)) (l.begun || nat_lt 0 h.count) (l.committed || k) x behind_view u j e → refused_from z old u j e
+        refuses_behind : {x : FramesChange F V} (u : View P T) (j : Bool) (e : E) → TakesItem depth takes joins l.frames.top (frames_around l.frames) a x → ended_refuses i.step observers depth roots answers takes joins p.meaning (runs_refuse i.step observers depth roots answers takes joins p.meaning) (i.view input).position (length (frames_around l.frames)) (l.took_before || nat_lt 0 h.count) (l.committed || k) x behind_view u j e → refused_from z old u j e
         refuses_behind {x} u j e t w = r.refuses u j e (inr (record { item = a; count = h.count; commits = k; accepted = h.meant; next = t.next; taken = t.taken; ends = x; settles = t.settles; refuses = w }))
 
         stays_says : (e : E) → StepRefuses depth takes joins observers (i.view input).position l.frames (l.committed || k) took a e → refused_from z old (i.view left) true e
         stays_says e (IsTooDeep t m) = refuses_behind (i.view left) true e t (record { commits = refl; stays = h.taken.rest; tells = m })
         stays_says e (TakesNothing f fs t s m) =
-            let b : ((l.begun || nat_lt 0 h.count) || nat_lt (length fs) (length (frames_around l.frames))) ≡ false = ap (λ y. y || nat_lt (length fs) (length (frames_around l.frames))) (sym is_here) ∙ s in
+            let b : ((l.took_before || nat_lt 0 h.count) || nat_lt (length fs) (length (frames_around l.frames))) ≡ false = ap (λ y. y || nat_lt (length fs) (length (frames_around l.frames))) (sym is_here) ∙ s in
             let held : goes_said false f fs (i.view left) true e = record { commits = refl; stays = h.taken.rest; tells = m } in
             refuses_behind (i.view left) true e t (subst (λ y. goes_said y f fs (i.view left) true e) (sym b) held)
 
@@ -262,10 +243,10 @@ module _ {F I V N Input U Checkpoint T R P E : Type 0} (p : parser.Ghosts N Inpu
         stopped_says (CommitErr e) (inr (m, inr t)) = reasons_committed observers.kind (i.view left).is_open (refused_from z old (i.view left)) e (λ n. denied_says true e t.0 t.1)
         stopped_says (PeekErr t) s = reasons_peeked observers.kind (i.view left).is_open (refused_from z old (i.view left)) t (denied_says false t.error s.1 s.2)
 
-        stays_so : (e : E) → StepRefuses depth takes joins observers (i.view input).position l.frames (l.committed || k) took a e → then_at l.frames.top (frames_around l.frames) (a, l.begun || nat_lt 0 h.count) (advanced i.step h.count (i.view input)) (Refused true)
+        stays_so : (e : E) → StepRefuses depth takes joins observers (i.view input).position l.frames (l.committed || k) took a e → then_at l.frames.top (frames_around l.frames) (a, l.took_before || nat_lt 0 h.count) (advanced i.step h.count (i.view input)) (Refused true)
         stays_so e (IsTooDeep t m) = (t.next, t.taken, (TooDeep, t.settles, refl))
         stays_so e (TakesNothing f fs t s m) =
-            let b : ((l.begun || nat_lt 0 h.count) || nat_lt (length fs) (length (frames_around l.frames))) ≡ false = ap (λ y. y || nat_lt (length fs) (length (frames_around l.frames))) (sym is_here) ∙ s in
+            let b : ((l.took_before || nat_lt 0 h.count) || nat_lt (length fs) (length (frames_around l.frames))) ≡ false = ap (λ y. y || nat_lt (length fs) (length (frames_around l.frames))) (sym is_here) ∙ s in
             let held : after_progress i.step depth roots answers takes joins some p.meaning runs_at false f fs (advanced i.step h.count (i.view input)) (Refused true) = refl in
             (t.next, t.taken, (Opened f fs, t.settles, subst (λ y. after_progress i.step depth roots answers takes joins some p.meaning runs_at y f fs (advanced i.step h.count (i.view input)) (Refused true)) (sym b) held))
 
@@ -282,13 +263,13 @@ module _ {F I V N Input U Checkpoint T R P E : Type 0} (p : parser.Ghosts N Inpu
 
         gone_so : {valid : U → Type 0} → IsMeaning fresh valid (p.meaning l.parser) → valid l.state → (next : Frames F) (c : Bool) → step_item_did depth takes joins observers (i.view input).position l.frames (l.committed || k) took a (dids.Goes next c) → ReachesStep z old (i.view left) before (i.failures left) c next
         gone_so {valid} laws v next c s =
-            let b : I × Bool = (a, l.begun || nat_lt 0 h.count) in
+            let b : I × Bool = (a, l.took_before || nat_lt 0 h.count) in
             let part = (p.meaning l.parser).rest l.state in
-            let read = marked_is_reading l.begun part (laws.rest l.state v) in
+            let read = marked_is_reading l.took_before part (laws.rest l.state v) in
             let behind : Reading P T V = following k (last_value b) (then_at l.frames.top (frames_around l.frames) b) in
-            let q = following_resumes l.committed unchanged (step_at (marked_taken l.begun part) l.frames.top (frames_around l.frames)) behind h.count (i.view input) (i.view left) (accepted_resumes i.step last_value (then_at l.frames.top (frames_around l.frames)) h.count (i.view input) (i.view left) h.taken (marked_taken l.begun part) read b k (Accepted a h.count k, h.meant, refl)) in
+            let q = following_resumes l.committed unchanged (step_at (marked_taken l.took_before part) l.frames.top (frames_around l.frames)) behind h.count (i.view input) (i.view left) (accepted_resumes i.step last_value (then_at l.frames.top (frames_around l.frames)) h.count (i.view input) (i.view left) h.taken (marked_taken l.took_before part) read b k (Accepted a h.count k, h.meant, refl)) in
             let there : Progress part_world here (following l.committed unchanged behind) (i.view input) (i.view left) (i.failures input) (i.failures left) = record { count = h.count; taken = h.taken; resumes = q; failures = h.failures } in
-            let goes : ((l.begun || nat_lt 0 h.count) || nat_lt (length (frames_around next)) (length (frames_around l.frames))) ≡ true = ap (λ y. y || nat_lt (length (frames_around next)) (length (frames_around l.frames))) (sym is_here) ∙ s.1 in
+            let goes : ((l.took_before || nat_lt 0 h.count) || nat_lt (length (frames_around next)) (length (frames_around l.frames))) ≡ true = ap (λ y. y || nat_lt (length (frames_around next)) (length (frames_around l.frames))) (sym is_here) ∙ s.1 in
             let item : (u : View P T) (o : Outcome V) → runs_at next.top (frames_around next) u o → then_at l.frames.top (frames_around l.frames) b u o = λ u o w. (s.0.next, s.0.taken, (Opened next.top (frames_around next), s.0.settles, subst (λ y. after_progress i.step depth roots answers takes joins some p.meaning runs_at y next.top (frames_around next) u o) (sym goes) w)) in
             let to : (u : View P T) (o : Outcome V) → left_at c next u o → following l.committed unchanged behind u o = λ u o w. (joined 0 k (last_value b) w.0, (w.0, item u w.0 w.1, refl), w.2 ∙ ap (λ d. joined 0 d unchanged w.0) s.2 ∙ joined_twice l.committed k b w.0) in
             record {
@@ -308,10 +289,10 @@ module _ {F I V N Input U Checkpoint T R P E : Type 0} (p : parser.Ghosts N Inpu
         by_answer (CommitOk b) a d (inr k) = stopped_so g.stopped b true a.is d.took d.is k.1 y d.did
         by_answer (PeekOk b) a d (inl k) = absurd k.0
         by_answer (PeekOk b) a d (inr k) = stopped_so g.stopped b false a.is d.took d.is k.1 y d.did
-        by_answer (CommitErr e) a d (inl k) = subst (λ x. Answers whole_world all whole_run x) (stops_as d) (inside_asks _ _ _ _ _ _ _ _ _ _ _ _ (inside g.stopped) (keeping g.parser g.same g.stopped k.1) e k.0 a)
-        by_answer (CommitErr e) a d (inr k) = subst (λ x. Answers whole_world all whole_run x) (stops_as d) (inside_fails _ _ _ _ _ _ _ _ _ _ _ _ (inside g.stopped) (λ x. k.1) e k.0 a)
+        by_answer (CommitErr e) a d (inl k) = subst (λ x. Answers whole_world all whole_run x) (stops_as d) (inside_asks (inside g.stopped) (keeping g.parser g.same g.stopped k.1) e k.0 a)
+        by_answer (CommitErr e) a d (inr k) = subst (λ x. Answers whole_world all whole_run x) (stops_as d) (inside_fails (inside g.stopped) (λ x. k.1) e k.0 a)
         by_answer (PeekErr t) a d (inl k) = absurd k.0
-        by_answer (PeekErr t) a d (inr k) = subst (λ x. Answers whole_world all whole_run x) (stops_as d) (inside_refuses _ _ _ _ _ _ _ _ _ _ _ _ (inside g.stopped) (λ x. k.1) t a)
+        by_answer (PeekErr t) a d (inr k) = subst (λ x. Answers whole_world all whole_run x) (stops_as d) (inside_refuses (inside g.stopped) (λ x. k.1) t a)
 
     -- and the error of a refusal is one that the call may have
     pub step_reasons : (y : ParseResult V E) → CalledStep p i observers fresh depth takes joins input left l state (dids.Stops y) → Reasoned observers.kind (i.view left).is_open (refused_from z old (i.view left)) y
@@ -361,7 +342,7 @@ module _ {F I V N Input U Checkpoint T R P E : Type 0} (p : parser.Ghosts N Inpu
   fewer_at true n u h hs e w k m = let j = ltb-true 0 n e in omega arith
   fewer_at false n u h hs e w k m = let j = ltb-true hs h w in let q = ltb-false 0 n e in omega arith
 
-  pub step_falls : {input left : Input} {l : RunningStep F N U} {state : NestedState F N U} {next : Frames F} {c : Bool} → l.begun ≡ false → CalledStep p i observers fresh depth takes joins input left l state (dids.Goes next c) → 2 * length (i.view left).unread + length (frames_around next) < 2 * length (i.view input).unread + length (frames_around l.frames)
+  pub step_falls : {input left : Input} {l : RunningStep F N U} {state : NestedState F N U} {next : Frames F} {c : Bool} → l.took_before ≡ false → CalledStep p i observers fresh depth takes joins input left l state (dids.Goes next c) → 2 * length (i.view left).unread + length (frames_around next) < 2 * length (i.view input).unread + length (frames_around l.frames)
   step_falls {input} {left} {l} {state} {next} {c} b g = by_answer g.answer g.answers g.did
     where
       falls : (a : I) (k : Bool) → Accepts (world i.step observers i.counts_failures fresh) (p.meaning l.parser) (call_from l.state g.stopped (i.view input) (i.view left) (i.failures input) (i.failures left)) a k → DidItem p i observers fresh depth takes joins input left l a k (dids.Goes next c) → 2 * length (i.view left).unread + length (frames_around next) < 2 * length (i.view input).unread + length (frames_around l.frames)
@@ -384,7 +365,7 @@ module _ {F I V N Input U Checkpoint T R P E : Type 0} (p : parser.Ghosts N Inpu
   steps_left_over v (dids.Goes l c) = suc (2 * length v.unread + length (frames_around l))
   steps_left_over v (dids.Stops y) = 0
 
-  pub steps_fall : {input left : Input} {l : RunningStep F N U} {state : NestedState F N U} {y : Did F V E} → l.begun ≡ false → CalledStep p i observers fresh depth takes joins input left l state y → steps_left_over (i.view left) y < suc (2 * length (i.view input).unread + length (frames_around l.frames))
+  pub steps_fall : {input left : Input} {l : RunningStep F N U} {state : NestedState F N U} {y : Did F V E} → l.took_before ≡ false → CalledStep p i observers fresh depth takes joins input left l state y → steps_left_over (i.view left) y < suc (2 * length (i.view input).unread + length (frames_around l.frames))
   steps_fall {y = dids.Goes l c} b g = let k = step_falls b g in omega arith
   steps_fall {y = dids.Stops y} b g = omega arith
 

@@ -1,28 +1,17 @@
 -- steps over a cut, and a step before others
-use Rattle.std.proofs.Common.{ℕ, suc, ◌+◌, ◌≡◌, Bool, true, false, ◌||◌, nat_lt, ltb-true, ltb-false, List, length, refl, sym, ◌∙◌, ap, subst, arith}
-use Rattle.std.proofs.lemmas.Bool.{lt-ltb}
+use Rattle.std.proofs.Common.{ℕ, suc, ◌≡◌, Bool, true, false, ◌||◌, nat_lt, List, length, refl, sym, ◌∙◌, ap, subst}
 use Rattle.combine_base.specs.Parser.Answer.{Resumes}
 use Rattle.combine_base.specs.Parser.Meaning.{Meaning, Reading}
 use Rattle.combine_base.specs.Parser.Outcome.{Outcome, Accepted, Refused, Undecided, after, IsCommitted}
 use Rattle.combine_base.specs.Sequence.Readings.{continues}
 use Rattle.combine_base.specs.Stream.View.{View, advanced}
-use Rattle.combine_nested.specs.NestedSteps.{FramesChange, Opened, Closed, Denied, TooDeep, answered_for_frame, after_step, after_progress, last_value, mark_taken, marked_taken, runs, stepping, steps_at_most, after_item}
+use Rattle.combine_base.specs.Sequence.JoinedOutcome.{last_value}
+use Rattle.combine_base.specs.Stream.Advance.{took_before_over}
+use Rattle.combine_nested.specs.NestedSteps.{FramesChange, Opened, Closed, Denied, TooDeep, answered_for_frame, after_step, after_progress, mark_taken, marked_taken, runs, stepping, steps_at_most, after_item}
 use Rattle.combine_nested.specs.declared.nested.Next.{Next}
 
--- a token was taken in one of two parts
-positive_sum : (n c : ℕ) → nat_lt 0 (n + c) ≡ (nat_lt 0 n || nat_lt 0 c)
-positive_sum n c = by_test (nat_lt 0 n) refl
-  where
-    by_test : (b : Bool) → nat_lt 0 n ≡ b → nat_lt 0 (n + c) ≡ (b || nat_lt 0 c)
-    by_test true e = let i = ltb-true 0 n e in lt-ltb 0 (n + c) (omega arith)
-    by_test false e = let i = ltb-false 0 n e in let z : n + c ≡ c = omega arith in ap (nat_lt 0) z
-
-begun_over : (b : Bool) (n c : ℕ) → (b || nat_lt 0 (n + c)) ≡ ((b || nat_lt 0 n) || nat_lt 0 c)
-begun_over true n c = refl
-begun_over false n c = positive_sum n c
-
 mark_later : {I : Type 0} (g : Bool) (k : ℕ) (p : Outcome I) → after k false (mark_taken (g || nat_lt 0 k) p) ≡ mark_taken g (after k false p)
-mark_later {I} g k (Accepted a n j) = let e = begun_over g k n in cc
+mark_later {I} g k (Accepted a n j) = let e = took_before_over g k n in cc
 mark_later g k (Refused j) = refl
 mark_later g k Undecided = refl
 

@@ -6,9 +6,9 @@ use Rattle.combine_base.specs.Stream.View.{View, advanced}
 use Rattle.combine_base.specs.Parser.KeptParsers.{KeptOf}
 use Rattle.combine_base.specs.Parser.Outcome.{Outcome, Accepted, Refused, Undecided, shape}
 use Rattle.combine_base.specs.Parser.Meaning.{Meaning, Reading, IsSingle, MeansOne}
-use Rattle.combine_base.specs.Sequence.JoinedOutcome.{joined_one}
+use Rattle.combine_base.specs.Sequence.JoinedOutcome.{joined_one, unchanged, last_value}
 use Rattle.combine_base.specs.Sequence.Readings.{continues, following_is_single}
-use Rattle.combine_nested.specs.NestedSteps.{FramesChange, Opened, Closed, Denied, TooDeep, answered_for_frame, frames_around, after_step, after_progress, last_value, mark_taken, marked_taken, nested_rest, nested_whole, opens_frame, runs, settles_frames, stepping, steps_at_most, after_item, unchanged, valid_steps, nesting}
+use Rattle.combine_nested.specs.NestedSteps.{FramesChange, Opened, Closed, Denied, TooDeep, answered_for_frame, frames_around, after_step, after_progress, mark_taken, marked_taken, nested_rest, nested_whole, opens_frame, runs, settles_frames, stepping, steps_at_most, after_item, valid_steps, nesting}
 use Rattle.combine_nested.specs.declared.nested.Next.{Next}
 use Rattle.combine_nested.specs.declared.nested.Next.TheVariants as nexts
 use Rattle.combine_nested.specs.declared.nested.steps.NestedState.{NestedState}
@@ -212,7 +212,7 @@ module _ {P T R E F I V N U : Type 0} (step : P → T → P) (depth : ℕ) {root
         let r = (means l.parser).rest l.state in
         let top = l.frames.top in
         let fs = frames_around l.frames in
-        following_is_single l.committed unchanged (stepping step depth roots answers takes joins some means runs_at (marked_taken l.begun r) top fs) (record { one = stepping_one runs_at runs_at runs_one top top (h.same top) fs fs (all_same fs) l.begun r r (kept_alike l.parser d.0 l.state d.1) })
+        following_is_single l.committed unchanged (stepping step depth roots answers takes joins some means runs_at (marked_taken l.took_before r) top fs) (record { one = stepping_one runs_at runs_at runs_one top top (h.same top) fs fs (all_same fs) l.took_before r r (kept_alike l.parser d.0 l.state d.1) })
 
     pub nesting_means_one : (errors : Observers T R P E) → MeansOne (valid_steps (KeptOf lawful means some) valid) (nesting step errors depth roots answers takes joins some means)
     nesting_means_one errors = record { whole = whole_is_single; rest = rest_is_single }

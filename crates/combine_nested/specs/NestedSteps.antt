@@ -19,6 +19,7 @@ use Rattle.combine_base.specs.Sequence.PartErrors.{RefusesLast}
 use Rattle.combine_base.specs.declared.stream.Kind.TheVariants as kinds
 use Rattle.std.proofs.Common.{sym, ◌∙◌, subst, arith, ap, refl}
 use Rattle.combine_base.specs.Parser.KeptParsers.{KeptOf}
+use Rattle.combine_base.specs.Sequence.JoinedOutcome.{unchanged, last_value}
 
 -- the parser of this root and these steps
 abbrev pub nested_of : {R S : Type 0} → Global → ℕ → R → S → Nested R S
@@ -83,12 +84,6 @@ mark_taken g Undecided = Undecided
 abbrev pub marked_taken : {P T I : Type 0} → Bool → Reading P T I → Reading P T (I × Bool)
 marked_taken {P} {T} {I} g r v o = (p : Outcome I) × r v p × (o ≡ mark_taken g p)
 
-abbrev pub last_value : {B C : Type 0} → B → C → C
-last_value b c = c
-
-abbrev pub unchanged : {C : Type 0} → C → C
-unchanged c = c
-
 module _ {P T R E F I V N U : Type 0} (step : P → T → P) (depth : ℕ) (roots : F → Type 0) (answers : F → N → Type 0) (takes : F → I → Next F V → Type 0) (joins : F → V → Next F V → Type 0) (some : N → Type 0) (means : N → Meaning P T R E I U) where
   -- any parser that is answered for the frame
   abbrev pub answered_for_frame : F → Reading P T I
@@ -129,7 +124,7 @@ module _ {P T R E F I V N U : Type 0} (step : P → T → P) (depth : ℕ) (root
 
   -- what is left where a step's parser runs
   abbrev pub running : RunningStep F N U → Reading P T V
-  running l = following l.committed unchanged (stepping runs (marked_taken l.begun ((means l.parser).rest l.state)) l.frames.top (frames_around l.frames))
+  running l = following l.committed unchanged (stepping runs (marked_taken l.took_before ((means l.parser).rest l.state)) l.frames.top (frames_around l.frames))
 
   abbrev pub nested_rest : NestedState F N U → Reading P T V
   nested_rest states.Start = nested_whole
@@ -164,7 +159,7 @@ module _ {P T R F I V N U E : Type 0} (step : P → T → P) (errors : Observers
     ended_refuses place h took c TooDeep v w k e = RefusesTelling errors place (codes "nesting too deep") true v w k e
 
     -- The step's parser is accepted, and what comes of its item refuses. It took a token before, or not; c says whether a step before was committed.
-    pub record RefusesStepItem (r : Reading P T I) (begun c : Bool) (f : F) (fs : List F) (v w : View P T) (k : Bool) (e : E) : Type 0 where
+    pub record RefusesStepItem (r : Reading P T I) (took_before c : Bool) (f : F) (fs : List F) (v w : View P T) (k : Bool) (e : E) : Type 0 where
       pub item : I
       pub count : ℕ
       pub commits : Bool
@@ -173,11 +168,11 @@ module _ {P T R F I V N U E : Type 0} (step : P → T → P) (errors : Observers
       pub taken : takes f item next
       pub ends : FramesChange F V
       pub settles : settles_frames depth joins fs next ends
-      pub refuses : ended_refuses v.position (length fs) (begun || nat_lt 0 count) (c || commits) ends (advanced step count v) w k e
+      pub refuses : ended_refuses v.position (length fs) (took_before || nat_lt 0 count) (c || commits) ends (advanced step count v) w k e
 
     -- a step refuses: its parser, which has this reading and these errors, or what comes of its item
     abbrev pub step_refuses : N → Refusing P T E → Reading P T I → Bool → Bool → F → List F → Refusing P T E
-    step_refuses n own r begun c f fs v w k e = RefusesLast errors (means n) own c v w k e ⊎ RefusesStepItem r begun c f fs v w k e
+    step_refuses n own r took_before c f fs v w k e = RefusesLast errors (means n) own c v w k e ⊎ RefusesStepItem r took_before c f fs v w k e
 
   -- one of so many steps refuses
   abbrev pub steps_refuse : ℕ → Bool → F → List F → Refusing P T E
@@ -193,7 +188,7 @@ module _ {P T R F I V N U E : Type 0} (step : P → T → P) (errors : Observers
 
   -- what is left refuses where a step's parser runs
   abbrev pub running_step_refuses : RunningStep F N U → Refusing P T E
-  running_step_refuses l v w k e = step_refuses runs_refuse l.parser (refusals_from (means l.parser) l.state) ((means l.parser).rest l.state) l.begun l.committed l.frames.top (frames_around l.frames) v w k e
+  running_step_refuses l v w k e = step_refuses runs_refuse l.parser (refusals_from (means l.parser) l.state) ((means l.parser).rest l.state) l.took_before l.committed l.frames.top (frames_around l.frames) v w k e
 
   abbrev pub nested_refuses : NestedState F N U → Refusing P T E
   nested_refuses states.Start v w k e = whole_refuses v w k e
@@ -335,8 +330,8 @@ module _ {P T R E F I V N U : Type 0} (step : P → T → P) (depth : ℕ) (root
     rest_is_reading : (z : NestedState F N U) → valid_steps (KeptOf lawful means some) valid z → IsReading (rest_at z)
     rest_is_reading states.Start d = whole_is_reading
     rest_is_reading (states.Running l) d =
-        let r = marked_taken l.begun ((means l.parser).rest l.state) in
-        following_is_reading l.committed unchanged (stepping step depth roots answers takes joins some means runs_at r l.frames.top (frames_around l.frames)) (stepping_is_reading runs_at runs_is_reading r l.frames.top (frames_around l.frames) (marked_is_reading l.begun ((means l.parser).rest l.state) ((laws l.parser d.0.is_lawful).rest l.state d.1)))
+        let r = marked_taken l.took_before ((means l.parser).rest l.state) in
+        following_is_reading l.committed unchanged (stepping step depth roots answers takes joins some means runs_at r l.frames.top (frames_around l.frames)) (stepping_is_reading runs_at runs_is_reading r l.frames.top (frames_around l.frames) (marked_is_reading l.took_before ((means l.parser).rest l.state) ((laws l.parser d.0.is_lawful).rest l.state d.1)))
 
     starts : (z : NestedState F N U) (v : View P T) (o : Outcome V) → begins_steps z → rest_at z v o ↔ whole_at v o
     starts states.Start v o d = (λ w. w, λ w. w)

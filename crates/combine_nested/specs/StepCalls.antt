@@ -77,9 +77,9 @@ module _ {F I V : Type 0} (depth : ℕ) (takes : F → I → Next F V → Type 0
 module _ {F I V N Input U Checkpoint T R P E : Type 0} (p : parser.Ghosts N Input U I Checkpoint T R P E) (i : stream.Ghosts Input T R P E) (observers : Observers T R P E) (fresh : U → Type 0) (depth : ℕ) (takes : F → I → Next F V → Type 0) (joins : F → V → Next F V → Type 0) where
   -- need of more keeps the step's parser as it now is, with the state in which it stopped, and whether it took a token; every other answer leaves a state that begins
   pub record KeepsStep (input left : Input) (from : RunningStep F N U) (parser : N) (stopped : U) (state : NestedState F N U) : Type 0 where
-    pub begun : Bool
-    pub is : state ≡ states.Running (record { frames = from.frames; committed = from.committed; begun = begun; parser = parser; state = stopped })
-    pub took : (n : ℕ) → Takes i.step n (i.view input) (i.view left) → begun ≡ (from.begun || nat_lt 0 n)
+    pub took_before : Bool
+    pub is : state ≡ states.Running (record { frames = from.frames; committed = from.committed; took_before = took_before; parser = parser; state = stopped })
+    pub took : (n : ℕ) → Takes i.step n (i.view input) (i.view left) → took_before ≡ (from.took_before || nat_lt 0 n)
     pub valid : p.valid stopped
 
   abbrev pub keeps_step : Input → Input → RunningStep F N U → N → U → NestedState F N U → ParseResult I E → Type 0
@@ -87,7 +87,7 @@ module _ {F I V N Input U Checkpoint T R P E : Type 0} (p : parser.Ghosts N Inpu
 
   pub record DidItem (input left : Input) (from : RunningStep F N U) (item : I) (commits : Bool) (result : Did F V E) : Type 0 where
     pub took : Bool
-    pub is : (n : ℕ) → Takes i.step n (i.view input) (i.view left) → took ≡ (from.begun || nat_lt 0 n)
+    pub is : (n : ℕ) → Takes i.step n (i.view input) (i.view left) → took ≡ (from.took_before || nat_lt 0 n)
     pub did : step_item_did depth takes joins observers (i.view input).position from.frames (from.committed || commits) took item result
 
   abbrev pub step_did : Input → Input → RunningStep F N U → ParseResult I E → Did F V E → Type 0

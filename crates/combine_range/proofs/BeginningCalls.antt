@@ -24,7 +24,7 @@ pub record Walked {P T : Type 0} (counts_failures : Type 0) (step : P → T → 
   pub taken : Takes step count old v
   pub failures : counts_failures → g ≡ before
 
-module _ {P T R Q : Type 0} (counts_failures : Type 0) (step : P → T → P) (size : T → ℕ) (none : Q → List T → Type 0) (spells : R → List T → Type 0) (f : T → Bool → Type 0) (old mid v : View P T) (before h g : Failures) (d : ℕ) (i : Q) (q : R) (p : UnconsRange counts_failures step size none old mid before h d (Ok i)) (u : UnconsWhile counts_failures step size spells mid v h g f (Ok q)) where
+module _ {P T R Q : Type 0} {counts_failures : Type 0} {step : P → T → P} {size : T → ℕ} {none : Q → List T → Type 0} {spells : R → List T → Type 0} {f : T → Bool → Type 0} {old mid v : View P T} {before h g : Failures} {d : ℕ} {i : Q} {q : R} (p : UnconsRange counts_failures step size none old mid before h d (Ok i)) (u : UnconsWhile counts_failures step size spells mid v h g f (Ok q)) where
   pub walked : Walked counts_failures step size f d old v before g
   walked = record {
     count = p.is.0 + u.is.0;
@@ -78,7 +78,7 @@ module _ {P T R E : Type 0} (w : World P T Distance E) (size : T → ℕ) (fille
     beginning_refuses result i l b t y s = distance_refuses w size (beginning size spells f some) adds says r d e result (subst (λ o. RefusesPeeked w.kind w.never_allocates o result) (takes_open w.step z.count r.old v z.taken) i) (Empty (subst (ReachesLongest size f d r.old.unread) l z.reaches) (λ o. let a = stops o in omega arith) b, refl) (record { count = z.count; taken = t }) y s
 
 -- the range that was handed out has items where tokens were taken
-module _ {P T R : Type 0} (counts_failures : Type 0) (step : P → T → P) (size : T → ℕ) (spells : R → List T → Type 0) (f : T → Bool → Type 0) (d : ℕ) (old v : View P T) (before g : Failures) (z : Walked counts_failures step size f d old v before g) (q : R) (p : spells q (take z.count old.unread)) (count : R → ℕ) (measured : (q : R) (ts : List T) → spells q ts → count q ≡ size_of size ts) where
+module _ {P T R : Type 0} {counts_failures : Type 0} {step : P → T → P} {size : T → ℕ} {spells : R → List T → Type 0} {f : T → Bool → Type 0} {d : ℕ} {old v : View P T} {before g : Failures} (z : Walked counts_failures step size f d old v before g) (q : R) (p : spells q (take z.count old.unread)) {count : R → ℕ} (measured : (q : R) (ts : List T) → spells q ts → count q ≡ size_of size ts) where
   pub some_walked : 0 < count q → 0 < z.count
   some_walked h = by_count z.count refl
     where

@@ -44,65 +44,65 @@ module _ {P T R : Type 0} (counts_failures : Type 0) (step : P → T → P) (siz
   pub sought_range_none : (v : View P T) (f : Failures) → SoughtRange counts_failures step size spells w v v f f
   sought_range_none v f = record { count = 0; taken = takes_none step v; fails = λ j h. absurd (omega arith); failures = λ s. refl }
 
-  module _ (old now mid : View P T) (before f g : Failures) (s : SoughtRange counts_failures step size spells w old now before f) where
-    unread : now.unread ≡ drop s.count old.unread
-    unread = ap (λ (v : View P T). v.unread) s.taken.rest
+module _ {P T R : Type 0} {counts_failures : Type 0} {step : P → T → P} {size : T → ℕ} {spells : R → List T → Type 0} {w : Wanted R} {old now : View P T} {before f : Failures} (s : SoughtRange counts_failures step size spells w old now before f) where
+  unread : now.unread ≡ drop s.count old.unread
+  unread = ap (λ (v : View P T). v.unread) s.taken.rest
 
-    module _ (told : TestsHere counts_failures step size spells w now mid f g (Ok (Some false))) where
-      here : FailsTest size spells w (drop s.count old.unread)
-      here = subst (FailsTest size spells w) unread told.is.0
+  module _ {mid : View P T} {g : Failures} (told : TestsHere counts_failures step size spells w now mid f g (Ok (Some false))) where
+    here : FailsTest size spells w (drop s.count old.unread)
+    here = subst (FailsTest size spells w) unread told.is.0
 
-      pub sought_range_more : (next : View P T) (h : Failures) (t : T) → Uncons counts_failures step mid next g h (Ok t) → SoughtRange counts_failures step size spells w old next before h
-      sought_range_more next h t u = record {
-        count = s.count + 1;
-        taken = takes_more step s.count 1 old now next s.taken (rw (← told.is.1.same) (one_more mid next t u.is.unread u.is.position u.is.is_open));
-        fails = λ j l. ⊎_elim (λ e. subst (λ n. FailsTest size spells w (drop n old.unread)) (sym e) here) (s.fails j) (eq-or-lt_of_le (let k : j ≤ s.count = omega arith in k));
-        failures = λ z. u.is.failures z ∙ told.is.1.failures z ∙ s.failures z;
-      }
-        where
-          one_more : (u v : View P T) (t : T) → u.unread ≡ t ∷ v.unread → v.position ≡ step u.position t → v.is_open ≡ u.is_open → Takes step 1 u v
-          one_more u v t e p o = record { enough = let a = ap length e in omega arith; rest = ap (λ i. record { position = i; unread = v.unread; is_open = v.is_open }) p ∙ ap (λ b. record { position = step u.position t; unread = v.unread; is_open = b }) o ∙ sym (ap (λ us. record { position = after_all step u.position (take 1 us); unread = drop 1 us; is_open = u.is_open }) e) }
+    pub sought_range_more : (next : View P T) (h : Failures) (t : T) → Uncons counts_failures step mid next g h (Ok t) → SoughtRange counts_failures step size spells w old next before h
+    sought_range_more next h t u = record {
+      count = s.count + 1;
+      taken = takes_more step s.count 1 old now next s.taken (rw (← told.is.1.same) (one_more mid next t u.is.unread u.is.position u.is.is_open));
+      fails = λ j l. ⊎_elim (λ e. subst (λ n. FailsTest size spells w (drop n old.unread)) (sym e) here) (s.fails j) (eq-or-lt_of_le (let k : j ≤ s.count = omega arith in k));
+      failures = λ z. u.is.failures z ∙ told.is.1.failures z ∙ s.failures z;
+    }
+      where
+        one_more : (u v : View P T) (t : T) → u.unread ≡ t ∷ v.unread → v.position ≡ step u.position t → v.is_open ≡ u.is_open → Takes step 1 u v
+        one_more u v t e p o = record { enough = let a = ap length e in omega arith; rest = ap (λ i. record { position = i; unread = v.unread; is_open = v.is_open }) p ∙ ap (λ b. record { position = step u.position t; unread = v.unread; is_open = b }) o ∙ sym (ap (λ us. record { position = after_all step u.position (take 1 us); unread = drop 1 us; is_open = u.is_open }) e) }
 
-      -- all was passed
-      pub seeks_end : (next : View P T) (h : Failures) → Uncons {Token = T} counts_failures step mid next g h (Err kinds.End) → Seeks counts_failures step size spells w old next before h (Ok false)
-      seeks_end next h u = record {
-        is = (
-          record {
-            count = s.count;
-            taken = rw (u.is.same, told.is.1.same) s.taken;
-            fails = s.fails;
-            failures = λ z. u.is.failures z ∙ told.is.1.failures z ∙ s.failures z;
-          },
-          record { fails = λ j b l. inl (⊎_elim (λ i. subst (λ n. FailsTest size spells w (drop n old.unread)) (sym i) here) (s.fails j) (eq-or-lt_of_le (let k : j ≤ s.count = short j l in k))) },
-        );
-      }
-        where
-          short : (j : ℕ) → j ≤ length old.unread → j ≤ s.count
-          short j l =
-              let a = ap length (ap (λ (v : View P T). v.unread) told.is.1.same) in
-              let b = ap length u.is.unread in
-              let c = ap length unread in
-              omega (arith, length-drop s.count old.unread)
-
-      pub seeks_unread : (next : View P T) (h : Failures) → before.reads ≤ g.reads → Uncons {Token = T} counts_failures step mid next g h (Err kinds.Read) → Seeks counts_failures step size spells w old next before h (Err kinds.Read)
-      seeks_unread next h l u = record { is = (let a = u.is.1 in omega arith, moves_more step s.count old mid next (rw told.is.1.same s.taken) u.is.0) }
-
-    pub seeks_here : TestsHere counts_failures step size spells w now mid f g (Ok (Some true)) → Seeks counts_failures step size spells w old mid before g (Ok true)
-    seeks_here t = record {
+    -- all was passed
+    pub seeks_end : (next : View P T) (h : Failures) → Uncons {Token = T} counts_failures step mid next g h (Err kinds.End) → Seeks counts_failures step size spells w old next before h (Ok false)
+    seeks_end next h u = record {
       is = (
-        record { count = s.count; taken = rw t.is.1.same s.taken; fails = s.fails; failures = λ z. t.is.1.failures z ∙ s.failures z },
-        subst (λ (v : View P T). BeginsWithWanted size spells w v.unread) (sym t.is.1.same) t.is.0,
+        record {
+          count = s.count;
+          taken = rw (u.is.same, told.is.1.same) s.taken;
+          fails = s.fails;
+          failures = λ z. u.is.failures z ∙ told.is.1.failures z ∙ s.failures z;
+        },
+        record { fails = λ j b l. inl (⊎_elim (λ i. subst (λ n. FailsTest size spells w (drop n old.unread)) (sym i) here) (s.fails j) (eq-or-lt_of_le (let k : j ≤ s.count = short j l in k))) },
       );
     }
+      where
+        short : (j : ℕ) → j ≤ length old.unread → j ≤ s.count
+        short j l =
+            let a = ap length (ap (λ (v : View P T). v.unread) told.is.1.same) in
+            let b = ap length u.is.unread in
+            let c = ap length unread in
+            omega (arith, length-drop s.count old.unread)
 
-    -- too few items are left to say
-    pub seeks_none : TestsHere counts_failures step size spells w now mid f g (Ok None) → Seeks counts_failures step size spells w old mid before g (Ok false)
-    seeks_none t = record {
-      is = (
-        record { count = s.count; taken = rw t.is.1.same s.taken; fails = s.fails; failures = λ z. t.is.1.failures z ∙ s.failures z },
-        record { fails = λ j b l. ⊎_elim (λ h. inl (s.fails j h)) (λ h. inr (let c = fewer_later size s.count j old.unread h in let d = ap (size_of size) unread in let e = t.is.0 in omega arith)) (cases_lt j s.count) },
-      );
-    }
+    pub seeks_unread : (next : View P T) (h : Failures) → before.reads ≤ g.reads → Uncons {Token = T} counts_failures step mid next g h (Err kinds.Read) → Seeks counts_failures step size spells w old next before h (Err kinds.Read)
+    seeks_unread next h l u = record { is = (let a = u.is.1 in omega arith, moves_more step s.count old mid next (rw told.is.1.same s.taken) u.is.0) }
 
-    pub seeks_broken : (k : Kind) → before.reads ≤ f.reads → before.resets ≤ f.resets → TestsHere counts_failures step size spells w now mid f g (Err k) → Seeks counts_failures step size spells w old mid before g (Err k)
-    seeks_broken k a b t = record { is = (broke_later k before f g a b t.is.0, moves_more step s.count old now mid s.taken t.is.1) }
+  pub seeks_here : {mid : View P T} {g : Failures} → TestsHere counts_failures step size spells w now mid f g (Ok (Some true)) → Seeks counts_failures step size spells w old mid before g (Ok true)
+  seeks_here t = record {
+    is = (
+      record { count = s.count; taken = rw t.is.1.same s.taken; fails = s.fails; failures = λ z. t.is.1.failures z ∙ s.failures z },
+      subst (λ (v : View P T). BeginsWithWanted size spells w v.unread) (sym t.is.1.same) t.is.0,
+    );
+  }
+
+  -- too few items are left to say
+  pub seeks_none : {mid : View P T} {g : Failures} → TestsHere counts_failures step size spells w now mid f g (Ok None) → Seeks counts_failures step size spells w old mid before g (Ok false)
+  seeks_none t = record {
+    is = (
+      record { count = s.count; taken = rw t.is.1.same s.taken; fails = s.fails; failures = λ z. t.is.1.failures z ∙ s.failures z },
+      record { fails = λ j b l. ⊎_elim (λ h. inl (s.fails j h)) (λ h. inr (let c = fewer_later size s.count j old.unread h in let d = ap (size_of size) unread in let e = t.is.0 in omega arith)) (cases_lt j s.count) },
+    );
+  }
+
+  pub seeks_broken : {mid : View P T} {g : Failures} (k : Kind) → before.reads ≤ f.reads → before.resets ≤ f.resets → TestsHere counts_failures step size spells w now mid f g (Err k) → Seeks counts_failures step size spells w old mid before g (Err k)
+  seeks_broken {mid} {g} k a b t = record { is = (broke_later k before f g a b t.is.0, moves_more step s.count old now mid s.taken t.is.1) }

@@ -41,21 +41,21 @@ module _ {E : Type 0} (kind : E → Kind) (is_open : Bool) (says : Bool → E �
   pub reasons_broke : {V : Type 0} (e : E) (k : Kind) (f g : Failures) → kind e ≡ k → Broke k f g → Reasoned {V = V} kind is_open says (CommitErr e)
   reasons_broke e k f g i h = reasons_fault kind is_open says e k i (broke_fault k f g h)
 
-  module _ {P T R : Type 0} (counts_failures : Type 0) (step : P → T → P) (spells : R → List T → Type 0) (old new : View P T) (before after : Failures) (n : ℕ) where
-    -- nor is what is handed out
-    pub reasons_handed : (result : ParseResult R E) → HandsOutRange counts_failures step spells old new before after n kind result → Reasoned kind is_open says result
-    reasons_handed (CommitOk q) h = reasons_ok kind is_open says q
-    reasons_handed (PeekOk q) h = reasons_peek_ok kind is_open says q
-    reasons_handed (CommitErr e) h = reasons_broke e (kind e) before after refl h.is.0
-    reasons_handed (PeekErr t) h = absurd h.is
+module _ {P T R E : Type 0} {kind : E → Kind} {is_open : Bool} (says : Bool → E → Type 0) {counts_failures : Type 0} {step : P → T → P} {spells : R → List T → Type 0} {old new : View P T} {before after : Failures} {n : ℕ} where
+  -- nor is what is handed out
+  pub reasons_handed : (result : ParseResult R E) → HandsOutRange counts_failures step spells old new before after n kind result → Reasoned kind is_open says result
+  reasons_handed (CommitOk q) h = reasons_ok kind is_open says q
+  reasons_handed (PeekOk q) h = reasons_peek_ok kind is_open says q
+  reasons_handed (CommitErr e) h = reasons_broke kind is_open says e (kind e) before after refl h.is.0
+  reasons_handed (PeekErr t) h = absurd h.is
 
-    pub reasons_beside : {V : Type 0} (value : V) (result : ParseResult R E) → HandsOutRange counts_failures step spells old new before after n kind result → Reasoned kind is_open says (beside_value value result)
-    reasons_beside value (CommitOk q) h = reasons_ok kind is_open says (q, value)
-    reasons_beside value (PeekOk q) h = reasons_peek_ok kind is_open says (q, value)
-    reasons_beside value (CommitErr e) h = reasons_broke e (kind e) before after refl h.is.0
-    reasons_beside value (PeekErr t) h = absurd h.is
+  pub reasons_beside : {V : Type 0} (value : V) (result : ParseResult R E) → HandsOutRange counts_failures step spells old new before after n kind result → Reasoned kind is_open says (beside_value value result)
+  reasons_beside value (CommitOk q) h = reasons_ok kind is_open says (q, value)
+  reasons_beside value (PeekOk q) h = reasons_peek_ok kind is_open says (q, value)
+  reasons_beside value (CommitErr e) h = reasons_broke kind is_open says e (kind e) before after refl h.is.0
+  reasons_beside value (PeekErr t) h = absurd h.is
 
-module _ {V P T E : Type 0} (kind : E → Kind) (says : Bool → E → Type 0) (counts_failures : Type 0) (step : P → T → P) (size : T → ℕ) (old new : View P T) (before after : Failures) (n : ℕ) (state left : Distance) where
+module _ {V P T E : Type 0} {kind : E → Kind} (says : Bool → E → Type 0) {counts_failures : Type 0} {step : P → T → P} {size : T → ℕ} {old new : View P T} {before after : Failures} {n : ℕ} {state left : Distance} where
   -- nor is need of more
   pub reasons_keeping : (result : ParseResult V E) → KeepsItemDistance counts_failures step size old new before after n kind state left result → old.is_open ≡ true → Reasoned kind new.is_open says result
   reasons_keeping (CommitOk v) h o = absurd h.is

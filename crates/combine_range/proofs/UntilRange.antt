@@ -32,15 +32,23 @@ module _ {P T R : Type 0} (counts_failures : Type 0) (step : P → T → P) (siz
     pub fails : (j : ℕ) → from ≤ j → j < to → FailsTest size spells t (drop j old.unread)
     pub failures : counts_failures → g ≡ before
 
-  module _ {Q : Type 0} (none : Q → List T → Type 0) (old mid v : View P T) (before h g : Failures) (d : ℕ) (i : Q) (p : UnconsRange counts_failures step size none old mid before h d (Ok i)) where
-    unread : mid.unread ≡ drop p.is.0 old.unread
-    unread = ap (λ (x : View P T). x.unread) p.is.2.taken.rest
+  module _ (d : ℕ) (old v : View P T) (before g : Failures) (z : StoppedBefore d old v before g) where
+    pub stops_at_first : BeginsWithWanted size spells t v.unread → FirstTested size spells t z.from old.unread z.to
+    stops_at_first b = record { later = z.rises; within = z.taken.enough; begins = subst (BeginsWithWanted size spells t) (ap (λ (x : View P T). x.unread) z.taken.rest) b; fails = z.fails }
 
-    further : (j : ℕ) → p.is.0 ≤ j → drop (j - p.is.0) mid.unread ≡ drop j old.unread
-    further j l = ap (drop (j - p.is.0)) unread ∙ drop-drop (j - p.is.0) p.is.0 old.unread ∙ ap (λ n. drop n old.unread) {x = p.is.0 + (j - p.is.0)} {y = j} (omega arith)
+    pub fails_between : (filled : (t : T) → 0 < size t) → (e : ℕ) → e ≡ size_of size (take z.to old.unread) → FailsBetween size spells t filled d e old
+    fails_between filled e i = record { from = z.from; to = z.to; start = z.place; place = record { within = z.taken.enough; items = sym i }; rises = z.rises; fails = z.fails }
 
-    pub stopped_before : SoughtRange counts_failures step size spells t mid v h g → StoppedBefore d old v before g
-    stopped_before s = record {
+module _ {P T Q : Type 0} {counts_failures : Type 0} {step : P → T → P} {size : T → ℕ} {none : Q → List T → Type 0} {old mid : View P T} {before h : Failures} {d : ℕ} {i : Q} (p : UnconsRange counts_failures step size none old mid before h d (Ok i)) where
+  unread : mid.unread ≡ drop p.is.0 old.unread
+  unread = ap (λ (x : View P T). x.unread) p.is.2.taken.rest
+
+  further : (j : ℕ) → p.is.0 ≤ j → drop (j - p.is.0) mid.unread ≡ drop j old.unread
+  further j l = ap (drop (j - p.is.0)) unread ∙ drop-drop (j - p.is.0) p.is.0 old.unread ∙ ap (λ n. drop n old.unread) {x = p.is.0 + (j - p.is.0)} {y = j} (omega arith)
+
+  module _ {R : Type 0} {spells : R → List T → Type 0} {t : Wanted R} where
+    pub stopped_before : {v : View P T} {g : Failures} → SoughtRange counts_failures step size spells t mid v h g → StoppedBefore counts_failures step size spells t d old v before g
+    stopped_before {v} s = record {
       from = p.is.0;
       to = p.is.0 + s.count;
       place = p.is.1;
@@ -56,13 +64,6 @@ module _ {P T R : Type 0} (counts_failures : Type 0) (step : P → T → P) (siz
       place = p.is.1;
       nowhere = record { fails = λ j l k. subst (λ us. FailsTest size spells t us ⊎ (size_of size us < t.items)) (further j l) (n.fails (j - p.is.0) (omega arith) (let a = ap length unread in omega (arith, length-drop p.is.0 old.unread))) };
     }
-
-  module _ (d : ℕ) (old v : View P T) (before g : Failures) (z : StoppedBefore d old v before g) where
-    pub stops_at_first : BeginsWithWanted size spells t v.unread → FirstTested size spells t z.from old.unread z.to
-    stops_at_first b = record { later = z.rises; within = z.taken.enough; begins = subst (BeginsWithWanted size spells t) (ap (λ (x : View P T). x.unread) z.taken.rest) b; fails = z.fails }
-
-    pub fails_between : (filled : (t : T) → 0 < size t) → (e : ℕ) → e ≡ size_of size (take z.to old.unread) → FailsBetween size spells t filled d e old
-    fails_between filled e i = record { from = z.from; to = z.to; start = z.place; place = record { within = z.taken.enough; items = sym i }; rises = z.rises; fails = z.fails }
 
 module _ {P T R E : Type 0} (w : World P T Distance E) (size : T → ℕ) (filled : (t : T) → 0 < size t) (spells : R → List T → Type 0) (t : Wanted R) (adds : List (ErrorItem T R) → Type 0) (says : ℕ → Refusing P T E) (r : CallRecord P T Distance) (d : ℕ) (e : d ≡ (if r.first then 0 else r.state.items)) (v : View P T) (g : Failures) (z : StoppedBefore w.counts_failures w.step size spells t d r.old v r.before g) where
   -- found: what stands before is handed out

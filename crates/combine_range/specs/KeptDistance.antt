@@ -5,6 +5,7 @@ use Rattle.combine_base.specs.Stream.View.{View, Takes, Moves}
 use Rattle.combine_base.specs.Error.Items.{ErrorItem}
 use Rattle.combine_base.specs.Parser.Drivers.{Broke}
 use Rattle.combine_base.specs.Parser.Meaning.{Meaning, Reading, Refusing, IsReading, IsSingle, IsMeaning, MeansOne}
+use Rattle.combine_base.specs.Distances.{losing}
 use Rattle.combine_base.specs.declared.stream.Kind.{Kind}
 use Rattle.combine_base.specs.declared.stream.Kind.TheVariants as kinds
 use Rattle.combine_base.specs.declared.stream.Failures.{Failures}
@@ -35,15 +36,6 @@ module _ {P T R E A : Type 0} where
   kept_means_one valid size read adds refuses h = record { whole = h 0; rest = λ s k. h s.items }
 
 -- the answer where the kept distance was not passed over
--- the input ended within the distance
-abbrev pub losing : Kind → Kind
-losing kinds.End = kinds.Lost
-losing kinds.Refused = kinds.Refused
-losing kinds.Memory = kinds.Memory
-losing kinds.Read = kinds.Read
-losing kinds.Reset = kinds.Reset
-losing kinds.Lost = kinds.Lost
-
 module _ {V E : Type 0} (kind : E → Kind) where
   abbrev pub not_passed : Kind → ParseResult V E → Type 0
   not_passed why (CommitOk v) = ⊥

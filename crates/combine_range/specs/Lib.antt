@@ -1,4 +1,5 @@
 pub use Rattle.combine_base.specs.Parser.Meaning
+pub use Rattle.combine_base.specs.Predicates
 pub mod Range
 pub mod WantedRanges
 pub mod KeptDistance

@@ -25,7 +25,7 @@ pub fn begin(first: bool, state: &mut Distance) -> usize
     distance
 }
 
-/// Passes over so many items.
+/// Passes over `n` items.
 #[inline(always)]
 pub fn pass_items<Input: RangeStream>(input: &mut Input, n: usize) -> Result<(), Kind>
 where

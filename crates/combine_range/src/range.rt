@@ -55,7 +55,7 @@ pub fn range<Input, R>(wanted: R) -> Range<Input, R>
 ///
 /// # Errors
 ///
-/// - Too few items of ended input are refused peeked, and so is an end inside a character, as soon as so many bytes stand there.
+/// - Too few items of ended input are refused peeked, and so is an end inside a character, as soon as that many bytes stand there.
 /// - The error stands where the items begin. That of too few says that the input ended, the other nothing.
 /// - Faults are `Read` of the stream, and `Memory` if an error finds none for its text.
 ///

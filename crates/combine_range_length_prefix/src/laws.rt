@@ -10,7 +10,7 @@ use crate::range::types::LengthPrefix;
 use combine_base::parser::Parser;
 use combine_stream::range::{Range, RangeStream};
 
-/// The law that a length is read, and then so many items, which are the value.
+/// The law that a length is read, and then that many items, which are the value.
 #[inline]
 pub fn length_prefix_is_a_length_and_its_items<Input: RangeStream, P: Parser<Input>>(p: &P)
 where

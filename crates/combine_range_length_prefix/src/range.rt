@@ -1,4 +1,4 @@
-//! A length, and then so many items.
+//! A length, and then that many items.
 ghost use Rattle.std.specs.Prelude.{◌≡◌};
 ghost use Rattle.combine_range_length_prefix.specs.LengthParsers.{length_prefix_of};
 
@@ -12,7 +12,7 @@ use prefix::{AsLength, Taking};
 use std::marker::PhantomData;
 use types::LengthPrefix;
 
-/// Takes the range of so many items as the value of `p` says, after what `p` takes: tokens of a slice, or bytes of a text.
+/// Takes a range of as many items as the value of `p` says, after what `p` takes: tokens of a slice, or bytes of a text.
 ///
 /// It is committed if `p` is, or if the range isn't empty. It counts as one parser.
 ///
@@ -20,7 +20,7 @@ use types::LengthPrefix;
 ///
 /// - What `p` refuses is refused alike.
 /// - A value that is no `usize` is refused with the message `length out of range`, by an error that stands at the position before `p`. The tokens of `p` are taken.
-/// - Too few items of ended input are refused with the stream put back to after `p`, and so is an end inside a character, as soon as so many bytes stand there. The error stands there too, says of too few items that the input ended, and then which token is left.
+/// - Too few items of ended input are refused with the stream put back to after `p`, and so is an end inside a character, as soon as that many bytes stand there. The error stands there too, says of too few items that the input ended, and then which token is left.
 /// - Both refusals are committed if `p` was.
 /// - Faults are those of `p`, `Read` and `Reset` of the stream, and `Memory` if an error finds none for its text.
 ///

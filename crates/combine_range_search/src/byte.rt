@@ -77,7 +77,7 @@ pub fn take_until_byte3<Input>(first: u8, second: u8, third: u8) -> TakeUntilByt
 ///
 /// # Partial input
 ///
-/// On need of more a beginning of the needle may stand at the end of what was read: so many bytes are searched again.
+/// On need of more a beginning of the needle may stand at the end of what was read: its bytes are searched again.
 #[inline]
 pub fn take_until_bytes<'a, Input>(needle: &'a [u8]) -> TakeUntilBytes<'a, Input>
     ensures { result ≡ until_needle_of needle.entry }

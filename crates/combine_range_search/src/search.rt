@@ -21,7 +21,7 @@ use std::marker::PhantomData;
 pub enum TakeRange {
     /// The place.
     Found(usize),
-    /// There is none; whatever follows, so many items need not be searched again.
+    /// There is none; whatever follows, that many items need not be searched again.
     NotFound(usize),
 }
 

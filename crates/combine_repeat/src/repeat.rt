@@ -18,10 +18,10 @@ pub mod laws;
 pub mod types;
 
 pub use combine_base::repeat::{Append, Sink};
+use combine_repeat_turns::bounds::FirstThenMore;
 use combine_repeat_turns::each::{Dropped, Each};
-use combine_repeat_turns::repeat::types::Repeat;
+use combine_repeat_turns::repeat::Repeat;
 pub use combine_repeat_turns::turns::TurnsState;
-use combine_repeat_turns::turns::turn_bounds::{FirstThenMore, ZeroOrMore};
 use std::alloc::Global;
 use types::{Many, Many1, SkipMany, SkipMany1};
 
@@ -58,7 +58,7 @@ use types::{Many, Many1, SkipMany, SkipMany1};
 pub fn many<F, P>(alloc: Global, parser: P) -> Many<F, P>
     ensures { result ≡ many_of alloc parser }
 {
-    Repeat::new(Each::new(alloc), parser, ZeroOrMore)
+    Repeat::new(Each::new(alloc), parser, ())
 }
 
 /// Runs `parser` once, and then turns of it until it is refused peeked, and collects all values in order.
@@ -110,7 +110,7 @@ pub fn many1<F, P>(alloc: Global, parser: P) -> Many1<F, P>
 pub fn skip_many<P>(parser: P) -> SkipMany<P>
     ensures { result ≡ skip_many_of parser }
 {
-    Repeat::new(Dropped, parser, ZeroOrMore)
+    Repeat::new(Dropped, parser, ())
 }
 
 /// Runs turns as `many1` does, and drops the values.

@@ -12,7 +12,7 @@ use Rattle.combine_repeat_sep.specs.Elements.{elements_meaning}
 use Rattle.combine_repeat_sep.specs.declared.separated.Element.{Element}
 use Rattle.combine_repeat_sep.specs.declared.separated.SeparatedState.{SeparatedState}
 use Rattle.combine_repeat_sep.specs.declared.separated.Element.TheVariants.{First, Then}
-use Rattle.combine_repeat_turns.specs.declared.turns.Bounds.TheVariants.{OwnFirst}
+use Rattle.combine_repeat_turns.specs.declared.bounds.Bounds.TheVariants.{OwnFirst}
 use Rattle.combine_repeat_turns.specs.declared.turns.Earlier.TheVariants.{Nothing}
 use Rattle.combine_repeat_turns.specs.declared.turns.TurnsState.{TurnsState}
 use Rattle.combine_repeat_chain.specs.declared.operands.PendingOperand.{PendingOperand}

@@ -3,14 +3,14 @@ use Rattle.std.proofs.Common.{ℕ, ◌+◌, ◌<◌, ◌≡◌, ◌⊎◌, inl, 
 use Rattle.combine_base.specs.Stream.View.{View, Takes, advanced, extended, MayFollow}
 use Rattle.combine_base.specs.Stream.Advance.{advanced_extended, advanced_twice, open_follows, decided_stays}
 use Rattle.combine_base.specs.Parser.Outcome.{Outcome, Accepted, Refused, Undecided, after}
-use Rattle.combine_base.specs.Parser.Meaning.{Meaning, MeansSame, IsMeaning, IsReading, begun}
+use Rattle.combine_base.specs.Parser.Meaning.{Meaning, MeansSame, IsMeaning, begun, begun_reads}
 use Rattle.combine_base.specs.Parser.Answer.{CallRecord, World, Resumes, Asks}
 use Rattle.combine_base.proofs.Errors.CallErrors.{need_of_more}
 use Rattle.combine_base.specs.declared.stream.Kind.TheVariants as kinds
 use Rattle.combine_repeat_turns.specs.Turns.Bounds.{accepted_at, bounded, is_block_at, judged}
 use Rattle.combine_repeat_turns.specs.Repeat.Repeated.{no_value_ends}
 use Rattle.combine_repeat_turns.specs.Turns.Blocks.{Block, outcome, TakesBlock, StopsTurns, DividesBlocks}
-use Rattle.combine_repeat_turns.specs.declared.turns.Bounds.TheVariants.{Unbounded}
+use Rattle.combine_repeat_turns.specs.declared.bounds.Bounds.TheVariants.{Unbounded}
 use Rattle.combine_repeat_iterate.specs.IteratorTurn.{IterTurnDid, HasIterTurnFailed, InTurn, TakesNothing, Unreset, iter_turn_place}
 use Rattle.combine_repeat_iterate.specs.IteratorValues.{Continues, longer, remains, iter_stage_after, takes_any}
 use Rattle.combine_repeat_iterate.specs.declared.repeat.IterStage.TheVariants as stages
@@ -18,14 +18,10 @@ use Rattle.combine_repeat_iterate.specs.declared.repeat.IterStep.{IterStep}
 use Rattle.combine_repeat_iterate.specs.declared.repeat.IterStep.TheVariants.{Gives, Over, Fails}
 use Rattle.combine_repeat_iterate.proofs.IteratorDivision.{past_block}
 
-begun_is_reading : {P T R E A S : Type 0} {fresh valid : S → Type 0} (m : Meaning P T R E A S) → IsMeaning fresh valid m → (first : Bool) (s : S) → valid s → IsReading (begun m first s)
-begun_is_reading m h true s d = h.whole
-begun_is_reading m h false s d = h.rest s d
-
 -- past a block, whatever follows
 pub past_block_with : {P T R E A S : Type 0} {fresh valid : S → Type 0} (step : P → T → P) (m m' : Meaning P T R E A S) → IsMeaning fresh valid m → MeansSame m m' → (first again : Bool) (s s' : S) → valid s → (v u : View P T) (b : Block A) → again ≡ true → begun m first s v (outcome b) → is_block_at Unbounded (iter_turn_place first) b.count b.committed ≡ true → u ≡ advanced step b.count v → (x : List T) (i : Bool) → MayFollow v.is_open x i → (bs : List (Block A)) (l : Outcome (Unit {0})) → remains step m' again s' (extended x i u) bs l → remains step m first s (extended x i v) (b ∷ bs) l
 past_block_with step m m' laws h first again s s' k v u b e d j q x i f bs l t =
-    let r = begun_is_reading m laws first s k in
+    let r = begun_reads _ _ m laws first s k in
     past_block step m m' h first again s s' (extended x i v) (extended x i u) b e (decided_stays (begun m first s) r v x i (outcome b) f tt d) j (ap (extended x i) q ∙ sym (advanced_extended step b.count x i v (r.within v b.value b.count b.committed d))) bs l t
 
 module _ {P T R E A S : Type 0} (step : P → T → P) (m : Meaning P T R E A S) (first : Bool) (s s' : S) (n : ℕ) (old new : View P T) (taken : Takes step n old new) (r : Resumes (begun m first s) (m.rest s') n old new) where

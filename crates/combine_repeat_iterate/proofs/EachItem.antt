@@ -1,12 +1,12 @@
 -- a call of `iterate`, by the runs of its items' parsers
-use Rattle.std.proofs.Common.{ℕ, ◌+◌, ◌≡◌, ◌≤◌, inl, inr, List, [], ◌∷◌, Bool, true, false, ◌||◌, refl, sym, ◌∙◌, ap, subst, arith, add-zero}
+use Rattle.std.proofs.Common.{ℕ, ◌+◌, ◌≡◌, ◌≤◌, inl, inr, List, [], ◌∷◌, Bool, true, false, ◌||◌, refl, sym, ◌∙◌, subst, add-zero}
 use Rattle.combine_base.specs.Error.Errors.{Observers}
 use Rattle.combine_base.specs.Parser.Answer.{World, CallRecord, Answers, Accepts, Resumes, Leaves, fails, world}
 use Rattle.combine_base.specs.Parser.KeptParsers.{KeptOf}
 use Rattle.combine_base.specs.Parser.Meaning.{Meaning, Reading, Refusing, IsMeaning, MeansSame, refusals_from}
 use Rattle.combine_base.specs.Parser.Outcome.{Outcome, Accepted, Refused, Undecided, or_false}
 use Rattle.combine_base.specs.Parser.Reasons.{Reasoned}
-use Rattle.combine_base.specs.Sequence.JoinedOutcome.{joined}
+use Rattle.combine_base.specs.Sequence.JoinedOutcome.{joined, unchanged, last_value, joined_none, joined_twice}
 use Rattle.combine_base.specs.Sequence.Parts.{RunsFrom, accepted_as, refused_as, call_from}
 use Rattle.combine_base.specs.Sequence.Readings.{following}
 use Rattle.combine_base.specs.Stream.View.{View, Takes, advanced}
@@ -24,7 +24,7 @@ use Rattle.combine_base.specs.declared.stream.Failures.{Failures}
 use Rattle.combine_base.specs.declared.stream.Kind.TheVariants as kinds
 use Rattle.combine_base.specs.declared.stream.StreamOnce as stream
 use Rattle.combine_repeat_iterate.specs.declared.repeat.items.Item.{Item}
-use Rattle.combine_repeat_iterate.specs.ItemParsers.{begins_items, items_start_valid, valid_item, each_item, each_from, iterated, last_value, unchanged}
+use Rattle.combine_repeat_iterate.specs.ItemParsers.{begins_items, items_start_valid, valid_item, each_item, each_from, iterated}
 use Rattle.combine_repeat_iterate.specs.ItemCalls.{CalledItem, Stores, item_did, keeps_item, unstored}
 use Rattle.combine_repeat_iterate.specs.ItemErrors.{RefusesIterated, item_refuses, items_refuse, running_item_refuses}
 use Rattle.combine_repeat_iterate.proofs.ItemErrors.{item_meant, next_item_refuses}
@@ -33,29 +33,6 @@ use Rattle.combine_repeat_iterate.specs.declared.repeat.items.Item.TheVariants a
 use Rattle.combine_repeat_iterate.specs.declared.repeat.items.RunningItem.{RunningItem}
 use Rattle.combine_repeat_iterate.specs.declared.repeat.items.IterateState.{IterateState}
 use Rattle.combine_repeat_iterate.specs.declared.repeat.items.IterateState.TheVariants as states
-
-or_or : (a b c : Bool) → ((a || b) || c) ≡ (a || (b || c))
-or_or true b c = refl
-or_or false b c = refl
-
--- what comes after two parts, of which one or the other was committed
-joined_twice : {B C : Type 0} (c k : Bool) (b : B) (p : Outcome C) → joined 0 (c || k) unchanged p ≡ joined 0 c unchanged (joined 0 k (last_value b) p)
-joined_twice c k b (Accepted a n j) = let e = or_or c k j in let i : 0 + n ≡ 0 + (0 + n) = omega arith in cc
-joined_twice c k b (Refused j) = ap Refused (or_or c k j)
-joined_twice c k b Undecided = refl
-
-joined_none : {C : Type 0} (p : Outcome C) → joined 0 false unchanged p ≡ p
-joined_none (Accepted a n j) = let i : 0 + n ≡ n = omega arith in cc
-joined_none (Refused j) = refl
-joined_none Undecided = refl
-
--- what a call begins from is valid
-pub valid_from : {S : Type 0} {fresh valid : S → Type 0} {first : Bool} {given s : S} → ((s : S) → fresh s → valid s) → RunsFrom fresh first given s → valid given → valid s
-valid_from {S} {fresh} {valid} {first} {given} {s} h r v = by_mode first r
-  where
-    by_mode : (first : Bool) → RunsFrom fresh first given s → valid s
-    by_mode true r = h s (r.afresh refl)
-    by_mode false r = subst valid (sym (r.kept refl)) v
 
 module _ {N Input It I B C H U Checkpoint T R P E : Type 0} (p : parser.Ghosts N Input U B Checkpoint T R P E) (i : stream.Ghosts Input T R P E) (observers : Observers T R P E) (fresh : U → Type 0) (answers : I → N → Type 0) (some : N → Type 0) (held : C → H) (none : H) (more : H → B → H) (at : It → List I → Type 0) (lists : List I → Type 0) (heapless spared : Type 0) where
   abbrev all : Meaning P T R E C (IterateState C It N U)
@@ -246,10 +223,10 @@ module _ {N Input It I B C H U Checkpoint T R P E : Type 0} (p : parser.Ghosts N
         by_answer (CommitOk b) a d (inr k) = stores b true a.is k.1 y d
         by_answer (PeekOk b) a d (inl k) = absurd k.0
         by_answer (PeekOk b) a d (inr k) = stores b false a.is k.1 y d
-        by_answer (CommitErr e) a d (inl k) = subst (λ x. Answers whole_world all (call_from z state old (i.view left) before (i.failures left)) x) (stops_as d) (inside_asks _ _ _ _ _ _ _ _ _ _ _ _ (inside g.stopped) (keeping g.parser g.same g.stopped k.1) e k.0 a)
-        by_answer (CommitErr e) a d (inr k) = subst (λ x. Answers whole_world all (call_from z state old (i.view left) before (i.failures left)) x) (stops_as d) (inside_fails _ _ _ _ _ _ _ _ _ _ _ _ (inside g.stopped) (λ x. k.1) e k.0 a)
+        by_answer (CommitErr e) a d (inl k) = subst (λ x. Answers whole_world all (call_from z state old (i.view left) before (i.failures left)) x) (stops_as d) (inside_asks (inside g.stopped) (keeping g.parser g.same g.stopped k.1) e k.0 a)
+        by_answer (CommitErr e) a d (inr k) = subst (λ x. Answers whole_world all (call_from z state old (i.view left) before (i.failures left)) x) (stops_as d) (inside_fails (inside g.stopped) (λ x. k.1) e k.0 a)
         by_answer (PeekErr t) a d (inl k) = absurd k.0
-        by_answer (PeekErr t) a d (inr k) = subst (λ x. Answers whole_world all (call_from z state old (i.view left) before (i.failures left)) x) (stops_as d) (inside_refuses _ _ _ _ _ _ _ _ _ _ _ _ (inside g.stopped) (λ x. k.1) t a)
+        by_answer (PeekErr t) a d (inr k) = subst (λ x. Answers whole_world all (call_from z state old (i.view left) before (i.failures left)) x) (stops_as d) (inside_refuses (inside g.stopped) (λ x. k.1) t a)
 
     -- and the error of a refusal is one that the call may have
     pub item_reasons : (y : ParseResult C E) → CalledItem p i observers fresh held more heapless input left l state (items.Stops y) → Reasoned observers.kind (i.view left).is_open (refused_from z old (i.view left)) y

@@ -10,7 +10,7 @@ use Rattle.combine_base.specs.declared.stream.Kind.TheVariants as kinds
 use Rattle.combine_repeat_turns.specs.Turns.Bounds.{accepted_at, bounded, is_block_at}
 use Rattle.combine_repeat_turns.specs.Repeat.Repeated.{no_value_ends}
 use Rattle.combine_repeat_turns.specs.Turns.Blocks.{Block, outcome, StopsTurns, DividesBlocks, divides_into}
-use Rattle.combine_repeat_turns.specs.declared.turns.Bounds.TheVariants.{Unbounded}
+use Rattle.combine_repeat_turns.specs.declared.bounds.Bounds.TheVariants.{Unbounded}
 use Rattle.combine_repeat_iterate.specs.IteratorTurn.{IterTurnDid, IsIterTurnOver, HasIterTurnFailed, InTurn, TakesNothing, Unreset, iter_turn_place}
 use Rattle.combine_repeat_iterate.specs.IteratorValues.{gone_on, remains, error_stops, stage_stops, iter_stage_after}
 use Rattle.combine_repeat_iterate.specs.declared.repeat.IterStep.{IterStep}

@@ -7,6 +7,7 @@ use Rattle.combine_base.specs.Parser.Outcome.{Outcome, Accepted, Refused, Undeci
 use Rattle.combine_base.specs.Parser.KeptParsers.{KeptOf, means_one_as}
 use Rattle.combine_base.specs.Parser.Meaning.{Meaning, Reading, IsReading, IsSingle, IsMeaning, MeansOne, SameReasons}
 use Rattle.combine_base.specs.Sequence.Readings.{following, sequel, continues, following_is_reading, following_is_single, sequel_is_reading, sequel_is_single, SecondIsSingle}
+use Rattle.combine_base.specs.Sequence.JoinedOutcome.{unchanged, last_value}
 use Rattle.combine_repeat_iterate.specs.ItemErrors.{RefusesIterated}
 use Rattle.combine_repeat_iterate.specs.declared.repeat.items.RunningItem.{RunningItem}
 use Rattle.combine_repeat_iterate.specs.declared.repeat.items.IterateState.{IterateState}
@@ -16,14 +17,6 @@ use Rattle.combine_repeat_iterate.specs.declared.repeat.items.IterateState.TheVa
 abbrev pub begins_items : {C It N U : Type 0} → IterateState C It N U → Type 0
 begins_items states.Start = Unit {0}
 begins_items (states.Running l) = ⊥
-
--- the value of the last of two
-abbrev pub last_value : {B C : Type 0} → B → C → C
-last_value b c = c
-
--- as it is
-abbrev pub unchanged : {C : Type 0} → C → C
-unchanged c = c
 
 -- any two parsers that may be answered for one item have one outcome, but for the value
 pub record ItemAnswersOne {P T I N B : Type 0} (answers : I → N → Type 0) (means : N → Reading P T B) : Type 0 where

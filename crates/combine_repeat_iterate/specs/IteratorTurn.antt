@@ -6,8 +6,8 @@ use Rattle.combine_base.specs.Parser.Answer.{CallRecord, World, Answers, Accepts
 use Rattle.combine_base.specs.Refusals.{IsRefusalOrMemory}
 use Rattle.combine_base.specs.Stream.Calls.{Passes}
 use Rattle.combine_repeat_turns.specs.Turns.Bounds.{is_block_at}
-use Rattle.combine_repeat_turns.specs.declared.turns.Bounds.TheVariants.{Unbounded}
-use Rattle.combine_repeat_turns.specs.declared.turns.TurnIndex.{TurnIndex}
+use Rattle.combine_repeat_turns.specs.declared.bounds.Bounds.TheVariants.{Unbounded}
+use Rattle.combine_repeat_turns.specs.declared.bounds.TurnIndex.{TurnIndex}
 use Rattle.combine_base.specs.declared.parser.Parser as parser
 use Rattle.combine_base.specs.declared.stream.StreamOnce as stream
 use Rattle.combine_base.specs.declared.stream.Kind.TheVariants as kinds
@@ -17,7 +17,7 @@ use Rattle.combine_repeat_iterate.specs.declared.repeat.IterStep.TheVariants.{Gi
 
 -- The place of a turn: none is asked for, and one that resumes may have taken its tokens from an earlier piece.
 abbrev pub iter_turn_place : Bool → TurnIndex
-iter_turn_place first = record { number = 0; begun = not first }
+iter_turn_place first = record { number = 0; took_before = not first }
 
 module _ {P T R A S E : Type 0} (w : World P T S E) (m : Meaning P T R E A S) (r : CallRecord P T S) where
   -- the turn is accepted, committed or not, and is a block or takes nothing

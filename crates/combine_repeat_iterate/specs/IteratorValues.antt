@@ -10,7 +10,7 @@ use Rattle.combine_base.specs.Sequence.Parts.{accepted_as}
 use Rattle.combine_repeat_turns.specs.Turns.Bounds.{bounded}
 use Rattle.combine_repeat_turns.specs.Repeat.Repeated.{no_value_ends}
 use Rattle.combine_repeat_turns.specs.Turns.Blocks.{Block, DividesBlocks}
-use Rattle.combine_repeat_turns.specs.declared.turns.Bounds.TheVariants.{Unbounded}
+use Rattle.combine_repeat_turns.specs.declared.bounds.Bounds.TheVariants.{Unbounded}
 use Rattle.combine_base.specs.declared.parser.Parser as parser
 use Rattle.combine_base.specs.declared.stream.StreamOnce as stream
 use Rattle.combine_base.specs.declared.stream.Kind.{Kind}

@@ -2,7 +2,7 @@
 ghost use Rattle.std.specs.Prelude.{◌≡◌, ℕ};
 ghost use Rattle.combine_base.specs.Stream.View.{View, Takes};
 ghost use Rattle.combine_repeat_turns.specs.Turns.Bounds.{is_block_at};
-ghost use Rattle.combine_repeat_turns.specs.declared.turns.Bounds.TheVariants.{Unbounded};
+ghost use Rattle.combine_repeat_turns.specs.declared.bounds.Bounds.TheVariants.{Unbounded};
 ghost use Rattle.combine_base.specs.Error.Results.{standard};
 ghost use Rattle.combine_repeat_iterate.specs.ListedItems.{iterate_of};
 ghost use Rattle.combine_repeat_iterate.specs.IteratorTurn.{TurnCalled, iter_turn_place};

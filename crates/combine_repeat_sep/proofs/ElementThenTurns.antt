@@ -5,9 +5,9 @@ use Rattle.combine_base.specs.Parser.Meaning.{Meaning}
 use Rattle.combine_base.specs.Sequence.Readings.{following}
 use Rattle.combine_repeat_sep.specs.Pair.{pair}
 use Rattle.combine_repeat_turns.specs.Turns.Blocks.{Collecting}
-use Rattle.combine_repeat_turns.proofs.OneThenTurns.{joined_is_one_then_turns}
+use Rattle.combine_repeat_turns.proofs.OneThenTurns.{own_first_is_one_then_turns}
 use Rattle.combine_repeat_sep.specs.Elements.{elements, SepBy1IsOneThenTurns}
 use Rattle.combine_repeat_sep.specs.Separated.{first_element, later_turn, then_element}
 
 pub sep_by1_is_one_then_turns : {P T R E O A V U W : Type 0} (step : P → T → P) (errors : Observers T R P E) (c : Collecting A V) (m : Meaning P T R E A U) (s : Meaning P T R E O W) → SepBy1IsOneThenTurns step errors c m s
-sep_by1_is_one_then_turns step errors c m s v o = joined_is_one_then_turns step (elements c) (following false first_element m.whole) (later_turn then_element (pair step errors s m)).reads v o
+sep_by1_is_one_then_turns step errors c m s v o = own_first_is_one_then_turns step (elements c) (following false first_element m.whole) (later_turn then_element (pair step errors s m)).reads v o

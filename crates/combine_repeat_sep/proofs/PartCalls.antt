@@ -68,14 +68,14 @@ module _ {P T R A B S S' E : Type 0} (w : World P T S E) (fresh : S' → Type 0)
       more : (x : ParseResult A E) → NeedsMore w.kind new.is_open x → Answers w m run x → Answers (around w fresh) m' (around_run (keep stopped)) (joined_answer false f x)
       more (CommitOk v) i a = absurd i
       more (PeekOk v) i a = absurd i
-      more (CommitErr e) i a = inside_asks _ _ _ _ _ _ _ _ _ _ _ _ (inside (keep stopped)) keeping e i a
+      more (CommitErr e) i a = inside_asks (inside (keep stopped)) keeping e i a
       more (PeekErr t) i a = absurd i
 
       over : (left : S') → fresh left → (x : ParseResult A E) → (NeedsMore w.kind new.is_open x → ⊥) → Answers w m run x → Answers (around w fresh) m' (around_run left) (joined_answer false f x)
-      over left d (CommitOk v) n a = inside_commits _ _ _ _ _ _ _ _ _ _ _ _ (inside left) (λ k. d) f (λ a n k x. (Accepted a n k, x, ap (λ i. Accepted (f a) i k) (sym (zero-add n)))) v a
-      over left d (PeekOk v) n a = inside_peeks _ _ _ _ _ _ _ _ _ _ _ _ (inside left) (λ k. d) f (λ a n k x. (Accepted a n k, x, ap (λ i. Accepted (f a) i k) (sym (zero-add n)))) v a
-      over left d (CommitErr e) n a = inside_fails _ _ _ _ _ _ _ _ _ _ _ _ (inside left) (λ k. d) e n a
-      over left d (PeekErr t) n a = inside_refuses _ _ _ _ _ _ _ _ _ _ _ _ (inside left) (λ k. d) t a
+      over left d (CommitOk v) n a = inside_commits (inside left) (λ k. d) f (λ a n k x. (Accepted a n k, x, ap (λ i. Accepted (f a) i k) (sym (zero-add n)))) v a
+      over left d (PeekOk v) n a = inside_peeks (inside left) (λ k. d) f (λ a n k x. (Accepted a n k, x, ap (λ i. Accepted (f a) i k) (sym (zero-add n)))) v a
+      over left d (CommitErr e) n a = inside_fails (inside left) (λ k. d) e n a
+      over left d (PeekErr t) n a = inside_refuses (inside left) (λ k. d) t a
 
     pub placed : BeginsAsPart → Keeping → (valid : S → Type 0) (start left : S') → fresh start → (old new : View P T) (before after : Failures) (result : ParseResult B E) → RanPart w m valid f keep part_first part_state start left old new before after result → Answers (around w fresh) m' (record { first = first; state = given; left = left; old = old; new = new; before = before; after = after }) result
     placed z k valid start left d old new before after result p = rw p.is (by_left p.leaves)

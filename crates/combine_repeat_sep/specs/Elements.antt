@@ -7,8 +7,8 @@ use Rattle.combine_repeat_turns.specs.Turns.Blocks.{Collecting}
 use Rattle.combine_repeat_turns.specs.Turns.Bounds.{gathered, none_yet, turns_from, fresh_turns, running_turn, turns_is_meaning, turns_means_one, turns_means_same}
 use Rattle.combine_repeat_turns.specs.Repeat.Repeated.{no_value_ends}
 use Rattle.combine_repeat_sep.specs.Separated.{first_element, first_then, later_turn, then_element, separated_fresh, separated_valid, then_is_turn, then_once, then_same}
-use Rattle.combine_repeat_turns.specs.declared.turns.Bounds.{Bounds}
-use Rattle.combine_repeat_turns.specs.declared.turns.Bounds.TheVariants.{OwnFirst}
+use Rattle.combine_repeat_turns.specs.declared.bounds.Bounds.{Bounds}
+use Rattle.combine_repeat_turns.specs.declared.bounds.Bounds.TheVariants.{OwnFirst}
 use Rattle.combine_repeat_turns.specs.declared.turns.TurnsState.{TurnsState}
 use Rattle.combine_repeat_sep.specs.declared.separated.Element.{Element}
 use Rattle.combine_repeat_sep.specs.declared.separated.Element.TheVariants.{First, Then}

@@ -9,17 +9,123 @@
 //! Faults are as for `many`. On need of more the state keeps what is collected, how many elements there were, whether one committed, and the turn that runs. What is added to an error is as for the parser of the elements.
 //!
 //! Which error a refusal has is exact, as for `many`: a separator and the element after it refuse as a tuple of two does, and `sep_count_min_max` says how many elements are missing.
-ghost use Rattle.std.specs.Prelude.{◌≡◌, ◌≤◌};
-ghost use Rattle.combine_repeat_sep.specs.SeparatedParsers.{chainl1_of, sep_by_of, sep_by1_of, sep_count_min_max_of};
+ghost use Rattle.std.specs.Prelude.{◌≡◌, ◌≤◌, if◌then◌else◌};
+ghost use Rattle.combine_repeat_turns.specs.Turns.Bounds.{fresh_turns_valid, is_unbounded, running_turn};
+ghost use Rattle.combine_repeat_turns.specs.Repeat.Repeated.{appended};
+ghost use Rattle.combine_repeat_sep.specs.Pair.{led_valid};
+ghost use Rattle.combine_repeat_sep.specs.SeparatedParsers.{chainl1_of, sep_bounds, sep_by_of, sep_by1_of, sep_count_min_max_of, sep_part, sep_repeat_of, sep_separator};
+ghost use Rattle.combine_repeat_sep.specs.Elements.{elements, elements_meaning, joined_is_meaning, joined_means_one};
+ghost use Rattle.combine_repeat_sep.specs.Separated.{any_lead, separated_default, separated_fresh, separated_valid};
 
 pub mod laws;
 pub mod types;
 
-use crate::separated::Separated;
-use combine_repeat_turns::turns::turn_bounds::{FirstThenMore, FirstThenUpTo};
+use crate::bounds::ElementBounds;
+use crate::elements::EachElement;
+use crate::separated::{Anything, Separated, SeparatedState};
+use combine_base::error::{ErrorOffset, ParseResult, Tracked};
+use combine_base::parser::{Outputs, ParseMode, Parser};
+use combine_base::repeat::Append;
+use combine_base::stream::Stream;
+use combine_repeat_turns::bounds::{FirstThenMore, FirstThenUpTo, TurnBounds};
+use combine_repeat_turns::turns::{TurnProgress, TurnsState, take_turns};
 use std::alloc::Global;
 use std::marker::PhantomData;
-use types::{Chainl1, RepeatSeparated, SepBy, SepBy1, SepCountMinMax};
+use types::{Chainl1, SepBy, SepBy1, SepCountMinMax};
+
+/// Elements with a separator between two of them, collected. `B` bounds their number.
+///
+/// The types of the separated repetitions are its aliases.
+#[derive(Drop)]
+#[derive_where(Clone, Copy; P, S, B)]
+pub struct SepRepeat<F, P, S, B> {
+    alloc: Global,
+    bounds: B,
+    turn: Separated<P, S, Anything>,
+    collects: PhantomData<F>,
+}
+
+impl<F, P, S, B> SepRepeat<F, P, S, B> {
+    /// Returns the parser of these elements.
+    #[inline(always)]
+    fn new(alloc: Global, bounds: B, parser: P, separator: S) -> SepRepeat<F, P, S, B>
+        ensures { result ≡ sep_repeat_of alloc bounds parser separator }
+    {
+        SepRepeat {
+            alloc,
+            bounds,
+            turn: Separated {
+                parser,
+                separator,
+                asks: PhantomData,
+            },
+            collects: PhantomData,
+        }
+    }
+}
+
+impl<Input, F: Drop, P, S, B> Outputs<Input> for SepRepeat<F, P, S, B> {
+    type Output = F;
+}
+
+impl<
+    Input: Stream,
+    P: Parser<Input>,
+    S: Parser<Input>,
+    F: Append<P::Output>,
+    B: ElementBounds,
+> Parser<Input> for SepRepeat<F, P, S, B> {
+    type PartialState = TurnsState<F, SeparatedState<S::Output, S::PartialState, P::PartialState>>;
+
+    ghost lawful = { λ p. S.lawful (sep_separator p) × P.lawful (sep_part p) };
+
+    ghost determined = { λ p. S.determined (sep_separator p) × P.determined (sep_part p) };
+
+    ghost valid = { λ s. separated_valid P.valid (led_valid any_lead S.valid P.valid) (running_turn s) };
+
+    ghost meaning = { λ p. elements_meaning Input.step Input.Error.observers (B.bounds (sep_bounds p)) (elements (appended F.held F.none F.more F.heapless)) (P.meaning (sep_part p)) (S.meaning (sep_separator p)) };
+
+    ghost parts = { λ p. if is_unbounded (B.bounds (sep_bounds p)) then P.parts (sep_part p) else 1 };
+
+    ghost default_valid = { fresh_turns_valid (separated_fresh P.PartialState.is_default) (separated_valid P.valid (led_valid any_lead S.valid P.valid)) (separated_default P.PartialState.is_default P.valid (led_valid any_lead S.valid P.valid) P.default_valid) };
+
+    ghost laws = { λ p l. joined_is_meaning Input.step Input.Error.observers (B.bounds (sep_bounds p)) (elements (appended F.held F.none F.more F.heapless)) any_lead _ _ _ _ _ _ (P.laws (sep_part p) l.1) (S.laws (sep_separator p) l.0) };
+
+    ghost single = { λ p l d. joined_means_one Input.step Input.Error.observers (B.bounds (sep_bounds p)) (elements (appended F.held F.none F.more F.heapless)) any_lead _ _ _ _ (P.single (sep_part p) l.1 d.1) (S.single (sep_separator p) l.0 d.0) };
+
+    #[inline(always)]
+    fn parse_mode<M: ParseMode>(
+        &mut self,
+        mode: M,
+        input: &mut Input,
+        state: &mut Self::PartialState,
+    ) -> ParseResult<F, Input::Error> {
+        let start = TurnProgress::none_yet(F::empty(self.alloc));
+        take_turns::<EachElement<F>, Input, Separated<P, S, Anything>, M, B::Turns>(
+            &mut self.turn,
+            self.bounds.turns(),
+            start,
+            mode,
+            input,
+            state,
+        )
+    }
+
+    /// Adds what the parser of the elements adds.
+    #[inline]
+    fn add_error(&mut self, error: &mut Tracked<Input::Error>) {
+        self.turn.parser.add_error(error);
+    }
+
+    /// Counts as the parser of the elements does; where their number is bounded it counts as one parser.
+    #[inline]
+    fn parser_count(&self) -> ErrorOffset {
+        if self.bounds.turns().is_unbounded() {
+            return self.turn.parser.parser_count();
+        }
+        ErrorOffset(1)
+    }
+}
 
 /// Takes at least `min` and at most `max` elements, which are `parser`'s, with what `separator` takes between two of them. Our own.
 ///
@@ -59,7 +165,7 @@ pub fn sep_count_min_max<F, P, S>(
     ensures { result ≡ sep_count_min_max_of alloc min max parser separator }
 {
     let bounds = FirstThenUpTo { min, max };
-    RepeatSeparated::new(alloc, bounds, parser, separator)
+    SepRepeat::new(alloc, bounds, parser, separator)
 }
 
 /// Takes any number of elements, with what `separator` takes between two of them, and collects their values.
@@ -85,7 +191,7 @@ pub fn sep_count_min_max<F, P, S>(
 pub fn sep_by<F, P, S>(alloc: Global, parser: P, separator: S) -> SepBy<F, P, S>
     ensures { result ≡ sep_by_of alloc parser separator }
 {
-    RepeatSeparated::new(alloc, FirstThenMore::<0>, parser, separator)
+    SepRepeat::new(alloc, (), parser, separator)
 }
 
 /// Takes at least one element, and any number, with what `separator` takes between two of them, and collects their values.
@@ -110,7 +216,7 @@ pub fn sep_by<F, P, S>(alloc: Global, parser: P, separator: S) -> SepBy<F, P, S>
 pub fn sep_by1<F, P, S>(alloc: Global, parser: P, separator: S) -> SepBy1<F, P, S>
     ensures { result ≡ sep_by1_of alloc parser separator }
 {
-    RepeatSeparated::new(alloc, FirstThenMore::<1>, parser, separator)
+    SepRepeat::new(alloc, FirstThenMore::<1>, parser, separator)
 }
 
 /// Parses as `parser`, and then by turns as `operator` and `parser`: folds the values from the left, by the functions that `operator` gives.

@@ -1,5 +1,5 @@
 -- a part, and then turns of a separator and perhaps the part, which end where it is missing
-use Rattle.std.specs.Prelude.{ℕ, ◌≡◌, Bool, true, false, Option, Some, None, refl}
+use Rattle.std.specs.Prelude.{ℕ, ◌≡◌, Bool, true, false, Option, Some, None, refl, is_none}
 use Rattle.std.proofs.Common.{sym, subst, ◌∙◌}
 use Rattle.combine_base.specs.Error.Errors.{Observers}
 use Rattle.combine_base.specs.Stream.View.{View, advanced}
@@ -42,10 +42,6 @@ after_separator t = t.1
 
 abbrev pub some_of : {A : Type 0} → A → Option A
 some_of a = Some a
-
-abbrev pub is_none : {A : Type 0} → Option A → Bool
-is_none None = true
-is_none (Some a) = false
 
 -- one more value, if there is one
 abbrev pub some_more : {A H : Type 0} → (H → A → H → Type 0) → H → Option A → H → Type 0

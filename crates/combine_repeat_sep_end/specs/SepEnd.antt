@@ -1,5 +1,5 @@
 -- elements, and separators of which the last may stand alone
-use Rattle.std.specs.Prelude.{Option, None}
+use Rattle.std.specs.Prelude.{Option, None, is_none}
 use Rattle.combine_base.specs.Error.Errors.{Observers}
 use Rattle.combine_base.specs.Parser.Meaning.{Meaning, IsMeaning, MeansOne, MeansSame}
 use Rattle.combine_repeat_sep.specs.Pair.{pair, pair_is_meaning, pair_means_same, pair_valid}
@@ -7,9 +7,9 @@ use Rattle.combine_token.specs.Choice.Optional.{optional, optional_is_meaning, o
 use Rattle.combine_repeat_turns.specs.Turns.Blocks.{Collecting}
 use Rattle.combine_repeat_turns.specs.Turns.Bounds.{fresh_turns, none_yet, running_turn, turns_from, turns_is_meaning, turns_means_one, turns_means_same}
 use Rattle.combine_repeat_sep.specs.Separated.{first_then, later_turn, separated_fresh, separated_valid, then_is_turn, then_same}
-use Rattle.combine_repeat_sep_end.specs.Ended.{ended_once, is_none, after_separator, some_more, some_of}
-use Rattle.combine_repeat_turns.specs.declared.turns.Bounds.{Bounds}
-use Rattle.combine_repeat_turns.specs.declared.turns.Bounds.TheVariants.{OwnFirst}
+use Rattle.combine_repeat_sep_end.specs.Ended.{ended_once, after_separator, some_more, some_of}
+use Rattle.combine_repeat_turns.specs.declared.bounds.Bounds.{Bounds}
+use Rattle.combine_repeat_turns.specs.declared.bounds.Bounds.TheVariants.{OwnFirst}
 use Rattle.combine_repeat_turns.specs.declared.turns.TurnsState.{TurnsState}
 use Rattle.combine_repeat_sep.specs.declared.separated.SeparatedState.{SeparatedState}
 

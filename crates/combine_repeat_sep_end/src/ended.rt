@@ -1,11 +1,11 @@
 //! What runs in each turn: a part, and later a separator and the part, or a separator alone, which ends the turns.
-ghost use Rattle.std.specs.Prelude.{◌≡◌, false, true};
+ghost use Rattle.std.specs.Prelude.{◌≡◌, false, true, is_none};
 ghost use Rattle.combine_base.specs.Parser.Meaning.{MeansSame};
 ghost use Rattle.combine_base.specs.Stream.Calls.{Passes};
 ghost use Rattle.combine_repeat_sep.specs.Pair.{pair, pair_begins, pair_is_meaning, pair_valid};
 ghost use Rattle.combine_repeat_sep.specs.PartCalls.{RanCall, RanLaterCall};
 ghost use Rattle.combine_repeat_sep.specs.Separated.{first_then, later_turn, separated_default, separated_valid, then_is_turn};
-ghost use Rattle.combine_repeat_sep_end.specs.Ended.{closer_of, ended_once, ended_part, is_none, after_separator, some_more, some_of, optional_part};
+ghost use Rattle.combine_repeat_sep_end.specs.Ended.{closer_of, ended_once, ended_part, after_separator, some_more, some_of, optional_part};
 ghost use Rattle.combine_token.specs.Choice.Optional.{optional, optional_is_meaning};
 ghost use Rattle.combine_repeat_turns.specs.Turns.SoundValues.{any_sound};
 ghost use Rattle.combine_repeat_turns.specs.Turns.Turn.{gives_any};

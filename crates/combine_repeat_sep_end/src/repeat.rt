@@ -8,14 +8,117 @@
 //!
 //! Which error a refusal has is exact, as for `sep_by`: after a separator a peeked refusal of the element is none.
 ghost use Rattle.std.specs.Prelude.{◌≡◌};
-ghost use Rattle.combine_repeat_sep_end.specs.SepEndParsers.{sep_end_by_of, sep_end_by1_of};
+ghost use Rattle.combine_repeat_sep.specs.Pair.{pair_valid};
+ghost use Rattle.combine_repeat_sep.specs.Separated.{separated_default, separated_fresh, separated_valid};
+ghost use Rattle.combine_repeat_sep_end.specs.SepEnd.{sep_end, sep_end_is_meaning, sep_end_means_one};
+ghost use Rattle.combine_repeat_sep_end.specs.SepEndParsers.{ended_by_part, ended_by_separator, sep_end_bounds, sep_end_by_of, sep_end_by1_of, sep_end_repeat_of};
+ghost use Rattle.combine_repeat_turns.specs.Turns.Bounds.{fresh_turns_valid, running_turn};
+ghost use Rattle.combine_repeat_turns.specs.Repeat.Repeated.{appended};
 
 pub mod laws;
 pub mod types;
 
-use combine_repeat_turns::turns::turn_bounds::FirstThenMore;
+use crate::ended::{EachSome, Ended};
+use combine_base::error::{ErrorOffset, ParseResult, Tracked};
+use combine_base::parser::{Outputs, ParseMode, Parser};
+use combine_base::repeat::Append;
+use combine_base::stream::Stream;
+use combine_repeat_sep::bounds::ElementBounds;
+use combine_repeat_sep::separated::SeparatedState;
+use combine_repeat_turns::bounds::FirstThenMore;
+use combine_repeat_turns::turns::{TurnProgress, TurnsState, take_turns};
+use combine_token::choice::optional;
 use std::alloc::Global;
-use types::{RepeatEnded, SepEndBy, SepEndBy1};
+use std::marker::PhantomData;
+use types::{SepEndBy, SepEndBy1};
+
+/// Elements with a separator between two of them and perhaps after the last, collected. `B` bounds their number.
+#[derive(Drop)]
+#[derive_where(Clone, Copy; P, S, B)]
+pub struct SepEndRepeat<F, P, S, B> {
+    alloc: Global,
+    bounds: B,
+    turn: Ended<P, S>,
+    collects: PhantomData<F>,
+}
+
+impl<F, P, S, B> SepEndRepeat<F, P, S, B> {
+    /// Returns the parser of these elements.
+    #[inline(always)]
+    fn new(alloc: Global, bounds: B, parser: P, separator: S) -> SepEndRepeat<F, P, S, B>
+        ensures { result ≡ sep_end_repeat_of alloc bounds parser separator }
+    {
+        SepEndRepeat {
+            alloc,
+            bounds,
+            turn: Ended {
+                part: optional(parser),
+                separator,
+            },
+            collects: PhantomData,
+        }
+    }
+}
+
+impl<Input, F: Drop, P, S, B> Outputs<Input> for SepEndRepeat<F, P, S, B> {
+    type Output = F;
+}
+
+impl<
+    Input: Stream,
+    P: Parser<Input>,
+    S: Parser<Input>,
+    F: Append<P::Output>,
+    B: ElementBounds,
+> Parser<Input> for SepEndRepeat<F, P, S, B> {
+    type PartialState = TurnsState<F, SeparatedState<S::Output, S::PartialState, P::PartialState>>;
+
+    ghost lawful = { λ p. S.lawful (ended_by_separator p) × P.lawful (ended_by_part p) };
+
+    ghost determined = { λ p. S.determined (ended_by_separator p) × P.determined (ended_by_part p) };
+
+    ghost valid = { λ s. separated_valid P.valid (pair_valid S.valid P.valid) (running_turn s) };
+
+    ghost meaning = { λ p. sep_end Input.step Input.Error.observers (B.bounds (sep_end_bounds p)) (appended F.held F.none F.more F.heapless) (P.meaning (ended_by_part p)) (S.meaning (ended_by_separator p)) };
+
+    ghost parts = { λ _. 1 };
+
+    ghost default_valid = { fresh_turns_valid (separated_fresh P.PartialState.is_default) (separated_valid P.valid (pair_valid S.valid P.valid)) (separated_default P.PartialState.is_default P.valid (pair_valid S.valid P.valid) P.default_valid) };
+
+    ghost laws = { λ p l. sep_end_is_meaning Input.step Input.Error.observers (B.bounds (sep_end_bounds p)) (appended F.held F.none F.more F.heapless) _ _ _ _ _ _ (P.laws (ended_by_part p) l.1) (S.laws (ended_by_separator p) l.0) };
+
+    ghost single = { λ p l d. sep_end_means_one Input.step Input.Error.observers (B.bounds (sep_end_bounds p)) (appended F.held F.none F.more F.heapless) P.valid S.valid (P.meaning (ended_by_part p)) (S.meaning (ended_by_separator p)) (P.single (ended_by_part p) l.1 d.1) (S.single (ended_by_separator p) l.0 d.0) };
+
+    #[inline(always)]
+    fn parse_mode<M: ParseMode>(
+        &mut self,
+        mode: M,
+        input: &mut Input,
+        state: &mut Self::PartialState,
+    ) -> ParseResult<F, Input::Error> {
+        let start = TurnProgress::none_yet(F::empty(self.alloc));
+        take_turns::<EachSome<F>, Input, Ended<P, S>, M, B::Turns>(
+            &mut self.turn,
+            self.bounds.turns(),
+            start,
+            mode,
+            input,
+            state,
+        )
+    }
+
+    /// Adds what the parser of the elements adds.
+    #[inline]
+    fn add_error(&mut self, error: &mut Tracked<Input::Error>) {
+        self.turn.part.0.add_error(error);
+    }
+
+    /// Counts as one parser.
+    #[inline]
+    fn parser_count(&self) -> ErrorOffset {
+        ErrorOffset(1)
+    }
+}
 
 /// Takes elements as `sep_end_by1` does, or none.
 ///
@@ -35,7 +138,7 @@ use types::{RepeatEnded, SepEndBy, SepEndBy1};
 pub fn sep_end_by<F, P, S>(alloc: Global, parser: P, separator: S) -> SepEndBy<F, P, S>
     ensures { result ≡ sep_end_by_of alloc parser separator }
 {
-    RepeatEnded::new(alloc, FirstThenMore::<0>, parser, separator)
+    SepEndRepeat::new(alloc, (), parser, separator)
 }
 
 /// Takes at least one element, which are `parser`'s, with what `separator` takes between two of them and perhaps after the last.
@@ -59,5 +162,5 @@ pub fn sep_end_by<F, P, S>(alloc: Global, parser: P, separator: S) -> SepEndBy<F
 pub fn sep_end_by1<F, P, S>(alloc: Global, parser: P, separator: S) -> SepEndBy1<F, P, S>
     ensures { result ≡ sep_end_by1_of alloc parser separator }
 {
-    RepeatEnded::new(alloc, FirstThenMore::<1>, parser, separator)
+    SepEndRepeat::new(alloc, FirstThenMore::<1>, parser, separator)
 }

@@ -7,7 +7,7 @@ use Rattle.combine_repeat_turns.specs.Turns.Blocks.{values, FoldsAll, HoldsColle
 use Rattle.combine_repeat_turns.specs.Turns.Bounds.{bounded, none_yet}
 use Rattle.combine_repeat_turns.specs.Repeat.Repeated.{appended, dropped, no_value_ends}
 use Rattle.combine_repeat_turns.specs.Repeat.Counts.{DropsValues}
-use Rattle.combine_repeat_turns.specs.declared.turns.Bounds.{Bounds}
+use Rattle.combine_repeat_turns.specs.declared.bounds.Bounds.{Bounds}
 
 module _ {A V Held : Type 0} (held : V → Held) (none : Held) (more : Held → A → Held) (heapless : Type 0) where
   folds_on : (h : Held) (xs : List A) → (i : Held) × FoldsAll (λ h a i. i ≡ more h a) h xs i

@@ -16,15 +16,15 @@ use Rattle.combine_repeat_turns.proofs.RepeatCalls.{ReachesBoundedTurn, judged_g
 use Rattle.combine_base.specs.declared.stream.Failures.{Failures}
 use Rattle.combine_base.specs.declared.error.Tracked.{Tracked}
 use Rattle.combine_base.specs.declared.error.ParseResult.TheVariants.{CommitErr, PeekErr}
-use Rattle.combine_repeat_turns.specs.declared.turns.Bounds.TheVariants.{OwnFirst}
-use Rattle.combine_repeat_turns.specs.declared.turns.TurnIndex.{TurnIndex}
+use Rattle.combine_repeat_turns.specs.declared.bounds.Bounds.TheVariants.{OwnFirst}
+use Rattle.combine_repeat_turns.specs.declared.bounds.TurnIndex.{TurnIndex}
 use Rattle.combine_repeat_turns.specs.declared.turns.TurnProgress.{TurnProgress}
 use Rattle.combine_repeat_turns.specs.declared.turns.TurnsState.{TurnsState}
 use Rattle.combine_repeat_turns.specs.declared.turns.Earlier.{Earlier}
 use Rattle.combine_repeat_turns.specs.declared.turns.Earlier.TheVariants.{Nothing, Gathered}
 
 abbrev pub first_turn_place : Bool → TurnIndex
-first_turn_place x = record { number = 0; begun = x }
+first_turn_place x = record { number = 0; took_before = x }
 
 -- what a first part took in an earlier piece doesn't matter
 module _ {A : Type 0} (ending : A → Bool) where

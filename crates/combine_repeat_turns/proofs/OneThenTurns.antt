@@ -8,15 +8,15 @@ use Rattle.combine_repeat_turns.specs.Turns.Bounds.{bounded, judged, none_yet}
 use Rattle.combine_repeat_turns.specs.Repeat.Repeated.{no_value_ends}
 use Rattle.combine_repeat_turns.proofs.TurnSteps.{collects_after}
 use Rattle.combine_repeat_turns.specs.Repeat.OneThenTurns.{one_then_turns, then_turns}
-use Rattle.combine_repeat_turns.specs.declared.turns.Bounds.TheVariants.{Unbounded, OwnFirst}
-use Rattle.combine_repeat_turns.specs.declared.turns.TurnIndex.{TurnIndex}
+use Rattle.combine_repeat_turns.specs.declared.bounds.Bounds.TheVariants.{Unbounded, OwnFirst}
+use Rattle.combine_repeat_turns.specs.declared.bounds.TurnIndex.{TurnIndex}
 
 -- the places of the first turn, and of one behind the first that is asked for
 abbrev at_first : TurnIndex
-at_first = record { number = 0; begun = false }
+at_first = record { number = 0; took_before = false }
 
 abbrev behind : TurnIndex
-behind = record { number = 1; begun = false }
+behind = record { number = 1; took_before = false }
 
 same_judge : {A : Type 0} (o : Outcome A) → judged (OwnFirst 1 None) no_value_ends behind o ≡ judged Unbounded no_value_ends at_first o
 same_judge (Accepted a n k) = refl
@@ -38,8 +38,8 @@ module _ {P T A V : Type 0} (step : P → T → P) (c : Collecting A V) (first l
   from_any l [] v d = (d.0, d.1, same_judge d.0 ∙ d.2)
   from_any l (b ∷ bs) v d = (refl, d.1, same_judge (outcome b) ∙ d.2, from_any l bs (advanced step b.count v) d.3)
 
-  abbrev joined_turns : Reading P T V
-  joined_turns = TurnsOutcome step (bounded (OwnFirst 1 None) no_value_ends) c (λ _. later) first (none_yet c.none)
+  abbrev own_first_turns : Reading P T V
+  own_first_turns = TurnsOutcome step (bounded (OwnFirst 1 None) no_value_ends) c (λ _. later) first (none_yet c.none)
 
   -- the first turn stops them
   alone : (v : View P T) (l : Outcome (Unit {0})) (o : Outcome V) (i : Outcome A) → judged (OwnFirst 1 None) no_value_ends at_first i ≡ StopsTurns l → shape o ≡ after 0 false l → then_turns step c first later v i o
@@ -77,7 +77,7 @@ module _ {P T A V : Type 0} (step : P → T → P) (c : Collecting A V) (first l
   part n m k d Undecided h (Accepted w j y) e q = absurd (cc)
   part n m k d Undecided h (Refused y) e q = absurd (cc)
 
-  forth : (v : View P T) (o : Outcome V) → joined_turns v o → one_then_turns step c first later v o
+  forth : (v : View P T) (o : Outcome V) → own_first_turns v o → one_then_turns step c first later v o
   forth v o t = by_blocks t.blocks t.last t.held t.divided t.joined t.folded t.collected
     where
       by_blocks : (bs : List (Block A)) (l : Outcome (Unit {0})) (h : c.Held) → DividesBlocks step (bounded (OwnFirst 1 None) no_value_ends) (λ _. later) l first at_first bs v → shape o ≡ after (taken bs) (any_committed bs) l → FoldsAll c.more c.none (values bs) h → HoldsCollected c o h → one_then_turns step c first later v o
@@ -86,7 +86,7 @@ module _ {P T A V : Type 0} (step : P → T → P) (c : Collecting A V) (first l
           let p = part b.count (taken bs) b.committed (any_committed bs) l h o j q in
           (outcome b, d.1, (f.0, f.1, p.rest, record { blocks = bs; last = l; held = h; divided = to_any l bs (advanced step b.count v) d.3; joined = p.joined; folded = f.2; collected = p.collected }, p.is))
 
-  back : (v : View P T) (o : Outcome V) (p : Outcome A) → first v p → then_turns step c first later v p o → joined_turns v o
+  back : (v : View P T) (o : Outcome V) (p : Outcome A) → first v p → then_turns step c first later v p o → own_first_turns v o
   back v o (Accepted a n k) r z =
       let t = z.3 in
       record {
@@ -102,5 +102,5 @@ module _ {P T A V : Type 0} (step : P → T → P) (c : Collecting A V) (first l
   back v o (Refused false) r z = record { blocks = []; last = Refused false; held = c.none; divided = (Refused false, r, refl); joined = rw z refl; folded = refl; collected = rw z tt }
   back v o Undecided r z = record { blocks = []; last = Undecided; held = c.none; divided = (Undecided, r, refl); joined = rw z refl; folded = refl; collected = rw z tt }
 
-  pub joined_is_one_then_turns : (v : View P T) (o : Outcome V) → joined_turns v o ↔ one_then_turns step c first later v o
-  joined_is_one_then_turns v o = (forth v o, λ p. back v o p.0 p.1 p.2)
+  pub own_first_is_one_then_turns : (v : View P T) (o : Outcome V) → own_first_turns v o ↔ one_then_turns step c first later v o
+  own_first_is_one_then_turns v o = (forth v o, λ p. back v o p.0 p.1 p.2)

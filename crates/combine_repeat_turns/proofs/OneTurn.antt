@@ -15,10 +15,10 @@ use Rattle.combine_base.specs.declared.error.ParseResult.{ParseResult}
 use Rattle.combine_base.specs.declared.error.ParseResult.TheVariants.{CommitErr, PeekErr}
 use Rattle.combine_repeat_turns.specs.Turns.Blocks.{Collecting}
 use Rattle.combine_repeat_turns.specs.Turns.Turn.{Start, TurnsSame, called}
-use Rattle.combine_repeat_turns.specs.Turns.Bounds.{cut_at, is_block_at, limit, turn_after, so_far}
+use Rattle.combine_repeat_turns.specs.Turns.Bounds.{cut_at, is_block_at, count_bound, turn_after, so_far}
 use Rattle.combine_repeat_turns.specs.Turns.OneTurn.{IsGathered, JudgesTurn, TurnDid, AreTurnsOver, EndedByValue, EndedByRefusal, TurnNeedsMore, HasTurnFailed, InTurn, TakesNothing, ValueUnstored, Untold, Unreset, turns_halted, CallEndedAt, then_left}
-use Rattle.combine_repeat_turns.specs.declared.turns.Bounds.{Bounds}
-use Rattle.combine_repeat_turns.specs.declared.turns.TurnIndex.{TurnIndex}
+use Rattle.combine_repeat_turns.specs.declared.bounds.Bounds.{Bounds}
+use Rattle.combine_repeat_turns.specs.declared.bounds.TurnIndex.{TurnIndex}
 use Rattle.combine_repeat_turns.specs.declared.turns.TurnStep.{TurnStep}
 use Rattle.combine_repeat_turns.specs.declared.turns.TurnStep.TheVariants as steps
 use Rattle.combine_repeat_turns.specs.declared.turns.TurnStop.{TurnStop}
@@ -37,17 +37,17 @@ pub called_same : {P T R E A S : Type 0} (m : Meaning P T R E A S) (again : Star
 called_same m again m' again' h true = let x = h.meaning in record { whole = h.later.reads; rest = x.rest; lost = x.lost; keeps = x.keeps; puts_back = x.puts_back; heapless = x.heapless; adds = x.adds; refuses = h.later.refuses; refuses_from = x.refuses_from }
 called_same m again m' again' h false = let x = h.meaning in record { whole = x.whole; rest = x.rest; lost = x.lost; keeps = x.keeps; puts_back = x.puts_back; heapless = x.heapless; adds = x.adds; refuses = x.refuses; refuses_from = x.refuses_from }
 
-module _ {P T R A S E : Type 0} (w : World P T S E) (b : Bounds) (ending : A → Bool) (m : Meaning P T R E A S) where
-  pub judged_by : (r : CallRecord P T S) (index : TurnIndex) (x : A × Bool) (a : A) (k goes i : Bool) → x ≡ (a, k) → Accepts w m r a k → ending x.0 ≡ false → ((n : ℕ) → Takes w.step n r.old r.new → goes ≡ is_block_at b index n x.1) → goes ≡ i → JudgesTurn w b ending m r index x i
-  judged_by r index x a k goes i e p o s j = let q : Accepts w m r x.0 x.1 = rw e p in record { accepts = q; on = o; says = sym j ∙ s q.count q.taken }
+module _ {P T R A S E : Type 0} {w : World P T S E} {b : Bounds} {ending : A → Bool} {m : Meaning P T R E A S} where
+  pub judged_by : {r : CallRecord P T S} {index : TurnIndex} {x : A × Bool} {a : A} {k goes i : Bool} → x ≡ (a, k) → Accepts w m r a k → ending x.0 ≡ false → ((n : ℕ) → Takes w.step n r.old r.new → goes ≡ is_block_at b index n x.1) → goes ≡ i → JudgesTurn w b ending m r index x i
+  judged_by {r} {x} e p o s j = let q : Accepts w m r x.0 x.1 = rw e p in record { accepts = q; on = o; says = sym j ∙ s q.count q.taken }
 
-module _ {P T R A S E : Type 0} (w : World P T S E) (m : Meaning P T R E A S) where
-  pub accepts_by : (r : CallRecord P T S) (x : A × Bool) (a : A) (k : Bool) → x ≡ (a, k) → Accepts w m r a k → Accepts w m r x.0 x.1
-  accepts_by r x a k e p = rw e p
+module _ {P T R A S E : Type 0} {w : World P T S E} {m : Meaning P T R E A S} where
+  pub accepts_by : {r : CallRecord P T S} {x : A × Bool} {a : A} {k : Bool} → x ≡ (a, k) → Accepts w m r a k → Accepts w m r x.0 x.1
+  accepts_by e p = rw e p
 
   -- the call as it is at its answer, and as it is when the stream was put back
-  pub turn_put_back : (first : Bool) (state left : S) (old now new : View P T) (before later after : Failures) (e : Tracked E) → Answers w m (record { first = first; state = state; left = left; old = old; new = now; before = before; after = later }) (PeekErr e) → new ≡ old → (w.counts_failures → after ≡ later) → Refuses w m (record { first = first; state = state; left = left; old = old; new = new; before = before; after = after }) false
-  turn_put_back first state left old now new before later after e p n f =
+  pub turn_put_back : {first : Bool} {state left : S} {old now new : View P T} {before later after : Failures} {e : Tracked E} → Answers w m (record { first = first; state = state; left = left; old = old; new = now; before = before; after = later }) (PeekErr e) → new ≡ old → (w.counts_failures → after ≡ later) → Refuses w m (record { first = first; state = state; left = left; old = old; new = new; before = before; after = after }) false
+  turn_put_back {old} {e} p n f =
       let y = peeked_refusal w m _ (w.kind e.error) p.is in
       record { meant = y.meant; leaves = record { count = 0; taken = rw n (takes_none w.step old); state = y.leaves.state }; failures = λ s. f s ∙ y.failures s }
 
@@ -74,7 +74,7 @@ module _ {P T R A V S E : Type 0} (w : World P T S E) (b : Bounds) (ending : A �
       Unreset (q ∙ h.0) (omega arith) (record { count = y.count + x.count; taken = takes_more w.step y.count x.count old now new y.taken x.taken; state = y.state })
 
 -- a turn that is gathered, and what the next one begins with
-pub gathered_on : {A V Held : Type 0} (held : V → Held) (more : Held → A → Held → Type 0) (b : Bounds) (old joined new : TurnProgress V) (value : A) (most : ℕ) (k : Bool) → IsGathered held more joined value most new → joined ≡ record { into = old.into; committed = old.committed || k; index = old.index } → most ≡ limit b → more (held old.into) value (held new.into) × (so_far held new ≡ record { mark = turn_after b old.index; held = held new.into; committed = old.committed || k })
+pub gathered_on : {A V Held : Type 0} (held : V → Held) (more : Held → A → Held → Type 0) (b : Bounds) (old joined new : TurnProgress V) (value : A) (most : ℕ) (k : Bool) → IsGathered held more joined value most new → joined ≡ record { into = old.into; committed = old.committed || k; index = old.index } → most ≡ count_bound b → more (held old.into) value (held new.into) × (so_far held new ≡ record { mark = turn_after b old.index; held = held new.into; committed = old.committed || k })
 gathered_on held more b old joined new value most k g e l = let h = rw (e, l) at g in (h.more_held, rw (h.index, h.committed) refl)
 
 -- what a turn of one parser did is what it did of another that means the same

@@ -18,9 +18,9 @@ use Rattle.combine_base.specs.declared.stream.Failures.{Failures}
 use Rattle.combine_base.specs.declared.error.Tracked.{Tracked}
 use Rattle.combine_base.specs.declared.error.ParseResult.{ParseResult}
 use Rattle.combine_base.specs.declared.error.ParseResult.TheVariants.{CommitErr}
-use Rattle.combine_repeat_turns.specs.declared.turns.Bounds.{Bounds}
-use Rattle.combine_repeat_turns.specs.declared.turns.Bounds.TheVariants.{Unbounded, OwnFirst, Counted}
-use Rattle.combine_repeat_turns.specs.declared.turns.TurnIndex.{TurnIndex}
+use Rattle.combine_repeat_turns.specs.declared.bounds.Bounds.{Bounds}
+use Rattle.combine_repeat_turns.specs.declared.bounds.Bounds.TheVariants.{Unbounded, OwnFirst, Counted}
+use Rattle.combine_repeat_turns.specs.declared.bounds.TurnIndex.{TurnIndex}
 use Rattle.combine_repeat_turns.specs.declared.turns.TurnStop.{TurnStop}
 use Rattle.combine_repeat_turns.specs.declared.turns.TurnStop.TheVariants as stop
 use Rattle.combine_repeat_turns.specs.declared.turns.TurnProgress.{TurnProgress}
@@ -30,8 +30,8 @@ use Rattle.combine_repeat_turns.specs.declared.turns.Earlier.TheVariants.{Nothin
 
 -- the turns that may still take nothing
 abbrev pub idle_turns : Bounds → TurnIndex → ℕ
-idle_turns Unbounded g = if g.begun then 1 else 0
-idle_turns (OwnFirst least most) g = if nat_lt g.number 1 then 1 else (if g.begun then 1 else 0)
+idle_turns Unbounded g = if g.took_before then 1 else 0
+idle_turns (OwnFirst least most) g = if nat_lt g.number 1 then 1 else (if g.took_before then 1 else 0)
 idle_turns (Counted least most) g = most - g.number
 
 both : (a b : Bool) → (a && b) ≡ true → b ≡ true
@@ -77,20 +77,20 @@ turns_run_out b g n k u v t f e = by_bounds b f e
         let c : length v.unread ≡ length (drop n u.unread) = ap (λ (x : View _ _). length x.unread) t.rest in
         omega (arith, length-drop n u.unread)
 
-    took : (k begun : Bool) → (k && (begun || nat_lt 0 n)) ≡ true → length v.unread + 0 < length u.unread + (if begun then 1 else 0)
+    took : (k took_before : Bool) → (k && (took_before || nat_lt 0 n)) ≡ true → length v.unread + 0 < length u.unread + (if took_before then 1 else 0)
     took k true e = let f = fewer in omega arith
     took k false e = let f = fewer in let p = ltb-true 0 n (both k (nat_lt 0 n) e) in omega arith
 
-    joined : (most : ℕ) → nat_lt (counted_to most g.number) 1 ≡ false → (i : Bool) → (if i then true else (k && (g.begun || nat_lt 0 n))) ≡ true → length v.unread + (if nat_lt (counted_to most g.number) 1 then 1 else 0) < length u.unread + (if i then 1 else (if g.begun then 1 else 0))
-    joined most z true e = let f = fewer in rw z (omega arith)
-    joined most z false e = rw z (took k g.begun e)
+    own_first : (most : ℕ) → nat_lt (counted_to most g.number) 1 ≡ false → (i : Bool) → (if i then true else (k && (g.took_before || nat_lt 0 n))) ≡ true → length v.unread + (if nat_lt (counted_to most g.number) 1 then 1 else 0) < length u.unread + (if i then 1 else (if g.took_before then 1 else 0))
+    own_first most z true e = let f = fewer in rw z (omega arith)
+    own_first most z false e = rw z (took k g.took_before e)
 
     by_bounds : (b : Bounds) → full_at b g ≡ false → is_block_at b g n k ≡ true → length v.unread + idle_turns b (turn_after b g) < length u.unread + idle_turns b g
-    by_bounds Unbounded f e = took k g.begun e
-    by_bounds (OwnFirst least None) f e = joined (if nat_lt least 1 then 1 else least) (after_one (if nat_lt least 1 then 1 else least) g.number (at_least_one least)) (nat_lt g.number 1) e
+    by_bounds Unbounded f e = took k g.took_before e
+    by_bounds (OwnFirst least None) f e = own_first (if nat_lt least 1 then 1 else least) (after_one (if nat_lt least 1 then 1 else least) g.number (at_least_one least)) (nat_lt g.number 1) e
     by_bounds (OwnFirst least (Some most)) f e =
         let l = ltb-true g.number most (is_not (nat_lt g.number most) f) in
-        joined most (after_one most g.number (omega arith)) (nat_lt g.number 1) e
+        own_first most (after_one most g.number (omega arith)) (nat_lt g.number 1) e
     by_bounds (Counted least most) f e =
         let i = is_not (nat_lt g.number most) f in
         let l = ltb-true g.number most i in

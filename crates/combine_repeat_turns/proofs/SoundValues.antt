@@ -11,7 +11,7 @@ use Rattle.combine_repeat_turns.specs.Turns.Turn.{Start, TurnsGive, called}
 use Rattle.combine_repeat_turns.specs.Turns.SoundValues.{KeepsSound, LeavesSound, of_value}
 use Rattle.combine_repeat_turns.specs.Turns.FirstTurn.{FirstGoes}
 use Rattle.combine_repeat_turns.specs.Turns.OneTurn.{IsTurnBlock, AreTurnsOver, EndedByValue, EndedByRefusal, turns_halted, stopped_answer, stopped_state}
-use Rattle.combine_repeat_turns.specs.declared.turns.Bounds.{Bounds}
+use Rattle.combine_repeat_turns.specs.declared.bounds.Bounds.{Bounds}
 use Rattle.combine_repeat_turns.specs.declared.turns.TurnStop.{TurnStop}
 use Rattle.combine_repeat_turns.specs.declared.turns.TurnStop.TheVariants as stop
 use Rattle.combine_repeat_turns.specs.declared.turns.TurnProgress.{TurnProgress}

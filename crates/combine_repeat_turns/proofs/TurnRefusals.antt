@@ -15,11 +15,11 @@ use Rattle.combine_repeat_turns.specs.Turns.FirstTurn.{FirstGoes}
 use Rattle.combine_repeat_turns.specs.Turns.OneTurn.{IsTurnBlock, stopped_answer}
 use Rattle.combine_repeat_turns.specs.Turns.Turn.{Start, called, from_start, from_state, started}
 use Rattle.combine_repeat_turns.specs.Turns.Blocks.{Collecting, TakesBlock, TurnsSoFar}
-use Rattle.combine_repeat_turns.specs.declared.turns.Bounds.{Bounds}
-use Rattle.combine_repeat_turns.specs.declared.turns.Bounds.TheVariants.{OwnFirst}
+use Rattle.combine_repeat_turns.specs.declared.bounds.Bounds.{Bounds}
+use Rattle.combine_repeat_turns.specs.declared.bounds.Bounds.TheVariants.{OwnFirst}
 use Rattle.combine_repeat_turns.specs.declared.turns.Earlier.{Earlier}
 use Rattle.combine_repeat_turns.specs.declared.turns.Earlier.TheVariants.{Nothing, Gathered}
-use Rattle.combine_repeat_turns.specs.declared.turns.TurnIndex.{TurnIndex}
+use Rattle.combine_repeat_turns.specs.declared.bounds.TurnIndex.{TurnIndex}
 use Rattle.combine_repeat_turns.specs.declared.turns.TurnStop.{TurnStop}
 use Rattle.combine_repeat_turns.specs.declared.turns.TurnStop.TheVariants as stop
 use Rattle.combine_repeat_turns.specs.declared.turns.TurnProgress.{TurnProgress}

@@ -1,5 +1,5 @@
 //! The loop that all repetitions run, and what it keeps.
-ghost use Rattle.std.specs.Prelude.{◌≡◌, ◌-◌, ◌||◌, ℕ, Bool, false, true, nat_lt, not, MatchResult, if◌then◌else◌};
+ghost use Rattle.std.specs.Prelude.{◌≡◌, ◌||◌, ℕ, Bool, false, true, MatchResult, if◌then◌else◌};
 ghost use Rattle.combine_base.specs.Stream.View.{View, Takes};
 ghost use Rattle.combine_base.specs.Parser.AnswersCalls.{AnswersCall};
 ghost use Rattle.combine_base.specs.Parser.Reasons.{ReasonedCall};
@@ -11,22 +11,21 @@ ghost use Rattle.combine_base.specs.Sequence.Parts.{accepted_as, refused_as};
 ghost use Rattle.std.specs.Prelude.{None};
 ghost use Rattle.combine_repeat_turns.specs.Turns.OneTurn.{IsGathered, stopped_answer, stopped_state};
 ghost use Rattle.combine_repeat_turns.specs.Turns.SoundValues.{LeavesSound, kept_sound};
-ghost use Rattle.combine_repeat_turns.specs.Turns.Bounds.{FirstRefuses, JudgesRefusal, TurnStepRefuses, turns_from, gathered, cut_at, counted_to, fresh_turns, kept_or, none_yet, running_turn, so_far};
+ghost use Rattle.combine_repeat_turns.specs.Turns.Bounds.{FirstRefuses, JudgesRefusal, TurnStepRefuses, turns_from, gathered, cut_at, fresh_turns, kept_or, none_yet, running_turn, so_far};
 ghost use Rattle.combine_repeat_turns.specs.Turns.Turn.{TurnsSame, called, started};
 ghost use Rattle.combine_repeat_turns.specs.Turns.TurnCalls.{FirstTurnCall, HaltsCall, OneTurnCall, TurnsCall};
-ghost use Rattle.combine_repeat_turns.specs.declared.turns.Bounds.TheVariants.{OwnFirst};
+ghost use Rattle.combine_repeat_turns.specs.declared.bounds.Bounds.TheVariants.{OwnFirst};
 
 mod entry;
-pub mod turn_bounds;
 
+use crate::bounds::{FirstThenMore, TurnBounds, TurnIndex, is_enough};
 use combine_base::error::{Info, ParseError, ParseResult, Tracked, accepted_after, refused_after};
 use combine_base::parser::{ParseMode, Parser};
 use combine_base::refusal::refusal_saying;
-use combine_base::stream::{Kind, Stream, has_taken, needs_more};
+use combine_base::stream::{Kind, Stream, needs_more};
 use entry::{Afresh, Entry, Resumed};
 use std::alloc::AllocError;
 use std::mem;
-use turn_bounds::{FirstThenMore, TurnBounds, is_enough};
 
 /// What runs in a turn: the first one, or any later one, which may differ.
 pub trait TurnParser<Input: Stream> {
@@ -145,7 +144,7 @@ pub trait Collect<A>: Gather<A> {
     /// Whether what is gathered shows the values.
     ghost keeps: { Bool };
 
-    /// Returns an empty gathering, with room for so many values.
+    /// Returns an empty gathering, with room for that many values.
     fn empty(&self, room: usize) -> Result<Self::Collection, AllocError>
         ensures { MatchResult result (λ i. Self.held i ≡ Self.none) (λ _. Self.heapless → ⊥) };
 
@@ -169,81 +168,6 @@ pub trait Reduce<A>: Gather<A> {
         ensures { MatchResult result (λ i. Self.more Self.none value (Self.held i)) (λ _. Self.heapless → ⊥) };
 }
 
-/// How many turns there are, for contracts: a type of `turn_bounds` says which are meant.
-#[derive(Clone, Copy)]
-pub enum Bounds {
-    /// Any number; each takes a token.
-    Unbounded,
-    /// The first is a part of its own: it may take nothing, and its refusal is the answer unless there need be none. Each later one takes a token.
-    OwnFirst { min: usize, max: Option<usize> },
-    /// A number; they may take nothing.
-    Counted { min: usize, max: usize },
-}
-
-/// The running turn: its index, counted up to the limit of the bounds, and whether it already took a token in an earlier piece.
-#[derive(Clone, Copy)]
-pub struct TurnIndex {
-    number: usize,
-    begun: bool,
-}
-
-impl TurnIndex {
-    /// Returns the place of the first turn.
-    #[inline(always)]
-    pub fn first() -> TurnIndex
-        ensures { result ≡ record { number = 0; begun = false } }
-    {
-        TurnIndex {
-            number: 0,
-            begun: false,
-        }
-    }
-
-    /// Returns whether so many turns were before it.
-    #[inline(always)]
-    fn reaches(self, max: usize) -> bool
-        ensures { result ≡ not (nat_lt self.number max) }
-    {
-        !(self.number < max)
-    }
-
-    /// Returns how many turns are missing before it, if there must be so many.
-    #[inline(always)]
-    fn short_of(self, min: usize) -> usize
-        ensures { result ≡ min - self.number }
-    {
-        min.saturating_sub(self.number)
-    }
-
-    /// Returns the place of the next turn.
-    #[inline(always)]
-    fn next(self, count_bound: usize) -> TurnIndex
-        ensures { result ≡ record { number = counted_to count_bound self.number; begun = false } }
-    {
-        if self.number < count_bound {
-            return TurnIndex {
-                number: self.number + 1,
-                begun: false,
-            };
-        }
-        TurnIndex {
-            number: count_bound,
-            begun: false,
-        }
-    }
-
-    /// Returns the index of the same turn in the next piece.
-    #[inline(always)]
-    fn cut<Input: Stream>(self, since: Input::Checkpoint, input: &Input) -> TurnIndex
-        ensures { (n : ℕ) (v : View Input.Position Input.Token) → Input.stands input.now since v → Takes Input.step n v (Input.view input.now) → result ≡ cut_at self n }
-    {
-        TurnIndex {
-            number: self.number,
-            begun: has_taken(self.begun, since, input),
-        }
-    }
-}
-
 /// The turns so far: what is gathered, whether one committed, and which one runs.
 #[derive(Drop)]
 pub struct TurnProgress<F> {
@@ -256,7 +180,7 @@ impl<F> TurnProgress<F> {
     /// Returns the turns where none is over yet: the first one runs, or would if there is one.
     #[inline]
     pub fn none_yet(into: F) -> TurnProgress<F>
-        ensures { result ≡ record { into = into; committed = false; index = record { number = 0; begun = false } } }
+        ensures { result ≡ record { into = into; committed = false; index = record { number = 0; took_before = false } } }
     {
         TurnProgress {
             into,
@@ -489,7 +413,7 @@ fn judge_refusal<G: Gather<P::Value>, Input: Stream, P: TurnParser<Input>, B: Tu
     TurnStop::Refused(turns, Tracked::from(error))
 }
 
-/// Runs one turn, called so, and gathers its value where it is a block.
+/// Runs one turn as `entry` calls it, and gathers its value where it is a block.
 #[inline(always)]
 fn one_turn<G: Gather<P::Value>, Input: Stream, P: TurnParser<Input>, B: TurnBounds, C: Entry>(
     parser: &mut P,
@@ -589,7 +513,7 @@ fn first_turn<G: Reduce<P::Value>, Input: Stream, P: TurnParser<Input>, M: Parse
             committed,
             index: TurnIndex {
                 number: 1,
-                begun: false,
+                took_before: false,
             },
         }),
         Err(_refused) => FirstStep::Failed(input.new_error(Kind::Memory, position)),

@@ -6,7 +6,7 @@ use Rattle.combine_base.specs.Parser.Outcome.{Outcome, Accepted, Refused, Undeci
 use Rattle.combine_base.specs.Parser.Meaning.{Meaning, Reading, IsReading, IsMeaning, MeansSame, begun}
 use Rattle.combine_base.specs.Parser.Answer.{CallRecord, World, Answers, Accepts, Refuses, Asks, Leaves, fails, peeks, loses}
 use Rattle.combine_base.specs.Parser.Drivers.{Broke}
-use Rattle.combine_base.specs.Distances.{stops_distance}
+use Rattle.combine_base.specs.Distances.{stops_distance, losing}
 use Rattle.combine_base.specs.Error.Errors.{Observers}
 use Rattle.combine_base.specs.Sequence.Parts.{accepted_as}
 use Rattle.combine_base.proofs.Parsers.Progress.{takes_more, takes_none, takes_open, after_none}
@@ -18,7 +18,7 @@ use Rattle.combine_base.specs.declared.stream.Failures.{Failures}
 use Rattle.combine_base.specs.declared.error.Tracked.{Tracked}
 use Rattle.combine_base.specs.declared.error.ParseResult.{ParseResult}
 use Rattle.combine_base.specs.declared.error.ParseResult.TheVariants.{CommitErr, PeekErr}
-use Rattle.combine_combinator.specs.Attempt.{LosesTry, Short, LostWithin, losing}
+use Rattle.combine_combinator.specs.Attempt.{LosesTry, Short, LostWithin}
 use Rattle.combine_repeat_turns.specs.Turns.Blocks.{Block, outcome, taken, values, any_committed, TakesBlock, StopsTurns, Collecting, TurnsSoFar, FoldsAll, DividesBlocks, HoldsCollected}
 use Rattle.combine_repeat_until.specs.Until.{block_at, until_judged, until_rule, stop_at, stopped_at, Until, no_blocks, blocks_so_far, until_fresh, until_valid, until_is_rule, until_into, until, until_lost}
 use Rattle.combine_repeat_until.specs.UntilTurn.{HoldsNothing, HandsOutBlocks, handed, IsPlaceAhead, IsUntilBlock, EndsHere, BlockNeedsMore, HasBlockFailed, InTurn, TakesNothing, BlockUnstored, Unreset, BlockDid, blocks_halted, block_did, HasKept, HasBroken, KeepsBlocks, KeepsRunning, SettlesBlocks}
@@ -104,13 +104,13 @@ module _ {P T R A V S E : Type 0} (w : World P T S E) (errors : Observers T R P 
     loses_first false Begin k into a e v (LostWithin l) = absurd (h.found k.running _ a.running l)
     loses_first false (At j) k into a e v l = let f : k ≡ j = a in subst (λ k. LosesTry w.step (k.before + k.beyond) (m.lost k.running) v) f l
 
-    pub reaches_first_block : (first : Bool) (state : UntilState V S) (k : KeptBlocks V S) (into : V) (blocks : Blocks V) (t : Bool) → HandsOutBlocks fresh into first state k → c.held into ≡ c.none → IsPlaceAhead w.counts_failures w.step marks old now earlier later k.before k.beyond place → blocks ≡ record { into = k.blocks.into; committed = k.blocks.committed || t; begun = k.blocks.begun } → t ≡ nat_lt 0 k.before → earlier.reads ≤ later.reads → earlier.resets ≤ later.resets → (at : View P T) → Takes w.step k.before old at → Takes w.step k.beyond at now → ReachesBlock first state old earlier first k.running at now later (blocks_so_far c.held blocks)
+    pub reaches_first_block : (first : Bool) (state : UntilState V S) (k : KeptBlocks V S) (into : V) (blocks : Blocks V) (t : Bool) → HandsOutBlocks fresh into first state k → c.held into ≡ c.none → IsPlaceAhead w.counts_failures w.step marks old now earlier later k.before k.beyond place → blocks ≡ record { into = k.blocks.into; committed = k.blocks.committed || t; took_before = k.blocks.took_before } → t ≡ nat_lt 0 k.before → earlier.reads ≤ later.reads → earlier.resets ≤ later.resets → (at : View P T) → Takes w.step k.before old at → Takes w.step k.beyond at now → ReachesBlock first state old earlier first k.running at now later (blocks_so_far c.held blocks)
     reaches_first_block first state k into blocks t a e q f g x y at i j = record {
       before = k.before;
       beyond = k.beyond;
       there = i;
       on = j;
-      leads = λ x b o l u. until_starts first state k into a.is e (extended x b old) o (counted_too k.before k.beyond (begun m first k.running) k.blocks.begun (c.held k.blocks.into) k.blocks.committed t (extended x b old) o (λ d. ltb-true 0 k.before (sym g ∙ d)) (rw f at u));
+      leads = λ x b o l u. until_starts first state k into a.is e (extended x b old) o (counted_too k.before k.beyond (begun m first k.running) k.blocks.took_before (c.held k.blocks.into) k.blocks.committed t (extended x b old) o (λ d. ltb-true 0 k.before (sym g ∙ d)) (rw f at u));
       counted = λ p. rw f (let d : t ≡ true = g ∙ lt-ltb 0 k.before p in rw d (or_true k.blocks.committed));
       lost = λ d l. (d, loses_first first state k into a.is d old (LostWithin (let z = (takes_more w.step k.before k.beyond old at now i j).rest in subst (m.lost k.running) z l)));
       failures = q.failures;
@@ -155,7 +155,7 @@ module _ {P T R A V S E : Type 0} (w : World P T S E) (errors : Observers T R P 
           there = all_taken a.count a.taken;
           on = takes_none w.step r.new;
           leads = leading;
-          counted = λ p. rw (both_true g.committed (b.begun || nat_lt 0 a.count) g.takes) (or_true b.committed);
+          counted = λ p. rw (both_true g.committed (b.took_before || nat_lt 0 a.count) g.takes) (or_true b.committed);
           lost = λ e l. absurd (cc);
           failures = λ d. a.failures d ∙ z.failures d;
           reads = let i = z.reads in omega arith;
@@ -193,7 +193,7 @@ module _ {P T R A V S E : Type 0} (w : World P T S E) (errors : Observers T R P 
             far = ap (λ i. advanced w.step i (extended x e u.old)) {x = z.before + z.beyond + n0 + 0} {y = z.before + z.beyond + n0} (omega arith) ∙ sym (advanced_twice w.step (z.before + z.beyond) n0 (extended x e u.old))
 
     -- the blocks stop here
-    stops_here : (i : Outcome (Option A)) (l : Outcome (Unit {0})) (o : Outcome V) → begun m r.first r.state r.old i → until_judged b.begun i ≡ StopsTurns l → shape o ≡ stopped_at z.before (b.committed || false) l → HoldsCollected c o (c.held b.into) → begun (until w.step errors c m) u.first u.state u.old o
+    stops_here : (i : Outcome (Option A)) (l : Outcome (Unit {0})) (o : Outcome V) → begun m r.first r.state r.old i → until_judged b.took_before i ≡ StopsTurns l → shape o ≡ stopped_at z.before (b.committed || false) l → HoldsCollected c o (c.held b.into) → begun (until w.step errors c m) u.first u.state u.old o
     stops_here i l o d j e q =
         let Whole : View P T → Type 0 = λ v. begun (until w.step errors c m) u.first u.state v o in
         let Part : View P T → Type 0 = λ v. Until w.step c m.whole z.before z.beyond (begun m r.first r.state) (blocks_so_far c.held b) v o in
@@ -285,7 +285,7 @@ module _ {P T R A V S E : Type 0} (w : World P T S E) (errors : Observers T R P 
     until_fails marked e (Unreset k a y) q = record { is = rw k (let i = z.resets in rw q.after (omega arith), leaves q y) }
 
     -- over a cut inside the turn that runs
-    cut_back : (p : Asks w m r) (g : Bool) → g ≡ (b.begun || nat_lt 0 p.count) → (x : List T) (e : Bool) (o : Outcome V) → MayFollow u.old.is_open x e → Until w.step c m.whole z.before (z.beyond + p.count) (m.rest r.left) (record { mark = g; held = c.held b.into; committed = b.committed }) (extended x e u.old) o → Until w.step c m.whole z.before z.beyond (begun m r.first r.state) (blocks_so_far c.held b) (extended x e u.old) o
+    cut_back : (p : Asks w m r) (g : Bool) → g ≡ (b.took_before || nat_lt 0 p.count) → (x : List T) (e : Bool) (o : Outcome V) → MayFollow u.old.is_open x e → Until w.step c m.whole z.before (z.beyond + p.count) (m.rest r.left) (record { mark = g; held = c.held b.into; committed = b.committed }) (extended x e u.old) o → Until w.step c m.whole z.before z.beyond (begun m r.first r.state) (blocks_so_far c.held b) (extended x e u.old) o
     cut_back p g i x e o f t = by_blocks t.blocks t.last t.divided t.joined t.folded
       where
         d : ℕ
@@ -315,7 +315,7 @@ module _ {P T R A V S E : Type 0} (w : World P T S E) (errors : Observers T R P 
           blocks = [];
           last = after p.count false l;
           held = t.held;
-          divided = (after p.count false j.0, gives j.0 j.1, until_is_rule.stops b.begun p.count j.0 l (λ a. p.resumes.committed x e j.0 follows a (subst (λ v. m.rest r.left v j.0) there j.1)) (subst (λ (t : Bool). until_judged t j.0 ≡ StopsTurns l) i j.2));
+          divided = (after p.count false j.0, gives j.0 j.1, until_is_rule.stops b.took_before p.count j.0 l (λ a. p.resumes.committed x e j.0 follows a (subst (λ v. m.rest r.left v j.0) there j.1)) (subst (λ (t : Bool). until_judged t j.0 ≡ StopsTurns l) i j.2));
           joined = k ∙ stopped_cut z.before p.count (b.committed || false) l;
           folded = y;
           collected = t.collected;
@@ -325,7 +325,7 @@ module _ {P T R A V S E : Type 0} (w : World P T S E) (errors : Observers T R P 
           blocks = record { value = q.value; count = p.count + q.count; committed = q.committed } ∷ bs;
           last = l;
           held = t.held;
-          divided = (refl, gives (outcome q) j.1, until_is_rule.goes b.begun p.count q.count q.value q.committed (subst (λ (t : Bool). until_judged t (outcome q) ≡ TakesBlock) i j.2), subst Rest far j.3);
+          divided = (refl, gives (outcome q) j.1, until_is_rule.goes b.took_before p.count q.count q.value q.committed (subst (λ (t : Bool). until_judged t (outcome q) ≡ TakesBlock) i j.2), subst Rest far j.3);
           joined = k ∙ ap (λ n. stopped_at n (b.committed || (q.committed || any_committed bs)) l) {x = z.before + (z.beyond + p.count) + (q.count + taken bs)} {y = z.before + z.beyond + (p.count + q.count + taken bs)} (omega arith);
           folded = y;
           collected = t.collected;
@@ -337,7 +337,7 @@ module _ {P T R A V S E : Type 0} (w : World P T S E) (errors : Observers T R P 
             far : advanced w.step q.count (advanced w.step (z.before + (z.beyond + p.count)) (extended x e u.old)) ≡ advanced w.step (p.count + q.count) (advanced w.step d (extended x e u.old))
             far = advanced_twice w.step (z.before + (z.beyond + p.count)) q.count (extended x e u.old) ∙ ap (λ n. advanced w.step n (extended x e u.old)) {x = z.before + (z.beyond + p.count) + q.count} {y = d + (p.count + q.count)} (omega arith) ∙ sym (advanced_twice w.step d (p.count + q.count) (extended x e u.old))
 
-    asks : (p : Asks w m r) (g : Bool) → g ≡ (b.begun || nat_lt 0 p.count) → u.new ≡ u.old → (w.counts_failures → u.after ≡ r.after) → u.left ≡ At (record { before = z.before; beyond = z.beyond + p.count; blocks = record { into = b.into; committed = b.committed; begun = g }; running = r.left }) → Asks (around w until_fresh) (until w.step errors c m) u
+    asks : (p : Asks w m r) (g : Bool) → g ≡ (b.took_before || nat_lt 0 p.count) → u.new ≡ u.old → (w.counts_failures → u.after ≡ r.after) → u.left ≡ At (record { before = z.before; beyond = z.beyond + p.count; blocks = record { into = b.into; committed = b.committed; took_before = g }; running = r.left }) → Asks (around w until_fresh) (until w.step errors c m) u
     asks p g i n a l = record {
       is_open = sym same_mark ∙ p.is_open;
       count = 0;
@@ -380,7 +380,7 @@ module _ {P T R A V S E : Type 0} (w : World P T S E) (errors : Observers T R P 
         a = need_of_more w m r e p.needs.0 (sym (marks_same w m r e p.answers) ∙ p.needs.1) p.answers
 
         by_kept : HasKept w.counts_failures w.step w.kind begins stood r.new u.new r.after u.after n r.left e given u.left result u.old z.before (z.beyond + a.count) ⊎ HasBroken w.counts_failures w.step w.kind begins stood r.new u.new r.after u.after n r.left e given u.left result u.old → Answers (around w until_fresh) (until w.step errors c m) u result
-        by_kept (inl q) = rw q.answer (needs w until_fresh m (until w.step errors c m) r u e p.needs p.answers same_mark (λ _. asks a p.begun_so (p.cut a.count a.taken) q.back q.failures (q.state ∙ ap (λ t. At (record { before = z.before; beyond = z.beyond + a.count; blocks = t; running = r.left })) p.blocks)))
+        by_kept (inl q) = rw q.answer (needs w until_fresh m (until w.step errors c m) r u e p.needs p.answers same_mark (λ _. asks a p.took_before (p.cut a.count a.taken) q.back q.failures (q.state ∙ ap (λ t. At (record { before = z.before; beyond = z.beyond + a.count; blocks = t; running = r.left })) p.blocks)))
         by_kept (inr q) = rw q.answer (record { is = broken (w.kind q.error) q.broke x y (record { count = q.moves.count; taken = q.moves.taken; state = q.state ∙ k }) })
 
     -- what blocks answer that stop so
@@ -432,7 +432,7 @@ module _ {P T R A V S E : Type 0} (w : World P T S E) (c : Collecting (Option A)
   halted_back : (why : BlockStop V E) → blocks_halted w m' c r marked b why → blocks_halted w m c r marked b why
   halted_back (stop.Over n) p = record { count = p.count; committed = p.committed; meant = begun_back r.first _ p.meant; state = p.state; failures = p.failures; back = p.back; blocks = p.blocks }
   halted_back (stop.Refused t) p = answers_same w m m' h r (PeekErr t) p
-  halted_back (stop.More n e) p = record { needs = p.needs; answers = answers_same w m m' h r (CommitErr e) p.answers; begun_so = p.begun_so; cut = p.cut; blocks = p.blocks }
+  halted_back (stop.More n e) p = record { needs = p.needs; answers = answers_same w m m' h r (CommitErr e) p.answers; took_before = p.took_before; cut = p.cut; blocks = p.blocks }
   halted_back (stop.Failed e) p = fails_back e p
 
   turned_back : (x : BlockStep V E) → block_did w m' c r marked b x → block_did w m c r marked b x
@@ -441,10 +441,6 @@ module _ {P T R A V S E : Type 0} (w : World P T S E) (c : Collecting (Option A)
 
   pub turn_back : (x : BlockStep V E) → BlockDid w m' c r marked b x → BlockDid w m c r marked b x
   turn_back x p = record { is = turned_back x p.is }
-
-pub begun_reads : {P T R E A S : Type 0} (fresh valid : S → Type 0) (m : Meaning P T R E A S) → IsMeaning fresh valid m → (first : Bool) (s : S) → valid s → IsReading (begun m first s)
-begun_reads fresh valid m h true s v = h.whole
-begun_reads fresh valid m h false s v = h.rest s v
 
 module _ {V S : Type 0} (fresh valid : S → Type 0) (h : (s : S) → fresh s → valid s) (into : V) (k : KeptBlocks V S) where
   handed_so : (first : Bool) (state : UntilState V S) → handed fresh into first state k → until_valid valid state → valid k.running

@@ -14,28 +14,28 @@ use Rattle.combine_repeat_turns.specs.Turns.Blocks.{Collecting}
 use Rattle.combine_repeat_until.specs.UntilTurn.{IsUntilBlock, BlockNeedsMore, HasBlockFailed, Unreset}
 use Rattle.combine_repeat_until.specs.declared.until.Blocks.{Blocks}
 
-module _ {P T R A S E : Type 0} (w : World P T S E) (m : Meaning P T R E (Option A) S) where
-  pub accepts_value : (r : CallRecord P T S) (x : Option A × Bool) (a y : Option A) (k : Bool) → x ≡ (a, k) → x.0 ≡ y → Accepts w m r a k → Accepts w m r y x.1
-  accepts_value r x a y k e f p = let q : Accepts w m r x.0 x.1 = rw e p in rw f at q
+module _ {P T R A S E : Type 0} {w : World P T S E} {m : Meaning P T R E (Option A) S} where
+  pub accepts_value : {r : CallRecord P T S} {x : Option A × Bool} {a y : Option A} {k : Bool} → x ≡ (a, k) → x.0 ≡ y → Accepts w m r a k → Accepts w m r y x.1
+  accepts_value {r} {x} e f p = let q : Accepts w m r x.0 x.1 = rw e p in rw f at q
 
   -- the stream could not be put back behind that acceptance
-  pub unreset_by : {V : Type 0} (c : Collecting (Option A) V) (first : Bool) (state left : S) (old now new : View P T) (before later after : Failures) (a : Option A) (k : Bool) (marked : View P T → Type 0) (b : Blocks V) → Accepts w m (record { first = first; state = state; left = left; old = old; new = now; before = before; after = later }) a k → (d : Kind) → (d ≡ kinds.Reset) × Moves w.step now new × (later.resets < after.resets) → before.resets ≤ later.resets → (e : E) → w.kind e ≡ d → HasBlockFailed w m c (record { first = first; state = state; left = left; old = old; new = new; before = before; after = after }) marked b e
-  unreset_by c first state left old now new before later after a k marked b p d h i e q =
+  pub unreset_by : {V : Type 0} {c : Collecting (Option A) V} {first : Bool} {state left : S} {old now new : View P T} {before later after : Failures} {a : Option A} {k : Bool} {marked : View P T → Type 0} {b : Blocks V} → Accepts w m (record { first = first; state = state; left = left; old = old; new = now; before = before; after = later }) a k → (d : Kind) → (d ≡ kinds.Reset) × Moves w.step now new × (later.resets < after.resets) → before.resets ≤ later.resets → (e : E) → w.kind e ≡ d → HasBlockFailed w m c (record { first = first; state = state; left = left; old = old; new = new; before = before; after = after }) marked b e
+  unreset_by {old} {now} {new} p d h i e q =
       let x = h.1 in
       let y = h.2 in
       Unreset (q ∙ h.0) (omega arith) (record { count = p.count + x.count; taken = takes_more w.step p.count x.count old now new p.taken x.taken; state = p.state })
 
 module _ {P T R A V S E : Type 0} (w : World P T S E) (m : Meaning P T R E (Option A) S) (c : Collecting (Option A) V) (r : CallRecord P T S) (marked : View P T → Type 0) (old new : Blocks V) where
   -- its parser needs more, and the blocks are those of the next piece
-  pub needs_more : (e : E) → (w.kind e ≡ kinds.End) × (r.new.is_open ≡ true) → Answers w m r (CommitErr e) → ((n : ℕ) → Takes w.step n r.old r.new → new ≡ record { into = old.into; committed = old.committed; begun = old.begun || nat_lt 0 n }) → BlockNeedsMore w m c r marked old new e
+  pub needs_more : (e : E) → (w.kind e ≡ kinds.End) × (r.new.is_open ≡ true) → Answers w m r (CommitErr e) → ((n : ℕ) → Takes w.step n r.old r.new → new ≡ record { into = old.into; committed = old.committed; took_before = old.took_before || nat_lt 0 n }) → BlockNeedsMore w m c r marked old new e
   needs_more e q p h =
       let a = need_of_more w m r e q.0 (sym (same_mark w m r e p) ∙ q.1) p in
       let x = h a.count a.taken in
-      record { needs = q; answers = p; begun_so = new.begun; cut = λ n t. ap (λ (b : Blocks V). b.begun) (h n t); blocks = rw x refl }
+      record { needs = q; answers = p; took_before = new.took_before; cut = λ n t. ap (λ (b : Blocks V). b.took_before) (h n t); blocks = rw x refl }
 
   -- a block takes a token, or took one before a cut, which the next one didn't
-  pub blocks_shrink : IsUntilBlock w m c r marked old new → length r.new.unread + (if new.begun then 1 else 0) < length r.old.unread + (if old.begun then 1 else 0)
-  blocks_shrink g = rw (ap (λ s. s.mark) g.blocks) (by_begun old.begun g.takes)
+  pub blocks_shrink : IsUntilBlock w m c r marked old new → length r.new.unread + (if new.took_before then 1 else 0) < length r.old.unread + (if old.took_before then 1 else 0)
+  blocks_shrink g = rw (ap (λ s. s.mark) g.blocks) (by_begun old.took_before g.takes)
     where
       fewer : length r.new.unread + g.accepts.count ≡ length r.old.unread
       fewer =

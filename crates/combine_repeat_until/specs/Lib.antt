@@ -5,6 +5,7 @@ pub use Rattle.combine_base.specs.Parser.Outcome
 pub use Rattle.combine_base.specs.Sequence.Parts
 pub use Rattle.combine_base.specs.Stream.Calls
 pub use Rattle.combine_base.specs.Stream.View
+pub use Rattle.combine_base.specs.Distances
 pub use Rattle.combine_combinator.specs.Attempt
 pub use Rattle.combine_combinator.specs.CombinatorParsers
 pub use Rattle.combine_combinator.specs.ValueParts

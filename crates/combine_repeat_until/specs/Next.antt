@@ -1,5 +1,5 @@
 -- what runs at each place: a parser whose acceptance ends the blocks, and where it is refused peeked, the parser of a block
-use Rattle.std.specs.Prelude.{ℕ, ◌≡◌, Bool, true, false, Option, Some, None, refl}
+use Rattle.std.specs.Prelude.{ℕ, ◌≡◌, Bool, true, false, Option, Some, None, refl, is_none}
 use Rattle.std.proofs.Common.{sym, ◌∙◌}
 use Rattle.std.specs.declared.cmp.Ordering.{Ordering}
 use Rattle.combine_base.specs.Error.Errors.{Observers}
@@ -13,7 +13,6 @@ use Rattle.combine_token.specs.Choice.Or.{either_of, or_is_meaning, or_means_one
 use Rattle.combine_token.specs.declared.choice.OrState.{OrState}
 use Rattle.combine_token.specs.declared.choice.OrState.TheVariants as running
 use Rattle.combine_repeat_turns.specs.Turns.Turn.{EndsTurnsOnce, TurnsOnce, from_start}
-use Rattle.combine_repeat_until.specs.Until.{is_none}
 
 -- a value that is dropped, and one that is kept
 abbrev pub absent : {A B : Type 0} → B → Option A

@@ -1,9 +1,9 @@
 -- blocks of a parser, up to the first place where it says that they end, all put back on need of more: which error a refusal has, what they mean, and their laws
-use Rattle.std.specs.Prelude.{ℕ, ◌+◌, ◌≡◌, ◌≤◌, Bool, true, false, ◌||◌, ◌&&◌, nat_lt, List, [], ◌∷◌, length, Option, Some, None, codes, ◌⊎◌, ◌<◌, refl, ◌↔◌}
+use Rattle.std.specs.Prelude.{ℕ, ◌+◌, ◌≡◌, ◌≤◌, Bool, true, false, ◌||◌, ◌&&◌, nat_lt, List, [], ◌∷◌, length, Option, Some, None, codes, ◌⊎◌, ◌<◌, refl, ◌↔◌, is_none}
 use Rattle.combine_base.specs.Stream.View.{View, advanced, extended}
 use Rattle.combine_base.specs.Parser.Outcome.{Outcome, Accepted, Refused, Undecided, shape, after, IsDecided, IsCommitted, both_false, decided_shape}
 use Rattle.combine_base.specs.Parser.Meaning.{Reading, Meaning, Refusing, MeantRefusal, IsReading, IsSingle, IsMeaning, MeansOne, MeansSame, SameReasons}
-use Rattle.combine_repeat_turns.specs.Turns.Bounds.{gathered, begun_over, StartsInto}
+use Rattle.combine_repeat_turns.specs.Turns.Bounds.{gathered, StartsInto}
 use Rattle.combine_repeat_turns.specs.Turns.Blocks.{Block, taken, values, any_committed, Verdict, TakesBlock, StopsTurns, Rule, Collecting, TurnsSoFar, FoldsAll, DividesBlocks, HoldsCollected, outcome, IsRule, IsJudgedOnce, divides_one, divides_ended, divides_stands, divides_within, divides_into}
 use Rattle.combine_repeat_until.specs.declared.until.Blocks.{Blocks}
 use Rattle.combine_repeat_until.specs.declared.until.UntilState.{UntilState}
@@ -17,12 +17,7 @@ use Rattle.combine_repeat_turns.specs.Turns.Turn.{Start, from_start, from_state,
 use Rattle.combine_combinator.specs.Attempt.{LosesTry, Short, LostWithin}
 use Rattle.std.proofs.Common.{arith, ap, sym, subst, ◌∙◌, inl, inr, length-append, length-drop, ltb-false}
 use Rattle.combine_base.specs.Sequence.PartErrors.{refusal_into}
-use Rattle.combine_base.specs.Stream.Advance.{advanced_extended, open_follows}
-
--- no value: the blocks end
-abbrev pub is_none : {A : Type 0} → Option A → Bool
-is_none None = true
-is_none (Some a) = false
+use Rattle.combine_base.specs.Stream.Advance.{advanced_extended, open_follows, took_before_over}
 
 -- an accepted value is a block where it took a token, now or before a cut; else it takes nothing and is refused, committed
 abbrev pub block_at : Bool → Verdict
@@ -80,7 +75,7 @@ no_blocks h = record { mark = false; held = h; committed = false }
 
 -- what is kept says of the blocks so far
 abbrev pub blocks_so_far : {V Held : Type 0} → (V → Held) → Blocks V → TurnsSoFar Bool Held
-blocks_so_far held b = record { mark = b.begun; held = held b.into; committed = b.committed }
+blocks_so_far held b = record { mark = b.took_before; held = held b.into; committed = b.committed }
 
 -- nothing is kept
 abbrev pub until_fresh : {V S : Type 0} → UntilState V S → Type 0
@@ -91,31 +86,31 @@ until_valid valid Begin = Unit {0}
 until_valid valid (At k) = valid k.running
 
 -- what runs at a place is accepted with a value, but takes no token, nor did it before a cut
-pub record IsIdle {P T R A E : Type 0} (errors : Observers T R P E) (r : Reading P T (Option A)) (begun : Bool) (v : View P T) (e : E) : Type 0 where
+pub record IsIdle {P T R A E : Type 0} (errors : Observers T R P E) (r : Reading P T (Option A)) (took_before : Bool) (v : View P T) (e : E) : Type 0 where
   pub value : A
   pub count : ℕ
   pub commits : Bool
   pub accepted : r v (Accepted (Some value) count commits)
-  pub idle : (commits && (begun || nat_lt 0 count)) ≡ false
+  pub idle : (commits && (took_before || nat_lt 0 count)) ≡ false
   pub says : HasItems errors kinds.Refused v.position (Only (Message (Fixed (codes "repetition takes nothing")))) e
 
 module _ {P T R A S E : Type 0} (errors : Observers T R P E) (m : Meaning P T R E (Option A) S) where
   -- A place refuses: what runs there is refused committed, or takes nothing; or it is refused peeked, and then it was put back to there and explained.
   abbrev pub place_refuses : Start P T E (Option A) → Bool → Refusing P T E
-  place_refuses s begun v w true e = MeantRefusal s.reads s.refuses v w true e ⊎ IsIdle errors s.reads begun v e
-  place_refuses s begun v w false e = ExplainsRefusal errors m (MeantRefusal s.reads s.refuses) v w e
+  place_refuses s took_before v w true e = MeantRefusal s.reads s.refuses v w true e ⊎ IsIdle errors s.reads took_before v e
+  place_refuses s took_before v w false e = ExplainsRefusal errors m (MeantRefusal s.reads s.refuses) v w e
 
 module _ {P T R A S E : Type 0} (step : P → T → P) (errors : Observers T R P E) (m : Meaning P T R E (Option A) S) where
   -- these blocks are taken, one after another, and then a place refuses; what runs at a later place begins there
   abbrev pub blocks_refuse : List (Block (Option A)) → Start P T E (Option A) → Bool → Refusing P T E
-  blocks_refuse [] s begun v w k e = place_refuses errors m s begun v w k e
-  blocks_refuse (b ∷ bs) s begun v w k e = s.reads v (outcome b) × (until_judged begun (outcome b) ≡ TakesBlock) × blocks_refuse bs (from_start m) false (advanced step b.count v) w k e
+  blocks_refuse [] s took_before v w k e = place_refuses errors m s took_before v w k e
+  blocks_refuse (b ∷ bs) s took_before v w k e = s.reads v (outcome b) × (until_judged took_before (outcome b) ≡ TakesBlock) × blocks_refuse bs (from_start m) false (advanced step b.count v) w k e
 
   -- The error of a refusal is that of the first place that refuses, behind the blocks before it; what runs first stands so many tokens on. It is peeked where what runs there is refused peeked, whatever was taken before.
-  pub record RefusesUntil (distance : ℕ) (s : Start P T E (Option A)) (begun : Bool) (v w : View P T) (committed : Bool) (e : E) : Type 0 where
+  pub record RefusesUntil (distance : ℕ) (s : Start P T E (Option A)) (took_before : Bool) (v w : View P T) (committed : Bool) (e : E) : Type 0 where
     pub enough : distance ≤ length v.unread
     pub blocks : List (Block (Option A))
-    pub is : blocks_refuse blocks s begun (advanced step distance v) w committed e
+    pub is : blocks_refuse blocks s took_before (advanced step distance v) w committed e
 
 module _ {P T R E A V S : Type 0} (step : P → T → P) (c : Collecting (Option A) V) (m : Meaning P T R E (Option A) S) where
   abbrev pub until_rest : UntilState V S → Reading P T V
@@ -130,7 +125,7 @@ module _ {P T R E A V S : Type 0} (step : P → T → P) (c : Collecting (Option
 -- the errors from a kept state: what runs first goes on behind the distance that is kept
 abbrev pub until_refuses_from : {P T R E A V S : Type 0} → (P → T → P) → Observers T R P E → Meaning P T R E (Option A) S → UntilState V S → Refusing P T E
 until_refuses_from step errors m Begin v w k e = RefusesUntil step errors m 0 (from_start m) false v w k e
-until_refuses_from step errors m (At j) v w k e = RefusesUntil step errors m (j.before + j.beyond) (from_state m j.running) j.blocks.begun v w k e
+until_refuses_from step errors m (At j) v w k e = RefusesUntil step errors m (j.before + j.beyond) (from_state m j.running) j.blocks.took_before v w k e
 
 module _ {P T R E A V S : Type 0} (step : P → T → P) (errors : Observers T R P E) (c : Collecting (Option A) V) (m : Meaning P T R E (Option A) S) where
   abbrev pub until : Meaning P T R E V (UntilState V S)
@@ -151,7 +146,7 @@ block_stops true l e = absurd (cc)
 block_stops false l e = cc
 
 goes_over : (g : Bool) (n c : ℕ) (k : Bool) → (k && (g || nat_lt 0 (n + c))) ≡ (k && ((g || nat_lt 0 n) || nat_lt 0 c))
-goes_over g n c k = ap (λ i. k && i) (begun_over g n c)
+goes_over g n c k = ap (λ i. k && i) (took_before_over g n c)
 
 module _ {A : Type 0} where
   until_decided : (g : Bool) (o : Outcome (Option A)) (l : Outcome (Unit {0})) → until_judged g o ≡ StopsTurns l → IsDecided l → IsDecided o
@@ -397,8 +392,8 @@ module _ {P T R E A V S : Type 0} (step : P → T → P) (errors : Observers T R
     reasons : (s : UntilState V S) → SameReasons (until_refuses_from step errors m s) (until_refuses_from step errors m' s)
     reasons Begin v w k e = (refuses_there 0 (from_start m) (from_start m') starts_there false v w k e, refuses_back 0 (from_start m') (from_start m) starts_back false v w k e)
     reasons (At j) v w k e = (
-      refuses_there (j.before + j.beyond) (from_state m j.running) (from_state m' j.running) (record { reads = λ v o. (h.rest j.running v o).0; refuses = λ v w k e. (h.refuses_from j.running v w k e).0 }) j.blocks.begun v w k e,
-      refuses_back (j.before + j.beyond) (from_state m' j.running) (from_state m j.running) (record { reads = λ v o. (h.rest j.running v o).1; refuses = λ v w k e. (h.refuses_from j.running v w k e).1 }) j.blocks.begun v w k e,
+      refuses_there (j.before + j.beyond) (from_state m j.running) (from_state m' j.running) (record { reads = λ v o. (h.rest j.running v o).0; refuses = λ v w k e. (h.refuses_from j.running v w k e).0 }) j.blocks.took_before v w k e,
+      refuses_back (j.before + j.beyond) (from_state m' j.running) (from_state m j.running) (record { reads = λ v o. (h.rest j.running v o).1; refuses = λ v w k e. (h.refuses_from j.running v w k e).1 }) j.blocks.took_before v w k e,
     )
 
     pub until_means_same : MeansSame {State = UntilState V S} (until step errors c m) (until step errors c m')

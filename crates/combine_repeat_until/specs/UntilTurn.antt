@@ -33,7 +33,7 @@ use Rattle.combine_base.specs.declared.stream.StreamOnce as stream
 pub record HoldsNothing {V S : Type 0} (fresh : S → Type 0) (into : V) (k : KeptBlocks V S) : Type 0 where
   pub before : k.before ≡ 0
   pub beyond : k.beyond ≡ 0
-  pub blocks : k.blocks ≡ record { into = into; committed = false; begun = false }
+  pub blocks : k.blocks ≡ record { into = into; committed = false; took_before = false }
   pub running : fresh k.running
 
 abbrev pub handed : {V S : Type 0} → (S → Type 0) → V → Bool → UntilState V S → KeptBlocks V S → Type 0
@@ -67,7 +67,7 @@ module _ {P T R A V S E : Type 0} (w : World P T S E) (m : Meaning P T R E (Opti
     pub value : A
     pub committed : Bool
     pub accepts : Accepts w m r (Some value) committed
-    pub takes : (committed && (old.begun || nat_lt 0 accepts.count)) ≡ true
+    pub takes : (committed && (old.took_before || nat_lt 0 accepts.count)) ≡ true
     pub held : c.Held
     pub more : c.more (c.held old.into) (Some value) held
     pub blocks : blocks_so_far c.held new ≡ record { mark = false; held = held; committed = old.committed || committed }
@@ -80,21 +80,21 @@ module _ {P T R A V S E : Type 0} (w : World P T S E) (m : Meaning P T R E (Opti
     pub state : w.fresh r.left
     pub failures : w.counts_failures → r.after ≡ r.before
     pub back : (v : View P T) → marked v → r.new ≡ v
-    pub blocks : new ≡ record { into = old.into; committed = old.committed || committed; begun = old.begun }
+    pub blocks : new ≡ record { into = old.into; committed = old.committed || committed; took_before = old.took_before }
 
   -- it needs more
   pub record BlockNeedsMore (new : Blocks V) (e : E) : Type 0 where
     pub needs : (w.kind e ≡ kinds.End) × (r.new.is_open ≡ true)
     pub answers : Answers w m r (CommitErr e)
-    pub begun_so : Bool
-    pub cut : (n : ℕ) → Takes w.step n r.old r.new → begun_so ≡ (old.begun || nat_lt 0 n)
-    pub blocks : new ≡ record { into = old.into; committed = old.committed; begun = begun_so }
+    pub took_before : Bool
+    pub cut : (n : ℕ) → Takes w.step n r.old r.new → took_before ≡ (old.took_before || nat_lt 0 n)
+    pub blocks : new ≡ record { into = old.into; committed = old.committed; took_before = took_before }
 
   pub data HasBlockFailed (e : E) : Type 0 where
     -- by a committed refusal or a fault of the parser
     InTurn : (settled : (w.kind e ≡ kinds.End) × (r.new.is_open ≡ true) → ⊥) (answers : Answers w m r (CommitErr e)) → HasBlockFailed e
     -- it is accepted, and takes nothing
-    TakesNothing : (value : A) (committed : Bool) (accepts : Accepts w m r (Some value) committed) (idle : (committed && (old.begun || nat_lt 0 accepts.count)) ≡ false) (told : IsRefusalOrMemory w.kind w.never_allocates e) → HasBlockFailed e
+    TakesNothing : (value : A) (committed : Bool) (accepts : Accepts w m r (Some value) committed) (idle : (committed && (old.took_before || nat_lt 0 accepts.count)) ≡ false) (told : IsRefusalOrMemory w.kind w.never_allocates e) → HasBlockFailed e
     -- its value finds no memory
     BlockUnstored : (memory : w.kind e ≡ kinds.Memory) (asked : c.heapless → ⊥) (leaves : Leaves w r) → HasBlockFailed e
     -- the stream could not be put back
@@ -114,12 +114,12 @@ module _ {P T R A V S E : Type 0} (w : World P T S E) (m : Meaning P T R E (Opti
     pub is : block_did result
 
 -- the errors of the turn's refusals
-module _ {P T R A V S E : Type 0} (errors : Observers T R P E) (m : Meaning P T R E (Option A) S) (first : Bool) (from : S) (begun_so : Bool) (old new : View P T) where
+module _ {P T R A V S E : Type 0} (errors : Observers T R P E) (m : Meaning P T R E (Option A) S) (first : Bool) (from : S) (took_before : Bool) (old new : View P T) where
   abbrev pub stop_says : BlockStop V E → Type 0
   stop_says (stop.Over n) = Unit {0}
   stop_says (stop.Refused t) = ExplainsRefusal errors m (MeantRefusal (begun m first from) (begun_refuses m first from)) old new t.error
   stop_says (stop.More n e) = Unit {0}
-  stop_says (stop.Failed e) = IsRefusal new.is_open (errors.kind e) → place_refuses errors m (started m first from) begun_so old new true e
+  stop_says (stop.Failed e) = IsRefusal new.is_open (errors.kind e) → place_refuses errors m (started m first from) took_before old new true e
 
   abbrev pub step_says : BlockStep V E → Type 0
   step_says (steps.Goes n) = Unit {0}

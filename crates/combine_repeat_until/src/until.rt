@@ -6,7 +6,7 @@ ghost use Rattle.combine_base.specs.Parser.Reasons.{ReasonedCall};
 ghost use Rattle.combine_base.specs.Sequence.Parts.{accepted_as};
 ghost use Rattle.combine_base.specs.Stream.Calls.{Passes};
 ghost use Rattle.combine_base.specs.Stream.View.{Takes, View};
-ghost use Rattle.combine_combinator.specs.Attempt.{losing};
+ghost use Rattle.combine_base.specs.Distances.{losing};
 ghost use Rattle.combine_repeat_until.specs.Until.{blocks_so_far, some_appended, until_fresh, until_valid, until};
 ghost use Rattle.combine_repeat_until.specs.UntilTurn.{OneBlockCall, ReachesPlace, HandsOutBlocks, KeepsBlocks, KeepsRunning, RefusesTurn, SettlesBlocks};
 
@@ -24,52 +24,52 @@ use std::mem::replace;
 pub struct Blocks<F> {
     into: F,
     committed: bool,
-    begun: bool,
+    took_before: bool,
 }
 
 impl<F> Blocks<F> {
     #[inline(always)]
     fn none(into: F) -> Blocks<F>
-        ensures { result ≡ record { into = into; committed = false; begun = false } }
+        ensures { result ≡ record { into = into; committed = false; took_before = false } }
     {
         Blocks {
             into,
             committed: false,
-            begun: false,
+            took_before: false,
         }
     }
 
     /// Returns the blocks, committed if that is, or they were.
     #[inline(always)]
     fn or_committed(self, committed: bool) -> Blocks<F>
-        ensures { result ≡ record { into = self.into; committed = self.committed || committed; begun = self.begun } }
+        ensures { result ≡ record { into = self.into; committed = self.committed || committed; took_before = self.took_before } }
     {
         let Blocks {
             into,
             committed: before,
-            begun,
+            took_before,
         } = self;
         Blocks {
             into,
             committed: before || committed,
-            begun,
+            took_before,
         }
     }
 
     /// Returns the same blocks in the next piece.
     #[inline(always)]
     fn cut<Input: Stream>(self, since: Input::Checkpoint, input: &Input) -> Blocks<F>
-        ensures { (n : ℕ) (v : View Input.Position Input.Token) → Input.stands input.now since v → Takes Input.step n v (Input.view input.now) → result ≡ record { into = self.into; committed = self.committed; begun = self.begun || nat_lt 0 n } }
+        ensures { (n : ℕ) (v : View Input.Position Input.Token) → Input.stands input.now since v → Takes Input.step n v (Input.view input.now) → result ≡ record { into = self.into; committed = self.committed; took_before = self.took_before || nat_lt 0 n } }
     {
         let Blocks {
             into,
             committed,
-            begun,
+            took_before,
         } = self;
         Blocks {
             into,
             committed,
-            begun: has_taken(begun, since, input),
+            took_before: has_taken(took_before, since, input),
         }
     }
 
@@ -83,13 +83,13 @@ impl<F> Blocks<F> {
         let Blocks {
             mut into,
             committed,
-            begun: _,
+            took_before: _,
         } = self;
         into.append(value)?;
         Ok(Blocks {
             into,
             committed,
-            begun: false,
+            took_before: false,
         })
     }
 
@@ -101,7 +101,7 @@ impl<F> Blocks<F> {
         let Blocks {
             into,
             committed,
-            begun: _,
+            took_before: _,
         } = self;
         accepted_after(committed, into)
     }
@@ -123,7 +123,7 @@ impl<F, S: Default> KeptBlocks<F, S> {
     #[inline(always)]
     fn nothing(into: F) -> KeptBlocks<F, S>
         ensures place { (result.before ≡ 0) × (result.beyond ≡ 0) }
-        ensures blocks { result.blocks ≡ record { into = into; committed = false; begun = false } }
+        ensures blocks { result.blocks ≡ record { into = into; committed = false; took_before = false } }
         ensures fresh { S.is_default result.running }
     {
         KeptBlocks {
@@ -226,14 +226,14 @@ fn pass_to<Input: Stream>(
 /// Returns whether an accepted turn is a block: `since` is where its part in this piece began, `committed` how it was accepted.
 #[inline(always)]
 fn is_block<Input: Stream>(
-    begun: bool,
+    took_before: bool,
     committed: bool,
     since: Input::Checkpoint,
     input: &Input,
 ) -> bool
-    ensures { (n : ℕ) (v : View Input.Position Input.Token) → Input.stands input.now since v → Takes Input.step n v (Input.view input.now) → result ≡ (committed && (begun || nat_lt 0 n)) }
+    ensures { (n : ℕ) (v : View Input.Position Input.Token) → Input.stands input.now since v → Takes Input.step n v (Input.view input.now) → result ≡ (committed && (took_before || nat_lt 0 n)) }
 {
-    committed && has_taken(begun, since, input)
+    committed && has_taken(took_before, since, input)
 }
 
 /// Runs one turn, which began at that place; if its parser says that the blocks end, the stream is put back to it.
@@ -259,7 +259,7 @@ fn one_block<
     ensures same { MeansSame (N.meaning parser.old) (N.meaning parser.new) }
     ensures passes { Passes (Input.marks input.old) (Input.marks input.new) (Input.failures input.old) (Input.failures input.new) }
     ensures turned { OneBlockCall Input.StreamOnce Input.Error.observers N.PartialState.is_default (N.meaning parser.old) (some_appended F.held F.none F.more F.heapless) (M.first mode) running.old running.new input.old input.new (Input.stands input.old place) blocks result }
-    ensures refuses { RefusesTurn Input.Error.observers (N.meaning parser.old) (M.first mode) running.old blocks.begun (Input.view input.old) (Input.view input.new) result }
+    ensures refuses { RefusesTurn Input.Error.observers (N.meaning parser.old) (M.first mode) running.old blocks.took_before (Input.view input.old) (Input.view input.new) result }
 {
     let position = input.position();
     let since = input.checkpoint();
@@ -280,7 +280,7 @@ fn one_block<
             Err(kind) => BlockStep::Stops(BlockStop::Failed(input.new_error(kind, position))),
         },
         Some(value) => {
-            if !is_block(blocks.begun, committed, since, input) {
+            if !is_block(blocks.took_before, committed, since, input) {
                 let error = refusal_saying(input, position, "repetition takes nothing");
                 return BlockStep::Stops(BlockStop::Failed(error));
             }

@@ -1,5 +1,5 @@
 -- the answers of `then_meaning` and its kin, by those of its two parsers
-use Rattle.std.proofs.Common.{ℕ, ◌≡◌, ◌≤◌, ◌⊎◌, inl, inr, Bool, true, false, refl, sym, ap, subst, arith}
+use Rattle.std.proofs.Common.{ℕ, ◌≡◌, ◌≤◌, ◌⊎◌, inl, inr, Bool, true, false, sym, ap, subst, arith}
 use Rattle.combine_base.specs.Error.Errors.{Observers}
 use Rattle.combine_base.specs.Parser.Answer.{World, CallRecord, Answers, Accepts, world}
 use Rattle.combine_base.specs.Parser.GivenValues.{GivesOnly}
@@ -8,7 +8,7 @@ use Rattle.combine_base.specs.Parser.KeptParsers.{KeptOf}
 use Rattle.combine_base.specs.Parser.Meaning.{Meaning, IsMeaning, MeansSame}
 use Rattle.combine_base.specs.Parser.Outcome.{Outcome, Accepted}
 use Rattle.combine_base.specs.Sequence.Meanings.{SecondPart as After, rest_at, lost_at}
-use Rattle.combine_base.specs.Sequence.Parts.{RunsFrom, call_from}
+use Rattle.combine_base.specs.Sequence.Parts.{call_from}
 use Rattle.combine_base.specs.Sequence.Readings.{following, following_same}
 use Rattle.combine_base.specs.Stream.View.{View}
 use Rattle.combine_base.proofs.Parsers.SameMeanings.{same_more, same_none}
@@ -24,14 +24,6 @@ use Rattle.combine_sequence.specs.Then.{AnsweredBySome, answered_for_value, asks
 use Rattle.combine_sequence.specs.declared.sequence.answered.state.AnsweredProgress.{AnsweredProgress}
 use Rattle.combine_sequence.specs.declared.sequence.answered.state.AnsweredState.{AnsweredState}
 use Rattle.combine_sequence.specs.declared.sequence.answered.state.AnsweredState.TheVariants.{First, Second}
-
--- what a call begins from is valid
-pub valid_from : {S : Type 0} {fresh valid : S → Type 0} {first : Bool} {given s : S} → ((s : S) → fresh s → valid s) → RunsFrom fresh first given s → valid given → valid s
-valid_from {S} {fresh} {valid} {first} {given} {s} h r v = by_mode first r
-  where
-    by_mode : (first : Bool) → RunsFrom fresh first given s → valid s
-    by_mode true r = h s (r.afresh refl)
-    by_mode false r = subst valid (sym (r.kept refl)) v
 
 module _ {Q K N Input A B S U Checkpoint T R P E : Type 0} (q : parser.Ghosts Q Input S A Checkpoint T R P E) (p : parser.Ghosts N Input U B Checkpoint T R P E) (callable : K → A → Type 0) (answers : K → A → N → Type 0) where
   abbrev pub by_some : N → Type 0

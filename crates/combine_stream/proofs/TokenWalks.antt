@@ -55,8 +55,8 @@ module _ {T : Type 0} (size : T → ℕ) (f : T → Bool → Type 0) where
   }
 
 -- taking so many items as the longest beginning has takes that beginning
-pub while_by_range : {P T R : Type 0} (counts_failures : Type 0) (step : P → T → P) (size : T → ℕ) (filled : (t : T) → 0 < size t) (spells : R → List T → Type 0) (f : T → Bool → Type 0) (u v : View P T) (before after : Failures) (n : ℕ) (r : Result R Kind) → LongestItems size f u.unread n → UnconsRange counts_failures step size spells u v before after n r → UnconsWhile counts_failures step size spells u v before after f r
-while_by_range {R = R} counts_failures step size filled spells f u v before after n r l x = record { is = by_result r x.is }
+pub while_by_range : {P T R : Type 0} {counts_failures : Type 0} {step : P → T → P} {size : T → ℕ} (filled : (t : T) → 0 < size t) {spells : R → List T → Type 0} {f : T → Bool → Type 0} {u v : View P T} {before after : Failures} {n : ℕ} {r : Result R Kind} → LongestItems size f u.unread n → UnconsRange counts_failures step size spells u v before after n r → UnconsWhile counts_failures step size spells u v before after f r
+while_by_range {R = R} {counts_failures} {step} {size} filled {spells} {f} {u} {v} {before} {after} {n} {r} l x = record { is = by_result r x.is }
   where
     fails : (k : Kind) → unconses_range counts_failures step size spells u v before after n (Err k) → unconses_while counts_failures step size spells u v before after f (Err k)
     fails kinds.Refused h = absurd (h.0.none l.count l.place)

@@ -55,7 +55,7 @@ impl<S: Unfailing> Unfailing for MaybePartialStream<S> {
 enum Due {
     // None is.
     Never,
-    // One is, after so many others.
+    // One is, after that many others.
     After(u64),
     // One was, and has failed.
     Past,

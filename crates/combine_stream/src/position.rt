@@ -20,7 +20,7 @@ pub trait DefaultPositioned {
     /// What is seen of the whole input.
     ghost whole: { Self → View Self.Located.Position Self.Located.Token };
 
-    /// The position after so many tokens of the whole input.
+    /// The position after that many tokens of the whole input.
     ghost behind: { Self → ℕ → Self.Located.Position };
 
     /// Makes the whole input, at the first position.
@@ -77,7 +77,7 @@ pub trait Windowed: DefaultPositioned + Copy {
         requires { places self to }
         ensures { (k : ℕ) → k ≤ index self to → (Self.Located.view window.now).unread ≡ drop k (take (index self to) (Self.DefaultPositioned.whole self).unread) → places self result × (result ≤ to) × (index self result ≡ k) };
 
-    /// Returns how many tokens stand before a place, where so many stand before an earlier one.
+    /// Returns how many tokens stand before a place, from how many stand before an earlier one.
     ///
     /// The earlier place is at most the later one.
     fn count_to(self, to: usize, from: usize, before: usize) -> usize

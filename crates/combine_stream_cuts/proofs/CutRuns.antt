@@ -47,8 +47,8 @@ last_within size number at f zero h = omega arith
 last_within size number at f (suc i) h = f.within i (omega arith)
 
 -- a window is parsed by a parser that means the same
-pub window_same : {P T R A S E : Type 0} (never_allocates counts_failures : Type 0) (step : P → T → P) (kind : E → Kind) (fresh : S → Type 0) (start : P) (m m' : Meaning P T R E A S) (s left : S) (whole : List T) (from to : ℕ) (more : Bool) (taken : ℕ) (result : Result (Answer A E) Kind) → MeansSame m m' → ParsesWindow never_allocates counts_failures step kind fresh start m' s left whole from to more taken result → ParsesWindow never_allocates counts_failures step kind fresh start m s left whole from to more taken result
-window_same never_allocates counts_failures step kind fresh start m m' s left whole from to more taken result h p = record { new = p.new; failures = p.failures; parsed = p.parsed; place = p.place; is = p.is; answers = answers_same _ m m' h _ p.parsed p.answers }
+pub window_same : {P T R A S E : Type 0} {never_allocates counts_failures : Type 0} {step : P → T → P} {kind : E → Kind} {fresh : S → Type 0} {start : P} {m m' : Meaning P T R E A S} {s left : S} {whole : List T} {from to : ℕ} {more : Bool} {taken : ℕ} {result : Result (Answer A E) Kind} → MeansSame m m' → ParsesWindow never_allocates counts_failures step kind fresh start m' s left whole from to more taken result → ParsesWindow never_allocates counts_failures step kind fresh start m s left whole from to more taken result
+window_same {m} {m'} h p = record { new = p.new; failures = p.failures; parsed = p.parsed; place = p.place; is = p.is; answers = answers_same _ m m' h _ p.parsed p.answers }
 
 module _ {P T R E A S : Type 0} (never_allocates : Type 0) (step : P → T → P) (start : P) (m : Meaning P T R E A S) (whole : List T) (number : ℕ) (at : ℕ → ℕ) where
   -- more was asked for at each of the first i cuts

@@ -16,8 +16,8 @@ use Rattle.combine_repeat_turns.specs.Repeat.RepeatParsers.{count_min_max_of, re
 use Rattle.combine_repeat_turns.specs.Repeat.Repeated.{appended}
 use Rattle.combine_repeat_turns.specs.Repeat.Counts.{count_min_max}
 use Rattle.combine_repeat_turns.specs.declared.each.Each.{Each}
-use Rattle.combine_repeat_turns.specs.declared.repeat.types.Repeat.{Repeat}
-use Rattle.combine_repeat_turns.specs.declared.turns.turn_bounds.MinToMax.{MinToMax}
+use Rattle.combine_repeat_turns.specs.declared.repeat.Repeat.{Repeat}
+use Rattle.combine_repeat_turns.specs.declared.bounds.MinToMax.{MinToMax}
 use Rattle.feedline_core.specs.DecodedLines.{DecodesInput, PrintsMessages}
 use Rattle.feedline_core.specs.Frames.{bytes, frame, length_before}
 use Rattle.feedline_core.specs.Messages.{byte_where, step}

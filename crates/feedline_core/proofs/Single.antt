@@ -12,7 +12,7 @@ use Rattle.combine_token.specs.Choice.Choices.{OrElse, refused, refused_is_singl
 use Rattle.combine_token.specs.Token.OneToken.{of_function, of_function_is_predicate, satisfied, satisfied_is_test, takes_one_means_one}
 use Rattle.combine_combinator.specs.Attempt.{attempted_means_one}
 use Rattle.combine_repeat_turns.specs.Repeat.Repeated.{appended, repeated_means_one}
-use Rattle.combine_repeat_turns.specs.declared.turns.Bounds.TheVariants.{OwnFirst}
+use Rattle.combine_repeat_turns.specs.declared.bounds.Bounds.TheVariants.{OwnFirst}
 use Rattle.combine_repeat_turns.specs.declared.turns.TurnsState.{TurnsState}
 use Rattle.combine_base.specs.declared.error.UnexpectedParse.{UnexpectedParse}
 use Rattle.feedline_core.specs.Messages.{step, byte_meaning, byte_where, bytes_where, delete, set, message}

@@ -37,7 +37,7 @@ pub fn run<W: Write>(alloc: Global, sizes: &[u32], input: &[u8], out: &mut W) ->
     run_limited(alloc, sizes, None, input, out)
 }
 
-/// Reads the message of an input as `run` does, of which with a limit at most so many bytes are ever unread.
+/// Reads the message of an input as `run` does; with a limit, at most that many of its bytes are ever unread.
 ///
 /// # Errors
 ///

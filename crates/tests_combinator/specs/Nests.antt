@@ -5,7 +5,7 @@ use Rattle.combine_base.specs.Stream.View.{View, advanced}
 use Rattle.combine_base.specs.Error.Errors.{AddsNothing}
 use Rattle.combine_base.specs.Error.NoItems.{no_items}
 use Rattle.combine_base.specs.Parser.ValueMap.{mapped_is_meaning, mapped_means_one, mapped_reading}
-use Rattle.combine_base.specs.Parser.Meaning.{Meaning, Reading, Refusing, IsMeaning, IsReading, IsSingle, MeansOne}
+use Rattle.combine_base.specs.Parser.Meaning.{Meaning, Reading, IsMeaning, IsReading, IsSingle, MeansOne, any_error}
 use Rattle.combine_base.specs.Parser.Outcome.{Outcome, Accepted, Refused, Undecided, shape}
 use Rattle.combine_base.specs.Sequence.JoinedOutcome.{joined}
 use Rattle.combine_base.specs.Sequence.Readings.{SecondIsSingle, continues, following, following_is_reading, sequel, sequel_is_reading, sequel_is_single}
@@ -22,10 +22,6 @@ second a b = b
 
 fresh : Unit {0} → Type 0
 fresh s = Unit {0}
-
--- whatever error
-abbrev pub any_error : {P T E : Type 0} → Refusing P T E
-any_error v w k e = Unit {0}
 
 -- an opening bracket is one byte
 one_opened_at : (is_open : Bool) (us : List ℕ) (a n : ℕ) (c : Bool) → one_token_at (satisfied (of_function (λ t. nat_eq t 40))) is_open us (Accepted a n c) → n ≡ 1

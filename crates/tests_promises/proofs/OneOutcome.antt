@@ -9,7 +9,7 @@ use Rattle.combine_combinator_function.specs.Changes.{DecidesOne}
 use Rattle.combine_repeat_turns.specs.Repeat.Repeated.{repeated_means_one}
 use Rattle.combine_repeat_turns.specs.Repeat.Counts.{count_min_max}
 use Rattle.combine_repeat_turns.specs.Turns.Blocks.{Collecting}
-use Rattle.combine_repeat_turns.specs.declared.turns.Bounds.TheVariants.{Counted}
+use Rattle.combine_repeat_turns.specs.declared.bounds.Bounds.TheVariants.{Counted}
 use Rattle.combine_sequence.specs.Then as second
 use Rattle.combine_token.specs.Token.OneToken.{of_function, of_function_is_predicate, one_token, one_token_at, satisfied, satisfied_is_test, takes_one, takes_one_means_one}
 

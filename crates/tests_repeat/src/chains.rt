@@ -129,7 +129,7 @@ mod tests {
         )
     }
 
-    /// `1`, and after it `^1` so many times.
+    /// `1`, and after it `^1` that many times.
     fn ones(alloc: Global, more: usize) -> Result<Vec<u8>, AllocError> {
         let mut text = Vec::new(alloc);
         text.push(b'1')?;

@@ -1,5 +1,5 @@
-//! Each parser that collects, with a collection that has room for so many values.
-use crate::room::{CollectOutcome, Counted, Room, from_start, in_session, seen, unseen};
+//! Each parser that collects, with a collection that takes a number of values and no more.
+use crate::capped::{Capped, CollectOutcome, Counted, from_start, in_session, seen, unseen};
 use combine_base::parser::Parser;
 use combine_base::repeat::{Append, Sink};
 use combine_combinator::combinator::{attempt, look_ahead, map, not_followed_by};
@@ -205,10 +205,10 @@ fn over_every_cut<C: Collects>(
     for places in 0..sets_of_places(input.as_bytes()) {
         let pieces = cut(alloc, input.as_bytes(), places)?;
         let found = [
-            C::parse::<Room<0>>(alloc, &pieces),
-            C::parse::<Room<1>>(alloc, &pieces),
-            C::parse::<Room<2>>(alloc, &pieces),
-            C::parse::<Room<3>>(alloc, &pieces),
+            C::parse::<Capped<0>>(alloc, &pieces),
+            C::parse::<Capped<1>>(alloc, &pieces),
+            C::parse::<Capped<2>>(alloc, &pieces),
+            C::parse::<Capped<3>>(alloc, &pieces),
         ];
         let wanted = [
             CollectOutcome::NoMemory,
@@ -249,10 +249,10 @@ fn room_asked_for_first(rt: HostRuntime) -> Result<(), AllocError> {
         (";", CollectOutcome::Refused),
     ] {
         let found = [
-            counted::<Room<0>>(alloc, input.as_bytes()),
-            counted::<Room<1>>(alloc, input.as_bytes()),
-            counted::<Room<2>>(alloc, input.as_bytes()),
-            counted::<Room<3>>(alloc, input.as_bytes()),
+            counted::<Capped<0>>(alloc, input.as_bytes()),
+            counted::<Capped<1>>(alloc, input.as_bytes()),
+            counted::<Capped<2>>(alloc, input.as_bytes()),
+            counted::<Capped<3>>(alloc, input.as_bytes()),
         ];
         let wanted = [
             CollectOutcome::NoMemory,

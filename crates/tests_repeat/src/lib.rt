@@ -2,22 +2,22 @@
 #![tactic(auto)]
 
 #[cfg(test)]
+mod capped;
+#[cfg(test)]
 mod chains;
 #[cfg(test)]
 mod collecting;
 #[cfg(test)]
 mod items;
 #[cfg(test)]
-mod iter;
+mod iter_methods;
+#[cfg(test)]
+mod iter_pieces;
 #[cfg(test)]
 mod repetitions;
-#[cfg(test)]
-mod room;
 #[cfg(test)]
 mod rows;
 #[cfg(test)]
 mod sessions;
-#[cfg(test)]
-mod turns;
 #[cfg(test)]
 mod until;

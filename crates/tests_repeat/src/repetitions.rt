@@ -26,12 +26,12 @@ pub fn skip_some_as(alloc: Global, pieces: &[&[u8]]) -> InPieces<()> {
     parse_pieces(alloc, skip_count_min_max(2, 3, token(b'a')), pieces)
 }
 
-/// At most so many `a`, collected.
+/// At most that many `a`, collected.
 pub fn at_most_as(alloc: Global, most: usize, pieces: &[&[u8]]) -> InPieces<Vec<u8>> {
     parse_pieces(alloc, count::<Vec<u8>, _>(alloc, most, token(b'a')), pieces)
 }
 
-/// At most so many `a`, passed over.
+/// At most that many `a`, passed over.
 pub fn skip_as(alloc: Global, most: usize, pieces: &[&[u8]]) -> InPieces<()> {
     parse_pieces(alloc, skip_count(most, token(b'a')), pieces)
 }

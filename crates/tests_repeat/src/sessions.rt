@@ -14,7 +14,7 @@ use example_callers::slices::is_digit;
 use std::alloc::{AllocError, Global};
 use std::process::Abort;
 
-/// Each piece asks for more, with nothing unread, but perhaps the last; that value is accepted then, committed, with so many tokens taken.
+/// Each piece asks for more, with nothing unread, but perhaps the last; that value is accepted then, committed, with that many tokens taken.
 fn asks_with_nothing_unread<V: Like<W> + Drop, W: Drop>(
     fed: Result<Fed<V>, SessionError>,
     asked: usize,

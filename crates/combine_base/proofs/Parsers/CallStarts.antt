@@ -56,14 +56,14 @@ module _ {P T R V S E : Type 0} (w : World P T S E) (m : Meaning P T R E V S) (r
     error e a = by_need (need_or_not (w.kind e) r.new.is_open)
       where
         by_need : ((w.kind e ≡ kinds.End) × (r.new.is_open ≡ true)) ⊎ ((w.kind e ≡ kinds.End) × (r.new.is_open ≡ true) → ⊥) → Answers w m (outer w w.fresh m m r first state r.left old before) (CommitErr e)
-        by_need (inl i) = inside_asks _ _ _ _ _ _ _ _ _ _ _ _ inside keeping e i a
-        by_need (inr i) = inside_fails _ _ _ _ _ _ _ _ _ _ _ _ inside (λ x. x) e i a
+        by_need (inl i) = inside_asks inside keeping e i a
+        by_need (inr i) = inside_fails inside (λ x. x) e i a
 
     pub becomes : (x : ParseResult V E) → Answers w m r x → Answers w m (outer w w.fresh m m r first state r.left old before) x
-    becomes (CommitOk v) a = inside_commits _ _ _ _ _ _ _ _ _ _ _ _ inside (λ x. x) (λ x. x) (λ v n k x. x) v a
-    becomes (PeekOk v) a = inside_peeks _ _ _ _ _ _ _ _ _ _ _ _ inside (λ x. x) (λ x. x) (λ v n k x. x) v a
+    becomes (CommitOk v) a = inside_commits inside (λ x. x) (λ x. x) (λ v n k x. x) v a
+    becomes (PeekOk v) a = inside_peeks inside (λ x. x) (λ x. x) (λ v n k x. x) v a
     becomes (CommitErr e) a = error e a
-    becomes (PeekErr t) a = inside_refuses _ _ _ _ _ _ _ _ _ _ _ _ inside (λ x. x) t a
+    becomes (PeekErr t) a = inside_refuses inside (λ x. x) t a
 
 -- a first-mode call is one from a default state
 module _ {P T R V S E : Type 0} (w : World P T S E) (valid : S → Type 0) (m : Meaning P T R E V S) (h : IsMeaning w.fresh valid m) where

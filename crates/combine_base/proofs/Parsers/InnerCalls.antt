@@ -36,7 +36,11 @@ module _ {P T R A B S S' E : Type 0} (w : World P T S E) (fresh : S' → Type 0)
     pub keeps : m'.keeps → m.keeps
     pub puts_back : m'.puts_back → m.puts_back × (count ≡ 0)
 
-  module _ (c : Bool) (here : Reading P T B) (z : InsideCall c here) where
+module _ {P T R A B S S' E : Type 0} {w : World P T S E} {fresh : S' → Type 0} {m : Meaning P T R E A S} {m' : Meaning P T R E B S'} {r : CallRecord P T S} {first : Bool} {state left : S'} {old : View P T} {before : Failures} where
+  module _ {c : Bool} {here : Reading P T B} (z : InsideCall w fresh m m' r first state left old before c here) where
+    abbrev outside : CallRecord P T S'
+    outside = outer w fresh m m' r first state left old before
+
     meant : (o : Outcome B) → here r.old o → begun m' first state old (after z.progress.count false o)
     meant o p = progress_outcome w (begun m' first state) here old r.old before r.before z.progress o p
 
@@ -45,16 +49,16 @@ module _ {P T R A B S S' E : Type 0} (w : World P T S E) (fresh : S' → Type 0)
 
     -- an answer that isn't need of more leaves a default state
     module _ (settled : w.fresh r.left → fresh left) where
-      leaves : Leaves w r → Leaves (around w fresh) outer
+      leaves : Leaves w r → Leaves (around w fresh) outside
       leaves p = record { count = z.progress.count + p.count; taken = takes_more w.step z.progress.count p.count old r.old r.new z.progress.taken p.taken; state = settled p.state }
 
-      refuses : (k : Bool) → Refuses w m r k → Refuses (around w fresh) m' outer (c || k)
+      refuses : (k : Bool) → Refuses w m r k → Refuses (around w fresh) m' outside (c || k)
       refuses k p = record { meant = meant (Refused (c || k)) (z.refuses k p.meant); leaves = leaves p.leaves; failures = λ s. p.failures s ∙ z.progress.failures s }
 
-      settling : Settles w fresh m m' r outer
+      settling : Settles w fresh m m' r outside
       settling = record {
         is_open = same_open;
-        refuses = λ p. subst (Refuses (around w fresh) m' outer) (or_true c) (refuses true p);
+        refuses = λ p. subst (Refuses (around w fresh) m' outside) (or_true c) (refuses true p);
         leaves = leaves;
         heapless = z.heapless;
         reads = λ h. let i = z.reads in omega arith;
@@ -62,30 +66,30 @@ module _ {P T R A B S S' E : Type 0} (w : World P T S E) (fresh : S' → Type 0)
         loses = losing r.first first refl refl;
       }
         where
-          losing : (b d : Bool) → r.first ≡ b → first ≡ d → loses w m r b → loses (around w fresh) m' outer d
+          losing : (b d : Bool) → r.first ≡ b → first ≡ d → loses w m r b → loses (around w fresh) m' outside d
           losing true d i j y = absurd y
           losing false true i j y = absurd (let x = (z.lost i y.0).0 in cc)
           losing false false i j y = ((z.lost i y.0).1, leaves y.1)
 
-      pub inside_fails : (e : E) → ((w.kind e ≡ kinds.End) × (r.new.is_open ≡ true) → ⊥) → Answers w m r (CommitErr e) → Answers (around w fresh) m' outer (CommitErr e)
-      inside_fails e i p = settles w fresh m m' r outer e i p settling
+      pub inside_fails : (e : E) → ((w.kind e ≡ kinds.End) × (r.new.is_open ≡ true) → ⊥) → Answers w m r (CommitErr e) → Answers (around w fresh) m' outside (CommitErr e)
+      inside_fails e i p = settles w fresh m m' r outside e i p settling
 
       -- a peeked refusal is committed where something was before
-      pub inside_refuses : (t : Tracked E) → Answers w m r (PeekErr t) → Answers (around w fresh) m' outer (refused_as c t)
+      pub inside_refuses : (t : Tracked E) → Answers w m r (PeekErr t) → Answers (around w fresh) m' outside (refused_as c t)
       inside_refuses t p = record { is = by_commitment c refl }
         where
-          refusal : (b : Bool) → c ≡ b → Refuses w m r false → Refuses (around w fresh) m' outer b
-          refusal b i y = subst (Refuses (around w fresh) m' outer) (or_false b) (subst (λ d. Refuses (around w fresh) m' outer (d || false)) i (refuses false y))
+          refusal : (b : Bool) → c ≡ b → Refuses w m r false → Refuses (around w fresh) m' outside b
+          refusal b i y = subst (Refuses (around w fresh) m' outside) (or_false b) (subst (λ d. Refuses (around w fresh) m' outside (d || false)) i (refuses false y))
 
-          committed : c ≡ true → (k : Kind) → peeks w m r k → fails (around w fresh) m' outer k
+          committed : c ≡ true → (k : Kind) → peeks w m r k → fails (around w fresh) m' outside k
           committed i kinds.Refused y = refusal true i y
-          committed i kinds.End y = subst (asks_or_refuses (around w fresh) m' outer) (sym (sym same_open ∙ y.0)) (refusal true i y.1)
+          committed i kinds.End y = subst (asks_or_refuses (around w fresh) m' outside) (sym (sym same_open ∙ y.0)) (refusal true i y.1)
           committed i kinds.Memory y = absurd y
           committed i kinds.Read y = absurd y
           committed i kinds.Reset y = absurd y
           committed i kinds.Lost y = absurd y
 
-          peeked : c ≡ false → (k : Kind) → peeks w m r k → peeks (around w fresh) m' outer k
+          peeked : c ≡ false → (k : Kind) → peeks w m r k → peeks (around w fresh) m' outside k
           peeked i kinds.Refused y = refusal false i y
           peeked i kinds.End y = (sym same_open ∙ y.0, refusal false i y.1)
           peeked i kinds.Memory y = y
@@ -93,13 +97,13 @@ module _ {P T R A B S S' E : Type 0} (w : World P T S E) (fresh : S' → Type 0)
           peeked i kinds.Reset y = y
           peeked i kinds.Lost y = y
 
-          by_commitment : (b : Bool) → c ≡ b → answers (around w fresh) m' outer (refused_as b t)
+          by_commitment : (b : Bool) → c ≡ b → answers (around w fresh) m' outside (refused_as b t)
           by_commitment true i = committed i (w.kind t.error) p.is
           by_commitment false i = peeked i (w.kind t.error) p.is
 
       -- what the one inside accepts is accepted, its value joined by f
       module _ (f : A → B) (takes : (a : A) (n : ℕ) (k : Bool) → begun m r.first r.state r.old (Accepted a n k) → here r.old (Accepted (f a) n (c || k))) where
-        accepts : (a : A) (k : Bool) → Accepts w m r a k → Accepts (around w fresh) m' outer (f a) (c || k)
+        accepts : (a : A) (k : Bool) → Accepts w m r a k → Accepts (around w fresh) m' outside (f a) (c || k)
         accepts a k p = record {
           count = z.progress.count + p.count;
           meant = meant (Accepted (f a) p.count (c || k)) (takes a p.count k p.meant);
@@ -108,28 +112,28 @@ module _ {P T R A B S S' E : Type 0} (w : World P T S E) (fresh : S' → Type 0)
           failures = λ s. p.failures s ∙ z.progress.failures s;
         }
 
-        pub inside_commits : (a : A) → Answers w m r (CommitOk a) → Answers (around w fresh) m' outer (CommitOk (f a))
-        inside_commits a p = record { is = subst (Accepts (around w fresh) m' outer (f a)) (or_true c) (accepts a true p.is) }
+        pub inside_commits : (a : A) → Answers w m r (CommitOk a) → Answers (around w fresh) m' outside (CommitOk (f a))
+        inside_commits a p = record { is = subst (Accepts (around w fresh) m' outside (f a)) (or_true c) (accepts a true p.is) }
 
-        pub inside_peeks : (a : A) → Answers w m r (PeekOk a) → Answers (around w fresh) m' outer (accepted_as c (f a))
+        pub inside_peeks : (a : A) → Answers w m r (PeekOk a) → Answers (around w fresh) m' outside (accepted_as c (f a))
         inside_peeks a p = record { is = by_commitment c refl }
           where
-            kind : (b : Bool) → c ≡ b → Accepts (around w fresh) m' outer (f a) b
-            kind b i = subst (Accepts (around w fresh) m' outer (f a)) (or_false b) (subst (λ d. Accepts (around w fresh) m' outer (f a) (d || false)) i (accepts a false p.is))
+            kind : (b : Bool) → c ≡ b → Accepts (around w fresh) m' outside (f a) b
+            kind b i = subst (Accepts (around w fresh) m' outside (f a)) (or_false b) (subst (λ d. Accepts (around w fresh) m' outside (f a) (d || false)) i (accepts a false p.is))
 
-            by_commitment : (b : Bool) → c ≡ b → answers (around w fresh) m' outer (accepted_as b (f a))
+            by_commitment : (b : Bool) → c ≡ b → answers (around w fresh) m' outside (accepted_as b (f a))
             by_commitment true i = kind true i
             by_commitment false i = kind false i
 
     -- need of more
-    module _ (k : KeepsAround here z.progress.count) where
+    module _ (k : KeepsAround w fresh m m' r first state left old before here z.progress.count) where
       counts : (n : ℕ) → n ≡ length r.old.unread → z.progress.count + n ≡ length old.unread
       counts n e =
           let a : length r.old.unread ≡ length old.unread - z.progress.count = rw z.progress.taken.rest (length-drop z.progress.count old.unread) in
           let b = z.progress.taken.enough in
           omega arith
 
-      asks : Asks w m r → Asks (around w fresh) m' outer
+      asks : Asks w m r → Asks (around w fresh) m' outside
       asks p = record {
         is_open = sym same_open ∙ p.is_open;
         count = z.progress.count + p.count;
@@ -142,5 +146,5 @@ module _ {P T R A B S S' E : Type 0} (w : World P T S E) (fresh : S' → Type 0)
         failures = λ s. p.failures s ∙ z.progress.failures s;
       }
 
-      pub inside_asks : (e : E) → (w.kind e ≡ kinds.End) × (r.new.is_open ≡ true) → Answers w m r (CommitErr e) → Answers (around w fresh) m' outer (CommitErr e)
-      inside_asks e i p = needs w fresh m m' r outer e i p same_open asks
+      pub inside_asks : (e : E) → (w.kind e ≡ kinds.End) × (r.new.is_open ≡ true) → Answers w m r (CommitErr e) → Answers (around w fresh) m' outside (CommitErr e)
+      inside_asks e i p = needs w fresh m m' r outside e i p same_open asks

@@ -14,8 +14,8 @@ use Rattle.combine_base.specs.declared.error.ParseResult.TheVariants.{CommitOk, 
 pub passes_none : {C V : Type 0} (a : C → V → Type 0) (f : Failures) → Passes a a f f
 passes_none a f = record { marks = λ c v p. p; reads = omega arith; resets = omega arith }
 
-pub passes_more : {C V : Type 0} (a b d : C → V → Type 0) (f g h : Failures) → Passes a b f g → Passes b d g h → Passes a d f h
-passes_more a b d f g h p q = record {
+pub passes_more : {C V : Type 0} {a b d : C → V → Type 0} {f g h : Failures} → Passes a b f g → Passes b d g h → Passes a d f h
+passes_more p q = record {
   marks = λ c v i. q.marks c v (p.marks c v i);
   reads = let x = p.reads in let y = q.reads in omega arith;
   resets = let x = p.resets in let y = q.resets in omega arith;

@@ -78,11 +78,11 @@ module _ {P T R A B C S L Z E : Type 0} (step : P → T → P) (errors : Observe
     stops_before x d a = by_need (need_or_not (errors.kind x) mid.is_open)
       where
         by_need : ((errors.kind x ≡ kinds.End) × (mid.is_open ≡ true)) ⊎ ((errors.kind x ≡ kinds.End) × (mid.is_open ≡ true) → ⊥) → Answers whole_world both (call_from z left old mid f0 f1) (CommitErr x)
-        by_need (inl i) = inside_asks _ _ _ _ _ _ _ _ _ _ _ _ inside (keeping d) x i a
-        by_need (inr i) = inside_fails _ _ _ _ _ _ _ _ _ _ _ _ inside (λ k. begins_after place fresh left stopped d k) x i a
+        by_need (inl i) = inside_asks inside (keeping d) x i a
+        by_need (inr i) = inside_fails inside (λ k. begins_after place fresh left stopped d k) x i a
 
     pub refused_before : (t : Tracked E) → begins_sequence place fresh left → Answers before_world m run (PeekErr t) → Answers whole_world both (call_from z left old mid f0 f1) (PeekErr t)
-    refused_before t d a = inside_refuses _ _ _ _ _ _ _ _ _ _ _ _ inside (λ k. d) t a
+    refused_before t d a = inside_refuses inside (λ k. d) t a
 
     -- they are accepted: the last part is left
     pub accepted_before : (valid : S → Type 0) → IsMeaning fresh valid m → valid s → (a : A) (c : Bool) → Accepts before_world m run a c → {U : Type 0} (last_fresh : U → Type 0) → Progress (world step errors counts_failures last_fresh) (both.rest z) (following c (q.join a) (q.whole a)) old mid f0 f1
@@ -126,13 +126,13 @@ module _ {P T R A B C S L Z E : Type 0} (step : P → T → P) (errors : Observe
 
       answered : (x : ParseResult B E) → Answers last_world n last_run x → (NeedsMore errors.kind new.is_open x × (place left ≡ Last (kept stopped)) × valid stopped) ⊎ ((NeedsMore errors.kind new.is_open x → ⊥) × begins_sequence place fresh left) → Answers whole_world both (call_from z left old new f0 f2) (joined_answer c f x)
       answered (CommitOk b) a (inl i) = absurd i.0
-      answered (CommitOk b) a (inr i) = inside_commits _ _ _ _ _ _ _ _ _ _ _ _ last_inside (λ k. i.1) f (λ b i k x. (Accepted b i k, x, ap (λ j. Accepted (f b) j (c || k)) (sym (zero-add i)))) b a
+      answered (CommitOk b) a (inr i) = inside_commits last_inside (λ k. i.1) f (λ b i k x. (Accepted b i k, x, ap (λ j. Accepted (f b) j (c || k)) (sym (zero-add i)))) b a
       answered (PeekOk b) a (inl i) = absurd i.0
-      answered (PeekOk b) a (inr i) = inside_peeks _ _ _ _ _ _ _ _ _ _ _ _ last_inside (λ k. i.1) f (λ b i k x. (Accepted b i k, x, ap (λ j. Accepted (f b) j (c || k)) (sym (zero-add i)))) b a
-      answered (CommitErr x) a (inl i) = inside_asks _ _ _ _ _ _ _ _ _ _ _ _ last_inside (last_keeping i.1) x i.0 a
-      answered (CommitErr x) a (inr i) = inside_fails _ _ _ _ _ _ _ _ _ _ _ _ last_inside (λ k. i.1) x i.0 a
+      answered (PeekOk b) a (inr i) = inside_peeks last_inside (λ k. i.1) f (λ b i k x. (Accepted b i k, x, ap (λ j. Accepted (f b) j (c || k)) (sym (zero-add i)))) b a
+      answered (CommitErr x) a (inl i) = inside_asks last_inside (last_keeping i.1) x i.0 a
+      answered (CommitErr x) a (inr i) = inside_fails last_inside (λ k. i.1) x i.0 a
       answered (PeekErr t) a (inl i) = absurd i.0
-      answered (PeekErr t) a (inr i) = inside_refuses _ _ _ _ _ _ _ _ _ _ _ _ last_inside (λ k. i.1) t a
+      answered (PeekErr t) a (inr i) = inside_refuses last_inside (λ k. i.1) t a
 
     pub runs_answer : (y : ParseResult C E) → RunsLastPart last_world errors valid (begins_sequence place fresh) place n c f kept left mid new f1 f2 y s → Answers whole_world both (call_from z left old new f0 f2) y
     runs_answer y g = subst (λ x. Answers whole_world both (call_from z left old new f0 f2) x) (sym g.is) (answered g.stopped g.answer g.answers g.leaves)

@@ -62,7 +62,7 @@ module _ {Last Input Checkpoint T R P E A B C S U Z : Type 0} (place : Z → Seq
         record {
           valid = sequence_leaves place starts stays goes;
           same = followed_means_same i.step observers place f same l.same;
-          passes = passes_more (i.marks input) (i.marks mid) (i.marks left) (i.failures input) (i.failures mid) (i.failures left) passes l.passes;
+          passes = passes_more passes l.passes;
           refuses = sequence_reasons i.step observers i.counts_failures fresh last_fresh q.valid place f m (q.meaning last) k s kept from state e (i.view input) (i.view mid) (i.view left) (i.failures input) (i.failures mid) (i.failures left) result answer answers reasons goes;
           answers = sequence_answers i.step observers i.counts_failures fresh last_fresh q.valid place f m (q.meaning last) valid h k s kept from state e (i.view input) (i.view mid) (i.view left) (i.failures input) (i.failures mid) (i.failures left) passes.reads passes.resets result answer d answers goes;
         }

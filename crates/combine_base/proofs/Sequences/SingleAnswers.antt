@@ -48,13 +48,13 @@ module _ {P T R A U E : Type 0} (w : World P T U E) (valid : U → Type 0) (m : 
 
     module _ (d : begins_1 (first_fresh w.fresh) left) where
       pub single_commits : (a : A) → Answers w m run (CommitOk a) → Answers single_world (tuple_1 m) (call_from z left old new f0 f1) (CommitOk (push_0 tt a))
-      single_commits a x = inside_commits _ _ _ _ _ _ _ _ _ _ _ _ inside (λ k. d) (push_0 tt) (λ a n k x. (Accepted a n k, x, ap (λ i. Accepted (push_0 tt a) i k) (sym (zero-add n)))) a x
+      single_commits a x = inside_commits inside (λ k. d) (push_0 tt) (λ a n k x. (Accepted a n k, x, ap (λ i. Accepted (push_0 tt a) i k) (sym (zero-add n)))) a x
 
       pub single_peeks : (a : A) → Answers w m run (PeekOk a) → Answers single_world (tuple_1 m) (call_from z left old new f0 f1) (PeekOk (push_0 tt a))
-      single_peeks a x = inside_peeks _ _ _ _ _ _ _ _ _ _ _ _ inside (λ k. d) (push_0 tt) (λ a n k x. (Accepted a n k, x, ap (λ i. Accepted (push_0 tt a) i k) (sym (zero-add n)))) a x
+      single_peeks a x = inside_peeks inside (λ k. d) (push_0 tt) (λ a n k x. (Accepted a n k, x, ap (λ i. Accepted (push_0 tt a) i k) (sym (zero-add n)))) a x
 
       pub single_refused : (t : Tracked E) → Answers w m run (PeekErr t) → Answers single_world (tuple_1 m) (call_from z left old new f0 f1) (PeekErr t)
-      single_refused t x = inside_refuses _ _ _ _ _ _ _ _ _ _ _ _ inside (λ k. d) t x
+      single_refused t x = inside_refuses inside (λ k. d) t x
 
   -- an error leaves the state that the part was left in
   abbrev kept : PartialState1 (SequenceState (Unit {0}) U)
@@ -73,5 +73,5 @@ module _ {P T R A U E : Type 0} (w : World P T U E) (valid : U → Type 0) (m : 
   single_error e x = by_need (need_or_not (w.kind e) new.is_open)
     where
       by_need : ((w.kind e ≡ kinds.End) × (new.is_open ≡ true)) ⊎ ((w.kind e ≡ kinds.End) × (new.is_open ≡ true) → ⊥) → Answers single_world (tuple_1 m) (call_from z kept old new f0 f1) (CommitErr e)
-      by_need (inl i) = inside_asks _ _ _ _ _ _ _ _ _ _ _ _ (inside kept) keeping e i x
-      by_need (inr i) = inside_fails _ _ _ _ _ _ _ _ _ _ _ _ (inside kept) (λ k. (tt, refl, k)) e i x
+      by_need (inl i) = inside_asks (inside kept) keeping e i x
+      by_need (inr i) = inside_fails (inside kept) (λ k. (tt, refl, k)) e i x

@@ -12,6 +12,10 @@ Reading Position Token Value = View Position Token → Outcome Value → Type 0
 abbrev pub Refusing : Type 0 → Type 0 → Type 0 → Type 1
 Refusing Position Token Error = View Position Token → View Position Token → Bool → Error → Type 0
 
+-- whatever error
+abbrev pub any_error : {Position Token Error : Type 0} → Refusing Position Token Error
+any_error v w k e = Unit {0}
+
 -- the same errors
 abbrev pub SameReasons : {Position Token Error : Type 0} → Refusing Position Token Error → Refusing Position Token Error → Type 0
 SameReasons {Position} {Token} {Error} r r' = (v w : View Position Token) (k : Bool) (e : Error) → r v w k e ↔ r' v w k e
@@ -121,6 +125,11 @@ refusals_begin {m = m} h s d = meant_same (m.rest s) m.whole (m.refuses_from s) 
 abbrev pub begun : {Position Token Range Error Value State : Type 0} → Meaning Position Token Range Error Value State → Bool → State → Reading Position Token Value
 begun m true s = m.whole
 begun m false s = m.rest s
+
+-- it is a reading, where it begins afresh or in a valid state
+pub begun_reads : {Position Token Range Error Value State : Type 0} (fresh valid : State → Type 0) (m : Meaning Position Token Range Error Value State) → IsMeaning fresh valid m → (first : Bool) (s : State) → valid s → IsReading (begun m first s)
+begun_reads fresh valid m h true s v = h.whole
+begun_reads fresh valid m h false s v = h.rest s v
 
 -- and the errors of its refusals
 abbrev pub begun_refuses : {Position Token Range Error Value State : Type 0} → Meaning Position Token Range Error Value State → Bool → State → Refusing Position Token Error

@@ -1,13 +1,21 @@
 -- the outcome of a parser, joined to what was before it
 use Rattle.std.specs.Prelude.{ℕ, ◌+◌, ◌≡◌, Bool, true, false, ◌||◌, refl}
 use Rattle.std.proofs.Common.{arith, ap, sym, ◌∙◌}
-use Rattle.combine_base.specs.Parser.Outcome.{Outcome, Accepted, Refused, Undecided, after, shape, IsDecided, IsCommitted, or_true}
+use Rattle.combine_base.specs.Parser.Outcome.{Outcome, Accepted, Refused, Undecided, after, shape, IsDecided, IsCommitted, or_assoc, or_true}
 
 -- i tokens taken before, committed if c is, the value joined by f to those before it
 abbrev pub joined : {A B : Type 0} → ℕ → Bool → (A → B) → Outcome A → Outcome B
 joined i c f (Accepted a n k) = Accepted (f a) (i + n) (c || k)
 joined i c f (Refused k) = Refused (c || k)
 joined i c f Undecided = Undecided
+
+-- a value as it is
+abbrev pub unchanged : {C : Type 0} → C → C
+unchanged c = c
+
+-- the value of the last of two
+abbrev pub last_value : {B C : Type 0} → B → C → C
+last_value b c = c
 
 -- the acceptance that led to one after i tokens
 pub record Led {A : Type 0} (i : ℕ) (c : Bool) (o : Outcome A) (n : ℕ) (k : Bool) : Type 0 where
@@ -72,3 +80,15 @@ pub neither_committed : (c d : Bool) → false ≡ (c || d) → (c ≡ false) ×
 neither_committed false false e = (refl, refl)
 neither_committed false true e = absurd (cc)
 neither_committed true d e = absurd (cc)
+
+-- nothing was before it
+pub joined_none : {C : Type 0} (p : Outcome C) → joined 0 false unchanged p ≡ p
+joined_none (Accepted a n j) = let i : 0 + n ≡ n = omega arith in cc
+joined_none (Refused j) = refl
+joined_none Undecided = refl
+
+-- what comes after two parts, of which one or the other was committed
+pub joined_twice : {B C : Type 0} (c k : Bool) (b : B) (p : Outcome C) → joined 0 (c || k) unchanged p ≡ joined 0 c unchanged (joined 0 k (last_value b) p)
+joined_twice c k b (Accepted a n j) = let e = or_assoc c k j in let i : 0 + n ≡ 0 + (0 + n) = omega arith in cc
+joined_twice c k b (Refused j) = ap Refused (or_assoc c k j)
+joined_twice c k b Undecided = refl

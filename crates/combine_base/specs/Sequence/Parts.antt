@@ -1,5 +1,6 @@
 -- what runs of the parts of a sequence need and promise
-use Rattle.std.specs.Prelude.{◌≡◌, ◌⊎◌, Bool, true, false}
+use Rattle.std.specs.Prelude.{◌≡◌, ◌⊎◌, Bool, true, false, refl}
+use Rattle.std.proofs.Common.{sym, subst}
 use Rattle.combine_base.specs.Stream.View.{View}
 use Rattle.combine_base.specs.Stream.Calls.{Passes}
 use Rattle.combine_base.specs.Error.Errors.{Observers}
@@ -21,6 +22,14 @@ use Rattle.combine_base.specs.declared.sequence.SequencePlace.TheVariants.{Befor
 pub record RunsFrom {S : Type 0} (fresh : S → Type 0) (first : Bool) (given s : S) : Type 0 where
   pub afresh : first ≡ true → fresh s
   pub kept : first ≡ false → s ≡ given
+
+-- that state is valid
+pub valid_from : {S : Type 0} {fresh valid : S → Type 0} {first : Bool} {given s : S} → ((s : S) → fresh s → valid s) → RunsFrom fresh first given s → valid given → valid s
+valid_from {S} {fresh} {valid} {first} {given} {s} h r v = by_mode first r
+  where
+    by_mode : (first : Bool) → RunsFrom fresh first given s → valid s
+    by_mode true r = h s (r.afresh refl)
+    by_mode false r = subst valid (sym (r.kept refl)) v
 
 -- a call from a state, whatever the mode
 abbrev pub call_from : {P T S : Type 0} → S → S → View P T → View P T → Failures → Failures → CallRecord P T S

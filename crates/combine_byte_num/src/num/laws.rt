@@ -10,7 +10,7 @@ use combine_base::error::ParseError;
 use combine_base::parser::Parser;
 use combine_base::stream::Stream;
 
-/// The law of those without a sign: so many bytes, and the sum that they make.
+/// The law of those without a sign: that many bytes, and the sum that they make.
 #[inline]
 pub fn unsigned_numbers<Input: Stream<Token = u8>>()
 where
@@ -23,7 +23,7 @@ where
     ensures le_u64 { MeansSame (⟦<LeU64<Input> as Parser<Input>>⟧.meaning number_parser) (takes_number Input.Error.observers 8 little_endian) }
 {}
 
-/// The law of those with a sign: so many bytes, and the sum that they make, less 256 to their number where it is at least half of that.
+/// The law of those with a sign: that many bytes, and the sum that they make, less 256 to their number where it is at least half of that.
 #[inline]
 pub fn signed_numbers<Input: Stream<Token = u8>>()
 where

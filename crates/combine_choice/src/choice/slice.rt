@@ -7,7 +7,7 @@ ghost use Rattle.combine_base.specs.Parser.Meaning.{MeansSame};
 ghost use Rattle.combine_base.specs.Parser.Reasons.{ReasonedCall};
 ghost use Rattle.combine_base.specs.Stream.Calls.{Passes};
 ghost use Rattle.combine_choice.specs.ListChoice.{choice_of, slice_valid};
-ghost use Rattle.combine_choice.specs.SliceCalls.{NoAlternative, ResumesAlternative, ChoseFrom, TurnCall};
+ghost use Rattle.combine_choice.specs.SliceCalls.{NoAlternative, ResumesAlternative, ChoseFrom, AlternativeCall};
 
 use super::{ChoiceOutputs, ChoiceParser};
 use combine_base::error::{ParseResult, Tracked};
@@ -48,7 +48,7 @@ pub struct Slice<'a, P>(pub &'a mut [P]);
 ///
 /// On need of more it is kept in `state`.
 #[inline(always)]
-fn take_turn<Input: Stream, P: Parser<Input>, M: ParseMode>(
+fn try_alternative<Input: Stream, P: Parser<Input>, M: ParseMode>(
     alternative: &mut P,
     index: usize,
     mode: M,
@@ -63,7 +63,7 @@ fn take_turn<Input: Stream, P: Parser<Input>, M: ParseMode>(
     ensures valid { slice_valid P.valid state.new }
     ensures same { MeansSame (P.meaning alternative.old) (P.meaning alternative.new) }
     ensures passes { Passes (Input.marks input.old) (Input.marks input.new) (Input.failures input.old) (Input.failures input.new) }
-    ensures turn { TurnCall Input.StreamOnce Input.Error.observers P.Parser P.PartialState.is_default index alternative.old (M.first mode) kept state.new input.old input.new result }
+    ensures calls { AlternativeCall Input.StreamOnce Input.Error.observers P.Parser P.PartialState.is_default index alternative.old (M.first mode) kept state.new input.old input.new result }
     ensures refuses { ReasonedCall Input.Error.observers (P.meaning alternative.old) (M.first mode) kept (Input.view input.old) (Input.view input.new) result }
 {
     let mut kept = kept;
@@ -93,7 +93,14 @@ fn choose<Input: Stream, P: Parser<Input>, M: ParseMode>(
 {
     let start = input.checkpoint();
     let position = input.position();
-    let mut refused = match take_turn(&mut alternatives[index], index, mode, input, kept, state) {
+    let mut refused = match try_alternative(
+        &mut alternatives[index],
+        index,
+        mode,
+        input,
+        kept,
+        state,
+    ) {
         ParseResult::CommitOk(value) => return ParseResult::CommitOk(value),
         ParseResult::PeekOk(value) => return ParseResult::PeekOk(value),
         ParseResult::CommitErr(error) => return ParseResult::CommitErr(error),
@@ -105,7 +112,7 @@ fn choose<Input: Stream, P: Parser<Input>, M: ParseMode>(
             Err(kind) => return ParseResult::CommitErr(input.new_error(kind, position)),
         }
         let fresh = P::PartialState::default();
-        let answer = take_turn(&mut alternatives[at], at, FirstMode, input, fresh, state);
+        let answer = try_alternative(&mut alternatives[at], at, FirstMode, input, fresh, state);
         refused = match after_refusal(refused, answer) {
             ParseResult::CommitOk(value) => return ParseResult::CommitOk(value),
             ParseResult::PeekOk(value) => return ParseResult::PeekOk(value),
@@ -143,7 +150,7 @@ fn no_alternative<O, Input: Stream>(input: &Input) -> ParseResult<O, Input::Erro
     peeked(Tracked::from(error))
 }
 
-/// Returns the alternative of so many that a call goes on with, and its state.
+/// Returns which of `count` alternatives a call goes on with, and its state.
 ///
 /// That is `Peek` where the call begins afresh, also where no alternative has that index.
 #[inline(always)]

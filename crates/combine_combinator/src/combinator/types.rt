@@ -1,10 +1,11 @@
 //! The parsers that the functions of `combinator` return.
 ghost use Rattle.std.specs.Prelude.{◌≡◌};
-ghost use Rattle.combine_combinator.specs.Attempt.{HasValidTry, attempted, attempted_is_meaning, attempted_means_one, losing, refusing, KeepsTokenDistance, PutsBack};
+ghost use Rattle.combine_combinator.specs.Attempt.{HasValidTry, attempted, attempted_is_meaning, attempted_means_one, refusing, KeepsTokenDistance, PutsBack};
 ghost use Rattle.combine_combinator.specs.CombinatorParsers.{attempt_part, map_function, map_of, map_part};
 ghost use Rattle.combine_base.specs.Parser.GivenValues.{GivesOnly};
 ghost use Rattle.combine_base.specs.Parser.ValueMap.{mapped, mapped_is_meaning, mapped_means_one};
 ghost use Rattle.combine_base.specs.Stream.Calls.{Passes};
+ghost use Rattle.combine_base.specs.Distances.{losing};
 
 use super::TryState;
 pub use super::look::{LookAhead, NoPartial, NotFollowedBy};

@@ -17,14 +17,14 @@ pub trait Pick<A> {
     /// What is kept of that value.
     ghost picked: { A → Self.Output };
 
-    /// As how many parsers a parser counts of whose value this is kept, where that one counts so many.
+    /// How many parsers a parser that keeps this counts as, by the count of its part.
     ghost counted: { ℕ → ℕ };
 
     /// Returns what is kept of the value.
     fn pick(value: A) -> Self::Output
         ensures { result ≡ picked value };
 
-    /// Returns as how many parsers one counts of whose value this is kept, where that one counts so many.
+    /// Returns how many parsers a parser that keeps this counts as, by the count of its part.
     fn count(inside: ErrorOffset) -> ErrorOffset
         ensures { result.0 ≡ counted inside.0 };
 }

@@ -36,7 +36,7 @@ pub trait ValueChange<Input: Stream, A> {
     /// What error a refusal of the value may have, where the parser began at that position.
     ghost says: { Self → Input.Position → A → Input.Error → Type 0 };
 
-    /// As how many parsers a parser counts whose value is changed so, where its part counts so many.
+    /// How many parsers a parser that makes this change counts as, by the count of its part.
     ghost counted: { ℕ → ℕ };
 
     /// Returns the value changed, or the error of a refusal or of a fault; the stream is left in place.
@@ -54,7 +54,7 @@ pub trait ValueChange<Input: Stream, A> {
         ensures failures { Input.failures input.new ≡ Input.failures input.old }
         ensures changes { Changes Input.Error.observers (gives self.now (Input.view input.old).position value) (denies self.now value) (starves self.now value) (says self.now began value) result };
 
-    /// Returns as how many parsers a parser counts, of whose part that is the count.
+    /// Returns how many parsers a parser that makes this change counts as, by the count of its part.
     fn count(part: ErrorOffset) -> ErrorOffset
         ensures { result.0 ≡ counted part.0 };
 }

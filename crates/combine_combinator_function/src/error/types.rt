@@ -1,8 +1,7 @@
 //! The parser that the functions of `error` return.
-ghost use Rattle.std.specs.Prelude.{◌≡◌, MatchResult};
+ghost use Rattle.std.specs.Prelude.{◌≡◌};
 ghost use Rattle.combine_base.specs.Error.Errors.{Only};
-ghost use Rattle.combine_base.specs.Error.Items.{Unexpected as SaysUnexpected, shown};
-ghost use Rattle.combine_token.specs.Token.Lists.ListAnswers.{NoText};
+ghost use Rattle.combine_base.specs.Error.Items.{Unexpected as SaysUnexpected, shown, NoText};
 ghost use Rattle.combine_combinator_function.specs.Unexpected.{refuses_all, refuses_all_is_meaning, refuses_all_means_one, unexpected_info};
 
 use combine_base::error::{ErrorOffset, Info, ParseError, ParseResult, Tracked};
@@ -28,23 +27,10 @@ impl<Input, V, A: Copy, R: Copy> Clone for Unexpected<Input, V, Info<A, R>> {
 
     fn clone(&self) -> Result<Self, AllocError> {
         Ok(Unexpected {
-            info: copied(&self.info)?,
+            info: self.info.copied()?,
             reads: PhantomData,
             value: PhantomData,
         })
-    }
-}
-
-/// Returns an info that speaks of the same; a text of its own is cloned, which takes memory.
-fn copied<T: Copy, R: Copy>(info: &Info<T, R>) -> Result<Info<T, R>, AllocError>
-    ensures { MatchResult result (λ i. shown i ≡ shown info.now) (λ _. NoText info.now → ⊥) }
-{
-    match info {
-        Info::Token(token) => Ok(Info::Token(*token)),
-        Info::Range(range) => Ok(Info::Range(*range)),
-        Info::Static(text) => Ok(Info::Static(*text)),
-        Info::Owned(text) => Ok(Info::Owned(text.clone()?)),
-        Info::More(missing) => Ok(Info::More(*missing)),
     }
 }
 

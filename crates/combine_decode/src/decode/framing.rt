@@ -13,7 +13,7 @@ use combine_token::token::types::Any;
 use std::alloc::Global;
 use std::marker::PhantomData;
 
-/// The function from a length to the parser of so many bytes, which are collected. Our own.
+/// The function from a length to the parser of that many bytes, which are collected. Our own.
 #[derive(Drop)]
 #[derive_where(Clone, Copy)]
 pub struct Framing<Input> {

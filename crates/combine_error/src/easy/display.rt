@@ -64,7 +64,7 @@ fn write_unexpected<T: Display, R: Display, W: fmt::Write>(
     Ok(())
 }
 
-// Writes what stands before the n-th of so many expected items, the first being number 0.
+// Writes what stands before the n-th of `count` expected items, the first being number 0.
 fn write_separator<W: fmt::Write>(
     n: usize,
     count: usize,

@@ -2,13 +2,11 @@
 ghost use Rattle.std.specs.Prelude.{◌≡◌, ◌↔◌, true};
 ghost use Rattle.combine_base.specs.Error.Errors.{AddsNothing, Only};
 ghost use Rattle.combine_base.specs.Error.Items as items;
-ghost use Rattle.combine_base.specs.Error.Items.{shown};
+ghost use Rattle.combine_base.specs.Error.Items.{shown, NoText};
 ghost use Rattle.combine_base.specs.Parser.DriverAnswers.{IsRefusal};
-ghost use Rattle.combine_error.specs.Copies.{NoText};
 ghost use Rattle.combine_error.specs.RewordedErrors.{WithOneMore, ClearsExpected, ReplacesExpected, AddsOnRefusal, RefusesWithoutExpected, saying, saying_is_meaning, saying_means_one, refuses_without_expected_is_monotone, refuses_with_item, refuses_with_item_is_monotone, part_refusals, part_refusals_is_monotone};
 ghost use Rattle.combine_error.specs.ErrorParsers.{silent_part, expected_info, expected_part, message_info, message_part};
 
-use crate::info::copied;
 use combine_base::error::{ErrorOffset, Info, ParseError, ParseResult, Tracked};
 use combine_base::parser::{Outputs, ParseMode, Parser};
 use combine_base::stream::{Kind, Stream, StreamOnce};
@@ -44,7 +42,7 @@ impl<P: Clone, A: Copy, R: Copy> Clone for Message<P, Info<A, R>> {
     fn clone(&self) -> Result<Self, AllocError> {
         Ok(Message {
             parser: self.parser.clone()?,
-            info: copied(&self.info)?,
+            info: self.info.copied()?,
         })
     }
 }
@@ -57,7 +55,7 @@ impl<P: Clone, A: Copy, R: Copy> Clone for Expected<P, Info<A, R>> {
     fn clone(&self) -> Result<Self, AllocError> {
         Ok(Expected {
             parser: self.parser.clone()?,
-            info: copied(&self.info)?,
+            info: self.info.copied()?,
         })
     }
 }

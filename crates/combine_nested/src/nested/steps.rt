@@ -24,7 +24,7 @@ pub struct RunningStep<F, N, U> {
     /// A step before was committed.
     pub(super) committed: bool,
     /// This step took a token before the cut.
-    pub(super) begun: bool,
+    pub(super) took_before: bool,
     pub(super) parser: N,
     pub(super) state: U,
 }
@@ -188,7 +188,7 @@ pub(super) fn run_step<
     let RunningStep {
         frames,
         committed: earlier,
-        begun,
+        took_before,
         mut parser,
         state: mut kept,
     } = from;
@@ -202,7 +202,7 @@ pub(super) fn run_step<
                 *state = NestedState::Running(RunningStep {
                     frames,
                     committed: earlier,
-                    begun: has_taken(begun, since, input),
+                    took_before: has_taken(took_before, since, input),
                     parser,
                     state: kept,
                 });
@@ -212,7 +212,7 @@ pub(super) fn run_step<
         }
         ParseResult::PeekErr(refusal) => return Did::Stops(refused_after(earlier, refusal)),
     };
-    let took = has_taken(begun, since, input);
+    let took = has_taken(took_before, since, input);
     let commits = one_of(earlier, committed);
     finish_step(input, position, depth, frames, item, commits, took)
 }

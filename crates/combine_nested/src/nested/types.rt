@@ -82,7 +82,7 @@ impl<
                 state: N::PartialState::default(),
                 frames,
                 committed,
-                begun: false,
+                took_before: false,
             };
             next = run_step(FirstMode, input, self.depth, step, state);
         }

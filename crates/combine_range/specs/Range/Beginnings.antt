@@ -5,8 +5,9 @@ use Rattle.std.proofs.lemmas.List.{take-append-le, drop-append-le, take_all, dro
 use Rattle.combine_base.specs.Stream.View.{View, extended}
 use Rattle.combine_base.specs.Parser.Outcome.{Outcome, Accepted, Refused, Undecided, IsDecided, shape}
 use Rattle.combine_base.specs.Parser.Meaning.{Reading, IsReading, IsSingle, Meaning}
-use Rattle.combine_stream.specs.Range.Ranges.{size_of, IsItemPlace, EndsInsideToken, Longest, IsPredicate, one_place, one_longest, longest_within, longest_stays, place_stays, inside_stays}
+use Rattle.combine_stream.specs.Range.Ranges.{size_of, IsItemPlace, EndsInsideToken, Longest, one_place, one_longest, longest_within, longest_stays, place_stays, inside_stays}
 use Rattle.combine_base.specs.Error.Errors.{Observers, AddsNothing}
+use Rattle.combine_base.specs.Predicates.{IsPredicate}
 use Rattle.combine_range.specs.KeptDistance.{kept}
 use Rattle.combine_range.specs.RangeReasons.{RefusesKept, refuses_beginning}
 use Rattle.combine_range.specs.declared.distance.Distance.{Distance}

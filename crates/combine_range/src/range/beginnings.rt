@@ -3,7 +3,7 @@ ghost use Rattle.std.specs.Prelude.{◌≡◌, true, false};
 ghost use Rattle.combine_base.specs.Parser.AnswersCalls.{AnswersCall};
 ghost use Rattle.combine_base.specs.Parser.Reasons.{ReasonedCall};
 ghost use Rattle.combine_base.specs.Stream.Calls.{Passes};
-ghost use Rattle.combine_stream.specs.Range.Ranges.{IsPredicate};
+ghost use Rattle.combine_base.specs.Predicates.{IsPredicate};
 ghost use Rattle.combine_range.specs.KeptDistance.{kept_is_meaning, kept_means_one};
 ghost use Rattle.combine_range.specs.Range.Beginnings.{beginning_is_reading, beginning_is_single, takes_beginning};
 

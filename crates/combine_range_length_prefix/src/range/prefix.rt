@@ -59,7 +59,7 @@ where
     }
 }
 
-/// The function from a length to the parser of so many items. Our own.
+/// The function from a length to the parser of that many items. Our own.
 #[derive(Drop)]
 #[derive_where(Clone, Copy)]
 pub struct Taking<Input>(pub(super) PhantomData<Input>);

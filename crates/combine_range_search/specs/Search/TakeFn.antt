@@ -34,7 +34,7 @@ module _ {T R : Type 0} (size : T → ℕ) (spells : R → List T → Type 0) (a
     pub few : size_of size (take count us) ≤ hint
 
   -- a place is found, after the function was asked n times in vain, each time behind what it said need not be searched again
-  pub record Onward (rest : List T → ℕ → Type 0) (us : List T) (i : ℕ) : Type 0 where
+  pub record SkipsAhead (rest : List T → ℕ → Type 0) (us : List T) (i : ℕ) : Type 0 where
     pub count : ℕ
     pub went : SkipsItems us count
     pub more : ℕ
@@ -43,7 +43,7 @@ module _ {T R : Type 0} (size : T → ℕ) (spells : R → List T → Type 0) (a
 
   abbrev pub finds_by_asking : ℕ → List T → ℕ → Type 0
   finds_by_asking zero us i = FunctionAnswered us (Found i)
-  finds_by_asking (suc n) us i = Onward (finds_by_asking n) us i
+  finds_by_asking (suc n) us i = SkipsAhead (finds_by_asking n) us i
 
   -- the function finds none in all of these tokens, after n times
   pub record FoundNone (us : List T) : Type 0 where

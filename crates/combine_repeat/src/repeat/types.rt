@@ -1,7 +1,7 @@
 //! The parsers of uncounted repetitions.
+use combine_repeat_turns::bounds::{FirstThenMore, ZeroOrMore};
 use combine_repeat_turns::each::{Dropped, Each};
-use combine_repeat_turns::repeat::types::Repeat;
-use combine_repeat_turns::turns::turn_bounds::{FirstThenMore, ZeroOrMore};
+use combine_repeat_turns::repeat::Repeat;
 
 /// The parser of [`many`](crate::repeat::many).
 pub type Many<F, P> = Repeat<Each<F>, P, ZeroOrMore>;

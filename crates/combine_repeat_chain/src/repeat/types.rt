@@ -51,7 +51,7 @@ where
     S::Output: Folds<P::Output>,
 {
     ghost use Rattle.std.specs.Prelude.{None};
-    ghost use Rattle.combine_repeat_turns.specs.declared.turns.Bounds.TheVariants.{OwnFirst};
+    ghost use Rattle.combine_repeat_turns.specs.declared.bounds.Bounds.TheVariants.{OwnFirst};
 
     type PartialState = TurnsState<
         ChainOperands<S::Output, P::Output>,

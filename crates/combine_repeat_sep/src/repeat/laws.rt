@@ -20,7 +20,7 @@ where
     ensures { SepBy1IsOneThenTurns Input.step Input.Error.observers (appended F.held F.none F.more F.heapless) (P.meaning parser.now) (S.meaning separator.now) }
 {}
 
-/// The law that the parser of `sep_count_min_max` means at least and at most so many elements, with separators between them.
+/// The law that the parser of `sep_count_min_max` means at least `min` and at most `max` elements, with separators between them.
 pub fn sep_count_min_max_is_turns<F, Input: Stream, P: Parser<Input>, S: Parser<Input>>(
     parser: &SepCountMinMax<F, P, S>,
 )

@@ -4,8 +4,8 @@ use Rattle.std.specs.declared.alloc.Global.{Global}
 use Rattle.combine_repeat_turns.specs.declared.each.Dropped.{Dropped}
 use Rattle.combine_repeat_turns.specs.declared.each.Each.{Each}
 use Rattle.combine_repeat_turns.specs.declared.each.SameParser.{SameParser}
-use Rattle.combine_repeat_turns.specs.declared.repeat.types.Repeat.{Repeat}
-use Rattle.combine_repeat_turns.specs.declared.turns.turn_bounds.MinToMax.{MinToMax}
+use Rattle.combine_repeat_turns.specs.declared.repeat.Repeat.{Repeat}
+use Rattle.combine_repeat_turns.specs.declared.bounds.MinToMax.{MinToMax}
 
 -- the same parser in each turn
 abbrev pub plain_parser : {P : Type 0} → SameParser P → P

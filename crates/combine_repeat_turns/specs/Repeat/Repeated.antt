@@ -5,7 +5,7 @@ use Rattle.combine_base.specs.Parser.Meaning.{Meaning, IsMeaning, MeansOne, Mean
 use Rattle.combine_repeat_turns.specs.Turns.Turn.{from_start, plain_is_turn, plain_once, plain_same}
 use Rattle.combine_repeat_turns.specs.Turns.Blocks.{Collecting}
 use Rattle.combine_repeat_turns.specs.Turns.Bounds.{gathered, none_yet, turns_from, fresh_turns, running_turn, turns_is_meaning, turns_means_one, turns_means_same}
-use Rattle.combine_repeat_turns.specs.declared.turns.Bounds.{Bounds}
+use Rattle.combine_repeat_turns.specs.declared.bounds.Bounds.{Bounds}
 use Rattle.combine_repeat_turns.specs.declared.turns.TurnsState.{TurnsState}
 
 -- values appended to a collection

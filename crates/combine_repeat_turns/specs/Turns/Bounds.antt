@@ -2,11 +2,11 @@
 use Rattle.std.specs.Prelude.{ℕ, ◌≡◌, ◌+◌, ◌-◌, Bool, true, false, ◌||◌, ◌&&◌, not, nat_lt, if◌then◌else◌, Some, None, List, [], ◌∷◌, codes, ◌<◌, ◌⊎◌, refl, ◌↔◌}
 use Rattle.combine_base.specs.Parser.Outcome.{Outcome, Accepted, Refused, Undecided, after, shape, IsDecided, IsCommitted}
 use Rattle.combine_repeat_turns.specs.Turns.Blocks.{Verdict, TakesBlock, StopsTurns, Rule, Collecting, TurnsSoFar, Block, outcome, TurnsOutcome, IsRule, IsJudgedOnce, turned_is_reading, turned_is_single, turned_into}
-use Rattle.combine_repeat_turns.specs.declared.turns.Bounds.{Bounds}
-use Rattle.combine_repeat_turns.specs.declared.turns.Bounds.TheVariants.{Unbounded, OwnFirst, Counted}
-use Rattle.combine_repeat_turns.specs.declared.turns.TurnIndex.{TurnIndex}
-use Rattle.combine_repeat_turns.specs.declared.turns.turn_bounds.FirstThenUpTo.{FirstThenUpTo}
-use Rattle.combine_repeat_turns.specs.declared.turns.turn_bounds.MinToMax.{MinToMax}
+use Rattle.combine_repeat_turns.specs.declared.bounds.Bounds.{Bounds}
+use Rattle.combine_repeat_turns.specs.declared.bounds.Bounds.TheVariants.{Unbounded, OwnFirst, Counted}
+use Rattle.combine_repeat_turns.specs.declared.bounds.TurnIndex.{TurnIndex}
+use Rattle.combine_repeat_turns.specs.declared.bounds.FirstThenUpTo.{FirstThenUpTo}
+use Rattle.combine_repeat_turns.specs.declared.bounds.MinToMax.{MinToMax}
 use Rattle.combine_repeat_turns.specs.declared.turns.TurnProgress.{TurnProgress}
 use Rattle.combine_repeat_turns.specs.declared.turns.TurnsState.{TurnsState}
 use Rattle.combine_repeat_turns.specs.declared.turns.Earlier.{Earlier}
@@ -17,6 +17,7 @@ use Rattle.combine_base.specs.Parser.DriverAnswers.{IsRefusal}
 use Rattle.combine_base.specs.Parser.Meaning.{Meaning, begun_refuses, MeantRefusal, begun, Reading, IsMeaning, MeansOne, MeansSame, SameReasons}
 use Rattle.combine_base.specs.Refusals.{HasItems}
 use Rattle.combine_base.specs.Stream.View.{View, advanced}
+use Rattle.combine_base.specs.Stream.Advance.{took_before_over}
 use Rattle.combine_base.specs.declared.stream.Kind.TheVariants as kinds
 use Rattle.combine_repeat_turns.specs.Turns.Turn.{Start, started, from_start, from_state, IsTurn, TurnStartsSame, TurnsSame, EndsTurnsOnce, TurnsOnce}
 use Rattle.combine_repeat_turns.specs.declared.turns.FirstStep.{FirstStep}
@@ -25,21 +26,21 @@ use Rattle.combine_repeat_turns.specs.declared.turns.TurnStep.{TurnStep}
 use Rattle.combine_repeat_turns.specs.declared.turns.TurnStep.TheVariants as steps
 use Rattle.combine_repeat_turns.specs.declared.turns.TurnStop.{TurnStop}
 use Rattle.combine_repeat_turns.specs.declared.turns.TurnStop.TheVariants as stop
-use Rattle.std.proofs.Common.{arith, ap, sym, subst, ◌∙◌, lt-ltb, ltb-true, ltb-false, zero, suc, inl, inr}
+use Rattle.std.proofs.Common.{arith, ap, sym, subst, ◌∙◌, zero, suc, inl, inr}
 
 -- what bounds that are types of their own say
-abbrev pub joined_between : FirstThenUpTo → Bounds
-joined_between b = OwnFirst b.min (Some b.max)
+abbrev pub own_first_bounds : FirstThenUpTo → Bounds
+own_first_bounds b = OwnFirst b.min (Some b.max)
 
 abbrev pub counted_bounds : MinToMax → Bounds
 counted_bounds b = Counted b.min b.max
 
 -- how far turns are counted
-abbrev pub limit : Bounds → ℕ
-limit Unbounded = 0
-limit (OwnFirst least None) = if nat_lt least 1 then 1 else least
-limit (OwnFirst least (Some most)) = most
-limit (Counted least most) = most
+abbrev pub count_bound : Bounds → ℕ
+count_bound Unbounded = 0
+count_bound (OwnFirst least None) = if nat_lt least 1 then 1 else least
+count_bound (OwnFirst least (Some most)) = most
+count_bound (Counted least most) = most
 
 -- there may be any number of turns
 abbrev pub is_unbounded : Bounds → Bool
@@ -65,27 +66,27 @@ missing_turns Unbounded g = 0
 missing_turns (OwnFirst least most) g = least - g.number
 missing_turns (Counted least most) g = least - g.number
 
-abbrev pub enough : Bounds → TurnIndex → Bool
-enough b g = not (nat_lt 0 (missing_turns b g))
+abbrev pub is_enough : Bounds → TurnIndex → Bool
+is_enough b g = not (nat_lt 0 (missing_turns b g))
 
--- a missing turn that is refused as its parser refuses it
-abbrev pub owns : Bounds → TurnIndex → Bool
-owns Unbounded g = false
-owns (OwnFirst least most) g = nat_lt g.number 1
-owns (Counted least most) g = false
+-- a turn that is missing is refused as its parser refuses it
+abbrev pub keeps_refusal : Bounds → TurnIndex → Bool
+keeps_refusal Unbounded g = false
+keeps_refusal (OwnFirst least most) g = nat_lt g.number 1
+keeps_refusal (Counted least most) g = false
 
 -- an accepted turn that took n tokens took one, now or before a cut
 abbrev pub takes_token : TurnIndex → ℕ → Bool → Bool
-takes_token g n k = k && (g.begun || nat_lt 0 n)
+takes_token g n k = k && (g.took_before || nat_lt 0 n)
 
 -- the same, but for a first part of its own
-abbrev pub is_joined_block : TurnIndex → ℕ → Bool → Bool
-is_joined_block g n k = if nat_lt g.number 1 then true else takes_token g n k
+abbrev pub is_first_or_takes_token : TurnIndex → ℕ → Bool → Bool
+is_first_or_takes_token g n k = if nat_lt g.number 1 then true else takes_token g n k
 
 -- it is a block; turns that are counted may take nothing
 abbrev pub is_block_at : Bounds → TurnIndex → ℕ → Bool → Bool
 is_block_at Unbounded g n k = takes_token g n k
-is_block_at (OwnFirst least most) g n k = is_joined_block g n k
+is_block_at (OwnFirst least most) g n k = is_first_or_takes_token g n k
 is_block_at (Counted least most) g n k = true
 
 -- what an accepted turn does: its value ends the turns, or it is a block, or it takes nothing and is refused, committed
@@ -102,14 +103,14 @@ refused_at false false = StopsTurns (Refused false)
 
 abbrev pub judged : {A : Type 0} → Bounds → (A → Bool) → TurnIndex → Outcome A → Verdict
 judged b ending g (Accepted a n k) = accepted_at n k (ending a) (is_block_at b g n k)
-judged b ending g (Refused k) = refused_at (enough b g) k
+judged b ending g (Refused k) = refused_at (is_enough b g) k
 judged b ending g Undecided = StopsTurns Undecided
 
 abbrev pub cut_at : TurnIndex → ℕ → TurnIndex
-cut_at g n = record { number = g.number; begun = g.begun || nat_lt 0 n }
+cut_at g n = record { number = g.number; took_before = g.took_before || nat_lt 0 n }
 
 abbrev pub turn_after : Bounds → TurnIndex → TurnIndex
-turn_after b g = record { number = counted_to (limit b) g.number; begun = false }
+turn_after b g = record { number = counted_to (count_bound b) g.number; took_before = false }
 
 abbrev pub bounded : {A : Type 0} → Bounds → (A → Bool) → Rule A TurnIndex
 bounded b ending = record { full = full_at b; judge = judged b ending; next = turn_after b; cut = cut_at }
@@ -135,7 +136,7 @@ so_far held t = record { mark = t.index; held = held t.into; committed = t.commi
 
 -- before any turn
 abbrev pub none_yet : {Held : Type 0} → Held → TurnsSoFar TurnIndex Held
-none_yet h = record { mark = record { number = 0; begun = false }; held = h; committed = false }
+none_yet h = record { mark = record { number = 0; took_before = false }; held = h; committed = false }
 
 -- what is kept, or what the turns begin with
 abbrev pub kept_or : {V : Type 0} → TurnProgress V → Earlier V → TurnProgress V
@@ -160,9 +161,9 @@ module _ {P T R A E : Type 0} (step : P → T → P) (errors : Observers T R P E
     -- it is refused committed
     Own : (is : committed ≡ true) (refuses : MeantRefusal s.reads s.refuses v w true e) → RefusesHere s g v w committed e
     -- it is missing, and its own refusal is the answer
-    TurnMissing : (is : committed ≡ false) (few : enough b g ≡ false) (owned : owns b g ≡ true) (refuses : MeantRefusal s.reads s.refuses v w false e) → RefusesHere s g v w committed e
+    TurnMissing : (is : committed ≡ false) (few : is_enough b g ≡ false) (owned : keeps_refusal b g ≡ true) (refuses : MeantRefusal s.reads s.refuses v w false e) → RefusesHere s g v w committed e
     -- it is missing, and it is said how many are
-    Few : (is : committed ≡ false) (few : enough b g ≡ false) (other : owns b g ≡ false) (own : E) (refuses : MeantRefusal s.reads s.refuses v w false own) (told : HasItems errors kinds.Refused v.position (Only (Message (Count (missing_turns b g)))) e) → RefusesHere s g v w committed e
+    Few : (is : committed ≡ false) (few : is_enough b g ≡ false) (other : keeps_refusal b g ≡ false) (own : E) (refuses : MeantRefusal s.reads s.refuses v w false own) (told : HasItems errors kinds.Refused v.position (Only (Message (Count (missing_turns b g)))) e) → RefusesHere s g v w committed e
     -- it is accepted, and takes nothing
     Idle : (is : committed ≡ true) (value : A) (count : ℕ) (kind : Bool) (accepted : s.reads v (Accepted value count kind)) (on : ending value ≡ false) (nothing : is_block_at b g count kind ≡ false) (told : HasItems errors kinds.Refused v.position (Only (Message (Fixed (codes "repetition takes nothing")))) e) → RefusesHere s g v w committed e
 
@@ -242,21 +243,9 @@ module _ {P T R E A V S : Type 0} (step : P → T → P) (errors : Observers T R
     refuses_from = λ s. RefusesOnward step errors b ending again (from_state m (running_turn s)) (so_far_or start c.held s.earlier).mark (so_far_or start c.held s.earlier).committed;
   }
 
--- a token was taken in one of two parts
-positive_sum : (n c : ℕ) → nat_lt 0 (n + c) ≡ (nat_lt 0 n || nat_lt 0 c)
-positive_sum n c = by_test (nat_lt 0 n) refl
-  where
-    by_test : (b : Bool) → nat_lt 0 n ≡ b → nat_lt 0 (n + c) ≡ (b || nat_lt 0 c)
-    by_test true e = let i = ltb-true 0 n e in lt-ltb 0 (n + c) (omega arith)
-    by_test false e = let i = ltb-false 0 n e in let z : n + c ≡ c = omega arith in ap (nat_lt 0) z
-
-pub begun_over : (b : Bool) (n c : ℕ) → (b || nat_lt 0 (n + c)) ≡ ((b || nat_lt 0 n) || nat_lt 0 c)
-begun_over true n c = refl
-begun_over false n c = positive_sum n c
-
 goes_over : (b : Bounds) (g : TurnIndex) (n c : ℕ) (k : Bool) → is_block_at b g (n + c) k ≡ is_block_at b (cut_at g n) c k
-goes_over Unbounded g n c k = ap (λ i. k && i) (begun_over g.begun n c)
-goes_over (OwnFirst least most) g n c k = ap (λ i. if nat_lt g.number 1 then true else (k && i)) (begun_over g.begun n c)
+goes_over Unbounded g n c k = ap (λ i. k && i) (took_before_over g.took_before n c)
+goes_over (OwnFirst least most) g n c k = ap (λ i. if nat_lt g.number 1 then true else (k && i)) (took_before_over g.took_before n c)
 goes_over (Counted least most) g n c k = refl
 
 full_over : (b : Bounds) (g : TurnIndex) (n : ℕ) → (bounded {A = ℕ} b (λ _. false)).full (cut_at g n) ≡ (bounded {A = ℕ} b (λ _. false)).full g
@@ -265,7 +254,7 @@ full_over (OwnFirst least None) g n = refl
 full_over (OwnFirst least (Some most)) g n = refl
 full_over (Counted least most) g n = refl
 
-enough_over : (b : Bounds) (g : TurnIndex) (n : ℕ) → enough b (cut_at g n) ≡ enough b g
+enough_over : (b : Bounds) (g : TurnIndex) (n : ℕ) → is_enough b (cut_at g n) ≡ is_enough b g
 enough_over Unbounded g n = refl
 enough_over (OwnFirst least most) g n = refl
 enough_over (Counted least most) g n = refl
@@ -314,12 +303,12 @@ module _ {A : Type 0} (b : Bounds) (ending : A → Bool) where
 
   undecided_turn : (g : TurnIndex) (o : Outcome A) → judged b ending g o ≡ StopsTurns Undecided → o ≡ Undecided
   undecided_turn g (Accepted a n k) e = absurd (no_acceptance n k Undecided refl (accepted_stops n k (ending a) (is_block_at b g n k) Undecided e))
-  undecided_turn g (Refused k) e = absurd (no_refusal k Undecided refl (refused_stops (enough b g) k Undecided e))
+  undecided_turn g (Refused k) e = absurd (no_refusal k Undecided refl (refused_stops (is_enough b g) k Undecided e))
   undecided_turn g Undecided e = refl
 
   stop_within : (g : TurnIndex) (o : Outcome A) (n : ℕ) (k : Bool) → judged b ending g o ≡ StopsTurns (Accepted tt n k) → (n ≡ 0) ⊎ ((a : A) × (o ≡ Accepted a n k))
   stop_within g (Accepted a m j) n k e = accepted_within a n m k j (Accepted tt n k) refl (accepted_stops m j (ending a) (is_block_at b g m j) (Accepted tt n k) e)
-  stop_within g (Refused j) n k e = inl (refused_within n k j (Accepted tt n k) refl (refused_stops (enough b g) j (Accepted tt n k) e))
+  stop_within g (Refused j) n k e = inl (refused_within n k j (Accepted tt n k) refl (refused_stops (is_enough b g) j (Accepted tt n k) e))
   stop_within g Undecided n k e = absurd (cc)
 
   stop_commits : (g : TurnIndex) (o : Outcome A) (l : Outcome (Unit {0})) → judged b ending g o ≡ StopsTurns l → IsCommitted o → IsCommitted l
@@ -328,7 +317,7 @@ module _ {A : Type 0} (b : Bounds) (ending : A → Bool) where
       by_stop : (l ≡ Accepted tt n k) ⊎ (l ≡ Refused true) → IsCommitted l
       by_stop (inl q) = rw q d
       by_stop (inr q) = rw q refl
-  stop_commits g (Refused k) l e d = by_stop (refused_stops (enough b g) k l e)
+  stop_commits g (Refused k) l e d = by_stop (refused_stops (is_enough b g) k l e)
     where
       by_stop : (l ≡ Refused k) ⊎ ((l ≡ Accepted tt 0 false) × (k ≡ false)) → IsCommitted l
       by_stop (inl q) = rw q d
@@ -337,9 +326,9 @@ module _ {A : Type 0} (b : Bounds) (ending : A → Bool) where
 
   stop_over : (g : TurnIndex) (n : ℕ) (o : Outcome A) (l : Outcome (Unit {0})) → (0 < n → IsCommitted o) → judged b ending (cut_at g n) o ≡ StopsTurns l → judged b ending g (after n false o) ≡ StopsTurns (after n false l)
   stop_over g n (Accepted a c k) l d e = ap (accepted_at (n + c) k (ending a)) (goes_over b g n c k) ∙ accepted_stop_over n c k (ending a) (is_block_at b (cut_at g n) c k) l e
-  stop_over g n (Refused k) l d e = by_stop (refused_stops (enough b g) k l i)
+  stop_over g n (Refused k) l d e = by_stop (refused_stops (is_enough b g) k l i)
     where
-      i : refused_at (enough b g) k ≡ StopsTurns l
+      i : refused_at (is_enough b g) k ≡ StopsTurns l
       i = ap (λ t. refused_at t k) (sym (enough_over b g n)) ∙ e
 
       by_stop : (l ≡ Refused k) ⊎ ((l ≡ Accepted tt 0 false) × (k ≡ false)) → judged b ending g (after n false (Refused k)) ≡ StopsTurns (after n false l)

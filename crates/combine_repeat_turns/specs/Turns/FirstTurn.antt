@@ -6,7 +6,7 @@ use Rattle.combine_repeat_turns.specs.Turns.Blocks.{Collecting}
 use Rattle.combine_repeat_turns.specs.Turns.Bounds.{turn_after, so_far}
 use Rattle.combine_base.specs.declared.stream.Kind.TheVariants as kinds
 use Rattle.combine_base.specs.declared.error.ParseResult.TheVariants.{CommitErr, PeekErr}
-use Rattle.combine_repeat_turns.specs.declared.turns.Bounds.TheVariants.{OwnFirst}
+use Rattle.combine_repeat_turns.specs.declared.bounds.Bounds.TheVariants.{OwnFirst}
 use Rattle.combine_repeat_turns.specs.declared.turns.FirstStep.{FirstStep}
 use Rattle.combine_repeat_turns.specs.declared.turns.FirstStep.TheVariants.{Goes, Refused, More, Failed}
 use Rattle.combine_repeat_turns.specs.declared.turns.TurnProgress.{TurnProgress}
@@ -18,7 +18,7 @@ module _ {P T R A V S E : Type 0} (w : World P T S E) (c : Collecting A V) (none
     pub accepts : Accepts w m r turn.0 turn.1
     pub held : c.Held
     pub more : c.more none turn.0 held
-    pub turns : so_far c.held new ≡ record { mark = turn_after (OwnFirst 1 None) (record { number = 0; begun = false }); held = held; committed = turn.1 }
+    pub turns : so_far c.held new ≡ record { mark = turn_after (OwnFirst 1 None) (record { number = 0; took_before = false }); held = held; committed = turn.1 }
 
   pub record FirstMore (e : E) : Type 0 where
     pub needs : (w.kind e ≡ kinds.End) × (r.new.is_open ≡ true)

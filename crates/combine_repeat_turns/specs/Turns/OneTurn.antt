@@ -6,14 +6,14 @@ use Rattle.combine_base.specs.Parser.Answer.{CallRecord, World, Answers, Accepts
 use Rattle.combine_base.specs.Sequence.Parts.{accepted_as, refused_as}
 use Rattle.combine_base.specs.Refusals.{IsRefusalOrMemory}
 use Rattle.combine_repeat_turns.specs.Turns.Blocks.{Collecting}
-use Rattle.combine_repeat_turns.specs.Turns.Bounds.{counted_to, enough, is_block_at, cut_at, turn_after, so_far}
+use Rattle.combine_repeat_turns.specs.Turns.Bounds.{counted_to, is_enough, is_block_at, cut_at, turn_after, so_far}
 use Rattle.combine_base.specs.declared.stream.Failures.{Failures}
 use Rattle.combine_base.specs.declared.stream.Kind.TheVariants as kinds
 use Rattle.combine_base.specs.declared.error.Tracked.{Tracked}
 use Rattle.combine_base.specs.declared.error.ParseResult.{ParseResult}
 use Rattle.combine_base.specs.declared.error.ParseResult.TheVariants.{CommitErr, PeekErr}
-use Rattle.combine_repeat_turns.specs.declared.turns.Bounds.{Bounds}
-use Rattle.combine_repeat_turns.specs.declared.turns.TurnIndex.{TurnIndex}
+use Rattle.combine_repeat_turns.specs.declared.bounds.Bounds.{Bounds}
+use Rattle.combine_repeat_turns.specs.declared.bounds.TurnIndex.{TurnIndex}
 use Rattle.combine_repeat_turns.specs.declared.turns.TurnStep.{TurnStep}
 use Rattle.combine_repeat_turns.specs.declared.turns.TurnStep.TheVariants as steps
 use Rattle.combine_repeat_turns.specs.declared.turns.TurnStop.{TurnStop}
@@ -42,11 +42,11 @@ module _ {P T R A V S E : Type 0} (w : World P T S E) (b : Bounds) (ending : A �
     -- the turn's value ends the turns
     EndedByValue : (turn : A × Bool) (accepts : Accepts w m r turn.0 turn.1) (ends : ending turn.0 ≡ true) (turns : new ≡ record { into = old.into; committed = old.committed || turn.1; index = old.index }) → AreTurnsOver new
     -- the turn is refused peeked and put back
-    EndedByRefusal : (there : enough b old.index ≡ true) (refused : Refuses w m r false) (view : r.new ≡ r.old) (turns : new ≡ old) → AreTurnsOver new
+    EndedByRefusal : (there : is_enough b old.index ≡ true) (refused : Refuses w m r false) (view : r.new ≡ r.old) (turns : new ≡ old) → AreTurnsOver new
 
   -- a turn that is missing is refused peeked
   pub record IsTurnRefused (new : TurnProgress V) (t : Tracked E) : Type 0 where
-    pub missing : enough b old.index ≡ false
+    pub missing : is_enough b old.index ≡ false
     pub answers : Answers w m r (PeekErr t)
     pub turns : new ≡ old
 
@@ -98,7 +98,7 @@ then_left r now after = record { first = r.first; state = r.state; left = r.left
 pub record IsGathered {A V Held : Type 0} (held : V → Held) (more : Held → A → Held → Type 0) (old : TurnProgress V) (value : A) (most : ℕ) (new : TurnProgress V) : Type 0 where
   pub more_held : more (held old.into) value (held new.into)
   pub committed : new.committed ≡ old.committed
-  pub index : new.index ≡ record { number = counted_to most old.index.number; begun = false }
+  pub index : new.index ≡ record { number = counted_to most old.index.number; took_before = false }
 
 -- what turns answer that stop so
 abbrev pub stopped_answer : {V E : Type 0} → TurnStop V E → ParseResult V E

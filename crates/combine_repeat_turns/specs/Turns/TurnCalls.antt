@@ -14,9 +14,9 @@ use Rattle.combine_repeat_turns.specs.Turns.FirstTurn.{FirstTurn}
 use Rattle.combine_repeat_turns.specs.Turns.OneTurn.{TurnDid, CallEndedAt, turns_halted, then_left}
 use Rattle.combine_repeat_turns.specs.Turns.Turn.{Start}
 use Rattle.combine_repeat_turns.specs.Turns.Blocks.{Collecting, TurnsSoFar}
-use Rattle.combine_repeat_turns.specs.declared.turns.Bounds.{Bounds}
+use Rattle.combine_repeat_turns.specs.declared.bounds.Bounds.{Bounds}
 use Rattle.combine_repeat_turns.specs.declared.turns.FirstStep.{FirstStep}
-use Rattle.combine_repeat_turns.specs.declared.turns.TurnIndex.{TurnIndex}
+use Rattle.combine_repeat_turns.specs.declared.bounds.TurnIndex.{TurnIndex}
 use Rattle.combine_repeat_turns.specs.declared.turns.TurnStep.{TurnStep}
 use Rattle.combine_repeat_turns.specs.declared.turns.TurnStop.{TurnStop}
 use Rattle.combine_repeat_turns.specs.declared.turns.TurnProgress.{TurnProgress}

@@ -22,7 +22,7 @@ where
     ensures { CountOrSkip Input.step Input.Error.observers (appended F.held F.none F.more F.heapless) (P.meaning parser.now) min max }
 {}
 
-/// The law that the parser of `count_min_max` means at least and at most so many turns; that of `count` at least none.
+/// The law that the parser of `count_min_max` means at least `min` and at most `max` turns, and that of `count` at least none.
 pub fn count_min_max_is_turns<F, Input: Stream, P: Parser<Input>>(parser: &CountMinMax<F, P>)
 where
     F: Append<P::Output>,

@@ -1,6 +1,7 @@
 -- ranges of tokens, which are measured in items, what the calls of a stream that hands them out promise, and facts on measured lists
 use Rattle.std.specs.Prelude.{ℕ, zero, suc, ◌+◌, ◌<◌, ◌≤◌, ◌≡◌, List, [], ◌∷◌, Bool, true, false, take, length, Result, Ok, Err, ◌++◌, drop, refl}
 use Rattle.combine_base.specs.Stream.View.{View, Takes}
+use Rattle.combine_base.specs.Predicates.{IsPredicate}
 use Rattle.combine_base.specs.declared.stream.Kind.{Kind}
 use Rattle.combine_base.specs.declared.stream.Kind.TheVariants as kinds
 use Rattle.combine_base.specs.declared.stream.Failures.{Failures}
@@ -156,16 +157,12 @@ module _ {T : Type 0} (size : T → ℕ) where
     place_at_zero us k p = one_place filled us 0 k 0 p (record { within = omega arith; items = refl })
 
 module _ {T : Type 0} (f : T → Bool → Type 0) where
-  -- a test answers one thing
-  pub record IsPredicate : Type 0 where
-    pub one : (t : T) → f t true → f t false → ⊥
-
   pub longest_within : (us : List T) (k : ℕ) → Longest f us k → k ≤ length us
   longest_within [] k p = omega arith
   longest_within (t ∷ us) zero p = omega arith
   longest_within (t ∷ us) (suc k) p = let a = longest_within us k p.1 in omega arith
 
-  pub one_longest : IsPredicate → (us : List T) (j k : ℕ) → Longest f us j → Longest f us k → j ≡ k
+  pub one_longest : IsPredicate f → (us : List T) (j k : ℕ) → Longest f us j → Longest f us k → j ≡ k
   one_longest h [] j k p q = p ∙ sym q
   one_longest h (t ∷ us) zero zero p q = refl
   one_longest h (t ∷ us) zero (suc k) p q = absurd (h.one t q.0 p)

@@ -431,7 +431,7 @@ fn place_within(text: &str, to: usize, rest: &str) -> usize
     to.saturating_sub(rest.len())
 }
 
-// Returns how many characters of a text stand before a place, where so many stand before an earlier one.
+// Returns how many characters of a text stand before a place, from how many stand before an earlier one.
 #[inline]
 fn count_on(text: &str, to: usize, from: usize, before: usize) -> usize
     requires from { IsCharBoundary text.now from }

@@ -37,7 +37,7 @@ pub returns-in_err-answer-clause-runs : goal.returns-in_err-answer-clause-runs
 returns-in_err-answer-clause-runs g c =
     let law = (g.met.P.Parser.laws _ c.requires.lawful).whole in
     let fit = fits_in_tokens _ _ _ _ (g.met.S.Windowed.rises c.args.whole) c.requires.fit in
-    let p = window_same _ _ _ _ _ _ _ _ _ _ _ _ _ _ _ _ c.loop-cut.invariant.same c.parse_window-next.ensures.parses in
+    let p = window_same c.loop-cut.invariant.same c.parse_window-next.ensures.parses in
     let e = err_from_is_err_and c.from_residual.result c.from_residual.ensures.1 in
     rw (e.1, e.2) (stops_by _ _ _ _ _ _ _ law fit _ _ _ c.loop-cut.invariant.so_far c.loop-cut-test.true _ _ _ _ _ _ _ c.in_err-answer.was p)
 
@@ -45,7 +45,7 @@ pub returns-in_default : goal.returns-in_default
 returns-in_default g c =
     let law = (g.met.P.Parser.laws _ c.requires.lawful).whole in
     let fit = fits_in_tokens _ _ _ _ (g.met.S.Windowed.rises c.args.whole) c.requires.fit in
-    let p = window_same _ _ _ _ _ _ _ _ _ _ _ _ _ _ _ _ c.loop-cut.invariant.same c.parse_window-next.ensures.parses in
+    let p = window_same c.loop-cut.invariant.same c.parse_window-next.ensures.parses in
     record {
       lawful = c.parse_window-next.ensures.lawful;
       same = same_more _ _ _ c.loop-cut.invariant.same c.parse_window-next.ensures.same;
@@ -57,7 +57,7 @@ pub loop-cut-preserved : goal.loop-cut-preserved
 loop-cut-preserved g c =
     let law = (g.met.P.Parser.laws _ c.requires.lawful).whole in
     let fit = fits_in_tokens _ _ _ _ (g.met.S.Windowed.rises c.args.whole) c.requires.fit in
-    let p = window_same _ _ _ _ _ _ _ _ _ _ _ _ _ _ _ _ c.loop-cut.invariant.same c.parse_window-next.ensures.parses in
+    let p = window_same c.loop-cut.invariant.same c.parse_window-next.ensures.parses in
     record {
       lawful = c.parse_window-next.ensures.lawful;
       valid = c.parse_window-next.ensures.valid;
@@ -86,7 +86,7 @@ pub returns-in_err-parsed-clause-runs : goal.returns-in_err-parsed-clause-runs
 returns-in_err-parsed-clause-runs g c =
     let law = (g.met.P.Parser.laws _ c.requires.lawful).whole in
     let fit = fits_in_tokens _ _ _ _ (g.met.S.Windowed.rises c.args.whole) c.requires.fit in
-    let p = window_same _ _ _ _ _ _ _ _ _ _ _ _ _ _ _ _ c.loop-cut.invariant.same c.parse_window-run.ensures.parses in
+    let p = window_same c.loop-cut.invariant.same c.parse_window-run.ensures.parses in
     let e = err_from_is_err_and c.from_residual-in_err-parsed.result c.from_residual-in_err-parsed.ensures.1 in
     rw (e.1, e.2) (ends_by _ _ _ _ _ _ _ law fit _ _ c.loop-cut.cut-index (omega arith) c.loop-cut.invariant.so_far _ _ _ _ _ _ _ c.in_err-parsed.was (rw c.end-end.ensures.all at p))
 
@@ -94,7 +94,7 @@ pub returns-clause-runs : goal.returns-clause-runs
 returns-clause-runs g c =
     let law = (g.met.P.Parser.laws _ c.requires.lawful).whole in
     let fit = fits_in_tokens _ _ _ _ (g.met.S.Windowed.rises c.args.whole) c.requires.fit in
-    let p = window_same _ _ _ _ _ _ _ _ _ _ _ _ _ _ _ _ c.loop-cut.invariant.same c.parse_window-run.ensures.parses in
+    let p = window_same c.loop-cut.invariant.same c.parse_window-run.ensures.parses in
     let all : c.loop-cut.cut-index ≡ length c.args.cuts.now = omega arith in
     decided_after_cuts _ _ _ _ _ _ _ law fit _ _ c.loop-cut.cut-index (omega arith) c.loop-cut.invariant.so_far _ _ _ _ _ all c.loop-cut.asked c.loop-cut.invariant.asked _ _ c.in_ok-parsed.was (rw c.end-end.ensures.all at p)
 

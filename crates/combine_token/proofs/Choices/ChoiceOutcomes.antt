@@ -35,10 +35,6 @@ module _ {P T R E V S : Type 0} (fresh valid : S → Type 0) (m : Meaning P T R 
   begun_rest true s d v o p = (h.start s v o (d refl)).1 p
   begun_rest false s d v o p = p
 
-  pub begun_reads : (first : Bool) (s : S) → valid s → IsReading (begun m first s)
-  begun_reads true s k = h.whole
-  begun_reads false s k = h.rest s k
-
 module _ {P T R V S S' E : Type 0} (w : World P T S E) (fresh : S' → Type 0) (m : Meaning P T R E V S) (q : Reading P T V) (m' : Meaning P T R E V S') where
   -- a choice that began so tries an alternative so, with the stream where the choice began; q is what the later alternatives mean
   pub record Tries (first : Bool) (state : S) (now : View P T) (so_far : Failures) (began : Bool) (given : S') (old : View P T) (before : Failures) : Type 0 where

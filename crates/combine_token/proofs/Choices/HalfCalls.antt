@@ -72,7 +72,7 @@ module _ {P T R V S S' E : Type 0} (step : P → T → P) (errors : Observers T 
         lawful = (t.lawful, f.called.lawful);
         valid = gone_valid step errors counts_failures cmp h k first given old before none now so_far kept f.stopped new.is_open left refused t.turned.is f.answer result f.settled f.called.valid;
         same = or_means_same errors cmp a a' b b' t.same f.called.same;
-        passes = passes_more x y z before so_far after t.passes f.called.passes;
+        passes = passes_more t.passes f.called.passes;
         answers = gone_answers step errors counts_failures cmp h k first given old before none now so_far kept f.stopped new after left t.passes refused t.turned.is f.answer result f.called.answers f.settled;
         refuses = gone_says kept refused t.turned.is new after f.stopped left f.answer result f.called.answers f.called.refuses f.settled;
       }
@@ -92,7 +92,7 @@ pub tried : {P T R V S S' E C : Type 0} (step : P → T → P) (errors : Observe
 tried step errors counts_failures {fresh} {valid} later {a} {a'} {law} {x} {y} {z} first given left s stopped old mid new before middle after stands b h answer call back p turn g = record {
   lawful = call.lawful;
   same = call.same;
-  passes = passes_more x y z before middle after call.passes p;
+  passes = passes_more call.passes p;
   turned = first_turn.first_did_so (world step errors counts_failures fresh) later valid a first given s stopped old mid before middle b h call.valid stands back call.passes.resets left new after answer turn call.answers call.refuses g;
 }
 

@@ -5,7 +5,7 @@ use Rattle.std.specs.declared.cmp.Ordering.{Ordering}
 use Rattle.combine_base.specs.Stream.View.{View, extended}
 use Rattle.combine_base.specs.Parser.Outcome.{Outcome}
 use Rattle.combine_base.specs.Error.Errors.{Observers}
-use Rattle.combine_base.specs.Parser.Meaning.{Meaning, Reading, IsMeaning, begun}
+use Rattle.combine_base.specs.Parser.Meaning.{Meaning, Reading, IsMeaning, begun, begun_reads}
 use Rattle.combine_base.specs.Parser.Answer.{CallRecord, World, Answers, world}
 use Rattle.combine_base.specs.Stream.Calls.{Passes}
 use Rattle.combine_base.proofs.Errors.CallErrors.{unreset}
@@ -15,7 +15,7 @@ use Rattle.combine_base.specs.declared.error.ParseResult.{ParseResult}
 use Rattle.combine_base.specs.declared.error.ParseResult.TheVariants.{CommitOk, PeekOk, CommitErr, PeekErr}
 use Rattle.combine_token.specs.Choice.Choices.{OrElse, refused, either_into}
 use Rattle.combine_token.specs.Choice.Or.{either_of, or_valid}
-use Rattle.combine_token.proofs.Choices.ChoiceOutcomes.{Tries, tries_next, tries_commit_ok, tries_peek_ok, tries_fails, tries_asks, tries_ends, tries_needs, begun_reads}
+use Rattle.combine_token.proofs.Choices.ChoiceOutcomes.{Tries, tries_next, tries_commit_ok, tries_peek_ok, tries_fails, tries_asks, tries_ends, tries_needs}
 use Rattle.combine_token.proofs.Choices.MergedRefusals.{no_fault, merged_answers}
 use Rattle.combine_token.specs.declared.choice.OrState.{OrState}
 use Rattle.combine_token.specs.declared.choice.OrState.TheVariants.{Peek, A, B}

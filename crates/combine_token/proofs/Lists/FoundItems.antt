@@ -49,7 +49,7 @@ module _ {I A : Type 0} (steps : I → Option A → I → Type 0) where
     expects_one_more s t u x old now new h i a = record {
       items = h.items ++ x ∷ [];
       yields = yields_more steps h.items s t u x h.yields i;
-      says = says_as e (Unit {0} × Unit {0}) (Unit {0}) (λ l. (l, l)) (Together (so_far h.items) (Only (Expected (OfToken x)))) (so_far (h.items ++ x ∷ [])) (one_more h.items x) old new (says_together e (Unit {0}) (Unit {0}) (so_far h.items) (Only (Expected (OfToken x))) old now new h.says a);
+      says = says_as e (Unit {0} × Unit {0}) (Unit {0}) (λ l. (l, l)) (Together (so_far h.items) (Only (Expected (OfToken x)))) (so_far (h.items ++ x ∷ [])) (one_more h.items x) old new (says_together h.says a);
     }
 
     pub expects_all : (s t u : I) (old now : E) → ExpectsSoFar s t old now → steps t None u → AddsItems e (Unit {0}) (ExpectsEach steps s) old now

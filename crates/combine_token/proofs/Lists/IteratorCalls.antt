@@ -14,18 +14,18 @@ module _ {I A : Type 0} (steps : I → Option A → I → Type 0) where
   pub gave_more : (k : ℕ) (s t u : I) (x : A) → Gave steps k s t → steps t (Some x) u → Gave steps (k + 1) s u
   gave_more k s t u x h i = record { items = h.items ++ x ∷ []; yields = yields_more h.items s t u x h.yields i; long = let l = h.long in omega (arith, length-append h.items (x ∷ [])) }
 
-module _ {L I A : Type 0} (clones : L → L → Type 0) (makes : L → I → Type 0) (steps : I → Option A → I → Type 0) (list : L) where
-  pub iterator_after : (k : ℕ) (clone : L) (s t : I) → clones list clone → makes clone s → Gave steps k s t → IsIteratorAfter clones makes steps list k t
-  iterator_after k clone s t i j h = record { clone = clone; is_clone = i; start = s; made = j; gave = h }
+module _ {L I A : Type 0} {clones : L → L → Type 0} {makes : L → I → Type 0} {steps : I → Option A → I → Type 0} {list : L} where
+  pub iterator_after : {k : ℕ} (clone : L) {s t : I} → clones list clone → makes clone s → Gave steps k s t → IsIteratorAfter clones makes steps list k t
+  iterator_after clone i j h = record { clone = clone; is_clone = i; start = _; made = j; gave = h }
 
-  pub reached_more : (k : ℕ) (t u : I) (x : A) → IsIteratorAfter clones makes steps list k t → steps t (Some x) u → IsIteratorAfter clones makes steps list (k + 1) u
-  reached_more k t u x h i = record { clone = h.clone; is_clone = h.is_clone; start = h.start; made = h.made; gave = gave_more steps k h.start t u x h.gave i }
+  pub reached_more : {k : ℕ} {t u : I} {x : A} → IsIteratorAfter clones makes steps list k t → steps t (Some x) u → IsIteratorAfter clones makes steps list (k + 1) u
+  reached_more {k} {t} {u} {x} h i = record { clone = h.clone; is_clone = h.is_clone; start = h.start; made = h.made; gave = gave_more steps k h.start t u x h.gave i }
 
-  pub stands_there : (k : ℕ) (t u : I) (x : A) → IsIteratorAfter clones makes steps list k t → steps t (Some x) u → IsItemAt clones makes steps list k x
-  stands_there k t u x h i = record { before = t; after = u; reached = h; gives = i }
+  pub stands_there : {k : ℕ} {t u : I} {x : A} → IsIteratorAfter clones makes steps list k t → steps t (Some x) u → IsItemAt clones makes steps list k x
+  stands_there h i = record { before = _; after = _; reached = h; gives = i }
 
-  pub list_ends : (k : ℕ) (t u : I) → IsIteratorAfter clones makes steps list k t → steps t None u → EndsAfter clones makes steps list k
-  list_ends k t u h i = record { before = t; after = u; reached = h; gives = i }
+  pub list_ends : {k : ℕ} {t u : I} → IsIteratorAfter clones makes steps list k t → steps t None u → EndsAfter clones makes steps list k
+  list_ends h i = record { before = _; after = _; reached = h; gives = i }
 
-  pub list_ends_early : (k : ℕ) (clone : L) (s : I) → clones list clone → makes clone s → GaveAll steps k s → EndsAfter clones makes steps list k
-  list_ends_early k clone s i j h = list_ends k h.last h.end (iterator_after k clone s h.last i j h.gave) h.none
+  pub list_ends_early : {k : ℕ} (clone : L) {s : I} → clones list clone → makes clone s → GaveAll steps k s → EndsAfter clones makes steps list k
+  list_ends_early clone i j h = list_ends (iterator_after clone i j h.gave) h.none

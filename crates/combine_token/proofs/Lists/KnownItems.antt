@@ -4,9 +4,9 @@ use Rattle.std.specs.List.{list_any}
 use Rattle.std.specs.Iterator.{Yields, AlwaysYields}
 use Rattle.std.proofs.lemmas.List.Folds.{list_any_none}
 use Rattle.combine_base.specs.Error.Items.{ErrorItem}
+use Rattle.combine_base.specs.Predicates.{IsPredicate}
 use Rattle.combine_token.specs.Token.Among.{among, expected_tokens, expects_each, finds_among}
 use Rattle.combine_token.specs.Token.Lists.KnownLists.{ListGives}
-use Rattle.combine_token.specs.Token.OneToken.{IsPredicate}
 
 or_true : (b c : Bool) → c ≡ true → (b || c) ≡ true
 or_true true c e = refl

@@ -3,7 +3,7 @@ use Rattle.std.specs.Prelude.{◌≡◌, List, map, Bool, true, false, not, Opti
 use Rattle.std.specs.List.{All}
 use Rattle.std.specs.Iterator.{Yields, Count, IsFinite}
 use Rattle.combine_base.specs.Error.Items.{ErrorItem, Expected, OfToken}
-use Rattle.combine_token.specs.Token.OneToken.{IsPredicate}
+use Rattle.combine_base.specs.Predicates.{IsPredicate}
 
 -- each of these tokens, expected
 abbrev pub expected_tokens : {A R : Type 0} → List A → List (ErrorItem A R)

@@ -7,6 +7,7 @@ use Rattle.combine_base.specs.Error.Errors.{Observers, AddsNothing}
 use Rattle.combine_base.specs.Parser.Outcome.{Outcome, Accepted, Refused, Undecided, IsDecided, shape}
 use Rattle.combine_base.specs.Parser.Meaning.{Meaning, Reading, IsReading, IsSingle, IsMeaning, MeansOne}
 use Rattle.combine_base.specs.Parser.Answer.{World, Answers}
+use Rattle.combine_base.specs.Predicates.{IsPredicate}
 use Rattle.combine_base.specs.declared.stream.Failures.{Failures}
 use Rattle.combine_base.specs.declared.error.ParseResult.{ParseResult}
 use Rattle.combine_base.specs.declared.error.ParseResult.TheVariants.{CommitOk, PeekOk, CommitErr, PeekErr}
@@ -16,10 +17,6 @@ use Rattle.combine_token.specs.Token.Stateless.{never_refused, stateless, statel
 -- nothing is both accepted and refused
 pub record IsTest {I B : Type 0} (f : I → Option B → Type 0) : Type 0 where
   pub one : (i : I) (b : B) → f i (Some b) → f i None → ⊥
-
--- no token is one that a predicate both holds of and doesn't
-pub record IsPredicate {T : Type 0} (p : T → Bool → Type 0) : Type 0 where
-  pub one : (t : T) → p t true → p t false → ⊥
 
 -- a predicate that is a function
 abbrev pub of_function : {T : Type 0} → (T → Bool) → T → Bool → Type 0

@@ -2,7 +2,8 @@
 ghost use Rattle.std.specs.Prelude.{◌≡◌, codes, true};
 ghost use Rattle.combine_base.specs.Error.Errors.{AddsNothing, Only};
 ghost use Rattle.combine_base.specs.Error.Items.{Expected, Fixed, OfToken};
-ghost use Rattle.combine_token.specs.Token.OneToken.{IsPredicate, IsTest, ends_there, ends_there_is_test, of_function, of_function_is_predicate, of_token, of_token_is_test, satisfied, satisfied_is_test, takes_one, takes_one_is_meaning, takes_one_means_one};
+ghost use Rattle.combine_base.specs.Predicates.{IsPredicate};
+ghost use Rattle.combine_token.specs.Token.OneToken.{IsTest, ends_there, ends_there_is_test, of_function, of_function_is_predicate, of_token, of_token_is_test, satisfied, satisfied_is_test, takes_one, takes_one_is_meaning, takes_one_means_one};
 ghost use Rattle.combine_token.specs.Token.PureValues.{given_meaning, gives_is_meaning, gives_means_one};
 
 pub use crate::token::among::types::{NoneOf, OneOf};

@@ -21,7 +21,7 @@ tokens-preserved g c =
     let i = c.tokens.invariant in
     let u = c.in_ok-uncons.ensures.read.is in
     record {
-      passes = passes_more _ _ _ _ _ _ i.passes c.uncons.ensures.passes;
+      passes = passes_more i.passes c.uncons.ensures.passes;
       taken = takes_more _ _ _ _ _ _ i.taken (takes_one_token _ _ _ _ _ _ _ u);
       short = i.short;
       failures = λ s. u.failures s ∙ i.failures s;

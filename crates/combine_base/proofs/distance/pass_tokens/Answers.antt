@@ -14,7 +14,7 @@ pub tokens-preserved : goal.tokens-preserved
 tokens-preserved g c =
     let t = c.in_ok-uncons.ensures.read.is in
     record {
-      passes = passes_more _ _ _ _ _ _ c.tokens.invariant.passes c.uncons.ensures.passes;
+      passes = passes_more c.tokens.invariant.passes c.uncons.ensures.passes;
       taken = takes_more _ _ _ _ _ _ c.tokens.invariant.taken (takes_one_token _ _ _ _ _ _ _ t);
       failures = λ s. t.failures s ∙ c.tokens.invariant.failures s;
     }

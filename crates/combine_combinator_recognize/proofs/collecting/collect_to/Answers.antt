@@ -18,7 +18,7 @@ tokens-init g c = record {
 }
 
 pub returns-in_err-token-clause-passes : goal.returns-in_err-token-clause-passes
-returns-in_err-token-clause-passes g c = passes_more _ _ _ _ _ _ c.tokens.invariant.passes c.uncons.ensures.passes
+returns-in_err-token-clause-passes g c = passes_more c.tokens.invariant.passes c.uncons.ensures.passes
 
 pub returns-in_err-token-clause-collects : goal.returns-in_err-token-clause-collects
 returns-in_err-token-clause-collects g c n v t e =
@@ -32,7 +32,7 @@ returns-in_err-token-clause-collects g c n v t e =
     rw (p.1, p.2) (collect_stopped _ _ _ _ _ _ _ _ (g.Input.StreamOnce.view c.uncons.new.self) _ _ (g.Input.StreamOnce.failures c.uncons.new.self) _ i.taken i.passes.reads n k t.enough _ c.in_err-token.ensures.read.is)
 
 pub returns-in-Err-clause-passes : goal.returns-in-Err-clause-passes
-returns-in-Err-clause-passes g c = passes_more _ _ _ _ _ _ c.tokens.invariant.passes c.uncons.ensures.passes
+returns-in-Err-clause-passes g c = passes_more c.tokens.invariant.passes c.uncons.ensures.passes
 
 pub returns-in-Err-clause-collects : goal.returns-in-Err-clause-collects
 returns-in-Err-clause-collects g c n v t e =
@@ -45,7 +45,7 @@ tokens-preserved g c =
     let i = c.tokens.invariant in
     let u = c.in_ok-token.ensures.read.is in
     record {
-      passes = passes_more _ _ _ _ _ _ i.passes c.uncons.ensures.passes;
+      passes = passes_more i.passes c.uncons.ensures.passes;
       count = i.count + 1;
       taken = takes_more _ _ _ _ _ _ i.taken (takes_one_token _ _ _ _ _ _ _ u);
       held = c.in_default.ensures ∙ ap (λ h. g.F.Append.more h c.in_ok-token.token) i.held ∙ one_more_collected g.F.Append.more (g.F.Append.held c.args.into) i.count (g.Input.StreamOnce.view c.args.input.now).unread (g.Input.StreamOnce.view c.uncons.new.self).unread c.in_ok-token.token (sym (ap (λ (v : View _ _). v.unread) i.taken.rest) ∙ u.unread);

@@ -1,6 +1,6 @@
 use Rattle.std.proofs.Common.{sym, ◌∙◌, ap}
-use Rattle.combine_range.specs.KeptDistance.{losing}
 use Rattle.combine_range.proofs.kept_distance.not_passed.Goals as goal
+use Rattle.combine_base.specs.Distances.{losing}
 
 pub returns-in-End-clause-answers : goal.returns-in-End-clause-answers
 returns-in-End-clause-answers g c = record { is = (c.new_error-in-End.ensures.kind ∙ sym (ap losing c.in-End.is), λ h. let i = c.in-End.is in cc) }

@@ -10,12 +10,12 @@ returns-in-PeekErr g c =
     let call = c.parse_mode.ensures in
     let n = c.in_default.ensures.to.is in
     let e = n.0 _ (g.met.Input.ResetStream.lasts _ _ _ _ call.passes.marks c.checkpoint-checkpoint.ensures.stands) in
-    record { lawful = call.lawful; valid = call.valid; same = call.same; passes = passes_more _ _ _ _ _ _ call.passes c.in_default.ensures.passes; turned = record { is = record { refused = turn_put_back _ _ _ _ _ _ _ _ _ _ _ _ c.in-PeekErr.ensures.answers e n.1; view = e } } }
+    record { lawful = call.lawful; valid = call.valid; same = call.same; passes = passes_more call.passes c.in_default.ensures.passes; turned = record { is = record { refused = turn_put_back c.in-PeekErr.ensures.answers e n.1; view = e } } }
 
 pub returns-in-Err : goal.returns-in-Err
 returns-in-Err g c =
     let call = c.parse_mode.ensures in
-    record { lawful = call.lawful; valid = call.valid; same = call.same; passes = passes_more _ _ _ _ _ _ call.passes c.in-Err.ensures.passes; turned = record { is = iter_turn_not_put_back _ _ _ _ _ _ _ _ _ _ _ _ c.in-PeekErr.ensures.answers _ c.in-Err.ensures.to.is call.passes.resets _ c.new_error.ensures.kind } }
+    record { lawful = call.lawful; valid = call.valid; same = call.same; passes = passes_more call.passes c.in-Err.ensures.passes; turned = record { is = iter_turn_not_put_back c.in-PeekErr.ensures.answers _ c.in-Err.ensures.to.is call.passes.resets _ c.new_error.ensures.kind } }
 
 pub returns-in-CommitErr : goal.returns-in-CommitErr
 returns-in-CommitErr g c =
@@ -27,8 +27,8 @@ returns-then-not-is_block g c =
     let call = c.parse_mode.ensures in
     let since = g.met.Input.ResetStream.lasts _ _ _ _ call.passes.marks c.checkpoint-checkpoint.ensures.stands in
     elim c.match-parse_mode.branch [
-      | in-CommitOk w ↦ record { lawful = call.lawful; valid = call.valid; same = call.same; passes = call.passes; turned = record { is = TakesNothing _ _ (iter_turn_judged_by _ _ _ _ _ _ _ _ w.value-is w.in-CommitOk.ensures.answers.is (λ n t. rw (← c.is_first.ensures) (c.is_block.ensures n _ since t)) c.if-not-is_block.true) c.refusal_saying.ensures.told } }
-      | in-PeekOk w ↦ record { lawful = call.lawful; valid = call.valid; same = call.same; passes = call.passes; turned = record { is = TakesNothing _ _ (iter_turn_judged_by _ _ _ _ _ _ _ _ w.value-is w.in-PeekOk.ensures.answers.is (λ n t. rw (← c.is_first.ensures) (c.is_block.ensures n _ since t)) c.if-not-is_block.true) c.refusal_saying.ensures.told } }
+      | in-CommitOk w ↦ record { lawful = call.lawful; valid = call.valid; same = call.same; passes = call.passes; turned = record { is = TakesNothing _ _ (iter_turn_judged_by w.value-is w.in-CommitOk.ensures.answers.is (λ n t. rw (← c.is_first.ensures) (c.is_block.ensures n _ since t)) c.if-not-is_block.true) c.refusal_saying.ensures.told } }
+      | in-PeekOk w ↦ record { lawful = call.lawful; valid = call.valid; same = call.same; passes = call.passes; turned = record { is = TakesNothing _ _ (iter_turn_judged_by w.value-is w.in-PeekOk.ensures.answers.is (λ n t. rw (← c.is_first.ensures) (c.is_block.ensures n _ since t)) c.if-not-is_block.true) c.refusal_saying.ensures.told } }
     ]
 
 pub returns : goal.returns
@@ -36,6 +36,6 @@ returns g c =
     let call = c.parse_mode.ensures in
     let since = g.met.Input.ResetStream.lasts _ _ _ _ call.passes.marks c.checkpoint-checkpoint.ensures.stands in
     elim c.match-parse_mode.branch [
-      | in-CommitOk w ↦ record { lawful = call.lawful; valid = call.valid; same = call.same; passes = call.passes; turned = record { is = block_commits _ _ _ _ _ (iter_turn_judged_by _ _ _ _ _ _ _ _ w.value-is w.in-CommitOk.ensures.answers.is (λ n t. rw (← c.is_first.ensures) (c.is_block.ensures n _ since t)) c.if-not-is_block.false) } }
-      | in-PeekOk w ↦ record { lawful = call.lawful; valid = call.valid; same = call.same; passes = call.passes; turned = record { is = block_commits _ _ _ _ _ (iter_turn_judged_by _ _ _ _ _ _ _ _ w.value-is w.in-PeekOk.ensures.answers.is (λ n t. rw (← c.is_first.ensures) (c.is_block.ensures n _ since t)) c.if-not-is_block.false) } }
+      | in-CommitOk w ↦ record { lawful = call.lawful; valid = call.valid; same = call.same; passes = call.passes; turned = record { is = block_commits _ (iter_turn_judged_by w.value-is w.in-CommitOk.ensures.answers.is (λ n t. rw (← c.is_first.ensures) (c.is_block.ensures n _ since t)) c.if-not-is_block.false) } }
+      | in-PeekOk w ↦ record { lawful = call.lawful; valid = call.valid; same = call.same; passes = call.passes; turned = record { is = block_commits _ (iter_turn_judged_by w.value-is w.in-PeekOk.ensures.answers.is (λ n t. rw (← c.is_first.ensures) (c.is_block.ensures n _ since t)) c.if-not-is_block.false) } }
     ]

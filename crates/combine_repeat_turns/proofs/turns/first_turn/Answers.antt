@@ -18,15 +18,15 @@ returns-in-CommitErr-clause-turned g c = record { is = FirstInTurn (λ q. false�
 pub returns-in-Ok-clause-turned : goal.returns-in-Ok-clause-turned
 returns-in-Ok-clause-turned g c =
     elim c.match-parse_turn.branch [
-      | in-CommitOk w ↦ record { is = record { turn = c.match-parse_turn.value; accepts = accepts_by _ _ _ _ _ _ w.value-is w.in-CommitOk.ensures.answers.is; held = _; more = c.in-Ok.ensures; turns = refl } }
-      | in-PeekOk w ↦ record { is = record { turn = c.match-parse_turn.value; accepts = accepts_by _ _ _ _ _ _ w.value-is w.in-PeekOk.ensures.answers.is; held = _; more = c.in-Ok.ensures; turns = refl } }
+      | in-CommitOk w ↦ record { is = record { turn = c.match-parse_turn.value; accepts = accepts_by w.value-is w.in-CommitOk.ensures.answers.is; held = _; more = c.in-Ok.ensures; turns = refl } }
+      | in-PeekOk w ↦ record { is = record { turn = c.match-parse_turn.value; accepts = accepts_by w.value-is w.in-PeekOk.ensures.answers.is; held = _; more = c.in-Ok.ensures; turns = refl } }
     ]
 
 pub returns-in-Err-clause-turned : goal.returns-in-Err-clause-turned
 returns-in-Err-clause-turned g c =
     elim c.match-parse_turn.branch [
-      | in-CommitOk w ↦ record { is = FirstUnstored c.match-parse_turn.value (accepts_by _ _ _ _ _ _ w.value-is w.in-CommitOk.ensures.answers.is) c.new_error.ensures.kind c.in-Err.ensures }
-      | in-PeekOk w ↦ record { is = FirstUnstored c.match-parse_turn.value (accepts_by _ _ _ _ _ _ w.value-is w.in-PeekOk.ensures.answers.is) c.new_error.ensures.kind c.in-Err.ensures }
+      | in-CommitOk w ↦ record { is = FirstUnstored c.match-parse_turn.value (accepts_by w.value-is w.in-CommitOk.ensures.answers.is) c.new_error.ensures.kind c.in-Err.ensures }
+      | in-PeekOk w ↦ record { is = FirstUnstored c.match-parse_turn.value (accepts_by w.value-is w.in-PeekOk.ensures.answers.is) c.new_error.ensures.kind c.in-Err.ensures }
     ]
 
 pub returns-in-PeekErr-clause-refuses : goal.returns-in-PeekErr-clause-refuses

@@ -1,6 +1,6 @@
 use Rattle.std.proofs.Common.{true, false, refl, sym, ◌∙◌, None}
 use Rattle.combine_base.specs.Parser.Answer.{world}
-use Rattle.combine_repeat_turns.specs.declared.turns.Bounds.TheVariants.{OwnFirst}
+use Rattle.combine_repeat_turns.specs.declared.bounds.Bounds.TheVariants.{OwnFirst}
 use Rattle.combine_base.proofs.Parsers.SameMeanings.{passes_none, passes_more}
 use Rattle.combine_repeat_turns.specs.Turns.Bounds.{gathered, none_yet}
 use Rattle.combine_repeat_turns.proofs.OneTurn.{called_same, turned_same, turns_same_more}
@@ -111,7 +111,7 @@ turns-preserved g c =
       valid = c.one_turn-in-turns.ensures.valid;
       fresh = s.judged.accepts.state;
       same = turns_same_more _ _ _ _ _ _ i.same c.one_turn-in-turns.ensures.same;
-      passes = passes_more _ _ _ _ _ _ i.passes c.one_turn-in-turns.ensures.passes;
+      passes = passes_more i.passes c.one_turn-in-turns.ensures.passes;
       leads = leads_on (world g.Input.StreamOnce.step g.Input.Error.ParseError.observers g.Input.StreamOnce.counts_failures g.P.Running.Default.is_default) g.Input.Error.ParseError.observers (OwnFirst 1 None) g.P.TurnParser.ending (gathered g.G.Gather.held g.G.Gather.none g.G.Gather.more g.G.Gather.heapless) (none_yet g.G.Gather.none) (g.P.TurnParser.meaning c.args.parser.now) (g.P.TurnParser.again c.args.parser.now) true _ _ _ _ _ _ refl s i.leads;
       cleared = i.cleared;
       sound = goes_sound _ (gathered g.G.Gather.held g.G.Gather.none g.G.Gather.more g.G.Gather.heapless) g.G.Gather.able g.G.Gather.sound g.met.G.Gather.keeps_sound _ _ _ _ _ i.sound _ c.in-Goes-one_turn.ensures.turned.is (turn_able _ g.P.TurnParser.valid _ _ g.P.TurnParser.gives g.G.Gather.able (g.met.P.TurnParser.gives_only _ i.lawful) c.requires.able true _ i.valid _ _ c.in-Goes-one_turn.ensures.turned.is.judged.accepts);

@@ -1,5 +1,5 @@
 use Rattle.combine_repeat_turns.specs.declared.turns.Earlier.TheVariants.{Nothing}
-use Rattle.combine_repeat_turns.specs.declared.turns.Bounds.TheVariants.{OwnFirst}
+use Rattle.combine_repeat_turns.specs.declared.bounds.Bounds.TheVariants.{OwnFirst}
 use Rattle.std.proofs.Common.{◌≡◌, ◌+◌, length, true, None}
 use Rattle.combine_base.specs.Parser.Answer.{world}
 use Rattle.combine_base.specs.Stream.Calls.{Passes}

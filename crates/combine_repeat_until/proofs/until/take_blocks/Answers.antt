@@ -1,9 +1,10 @@
 use Rattle.std.proofs.Common.{ap, refl}
 use Rattle.combine_base.proofs.Parsers.SameMeanings.{passes_more, same_more, same_none}
 use Rattle.combine_repeat_until.proofs.UntilTurn.{blocks_shrink}
-use Rattle.combine_repeat_until.proofs.UntilCalls.{begun_reads, handed_valid, reaches_afresh, reaches_first_block, reaches_on, running_valid, turn_back, until_settled}
+use Rattle.combine_repeat_until.proofs.UntilCalls.{handed_valid, reaches_afresh, reaches_first_block, reaches_on, running_valid, turn_back, until_settled}
 use Rattle.combine_repeat_until.proofs.UntilErrors.{until_leads_first, until_leads_on, settled_reasons, short_reasons, stop_alike}
 use Rattle.combine_repeat_until.proofs.until.take_blocks.Goals as goal
+use Rattle.combine_base.specs.Parser.Meaning.{begun_reads}
 
 pub turns-init : goal.turns-init
 turns-init g c =
@@ -19,7 +20,7 @@ turns-init g c =
       passes = p;
       cleared = c.hand_out-before.ensures.left;
       there = (_, a.stood, z);
-      errors = until_leads_first _ _ _ _ h _ _ c.hand_out-before.result c.args.empty _ o (ap (λ b. b.begun) c.or_committed-blocks.ensures) _ _ _ a.first a.then;
+      errors = until_leads_first _ _ _ _ h _ _ c.hand_out-before.result c.args.empty _ o (ap (λ b. b.took_before) c.or_committed-blocks.ensures) _ _ _ a.first a.then;
     }
 
 pub turns-smaller : goal.turns-smaller
@@ -36,7 +37,7 @@ turns-preserved g c =
       lawful = c.in-Goes.ensures.lawful;
       valid = c.in-Goes.ensures.valid;
       same = same_more _ _ _ i.same c.in-Goes.ensures.same;
-      passes = passes_more _ _ _ _ _ _ i.passes q;
+      passes = passes_more i.passes q;
       cleared = i.cleared;
       there = (_, c.checkpoint-place.ensures.stands, reaches_afresh _ g.Input.Error.ParseError.observers _ _ g.N.PartialState.Default.is_default g.N.Parser.valid h _ _ _ _ _ _ _ _ _ _ t.is.accepts.state z);
       errors = until_leads_on _ _ _ _ h _ _ _ _ _ _ _ i.errors t.is.value t.is.accepts.count t.is.committed t.is.accepts.meant t.is.takes _ t.is.accepts.state _ t.is.accepts.taken.rest _ (ap (λ s. s.mark) t.is.blocks);
@@ -49,7 +50,7 @@ pub returns-in-Stops-clause-same : goal.returns-in-Stops-clause-same
 returns-in-Stops-clause-same g c = same_more _ _ _ c.turns.invariant.same c.in-Stops.ensures.same
 
 pub returns-in-Stops-clause-passes : goal.returns-in-Stops-clause-passes
-returns-in-Stops-clause-passes g c = passes_more _ _ _ _ _ _ c.turns.invariant.passes (passes_more _ _ _ _ _ _ c.in-Stops.ensures.passes c.settle_blocks.ensures.passes)
+returns-in-Stops-clause-passes g c = passes_more c.turns.invariant.passes (passes_more c.in-Stops.ensures.passes c.settle_blocks.ensures.passes)
 
 pub returns-in-Stops-clause-answers : goal.returns-in-Stops-clause-answers
 returns-in-Stops-clause-answers g c =

@@ -28,8 +28,8 @@ invariant-turns g l = record {
       (some_appended g.F.Append.held g.F.Append.none g.F.Append.more g.F.Append.heapless)
       (g.N.Parser.meaning l.fn.parser)
       (g.M.ParseMode.first l.fn.mode) l.fn.state (g.Input.StreamOnce.view l.fn.input)
-      (g.M.ParseMode.first l.fn.mode) l.running l.blocks.begun (g.Input.StreamOnce.view l.input);
+      (g.M.ParseMode.first l.fn.mode) l.running l.blocks.took_before (g.Input.StreamOnce.view l.input);
 }
 
 abbrev pub decreases-turns : goal.decreases-turns
-decreases-turns g l = length (g.Input.StreamOnce.view l.input).unread + (if l.blocks.begun then 1 else 0)
+decreases-turns g l = length (g.Input.StreamOnce.view l.input).unread + (if l.blocks.took_before then 1 else 0)

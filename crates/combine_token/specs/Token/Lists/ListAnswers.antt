@@ -4,7 +4,6 @@ use Rattle.combine_base.specs.Stream.View.{View, Moves}
 use Rattle.combine_base.specs.Error.Items.{ErrorItem, Unexpected, Expected, OfToken, shown}
 use Rattle.combine_base.specs.Error.Errors.{Observers, New, AddsItems}
 use Rattle.combine_base.specs.declared.error.Info.{Info}
-use Rattle.combine_base.specs.declared.error.Info.TheVariants as written
 use Rattle.combine_base.specs.declared.stream.Kind.{Kind}
 use Rattle.combine_base.specs.declared.stream.Kind.TheVariants as kinds
 use Rattle.combine_base.specs.declared.stream.Failures.{Failures}
@@ -32,14 +31,6 @@ module _ {P T V E : Type 0} (counts_failures : Type 0) (step : P → T → P) (k
   -- a peeked refusal with the stream put back, unless the reset failed
   pub record PutsBackList (result : ParseResult V E) : Type 0 where
     pub is : puts_back_list result
-
--- what copies without memory
-abbrev pub NoText : {T R : Type 0} → Info T R → Type 0
-NoText (written.Token t) = Unit {0}
-NoText (written.Range r) = Unit {0}
-NoText (written.Static s) = Unit {0}
-NoText (written.Owned s) = ⊥
-NoText (written.More n) = Unit {0}
 
 -- what was expected, if that is said
 abbrev pub expecting : {T R : Type 0} → Option (Info T R) → List (ErrorItem T R)

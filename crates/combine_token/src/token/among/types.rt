@@ -2,8 +2,9 @@
 ghost use Rattle.std.specs.Prelude.{◌≡◌, not};
 ghost use Rattle.std.specs.Iterator.{IsFinite};
 ghost use Rattle.combine_base.specs.Error.Errors.{AddsNothing};
+ghost use Rattle.combine_base.specs.Predicates.{IsPredicate};
 ghost use Rattle.combine_token.specs.Token.Among.{EndsAlways, FindsAmong, among, none_among, expects_each, not_is_predicate};
-ghost use Rattle.combine_token.specs.Token.OneToken.{IsPredicate, satisfied, satisfied_is_test, takes_one, takes_one_is_meaning, takes_one_means_one};
+ghost use Rattle.combine_token.specs.Token.OneToken.{satisfied, satisfied_is_test, takes_one, takes_one_is_meaning, takes_one_means_one};
 
 use crate::token::among::{expect_each, is_among};
 use crate::token::reading::token_if;

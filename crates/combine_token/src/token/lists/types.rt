@@ -1,8 +1,7 @@
 //! The parsers of lists of tokens, and their state.
-ghost use Rattle.std.specs.Prelude.{◌≡◌, not, if◌then◌else◌, MatchResult, None, Some};
+ghost use Rattle.std.specs.Prelude.{◌≡◌, not, if◌then◌else◌, None, Some};
 ghost use Rattle.combine_base.specs.Error.Errors.{AddsNothing, Only};
-ghost use Rattle.combine_base.specs.Error.Items.{Expected, shown};
-ghost use Rattle.combine_token.specs.Token.Lists.ListAnswers.{NoText};
+ghost use Rattle.combine_base.specs.Error.Items.{Expected, shown, NoText};
 ghost use Rattle.combine_token.specs.Token.Lists.TokenLists.{ComparesOnce};
 ghost use Rattle.combine_token.specs.Token.Lists.ListMeaning.{token_list, token_list_is_meaning, token_list_means_one};
 ghost use Rattle.combine_token.specs.Token.Lists.IteratedLists.{IsIterated, iterated_tokens, iterated_ends_once};
@@ -37,23 +36,10 @@ impl<C: Clone, A: Copy, R: Copy, T: Clone, Input> Clone for Tokens<C, Info<A, R>
     fn clone(&self) -> Result<Self, AllocError> {
         Ok(Tokens {
             cmp: self.cmp.clone()?,
-            expected: copied(&self.expected)?,
+            expected: self.expected.copied()?,
             tokens: self.tokens.clone()?,
             reads: PhantomData,
         })
-    }
-}
-
-/// Returns an equal info; the clone of a text takes memory.
-fn copied<T: Copy, R: Copy>(info: &Info<T, R>) -> Result<Info<T, R>, AllocError>
-    ensures { MatchResult result (λ i. shown i ≡ shown info.now) (λ _. NoText info.now → ⊥) }
-{
-    match info {
-        Info::Token(token) => Ok(Info::Token(*token)),
-        Info::Range(range) => Ok(Info::Range(*range)),
-        Info::Static(text) => Ok(Info::Static(*text)),
-        Info::Owned(text) => Ok(Info::Owned(text.clone()?)),
-        Info::More(missing) => Ok(Info::More(*missing)),
     }
 }
 

@@ -1,9 +1,10 @@
 use Rattle.std.proofs.Common.{sym, ◌∙◌}
 use Rattle.std.proofs.lemmas.Bool.{false≢true}
 use Rattle.combine_token.proofs.Tokens.Stateless.{stateless_reasons}
-use Rattle.bench_grammar.specs.Apart.{Anything, any_error}
+use Rattle.bench_grammar.specs.Apart.{Anything}
 use Rattle.bench_grammar.proofs.Again.{again, again_back, again_stuck}
 use Rattle.bench_grammar.proofs.outlined.OutlinedParser.parse_mode.Goals as goal
+use Rattle.combine_base.specs.Parser.Meaning.{any_error}
 
 pub returns-in-Ok-clause-answers : goal.returns-in-Ok-clause-answers
 returns-in-Ok-clause-answers g c =

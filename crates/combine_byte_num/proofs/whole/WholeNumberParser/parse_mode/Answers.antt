@@ -40,7 +40,7 @@ bytes-preserved g c =
     let l = length-take-le c.bytes.count (g.Input.StreamOnce.view c.args.input.now).unread i.taken.enough in
     let d = ap (λ v. v.unread) (sym i.taken.rest) ∙ t.unread in
     record {
-      passes = passes_more _ _ _ _ _ _ i.passes c.uncons.ensures.passes;
+      passes = passes_more i.passes c.uncons.ensures.passes;
       taken = takes_more _ _ _ _ _ _ i.taken (takes_one_token _ _ _ _ _ _ _ t);
       failures = λ s. t.failures s ∙ i.failures s;
       value = c.push-sum.ensures.value _ l i.value ∙ ap g.O.Order.number (sym (take_next _ _ _ _ d));

@@ -9,7 +9,7 @@ use Rattle.combine_repeat_turns.specs.Turns.Bounds.{bounded, none_yet}
 use Rattle.combine_repeat_turns.specs.Repeat.RepeatParsers.{count_min_max_of, repeat_min, repeat_max}
 use Rattle.combine_repeat_turns.specs.Repeat.Repeated.{appended, no_value_ends}
 use Rattle.combine_repeat_turns.specs.Turns.Blocks.{TurnsOutcome}
-use Rattle.combine_repeat_turns.specs.declared.turns.Bounds.TheVariants.{Counted}
+use Rattle.combine_repeat_turns.specs.declared.bounds.Bounds.TheVariants.{Counted}
 
 pub returns : goal.returns
 returns g c v o h =

@@ -21,7 +21,7 @@ returns-then-needs_more g c =
       answers = at_rest around _ _ (g.met.N.Parser.laws c.args.from.parser c.requires.ready.lawful) _ c.requires.starts _ c.in-CommitErr.ensures.answers;
       explained = explained_at_rest (g.met.N.Parser.laws c.args.from.parser c.requires.ready.lawful) c.requires.starts c.in-CommitErr.ensures.explained;
       did = refl;
-      keeps = inl (c.needs_more.ensures.0 c.if-needs_more.true, record { begun = _; is = refl; took = λ n t. c.has_taken.ensures n _ (g.met.Input.ResetStream.lasts _ _ _ _ call.passes.marks c.checkpoint-since.ensures.stands) t; valid = c.in-CommitErr.ensures.valid });
+      keeps = inl (c.needs_more.ensures.0 c.if-needs_more.true, record { took_before = _; is = refl; took = λ n t. c.has_taken.ensures n _ (g.met.Input.ResetStream.lasts _ _ _ _ call.passes.marks c.checkpoint-since.ensures.stands) t; valid = c.in-CommitErr.ensures.valid });
     }
 
 pub returns-in-CommitErr : goal.returns-in-CommitErr

@@ -18,7 +18,7 @@ returns-in-Err-clause-answers g c =
 
 pub returns-then-is_undecided_end-clause-answers : goal.returns-then-is_undecided_end-clause-answers
 returns-then-is_undecided_end-clause-answers g c =
-    let z = walked _ _ _ _ _ _ _ _ _ _ _ _ _ _ _ c.in_default.ensures.over c.in-Ok.ensures.read in
+    let z = walked c.in_default.ensures.over c.in-Ok.ensures.read in
     let stands = g.met.Input.ResetStream.lasts _ _ _ _ c.uncons_while.ensures.passes.marks (g.met.Input.ResetStream.lasts _ _ _ _ c.pass_items.ensures.passes.marks c.checkpoint-start.ensures.stands) in
     let o = c.is_undecided_end.ensures.0 c.if-is_undecided_end.true in
     let p = c.pass_items.ensures.passes in
@@ -27,7 +27,7 @@ returns-then-is_undecided_end-clause-answers g c =
 
 pub returns-then-distance-gt0-clause-answers : goal.returns-then-distance-gt0-clause-answers
 returns-then-distance-gt0-clause-answers g c =
-    let z = walked _ _ _ _ _ _ _ _ _ _ _ _ _ _ _ c.in_default.ensures.over c.in-Ok.ensures.read in
+    let z = walked c.in_default.ensures.over c.in-Ok.ensures.read in
     let stands = g.met.Input.ResetStream.lasts _ _ _ _ c.uncons_while.ensures.passes.marks (g.met.Input.ResetStream.lasts _ _ _ _ c.pass_items.ensures.passes.marks c.checkpoint-start.ensures.stands) in
     let b = some_before _ _ _ _ z.reaches.place (omega arith) in
     let i = z.reaches.count in
@@ -37,23 +37,23 @@ returns-then-distance-gt0-clause-answers g c =
 
 pub returns-then-len-gt0-clause-answers : goal.returns-then-len-gt0-clause-answers
 returns-then-len-gt0-clause-answers g c =
-    let z = walked _ _ _ _ _ _ _ _ _ _ _ _ _ _ _ c.in_default.ensures.over c.in-Ok.ensures.read in
-    let s = direct _ _ _ _ _ _ _ _ _ _ _ _ _ _ _ c.in_default.ensures.over c.in-Ok.ensures.read g.met.Input.RangeStream.filled (omega arith) in
-    let l = some_walked _ _ _ _ _ _ _ _ _ _ z _ s _ g.met.Input.RangeStream.measured (let a = c.len.ensures in omega arith) in
+    let z = walked c.in_default.ensures.over c.in-Ok.ensures.read in
+    let s = direct c.in_default.ensures.over c.in-Ok.ensures.read g.met.Input.RangeStream.filled (omega arith) in
+    let l = some_walked z _ s g.met.Input.RangeStream.measured (let a = c.len.ensures in omega arith) in
     beginning_commits _ _ g.met.Input.RangeStream.filled _ _ _ _ _ _ _ c.begin-distance.ensures.begun _ _ z (λ o n. false≢true (sym c.if-is_undecided_end.false ∙ c.is_undecided_end.ensures.1 (o, n))) _ s l z.taken c.begin-distance.ensures.left z.failures
 
 pub returns-then-some-clause-answers : goal.returns-then-some-clause-answers
 returns-then-some-clause-answers g c =
-    let z = walked _ _ _ _ _ _ _ _ _ _ _ _ _ _ _ c.in_default.ensures.over c.in-Ok.ensures.read in
-    let s = direct _ _ _ _ _ _ _ _ _ _ _ _ _ _ _ c.in_default.ensures.over c.in-Ok.ensures.read g.met.Input.RangeStream.filled (omega arith) in
-    let l = none_taken _ _ _ _ _ _ _ _ _ _ z _ s _ g.met.Input.RangeStream.measured g.met.Input.RangeStream.filled (let a = c.len.ensures in omega arith) in
+    let z = walked c.in_default.ensures.over c.in-Ok.ensures.read in
+    let s = direct c.in_default.ensures.over c.in-Ok.ensures.read g.met.Input.RangeStream.filled (omega arith) in
+    let l = none_taken z _ s g.met.Input.RangeStream.measured g.met.Input.RangeStream.filled (let a = c.len.ensures in omega arith) in
     beginning_refuses _ _ g.met.Input.RangeStream.filled _ _ _ _ _ _ _ c.begin-distance.ensures.begun _ _ z (λ o n. false≢true (sym c.if-is_undecided_end.false ∙ c.is_undecided_end.ensures.1 (o, n))) _ c.refused_here.ensures.answers l c.if-some.true z.taken c.begin-distance.ensures.left z.failures
 
 pub returns-else-some-clause-answers : goal.returns-else-some-clause-answers
 returns-else-some-clause-answers g c =
-    let z = walked _ _ _ _ _ _ _ _ _ _ _ _ _ _ _ c.in_default.ensures.over c.in-Ok.ensures.read in
-    let s = direct _ _ _ _ _ _ _ _ _ _ _ _ _ _ _ c.in_default.ensures.over c.in-Ok.ensures.read g.met.Input.RangeStream.filled (omega arith) in
-    let l = none_taken _ _ _ _ _ _ _ _ _ _ z _ s _ g.met.Input.RangeStream.measured g.met.Input.RangeStream.filled (let a = c.len.ensures in omega arith) in
+    let z = walked c.in_default.ensures.over c.in-Ok.ensures.read in
+    let s = direct c.in_default.ensures.over c.in-Ok.ensures.read g.met.Input.RangeStream.filled (omega arith) in
+    let l = none_taken z _ s g.met.Input.RangeStream.measured g.met.Input.RangeStream.filled (let a = c.len.ensures in omega arith) in
     beginning_peeks _ _ g.met.Input.RangeStream.filled _ _ _ _ _ _ _ c.begin-distance.ensures.begun _ _ z (λ o n. false≢true (sym c.if-is_undecided_end.false ∙ c.is_undecided_end.ensures.1 (o, n))) _ s l c.if-some.false z.taken c.begin-distance.ensures.left z.failures
 
 pub returns-in-Err-uncons_while-clause-answers : goal.returns-in-Err-uncons_while-clause-answers
@@ -77,25 +77,25 @@ returns-in-Err-clause-refuses g c =
 
 pub returns-then-is_undecided_end-clause-refuses : goal.returns-then-is_undecided_end-clause-refuses
 returns-then-is_undecided_end-clause-refuses g c =
-    let z = walked _ _ _ _ _ _ _ _ _ _ _ _ _ _ _ c.in_default.ensures.over c.in-Ok.ensures.read in
+    let z = walked c.in_default.ensures.over c.in-Ok.ensures.read in
     let stands = g.met.Input.ResetStream.lasts _ _ _ _ c.uncons_while.ensures.passes.marks (g.met.Input.ResetStream.lasts _ _ _ _ c.pass_items.ensures.passes.marks c.checkpoint-start.ensures.stands) in
     let o = c.is_undecided_end.ensures.0 c.if-is_undecided_end.true in
-    reasons_keeping _ _ _ _ _ _ _ _ _ _ _ _ _ (c.keep_distance.ensures.keeps _ z.count stands z.taken) (sym (takes_open _ z.count _ _ z.taken) ∙ o.0)
+    reasons_keeping _ _ (c.keep_distance.ensures.keeps _ z.count stands z.taken) (sym (takes_open _ z.count _ _ z.taken) ∙ o.0)
 
 pub returns-then-distance-gt0-clause-refuses : goal.returns-then-distance-gt0-clause-refuses
 returns-then-distance-gt0-clause-refuses g c =
-    let z = walked _ _ _ _ _ _ _ _ _ _ _ _ _ _ _ c.in_default.ensures.over c.in-Ok.ensures.read in
+    let z = walked c.in_default.ensures.over c.in-Ok.ensures.read in
     let stands = g.met.Input.ResetStream.lasts _ _ _ _ c.uncons_while.ensures.passes.marks (g.met.Input.ResetStream.lasts _ _ _ _ c.pass_items.ensures.passes.marks c.checkpoint-start.ensures.stands) in
-    reasons_handed _ _ _ _ _ _ _ _ _ _ _ _ (c.hand_out.ensures.hands _ z.count stands z.taken)
+    reasons_handed _ _ (c.hand_out.ensures.hands _ z.count stands z.taken)
 
 pub returns-then-len-gt0-clause-refuses : goal.returns-then-len-gt0-clause-refuses
 returns-then-len-gt0-clause-refuses g c = reasons_ok _ _ _ _
 
 pub returns-then-some-clause-refuses : goal.returns-then-some-clause-refuses
 returns-then-some-clause-refuses g c =
-    let z = walked _ _ _ _ _ _ _ _ _ _ _ _ _ _ _ c.in_default.ensures.over c.in-Ok.ensures.read in
-    let d = direct _ _ _ _ _ _ _ _ _ _ _ _ _ _ _ c.in_default.ensures.over c.in-Ok.ensures.read g.met.Input.RangeStream.filled (omega arith) in
-    let l = none_taken _ _ _ _ _ _ _ _ _ _ z _ d _ g.met.Input.RangeStream.measured g.met.Input.RangeStream.filled (let a = c.len.ensures in omega arith) in
+    let z = walked c.in_default.ensures.over c.in-Ok.ensures.read in
+    let d = direct c.in_default.ensures.over c.in-Ok.ensures.read g.met.Input.RangeStream.filled (omega arith) in
+    let l = none_taken z _ d g.met.Input.RangeStream.measured g.met.Input.RangeStream.filled (let a = c.len.ensures in omega arith) in
     let s = g.Input.Error.ParseError.observers in
     let size = g.Input.RangeStream.size in
     let answers = g.F.Maps.answers c.args.test.now in

@@ -99,7 +99,7 @@ returns-then-distance-gt0-clause-refuses g c =
     let o = c.in_default.ensures.over in
     let u = c.in-Ok.ensures.read in
     let stands = g.met.Input.ResetStream.lasts _ _ _ _ c.uncons_range.ensures.passes.marks (g.met.Input.ResetStream.lasts _ _ _ _ c.pass_items.ensures.passes.marks c.checkpoint-start.ensures.stands) in
-    reasons_handed _ _ _ _ _ _ _ _ _ _ _ _ (c.hand_out.ensures.hands _ (o.is.0 + u.is.0) stands (takes_more _ _ _ _ _ _ o.is.2.taken u.is.2.taken))
+    reasons_handed _ _ (c.hand_out.ensures.hands _ (o.is.0 + u.is.0) stands (takes_more _ _ _ _ _ _ o.is.2.taken u.is.2.taken))
 
 pub returns-then-items-gt0-clause-refuses : goal.returns-then-items-gt0-clause-refuses
 returns-then-items-gt0-clause-refuses g c = reasons_ok _ _ _ _
@@ -114,7 +114,7 @@ returns-then-may_grow-clause-refuses g c =
     let m = c.may_grow.ensures.0 c.if-may_grow.true in
     let u = (rw m.0 at c.in-Err-uncons_range.ensures.read).is in
     let t = subst (Takes g.Input.StreamOnce.step o.is.0 (g.Input.StreamOnce.view c.args.input.now)) (sym u.1.same) o.is.2.taken in
-    reasons_keeping _ _ _ _ _ _ _ _ _ _ _ _ _ (c.keep_distance.ensures.keeps _ o.is.0 stands t) (sym (takes_open _ o.is.0 _ _ t) ∙ m.1)
+    reasons_keeping _ _ (c.keep_distance.ensures.keeps _ o.is.0 stands t) (sym (takes_open _ o.is.0 _ _ t) ∙ m.1)
 
 pub returns-else-may_grow-clause-refuses : goal.returns-else-may_grow-clause-refuses
 returns-else-may_grow-clause-refuses g c =
@@ -165,7 +165,7 @@ returns-in-Ok-pass_up_to-clause-refuses g c =
     let u = c.in-Ok-pass_up_to.ensures.over.is in
     let stands = g.met.Input.ResetStream.lasts _ _ _ _ c.pass_up_to.ensures.passes.marks (g.met.Input.ResetStream.lasts _ _ _ _ c.pass_items.ensures.passes.marks c.checkpoint-start.ensures.stands) in
     let t = takes_more _ _ _ _ _ _ o.is.2.taken u.taken in
-    reasons_keeping _ _ _ _ _ _ _ _ _ _ _ _ _ (c.keep_distance-in-Ok-pass_up_to.ensures.keeps _ (o.is.0 + u.count) stands t) (sym (takes_open _ o.is.0 _ _ o.is.2.taken) ∙ sym c.is_partial.ensures ∙ c.if-not-is_partial.false)
+    reasons_keeping _ _ (c.keep_distance-in-Ok-pass_up_to.ensures.keeps _ (o.is.0 + u.count) stands t) (sym (takes_open _ o.is.0 _ _ o.is.2.taken) ∙ sym c.is_partial.ensures ∙ c.if-not-is_partial.false)
 
 pub returns-in-Err-pass_up_to-clause-refuses : goal.returns-in-Err-pass_up_to-clause-refuses
 returns-in-Err-pass_up_to-clause-refuses g c = reasons_broke _ _ _ _ _ _ _ c.new_error.ensures.kind c.in-Err-pass_up_to.ensures.over.is.0

@@ -1,5 +1,5 @@
 use Rattle.combine_repeat_turns.proofs.DroppedValues.{repeated_or_skip}
-use Rattle.combine_repeat_turns.specs.declared.turns.Bounds.TheVariants.{Unbounded}
+use Rattle.combine_repeat_turns.specs.declared.bounds.Bounds.TheVariants.{Unbounded}
 use Rattle.combine_repeat.proofs.repeat.laws.skip_many_is_many_dropped.Goals as goal
 
 pub returns : goal.returns

@@ -1,5 +1,5 @@
 use Rattle.combine_repeat_turns.proofs.DroppedValues.{repeated_or_skip}
-use Rattle.combine_repeat_turns.specs.declared.turns.Bounds.TheVariants.{Counted}
+use Rattle.combine_repeat_turns.specs.declared.bounds.Bounds.TheVariants.{Counted}
 use Rattle.combine_repeat_turns.proofs.repeat.laws.skip_count_min_max_is_count_min_max_dropped.Goals as goal
 
 pub returns : goal.returns

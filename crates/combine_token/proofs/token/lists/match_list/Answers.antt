@@ -19,7 +19,7 @@ items-init g c =
     record {
       passes = passes_none _ _;
       cleared = c.begin-matched.ensures.left;
-      reached = rw i (iterator_after _ _ _ _ _ _ _ _ c.in-Ok.ensures.cases c.into_iter-items.ensures.into_iter_gives z);
+      reached = rw i (iterator_after _ c.in-Ok.ensures.cases c.into_iter-items.ensures.into_iter_gives z);
       few = rw i (omega (arith, x.2, y.2));
       arrived = arrived_first _ _ _ _ _ _ _ _ _ _ _ _ _ (rw c.is_first.ensures at c.begin-matched.ensures.matched);
     }
@@ -28,25 +28,25 @@ pub returns-in-Err-pass_list_items-clause-answers : goal.returns-in-Err-pass_lis
 returns-in-Err-pass_list_items-clause-answers g c =
     let z = c.in-Err-pass_list_items.ensures.gave in
     let a = arrived_first _ _ _ _ _ _ _ _ _ _ _ _ _ (rw c.is_first.ensures at c.begin-matched.ensures.matched) in
-    match_accepted _ _ _ _ _ _ _ _ _ _ _ _ a c.begin-matched.ensures.left _ (omega (arith, z.0)) (list_ends_early _ _ _ _ _ _ _ c.in-Ok.ensures.cases c.into_iter-items.ensures.into_iter_gives z.1) refl refl _ (λ l. l.1) _ refl _ c.accepted.ensures
+    match_accepted _ _ _ _ _ _ _ _ _ _ _ _ a c.begin-matched.ensures.left _ (omega (arith, z.0)) (list_ends_early _ c.in-Ok.ensures.cases c.into_iter-items.ensures.into_iter_gives z.1) refl refl _ (λ l. l.1) _ refl _ c.accepted.ensures
 
 pub returns-then-matched-gt0-clause-passes : goal.returns-then-matched-gt0-clause-passes
-returns-then-matched-gt0-clause-passes g c = passes_more _ _ _ _ _ _ c.items.invariant.passes c.uncons.ensures.passes
+returns-then-matched-gt0-clause-passes g c = passes_more c.items.invariant.passes c.uncons.ensures.passes
 
 pub returns-then-matched-gt0-clause-answers : goal.returns-then-matched-gt0-clause-answers
 returns-then-matched-gt0-clause-answers g c =
     let i = c.items.invariant in
-    let there = stands_there _ _ _ _ _ _ _ _ i.reached c.in-Some.ensures.steps in
+    let there = stands_there i.reached c.in-Some.ensures.steps in
     let n = c.if-not-cmp.ensures in
     match_refused _ _ _ _ _ _ _ _ _ _ _ _ i.arrived i.cleared (_, there) _ _ _ (_, there, n) c.in-Ok-uncons.ensures.read.is _ (sym (lt-ltb 0 _ c.if-matched-gt0.true)) (mismatch_told _ _ _ _ _ c.mismatch-error.ensures) refl refl
 
 pub returns-then-not-cmp-clause-passes : goal.returns-then-not-cmp-clause-passes
-returns-then-not-cmp-clause-passes g c = passes_more _ _ _ _ _ _ c.items.invariant.passes (passes_more _ _ _ _ _ _ c.uncons.ensures.passes c.put_back.ensures.passes)
+returns-then-not-cmp-clause-passes g c = passes_more c.items.invariant.passes (passes_more c.uncons.ensures.passes c.put_back.ensures.passes)
 
 pub returns-then-not-cmp-clause-answers : goal.returns-then-not-cmp-clause-answers
 returns-then-not-cmp-clause-answers g c =
     let i = c.items.invariant in
-    let there = stands_there _ _ _ _ _ _ _ _ i.reached c.in-Some.ensures.steps in
+    let there = stands_there i.reached c.in-Some.ensures.steps in
     let n = c.if-not-cmp.ensures in
     let a = i.passes.resets in
     let b = c.uncons.ensures.passes.resets in
@@ -62,17 +62,17 @@ returns-then-ends_open-clause-passes g c =
 pub returns-then-ends_open-clause-answers : goal.returns-then-ends_open-clause-answers
 returns-then-ends_open-clause-answers g c =
     let i = c.items.invariant in
-    let there = stands_there _ _ _ _ _ _ _ _ i.reached c.in-Some.ensures.steps in
+    let there = stands_there i.reached c.in-Some.ensures.steps in
     let k = c.ends_open.ensures.0 c.if-ends_open.true in
     match_asks _ _ _ _ _ _ _ _ _ _ _ _ i.arrived (_, there) refl (rw k.0 at c.in-Err-uncons.ensures.read.is) k.1 _ (c.new_error-then-ends_open.ensures.kind ∙ k.0)
 
 pub returns-in-Err-uncons-clause-passes : goal.returns-in-Err-uncons-clause-passes
-returns-in-Err-uncons-clause-passes g c = passes_more _ _ _ _ _ _ c.items.invariant.passes c.uncons.ensures.passes
+returns-in-Err-uncons-clause-passes g c = passes_more c.items.invariant.passes c.uncons.ensures.passes
 
 pub returns-in-Err-uncons-clause-answers : goal.returns-in-Err-uncons-clause-answers
 returns-in-Err-uncons-clause-answers g c =
     let i = c.items.invariant in
-    let there = stands_there _ _ _ _ _ _ _ _ i.reached c.in-Some.ensures.steps in
+    let there = stands_there i.reached c.in-Some.ensures.steps in
     match_unread _ _ _ _ _ _ _ _ _ _ _ _ i.arrived i.cleared (_, there) _ refl _ _ c.in-Err-uncons.ensures.read.is i.passes.reads (λ z. false≢true (sym c.if-ends_open.false ∙ c.ends_open.ensures.1 z)) c.no_more.ensures.finds
 
 pub items-preserved : goal.items-preserved
@@ -80,11 +80,11 @@ items-preserved g c =
     let i = c.items.invariant in
     let n = c.if-not-cmp.ensures in
     let s = c.in-Some.ensures.steps in
-    let there = stands_there _ _ _ _ _ _ _ _ i.reached s in
+    let there = stands_there i.reached s in
     record {
-      passes = passes_more _ _ _ _ _ _ i.passes c.uncons.ensures.passes;
+      passes = passes_more i.passes c.uncons.ensures.passes;
       cleared = i.cleared;
-      reached = reached_more _ _ _ _ _ _ _ _ i.reached s;
+      reached = reached_more i.reached s;
       few = let o = c.in-Some.ensures.goes.on c.items.iterator.1 in let f = i.few in omega (arith, o.2);
       arrived = arrived_next _ _ _ _ _ _ _ _ (iterated_ends_once _ _ _ _ _ _ _ c.requires.list) _ _ _ _ _ _ _ _ _ i.arrived _ (_, there, n) (_, there) c.in-Ok-uncons.ensures.read.is;
     }
@@ -92,7 +92,7 @@ items-preserved g c =
 pub returns-clause-answers : goal.returns-clause-answers
 returns-clause-answers g c =
     let i = c.items.invariant in
-    match_accepted _ _ _ _ _ _ _ _ _ _ _ _ i.arrived i.cleared _ (omega arith) (list_ends _ _ _ _ _ _ _ i.reached c.in-None.ensures.steps) refl refl _ (λ l. l.1) _ refl _ c.accepted-2.ensures
+    match_accepted _ _ _ _ _ _ _ _ _ _ _ _ i.arrived i.cleared _ (omega arith) (list_ends i.reached c.in-None.ensures.steps) refl refl _ (λ l. l.1) _ refl _ c.accepted-2.ensures
 
 pub returns-in-Err-clause-refuses : goal.returns-in-Err-clause-refuses
 returns-in-Err-clause-refuses g c = reasons_fault _ _ _ _ kinds.Memory c.new_error.ensures.kind tt
@@ -103,14 +103,14 @@ returns-in-Err-pass_list_items-clause-refuses g c = accepted_reasons _ _ _ _ _ _
 pub returns-then-matched-gt0-clause-refuses : goal.returns-then-matched-gt0-clause-refuses
 returns-then-matched-gt0-clause-refuses g c =
     let i = c.items.invariant in
-    let there = stands_there _ _ _ _ _ _ _ _ i.reached c.in-Some.ensures.steps in
+    let there = stands_there i.reached c.in-Some.ensures.steps in
     let n = c.if-not-cmp.ensures in
     mismatch_reasons _ _ _ _ _ _ _ _ _ _ _ _ _ _ _ i.arrived (_, there) _ _ _ _ (_, there, n) c.in-Ok-uncons.ensures.read.is _ (sym (lt-ltb 0 _ c.if-matched-gt0.true)) (rw c.position-position.ensures at c.mismatch-error.ensures)
 
 pub returns-then-not-cmp-clause-refuses : goal.returns-then-not-cmp-clause-refuses
 returns-then-not-cmp-clause-refuses g c =
     let i = c.items.invariant in
-    let there = stands_there _ _ _ _ _ _ _ _ i.reached c.in-Some.ensures.steps in
+    let there = stands_there i.reached c.in-Some.ensures.steps in
     let n = c.if-not-cmp.ensures in
     put_back_reasons _ _ _ _ _ _ _ _ _ _ _ _ _ _ _ i.arrived (_, there) _ _ _ _ (_, there, n) c.in-Ok-uncons.ensures.read.is _ (sym (le-ltb _ _ c.if-matched-gt0.false)) (rw c.position-position.ensures at c.put_back.ensures.refuses)
 
@@ -122,7 +122,7 @@ returns-then-ends_open-clause-refuses g c =
 pub returns-in-Err-uncons-clause-refuses : goal.returns-in-Err-uncons-clause-refuses
 returns-in-Err-uncons-clause-refuses g c =
     let i = c.items.invariant in
-    let there = stands_there _ _ _ _ _ _ _ _ i.reached c.in-Some.ensures.steps in
+    let there = stands_there i.reached c.in-Some.ensures.steps in
     unread_reasons _ _ _ _ _ _ _ _ _ _ _ _ _ _ _ i.arrived (_, there) _ _ _ refl _ _ c.in-Err-uncons.ensures.read.is (λ z. false≢true (sym c.if-ends_open.false ∙ c.ends_open.ensures.1 z)) c.no_more.ensures.finds (rw c.position-position.ensures at c.no_more.ensures.refuses)
 
 pub returns-clause-refuses : goal.returns-clause-refuses

@@ -1,8 +1,9 @@
 use Rattle.std.proofs.Common.{sym, ◌∙◌}
 use Rattle.std.proofs.lemmas.Bool.{false≢true}
 use Rattle.combine_base.specs.Error.Errors.{AddsNothing}
+use Rattle.combine_base.specs.Parser.Meaning.{any_error}
 use Rattle.combine_token.proofs.Tokens.Stateless.{stateless_reasons}
-use Rattle.tests_combinator.specs.Nests.{any_error, nest}
+use Rattle.tests_combinator.specs.Nests.{nest}
 use Rattle.combine_combinator_function.proofs.Again.{again_back, again_err, again_ok, again_peek_err, again_peek_ok, again_stuck}
 use Rattle.tests_combinator.proofs.nest.NestParser.parse_mode.Goals as goal
 

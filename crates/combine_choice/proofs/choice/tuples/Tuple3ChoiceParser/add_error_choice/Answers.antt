@@ -6,4 +6,4 @@ pub returns-clause-same : goal.returns-clause-same
 returns-clause-same g c = or_means_same g.Input.Error.ParseError.observers g.Input.Position.Ord.cmp _ _ _ _ c.add_error.ensures.same (or_means_same g.Input.Error.ParseError.observers g.Input.Position.Ord.cmp _ _ _ _ c.add_error-2.ensures.same c.add_error-3.ensures.same)
 
 pub returns-clause-says : goal.returns-clause-says
-returns-clause-says g c = says_together _ _ _ _ _ _ _ _ c.add_error.ensures.says (says_together _ _ _ _ _ _ _ _ c.add_error-2.ensures.says c.add_error-3.ensures.says)
+returns-clause-says g c = says_together c.add_error.ensures.says (says_together c.add_error-2.ensures.says c.add_error-3.ensures.says)

@@ -116,19 +116,19 @@ returns-then-not-refuses-clause-refuses g c =
     attempt_fails _ (g.P.Parser.meaning c.args.self.now.0) (record { first = g.M.ParseMode.first c.args.mode; state = c.args.state.now; left = record { distance = c.begin-distance.new.self.distance; part = c.parse_mode.new.state }; old = g.Input.StreamOnce.view c.args.input.now; new = g.Input.StreamOnce.view c.parse_mode.new.input; before = g.Input.StreamOnce.failures c.args.input.now; after = g.Input.StreamOnce.failures c.parse_mode.new.input }) _ _ (c.in-CommitErr.error, refl) (returns-then-not-refuses-clause-answers g c)
 
 pub returns-in-CommitOk-clause-passes : goal.returns-in-CommitOk-clause-passes
-returns-in-CommitOk-clause-passes g c = passes_more _ _ _ _ _ _ c.pass_tokens.ensures.passes c.parse_mode.ensures.passes
+returns-in-CommitOk-clause-passes g c = passes_more c.pass_tokens.ensures.passes c.parse_mode.ensures.passes
 
 pub returns-in-PeekOk-clause-passes : goal.returns-in-PeekOk-clause-passes
-returns-in-PeekOk-clause-passes g c = passes_more _ _ _ _ _ _ c.pass_tokens.ensures.passes c.parse_mode.ensures.passes
+returns-in-PeekOk-clause-passes g c = passes_more c.pass_tokens.ensures.passes c.parse_mode.ensures.passes
 
 pub returns-then-not-refuses-clause-passes : goal.returns-then-not-refuses-clause-passes
-returns-then-not-refuses-clause-passes g c = passes_more _ _ _ _ _ _ c.pass_tokens.ensures.passes c.parse_mode.ensures.passes
+returns-then-not-refuses-clause-passes g c = passes_more c.pass_tokens.ensures.passes c.parse_mode.ensures.passes
 
 pub returns-in-PeekErr-clause-passes : goal.returns-in-PeekErr-clause-passes
-returns-in-PeekErr-clause-passes g c = passes_more _ _ _ _ _ _ (passes_more _ _ _ _ _ _ c.pass_tokens.ensures.passes c.parse_mode.ensures.passes) c.put_back.ensures.passes
+returns-in-PeekErr-clause-passes g c = passes_more (passes_more c.pass_tokens.ensures.passes c.parse_mode.ensures.passes) c.put_back.ensures.passes
 
 pub returns-then-needs_more-clause-passes : goal.returns-then-needs_more-clause-passes
-returns-then-needs_more-clause-passes g c = passes_more _ _ _ _ _ _ (passes_more _ _ _ _ _ _ c.pass_tokens.ensures.passes c.parse_mode.ensures.passes) c.keep_distance.ensures.passes
+returns-then-needs_more-clause-passes g c = passes_more (passes_more c.pass_tokens.ensures.passes c.parse_mode.ensures.passes) c.keep_distance.ensures.passes
 
 pub returns-else-not-refuses-clause-passes : goal.returns-else-not-refuses-clause-passes
-returns-else-not-refuses-clause-passes g c = passes_more _ _ _ _ _ _ (passes_more _ _ _ _ _ _ c.pass_tokens.ensures.passes c.parse_mode.ensures.passes) c.put_back-in-CommitErr.ensures.passes
+returns-else-not-refuses-clause-passes g c = passes_more (passes_more c.pass_tokens.ensures.passes c.parse_mode.ensures.passes) c.put_back-in-CommitErr.ensures.passes

@@ -62,7 +62,7 @@ returns-clause-answers g c =
     in_mode _ _ _ laws _ _ _ _ from _ _ _ _ _ (begins_in_place g.N.Parser g.Input.StreamOnce g.Input.Error.ParseError.observers g.N.PartialState.Default.is_default made_at makable AddsNothing kept run.called (view c.args.input.now) (g.Input.StreamOnce.failures c.args.input.now) run.view run.failures lasts (g.met.N.Parser.laws _ lawful) run.is_default made)
 
 pub returns-clause-passes : goal.returns-clause-passes
-returns-clause-passes g c = let run = c.make_and_run.ensures in passes_more _ _ _ _ _ _ run.passes run.called.passes
+returns-clause-passes g c = let run = c.make_and_run.ensures in passes_more run.passes run.called.passes
 
 pub returns-in-Kept-clause-refuses : goal.returns-in-Kept-clause-refuses
 returns-in-Kept-clause-refuses g c =

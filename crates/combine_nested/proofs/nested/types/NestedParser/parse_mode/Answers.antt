@@ -1,10 +1,11 @@
 use Rattle.std.proofs.Common.{refl, arith, rules}
 use Rattle.combine_base.specs.Parser.KeptParsers.{KeptOf}
+use Rattle.combine_base.specs.Sequence.Parts.{valid_from}
 use Rattle.combine_base.proofs.Parsers.SameMeanings.{passes_none, passes_more}
 use Rattle.combine_nested.specs.Asks.{asked_by_some}
 use Rattle.combine_nested.specs.NestedSteps.{step_asker, depth_part, root_part, steps_start_valid, nesting_is_meaning}
 use Rattle.combine_nested.specs.declared.nested.steps.NestedState.TheVariants as states
-use Rattle.combine_nested.proofs.EachStep.{asked_step_kept, reaches_first_step, runs_first_step, runs_next_step, step_leads, steps_fall, valid_from}
+use Rattle.combine_nested.proofs.EachStep.{asked_step_kept, reaches_first_step, runs_first_step, runs_next_step, step_leads, steps_fall}
 use Rattle.combine_nested.proofs.nested.types.NestedParser.parse_mode.Goals as goal
 use Rattle.combine_nested.proofs.nested.types.NestedParser.parse_mode.Goals.{in-Running, in-Start}
 
@@ -57,7 +58,7 @@ steps-preserved g c =
     let part = g.met.N.Parser.laws _ kept.is_lawful in
     let runs = runs_next_step p i observers fresh depth roots answers g.F.Frame.takes g.F.Frame.joins some _ _ _ _ _ _ _ loops.reaches _ met kept _ c.default.ensures part in
     let leads = step_leads p i observers fresh depth roots answers g.F.Frame.takes g.F.Frame.joins some inv.passes.reads inv.passes.resets laws part (g.met.N.Parser.default_valid _ c.default.ensures) loops.from runs (rw inv.self at c.run_step-next-in-steps.ensures) in
-    record { self = inv.self; passes = passes_more _ _ _ _ _ _ inv.passes c.run_step-next-in-steps.ensures.passes; leads = leads }
+    record { self = inv.self; passes = passes_more inv.passes c.run_step-next-in-steps.ensures.passes; leads = leads }
 
 pub run_step-next-requires-in-steps-clause-ready : goal.run_step-next-requires-in-steps-clause-ready
 run_step-next-requires-in-steps-clause-ready g c =

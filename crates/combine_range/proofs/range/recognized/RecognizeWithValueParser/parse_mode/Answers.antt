@@ -79,14 +79,14 @@ returns-in-CommitOk-clause-refuses g c =
     let o = c.in_default.ensures.over.is in
     let stands = g.met.Input.ResetStream.lasts _ _ _ _ c.parse_mode.ensures.passes.marks (g.met.Input.ResetStream.lasts _ _ _ _ c.pass_items.ensures.passes.marks c.checkpoint-start.ensures.stands) in
     let p = c.in-CommitOk.ensures.answers.is in
-    rw c.with_value.ensures (reasons_beside _ _ _ _ _ _ _ _ _ _ _ _ _ (c.hand_out.ensures.hands _ (o.0 + p.count) stands (takes_more _ _ _ _ _ _ o.2.taken p.taken)))
+    rw c.with_value.ensures (reasons_beside _ _ _ (c.hand_out.ensures.hands _ (o.0 + p.count) stands (takes_more _ _ _ _ _ _ o.2.taken p.taken)))
 
 pub returns-in-PeekOk-clause-refuses : goal.returns-in-PeekOk-clause-refuses
 returns-in-PeekOk-clause-refuses g c =
     let o = c.in_default.ensures.over.is in
     let stands = g.met.Input.ResetStream.lasts _ _ _ _ c.parse_mode.ensures.passes.marks (g.met.Input.ResetStream.lasts _ _ _ _ c.pass_items.ensures.passes.marks c.checkpoint-start.ensures.stands) in
     let p = c.in-PeekOk.ensures.answers.is in
-    rw c.with_value-in-PeekOk.ensures (reasons_beside _ _ _ _ _ _ _ _ _ _ _ _ _ (c.hand_out-in-PeekOk.ensures.hands _ (o.0 + p.count) stands (takes_more _ _ _ _ _ _ o.2.taken p.taken)))
+    rw c.with_value-in-PeekOk.ensures (reasons_beside _ _ _ (c.hand_out-in-PeekOk.ensures.hands _ (o.0 + p.count) stands (takes_more _ _ _ _ _ _ o.2.taken p.taken)))
 
 pub returns-in-Err-clause-refuses : goal.returns-in-Err-clause-refuses
 returns-in-Err-clause-refuses g c =

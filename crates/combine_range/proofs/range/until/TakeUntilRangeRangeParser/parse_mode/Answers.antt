@@ -12,26 +12,26 @@ use Rattle.combine_range.proofs.range.until.TakeUntilRangeRangeParser.parse_mode
 pub returns-then-is_partial-clause-answers : goal.returns-then-is_partial-clause-answers
 returns-then-is_partial-clause-answers g c =
     let s = (rw c.if-found.false at c.in-Ok.ensures.seeks).is in
-    let z = stopped_before _ _ _ _ _ _ _ _ _ _ _ _ _ _ c.in_default.ensures.over s.0 in
+    let z = stopped_before c.in_default.ensures.over s.0 in
     let p = c.pass_items.ensures.passes in
     let q = c.seek.ensures.passes in
     let k = g.Input.StreamOnce.failures c.seek.new.input in
     let stands = g.met.Input.ResetStream.lasts _ _ _ _ c.seek.ensures.passes.marks (g.met.Input.ResetStream.lasts _ _ _ _ c.pass_items.ensures.passes.marks c.checkpoint-start.ensures.stands) in
-    until_keeps _ _ g.met.Input.RangeStream.filled _ _ _ _ _ _ (rw c.is_first.ensures at c.begin-distance.ensures.begun) _ k z (stops_at_none _ _ _ _ _ _ _ _ (g.Input.StreamOnce.view c.seek.new.input) _ _ k _ _ c.in_default.ensures.over s.1) _ _ (c.keep_distance.ensures.keeps _ z.to stands z.taken) c.begin-distance.ensures.left (let a = p.reads in let b = q.reads in omega arith) (let a = p.resets in let b = q.resets in omega arith) (sym c.is_partial.ensures ∙ c.if-is_partial.true)
+    until_keeps _ _ g.met.Input.RangeStream.filled _ _ _ _ _ _ (rw c.is_first.ensures at c.begin-distance.ensures.begun) _ k z (stops_at_none c.in_default.ensures.over s.1) _ _ (c.keep_distance.ensures.keeps _ z.to stands z.taken) c.begin-distance.ensures.left (let a = p.reads in let b = q.reads in omega arith) (let a = p.resets in let b = q.resets in omega arith) (sym c.is_partial.ensures ∙ c.if-is_partial.true)
 
 pub returns-else-is_partial-clause-answers : goal.returns-else-is_partial-clause-answers
 returns-else-is_partial-clause-answers g c =
     let s = (rw c.if-found.false at c.in-Ok.ensures.seeks).is in
-    let z = stopped_before _ _ _ _ _ _ _ _ _ _ _ _ _ _ c.in_default.ensures.over s.0 in
+    let z = stopped_before c.in_default.ensures.over s.0 in
     let p = c.pass_items.ensures.passes in
     let q = c.seek.ensures.passes in
     let k = g.Input.StreamOnce.failures c.seek.new.input in
-    until_range_ends _ _ g.met.Input.RangeStream.filled _ _ _ _ _ _ (rw c.is_first.ensures at c.begin-distance.ensures.begun) _ k z (stops_at_none _ _ _ _ _ _ _ _ (g.Input.StreamOnce.view c.seek.new.input) _ _ k _ _ c.in_default.ensures.over s.1) _ c.no_token.ensures.refuses (sym c.is_partial.ensures ∙ c.if-is_partial.false) refl c.begin-distance.ensures.left (λ a. refl)
+    until_range_ends _ _ g.met.Input.RangeStream.filled _ _ _ _ _ _ (rw c.is_first.ensures at c.begin-distance.ensures.begun) _ k z (stops_at_none c.in_default.ensures.over s.1) _ c.no_token.ensures.refuses (sym c.is_partial.ensures ∙ c.if-is_partial.false) refl c.begin-distance.ensures.left (λ a. refl)
 
 pub returns-then-found-clause-answers : goal.returns-then-found-clause-answers
 returns-then-found-clause-answers g c =
     let s = (rw c.if-found.true at c.in-Ok.ensures.seeks).is in
-    let z = stopped_before _ _ _ _ _ _ _ _ _ _ _ _ _ _ c.in_default.ensures.over s.0 in
+    let z = stopped_before c.in_default.ensures.over s.0 in
     let p = c.pass_items.ensures.passes in
     let q = c.seek.ensures.passes in
     let k = g.Input.StreamOnce.failures c.seek.new.input in
@@ -61,23 +61,23 @@ returns-in-Err-clause-refuses g c =
 pub returns-then-found-clause-refuses : goal.returns-then-found-clause-refuses
 returns-then-found-clause-refuses g c =
     let s = (rw c.if-found.true at c.in-Ok.ensures.seeks).is in
-    let z = stopped_before _ _ _ _ _ _ _ _ _ _ _ _ _ _ c.in_default.ensures.over s.0 in
+    let z = stopped_before c.in_default.ensures.over s.0 in
     let stands = g.met.Input.ResetStream.lasts _ _ _ _ c.seek.ensures.passes.marks (g.met.Input.ResetStream.lasts _ _ _ _ c.pass_items.ensures.passes.marks c.checkpoint-start.ensures.stands) in
-    reasons_handed _ _ _ _ _ _ _ _ _ _ _ _ (c.hand_out.ensures.hands _ z.to stands z.taken)
+    reasons_handed _ _ (c.hand_out.ensures.hands _ z.to stands z.taken)
 
 pub returns-then-is_partial-clause-refuses : goal.returns-then-is_partial-clause-refuses
 returns-then-is_partial-clause-refuses g c =
     let s = (rw c.if-found.false at c.in-Ok.ensures.seeks).is in
-    let z = stopped_before _ _ _ _ _ _ _ _ _ _ _ _ _ _ c.in_default.ensures.over s.0 in
+    let z = stopped_before c.in_default.ensures.over s.0 in
     let stands = g.met.Input.ResetStream.lasts _ _ _ _ c.seek.ensures.passes.marks (g.met.Input.ResetStream.lasts _ _ _ _ c.pass_items.ensures.passes.marks c.checkpoint-start.ensures.stands) in
-    reasons_keeping _ _ _ _ _ _ _ _ _ _ _ _ _ (c.keep_distance.ensures.keeps _ z.to stands z.taken) (sym (takes_open _ z.to _ _ z.taken) ∙ sym c.is_partial.ensures ∙ c.if-is_partial.true)
+    reasons_keeping _ _ (c.keep_distance.ensures.keeps _ z.to stands z.taken) (sym (takes_open _ z.to _ _ z.taken) ∙ sym c.is_partial.ensures ∙ c.if-is_partial.true)
 
 pub returns-else-is_partial-clause-refuses : goal.returns-else-is_partial-clause-refuses
 returns-else-is_partial-clause-refuses g c =
     let s = (rw c.if-found.false at c.in-Ok.ensures.seeks).is in
-    let z = stopped_before _ _ _ _ _ _ _ _ _ _ _ _ _ _ c.in_default.ensures.over s.0 in
+    let z = stopped_before c.in_default.ensures.over s.0 in
     let k = g.Input.StreamOnce.failures c.seek.new.input in
-    let m = stops_at_none _ _ _ _ _ _ _ _ (g.Input.StreamOnce.view c.seek.new.input) _ _ k _ _ c.in_default.ensures.over s.1 in
+    let m = stops_at_none c.in_default.ensures.over s.1 in
     let observers = g.Input.Error.ParseError.observers in
     let size = g.Input.RangeStream.size in
     let spells = g.Input.RangeStream.spells in

@@ -4,7 +4,7 @@ use Rattle.combine_base.specs.Parser.ValueMap.{mapped_means_same}
 use Rattle.combine_repeat_chain.specs.ChainParsers.{right_operator}
 use Rattle.combine_repeat_chain.specs.Chains.{each_operand}
 use Rattle.combine_repeat_sep.specs.Elements.{joined_means_same}
-use Rattle.combine_repeat_turns.specs.declared.turns.Bounds.TheVariants.{OwnFirst}
+use Rattle.combine_repeat_turns.specs.declared.bounds.Bounds.TheVariants.{OwnFirst}
 use Rattle.combine_repeat_chain.proofs.repeat.types.RightFoldParser.add_error.Goals as goal
 
 pub returns-clause-same : goal.returns-clause-same

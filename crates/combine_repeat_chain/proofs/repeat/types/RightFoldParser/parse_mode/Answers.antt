@@ -5,7 +5,7 @@ use Rattle.combine_base.proofs.Parsers.ValueMap.{mapped_err, mapped_ok, mapped_p
 use Rattle.combine_base.specs.Parser.ValueMap.{mapped_means_same}
 use Rattle.combine_repeat_turns.specs.Turns.Bounds.{turns_means_same}
 use Rattle.combine_repeat_turns.specs.Repeat.Repeated.{no_value_ends}
-use Rattle.combine_repeat_turns.specs.declared.turns.Bounds.TheVariants.{OwnFirst}
+use Rattle.combine_repeat_turns.specs.declared.bounds.Bounds.TheVariants.{OwnFirst}
 use Rattle.combine_repeat_chain.proofs.repeat.types.RightFoldParser.parse_mode.Goals as goal
 
 pub returns-in-CommitOk-clause-same : goal.returns-in-CommitOk-clause-same

@@ -6,9 +6,10 @@ use Rattle.combine_base.proofs.Parsers.SameMeanings.{passes_none, passes_more}
 use Rattle.combine_base.proofs.Parsers.CallStarts.{in_mode}
 use Rattle.combine_repeat_iterate.specs.ItemParsers.{iterated_is_meaning, items_start_valid}
 use Rattle.combine_base.specs.Parser.KeptParsers.{KeptOf}
+use Rattle.combine_base.specs.Sequence.Parts.{valid_from}
 use Rattle.combine_repeat_iterate.specs.ListedItems.{AskedFor, GivesItems, ListsItems, item_asker, by_function, gives_callable, gives_none, gives_one, gives_some, items_part}
 use Rattle.combine_repeat_iterate.specs.declared.repeat.items.IterateState.TheVariants as states
-use Rattle.combine_repeat_iterate.proofs.EachItem.{asked_item_kept, item_goes, item_leaves, item_passes, item_reasons, item_stops, items_end, no_clone, reaches_first_item, runs_first_item, runs_next_item, valid_from}
+use Rattle.combine_repeat_iterate.proofs.EachItem.{asked_item_kept, item_goes, item_leaves, item_passes, item_reasons, item_stops, items_end, no_clone, reaches_first_item, runs_first_item, runs_next_item}
 use Rattle.combine_repeat_iterate.proofs.repeat.types.IterateParser.parse_mode.Given as given
 use Rattle.combine_repeat_iterate.proofs.repeat.types.IterateParser.parse_mode.Goals as goal
 use Rattle.combine_repeat_iterate.proofs.repeat.types.IterateParser.parse_mode.Goals.{in-Running+in-Goes, in-Start+in-Ok}
@@ -166,7 +167,7 @@ pub returns-in-Stops-parse_item-clause-passes : goal.returns-in-Stops-parse_item
 returns-in-Stops-parse_item-clause-passes g c =
     let inv = c.items.invariant in
     let stays = c.requires.lawful.1.kept _ _ _ _ (rw inv.self at c.asked.ensures) in
-    passes_more _ _ _ _ _ _ inv.passes (passes_more _ _ _ _ _ _ stays.1 c.parse_item.ensures.passes)
+    passes_more inv.passes (passes_more stays.1 c.parse_item.ensures.passes)
 
 pub returns-in-Stops-parse_item-clause-answers : goal.returns-in-Stops-parse_item-clause-answers
 returns-in-Stops-parse_item-clause-answers g c =
@@ -189,7 +190,7 @@ returns-in-Stops-parse_item-clause-answers g c =
     let lawful = c.requires.lawful.2 _ _ met in
     let kept = asked_item_kept g.N.Parser.meaning _ lawful (record { asked = item_asker c.args.self.now; is_fit = (c.requires.lawful.0, c.requires.lawful.1); all = c.requires.lawful.2; item = c.in-Some.item; answered = met }) in
     let runs = runs_next_item g.N.Parser g.Input.StreamOnce observers fresh answers some g.C.Append.held g.C.Append.none g.C.Append.more at lists heapless spared _ _ _ _ _ _ _ _ r _ left.0 left.1 _ met kept _ c.default.ensures (g.met.N.Parser.laws _ lawful) _ left.2 stays.0 stays.2 in
-    let upto = passes_more _ _ _ _ _ _ inv.passes stays.1 in
+    let upto = passes_more inv.passes stays.1 in
     let call = item_stops g.N.Parser g.Input.StreamOnce observers fresh answers some g.C.Append.held g.C.Append.none g.C.Append.more at lists heapless spared (gives_one iterator.can_next iterator.remaining iterator.next_gives) _ _ _ _ _ _ _ upto.reads upto.resets runs (λ x. x.0) _ c.in-Stops-parse_item.ensures in
     in_mode _ _ _ laws _ _ _ _ inv.loops.from _ _ _ _ _ call
 
@@ -213,7 +214,7 @@ returns-in-Stops-parse_item-clause-refuses g c =
     let lawful = c.requires.lawful.2 _ _ met in
     let kept = asked_item_kept g.N.Parser.meaning _ lawful (record { asked = item_asker c.args.self.now; is_fit = (c.requires.lawful.0, c.requires.lawful.1); all = c.requires.lawful.2; item = c.in-Some.item; answered = met }) in
     let runs = runs_next_item g.N.Parser g.Input.StreamOnce observers fresh answers some g.C.Append.held g.C.Append.none g.C.Append.more at lists heapless spared _ _ _ _ _ _ _ _ r _ left.0 left.1 _ met kept _ c.default.ensures (g.met.N.Parser.laws _ lawful) _ left.2 stays.0 stays.2 in
-    let upto = passes_more _ _ _ _ _ _ inv.passes stays.1 in
+    let upto = passes_more inv.passes stays.1 in
     let call = item_reasons g.N.Parser g.Input.StreamOnce observers fresh answers some g.C.Append.held g.C.Append.none g.C.Append.more at lists heapless spared (gives_one iterator.can_next iterator.remaining iterator.next_gives) _ _ _ _ _ _ _ upto.reads upto.resets runs _ c.in-Stops-parse_item.ensures in
     let laws = iterated_is_meaning g.Input.StreamOnce.step observers answers some g.N.Parser.meaning g.C.Append.held g.C.Append.none g.C.Append.more at lists spared g.N.Parser.lawful g.met.N.Parser.laws c.requires.lawful.2 in
     reasoned_in_mode laws observers inv.loops.from call
@@ -253,6 +254,6 @@ items-preserved g c =
     let lawful = c.requires.lawful.2 _ _ met in
     let kept = asked_item_kept g.N.Parser.meaning _ lawful (record { asked = item_asker c.args.self.now; is_fit = (c.requires.lawful.0, c.requires.lawful.1); all = c.requires.lawful.2; item = c.in-Some.item; answered = met }) in
     let runs = runs_next_item g.N.Parser g.Input.StreamOnce observers fresh answers some g.C.Append.held g.C.Append.none g.C.Append.more at lists heapless spared _ _ _ _ _ _ _ _ r _ left.0 left.1 _ met kept _ c.default.ensures (g.met.N.Parser.laws _ lawful) _ left.2 stays.0 stays.2 in
-    let upto = passes_more _ _ _ _ _ _ inv.passes stays.1 in
+    let upto = passes_more inv.passes stays.1 in
     let goes = item_goes g.N.Parser g.Input.StreamOnce observers fresh answers some g.C.Append.held g.C.Append.none g.C.Append.more at lists heapless spared (gives_one iterator.can_next iterator.remaining iterator.next_gives) _ _ _ _ _ _ _ upto.reads upto.resets runs (g.met.N.Parser.laws _ lawful) (g.met.N.Parser.default_valid _ c.default.ensures) _ c.in-Goes-parse_item.ensures in
-    record { self = inv.self; cleared = goes.0; passes = passes_more _ _ _ _ _ _ upto c.parse_item.ensures.passes; loops = record { z = _; from = inv.loops.from; reaches = goes.1 } }
+    record { self = inv.self; cleared = goes.0; passes = passes_more upto c.parse_item.ensures.passes; loops = record { z = _; from = inv.loops.from; reaches = goes.1 } }

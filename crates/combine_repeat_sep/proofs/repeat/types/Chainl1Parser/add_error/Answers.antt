@@ -2,7 +2,7 @@ use Rattle.std.proofs.Common.{None}
 use Rattle.combine_base.proofs.Parsers.SameMeanings.{same_none}
 use Rattle.combine_repeat_sep.specs.SeparatedParsers.{chained_operator}
 use Rattle.combine_repeat_sep.specs.Elements.{joined_means_same}
-use Rattle.combine_repeat_turns.specs.declared.turns.Bounds.TheVariants.{OwnFirst}
+use Rattle.combine_repeat_turns.specs.declared.bounds.Bounds.TheVariants.{OwnFirst}
 use Rattle.combine_repeat_sep.proofs.repeat.types.Chainl1Parser.add_error.Goals as goal
 
 pub returns-clause-same : goal.returns-clause-same

@@ -1,7 +1,7 @@
 use Rattle.std.proofs.Common.{None}
 use Rattle.combine_repeat_turns.specs.Turns.Bounds.{turns_means_same}
 use Rattle.combine_repeat_turns.specs.Repeat.Repeated.{no_value_ends}
-use Rattle.combine_repeat_turns.specs.declared.turns.Bounds.TheVariants.{OwnFirst}
+use Rattle.combine_repeat_turns.specs.declared.bounds.Bounds.TheVariants.{OwnFirst}
 use Rattle.combine_repeat_sep.proofs.repeat.types.Chainl1Parser.parse_mode.Goals as goal
 
 pub returns-clause-same : goal.returns-clause-same

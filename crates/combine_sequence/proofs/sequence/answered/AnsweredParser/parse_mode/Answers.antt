@@ -4,8 +4,9 @@ use Rattle.combine_base.proofs.Errors.MeantRefusals.{reasoned_in_mode}
 use Rattle.combine_base.proofs.Parsers.CallStarts.{in_mode}
 use Rattle.combine_base.specs.Parser.GivenValues.{gives_as}
 use Rattle.combine_base.specs.Parser.KeptParsers.{KeptOf}
+use Rattle.combine_base.specs.Sequence.Parts.{valid_from}
 use Rattle.combine_sequence.specs.Then.{then_asker, answered_starts_valid, then_is_meaning, then_means_same}
-use Rattle.combine_sequence.proofs.ThenAnswers.{accepted_kept, first_at_rest, by_some, committed_at, answered_leaves_valid, peeked_at, then_resumes, then_stops, then_refuses, then_commits, then_peeks, valid_from}
+use Rattle.combine_sequence.proofs.ThenAnswers.{accepted_kept, first_at_rest, by_some, committed_at, answered_leaves_valid, peeked_at, then_resumes, then_stops, then_refuses, then_commits, then_peeks}
 use Rattle.combine_sequence.proofs.ThenErrors.{answered_reasons, first_peeked, then_first_reasons, resumed_reasons}
 use Rattle.combine_sequence.proofs.sequence.answered.AnsweredParser.parse_mode.Goals as goal
 use Rattle.combine_sequence.proofs.sequence.answered.AnsweredParser.parse_mode.Goals.{in-CommitOk, in-PeekOk}

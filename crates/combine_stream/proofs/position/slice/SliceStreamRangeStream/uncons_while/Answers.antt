@@ -23,4 +23,4 @@ pub returns-clause-read : goal.returns-clause-read
 returns-clause-read g c =
     let longest = longest_same (g.F.Maps.answers c.args.f.now) _ _ _ c.unread-unread.ensures c.count_while-n.ensures in
     let m = few _ _ _ longest in
-    while_by_range _ _ _ (λ t. omega arith) _ _ _ _ _ _ _ _ longest (record { is = (_, slice_place _ _ m, record { taken = index_takes c.args.self.now _ m; spelled = ap (take c.count_while-n.result) c.unread-unread.ensures; failures = λ s. refl }) })
+    while_by_range (λ t. omega arith) longest (record { is = (_, slice_place _ _ m, record { taken = index_takes c.args.self.now _ m; spelled = ap (take c.count_while-n.result) c.unread-unread.ensures; failures = λ s. refl }) })

@@ -10,4 +10,4 @@ split_at-requires g c = few _ _ _ c.count_while-n.ensures
 pub returns-clause-read : goal.returns-clause-read
 returns-clause-read g c =
     let m = few _ _ _ c.count_while-n.ensures in
-    while_by_range _ _ _ (λ t. omega arith) _ _ _ _ _ _ _ _ c.count_while-n.ensures (record { is = (_, slice_place _ _ m, record { taken = slice_takes _ _ _ m c.split_at.ensures.back; spelled = c.split_at.ensures.front; failures = λ s. refl }) })
+    while_by_range (λ t. omega arith) c.count_while-n.ensures (record { is = (_, slice_place _ _ m, record { taken = slice_takes _ _ _ m c.split_at.ensures.back; spelled = c.split_at.ensures.front; failures = λ s. refl }) })

@@ -1,31 +1,105 @@
-//! Bounds of turns: a type each, so that what some turns don't need isn't compiled with them.
-ghost use Rattle.std.specs.Prelude.{◌≡◌, ℕ};
+//! How many turns there are: a type for each kind of bounds, so that what some turns don't need isn't compiled with them.
+ghost use Rattle.std.specs.Prelude.{◌≡◌, ◌-◌, ℕ, false, nat_lt, not};
 ghost use Rattle.combine_base.specs.Stream.View.{View, Takes};
-ghost use Rattle.combine_repeat_turns.specs.Turns.Bounds.{counted_bounds, enough, is_joined_block, joined_between, takes_token};
+ghost use Rattle.combine_repeat_turns.specs.Turns.Bounds.{counted_bounds, counted_to, cut_at, is_enough, is_first_or_takes_token, own_first_bounds, takes_token};
 
-use crate::turns::{Bounds, TurnIndex};
 use combine_base::stream::{Stream, has_taken};
+
+/// How many turns there are, for contracts: a type of `TurnBounds` says which are meant.
+#[derive(Clone, Copy)]
+pub enum Bounds {
+    /// Any number; each takes a token.
+    Unbounded,
+    /// The first is a part of its own: it may take nothing, and its refusal is the answer unless there need be none. Each later one takes a token.
+    OwnFirst { min: usize, max: Option<usize> },
+    /// A number; they may take nothing.
+    Counted { min: usize, max: usize },
+}
+
+/// The running turn: its index, counted up to the limit of the bounds, and whether it already took a token in an earlier piece.
+#[derive(Clone, Copy)]
+pub struct TurnIndex {
+    pub(crate) number: usize,
+    pub(crate) took_before: bool,
+}
+
+impl TurnIndex {
+    /// Returns the place of the first turn.
+    #[inline(always)]
+    pub fn first() -> TurnIndex
+        ensures { result ≡ record { number = 0; took_before = false } }
+    {
+        TurnIndex {
+            number: 0,
+            took_before: false,
+        }
+    }
+
+    /// Returns whether `max` turns were before it.
+    #[inline(always)]
+    pub(crate) fn reaches(self, max: usize) -> bool
+        ensures { result ≡ not (nat_lt self.number max) }
+    {
+        !(self.number < max)
+    }
+
+    /// Returns how many of `min` turns are missing before it.
+    #[inline(always)]
+    pub(crate) fn short_of(self, min: usize) -> usize
+        ensures { result ≡ min - self.number }
+    {
+        min.saturating_sub(self.number)
+    }
+
+    /// Returns the place of the next turn.
+    #[inline(always)]
+    pub(crate) fn next(self, count_bound: usize) -> TurnIndex
+        ensures { result ≡ record { number = counted_to count_bound self.number; took_before = false } }
+    {
+        if self.number < count_bound {
+            return TurnIndex {
+                number: self.number + 1,
+                took_before: false,
+            };
+        }
+        TurnIndex {
+            number: count_bound,
+            took_before: false,
+        }
+    }
+
+    /// Returns the index of the same turn in the next piece.
+    #[inline(always)]
+    pub(crate) fn cut<Input: Stream>(self, since: Input::Checkpoint, input: &Input) -> TurnIndex
+        ensures { (n : ℕ) (v : View Input.Position Input.Token) → Input.stands input.now since v → Takes Input.step n v (Input.view input.now) → result ≡ cut_at self n }
+    {
+        TurnIndex {
+            number: self.number,
+            took_before: has_taken(self.took_before, since, input),
+        }
+    }
+}
 
 /// How many turns there are.
 pub trait TurnBounds: Copy {
     ghost use Rattle.std.specs.Prelude.{◌≡◌, ℕ};
     ghost use Rattle.combine_base.specs.Stream.View.{View, Takes};
-    ghost use Rattle.combine_repeat_turns.specs.Turns.Bounds.{full_at, is_block_at, is_unbounded, limit, missing_turns, owns};
-    ghost use Rattle.combine_repeat_turns.specs.declared.turns.Bounds.{Bounds};
+    ghost use Rattle.combine_repeat_turns.specs.Turns.Bounds.{count_bound, full_at, is_block_at, is_unbounded, keeps_refusal, missing_turns};
+    ghost use Rattle.combine_repeat_turns.specs.declared.bounds.Bounds.{Bounds};
 
     /// What they are.
     ghost bounds: { Self → Bounds };
 
     /// Returns how far turns are counted.
     fn count_bound(self) -> usize
-        ensures { result ≡ limit (bounds self) };
+        ensures { result ≡ count_bound (bounds self) };
 
     /// Returns whether there may be any number of turns.
     fn is_unbounded(self) -> bool
         ensures { result ≡ is_unbounded (bounds self) };
 
-    /// Returns for how many values a collection asks for room when the turns begin.
-    fn room(self) -> usize;
+    /// Returns for how many values a collection asks for room: for none in a call that resumes.
+    fn room(self, first: bool) -> usize;
 
     /// Returns whether there are as many turns as there may be.
     fn is_full(self, index: TurnIndex) -> bool
@@ -37,7 +111,7 @@ pub trait TurnBounds: Copy {
 
     /// Returns whether a refusal of this turn is its own result.
     fn keeps_refusal(self, index: TurnIndex) -> bool
-        ensures { result ≡ owns (bounds self) index };
+        ensures { result ≡ keeps_refusal (bounds self) index };
 
     /// Returns whether an accepted turn counts: `since` is where its part in this piece began, `committed` how it was accepted.
     fn accepts_turn<Input: Stream>(
@@ -53,18 +127,19 @@ pub trait TurnBounds: Copy {
 /// Returns whether no turn is missing.
 #[inline(always)]
 pub fn is_enough<B: TurnBounds>(bounds: B, index: TurnIndex) -> bool
-    ensures { result ≡ enough (B.bounds bounds) index }
+    ensures { result ≡ is_enough (B.bounds bounds) index }
 {
     let missing = bounds.missing(index);
     !(0 < missing)
 }
 
 /// Any number; each takes a token.
-#[derive(Clone, Copy)]
-pub struct ZeroOrMore;
+///
+/// It is `()`, which costs the text of a nested parser's type least.
+pub type ZeroOrMore = ();
 
 impl TurnBounds for ZeroOrMore {
-    ghost use Rattle.combine_repeat_turns.specs.declared.turns.Bounds.TheVariants.{Unbounded};
+    ghost use Rattle.combine_repeat_turns.specs.declared.bounds.Bounds.TheVariants.{Unbounded};
 
     ghost bounds = { λ _. Unbounded };
 
@@ -79,7 +154,7 @@ impl TurnBounds for ZeroOrMore {
     }
 
     #[inline(always)]
-    fn room(self) -> usize {
+    fn room(self, first: bool) -> usize {
         0
     }
 
@@ -120,7 +195,7 @@ fn takes_token<Input: Stream>(
 ) -> bool
     ensures { (n : ℕ) (v : View Input.Position Input.Token) → Input.stands input.now since v → Takes Input.step n v (Input.view input.now) → result ≡ takes_token index n committed }
 {
-    committed && has_taken(index.begun, since, input)
+    committed && has_taken(index.took_before, since, input)
 }
 
 /// Returns the same as `takes_token`, but for a first turn that is a part of its own and may take nothing.
@@ -131,7 +206,7 @@ fn is_first_or_takes_token<Input: Stream>(
     since: Input::Checkpoint,
     input: &Input,
 ) -> bool
-    ensures { (n : ℕ) (v : View Input.Position Input.Token) → Input.stands input.now since v → Takes Input.step n v (Input.view input.now) → result ≡ is_joined_block index n committed }
+    ensures { (n : ℕ) (v : View Input.Position Input.Token) → Input.stands input.now since v → Takes Input.step n v (Input.view input.now) → result ≡ is_first_or_takes_token index n committed }
 {
     if index.number < 1 {
         return true;
@@ -139,7 +214,7 @@ fn is_first_or_takes_token<Input: Stream>(
     takes_token(index, committed, since, input)
 }
 
-/// At least so many turns, of which the first is a part of its own.
+/// At least `MIN` turns, of which the first is a part of its own.
 ///
 /// That one may take nothing, and its refusal is the result unless there need be none. Each later one takes a token.
 #[derive(Clone, Copy)]
@@ -147,7 +222,7 @@ pub struct FirstThenMore<const MIN: usize>;
 
 impl<const MIN: usize> TurnBounds for FirstThenMore<MIN> {
     ghost use Rattle.std.specs.Prelude.{None};
-    ghost use Rattle.combine_repeat_turns.specs.declared.turns.Bounds.TheVariants.{OwnFirst};
+    ghost use Rattle.combine_repeat_turns.specs.declared.bounds.Bounds.TheVariants.{OwnFirst};
 
     ghost bounds = { λ _. OwnFirst MIN None };
 
@@ -162,7 +237,7 @@ impl<const MIN: usize> TurnBounds for FirstThenMore<MIN> {
     }
 
     #[inline(always)]
-    fn room(self) -> usize {
+    fn room(self, first: bool) -> usize {
         0
     }
 
@@ -193,7 +268,7 @@ impl<const MIN: usize> TurnBounds for FirstThenMore<MIN> {
     }
 }
 
-/// As `FirstThenMore`, and at most so many.
+/// At least `min` and at most `max` turns, otherwise as `FirstThenMore`.
 #[derive(Clone, Copy)]
 pub struct FirstThenUpTo {
     /// How many there are at least.
@@ -203,7 +278,7 @@ pub struct FirstThenUpTo {
 }
 
 impl TurnBounds for FirstThenUpTo {
-    ghost bounds = { joined_between };
+    ghost bounds = { own_first_bounds };
 
     #[inline(always)]
     fn count_bound(self) -> usize {
@@ -216,7 +291,7 @@ impl TurnBounds for FirstThenUpTo {
     }
 
     #[inline(always)]
-    fn room(self) -> usize {
+    fn room(self, first: bool) -> usize {
         0
     }
 
@@ -247,7 +322,7 @@ impl TurnBounds for FirstThenUpTo {
     }
 }
 
-/// At least and at most so many; they may take nothing.
+/// At least `min` and at most `max` turns, which may take nothing.
 #[derive(Clone, Copy)]
 pub struct MinToMax {
     /// How many there are at least.
@@ -271,8 +346,11 @@ impl TurnBounds for MinToMax {
 
     /// Returns as many as there must be, and at most 1,024, since how many there must be may be a number that was read.
     #[inline(always)]
-    fn room(self) -> usize {
-        self.min.min(1024)
+    fn room(self, first: bool) -> usize {
+        if first {
+            return self.min.min(1024);
+        }
+        0
     }
 
     #[inline(always)]

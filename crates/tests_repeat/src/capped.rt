@@ -1,4 +1,4 @@
-//! A collection with room for so many values, and what parsers that collect in it answer.
+//! A collection that takes a number of values and no more, and what parsers that collect in it answer.
 ghost use Rattle.std.specs.Prelude.{ℕ, ◌+◌};
 
 use combine_base::error::{Commit, ParseResult, Tracked, UnexpectedParse};
@@ -10,14 +10,14 @@ use std::alloc::{AllocError, Global};
 
 /// Counts values, at most N: it refuses the next growth, and to begin with room for more.
 #[derive(Drop)]
-pub struct Room<const N: usize> {
+pub struct Capped<const N: usize> {
     taken: usize,
 }
 
-impl<A: Drop, const N: usize> Append<A> for Room<N> {
+impl<A: Drop, const N: usize> Append<A> for Capped<N> {
     ghost Held = { ℕ };
 
-    ghost held = { λ room. room.taken };
+    ghost held = { λ capped. capped.taken };
 
     ghost none = { 0 };
 
@@ -25,15 +25,15 @@ impl<A: Drop, const N: usize> Append<A> for Room<N> {
 
     ghost heapless = { ⊥ };
 
-    fn empty(_alloc: Global) -> Room<N> {
-        Room { taken: 0 }
+    fn empty(_alloc: Global) -> Capped<N> {
+        Capped { taken: 0 }
     }
 
-    fn with_capacity(_alloc: Global, capacity: usize) -> Result<Room<N>, AllocError> {
+    fn with_capacity(_alloc: Global, capacity: usize) -> Result<Capped<N>, AllocError> {
         if capacity > N {
             return Err(AllocError);
         }
-        Ok(Room { taken: 0 })
+        Ok(Capped { taken: 0 })
     }
 
     fn append(&mut self, _value: A) -> Result<(), AllocError> {
@@ -50,7 +50,7 @@ pub trait Counted {
     fn count(&self) -> usize;
 }
 
-impl<const N: usize> Counted for Room<N> {
+impl<const N: usize> Counted for Capped<N> {
     fn count(&self) -> usize {
         self.taken
     }
@@ -90,7 +90,7 @@ fn answers_failed<P: Parser<fed::Stream<u8>>>(session: &mut Session<P, u8>) -> b
 /// What became of the values.
 #[derive(Clone, Copy, Debug, PartialEq)]
 pub enum CollectOutcome {
-    /// Accepted, so many of them.
+    /// Accepted, that many of them.
     Values(usize),
     /// Accepted; they aren't seen.
     Unseen,
