@@ -1,0 +1,53 @@
+"""Scratch repositories, in which the crates of tests/ stand beside those of crates/."""
+import os, shutil, subprocess
+
+ROOT = os.path.realpath(f"{os.path.dirname(os.path.realpath(__file__))}/..")
+
+
+def listed(file):
+    """Returns the crates that a file lists, by name: what each line says behind its name."""
+    with open(file, encoding="utf-8") as it:
+        lines = [line.partition(":") for line in it if not line.startswith("#")]
+    return {name.split()[0]: (name.strip(), below.split()) for name, colon, below in lines if colon}
+
+
+def crates_of_tests():
+    """Returns the crates of tests/, as `listed` does."""
+    return listed(f"{ROOT}/tests/crates.list")
+
+
+def below(name, crates):
+    """Returns the names of the repository's crates that this one needs, itself among them."""
+    found, left = [], [name]
+    while left:
+        it = left.pop()
+        if it in crates and it not in found:
+            found.append(it)
+            left += crates[it][1]
+    return found
+
+
+def sources(name):
+    """Returns the files of a crate, each as the path that it has in its folder and where it lies."""
+    in_tests = name in crates_of_tests()
+    folder = f"{ROOT}/tests/{name}" if in_tests else f"{ROOT}/crates/{name}"
+    for at, folders, files in os.walk(folder):
+        folders[:] = sorted(it for it in folders if it != "out")
+        for file in sorted(files):
+            path = os.path.relpath(f"{at}/{file}", folder)
+            yield path[:-4] if in_tests and path.endswith(".rt.txt") else path, f"{at}/{file}"
+
+
+def make(folder, names):
+    """Makes a repository of these crates, and those that they need, in an empty folder."""
+    crates = {**listed(f"{ROOT}/crates.txt"), **crates_of_tests()}
+    needed = {it: None for name in names for it in below(name, crates)}
+    subprocess.run(["git", "init", "-q", folder], check=True)
+    shutil.copy(f"{ROOT}/HANDLES", f"{folder}/HANDLES")
+    with open(f"{folder}/crates.txt", "w", encoding="utf-8") as to:
+        to.writelines(f"{crates[it][0]}: {' '.join(crates[it][1])}\n" for it in needed)
+    for name in needed:
+        for path, file in sources(name):
+            to = f"{folder}/crates/{name}/{path}"
+            os.makedirs(os.path.dirname(to), exist_ok=True)
+            shutil.copy(file, to)
