@@ -1,2 +1,0 @@
-mod Lawful
-mod Nests

@@ -1,7 +1,0 @@
-use Rattle.std.proofs.Common.{rules}
-use Rattle.combine_base.specs.Error.Results.{from_standard}
-use Rattle.tests_combinator.proofs.Lawful.{byte_is_function}
-use Rattle.tests_combinator.proofs.functions.an_a_in_pieces.Goals as goal
-
-pub parse_pieces-requires : goal.parse_pieces-requires
-parse_pieces-requires c = rw c.env_parser.ensures (search rules, (search rules, byte_is_function _ _ _ _ _ _ from_standard _ _ (λ b shown after own p. p)))

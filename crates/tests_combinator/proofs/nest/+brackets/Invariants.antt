@@ -1,8 +1,0 @@
-use Rattle.std.proofs.Common.{◌+◌, ◌*◌}
-use Rattle.tests_combinator.proofs.nest.+brackets.Given as goal
-
-abbrev pub decreases-brackets : goal.decreases-brackets
-decreases-brackets g l = 2 * l.depth + 1
-
-abbrev pub decreases-inside : goal.decreases-inside
-decreases-inside g l = 2 * l.depth
