@@ -1,5 +1,0 @@
-use Rattle.tests_range.proofs.rows.ended.Given as goal
-
--- the parser may be called again
-abbrev pub invariant-loop-places : goal.invariant-loop-places
-invariant-loop-places g l = g.P.Parser.lawful l.parser

@@ -1,7 +1,0 @@
-use Rattle.tests_range.proofs.rows.over_windows.Given as goal
-
-abbrev pub invariant-loop-end : goal.invariant-loop-end
-invariant-loop-end g l = record {
-  lawful : g.P.Parser.lawful l.parser;
-  valid : g.P.Parser.valid l.state;
-}
