@@ -1,7 +1,7 @@
 //! Heads that come window by window.
 
 use crate::head::{Head, Runs, read_head};
-use crate::whole_heads::{HELLO, HELLO_HEADERS, has_parts};
+use crate::whole_heads::{HELLO, HELLO_PARTS, parts_of};
 use combine::error::UnexpectedParse;
 use combine::parser::{Answer, Parser, cuts_fit, parse_cuts};
 use combine::stream::position::Windowed;
@@ -47,34 +47,48 @@ fn request_head_over<'a>(
 /// A head of 22 bytes, and a byte after it.
 const SHORT: &[u8] = b"G / HTTP/1.0\r\nA: b\r\n\r\nx";
 
-/// Returns whether `SHORT` is read, committed, of which so many windows ask for more.
-fn reads_short(alloc: Global, cuts: &[usize], asked: usize) -> bool {
-    match request_head_over(alloc, SHORT, cuts) {
+/// Returns whether the head is read, of which so many windows ask for more; it has these parts.
+fn is_read(
+    alloc: Global,
+    whole: &[u8],
+    cuts: &[usize],
+    wanted: (usize, u64, &[u8]),
+) -> Result<bool, AllocError> {
+    match request_head_over(alloc, whole, cuts) {
         Some(
             (
-                count,
+                asked,
                 Answer::Accepted {
                     value,
-                    taken: 22,
+                    taken,
                     committed: true,
                 },
             ),
-        ) => count == asked && has_parts(&value, [b"G", b"/", b"HTTP/1.0"], &[(b"A", b"b")]),
-        _ => false,
+        ) => Ok((asked, taken, parts_of(alloc, &value)?.as_slice()) == wanted),
+        _ => Ok(false),
     }
 }
 
 /// A window that ends before the head does asks for more, and no other.
 #[test]
-fn each_cut_and_each_pair_of_cuts(rt: HostRuntime) {
+fn each_cut_and_each_pair_of_cuts(rt: HostRuntime) -> Result<(), AllocError> {
+    let alloc = rt.alloc();
+    let parts = b"G\n/\nHTTP/1.0\nA\nb\n".as_slice();
     for first in 0..24_usize {
-        let asked = usize::from(first < 22);
-        assert!(rt; reads_short(rt.alloc(), &[first], asked), "at {first}");
+        let asked = if first < 22 { 1 } else { 0 };
+        let is_read_so = is_read(alloc, SHORT, &[first], (asked, 22, parts))?;
+        assert!(rt; is_read_so, "at {first}");
         for second in first..24_usize {
-            let is_read = reads_short(rt.alloc(), &[first, second], asked + usize::from(second < 22));
-            assert!(rt; is_read, "at {first} and {second}");
+            let asked = match (first < 22, second < 22) {
+                (true, true) => 2,
+                (true, false) => 1,
+                _ => 0,
+            };
+            let is_read_so = is_read(alloc, SHORT, &[first, second], (asked, 22, parts))?;
+            assert!(rt; is_read_so, "at {first} and {second}");
         }
     }
+    Ok(())
 }
 
 #[test]
@@ -84,15 +98,8 @@ fn windows_of_one_byte(rt: HostRuntime) -> Result<(), AllocError> {
     for cut in 1..HELLO.len() {
         cuts.push(cut)?;
     }
-    match request_head_over(alloc, HELLO, &cuts) {
-        Some((asked, Answer::Accepted { value, taken, .. })) => {
-            let line: [&[u8]; 3] = [b"GET", b"/hello.txt", b"HTTP/1.1"];
-            assert_eq!(rt; asked, cuts.len());
-            assert_eq!(rt; taken, HELLO.len() as u64);
-            assert!(rt; has_parts(&value, line, &HELLO_HEADERS));
-        }
-        _ => assert!(rt; false, "not accepted"),
-    }
+    let wanted = (cuts.len(), HELLO.len() as u64, HELLO_PARTS);
+    assert!(rt; is_read(alloc, HELLO, &cuts, wanted)?);
     Ok(())
 }
 

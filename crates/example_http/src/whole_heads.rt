@@ -1,21 +1,18 @@
 //! Heads of a whole slice.
 
-use crate::head::{Head, Header, Runs, read_head};
+use crate::head::{Head, Runs, read_head};
 use combine::error::UnexpectedParse;
 use combine::parser::Parser;
 use combine::stream::{Kind, Stream};
-use std::alloc::Global;
+use std::alloc::{AllocError, Global};
 
 /// The request that RFC 9110 shows first.
 pub const HELLO: &[u8] =
     b"GET /hello.txt HTTP/1.1\r\nUser-Agent: curl/7.64.1\r\nHost: www.example.com\r\nAccept-Language: en, mi\r\n\r\n";
 
-/// The headers of `HELLO`.
-pub const HELLO_HEADERS: [(&[u8], &[u8]); 3] = [
-    (b"User-Agent", b"curl/7.64.1"),
-    (b"Host", b"www.example.com"),
-    (b"Accept-Language", b"en, mi"),
-];
+/// Its parts.
+pub const HELLO_PARTS: &[u8] =
+    b"GET\n/hello.txt\nHTTP/1.1\nUser-Agent\ncurl/7.64.1\nHost\nwww.example.com\nAccept-Language\nen, mi\n";
 
 /// A stream that is parsed once.
 struct Whole<Input>(Input);
@@ -38,45 +35,101 @@ fn request_head<'a>(
     read_head(alloc, Whole(input))
 }
 
-/// Returns whether a head has these parts.
-pub fn has_parts(head: &Head<&[u8]>, line: [&[u8]; 3], headers: &[(&[u8], &[u8])]) -> bool {
-    let mut are_wanted = head.headers.len() == headers.len();
-    for (header, (name, value)) in head.headers.iter().zip(headers) {
-        are_wanted = are_wanted && header.name == *name && header.value == *value;
+/// Returns the parts of a head, each with a line feed after it, since none has one in it.
+pub fn parts_of(alloc: Global, head: &Head<&[u8]>) -> Result<Vec<u8>, AllocError> {
+    let mut parts = Vec::new(alloc);
+    for part in [head.method, head.target, head.version] {
+        parts.extend_from_slice(part)?;
+        parts.push(b'\n')?;
     }
-    are_wanted && [head.method, head.target, head.version] == line
+    for header in &head.headers {
+        for part in [header.name, header.value] {
+            parts.extend_from_slice(part)?;
+            parts.push(b'\n')?;
+        }
+    }
+    Ok(parts)
 }
 
-/// Each row has an input, its method, target and version, its headers, and the rest of the input.
+/// Each row has an input, the parts of its head, and the rest of the input.
 #[test]
-fn heads(rt: HostRuntime) {
-    let one: [&[u8]; 3] = [b"G", b"/", b"HTTP/1.1"];
-    let rows: [(&[u8], [&[u8]; 3], &[(&[u8], &[u8])], &[u8]); 15] = [
-        (b"GET / HTTP/1.1\r\n\r\n", [b"GET", b"/", b"HTTP/1.1"], &[], b""),
-        (b"OPTIONS * HTTP/1.1\r\n\r\nbody", [b"OPTIONS", b"*", b"HTTP/1.1"], &[], b"body"),
-        (b"CONNECT www.example.com:80 HTTP/1.0\r\n\r\n\r\n", [b"CONNECT", b"www.example.com:80", b"HTTP/1.0"], &[], b"\r\n"),
-        (b"GET http://www.example.org/where?q=now HTTP/1.1\r\n\r\n", [b"GET", b"http://www.example.org/where?q=now", b"HTTP/1.1"], &[], b""),
-        (b"!#$%&'*+-.^_`|~09azAZ ~! HTTP/1.9\r\n\r\n", [b"!#$%&'*+-.^_`|~09azAZ", b"~!", b"HTTP/1.9"], &[], b""),
-        (b"g \x80\xff HTTP/1.1\r\n\r\n", [b"g", b"\x80\xff", b"HTTP/1.1"], &[], b""),
-        (b"G / HTTP/1.1\r\nHost: a.b\r\n\r\n", one, &[(b"Host", b"a.b")], b""),
-        (b"G / HTTP/1.1\r\nHost:a.b:80\r\n\r\n", one, &[(b"Host", b"a.b:80")], b""),
-        (b"G / HTTP/1.1\r\nA: \tb\t \r\n\r\n", one, &[(b"A", b"b")], b""),
-        (b"G / HTTP/1.1\r\nA: b \tc  d \r\n\r\n", one, &[(b"A", b"b \tc  d")], b""),
-        (b"G / HTTP/1.1\r\nA:\r\n\r\n", one, &[(b"A", b"")], b""),
-        (b"G / HTTP/1.1\r\nA: \t \r\n\r\n", one, &[(b"A", b"")], b""),
-        (b"G / HTTP/1.1\r\nA: \x80 \xff\r\n\r\n", one, &[(b"A", b"\x80 \xff")], b""),
-        (b"G / HTTP/1.1\r\n!#$%&'*+-.^_`|~09azAZ:!~\r\n\r\n", one, &[(b"!#$%&'*+-.^_`|~09azAZ", b"!~")], b""),
-        (HELLO, [b"GET", b"/hello.txt", b"HTTP/1.1"], &HELLO_HEADERS, b""),
+fn heads(rt: HostRuntime) -> Result<(), AllocError> {
+    let alloc = rt.alloc();
+    let rows: [(&[u8], &[u8], &[u8]); 15] = [
+        (b"GET / HTTP/1.1\r\n\r\n", b"GET\n/\nHTTP/1.1\n", b""),
+        (
+            b"OPTIONS * HTTP/1.1\r\n\r\nbody",
+            b"OPTIONS\n*\nHTTP/1.1\n",
+            b"body",
+        ),
+        (
+            b"CONNECT www.example.com:80 HTTP/1.0\r\n\r\n\r\n",
+            b"CONNECT\nwww.example.com:80\nHTTP/1.0\n",
+            b"\r\n",
+        ),
+        (
+            b"GET http://www.example.org/where?q=now HTTP/1.1\r\n\r\n",
+            b"GET\nhttp://www.example.org/where?q=now\nHTTP/1.1\n",
+            b"",
+        ),
+        (
+            b"!#$%&'*+-.^_`|~09azAZ ~! HTTP/1.9\r\n\r\n",
+            b"!#$%&'*+-.^_`|~09azAZ\n~!\nHTTP/1.9\n",
+            b"",
+        ),
+        (
+            b"g \x80\xff HTTP/1.1\r\n\r\n",
+            b"g\n\x80\xff\nHTTP/1.1\n",
+            b"",
+        ),
+        (
+            b"G / HTTP/1.1\r\nHost: a.b\r\n\r\n",
+            b"G\n/\nHTTP/1.1\nHost\na.b\n",
+            b"",
+        ),
+        (
+            b"G / HTTP/1.1\r\nHost:a.b:80\r\n\r\n",
+            b"G\n/\nHTTP/1.1\nHost\na.b:80\n",
+            b"",
+        ),
+        (
+            b"G / HTTP/1.1\r\nA: \tb\t \r\n\r\n",
+            b"G\n/\nHTTP/1.1\nA\nb\n",
+            b"",
+        ),
+        (
+            b"G / HTTP/1.1\r\nA: b \tc  d \r\n\r\n",
+            b"G\n/\nHTTP/1.1\nA\nb \tc  d\n",
+            b"",
+        ),
+        (b"G / HTTP/1.1\r\nA:\r\n\r\n", b"G\n/\nHTTP/1.1\nA\n\n", b""),
+        (
+            b"G / HTTP/1.1\r\nA: \t \r\n\r\n",
+            b"G\n/\nHTTP/1.1\nA\n\n",
+            b"",
+        ),
+        (
+            b"G / HTTP/1.1\r\nA: \x80 \xff\r\n\r\n",
+            b"G\n/\nHTTP/1.1\nA\n\x80 \xff\n",
+            b"",
+        ),
+        (
+            b"G / HTTP/1.1\r\n!#$%&'*+-.^_`|~09azAZ:!~\r\n\r\n",
+            b"G\n/\nHTTP/1.1\n!#$%&'*+-.^_`|~09azAZ\n!~\n",
+            b"",
+        ),
+        (HELLO, HELLO_PARTS, b""),
     ];
-    for (input, line, headers, after) in rows {
-        match request_head(rt.alloc(), input) {
+    for (input, parts, after) in rows {
+        match request_head(alloc, input) {
             Ok((head, rest)) => {
-                assert!(rt; has_parts(&head, line, headers), "{input:?}: {head:?}");
+                assert_eq!(rt; parts_of(alloc, &head)?.as_slice(), parts);
                 assert_eq!(rt; rest, after);
             }
             Err(_refusal) => assert!(rt; false, "refused: {input:?}"),
         }
     }
+    Ok(())
 }
 
 /// In a request line: a byte that isn't allowed there. In a header: a space in its name, no name, no colon, a control in its value, a line that goes on, or one that ends with a line feed or a carriage return alone.
