@@ -47,7 +47,7 @@ fn request_head_over<'a>(
 /// A head of 22 bytes, and a byte after it.
 const SHORT: &[u8] = b"G / HTTP/1.0\r\nA: b\r\n\r\nx";
 
-/// Returns whether the head is read, of which so many windows ask for more; it has these parts.
+/// Returns whether a head is accepted, committed. `wanted` is how many windows ask for more, how many bytes are taken, and the parts of the head.
 fn is_read(
     alloc: Global,
     whole: &[u8],
@@ -76,16 +76,16 @@ fn each_cut_and_each_pair_of_cuts(rt: HostRuntime) -> Result<(), AllocError> {
     let parts = b"G\n/\nHTTP/1.0\nA\nb\n".as_slice();
     for first in 0..24_usize {
         let asked = if first < 22 { 1 } else { 0 };
-        let is_read_so = is_read(alloc, SHORT, &[first], (asked, 22, parts))?;
-        assert!(rt; is_read_so, "at {first}");
+        let is_so = is_read(alloc, SHORT, &[first], (asked, 22, parts))?;
+        assert!(rt; is_so, "at {first}");
         for second in first..24_usize {
             let asked = match (first < 22, second < 22) {
                 (true, true) => 2,
                 (true, false) => 1,
                 _ => 0,
             };
-            let is_read_so = is_read(alloc, SHORT, &[first, second], (asked, 22, parts))?;
-            assert!(rt; is_read_so, "at {first} and {second}");
+            let is_so = is_read(alloc, SHORT, &[first, second], (asked, 22, parts))?;
+            assert!(rt; is_so, "at {first} and {second}");
         }
     }
     Ok(())

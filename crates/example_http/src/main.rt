@@ -37,7 +37,7 @@ fn main(rt: HostRuntime) -> ExitCode {
     HTTP.run(&rt, |(): ()| print_heads(&rt))
 }
 
-/// A stream in which a head is next. Where there is none the stream stands at the place of the mistake.
+/// A stream in which a head is next. Where there is none the stream is left at the place of the mistake.
 struct Next<'s, Input>(&'s mut Input);
 
 impl<'s, Input: Stream> Runs<Input> for Next<'s, Input> {
