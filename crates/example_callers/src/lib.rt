@@ -1,12 +1,13 @@
-//! Callers of the library: the README's, word for word, and what the tests of others share.
+//! Callers of the library: the README's and the guide's, word for word. Those of `attributes`, `digits`, `records` and `settings` say by a clause what the bytes are that they read; their proofs, in `proofs/`, cite the library's contracts alone.
 #![tactic(auto)]
 
-pub mod answers;
-pub mod cuts;
+pub mod attributes;
+pub mod digits;
 pub mod faults;
-pub mod feeding;
 pub mod pieces;
+pub mod records;
 pub mod sessions;
+pub mod settings;
 pub mod slices;
 pub mod streams;
 pub mod words;

@@ -1,4 +1,0 @@
-use Rattle.example_head.proofs.path.Goals as goal
-
-pub returns : goal.returns
-returns c = record { is = c.parse.ensures.results }
