@@ -1,3 +1,4 @@
 pub mod Attributes
+pub mod Nests
 pub mod Records
 pub mod Settings

@@ -4,6 +4,7 @@
 pub mod attributes;
 pub mod digits;
 pub mod faults;
+pub mod nest;
 pub mod pieces;
 pub mod records;
 pub mod sessions;
