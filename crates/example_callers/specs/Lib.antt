@@ -1,4 +1,5 @@
 pub mod Attributes
+pub mod Brackets
 pub mod Nests
 pub mod Records
 pub mod Settings

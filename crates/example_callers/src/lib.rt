@@ -2,6 +2,8 @@
 #![tactic(auto)]
 
 pub mod attributes;
+pub mod brackets;
+pub mod decoded;
 pub mod digits;
 pub mod faults;
 pub mod nest;
