@@ -1,27 +1,6 @@
 //! The bench: reads cases, one a line, and writes each with its answer; and, as tests, worked rows over every cut.
 #![tactic(auto)]
 
-#[cfg(test)]
-mod drivers;
-#[cfg(test)]
-mod frames;
-#[cfg(test)]
-mod limits;
-#[cfg(test)]
-mod looks;
-#[cfg(test)]
-mod messages;
-#[cfg(test)]
-mod rows;
-#[cfg(test)]
-mod sequences;
-#[cfg(test)]
-mod sessions;
-#[cfg(test)]
-mod thens;
-#[cfg(test)]
-mod tokens;
-
 use diff_answers::answer;
 use std::io;
 use std::io::{BufRead, BufReader, BufWriter, Write};

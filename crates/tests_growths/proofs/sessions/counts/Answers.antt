@@ -1,6 +1,0 @@
-use Rattle.std.proofs.Common.{rules}
-use Rattle.combine_repeat_iterate.proofs.NumberRanges.{range_lists}
-use Rattle.tests_growths.proofs.sessions.counts.Goals as goal
-
-pub run-requires : goal.run-requires
-run-requires g c = rw c.iterate-lists.ensures (search rules, record { kept = λ x i n l m. search rules }, λ a n q. search rules, range_lists _ _ _ (λ clone it i j. (i.0, i.1, j)))
