@@ -1,20 +1,17 @@
-//! Links the static libraries of ours, where `COMBINE_BENCH_LIBRARIES` names them with `:` between them, and
-//! `COMBINE_BENCH_HEAP`, what they allocate with; writes `ours.rs`, a call for each of their exports
-//! `combine_bench_NAME`.
+//! Links our static library, where `COMBINE_BENCH_LIBRARY` names it, and `COMBINE_BENCH_HEAP`, what it allocates with;
+//! writes `ours.rs`, a call for each of its exports `combine_bench_NAME`.
 
 use std::fmt::Write;
 use std::path::Path;
 use std::process::Command;
 
 fn main() {
-    println!("cargo:rerun-if-env-changed=COMBINE_BENCH_LIBRARIES");
+    println!("cargo:rerun-if-env-changed=COMBINE_BENCH_LIBRARY");
     println!("cargo:rerun-if-env-changed=COMBINE_BENCH_HEAP");
     let mut names = Vec::new();
-    if let Ok(libraries) = std::env::var("COMBINE_BENCH_LIBRARIES") {
-        for library in libraries.split(':') {
-            link(library);
-            names.extend(exports(library));
-        }
+    if let Ok(library) = std::env::var("COMBINE_BENCH_LIBRARY") {
+        link(&library);
+        names = exports(&library);
         link(&std::env::var("COMBINE_BENCH_HEAP").expect("COMBINE_BENCH_HEAP names the library that allocates"));
     }
     names.sort();

@@ -4,7 +4,7 @@
 //!     bench check                               each side answers the same on short inputs, in pieces of many sizes
 //!     bench time NAME PIECE BYTES RUNS          the best of so many runs of each side, in seconds
 //!     bench count NAME PIECE BYTES SIDE         one run of one side, in the function `counted`
-//!     bench ours                                what the linked static libraries export
+//!     bench ours                                what the linked static library exports
 //!     bench sides NAME PIECE                    the sides that a measure has in pieces of that size
 //!     bench messages NAME BYTES                 how many messages stand in the input of a measure that decodes them
 mod by_combine;

@@ -1,6 +1,6 @@
-//! Ours: the static libraries that `rt lib` makes of the crates `bench_measures`, `bench_decode` and `bench_json`.
+//! Ours: the static library that `rt lib` makes of the crate `bench`.
 //!
-//! For the measure NAME one of them exports a function:
+//! For the measure NAME it exports a function:
 //!
 //!     uint64_t combine_bench_NAME(const uint8_t *bytes, size_t length, size_t piece);
 //!
@@ -15,8 +15,8 @@
 //! with `_by_session_by_piece` of such a loop that collects the messages of a piece.
 //!
 //! It answers what the measure's file says, `REFUSED` where the parser refuses, and `FAULT` where a fault came up.
-//! Nothing that it allocates passes the border. `build.rs` finds what the libraries export; a measure that they have
-//! not yet is left out.
+//! Nothing that it allocates passes the border. `build.rs` finds what the library exports; a measure that it has not
+//! yet is left out.
 
 use crate::measure::Call;
 

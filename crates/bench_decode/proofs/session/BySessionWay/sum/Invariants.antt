@@ -1,5 +1,0 @@
-use Rattle.std.proofs.Common.{length}
-use Rattle.bench_decode.proofs.session.BySessionWay.sum.Given as goal
-
-abbrev pub decreases-pieces : goal.decreases-pieces
-decreases-pieces g l = length l.rest

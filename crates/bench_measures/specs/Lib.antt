@@ -1,5 +1,0 @@
-pub mod ParserRuns
-pub mod Measures
-pub mod Programs
-pub mod TaggedParsers
-pub mod Tally
