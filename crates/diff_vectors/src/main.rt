@@ -1,28 +1,16 @@
-//! The bench: reads cases, one a line, and writes each with its answer; and, as tests, worked rows over every cut.
+//! Reads cases, one a line, and writes each with its answer, for a comparison with the answers of others.
 #![tactic(auto)]
 
-#[cfg(test)]
-mod drivers;
-#[cfg(test)]
-mod frames;
-#[cfg(test)]
-mod limits;
-#[cfg(test)]
-mod looks;
-#[cfg(test)]
-mod messages;
-#[cfg(test)]
-mod rows;
-#[cfg(test)]
-mod sequences;
-#[cfg(test)]
-mod sessions;
-#[cfg(test)]
-mod thens;
-#[cfg(test)]
-mod tokens;
+mod cases;
+mod chained;
+mod composed;
+mod list;
+mod run;
+mod show;
+mod text;
+mod words;
 
-use diff_answers::answer;
+use cases::answer;
 use std::io;
 use std::io::{BufRead, BufReader, BufWriter, Write};
 
@@ -43,7 +31,7 @@ fn main(rt: HostRuntime) -> io::Result<()> {
     out.flush()
 }
 
-/// What stands before ` = ` on a line.
+/// Returns what stands before ` = ` on a line.
 fn case_of(line: &str) -> &str {
     match line.split_once(" = ") {
         Some((case, _answer)) => case,

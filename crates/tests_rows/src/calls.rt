@@ -17,7 +17,7 @@ use combine_base::stream::Stream;
 pub use leaves::{
     AnyCall, Class, EofCall, Picks, ProduceCall, SatisfyCall, SatisfyMapCall, TokenCall, ValueCall,
 };
-pub use lists::{NoneOf2Call, OneOf2Call};
+pub use lists::{Compare, NoneOf2Call, OneOf2Call, TokensCall, TokensCmpCall, Word};
 pub use one_part::{
     Attempt, AttemptCall, Change, Map, MapCall, Optional, OptionalCall, Tuple1, Tuple1Call,
 };
