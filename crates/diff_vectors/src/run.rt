@@ -67,7 +67,7 @@ where
 }
 
 /// An answer, after the parser asked so often for more.
-type Answered<O> = (usize, Result<Answer<O, UnexpectedParse>, SessionError>);
+pub(crate) type Answered<O> = (usize, Result<Answer<O, UnexpectedParse>, SessionError>);
 
 /// A session runs the parser, but where the end of the input comes with a last piece that isn't empty: that the parser is given over its stream, at once with the end.
 fn run<T: Copy + 'static, P: Parser<fed::Stream<T>> + Drop>(
