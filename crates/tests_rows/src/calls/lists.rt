@@ -91,9 +91,8 @@ impl<T: Copy, W: Word, C: Compare<T>> Call<T> for TokensCmpCall<W, C> {
     where
         Input::Error: ParseError<T, Input::Range, Input::Position>,
     {
-        visitor.visit(tokens_cmp(
-            W::bytes(),
-            |wanted: &u8, token: T| -> bool { C::fits(*wanted, token) },
-        ))
+        visitor.visit(tokens_cmp(W::bytes(), |wanted: &u8, token: T| -> bool {
+            C::fits(*wanted, token)
+        }))
     }
 }
