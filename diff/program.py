@@ -23,7 +23,7 @@ TOGETHER = 10
 # So many are tried at once.
 TRIED_AT_ONCE = 60
 
-sys.path.insert(0, str(ROOT / "trials"))
+sys.path.append(str(ROOT / "trials"))
 
 import scratch
 

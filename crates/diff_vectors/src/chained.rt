@@ -1,68 +1,34 @@
 //! The values of chains.
 
 use crate::show::Show;
-use std::alloc::AllocError;
+use std::alloc::{AllocError, Global};
 
-/// No chain of a short input has more letters.
-const MOST: usize = 32;
-
-/// The value of a chain: its text, in brackets as it was folded. Letters beyond `MOST` are left out.
+/// The value of a chain: its text, in brackets as it was folded, if there was memory for it.
 #[derive(Drop)]
-pub(crate) struct Chain {
-    /// The letters, and zeros after them.
-    letters: [u8; MOST],
-    count: usize,
-}
+pub(crate) struct Chain(Result<String, AllocError>);
 
 impl Chain {
-    /// The operand of a token.
-    pub(crate) fn operand(token: u8) -> Chain {
-        let mut chain = Chain::empty();
-        chain.push(token);
-        chain
+    /// Returns the operand of a token.
+    pub(crate) fn operand(alloc: Global, token: u8) -> Chain {
+        Chain(format!(in alloc; "{}", char::from(token)))
     }
 
-    /// Two operands with the operator of a token between them.
-    pub(crate) fn joined(left: Chain, operator: u8, right: Chain) -> Chain {
-        let mut chain = Chain::empty();
-        chain.push(b'(');
-        chain.append(&left);
-        chain.push(operator);
-        chain.append(&right);
-        chain.push(b')');
-        chain
+    /// Returns two operands with the operator of a token between them.
+    pub(crate) fn joined(alloc: Global, left: Chain, operator: u8, right: Chain) -> Chain {
+        Chain(join(alloc, left, operator, right))
     }
+}
 
-    fn empty() -> Chain {
-        Chain {
-            letters: [0; MOST],
-            count: 0,
-        }
-    }
-
-    fn push(&mut self, letter: u8) {
-        if self.count < MOST {
-            self.letters[self.count] = letter;
-            self.count += 1;
-        }
-    }
-
-    fn append(&mut self, other: &Chain) {
-        for letter in other.letters {
-            if letter != 0 {
-                self.push(letter);
-            }
-        }
-    }
+fn join(alloc: Global, left: Chain, operator: u8, right: Chain) -> Result<String, AllocError> {
+    let (left, right) = (left.0?, right.0?);
+    format!(in alloc; "({left}{}{right})", char::from(operator))
 }
 
 impl Show for Chain {
     fn show(&self, text: &mut String) -> Result<(), AllocError> {
-        for letter in self.letters {
-            if letter != 0 {
-                text.push(char::from(letter))?;
-            }
+        match &self.0 {
+            Ok(chain) => text.push_str(chain.as_str()),
+            Err(_) => Err(AllocError),
         }
-        Ok(())
     }
 }

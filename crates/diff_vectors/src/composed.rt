@@ -66,13 +66,13 @@ macro_rules! parser {
 
 /// A parser of one token, as the operand of a chain.
 macro_rules! operand {
-    ($alloc:ident; $f:ident $a:tt) => { combine_combinator::combinator::map($crate::composed::parser!($alloc; $f $a), |token: u8| $crate::chained::Chain::operand(token)) };
+    ($alloc:ident; $f:ident $a:tt) => { combine_combinator::combinator::map($crate::composed::parser!($alloc; $f $a), |token: u8| $crate::chained::Chain::operand($alloc, token)) };
 }
 
 /// A parser of one token, as the operator.
 macro_rules! operator {
     ($alloc:ident; $f:ident $a:tt) => { combine_combinator::combinator::map($crate::composed::parser!($alloc; $f $a), |token: u8| {
-        move |left: $crate::chained::Chain, right: $crate::chained::Chain| $crate::chained::Chain::joined(left, token, right)
+        move |left: $crate::chained::Chain, right: $crate::chained::Chain| $crate::chained::Chain::joined($alloc, left, token, right)
     }) };
 }
 
