@@ -1,7 +1,17 @@
-//! The bench: reads cases, one a line, and writes each with its answer; and, as tests, worked rows over every cut.
+//! Reads cases, one a line, and writes each with its answer, for a comparison with the answers of others.
 #![tactic(auto)]
 
-use diff_answers::answer;
+mod calls;
+mod cases;
+mod chained;
+mod composed;
+mod list;
+mod run;
+mod show;
+mod text;
+mod words;
+
+use cases::answer;
 use std::io;
 use std::io::{BufRead, BufReader, BufWriter, Write};
 
@@ -22,7 +32,7 @@ fn main(rt: HostRuntime) -> io::Result<()> {
     out.flush()
 }
 
-/// What stands before ` = ` on a line.
+/// Returns what stands before ` = ` on a line.
 fn case_of(line: &str) -> &str {
     match line.split_once(" = ") {
         Some((case, _answer)) => case,

@@ -1,6 +1,23 @@
-//! The worked rows of the constructors, each with its parser named by a type, which names no stream: so a row costs no proof, and a parser hardly more.
+//! Worked rows of the library's parsers: inputs in pieces, what is given for each, and the same over every cut. Each parser is composed in a plain function over any stream. They are compiled for tests only, so that they are proved once.
 #![tactic(auto)]
 
-pub mod calls;
-pub mod rows;
-pub mod show;
+#[cfg(test)]
+mod choices;
+#[cfg(test)]
+mod cuts;
+#[cfg(test)]
+mod errors;
+#[cfg(test)]
+mod messages;
+#[cfg(test)]
+mod ranges;
+#[cfg(test)]
+mod repetitions;
+#[cfg(test)]
+mod rows;
+#[cfg(test)]
+mod sequences;
+#[cfg(test)]
+mod show;
+#[cfg(test)]
+mod tokens;

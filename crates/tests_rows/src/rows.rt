@@ -1,196 +1,58 @@
-//! Rows of calls: what their parsers answer to an input, as text. A stream is named here alone, so a row costs no proof, and a parser hardly more.
+//! Rows of a parser, by the drivers of the library.
+ghost use Rattle.combine_decode.specs.Messages.{IsMade};
 
-use crate::calls::{Call, Visitor};
-use crate::show::{Show, show_left, show_number, show_place};
-use combine_base::error::UnexpectedParse;
-use combine_base::parser::{Answer, Parser, SessionError, parse_pieces};
-use combine_base::stream::{Kind, Positioned, fed};
-use combine_stream::position::{self, SliceStream, TextStream};
+use crate::cuts::{cut, pieces, sets_of_places, without_mark};
+use crate::show::{Show, show_answer};
+use combine::error::UnexpectedParse;
+use combine::parser::{Answer, Parser, Session, SessionError, cuts_fit, parse_cuts};
+use combine::stream::position::{self, SliceStream, TextStream, Windowed};
+use combine::stream::{MaybePartialStream, Stream, fed};
+use combine::{EasyParser, easy};
 use std::alloc::{AllocError, Global};
+use std::process::Abort;
 
-/// Runs a parser on a whole slice: the value, and what is behind it.
-#[derive(Drop)]
-struct OfSlice {
-    alloc: Global,
-    input: &'static [u8],
+/// A text that stays as long as the program runs: `&'static str`. It is a type parameter of what takes rows, since the language refuses a call where a type argument names several lifetimes, as that of a parser with a text does, and the signature names `'static`.
+pub trait Lasting: Copy + Drop {
+    /// Returns the text.
+    fn text(self) -> &'static str;
 }
 
-impl<O: Show> Visitor<&'static [u8], O> for OfSlice {
-    type Answer = Result<String, AllocError>;
+impl Lasting for &'static str {
+    fn text(self) -> &'static str {
+        self
+    }
+}
 
-    ghost ready = { λ s. Unit {0} };
+type Row = (&'static str, &'static str);
 
-    fn visit<P: Parser<&'static [u8], Output = O> + Drop>(
-        self,
+/// A way to go through the rows of a parser over one sort of stream.
+pub trait Driver<Input: Stream> {
+    /// Goes through the rows of a parser: each an input, and what is given for it.
+    fn check<P: Parser<Input> + Drop, T: Lasting>(
+        &mut self,
         parser: P,
-    ) -> Result<String, AllocError> {
-        let mut parser = parser;
-        let mut text = String::new(self.alloc);
-        match parser.parse(self.input) {
-            Ok((value, rest)) => {
-                value.show(&mut text)?;
-                text.push('|')?;
-                text.push_str(str::from_utf8(rest).unwrap_or("no text"))?;
-            }
-            Err(error) => text.push_str(name_of(error))?,
-        }
-        Ok(text)
-    }
+        rows: &[(T, T)],
+    ) -> Result<(), AllocError>
+    where
+        P::Output: Show,
+        requires { P.lawful parser };
 }
 
-/// Runs a parser on a whole text: the value, what is behind it, and how many bytes that has.
-#[derive(Drop)]
-struct OfText {
-    alloc: Global,
-    input: &'static str,
+/// A way to go through the rows of parsers in sessions, over one sort of token.
+pub trait Feeder<Input: Stream> {
+    /// Goes through the rows of the parsers that a function makes: each an input in pieces, with `/` between them, and what is given for it. That is `more N` for each piece that leaves it undecided, N tokens being unread, and then the decision. An input that ends in `..` stays open.
+    fn feed<P: Parser<Input> + Drop, F: Fn() -> P + Drop, T: Lasting>(
+        &mut self,
+        maker: F,
+        rows: &[(T, T)],
+    ) -> Result<(), AllocError>
+    where
+        P::Output: Show,
+        requires callable { F.IsAlwaysCallable maker }
+        requires lawful { IsMade (F.post maker) P.lawful };
 }
 
-impl<O: Show> Visitor<&'static str, O> for OfText {
-    type Answer = Result<String, AllocError>;
-
-    ghost ready = { λ s. Unit {0} };
-
-    fn visit<P: Parser<&'static str, Output = O> + Drop>(
-        self,
-        parser: P,
-    ) -> Result<String, AllocError> {
-        let mut parser = parser;
-        let mut text = String::new(self.alloc);
-        match parser.parse(self.input) {
-            Ok((value, rest)) => {
-                value.show(&mut text)?;
-                text.push('|')?;
-                text.push_str(rest)?;
-                text.push(' ')?;
-                show_left(self.alloc, rest.position(), &mut text)?;
-            }
-            Err(error) => text.push_str(name_of(error))?,
-        }
-        Ok(text)
-    }
-}
-
-/// Runs a parser on a text whose lines and columns are counted: the value, and the place behind it.
-#[derive(Drop)]
-struct OfLines {
-    alloc: Global,
-    input: &'static str,
-}
-
-impl<O: Show> Visitor<TextStream<'static>, O> for OfLines {
-    type Answer = Result<String, AllocError>;
-
-    ghost ready = { λ s. Unit {0} };
-
-    fn visit<P: Parser<TextStream<'static>, Output = O> + Drop>(
-        self,
-        parser: P,
-    ) -> Result<String, AllocError> {
-        let mut parser = parser;
-        let mut text = String::new(self.alloc);
-        match parser.parse(position::Stream::new(self.input)) {
-            Ok((value, rest)) => {
-                value.show(&mut text)?;
-                text.push('|')?;
-                show_place(self.alloc, rest.position(), &mut text)?;
-            }
-            Err(error) => text.push_str(name_of(error))?,
-        }
-        Ok(text)
-    }
-}
-
-/// Runs a parser on a slice whose tokens are counted: the value, and the index behind it.
-#[derive(Drop)]
-struct OfIndices {
-    alloc: Global,
-    input: &'static [u8],
-}
-
-impl<O: Show> Visitor<SliceStream<'static, u8>, O> for OfIndices {
-    type Answer = Result<String, AllocError>;
-
-    ghost ready = { λ s. Unit {0} };
-
-    fn visit<P: Parser<SliceStream<'static, u8>, Output = O> + Drop>(
-        self,
-        parser: P,
-    ) -> Result<String, AllocError> {
-        let mut parser = parser;
-        let mut text = String::new(self.alloc);
-        match parser.parse(position::Stream::new(self.input)) {
-            Ok((value, rest)) => {
-                value.show(&mut text)?;
-                text.push('|')?;
-                show_number(self.alloc, rest.position() as u64, &mut text)?;
-            }
-            Err(error) => text.push_str(name_of(error))?,
-        }
-        Ok(text)
-    }
-}
-
-/// Runs a parser on an input that stands in pieces: the value, how many tokens are taken, and whether that is committed.
-#[derive(Drop)]
-struct OfPieces<'a, T> {
-    alloc: Global,
-    pieces: &'a [&'a [T]],
-}
-
-impl<'a, T: Copy + 'static, O: Show> Visitor<fed::Stream<T>, O> for OfPieces<'a, T> {
-    type Answer = Result<String, AllocError>;
-
-    ghost ready = { λ s. Unit {0} };
-
-    fn visit<P: Parser<fed::Stream<T>, Output = O> + Drop>(
-        self,
-        parser: P,
-    ) -> Result<String, AllocError> {
-        told(self.alloc, parse_pieces(self.alloc, parser, self.pieces))
-    }
-}
-
-/// What is answered to pieces.
-fn told<O: Show>(
-    alloc: Global,
-    answer: Result<Answer<O, UnexpectedParse>, SessionError>,
-) -> Result<String, AllocError> {
-    let mut text = String::new(alloc);
-    match answer {
-        Ok(
-            Answer::Accepted {
-                value,
-                taken,
-                committed,
-            },
-        ) => {
-            value.show(&mut text)?;
-            text.push('|')?;
-            show_number(alloc, taken, &mut text)?;
-            text.push_str(if committed { " committed" } else { " peeked" })?;
-        }
-        Ok(Answer::Refused { error, committed }) => {
-            text.push_str(name_of(error))?;
-            text.push_str(if committed { " committed" } else { " peeked" })?;
-        }
-        Ok(Answer::More) => text.push_str("more")?,
-        Err(_fault) => text.push_str("a fault of the session")?,
-    }
-    Ok(text)
-}
-
-fn name_of(error: UnexpectedParse) -> &'static str {
-    match error.0 {
-        Kind::Refused => "refused",
-        Kind::End => "end",
-        Kind::Memory | Kind::Read | Kind::Reset | Kind::Lost => "a fault",
-    }
-}
-
-/// A row: an input, and what is answered to it.
-pub type Row = (&'static str, &'static str);
-
-/// What was answered other than rows say.
+/// The rows for which something else was given.
 #[derive(Drop)]
 pub struct Rows {
     alloc: Global,
@@ -198,7 +60,7 @@ pub struct Rows {
 }
 
 impl Rows {
-    /// No row so far.
+    /// Returns no rows.
     pub fn new(alloc: Global) -> Self {
         Rows {
             alloc,
@@ -206,122 +68,294 @@ impl Rows {
         }
     }
 
-    /// What was answered other than the rows say.
-    pub fn into_wrong(self) -> Vec<String> {
-        self.wrong
+    /// Fails where something else was given for a row.
+    pub fn finish(self, rt: &impl Abort) {
+        for row in self.wrong {
+            assert_eq!(rt; row.as_str(), "");
+        }
     }
 
-    fn compare(&mut self, row: Row, said: String) -> Result<(), AllocError> {
-        let (input, wanted) = row;
-        if said.as_str() != wanted {
-            self.wrong.push(format!(in self.alloc; "{input}: {said}")?)?;
+    fn compare(&mut self, input: &str, wanted: &str, given: String) -> Result<(), AllocError> {
+        if given.as_str() != wanted {
+            self.wrong
+                .push(format!(in self.alloc; "{input}: {given}")?)?;
         }
         Ok(())
     }
 
-    /// Goes through rows of slices.
-    pub fn of_slices<C: Call<u8>>(&mut self, rows: &[Row]) -> Result<(), AllocError>
+    /// Compares a row with what a session gives for it, and its decision with that over every cut.
+    fn by_sessions<
+        C: Copy + Drop + 'static,
+        P: Parser<fed::Stream<C>> + Drop,
+        F: Fn() -> P + Drop,
+        G: Fn(char) -> C + Copy + Drop,
+    >(&mut self, maker: &F, row: Row, token: G) -> Result<(), AllocError>
     where
-        C::Output: Show,
+        P::Output: Show,
+        requires callable { F.IsAlwaysCallable maker.now }
+        requires lawful { IsMade (F.post maker.now) P.lawful }
+        requires token { G.IsAlwaysCallable token }
     {
         let alloc = self.alloc;
-        for row in rows {
-            let input = row.0.as_bytes();
-            let said = C::accept(alloc, OfSlice { alloc, input })?;
-            self.compare(*row, said)?;
+        let (input, is_open) = without_mark(row.0);
+        let pieces_of_row = pieces(alloc, input, token)?;
+        let given = run(alloc, maker(), &pieces_of_row, is_open, true)?;
+        self.compare(row.0, row.1, given)?;
+        if is_open {
+            return Ok(());
+        }
+        for places in 0..sets_of_places(input.chars().count()) {
+            let input = cut(alloc, input, places)?;
+            let pieces_of_cut = pieces(alloc, input.as_str(), token)?;
+            let given = run(alloc, maker(), &pieces_of_cut, false, false)?;
+            self.compare(input.as_str(), decision(row.1), given)?;
         }
         Ok(())
     }
 
-    /// Goes through rows of texts.
-    pub fn of_texts<C: Call<char>>(&mut self, rows: &[Row]) -> Result<(), AllocError>
+    /// Compares a row with what `easy_parse` gives for it.
+    fn by_easy_parse<P: Parser<easy::Stream<TextStream<'static>>>>(
+        &mut self,
+        parser: &mut P,
+        row: Row,
+    ) -> Result<(), AllocError>
     where
-        C::Output: Show,
+        P::Output: Show,
+        requires { P.lawful parser.old }
+        ensures { P.lawful parser.new }
     {
-        let alloc = self.alloc;
-        for row in rows {
-            let input = row.0;
-            let said = C::accept(alloc, OfText { alloc, input })?;
-            self.compare(*row, said)?;
-        }
-        Ok(())
+        let given = easily(self.alloc, parser, row.0)?;
+        self.compare(row.0, row.1, given)
     }
 
-    /// Goes through rows of texts whose lines and columns are counted.
-    pub fn of_lines<C: Call<char>>(&mut self, rows: &[Row]) -> Result<(), AllocError>
+    /// Compares a row with what `parse_cuts` gives for it, in one window and over every cut.
+    fn by_windows<S: Windowed, P: Parser<MaybePartialStream<S::Located>>>(
+        &mut self,
+        parser: &mut P,
+        row: Row,
+        whole: S,
+    ) -> Result<(), AllocError>
     where
-        C::Output: Show,
+        P::Output: Show,
+        requires { P.lawful parser.old }
+        ensures { P.lawful parser.new }
     {
         let alloc = self.alloc;
-        for row in rows {
-            let input = row.0;
-            let said = C::accept(alloc, OfLines { alloc, input })?;
-            self.compare(*row, said)?;
-        }
-        Ok(())
-    }
-
-    /// Goes through rows of slices whose tokens are counted.
-    pub fn of_indices<C: Call<u8>>(&mut self, rows: &[Row]) -> Result<(), AllocError>
-    where
-        C::Output: Show,
-    {
-        let alloc = self.alloc;
-        for row in rows {
-            let input = row.0.as_bytes();
-            let said = C::accept(alloc, OfIndices { alloc, input })?;
-            self.compare(*row, said)?;
-        }
-        Ok(())
-    }
-
-    /// Goes through rows of bytes in pieces, with `/` between these.
-    pub fn of_pieces<C: Call<u8>>(&mut self, rows: &[Row]) -> Result<(), AllocError>
-    where
-        C::Output: Show,
-    {
-        let alloc = self.alloc;
-        for row in rows {
-            let mut pieces = Vec::new(alloc);
-            for piece in row.0.split('/') {
-                pieces.push(piece.as_bytes())?;
-            }
-            let pieces = pieces.as_slice();
-            let said = C::accept(alloc, OfPieces { alloc, pieces })?;
-            self.compare(*row, said)?;
-        }
-        Ok(())
-    }
-
-    /// Goes through rows of characters in pieces, with `/` between these.
-    pub fn of_text_pieces<C: Call<char>>(&mut self, rows: &[Row]) -> Result<(), AllocError>
-    where
-        C::Output: Show,
-    {
-        let alloc = self.alloc;
-        for row in rows {
-            let letters = letters_of(alloc, row.0)?;
-            let mut pieces = Vec::new(alloc);
-            for piece in &letters {
-                pieces.push(piece.as_slice())?;
-            }
-            let pieces = pieces.as_slice();
-            let said = C::accept(alloc, OfPieces { alloc, pieces })?;
-            self.compare(*row, said)?;
+        let given = over_windows(alloc, parser, whole, &[])?;
+        self.compare(row.0, row.1, given)?;
+        for places in 0..sets_of_places(row.0.chars().count()) {
+            let cuts = ends(alloc, row.0, places)?;
+            let given = over_windows(alloc, parser, whole, &cuts)?;
+            self.compare(row.0, row.1, given)?;
         }
         Ok(())
     }
 }
 
-/// The characters of each piece.
-fn letters_of(alloc: Global, text: &str) -> Result<Vec<Vec<char>>, AllocError> {
-    let mut pieces = Vec::new(alloc);
-    for piece in text.split('/') {
-        let mut letters = Vec::new(alloc);
-        for letter in piece.chars() {
-            letters.push(letter)?;
-        }
-        pieces.push(letters)?;
+/// Returns the decision of a row.
+fn decision(wanted: &'static str) -> &'static str {
+    match wanted.rsplit_once(", ") {
+        Some((_more, decision)) => decision,
+        None => wanted,
     }
-    Ok(pieces)
+}
+
+impl Feeder<fed::Stream<u8>> for Rows {
+    /// A character stands for the byte of its number.
+    fn feed<P: Parser<fed::Stream<u8>> + Drop, F: Fn() -> P + Drop, T: Lasting>(
+        &mut self,
+        maker: F,
+        rows: &[(T, T)],
+    ) -> Result<(), AllocError>
+    where
+        P::Output: Show,
+    {
+        for row in rows {
+            let row = (row.0.text(), row.1.text());
+            self.by_sessions(&maker, row, |letter: char| (letter as u32 % 256) as u8)?;
+        }
+        Ok(())
+    }
+}
+
+impl Feeder<fed::Stream<char>> for Rows {
+    fn feed<P: Parser<fed::Stream<char>> + Drop, F: Fn() -> P + Drop, T: Lasting>(
+        &mut self,
+        maker: F,
+        rows: &[(T, T)],
+    ) -> Result<(), AllocError>
+    where
+        P::Output: Show,
+    {
+        for row in rows {
+            let row = (row.0.text(), row.1.text());
+            self.by_sessions(&maker, row, |letter: char| letter)?;
+        }
+        Ok(())
+    }
+}
+
+impl Driver<MaybePartialStream<TextStream<'static>>> for Rows {
+    fn check<P: Parser<MaybePartialStream<TextStream<'static>>> + Drop, T: Lasting>(
+        &mut self,
+        parser: P,
+        rows: &[(T, T)],
+    ) -> Result<(), AllocError>
+    where
+        P::Output: Show,
+    {
+        let mut parser = parser;
+        for row in rows {
+            let row = (row.0.text(), row.1.text());
+            self.by_windows(&mut parser, row, row.0)?;
+        }
+        Ok(())
+    }
+}
+
+impl Driver<MaybePartialStream<SliceStream<'static, u8>>> for Rows {
+    fn check<P: Parser<MaybePartialStream<SliceStream<'static, u8>>> + Drop, T: Lasting>(
+        &mut self,
+        parser: P,
+        rows: &[(T, T)],
+    ) -> Result<(), AllocError>
+    where
+        P::Output: Show,
+    {
+        let mut parser = parser;
+        for row in rows {
+            let row = (row.0.text(), row.1.text());
+            self.by_windows(&mut parser, row, row.0.as_bytes())?;
+        }
+        Ok(())
+    }
+}
+
+/// What an error says is one line.
+impl Driver<easy::Stream<TextStream<'static>>> for Rows {
+    fn check<P: Parser<easy::Stream<TextStream<'static>>> + Drop, T: Lasting>(
+        &mut self,
+        parser: P,
+        rows: &[(T, T)],
+    ) -> Result<(), AllocError>
+    where
+        P::Output: Show,
+    {
+        let mut parser = parser;
+        for row in rows {
+            let row = (row.0.text(), row.1.text());
+            self.by_easy_parse(&mut parser, row)?;
+        }
+        Ok(())
+    }
+}
+
+/// Returns the value that `easy_parse` gives for a text, or what its error says, in one line.
+fn easily<P: Parser<easy::Stream<TextStream<'static>>>>(
+    alloc: Global,
+    parser: &mut P,
+    text: &'static str,
+) -> Result<String, AllocError>
+where
+    P::Output: Show,
+    requires { P.lawful parser.old }
+    ensures { P.lawful parser.new }
+{
+    let mut given = String::new(alloc);
+    match parser.easy_parse(alloc, position::Stream::new(text)) {
+        Ok((value, _rest)) => value.show(alloc, &mut given)?,
+        Err(error) => {
+            let text = format!(in alloc; "{error}")?;
+            for line in text.lines() {
+                given.push_str(line)?;
+                given.push_str("; ")?;
+            }
+        }
+    }
+    Ok(given)
+}
+
+/// Feeds a session these pieces, and then the end, and returns what it gave as text.
+fn run<C: Copy + 'static, P: Parser<fed::Stream<C>> + Drop>(
+    alloc: Global,
+    parser: P,
+    pieces: &[Vec<C>],
+    is_open: bool,
+    with_more: bool,
+) -> Result<String, AllocError>
+where
+    P::Output: Show,
+    requires { P.lawful parser }
+{
+    let mut text = String::new(alloc);
+    let mut session = Session::new(alloc, parser);
+    for piece in pieces {
+        match session.feed(piece) {
+            Ok(Answer::More) => {
+                if with_more {
+                    let unread = session.unread().len();
+                    text.push_str(format!(in alloc; "more {unread}, ")?.as_str())?;
+                }
+            }
+            decision => return written(alloc, text, decision),
+        }
+    }
+    if is_open {
+        return Ok(text);
+    }
+    written(alloc, text, session.end())
+}
+
+/// Returns the text with what a session gave after it.
+fn written<V: Show>(
+    alloc: Global,
+    text: String,
+    answer: Result<Answer<V, UnexpectedParse>, SessionError>,
+) -> Result<String, AllocError> {
+    let mut text = text;
+    match answer {
+        Ok(decision) => show_answer(alloc, decision, &mut text)?,
+        Err(_fault) => text.push_str("a fault")?,
+    }
+    Ok(text)
+}
+
+/// Returns what `parse_cuts` gives for an input with these cuts, as text.
+fn over_windows<S: Windowed, P: Parser<MaybePartialStream<S::Located>>>(
+    alloc: Global,
+    parser: &mut P,
+    whole: S,
+    cuts: &[usize],
+) -> Result<String, AllocError>
+where
+    P::Output: Show,
+    requires { P.lawful parser.old }
+    ensures { P.lawful parser.new }
+{
+    let mut text = String::new(alloc);
+    if !cuts_fit(whole, cuts) {
+        text.push_str("cuts that don't fit")?;
+        return Ok(text);
+    }
+    match parse_cuts(parser, whole, cuts) {
+        Ok((_asked, answer)) => show_answer(alloc, answer, &mut text)?,
+        Err(_kind) => text.push_str("a fault")?,
+    }
+    Ok(text)
+}
+
+/// Returns where the windows of a text end that is cut after each character whose bit is set in `places`, each twice, after an empty one.
+fn ends(alloc: Global, text: &str, places: u32) -> Result<Vec<usize>, AllocError> {
+    let mut ends = Vec::new(alloc);
+    ends.push(0)?;
+    let mut places = places;
+    for (before, character) in text.char_indices() {
+        if places % 2 == 1 {
+            let behind = before.saturating_add(character.len_utf8());
+            ends.push(behind)?;
+            ends.push(behind)?;
+        }
+        places /= 2;
+    }
+    Ok(ends)
 }

@@ -1,6 +1,0 @@
-use Rattle.std.proofs.Common.{arith}
-use Rattle.diff_answers.proofs.LetterParsers.{letters_are_iterated}
-use Rattle.diff_answers.proofs.lists.Letters2Listed.list.Goals as goal
-
-pub returns-clause-iterated : goal.returns-clause-iterated
-returns-clause-iterated g c = letters_are_iterated _ (omega arith)

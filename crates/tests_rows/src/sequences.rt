@@ -1,0 +1,117 @@
+//! Sequences, and parsers that a function returns.
+
+use crate::rows::{Feeder, Rows};
+use combine::error::ParseError;
+use combine::parser::Parser;
+use combine::parser::byte::digit;
+use combine::parser::char::string;
+use combine::parser::choice::{Dispatch4, optional};
+use combine::parser::combinator::map;
+use combine::parser::repeat::many;
+use combine::parser::sequence::{between, then, then_ref};
+use combine::parser::token::{any, satisfy, token, value};
+use combine::stream::{Stream, fed};
+use combine::struct_parser;
+use std::alloc::{AllocError, Global};
+
+#[derive(Drop)]
+struct Pair(u8, u8);
+
+fn tuples<Input: Stream<Token = u8>, D: Feeder<Input>>(
+    alloc: Global,
+    rows: &mut D,
+) -> Result<(), AllocError>
+where
+    Input::Error: ParseError<u8, Input::Range, Input::Position>,
+{
+    rows.feed(
+        move || many::<Vec<_>, _>(alloc, (token(b'a'), token(b'b'))),
+        &[("a/c", "more 0, refused committed")],
+    )?;
+    rows.feed(
+        move || many::<Vec<_>, _>(alloc, (token(b'a'), optional(token(b'b')))),
+        &[("a/c", "more 0, [a,-] taken 1 committed")],
+    )?;
+    rows.feed(
+        move || (value(b'1'), token(b'a')),
+        &[("b", "refused peeked")],
+    )?;
+    rows.feed(
+        move || {
+            let pair = struct_parser!(Pair(digit(), _: token(b','), digit()));
+            map(pair, |pair: Pair| (pair.0, pair.1))
+        },
+        &[("1,2", "1,2 taken 3 committed")],
+    )
+}
+
+fn followed<Input: Stream<Token = u8>, D: Feeder<Input>>(rows: &mut D) -> Result<(), AllocError>
+where
+    Input::Error: ParseError<u8, Input::Range, Input::Position>,
+{
+    rows.feed(
+        move || then(any(), |byte: u8| token(byte)),
+        &[
+            ("aa", "a taken 2 committed"),
+            ("ab", "refused committed"),
+            ("a/b", "more 0, refused committed"),
+        ],
+    )?;
+    rows.feed(
+        move || then_ref(digit(), |byte: &u8| token(*byte)),
+        &[("11", "1,1 taken 2 committed")],
+    )?;
+    rows.feed(
+        move || {
+            then(any(), |byte: u8| match byte {
+                b'a' => Dispatch4::A(token(b'a')),
+                b'b' => Dispatch4::B(satisfy(|byte: u8| byte == b'b')),
+                b'c' => Dispatch4::C(any()),
+                _ => Dispatch4::D(token(b'd')),
+            })
+        },
+        &[("cd", "d taken 2 committed"), ("ab", "refused committed")],
+    )
+}
+
+fn brackets<Input: Stream<Token = char>, D: Feeder<Input>>(rows: &mut D) -> Result<(), AllocError>
+where
+    Input::Error: ParseError<char, Input::Range, Input::Position>,
+{
+    rows.feed(
+        move || between(token('['), token(']'), string("rust")),
+        &[("[rust]", "rust taken 6 committed")],
+    )
+}
+
+#[test]
+fn sequences(rt: HostRuntime) -> Result<(), AllocError> {
+    let alloc = rt.alloc();
+    let mut rows = Rows::new(alloc);
+    tuples::<fed::Stream<u8>, Rows>(alloc, &mut rows)?;
+    followed::<fed::Stream<u8>, Rows>(&mut rows)?;
+    brackets::<fed::Stream<char>, Rows>(&mut rows)?;
+    rows.finish(&rt);
+    Ok(())
+}
+
+/// Returns the number of parts of eight of a parser.
+fn count_of_8<Input: Stream, P: Parser<Input> + Copy>(p: P) -> u8 {
+    let eight = (p, p, p, p, p, p, p, p);
+    eight.parser_count().0
+}
+
+fn count_of_64<Input: Stream, P: Parser<Input> + Copy>(p: P) -> u8 {
+    count_of_8::<Input, _>((p, p, p, p, p, p, p, p))
+}
+
+fn count_of_512<Input: Stream, P: Parser<Input> + Copy>(p: P) -> u8 {
+    count_of_64::<Input, _>((p, p, p, p, p, p, p, p))
+}
+
+/// The number of parts stops at 255.
+#[test]
+fn numbers_of_parts(rt: HostRuntime) {
+    assert_eq!(rt; count_of_64::<&[u8], _>(any()), 64);
+    assert_eq!(rt; count_of_512::<&[u8], _>(any()), 255);
+}
