@@ -1,12 +1,12 @@
 //! Runs a parser on an input that is fed in pieces.
 
+use crate::calls::{Call, Visitor};
 use crate::cases::Feeding;
 use crate::show::Show;
 use combine_base::error::UnexpectedParse;
 use combine_base::parser::{Answer, Parser, Session, SessionError, judge};
 use combine_base::stream::{Positioned, fed};
 use std::alloc::{AllocError, Global};
-use crate::calls::{Call, Visitor};
 
 /// Runs a parser of bytes.
 #[derive(Drop)]
