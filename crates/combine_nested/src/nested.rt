@@ -86,7 +86,7 @@ pub trait Frame: Drop {
 ///
 /// # Examples
 ///
-/// How many pairs of brackets stand inside others. `brackets.rt` of `tests_nested` has it whole, with what is promised of it.
+/// How many pairs of brackets stand inside others. `brackets.rt` of `example_callers` has it whole, with what is promised of it.
 ///
 /// ```
 /// fn take(self, item: u8) -> Result<Next<Brackets, u64>, AllocError> {
