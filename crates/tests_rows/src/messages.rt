@@ -1,39 +1,26 @@
 //! A session, and messages that a decoder gives.
-ghost use Rattle.combine_decode.specs.Messages.{IsMade};
 
-use crate::cuts::pieces;
 use crate::show::Show;
-use combine::decode::{Batch, BatchEnd, DecodeError, Decoder, decode_pieces, frame};
+use combine::decode::{Batch, BatchEnd, DecodeError, frame};
 use combine::parser::byte::lower;
 use combine::parser::repeat::many1;
 use combine::parser::sequence::skip;
 use combine::parser::token::{token, value};
 use combine::parser::{Answer, Parser, Session, SessionError};
 use combine::stream::fed;
+use example_callers::decoded::{Answered, all_words, answers};
 use std::alloc::{AllocError, Global};
 use std::process::Abort;
 
-/// Decodes the words of pieces, each with `;` after it.
-pub fn all_words(alloc: Global, pieces: &[&[u8]]) -> Result<Batch<Vec<u8>>, DecodeError> {
-    let word = move || skip(many1::<Vec<u8>, _>(alloc, lower()), token(b';'));
-    decode_pieces(alloc, word, pieces)
-}
-
-/// Returns what a decoder gives for each of these pieces, as text.
-fn decode<F: Fn() -> P + Drop, P: Parser<fed::Stream<u8>> + Drop>(
-    alloc: Global,
-    maker: F,
-    pieces: &[Vec<u8>],
-) -> Result<String, AllocError>
-where
-    P::Output: Show,
-    requires callable { F.IsAlwaysCallable maker }
-    requires lawful { IsMade (F.post maker) P.lawful }
-{
+/// Writes what a decoder gave for each piece.
+fn written<V: Show>(alloc: Global, answers: Vec<Answered<V>>) -> Result<String, AllocError> {
     let mut text = String::new(alloc);
-    let mut decoder = Decoder::new(alloc, maker);
-    'pieces: for piece in pieces {
-        match decoder.feed(piece) {
+    for answered in answers {
+        let Answered {
+            answer,
+            at_boundary,
+        } = answered;
+        match answer {
             Ok(batch) => {
                 batch.messages.show(alloc, &mut text)?;
                 text.push_str(match batch.end {
@@ -46,11 +33,7 @@ where
             Err(DecodeError::Closed) => text.push_str("closed")?,
             Err(_error) => text.push_str("another error")?,
         }
-        text.push_str(if decoder.at_boundary() {
-            ", all; "
-        } else {
-            "; "
-        })?;
+        text.push_str(if at_boundary { ", all; " } else { "; " })?;
     }
     Ok(text)
 }
@@ -58,18 +41,19 @@ where
 #[test]
 fn messages(rt: HostRuntime) -> Result<(), AllocError> {
     let alloc = rt.alloc();
-    let byte = |letter: char| (letter as u32 % 256) as u8;
     let word = move || skip(many1::<Vec<u8>, _>(alloc, lower()), token(b';'));
-    let given = decode(alloc, word, &pieces(alloc, "ab;c/d;;/x", byte)?)?;
+    let given = answers(alloc, word, &[b"ab;c", b"d;;", b"x"])?;
     assert_eq!(rt;
-        given.as_str(),
+        written(alloc, given)?.as_str(),
         "[[ab]] more; [[cd]] refused peeked; closed; "
     );
-    let given = decode(alloc, || value(b'1'), &pieces(alloc, "", byte)?)?;
-    assert_eq!(rt; given.as_str(), "[] empty message, all; ");
-    let frames = pieces(alloc, "\0/\u{1}a\0/\0", byte)?;
-    let given = decode(alloc, move || frame(alloc), &frames)?;
-    assert_eq!(rt; given.as_str(), "[] more; [[a]] more; [[]] more, all; ");
+    let given = answers(alloc, || value(b'1'), &[b""])?;
+    assert_eq!(rt; written(alloc, given)?.as_str(), "[] empty message, all; ");
+    let given = answers(alloc, move || frame(alloc), &[b"\0", b"\x01a\0", b"\0"])?;
+    assert_eq!(rt;
+        written(alloc, given)?.as_str(),
+        "[] more; [[a]] more; [[]] more, all; "
+    );
     Ok(())
 }
 

@@ -6,10 +6,10 @@ use combine::parser::byte::{ShowsBytes, bytes, digit};
 use combine::parser::char;
 use combine::parser::combinator::{attempt, map, recognize};
 use combine::parser::repeat::{
-    chainl1, chainr1, count, count_min_max, escaped, iterate, many, many1, repeat_until, sep_by,
-    sep_by1, sep_count_min_max, sep_end_by, skip_many1, take_until,
+    chainl1, chainr1, count, count_min_max, escaped, many, many1, repeat_until, sep_by, sep_by1,
+    sep_count_min_max, sep_end_by, skip_many1, take_until,
 };
-use combine::parser::token::{any, one_of, token, value};
+use combine::parser::token::{one_of, token, value};
 use combine::stream::{Stream, fed};
 use std::alloc::{AllocError, Global};
 
@@ -208,18 +208,6 @@ where
     )
 }
 
-fn for_each_item(alloc: Global, rows: &mut Rows) -> Result<(), AllocError> {
-    rows.feed(
-        move || {
-            let counted = move |count: &usize, _input: &mut fed::Stream<u8>| {
-                count_min_max::<Vec<u8>, _>(alloc, *count, *count, any())
-            };
-            iterate::<Vec<Vec<u8>>, _, _>(alloc, 0..3, counted)
-        },
-        &[("abbccc", "[[][a][bb]] taken 3 committed")],
-    )
-}
-
 #[test]
 fn repetitions(rt: HostRuntime) -> Result<(), AllocError> {
     let alloc = rt.alloc();
@@ -230,7 +218,6 @@ fn repetitions(rt: HostRuntime) -> Result<(), AllocError> {
     chains::<fed::Stream<u8>, Rows>(alloc, &mut rows)?;
     up_to_an_end::<fed::Stream<u8>, Rows>(alloc, &mut rows)?;
     of_characters::<fed::Stream<char>, Rows>(alloc, &mut rows)?;
-    for_each_item(alloc, &mut rows)?;
     rows.finish(&rt);
     Ok(())
 }
