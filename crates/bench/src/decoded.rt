@@ -5,12 +5,9 @@ ghost use Rattle.combine_decode.specs.Messages.{IsMade};
 use crate::run::{Failure, number};
 use crate::sums::Sum;
 use combine::decode::{BatchEnd, Decoder, frame};
-use combine::parser::byte::types::{Digit, Lower};
 use combine::parser::byte::{digit, lower};
 use combine::parser::repeat::many1;
-use combine::parser::repeat::types::Many1;
 use combine::parser::token::token;
-use combine::parser::token::types::Token;
 use combine::parser::{Answer, Parser, Session};
 use combine::stream::fed;
 use std::alloc::Global;
@@ -60,31 +57,48 @@ fn size_of(piece: usize) -> usize
     if piece == 0 { usize::MAX } else { piece }
 }
 
-/// Adds up messages of pieces, as a decoder gives those of each.
-#[inline(always)]
-fn by_decoder<F: Fn() -> P + Drop, P: Parser<fed::Stream<u8>> + Drop>(
-    alloc: Global,
-    maker: F,
-    bytes: &[u8],
-    piece: usize,
-) -> Result<u64, Failure>
-where
-    P::Output: Message,
-    requires callable { F.IsAlwaysCallable maker }
-    requires lawful { IsMade (F.post maker) P.lawful }
-{
-    let mut decoder = Decoder::new(alloc, maker);
-    let mut sum = Sum::none();
-    'pieces: for piece in bytes.chunks(size_of(piece)) {
-        let Ok(batch) = decoder.feed(piece) else {
-            return Err(Failure::Fault);
-        };
-        add_all(batch.messages, &mut sum);
-        let BatchEnd::More = batch.end else {
-            return Err(Failure::Refused);
-        };
+/// A way to take messages out of pieces.
+trait Way {
+    /// Adds up the messages that the bytes are, in pieces of that size.
+    fn sum<F: Fn() -> P + Drop, P: Parser<fed::Stream<u8>> + Drop>(
+        alloc: Global,
+        maker: F,
+        bytes: &[u8],
+        piece: usize,
+    ) -> Result<u64, Failure>
+    where
+        P::Output: Message,
+        requires callable { F.IsAlwaysCallable maker }
+        requires lawful { IsMade (F.post maker) P.lawful };
+}
+
+/// The messages of each piece together, as a decoder gives them.
+struct ByDecoder;
+
+impl Way for ByDecoder {
+    #[inline(always)]
+    fn sum<F: Fn() -> P + Drop, P: Parser<fed::Stream<u8>> + Drop>(
+        alloc: Global,
+        maker: F,
+        bytes: &[u8],
+        piece: usize,
+    ) -> Result<u64, Failure>
+    where
+        P::Output: Message,
+    {
+        let mut decoder = Decoder::new(alloc, maker);
+        let mut sum = Sum::none();
+        'pieces: for piece in bytes.chunks(size_of(piece)) {
+            let Ok(batch) = decoder.feed(piece) else {
+                return Err(Failure::Fault);
+            };
+            add_all(batch.messages, &mut sum);
+            let BatchEnd::More = batch.end else {
+                return Err(Failure::Refused);
+            };
+        }
+        if_all(sum, decoder.at_boundary())
     }
-    if_all(sum, decoder.at_boundary())
 }
 
 /// Feeds a piece, hands on the messages that it completes, and adds how many bytes they took. They end at what is none, or takes nothing.
@@ -130,61 +144,73 @@ fn feed<
     }
 }
 
-/// Adds up messages of pieces, each as soon as it has come.
-#[inline(always)]
-fn by_session<F: Fn() -> P + Drop, P: Parser<fed::Stream<u8>> + Drop>(
-    alloc: Global,
-    maker: F,
-    bytes: &[u8],
-    piece: usize,
-) -> Result<u64, Failure>
-where
-    P::Output: Message,
-    requires callable { F.IsAlwaysCallable maker }
-    requires lawful { IsMade (F.post maker) P.lawful }
-{
-    let mut session = Session::new(alloc, maker());
-    let mut sum = Sum::none();
-    let mut taken = 0;
-    for piece in bytes.chunks(size_of(piece)) {
-        let add = |message: P::Output| {
-            message.add_to(&mut sum);
-            Ok(())
-        };
-        feed(&mut session, &maker, piece, &mut taken, add)?;
+/// Each message as soon as it has come, out of a session.
+struct BySession;
+
+impl Way for BySession {
+    #[inline(always)]
+    fn sum<F: Fn() -> P + Drop, P: Parser<fed::Stream<u8>> + Drop>(
+        alloc: Global,
+        maker: F,
+        bytes: &[u8],
+        piece: usize,
+    ) -> Result<u64, Failure>
+    where
+        P::Output: Message,
+    {
+        let mut session = Session::new(alloc, maker());
+        let mut sum = Sum::none();
+        let mut taken = 0;
+        for piece in bytes.chunks(size_of(piece)) {
+            let add = |message: P::Output| {
+                message.add_to(&mut sum);
+                Ok(())
+            };
+            feed(&mut session, &maker, piece, &mut taken, add)?;
+        }
+        if_all(sum, taken == bytes.len() as u64)
     }
-    if_all(sum, taken == bytes.len() as u64)
 }
 
-/// Adds up messages of pieces, those of a piece together, as a decoder gives them.
-#[inline(always)]
-fn by_session_by_piece<F: Fn() -> P + Drop, P: Parser<fed::Stream<u8>> + Drop>(
-    alloc: Global,
-    maker: F,
-    bytes: &[u8],
-    piece: usize,
-) -> Result<u64, Failure>
-where
-    P::Output: Message,
-    requires callable { F.IsAlwaysCallable maker }
-    requires lawful { IsMade (F.post maker) P.lawful }
-{
-    let mut session = Session::new(alloc, maker());
-    let mut sum = Sum::none();
-    let mut taken = 0;
-    for piece in bytes.chunks(size_of(piece)) {
-        let mut messages = Vec::new(alloc);
-        let push = |message: P::Output| messages.push(message).map_err(|_refused| Failure::Fault);
-        feed(&mut session, &maker, piece, &mut taken, push)?;
-        add_all(messages, &mut sum);
+/// The messages of a piece together, out of a session.
+struct BySessionByPiece;
+
+impl Way for BySessionByPiece {
+    #[inline(always)]
+    fn sum<F: Fn() -> P + Drop, P: Parser<fed::Stream<u8>> + Drop>(
+        alloc: Global,
+        maker: F,
+        bytes: &[u8],
+        piece: usize,
+    ) -> Result<u64, Failure>
+    where
+        P::Output: Message,
+    {
+        let mut session = Session::new(alloc, maker());
+        let mut sum = Sum::none();
+        let mut taken = 0;
+        for piece in bytes.chunks(size_of(piece)) {
+            let mut messages = Vec::new(alloc);
+            let push = |message: P::Output| messages
+                .push(message)
+                .map_err(|_refused| Failure::Fault);
+            feed(&mut session, &maker, piece, &mut taken, push)?;
+            add_all(messages, &mut sum);
+        }
+        if_all(sum, taken == bytes.len() as u64)
     }
-    if_all(sum, taken == bytes.len() as u64)
+}
+
+/// Adds up frames after their length, in two bytes, each in a vector.
+#[inline(always)]
+fn frames<W: Way>(alloc: Global, bytes: &[u8], piece: usize) -> u64 {
+    number(W::sum(alloc, || frame(alloc), bytes, piece))
 }
 
 /// Decodes frames after their length, in two bytes, each in a vector, and returns their sum.
 #[unsafe(no_mangle)]
 pub extern "C" fn combine_bench_decoded_frames(alloc: Global, bytes: &[u8], piece: usize) -> u64 {
-    number(by_decoder(alloc, || frame(alloc), bytes, piece))
+    frames::<ByDecoder>(alloc, bytes, piece)
 }
 
 /// Takes frames out of a session, and returns their sum.
@@ -194,7 +220,7 @@ pub extern "C" fn combine_bench_decoded_frames_by_session(
     bytes: &[u8],
     piece: usize,
 ) -> u64 {
-    number(by_session(alloc, || frame(alloc), bytes, piece))
+    frames::<BySession>(alloc, bytes, piece)
 }
 
 /// Takes frames out of a session, those of a piece together, and returns their sum.
@@ -204,28 +230,24 @@ pub extern "C" fn combine_bench_decoded_frames_by_session_by_piece(
     bytes: &[u8],
     piece: usize,
 ) -> u64 {
-    number(by_session_by_piece(alloc, || frame(alloc), bytes, piece))
+    frames::<BySessionByPiece>(alloc, bytes, piece)
 }
 
-/// A word and digits, each in a vector: `WORD=DIGITS;`.
-type Setting<Input> = (
-    Many1<Vec<u8>, Lower<Input>>,
-    Token<Input, u8>,
-    Many1<Vec<u8>, Digit<Input>>,
-    Token<Input, u8>,
-);
-
+/// Adds up settings, `WORD=DIGITS;`, the word and the digits in vectors.
 #[inline(always)]
-fn setting<Input>(alloc: Global) -> Setting<Input> {
-    let word = many1(alloc, lower());
-    let digits = many1(alloc, digit());
-    (word, token(b'='), digits, token(b';'))
+fn settings<W: Way>(alloc: Global, bytes: &[u8], piece: usize) -> u64 {
+    let setting = || {
+        let word = many1::<Vec<u8>, _>(alloc, lower());
+        let digits = many1::<Vec<u8>, _>(alloc, digit());
+        (word, token(b'='), digits, token(b';'))
+    };
+    number(W::sum(alloc, setting, bytes, piece))
 }
 
 /// Decodes settings, and returns their sum.
 #[unsafe(no_mangle)]
 pub extern "C" fn combine_bench_decoded_settings(alloc: Global, bytes: &[u8], piece: usize) -> u64 {
-    number(by_decoder(alloc, || setting(alloc), bytes, piece))
+    settings::<ByDecoder>(alloc, bytes, piece)
 }
 
 /// Takes settings out of a session, and returns their sum.
@@ -235,7 +257,7 @@ pub extern "C" fn combine_bench_decoded_settings_by_session(
     bytes: &[u8],
     piece: usize,
 ) -> u64 {
-    number(by_session(alloc, || setting(alloc), bytes, piece))
+    settings::<BySession>(alloc, bytes, piece)
 }
 
 /// Takes settings out of a session, those of a piece together, and returns their sum.
@@ -245,5 +267,5 @@ pub extern "C" fn combine_bench_decoded_settings_by_session_by_piece(
     bytes: &[u8],
     piece: usize,
 ) -> u64 {
-    number(by_session_by_piece(alloc, || setting(alloc), bytes, piece))
+    settings::<BySessionByPiece>(alloc, bytes, piece)
 }

@@ -6,6 +6,7 @@
 mod apart;
 mod choices;
 mod decoded;
+mod documents;
 mod folds;
 mod grammar;
 mod messages;
