@@ -1,4 +1,4 @@
-"""Our answers: the crate diff_vectors in a scratch repository, with parsers of parsers.list as its list, run by `rt try`."""
+"""Our answers: the crate tests/cases as a program in a scratch repository, with parsers of parsers.list as its list, run by `rt try`."""
 
 import contextlib
 import pathlib
@@ -11,12 +11,10 @@ import cases
 
 HERE = pathlib.Path(__file__).resolve().parent
 ROOT = HERE.parent
-CRATE = ROOT / "crates" / "diff_vectors"
-# The parsers that the gate keeps.
-KEPT = CRATE / "src" / "list.rt"
-# What the gate's program has no use for stands in the scratch repository alone: files beside those of diff_vectors or in
-# place of them, and arms of its macro `parser!`. Their names end in .txt here, since the gate reads each .rt file of the
-# repository as part of a crate.
+CRATE = ROOT / "tests" / "cases"
+# The parsers that the stored cases are of.
+KEPT = CRATE / "src" / "list.rt.txt"
+# What the tests have no use for stands in the scratch repository alone: files beside those of tests/cases.
 ADDED = HERE / "ours"
 # So many parsers stand in one function of the list.
 TOGETHER = 10
@@ -62,39 +60,22 @@ def tried_at_once(parsers, worded, meant):
 def copied(parsers, worded):
     """The crate in a scratch repository, with these parsers as its lists."""
     if shutil.which("rt") is None:
-        raise Missing("rt, of Rattle's toolchain, is missing: it runs the program of crates/diff_vectors")
+        raise Missing("rt, of Rattle's toolchain, is missing: it runs our program")
     with tempfile.TemporaryDirectory() as folder:
         copy = pathlib.Path(folder) / "repository"
-        scratch.make(copy, ["diff_vectors", *ADDED_USES])
-        put_before(copy / "crates.txt", "diff_vectors:", "", f" {' '.join(ADDED_USES)}")
-        crate = copy / CRATE.relative_to(ROOT)
+        scratch.make(copy, ["cases"])
+        crate = copy / "crates" / "cases"
+        for name in ("lib.rt", "sample.rt"):
+            (crate / "src" / name).unlink()
         for file in ADDED.glob("*.rt.txt"):
             shutil.copy(file, crate / "src" / file.name.removesuffix(".txt"))
-        put_before(crate / "src" / "composed.rt", COMPOSED_FROM, (ADDED / "arms.txt").read_text())
         (crate / "src" / "list.rt").write_text(whole_list(parsers))
         (crate / "src" / "worded.rt").write_text(worded_list(worded))
         yield crate
 
 
-def put_before(path, mark, text, behind=""):
-    """Writes a text before the first place of a mark, and another one behind the mark."""
-    first, found, rest = path.read_text().partition(mark)
-    if not found:
-        raise Missing(f"{path.name} has no {mark.strip()} any more")
-    path.write_text(first + text + found + behind + rest)
-
-
-# Where the arms begin, of the macro `parser!`, of what is composed of other parsers.
-COMPOSED_FROM = "    ($alloc:ident; or("
-# The libraries that the parsers need which the gate does not keep.
-ADDED_USES = [
-    *("combine_combinator_function", "combine_combinator_recognize", "combine_error", "combine_stream", "combine_range"),
-    *("combine_range_search", "combine_byte_num"),
-]
-
-
 def macro_of(parser):
-    """The macro of diff_vectors that knows this parser by its text."""
+    """The macro that knows this parser by its text."""
     if cases.reads_ranges(parser):
         return "answer_over_windows"
     return "answer_of_characters" if "string(" in parser else "answer_composed"
@@ -104,7 +85,7 @@ MACROS = {"answer_composed": "composed", "answer_of_characters": "composed", "an
 
 
 def whole_list(parsers):
-    """The list of parsers as a file of diff_vectors."""
+    """The list of parsers as a file of the program."""
     groups = []
     for macro in MACROS:
         groups += in_groups(macro, [parser for parser in parsers if macro_of(parser) == macro])
