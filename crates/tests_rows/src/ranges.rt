@@ -1,9 +1,9 @@
 //! Ranges and searches over windows, and integers of bytes.
 
-use crate::rows::{Driver, Feeder, Rows};
+use crate::rows::{Driver, Rows};
 use crate::show::Show;
 use combine::error::{DetailedError, ParseError};
-use combine::parser::byte::num::{be_i64, be_u16, be_u32, le_i16, le_u32};
+use combine::parser::byte::num::{be_u16, be_u32, le_u32};
 use combine::parser::byte::{take_until_byte, take_until_byte2, take_until_bytes};
 use combine::parser::char::digit;
 use combine::parser::choice::optional;
@@ -14,7 +14,7 @@ use combine::parser::range::{
 use combine::parser::repeat::{escaped, many1, skip_many1};
 use combine::parser::token::{one_of, satisfy, token, value};
 use combine::stream::position::{SliceStream, TextStream};
-use combine::stream::{ByteRange, ByteStream, MaybePartialStream, Range, RangeStream, Stream, fed};
+use combine::stream::{ByteRange, ByteStream, MaybePartialStream, Range, RangeStream, Stream};
 use std::alloc::{AllocError, Global};
 
 fn is_digit(byte: u8) -> bool {
@@ -151,27 +151,12 @@ where
     )
 }
 
-/// A character stands for the byte of its number.
-fn integers<Input: Stream<Token = u8>, D: Feeder<Input>>(rows: &mut D) -> Result<(), AllocError> {
-    rows.feed(
-        move || be_u16(),
-        &[("\u{1}/\u{2}", "more 1, 258 taken 2 committed")],
-    )?;
-    rows.feed(
-        move || be_i64(),
-        &[(
-            "\u{80}\0\0\0\0\0\0\0",
-            "-9223372036854775808 taken 8 committed",
-        )],
-    )?;
-    rows.feed(move || be_u32(), &[("\0\u{1}\0", "more 3, refused peeked")])?;
-    rows.feed(
-        move || le_u32(),
+fn integers<Input: Stream<Token = u8>, D: Driver<Input>>(rows: &mut D) -> Result<(), AllocError> {
+    rows.check(be_u16(), &[("\u{1}\u{2}", "258 taken 2 committed")])?;
+    rows.check(be_u32(), &[("\0\u{1}\0", "refused peeked")])?;
+    rows.check(
+        le_u32(),
         &[("\u{78}\u{56}\u{34}\u{12}", "305419896 taken 4 committed")],
-    )?;
-    rows.feed(
-        move || le_i16(),
-        &[("\u{ff}\u{ff}", "-1 taken 2 committed")],
     )
 }
 
@@ -183,7 +168,7 @@ fn ranges(rt: HostRuntime) -> Result<(), AllocError> {
     lengths::<MaybePartialStream<SliceStream<'static, u8>>, Rows>(&mut rows)?;
     texts::<MaybePartialStream<TextStream<'static>>, Rows>(&mut rows)?;
     numbers::<MaybePartialStream<TextStream<'static>>, _, Rows>(rt.alloc(), &mut rows)?;
-    integers::<fed::Stream<u8>, Rows>(&mut rows)?;
+    integers::<MaybePartialStream<SliceStream<'static, u8>>, Rows>(&mut rows)?;
     rows.finish(&rt);
     Ok(())
 }

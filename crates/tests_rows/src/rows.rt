@@ -1,12 +1,9 @@
 //! Rows of a parser, by the drivers of the library.
-ghost use Rattle.combine_decode.specs.Messages.{IsMade};
 
-use crate::cuts::{cut, pieces, sets_of_places, without_mark};
 use crate::show::{Show, show_answer};
-use combine::error::UnexpectedParse;
-use combine::parser::{Answer, Parser, Session, SessionError, cuts_fit, parse_cuts};
+use combine::parser::{Parser, cuts_fit, parse_cuts};
 use combine::stream::position::{self, SliceStream, TextStream, Windowed};
-use combine::stream::{MaybePartialStream, Stream, fed};
+use combine::stream::{MaybePartialStream, Stream};
 use combine::{EasyParser, easy};
 use std::alloc::{AllocError, Global};
 use std::process::Abort;
@@ -38,20 +35,6 @@ pub trait Driver<Input: Stream> {
         requires { P.lawful parser };
 }
 
-/// A way to go through the rows of parsers in sessions, over one sort of token.
-pub trait Feeder<Input: Stream> {
-    /// Goes through the rows of the parsers that a function makes: each an input in pieces, with `/` between them, and what is given for it. That is `more N` for each piece that leaves it undecided, N tokens being unread, and then the decision. An input that ends in `..` stays open.
-    fn feed<P: Parser<Input> + Drop, F: Fn() -> P + Drop, T: Lasting>(
-        &mut self,
-        maker: F,
-        rows: &[(T, T)],
-    ) -> Result<(), AllocError>
-    where
-        P::Output: Show,
-        requires callable { F.IsAlwaysCallable maker }
-        requires lawful { IsMade (F.post maker) P.lawful };
-}
-
 /// The rows for which something else was given.
 #[derive(Drop)]
 pub struct Rows {
@@ -79,36 +62,6 @@ impl Rows {
         if given.as_str() != wanted {
             self.wrong
                 .push(format!(in self.alloc; "{input}: {given}")?)?;
-        }
-        Ok(())
-    }
-
-    /// Compares a row with what a session gives for it, and its decision with that over every cut.
-    fn by_sessions<
-        C: Copy + Drop + 'static,
-        P: Parser<fed::Stream<C>> + Drop,
-        F: Fn() -> P + Drop,
-        G: Fn(char) -> C + Copy + Drop,
-    >(&mut self, maker: &F, row: Row, token: G) -> Result<(), AllocError>
-    where
-        P::Output: Show,
-        requires callable { F.IsAlwaysCallable maker.now }
-        requires lawful { IsMade (F.post maker.now) P.lawful }
-        requires token { G.IsAlwaysCallable token }
-    {
-        let alloc = self.alloc;
-        let (input, is_open) = without_mark(row.0);
-        let pieces_of_row = pieces(alloc, input, token)?;
-        let given = run(alloc, maker(), &pieces_of_row, is_open, true)?;
-        self.compare(row.0, row.1, given)?;
-        if is_open {
-            return Ok(());
-        }
-        for places in 0..sets_of_places(input.chars().count()) {
-            let input = cut(alloc, input, places)?;
-            let pieces_of_cut = pieces(alloc, input.as_str(), token)?;
-            let given = run(alloc, maker(), &pieces_of_cut, false, false)?;
-            self.compare(input.as_str(), decision(row.1), given)?;
         }
         Ok(())
     }
@@ -147,49 +100,6 @@ impl Rows {
             let cuts = ends(alloc, row.0, places)?;
             let given = over_windows(alloc, parser, whole, &cuts)?;
             self.compare(row.0, row.1, given)?;
-        }
-        Ok(())
-    }
-}
-
-/// Returns the decision of a row.
-fn decision(wanted: &'static str) -> &'static str {
-    match wanted.rsplit_once(", ") {
-        Some((_more, decision)) => decision,
-        None => wanted,
-    }
-}
-
-impl Feeder<fed::Stream<u8>> for Rows {
-    /// A character stands for the byte of its number.
-    fn feed<P: Parser<fed::Stream<u8>> + Drop, F: Fn() -> P + Drop, T: Lasting>(
-        &mut self,
-        maker: F,
-        rows: &[(T, T)],
-    ) -> Result<(), AllocError>
-    where
-        P::Output: Show,
-    {
-        for row in rows {
-            let row = (row.0.text(), row.1.text());
-            self.by_sessions(&maker, row, |letter: char| (letter as u32 % 256) as u8)?;
-        }
-        Ok(())
-    }
-}
-
-impl Feeder<fed::Stream<char>> for Rows {
-    fn feed<P: Parser<fed::Stream<char>> + Drop, F: Fn() -> P + Drop, T: Lasting>(
-        &mut self,
-        maker: F,
-        rows: &[(T, T)],
-    ) -> Result<(), AllocError>
-    where
-        P::Output: Show,
-    {
-        for row in rows {
-            let row = (row.0.text(), row.1.text());
-            self.by_sessions(&maker, row, |letter: char| letter)?;
         }
         Ok(())
     }
@@ -275,51 +185,6 @@ where
     Ok(given)
 }
 
-/// Feeds a session these pieces, and then the end, and returns what it gave as text.
-fn run<C: Copy + 'static, P: Parser<fed::Stream<C>> + Drop>(
-    alloc: Global,
-    parser: P,
-    pieces: &[Vec<C>],
-    is_open: bool,
-    with_more: bool,
-) -> Result<String, AllocError>
-where
-    P::Output: Show,
-    requires { P.lawful parser }
-{
-    let mut text = String::new(alloc);
-    let mut session = Session::new(alloc, parser);
-    for piece in pieces {
-        match session.feed(piece) {
-            Ok(Answer::More) => {
-                if with_more {
-                    let unread = session.unread().len();
-                    text.push_str(format!(in alloc; "more {unread}, ")?.as_str())?;
-                }
-            }
-            decision => return written(alloc, text, decision),
-        }
-    }
-    if is_open {
-        return Ok(text);
-    }
-    written(alloc, text, session.end())
-}
-
-/// Returns the text with what a session gave after it.
-fn written<V: Show>(
-    alloc: Global,
-    text: String,
-    answer: Result<Answer<V, UnexpectedParse>, SessionError>,
-) -> Result<String, AllocError> {
-    let mut text = text;
-    match answer {
-        Ok(decision) => show_answer(alloc, decision, &mut text)?,
-        Err(_fault) => text.push_str("a fault")?,
-    }
-    Ok(text)
-}
-
 /// Returns what `parse_cuts` gives for an input with these cuts, as text.
 fn over_windows<S: Windowed, P: Parser<MaybePartialStream<S::Located>>>(
     alloc: Global,
@@ -358,4 +223,16 @@ fn ends(alloc: Global, text: &str, places: u32) -> Result<Vec<usize>, AllocError
         places /= 2;
     }
     Ok(ends)
+}
+
+/// Returns how many sets of places there are between tokens: 2 to the power of their number less one. An input of more than ten tokens isn't cut.
+fn sets_of_places(length: usize) -> u32 {
+    let mut sets: u32 = 1;
+    if length > 10 {
+        return sets;
+    }
+    for _place in 1..length {
+        sets = sets.saturating_mul(2);
+    }
+    sets
 }

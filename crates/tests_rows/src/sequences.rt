@@ -1,6 +1,6 @@
 //! Sequences, and parsers that a function returns.
 
-use crate::rows::{Feeder, Rows};
+use crate::rows::{Driver, Rows};
 use combine::error::ParseError;
 use combine::parser::Parser;
 use combine::parser::byte::digit;
@@ -10,76 +10,67 @@ use combine::parser::combinator::map;
 use combine::parser::repeat::many;
 use combine::parser::sequence::{between, then, then_ref};
 use combine::parser::token::{any, satisfy, token, value};
-use combine::stream::{Stream, fed};
+use combine::stream::position::{SliceStream, TextStream};
+use combine::stream::{MaybePartialStream, Stream};
 use combine::struct_parser;
 use std::alloc::{AllocError, Global};
 
 #[derive(Drop)]
 struct Pair(u8, u8);
 
-fn tuples<Input: Stream<Token = u8>, D: Feeder<Input>>(
+fn tuples<Input: Stream<Token = u8>, D: Driver<Input>>(
     alloc: Global,
     rows: &mut D,
 ) -> Result<(), AllocError>
 where
     Input::Error: ParseError<u8, Input::Range, Input::Position>,
 {
-    rows.feed(
-        move || many::<Vec<_>, _>(alloc, (token(b'a'), token(b'b'))),
-        &[("a/c", "more 0, refused committed")],
+    rows.check(
+        many::<Vec<_>, _>(alloc, (token(b'a'), token(b'b'))),
+        &[("ac", "refused committed")],
     )?;
-    rows.feed(
-        move || many::<Vec<_>, _>(alloc, (token(b'a'), optional(token(b'b')))),
-        &[("a/c", "more 0, [a,-] taken 1 committed")],
+    rows.check(
+        many::<Vec<_>, _>(alloc, (token(b'a'), optional(token(b'b')))),
+        &[("ac", "[a,-] taken 1 committed")],
     )?;
-    rows.feed(
-        move || (value(b'1'), token(b'a')),
-        &[("b", "refused peeked")],
-    )?;
-    rows.feed(
-        move || {
-            let pair = struct_parser!(Pair(digit(), _: token(b','), digit()));
-            map(pair, |pair: Pair| (pair.0, pair.1))
-        },
+    rows.check((value(b'1'), token(b'a')), &[("b", "refused peeked")])?;
+    let pair = struct_parser!(Pair(digit(), _: token(b','), digit()));
+    rows.check(
+        map(pair, |pair: Pair| (pair.0, pair.1)),
         &[("1,2", "1,2 taken 3 committed")],
     )
 }
 
-fn followed<Input: Stream<Token = u8>, D: Feeder<Input>>(rows: &mut D) -> Result<(), AllocError>
+fn followed<Input: Stream<Token = u8>, D: Driver<Input>>(rows: &mut D) -> Result<(), AllocError>
 where
     Input::Error: ParseError<u8, Input::Range, Input::Position>,
 {
-    rows.feed(
-        move || then(any(), |byte: u8| token(byte)),
-        &[
-            ("aa", "a taken 2 committed"),
-            ("ab", "refused committed"),
-            ("a/b", "more 0, refused committed"),
-        ],
+    rows.check(
+        then(any(), |byte: u8| token(byte)),
+        &[("aa", "a taken 2 committed"), ("ab", "refused committed")],
     )?;
-    rows.feed(
-        move || then_ref(digit(), |byte: &u8| token(*byte)),
+    rows.check(
+        then_ref(digit(), |byte: &u8| token(*byte)),
         &[("11", "1,1 taken 2 committed")],
     )?;
-    rows.feed(
-        move || {
-            then(any(), |byte: u8| match byte {
-                b'a' => Dispatch4::A(token(b'a')),
-                b'b' => Dispatch4::B(satisfy(|byte: u8| byte == b'b')),
-                b'c' => Dispatch4::C(any()),
-                _ => Dispatch4::D(token(b'd')),
-            })
-        },
+    let by_first = |byte: u8| match byte {
+        b'a' => Dispatch4::A(token(b'a')),
+        b'b' => Dispatch4::B(satisfy(|byte: u8| byte == b'b')),
+        b'c' => Dispatch4::C(any()),
+        _ => Dispatch4::D(token(b'd')),
+    };
+    rows.check(
+        then(any(), by_first),
         &[("cd", "d taken 2 committed"), ("ab", "refused committed")],
     )
 }
 
-fn brackets<Input: Stream<Token = char>, D: Feeder<Input>>(rows: &mut D) -> Result<(), AllocError>
+fn brackets<Input: Stream<Token = char>, D: Driver<Input>>(rows: &mut D) -> Result<(), AllocError>
 where
     Input::Error: ParseError<char, Input::Range, Input::Position>,
 {
-    rows.feed(
-        move || between(token('['), token(']'), string("rust")),
+    rows.check(
+        between(token('['), token(']'), string("rust")),
         &[("[rust]", "rust taken 6 committed")],
     )
 }
@@ -88,9 +79,9 @@ where
 fn sequences(rt: HostRuntime) -> Result<(), AllocError> {
     let alloc = rt.alloc();
     let mut rows = Rows::new(alloc);
-    tuples::<fed::Stream<u8>, Rows>(alloc, &mut rows)?;
-    followed::<fed::Stream<u8>, Rows>(&mut rows)?;
-    brackets::<fed::Stream<char>, Rows>(&mut rows)?;
+    tuples::<MaybePartialStream<SliceStream<'static, u8>>, Rows>(alloc, &mut rows)?;
+    followed::<MaybePartialStream<SliceStream<'static, u8>>, Rows>(&mut rows)?;
+    brackets::<MaybePartialStream<TextStream<'static>>, Rows>(&mut rows)?;
     rows.finish(&rt);
     Ok(())
 }
