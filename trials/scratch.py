@@ -1,4 +1,4 @@
-"""Scratch repositories, in which the crates of tests/ stand beside those of crates/."""
+"""Scratch repositories, in which the crates of tests/ and the bench stand beside those of crates/."""
 import os, shutil, subprocess
 
 ROOT = os.path.realpath(f"{os.path.dirname(os.path.realpath(__file__))}/..")
@@ -27,15 +27,22 @@ def below(name, crates):
     return found
 
 
+def folder_of(name):
+    """Returns where a crate lies in the repository."""
+    if name not in crates_of_tests():
+        return f"crates/{name}"
+    return "bench/ours" if name == "bench" else f"tests/{name}"
+
+
 def sources(name):
     """Returns the files of a crate, each as the path that it has in its folder and where it lies."""
     in_tests = name in crates_of_tests()
-    folder = f"{ROOT}/tests/{name}" if in_tests else f"{ROOT}/crates/{name}"
+    folder = f"{ROOT}/{folder_of(name)}"
     for at, folders, files in os.walk(folder):
         folders[:] = sorted(it for it in folders if it != "out")
         for file in sorted(files):
             path = os.path.relpath(f"{at}/{file}", folder)
-            yield path[:-4] if in_tests and path.endswith(".rt.txt") else path, f"{at}/{file}"
+            yield path.removesuffix(".txt") if in_tests else path, f"{at}/{file}"
 
 
 def make(folder, names):
