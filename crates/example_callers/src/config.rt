@@ -8,22 +8,23 @@ use combine::parser::char::types::Newline;
 use combine::parser::char::{char, newline};
 use combine::parser::choice::or;
 use combine::parser::choice::types::{Optional, Or};
-use combine::parser::combinator::types::{AndThen, Map};
-use combine::parser::combinator::{and_then, map};
+use combine::parser::combinator::types::{AndThen, Lazy, Map};
+use combine::parser::combinator::{and_then, lazy, map};
 use combine::parser::error::expected;
 use combine::parser::error::types::Expected;
 use combine::parser::repeat::types::{Many, Many1, SepBy, SkipMany};
 use combine::parser::sequence::types::{Between, Skip, With};
 use combine::parser::sequence::{skip, with};
-use combine::parser::token::types::{Eof, Satisfy, SatisfyMap, Token};
+use combine::parser::token::types::{Eof, NoneOf, Satisfy, SatisfyMap, Token};
 use combine::parser::{Answer, SessionError, parse_pieces};
 use combine::stream::Kind;
 use combine::stream::position::{self, SourcePosition};
 use combine::{
-    EasyParser, Function, Parser, between, eof, many, many1, optional, satisfy, satisfy_map,
-    sep_by, skip_many,
+    EasyParser, Function, Maker, Parser, Stream, between, eof, many, many1, none_of, optional,
+    satisfy, satisfy_map, sep_by, skip_many,
 };
 use std::alloc::Global;
+use std::marker::PhantomData;
 
 /// The value of a setting.
 #[derive(Debug, PartialEq, Drop)]
@@ -56,10 +57,6 @@ pub enum Class {
     Name,
     /// Characters of bare words.
     Word,
-    /// Characters that stand for themselves between quotes.
-    Plain,
-    /// Characters of comments.
-    Comment,
 }
 
 impl Function<char> for Class {
@@ -70,8 +67,6 @@ impl Function<char> for Class {
             Class::Blank => matches!(character, ' ' | '\t' | '\r'),
             Class::Name => is_name_character(character),
             Class::Word => is_name_character(character) || matches!(character, '.' | '/' | ':'),
-            Class::Plain => !matches!(character, '"' | '\\' | '\n'),
-            Class::Comment => character != '\n',
         }
     }
 }
@@ -209,14 +204,29 @@ pub fn escaped<I>() -> Escaped<I> {
     with(char('\\'), satisfy_map(Unescape))
 }
 
-pub type Text<I> = Many<String, Or<Satisfy<I, Class>, Escaped<I>>>;
+pub type Text<I> = Many<String, Or<NoneOf<[char; 3], I>, Escaped<I>>>;
 
 pub type Quoted<I> = Map<Between<Token<I, char>, Token<I, char>, Text<I>, String>, ToQuoted, Value>;
 
 /// Parses a text between quotes.
 pub fn quoted<I>(alloc: Global) -> Quoted<I> {
-    let text = many(alloc, or(satisfy(Class::Plain), escaped()));
+    let text = many(alloc, or(none_of(['"', '\\', '\n']), escaped()));
     map(between(char('"'), char('"'), text), ToQuoted)
+}
+
+/// Makes the parser of a text between quotes. It keeps the types of the parsers around it short: no type may have more than 4,096 characters.
+#[derive(Drop)]
+pub struct MakeQuoted<I> {
+    alloc: Global,
+    reads: PhantomData<I>,
+}
+
+impl<I> Maker for MakeQuoted<I> {
+    type Output = Quoted<I>;
+
+    fn make(&self) -> Quoted<I> {
+        quoted(self.alloc)
+    }
 }
 
 pub type Bare<I> = AndThen<Many1<String, Satisfy<I, Class>>, ToValue, Value>;
@@ -226,11 +236,15 @@ pub fn bare<I>(alloc: Global) -> Bare<I> {
     and_then(many1(alloc, satisfy(Class::Word)), ToValue)
 }
 
-pub type AnyValue<I, R> = Expected<Or<Quoted<I>, Bare<I>>, Info<char, R>>;
+pub type AnyValue<I, R> = Expected<Or<Lazy<MakeQuoted<I>>, Bare<I>>, Info<char, R>>;
 
 /// Parses the value of a setting.
 pub fn any_value<I, R>(alloc: Global) -> AnyValue<I, R> {
-    expected(or(quoted(alloc), bare(alloc)), "value")
+    let quoted = lazy(MakeQuoted {
+        alloc,
+        reads: PhantomData,
+    });
+    expected(or(quoted, bare(alloc)), "value")
 }
 
 pub type Equals<I> = (Blanks<I>, Token<I, char>, Blanks<I>);
@@ -243,11 +257,11 @@ pub fn setting<I, R>(alloc: Global) -> Setting<I, R> {
     map((name(alloc), equals, any_value(alloc)), ToLine)
 }
 
-pub type Comment<I> = Optional<(Token<I, char>, SkipMany<Satisfy<I, Class>>)>;
+pub type Comment<I> = Optional<(Token<I, char>, SkipMany<NoneOf<[char; 1], I>>)>;
 
 /// Parses a comment, if there is one.
 pub fn comment<I>() -> Comment<I> {
-    optional((char('#'), skip_many(satisfy(Class::Comment))))
+    optional((char('#'), skip_many(none_of(['\n']))))
 }
 
 pub type Statement<I, R> = Optional<Or<Section<I, R>, Setting<I, R>>>;
@@ -277,13 +291,24 @@ pub fn read(alloc: Global, text: &str) -> Result<Vec<Line>, UnexpectedParse> {
     Ok(lines)
 }
 
+/// Returns the lines of a file, or an error that says what stands there and what is expected.
+pub fn read_easily<S: Stream<Token = char>>(
+    alloc: Global,
+    input: S,
+) -> Result<Vec<Line>, Errors<char, S::Range, S::Position>>
+where
+    S::Range: PartialEq,
+{
+    let (lines, _end) = file(alloc).easy_parse(alloc, input)?;
+    Ok(lines)
+}
+
 /// Why a file is refused, and where.
 pub type ConfigError<'a> = Errors<char, &'a str, SourcePosition>;
 
 /// Returns the lines of a file, or why and where it is refused.
 pub fn read_config<'a>(alloc: Global, text: &'a str) -> Result<Vec<Line>, ConfigError<'a>> {
-    let (lines, _end) = file(alloc).easy_parse(alloc, position::Stream::new(text))?;
-    Ok(lines)
+    read_easily(alloc, position::Stream::new(text))
 }
 
 /// Returns the lines of a file that comes in pieces.
