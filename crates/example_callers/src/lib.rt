@@ -3,6 +3,7 @@
 
 pub mod attributes;
 pub mod brackets;
+pub mod config;
 pub mod decoded;
 pub mod digits;
 pub mod faults;
