@@ -1,6 +1,6 @@
 //! Parser combinators that are proved: the parser layer of combine, for Rattle.
 //!
-//! Everything stands under the crate's module names:
+//! The names that the crate has at its root stand there too: `use combine::{Parser, many1, sep_by, token}`. All else stands under its module names:
 //!
 //! - Streams in `stream`, results and errors in `error`, errors that people can read in `easy`.
 //! - The protocol, its drivers and sessions in `parser`, and decoders of messages in `decode`.
@@ -15,7 +15,7 @@ pub mod parser;
 pub mod stream;
 
 pub use combine_base::error;
-pub use combine_base::error::{ParseError, ParseResult, StdParseResult};
+pub use combine_base::error::{ParseError, ParseResult, StdParseResult, UnexpectedParse};
 pub use combine_base::function::{Function, Maker};
 pub use combine_choice::choice::choice;
 pub use combine_choice_dispatch::{choice, dispatch};

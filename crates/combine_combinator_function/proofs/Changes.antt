@@ -1,9 +1,9 @@
 -- a call of a part, and then a change of its value, is one of the parser whose value is changed
-use Rattle.std.proofs.Common.{ℕ, ◌+◌, ◌<◌, ◌≡◌, ◌⊎◌, inl, inr, List, Bool, true, false, Result, Err, Ok, ap, refl, sym, subst, ◌∙◌}
+use Rattle.std.proofs.Common.{ℕ, ◌+◌, ◌<◌, ◌≡◌, ◌⊎◌, inl, inr, List, Bool, true, false, Err, Ok, ap, sym, subst, ◌∙◌}
 use Rattle.std.specs.Prelude.{◌↔◌}
 use Rattle.combine_base.specs.Stream.View.{View, Takes, advanced, extended, MayFollow}
 use Rattle.combine_base.specs.Stream.Advance.{advanced_extended, advanced_twice}
-use Rattle.combine_base.specs.Error.Errors.{Added, Observers, New, AddsItems, JoinedErrors, Unstored, joined_kind, later_position}
+use Rattle.combine_base.specs.Error.Errors.{Added, Observers, New, AddsItems, Unstored}
 use Rattle.combine_base.specs.Error.Items.{ErrorItem}
 use Rattle.combine_base.specs.Parser.Outcome.{Outcome, Accepted, Refused, Undecided, after, IsCommitted}
 use Rattle.combine_base.specs.Parser.GivenValues.{GivesOnly}
@@ -20,8 +20,7 @@ use Rattle.combine_base.specs.declared.stream.Failures.{Failures}
 use Rattle.combine_base.specs.declared.error.Tracked.{Tracked}
 use Rattle.combine_base.specs.declared.error.ParseResult.{ParseResult}
 use Rattle.combine_base.specs.declared.error.ParseResult.TheVariants.{CommitOk, PeekOk, CommitErr, PeekErr}
-use Rattle.std.specs.declared.cmp.Ordering.{Ordering}
-use Rattle.combine_combinator_function.specs.Changes.{AnsweredItem, AnsweredKind, Changes, JoinedRefusal, MadeOf, MadeSaying, RefusedFor, RefusedWith, RefusesValue, changed_meaning, changed_reading, refused_with, spares, value_kind}
+use Rattle.combine_combinator_function.specs.Changes.{Changes, MadeSaying, RefusesValue, changed_meaning, changed_reading, spares}
 
 -- what means the same gives the same values
 module _ {P T R E A S : Type 0} (valid : S → Type 0) (good : A → Type 0) where
@@ -180,60 +179,6 @@ says_made {T} {R} {P} {E} {B} s gives denies starves place own e said says h n k
     by_case : ((is : List (ErrorItem T R)) × said is × Added s is own e) ⊎ Unstored s (Unit {0}) own e → Changes s gives denies starves (MadeSaying s says place) (Err e)
     by_case (inl p) = record { is = inl (p.2.kind ∙ n.kind, d, record { own = own; new = n; said = record { is = inl (p.0, h p.0 p.1, p.2) } }) }
     by_case (inr p) = record { is = inr (p.kind, λ f. absurd (p.memory f tt)) }
-
--- a value is refused, or finds no memory, for an error of its function
-either_kind : (k : Kind) → (value_kind k ≡ kinds.Refused) ⊎ (value_kind k ≡ kinds.Memory)
-either_kind kinds.Refused = inl refl
-either_kind kinds.End = inl refl
-either_kind kinds.Memory = inr refl
-either_kind kinds.Read = inl refl
-either_kind kinds.Reset = inl refl
-either_kind kinds.Lost = inl refl
-
--- with the error that the function returned, or one made of it
-module _ {T R P E A B W : Type 0} (s : Observers T R P E) (cmp : P → P → Ordering) (gives : B → Type 0) (post : A → Result W E → Type 0) (place : P) (a : A) (why e : E) (met : post a (Err why)) (r : RefusedWith s cmp place why e) where
-  abbrev goal : Type 0
-  goal = Changes s gives (AnsweredKind s.kind post kinds.Refused a) (AnsweredKind s.kind post kinds.Memory a) (RefusedFor s cmp post place a) (Err e)
-
-  for_kind : (k : Kind) → value_kind (s.kind why) ≡ k → AnsweredKind s.kind post k a
-  for_kind k i = record { error = why; met = met; kind_is = i }
-
-  refuses_it : value_kind (s.kind why) ≡ kinds.Refused → s.kind e ≡ kinds.Refused → goal
-  refuses_it i k = record { is = inl (k, for_kind kinds.Refused i, record { why = why; met = met; refused = r }) }
-
-  joined : value_kind (s.kind why) ≡ kinds.Refused → JoinedRefusal s cmp place why e → goal
-  joined i j = by_case j.merged.is
-    where
-      by_case : JoinedErrors s (later_position cmp (s.position j.own) (s.position why)) j.own why e ⊎ ((s.kind e ≡ kinds.Memory) × (s.never_allocates → ⊥)) → goal
-      by_case (inl m) = refuses_it i (m.kind ∙ ap (λ k. joined_kind k (s.kind why)) j.new.kind)
-      by_case (inr m) = record { is = inr (m.0, λ n. absurd (m.1 n)) }
-
-  by_kind : (k : Kind) → s.kind why ≡ k → refused_with s cmp place k why e → goal
-  by_kind kinds.Refused i x = refuses_it (ap value_kind i) (ap s.kind x ∙ i)
-  by_kind kinds.End i x = joined (ap value_kind i) x
-  by_kind kinds.Memory i x = record { is = inr (ap s.kind x ∙ i, λ _. for_kind kinds.Memory (ap value_kind i)) }
-  by_kind kinds.Read i x = refuses_it (ap value_kind i) x.kind
-  by_kind kinds.Reset i x = refuses_it (ap value_kind i) x.kind
-  by_kind kinds.Lost i x = refuses_it (ap value_kind i) x.kind
-
-  pub refused_for : goal
-  refused_for = by_kind (s.kind why) refl r.is
-
--- with an error that says the item that the function's error is turned into
-module _ {T R P E A B W X I : Type 0} (s : Observers T R P E) (kind : I → Kind) (items : I → List (ErrorItem T R)) (gives : B → Type 0) (post : A → Result W X → Type 0) (turned : X → I → Type 0) (place : P) (a : A) (why : X) (item : I) (own e : E) (met : post a (Err why)) (turns : turned why item) (new : New s (value_kind (kind item)) place own) (said : AddsItems s (Unit {0}) (λ is. is ≡ items item) own e) where
-  abbrev goal : Type 0
-  goal = Changes s gives (AnsweredItem kind post turned kinds.Refused a) (AnsweredItem kind post turned kinds.Memory a) (MadeOf s items post turned place a) (Err e)
-
-  for_item : (k : Kind) → value_kind (kind item) ≡ k → AnsweredItem kind post turned k a
-  for_item k i = record { error = why; item = item; met = met; turns = turns; kind_is = i }
-
-  by_kind : (value_kind (kind item) ≡ kinds.Refused) ⊎ (value_kind (kind item) ≡ kinds.Memory) → ((is : List (ErrorItem T R)) × (is ≡ items item) × Added s is own e) ⊎ Unstored s (Unit {0}) own e → goal
-  by_kind (inl i) (inl p) = record { is = inl (p.2.kind ∙ new.kind ∙ i, for_item kinds.Refused i, record { why = why; item = item; met = met; turns = turns; own = own; new = subst (λ k. New s k place own) i new; said = said }) }
-  by_kind (inr i) (inl p) = record { is = inr (p.2.kind ∙ new.kind ∙ i, λ _. for_item kinds.Memory i) }
-  by_kind i (inr p) = record { is = inr (p.kind, λ n. absurd (p.memory n tt)) }
-
-  pub refused_for_item : goal
-  refused_for_item = by_kind (either_kind (kind item)) said.is
 
 no_memory : (b : Bool) (k : Kind) → IsRefusal b k → k ≡ kinds.Memory → ⊥
 no_memory b k i e = subst (IsRefusal b) e i

@@ -188,7 +188,10 @@ where
     }
 
     #[inline(always)]
-    fn uncons_while<F: Function<S::Token, Output = bool>>(&mut self, f: &F) -> Result<S::Range, Kind> {
+    fn uncons_while<F: Function<S::Token, Output = bool>>(
+        &mut self,
+        f: &F,
+    ) -> Result<S::Range, Kind> {
         self.0.uncons_while(f)
     }
 

@@ -270,7 +270,10 @@ where
     }
 
     #[inline]
-    fn uncons_while<F: Function<S::Token, Output = bool>>(&mut self, f: &F) -> Result<S::Range, Kind>
+    fn uncons_while<F: Function<S::Token, Output = bool>>(
+        &mut self,
+        f: &F,
+    ) -> Result<S::Range, Kind>
         requires { (t : S.Token) → F.callable f.now t }
         ensures read { UnconsWhile (Unit {0}) S.step S.size S.spells (S.view (wrapped self.old)) (S.view (wrapped self.new)) (failures_of self.old) (failures_of self.new) (F.returns f.now) result }
         ensures passes { Passes (S.marks (wrapped self.old)) (S.marks (wrapped self.new)) (failures_of self.old) (failures_of self.new) }

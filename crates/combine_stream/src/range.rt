@@ -59,7 +59,10 @@ where
     /// # Errors
     ///
     /// `Read` as for `uncons_range`.
-    fn uncons_while<F: Function<Self::Token, Output = bool>>(&mut self, f: &F) -> Result<Self::Range, Kind>
+    fn uncons_while<F: Function<Self::Token, Output = bool>>(
+        &mut self,
+        f: &F,
+    ) -> Result<Self::Range, Kind>
         requires { (t : Self.Token) → F.callable f.now t }
         ensures read { UnconsWhile Self.counts_failures Self.step size spells (Self.view self.old) (Self.view self.new) (Self.failures self.old) (Self.failures self.new) (F.returns f.now) result }
         ensures passes { Passes (Self.marks self.old) (Self.marks self.new) (Self.failures self.old) (Self.failures self.new) };

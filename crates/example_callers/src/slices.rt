@@ -2,10 +2,7 @@
 ghost use Rattle.std.specs.Prelude.{◌≡◌};
 ghost use Rattle.std.specs.Char.{is_ascii_digit, is_ascii_lowercase};
 
-use combine::error::UnexpectedParse;
-use combine::parser::Parser;
-use combine::parser::repeat::many1;
-use combine::parser::token::{satisfy, token};
+use combine::{Parser, UnexpectedParse, many1, satisfy, token};
 use std::alloc::Global;
 
 /// `WORD=DIGITS;`, and what stands behind it.

@@ -95,7 +95,10 @@ pub type Name<I, R> = Skip<TakeWhile1<I, Class>, (Token<I, u8>, TakeWhile<I, Cla
 
 /// Parses the name of a header, a colon, and blanks.
 pub fn name<I, R>() -> Name<I, R> {
-    skip(take_while1(Class::Token), (token(b':'), take_while(Class::Blank)))
+    skip(
+        take_while1(Class::Token),
+        (token(b':'), take_while(Class::Blank)),
+    )
 }
 
 pub type Word<I> = Try<(TakeWhile<I, Class>, TakeWhile1<I, Class>)>;
@@ -105,7 +108,10 @@ pub type Value<I, R> = Skip<Recognize<SkipMany<Word<I>>>, (TakeWhile<I, Class>, 
 /// Parses the value of a header, blanks, and the end of the line.
 pub fn value<I, R>() -> Value<I, R> {
     let word = attempt((take_while(Class::Blank), take_while1(Class::Visible)));
-    skip(recognize(skip_many(word)), (take_while(Class::Blank), crlf()))
+    skip(
+        recognize(skip_many(word)),
+        (take_while(Class::Blank), crlf()),
+    )
 }
 
 pub type Field<I, R> = Map<(Name<I, R>, Value<I, R>), ToHeader, Header<R>>;

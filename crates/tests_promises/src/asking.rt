@@ -48,7 +48,9 @@ where
 {
     let right: Either<Any<Input>, Token<Input, u8>> = Either::Right(token(b'a'));
     let _either = call_afresh(right, input);
-    let second: Dispatch3<Any<Input>, Token<Input, u8>, Any<Input>> = Either::Right(Either::Left(token(b'a')));
+    let second: Dispatch3<Any<Input>, Token<Input, u8>, Any<Input>> = Either::Right(Either::Left(
+        token(b'a'),
+    ));
     let _dispatch = call_afresh(second, input);
 }
 
@@ -58,11 +60,14 @@ where
     Input::Error: ParseError<u8, Input::Range, Input::Position>,
 {
     let _token = call_afresh(then(any(), |byte: u8| token(byte)), input);
-    let by_kind = then(any(), |kind: u8| dispatch!(kind;
+    let by_kind = then(
+        any(),
+        |kind: u8| dispatch!(kind;
         b'1' => any(),
         b'2' => token(kind),
         _ => value(kind),
-    ));
+    ),
+    );
     let _dispatch = call_afresh(by_kind, input);
 }
 

@@ -52,7 +52,9 @@ where
 {
     let right: Either<Any<Input>, Token<Input, u8>> = Either::Right(token(b'a'));
     keeps_without_memory::<Input, _>(right);
-    let second: Dispatch3<Any<Input>, Token<Input, u8>, Any<Input>> = Either::Right(Either::Left(token(b'a')));
+    let second: Dispatch3<Any<Input>, Token<Input, u8>, Any<Input>> = Either::Right(Either::Left(
+        token(b'a'),
+    ));
     keeps_without_memory::<Input, _>(second);
 }
 

@@ -48,11 +48,14 @@ where
     keeps_without_memory::<Input, _>(then(any(), |byte: u8| token(byte)));
     keeps_without_memory::<Input, _>(then_partial(any(), |byte: &mut u8| token(*byte)));
     keeps_without_memory::<Input, _>(then_ref(any(), |byte: &u8| token(*byte)));
-    keeps_without_memory::<Input, _>(then(any(), |kind: u8| dispatch!(kind;
+    keeps_without_memory::<Input, _>(then(
+        any(),
+        |kind: u8| dispatch!(kind;
         b'1' => any(),
         b'2' => token(kind),
         _ => value(kind),
-    )));
+    ),
+    ));
 }
 
 #[test]

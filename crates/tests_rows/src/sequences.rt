@@ -1,7 +1,6 @@
 //! Sequences, and parsers that a function returns.
 
 use crate::rows::{Driver, Rows};
-use combine::dispatch;
 use combine::error::ParseError;
 use combine::parser::Parser;
 use combine::parser::byte::digit;
@@ -13,7 +12,7 @@ use combine::parser::sequence::{between, then, then_ref};
 use combine::parser::token::{any, satisfy, token, value};
 use combine::stream::position::{SliceStream, TextStream};
 use combine::stream::{MaybePartialStream, Stream};
-use combine::struct_parser;
+use combine::{dispatch, struct_parser};
 use std::alloc::{AllocError, Global};
 
 #[derive(Drop)]

@@ -167,7 +167,10 @@ where
     }
 
     #[inline(always)]
-    fn uncons_while<F: Function<S::Token, Output = bool>>(&mut self, f: &F) -> Result<S::Range, Kind> {
+    fn uncons_while<F: Function<S::Token, Output = bool>>(
+        &mut self,
+        f: &F,
+    ) -> Result<S::Range, Kind> {
         self.inner.uncons_while(f)
     }
 

@@ -78,7 +78,8 @@ impl<Input: StreamOnce, F> Outputs<Input> for TakeWhile<Input, F> {
     type Output = Input::Range;
 }
 
-impl<Input: RangeStream, F: Function<Input::Token, Output = bool>> Parser<Input> for TakeWhile<Input, F>
+impl<Input: RangeStream, F: Function<Input::Token, Output = bool>> Parser<Input>
+    for TakeWhile<Input, F>
 where
     Input::Range: Range,
 {
@@ -123,7 +124,8 @@ impl<Input: StreamOnce, F> Outputs<Input> for TakeWhile1<Input, F> {
     type Output = Input::Range;
 }
 
-impl<Input: RangeStream, F: Function<Input::Token, Output = bool>> Parser<Input> for TakeWhile1<Input, F>
+impl<Input: RangeStream, F: Function<Input::Token, Output = bool>> Parser<Input>
+    for TakeWhile1<Input, F>
 where
     Input::Range: Range,
 {
