@@ -6,25 +6,20 @@ use combine::error::ParseError;
 use combine::parser::byte::ShowsBytes;
 use combine::parser::{Answer, cuts_fit, parse_cuts};
 use combine::stream::position::{DefaultPositioned, Windowed};
-use combine::stream::{Range, RangeStream, StreamOnce};
+use combine::stream::{Range, RangeStream};
 use std::alloc::{AllocError, Global};
 
-/// The parts of an input.
-type RangeOf<S> = <<S as DefaultPositioned>::Located as StreamOnce>::Range;
-
-/// The error of an input that is refused.
-type ErrorOf<S> = <<S as DefaultPositioned>::Located as StreamOnce>::Error;
-
 /// Parses the head that an input begins with, and returns how many windows ask for more, and the answer to the whole. `None` where the cuts don't fit, and where no memory is left.
-fn request_head_over<S: Windowed>(
+fn request_head_over<S, I, R>(
     alloc: Global,
     whole: S,
     cuts: &[usize],
-) -> Option<(usize, Answer<Head<RangeOf<S>>, ErrorOf<S>>)>
+) -> Option<(usize, Answer<Head<R>, I::Error>)>
 where
-    S::Located: RangeStream<Token = u8>,
-    RangeOf<S>: Range + ShowsBytes,
-    ErrorOf<S>: ParseError<u8, RangeOf<S>, <S::Located as StreamOnce>::Position>,
+    S: Windowed + DefaultPositioned<Located = I>,
+    I: RangeStream<Token = u8, Range = R>,
+    R: Range + ShowsBytes,
+    I::Error: ParseError<u8, R, I::Position>,
 {
     if !cuts_fit(whole, cuts) {
         return None;
