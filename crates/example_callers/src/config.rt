@@ -15,13 +15,13 @@ use combine::parser::error::types::Expected;
 use combine::parser::repeat::types::{Many, Many1, SepBy, SkipMany};
 use combine::parser::sequence::types::{Between, Skip, With};
 use combine::parser::sequence::{skip, with};
-use combine::parser::token::types::{Eof, NoneOf, Satisfy, SatisfyMap, Token};
+use combine::parser::token::types::{Eof, Satisfy, SatisfyMap, Token};
 use combine::parser::{Answer, SessionError, parse_pieces};
 use combine::stream::Kind;
 use combine::stream::position::{self, SourcePosition};
 use combine::{
-    EasyParser, Function, Maker, Parser, Stream, between, eof, many, many1, none_of, optional,
-    satisfy, satisfy_map, sep_by, skip_many,
+    EasyParser, Function, Maker, Parser, Stream, between, eof, many, many1, optional, satisfy,
+    satisfy_map, sep_by, skip_many,
 };
 use std::alloc::Global;
 use std::marker::PhantomData;
@@ -57,6 +57,10 @@ pub enum Class {
     Name,
     /// Characters of bare words.
     Word,
+    /// Characters that stand for themselves between quotes.
+    Plain,
+    /// Characters of comments.
+    Comment,
 }
 
 impl Function<char> for Class {
@@ -67,6 +71,8 @@ impl Function<char> for Class {
             Class::Blank => matches!(character, ' ' | '\t' | '\r'),
             Class::Name => is_name_character(character),
             Class::Word => is_name_character(character) || matches!(character, '.' | '/' | ':'),
+            Class::Plain => !matches!(character, '"' | '\\' | '\n'),
+            Class::Comment => character != '\n',
         }
     }
 }
@@ -204,17 +210,17 @@ pub fn escaped<I>() -> Escaped<I> {
     with(char('\\'), satisfy_map(Unescape))
 }
 
-pub type Text<I> = Many<String, Or<NoneOf<[char; 3], I>, Escaped<I>>>;
+pub type Text<I> = Many<String, Or<Satisfy<I, Class>, Escaped<I>>>;
 
 pub type Quoted<I> = Map<Between<Token<I, char>, Token<I, char>, Text<I>, String>, ToQuoted, Value>;
 
 /// Parses a text between quotes.
 pub fn quoted<I>(alloc: Global) -> Quoted<I> {
-    let text = many(alloc, or(none_of(['"', '\\', '\n']), escaped()));
+    let text = many(alloc, or(satisfy(Class::Plain), escaped()));
     map(between(char('"'), char('"'), text), ToQuoted)
 }
 
-/// Makes the parser of a text between quotes. It keeps the types of the parsers around it short: no type may have more than 4,096 characters.
+/// Makes the parser of a text between quotes. By `lazy` it keeps the types around it below the 4,096 characters that a type may have.
 #[derive(Drop)]
 pub struct MakeQuoted<I> {
     alloc: Global,
@@ -257,11 +263,11 @@ pub fn setting<I, R>(alloc: Global) -> Setting<I, R> {
     map((name(alloc), equals, any_value(alloc)), ToLine)
 }
 
-pub type Comment<I> = Optional<(Token<I, char>, SkipMany<NoneOf<[char; 1], I>>)>;
+pub type Comment<I> = Optional<(Token<I, char>, SkipMany<Satisfy<I, Class>>)>;
 
 /// Parses a comment, if there is one.
 pub fn comment<I>() -> Comment<I> {
-    optional((char('#'), skip_many(none_of(['\n']))))
+    optional((char('#'), skip_many(satisfy(Class::Comment))))
 }
 
 pub type Statement<I, R> = Optional<Or<Section<I, R>, Setting<I, R>>>;
