@@ -28,24 +28,3 @@ pub fn is_digit(byte: u8) -> bool
 {
     byte.is_ascii_digit()
 }
-
-#[cfg(test)]
-mod tests {
-    use super::*;
-    use combine::stream::Kind;
-    use std::alloc::AllocError;
-
-    #[test]
-    fn a_setting_and_what_is_behind_it(rt: HostRuntime) -> Result<(), AllocError> {
-        let alloc = rt.alloc();
-        let read = (b"dex".to_vec(alloc)?, b'=', b"12".to_vec(alloc)?, b';');
-        assert_eq!(rt; setting(alloc, b"dex=12;a"), Ok((read, b"a".as_slice())));
-        Ok(())
-    }
-
-    #[test]
-    fn a_word_without_digits(rt: HostRuntime) {
-        let refused = Err(UnexpectedParse(Kind::Refused));
-        assert_eq!(rt; setting(rt.alloc(), b"dex=;"), refused);
-    }
-}
