@@ -3,7 +3,6 @@
 
 pub mod attributes;
 pub mod brackets;
-pub mod config;
 pub mod decoded;
 pub mod digits;
 pub mod faults;
