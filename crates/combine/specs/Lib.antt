@@ -89,7 +89,6 @@ pub use Rattle.combine_repeat_turns.specs.Turns.Blocks
 pub use Rattle.combine_token.specs.Choice.ChoiceCalls
 pub use Rattle.combine_choice.specs.NestedChoice
 pub use Rattle.combine_token.specs.Choice.FirstAlternative
-pub use Rattle.combine_choice_dispatch.specs.Halves
 pub use Rattle.combine_choice_dispatch.specs.HeldParser
 pub use Rattle.combine_choice_dispatch.specs.Variants2
 pub use Rattle.combine_range.specs.Range.Beginnings

@@ -5,7 +5,7 @@
 
 pub mod distance;
 pub mod error;
-pub mod maps;
+pub mod function;
 pub mod parser;
 pub mod refusal;
 pub mod repeat;

@@ -1,5 +1,5 @@
 -- a parser that a variant holds answers for it
-use Rattle.std.proofs.Common.{◌≡◌, inl, inr, Bool, true, false, arith, subst, refl, ◌∙◌}
+use Rattle.std.proofs.Common.{◌≡◌, inl, inr, Bool, true, false, arith, subst, refl}
 use Rattle.std.specs.Prelude.{Option, Some, None}
 use Rattle.combine_base.specs.Stream.View.{View}
 use Rattle.combine_base.specs.Parser.Outcome.{Outcome}
@@ -14,41 +14,7 @@ use Rattle.combine_base.proofs.Errors.MeantRefusals.{reasoned_into}
 use Rattle.combine_base.specs.Parser.Reasons.{ReasonedCall}
 use Rattle.combine_token.specs.Choice.Choices.{refused, last_is, firm_or}
 use Rattle.combine_token.proofs.Choices.ChoiceOutcomes.{Tries, tries_asks, tries_fails, tries_commit_ok, tries_peek_ok, tries_peeks}
-use Rattle.combine_choice_dispatch.specs.HeldParser.{HoldsState, Started, held_started, held, held_refuses, held_rest, held_lost, nested, state_within}
-
--- held by one that is held is held
-module _ {P T R E V S S1 S2 : Type 0} (pick : S2 → Option S1) (inner : S1 → Option S) (m : Meaning P T R E V S) where
-  rest_within : (o : Option S1) → held_rest m (state_within inner o) ≡ held_rest (held inner m) o
-  rest_within None = refl
-  rest_within (Some s) = refl
-
-  lost_within : (o : Option S1) (v : View P T) → held_lost m (state_within inner o) v ≡ held_lost (held inner m) o v
-  lost_within None v = refl
-  lost_within (Some s) v = refl
-
-  refuses_within : (o : Option S1) → held_refuses m (state_within inner o) ≡ held_refuses (held inner m) o
-  refuses_within None = refl
-  refuses_within (Some s) = refl
-
-  pub held_within : held (λ s. state_within inner (pick s)) m ≡ held pick (held inner m)
-  held_within = λ i. record {
-    whole = m.whole;
-    rest = λ s. rest_within (pick s) i;
-    lost = λ s v. lost_within (pick s) v i;
-    keeps = m.keeps;
-    puts_back = m.puts_back;
-    heapless = m.heapless;
-    adds = m.adds;
-    refuses = m.refuses;
-    refuses_from = λ s. refuses_within (pick s) i;
-  }
-
--- held in a place of nested variants
-pub held_twice : {P T R E V S S1 S2 S3 : Type 0} (nest : S3 → S2) (outer : S2 → Option S1) (inner : S1 → Option S) (m : Meaning P T R E V S) → held (λ s. state_within inner (outer (nest s))) m ≡ nested nest (held outer (held inner m))
-held_twice nest outer inner m = held_within (λ s. outer (nest s)) inner m
-
-pub held_thrice : {P T R E V S S1 S2 S3 S4 : Type 0} (nest : S4 → S3) (outer : S3 → Option S2) (middle : S2 → Option S1) (inner : S1 → Option S) (m : Meaning P T R E V S) → held (λ s. state_within inner (state_within middle (outer (nest s)))) m ≡ nested nest (held outer (held middle (held inner m)))
-held_thrice nest outer middle inner m = held_within (λ s. state_within middle (outer (nest s))) inner m ∙ held_within (λ s. outer (nest s)) middle (held inner m)
+use Rattle.combine_choice_dispatch.specs.HeldParser.{HoldsState, Started, held_started, held, held_refuses, held_rest, held_lost}
 
 -- the state that it begins from is one that it may be given
 pub started_valid : {S : Type 0} (fresh valid : S → Type 0) → ((s : S) → fresh s → valid s) → (o : Option S) (s : S) → HoldsState valid o → held_started fresh o s → valid s

@@ -86,23 +86,6 @@ module _ {P T R E V S S' : Type 0} (pick : S' → Option S) where
     refuses_from = λ s. reasons_same m m' h (pick s);
   }
 
--- the state inside the one that is there
-abbrev pub state_within : {S S' : Type 0} → (S' → Option S) → Option S' → Option S
-state_within pick None = None
-state_within pick (Some s) = pick s
-
--- A parser that is one of several as nested ones of two: its kept states are read as theirs.
-module _ {P T R E V S S' : Type 0} (nest : S' → S) where
-  abbrev pub nested : Meaning P T R E V S → Meaning P T R E V S'
-  nested m = held (λ s. Some (nest s)) m
-
-  module _ {valid : S → Type 0} {m : Meaning P T R E V S} where
-    pub nested_is_meaning : {fresh : S → Type 0} → IsMeaning fresh valid m → IsMeaning (λ s. fresh (nest s)) (λ s. valid (nest s)) (nested m)
-    nested_is_meaning {fresh = fresh} h = held_is_meaning (λ s. Some (nest s)) fresh valid (λ s. fresh (nest s)) (λ s. valid (nest s)) (λ s d. d) (λ s k. k) m h
-
-    pub nested_means_one : MeansOne valid m → MeansOne (λ s. valid (nest s)) (nested m)
-    nested_means_one h = held_means_one (λ s. Some (nest s)) valid valid (λ s. valid (nest s)) (λ s. valid (nest s)) (λ s d. d) (λ s k. k) m h
-
 -- a state to run from: the kept one, or a default one
 abbrev pub held_started : {S : Type 0} → (S → Type 0) → Option S → S → Type 0
 held_started fresh None s = fresh s

@@ -1,3 +1,2 @@
-pub mod Halves
 pub mod HeldParser
 pub mod Variants2

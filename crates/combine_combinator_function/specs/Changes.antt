@@ -1,11 +1,12 @@
 -- values changed by a function, or refused by it, which is known by its relation; kind and count are kept
 use denote.Ref.{MutBor}
 use Rattle.std.specs.Str.{IsUtf8}
+use Rattle.std.specs.declared.cmp.Ordering.{Ordering}
 use Rattle.std.specs.Prelude.{ℕ, codes, ◌≡◌, ◌⊎◌, ◌↔◌, refl, List, Bool, true, Result, Ok, Err}
 use Rattle.std.proofs.Common.{ap, sym, subst, inl, inr}
 use Rattle.combine_base.specs.Stream.View.{View, Takes, advanced, extended}
 use Rattle.combine_base.specs.Stream.Advance.{advanced_extended}
-use Rattle.combine_base.specs.Error.Errors.{Observers, New, Only, AddsItems}
+use Rattle.combine_base.specs.Error.Errors.{Observers, New, Only, AddsItems, Merged, later_position}
 use Rattle.combine_base.specs.Error.Items.{ErrorItem, Expected, Fixed, Message}
 use Rattle.combine_base.specs.Stream.Calls.{Passes}
 use Rattle.combine_base.specs.declared.stream.Failures.{Failures}
@@ -162,29 +163,53 @@ module _ {P T A B : Type 0} (step : P → T → P) (gives : P → A → B → Ty
     refuses_from = λ s. refused_same step says (m.rest s) (m'.rest s) (refusals_from m s) (refusals_from m' s) (h.rest s) (refusals_from_same h s);
   }
 
--- a function's errors for a value are refusals or want of memory
-module _ {B E : Type 0} (kind : E → Kind) (post : Result B E → Type 0) where
-  pub record ErrorKinds : Type 0 where
-    pub one : (e : E) → post (Err e) → (kind e ≡ kinds.Refused) ⊎ (kind e ≡ kinds.Memory)
+-- the kind with which a value is refused for an error of that kind: out of memory stays, and any other is a refusal
+abbrev pub value_kind : Kind → Kind
+value_kind kinds.Refused = kinds.Refused
+value_kind kinds.End = kinds.Refused
+value_kind kinds.Memory = kinds.Memory
+value_kind kinds.Read = kinds.Refused
+value_kind kinds.Reset = kinds.Refused
+value_kind kinds.Lost = kinds.Refused
 
--- it answers an error of that kind
+-- a function returns an error for which the value is refused with that kind
 pub record AnsweredKind {A B E : Type 0} (kind : E → Kind) (post : A → Result B E → Type 0) (why : Kind) (a : A) : Type 0 where
   pub error : E
   pub met : post a (Err error)
-  pub kind_is : kind error ≡ why
+  pub kind_is : value_kind (kind error) ≡ why
 
--- the same of what its errors for a value are turned into
-module _ {B E I : Type 0} (kind : I → Kind) (post : Result B E → Type 0) (turned : E → I → Type 0) where
-  pub record ItemKinds : Type 0 where
-    pub one : (e : E) (i : I) → post (Err e) → turned e i → (kind i ≡ kinds.Refused) ⊎ (kind i ≡ kinds.Memory)
+module _ {T R P E : Type 0} (s : Observers T R P E) (cmp : P → P → Ordering) (place : P) where
+  -- an error joined with a refusal at that place
+  pub record JoinedRefusal (why e : E) : Type 0 where
+    pub own : E
+    pub new : New s kinds.Refused place own
+    pub merged : Merged s (later_position cmp (s.position own) (s.position why)) own why e
 
--- it answers an error that is turned into an item of that kind
+  abbrev pub refused_with : Kind → E → E → Type 0
+  refused_with kinds.Refused why e = e ≡ why
+  refused_with kinds.End why e = JoinedRefusal why e
+  refused_with kinds.Memory why e = e ≡ why
+  refused_with kinds.Read why e = New s kinds.Refused place e
+  refused_with kinds.Reset why e = New s kinds.Refused place e
+  refused_with kinds.Lost why e = New s kinds.Refused place e
+
+  -- the error with which a value is refused for that error
+  pub record RefusedWith (why e : E) : Type 0 where
+    pub is : refused_with (s.kind why) why e
+
+-- an error with which a value is refused for one that the function returns
+pub record RefusedFor {T R P E A B : Type 0} (s : Observers T R P E) (cmp : P → P → Ordering) (post : A → Result B E → Type 0) (place : P) (a : A) (e : E) : Type 0 where
+  pub why : E
+  pub met : post a (Err why)
+  pub refused : RefusedWith s cmp place why e
+
+-- the same of an error that is turned into an item
 pub record AnsweredItem {A B E I : Type 0} (kind : I → Kind) (post : A → Result B E → Type 0) (turned : E → I → Type 0) (why : Kind) (a : A) : Type 0 where
   pub error : E
   pub item : I
   pub met : post a (Err error)
   pub turns : turned error item
-  pub kind_is : kind item ≡ why
+  pub kind_is : value_kind (kind item) ≡ why
 
 -- an error made at that place of what the function answered
 pub record MadeOf {T R P E A B X I : Type 0} (s : Observers T R P E) (items : I → List (ErrorItem T R)) (post : A → Result B X → Type 0) (turned : X → I → Type 0) (place : P) (a : A) (e : E) : Type 0 where

@@ -15,13 +15,13 @@ use types::{AndThen, FlatMap, FromStr, MapInput};
 
 /// Parses as `p`, and changes its value by `f`, or refuses it where `f` returns an error.
 ///
-/// What is taken, refusals, faults and need of more are those of `p`, and so is the state. `f` need only be callable on the values that `p` gives, and returns errors of the kinds `Refused` and `Memory` alone.
+/// What is taken, refusals, faults and need of more are those of `p`, and so is the state. `f` need only be callable on the values that `p` gives, and may return any error.
 ///
 /// # Errors
 ///
 /// - A refusal by `f` is committed if `p` was. The tokens of `p` stay taken, also at the end of an open piece.
 /// - Its error stands at the position before `p`, and says what `f` returned.
-/// - An error of `f` of kind `Memory`, or an item that finds no memory, is that fault.
+/// - An error of `f` of kind `Memory`, or an item that finds no memory, is that fault. An error of any other kind is a refusal: where `f` parses a frame whole, a frame that ends too soon is refused, and asks for no more.
 ///
 /// # Differences from combine
 ///
@@ -31,9 +31,7 @@ use types::{AndThen, FlatMap, FromStr, MapInput};
 /// # Examples
 ///
 /// ```
-/// fn digit_of(byte: u8) -> Result<u8, UnexpectedParse>
-///     ensures { IfErr result (λ e. e.0 ≡ Kind.Refused) }
-/// {
+/// fn digit_of(byte: u8) -> Result<u8, UnexpectedParse> {
 ///     if byte.is_ascii_digit() {
 ///         Ok(byte - b'0')
 ///     } else {
@@ -56,11 +54,13 @@ pub fn and_then<P, F, B>(p: P, f: F) -> AndThen<P, F, B>
 
 /// Parses as `p`, and changes its value by `f`, or refuses it with the error that `f` returns.
 ///
-/// What is taken, refusals, faults and need of more are those of `p`, and so is the state. `f` need only be callable on the values that `p` gives, and returns errors of the kinds `Refused` and `Memory` alone.
+/// What is taken, refusals, faults and need of more are those of `p`, and so is the state. `f` need only be callable on the values that `p` gives, and may return any error.
 ///
 /// # Errors
 ///
-/// A refusal by `f` is committed if `p` was; the tokens of `p` stay taken. An error of `f` of kind `Memory` is that fault.
+/// - A refusal by `f` is committed if `p` was; the tokens of `p` stay taken. It has the error that `f` returned.
+/// - An error of `f` of kind `End` is a refusal too, with what it says: where `f` parses a frame whole, a frame that ends too soon is refused, and asks for no more.
+/// - An error of `f` of kind `Memory` is that fault. One of another fault is a refusal that says nothing.
 ///
 /// # Differences from combine
 ///
@@ -69,9 +69,7 @@ pub fn and_then<P, F, B>(p: P, f: F) -> AndThen<P, F, B>
 /// # Examples
 ///
 /// ```
-/// fn digit_of(byte: u8) -> Result<u8, UnexpectedParse>
-///     ensures { IfErr result (λ e. e.0 ≡ Kind.Refused) }
-/// {
+/// fn digit_of(byte: u8) -> Result<u8, UnexpectedParse> {
 ///     if byte.is_ascii_digit() {
 ///         Ok(byte - b'0')
 ///     } else {

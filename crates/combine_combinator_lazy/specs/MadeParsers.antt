@@ -69,10 +69,6 @@ module _ {I P T N C V : Type 0} (view : I → View P T) (marks : I → C → V �
   pub record MakerLeavesStream : Type 0 where
     pub kept : (i : MutBor I) (n : N) (l : MutBor I) → post i n l → (view l.now ≡ view i.now) × Passes (marks i.now) (marks l.now) (failures i.now) (failures l.now) × (failures l.now ≡ failures i.now)
 
--- made by a function of this type
-abbrev pub by_lazy : {F N : Type 0} → Shared F (Unit {0}) N → (N → Type 0) → N → Type 0
-by_lazy g lawful = MadeBySome (always_fn g) (λ f. g.post f tt) lawful
-
 module _ {I P T N C V F : Type 0} (view : I → View P T) (marks : I → C → V → Type 0) (failures : I → Failures) (g : Shared F (MutBor I × Unit {0}) (N × (MutBor I × Unit {0}))) where
   -- made for some stream by a function of this type that leaves each in place
   abbrev pub by_factory : (N → Type 0) → N → Type 0

@@ -5,7 +5,7 @@ ghost use Rattle.combine_error.specs.Spans.{AtSpan};
 
 use crate::easy::Errors;
 use combine_base::error::{DetailedError, ParseError, UnexpectedParse};
-use combine_base::maps::Maps;
+use combine_base::function::Function;
 use combine_base::stream::{self, Failures, Kind, Positioned, ResetStream, StreamOnce};
 use combine_stream::range::{Range, RangeStream};
 
@@ -188,7 +188,10 @@ where
     }
 
     #[inline(always)]
-    fn uncons_while<F: Maps<S::Token, bool>>(&mut self, f: &F) -> Result<S::Range, Kind> {
+    fn uncons_while<F: Function<S::Token, Output = bool>>(
+        &mut self,
+        f: &F,
+    ) -> Result<S::Range, Kind> {
         self.0.uncons_while(f)
     }
 

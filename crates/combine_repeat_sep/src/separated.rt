@@ -96,7 +96,7 @@ impl<O, W, U> SeparatedState<O, W, U> {
 
 /// A function that makes one operand of two. Our own.
 ///
-/// It stands apart so that what shows its bound stands in a declaration of its own, as with `Maps` of `combine_base`.
+/// It stands apart so that what shows its bound stands in a declaration of its own, as with `Function` of `combine_base`.
 pub trait Folds<V> {
     /// The functions that can be called on any two operands.
     ghost callable: { Self → Type 0 };

@@ -130,7 +130,7 @@ impl<Input: Stream, P: Parser<Input>, G: Collect<P::Output>, B: TurnBounds> Pars
 ///
 /// # Errors
 ///
-/// - A peeked refusal after fewer than `min` turns refuses with the message `expected N more elements`, at the position where that turn began. It is committed exactly if a turn was.
+/// - A peeked refusal after fewer than `min` turns refuses with the message `expected N more elements`, at the position where that turn began. It is committed exactly if a turn was. Its kind is that of the turn's refusal: `End` where the input ended, and else `Refused`.
 /// - A committed refusal of a turn is the result.
 /// - A collection that can't grow is the committed fault `Memory`, and a stream that can't be put back `Reset`.
 ///

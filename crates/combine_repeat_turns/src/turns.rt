@@ -6,7 +6,7 @@ ghost use Rattle.combine_base.specs.Parser.Reasons.{ReasonedCall};
 ghost use Rattle.combine_base.specs.Stream.Calls.{Passes};
 ghost use Rattle.combine_base.specs.Error.Errors.{Only};
 ghost use Rattle.combine_base.specs.Error.Items.{Count, Message};
-ghost use Rattle.combine_base.specs.Refusals.{HasItems, IsRefusalOrMemory};
+ghost use Rattle.combine_base.specs.Refusals.{HasItems};
 ghost use Rattle.combine_base.specs.Sequence.Parts.{accepted_as, refused_as};
 ghost use Rattle.std.specs.Prelude.{None};
 ghost use Rattle.combine_repeat_turns.specs.Turns.OneTurn.{IsGathered, stopped_answer, stopped_state};
@@ -350,13 +350,17 @@ fn parse_turn<Input: Stream, P: TurnParser<Input>, M: ParseMode>(
     parser.parse_turn(false, mode, input, state)
 }
 
-/// Makes the error of a refusal that says how many turns are missing.
+/// Makes the error of a refusal of that kind that says how many turns are missing.
 #[inline]
-fn too_few<Input: Stream>(input: &Input, position: Input::Position, missing: usize) -> Input::Error
-    ensures told { IsRefusalOrMemory Input.Error.observers.kind Input.Error.observers.never_allocates result }
-    ensures says { HasItems Input.Error.observers Kind.Refused position (Only (Message (Count missing))) result }
+fn too_few<Input: Stream>(
+    input: &Input,
+    position: Input::Position,
+    why: Kind,
+    missing: usize,
+) -> Input::Error
+    ensures { HasItems Input.Error.observers why position (Only (Message (Count missing))) result }
 {
-    let mut error = input.new_error(Kind::Refused, position);
+    let mut error = input.new_error(why, position);
     error.add_message(&Info::More(missing));
     error
 }
@@ -406,7 +410,8 @@ fn judge_refusal<G: Gather<P::Value>, Input: Stream, P: TurnParser<Input>, B: Tu
     if bounds.keeps_refusal(turns.index) {
         return TurnStop::Refused(turns, refusal);
     }
-    let error = too_few(input, position, bounds.missing(turns.index));
+    let missing = bounds.missing(turns.index);
+    let error = too_few(input, position, refusal.error.kind(), missing);
     if error.kind() == Kind::Memory {
         return TurnStop::Failed(error);
     }

@@ -7,7 +7,7 @@ ghost use Rattle.combine_stream.specs.Range.Ranges.{UnconsRange, UnconsWhile};
 use crate::MaybePartialStream;
 use crate::position::{SliceStream, TextStream};
 use crate::range::{Range, RangeStream};
-use combine_base::maps::Maps;
+use combine_base::function::Function;
 use combine_base::stream::{Failures, Kind, Positioned, ResetStream, Stream, StreamOnce, fed};
 
 /// A stream whose reads and resets never fail. Our own.
@@ -270,9 +270,12 @@ where
     }
 
     #[inline]
-    fn uncons_while<F: Maps<S::Token, bool>>(&mut self, f: &F) -> Result<S::Range, Kind>
+    fn uncons_while<F: Function<S::Token, Output = bool>>(
+        &mut self,
+        f: &F,
+    ) -> Result<S::Range, Kind>
         requires { (t : S.Token) → F.callable f.now t }
-        ensures read { UnconsWhile (Unit {0}) S.step S.size S.spells (S.view (wrapped self.old)) (S.view (wrapped self.new)) (failures_of self.old) (failures_of self.new) (F.answers f.now) result }
+        ensures read { UnconsWhile (Unit {0}) S.step S.size S.spells (S.view (wrapped self.old)) (S.view (wrapped self.new)) (failures_of self.old) (failures_of self.new) (F.returns f.now) result }
         ensures passes { Passes (S.marks (wrapped self.old)) (S.marks (wrapped self.new)) (failures_of self.old) (failures_of self.new) }
         ensures counts { CountsCall (read_due self.old) (read_due self.new) (wrapped self.old) (wrapped self.new) Kind.Read result }
         ensures no_reset { reset_due self.new ≡ reset_due self.old }

@@ -2,7 +2,7 @@
 ghost use Rattle.std.specs.Prelude.{◌≡◌};
 
 use crate::range::{Range, RangeStream};
-use combine_base::maps::Maps;
+use combine_base::function::Function;
 use combine_base::stream::{Failures, Kind, Positioned, ResetStream, Stream, StreamOnce};
 
 /// A stream that is open if the mark is `true`, and else ended, whatever the stream inside says.
@@ -109,7 +109,10 @@ where
     }
 
     #[inline(always)]
-    fn uncons_while<F: Maps<S::Token, bool>>(&mut self, f: &F) -> Result<S::Range, Kind> {
+    fn uncons_while<F: Function<S::Token, Output = bool>>(
+        &mut self,
+        f: &F,
+    ) -> Result<S::Range, Kind> {
         self.0.uncons_while(f)
     }
 

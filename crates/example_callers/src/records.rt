@@ -31,24 +31,3 @@ fn made_record(parts: (u8, Vec<u8>)) -> Record
     let (kind, text) = parts;
     Record { kind, text }
 }
-
-#[cfg(test)]
-mod tests {
-    use super::*;
-    use combine::stream::Kind;
-    use std::test::Fail;
-
-    #[test]
-    fn records(rt: HostRuntime) -> Result<(), Fail> {
-        let alloc = rt.alloc();
-        let wanted = Record {
-            kind: 7,
-            text: b"ab".to_vec(alloc)?,
-        };
-        let input = b"\x07\x00\x02abc";
-        assert!(rt; read_record(alloc, input) == Ok((wanted, b"c".as_slice())));
-        let refused = Err(UnexpectedParse(Kind::Refused));
-        assert!(rt; read_record(alloc, b"\x07\x00\x02a") == refused);
-        Ok(())
-    }
-}

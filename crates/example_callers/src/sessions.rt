@@ -25,24 +25,3 @@ pub fn accepted<P: Parser<fed::Stream<u8>> + Drop>(
         Answer::More | Answer::Refused { .. } => Ok(None),
     }
 }
-
-#[cfg(test)]
-mod tests {
-    use super::*;
-    use combine::parser::token::token;
-
-    #[test]
-    fn two_tokens_over_a_cut(rt: HostRuntime) {
-        let pair = (token(b'a'), token(b'b'));
-        assert_eq!(rt;
-            accepted(rt.alloc(), pair, &[b"a", b"bc"]),
-            Ok(Some((b'a', b'b')))
-        );
-    }
-
-    #[test]
-    fn two_tokens_of_which_one_is_missing(rt: HostRuntime) {
-        let pair = (token(b'a'), token(b'b'));
-        assert_eq!(rt; accepted(rt.alloc(), pair, &[b"a"]), Ok(None));
-    }
-}

@@ -32,23 +32,3 @@ fn made_setting(parts: (Vec<u8>, u8, Vec<u8>, u8)) -> Setting
     let (name, _equals, value, _end) = parts;
     Setting { name, value }
 }
-
-#[cfg(test)]
-mod tests {
-    use super::*;
-    use combine::stream::Kind;
-    use std::test::Fail;
-
-    #[test]
-    fn settings(rt: HostRuntime) -> Result<(), Fail> {
-        let alloc = rt.alloc();
-        let wanted = Setting {
-            name: b"port".to_vec(alloc)?,
-            value: b"80".to_vec(alloc)?,
-        };
-        assert!(rt; read_setting(alloc, b"port=80;a") == Ok((wanted, b"a".as_slice())));
-        let refused = Err(UnexpectedParse(Kind::Refused));
-        assert!(rt; read_setting(alloc, b"port=;") == refused);
-        Ok(())
-    }
-}

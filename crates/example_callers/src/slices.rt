@@ -2,10 +2,7 @@
 ghost use Rattle.std.specs.Prelude.{◌≡◌};
 ghost use Rattle.std.specs.Char.{is_ascii_digit, is_ascii_lowercase};
 
-use combine::error::UnexpectedParse;
-use combine::parser::Parser;
-use combine::parser::repeat::many1;
-use combine::parser::token::{satisfy, token};
+use combine::{Parser, UnexpectedParse, many1, satisfy, token};
 use std::alloc::Global;
 
 /// `WORD=DIGITS;`, and what stands behind it.
@@ -30,25 +27,4 @@ pub fn is_digit(byte: u8) -> bool
     ensures { result ≡ is_ascii_digit byte }
 {
     byte.is_ascii_digit()
-}
-
-#[cfg(test)]
-mod tests {
-    use super::*;
-    use combine::stream::Kind;
-    use std::alloc::AllocError;
-
-    #[test]
-    fn a_setting_and_what_is_behind_it(rt: HostRuntime) -> Result<(), AllocError> {
-        let alloc = rt.alloc();
-        let read = (b"dex".to_vec(alloc)?, b'=', b"12".to_vec(alloc)?, b';');
-        assert_eq!(rt; setting(alloc, b"dex=12;a"), Ok((read, b"a".as_slice())));
-        Ok(())
-    }
-
-    #[test]
-    fn a_word_without_digits(rt: HostRuntime) {
-        let refused = Err(UnexpectedParse(Kind::Refused));
-        assert_eq!(rt; setting(rt.alloc(), b"dex=;"), refused);
-    }
 }

@@ -15,17 +15,3 @@ where
 {
     (optional(token(b'-')), token(b'0')).parse(input)
 }
-
-#[cfg(test)]
-mod tests {
-    use super::*;
-
-    #[test]
-    fn of_a_slice(rt: HostRuntime) {
-        let rest = b"1".as_slice();
-        assert_eq!(rt;
-            signed_zero(b"-01".as_slice()),
-            Ok(((Some(b'-'), b'0'), rest))
-        );
-    }
-}

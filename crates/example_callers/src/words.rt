@@ -34,38 +34,3 @@ pub fn first_word(text: &str) -> Result<(&str, &str), UnexpectedParse> {
 fn is_no_blank(character: char) -> bool {
     character != ' '
 }
-
-#[cfg(test)]
-mod tests {
-    use super::*;
-    use combine::stream::Kind;
-    use std::alloc::AllocError;
-
-    const REFUSED: UnexpectedParse = UnexpectedParse(Kind::Refused);
-
-    #[test]
-    fn words_of_letters(rt: HostRuntime) -> Result<(), AllocError> {
-        let alloc = rt.alloc();
-        let read = b"dex".to_vec(alloc)?;
-        assert_eq!(rt; word(alloc, b"dex=1"), Ok((read, b"=1".as_slice())));
-        assert_eq!(rt; word(alloc, b"=1"), Err(REFUSED));
-        Ok(())
-    }
-
-    #[test]
-    fn words_that_begin_alike(rt: HostRuntime) {
-        assert_eq!(rt; verb(b"get it"), Ok((b"get".as_slice(), b" it".as_slice())));
-        assert_eq!(rt; verb(b"go"), Ok((b"go".as_slice(), b"".as_slice())));
-        assert_eq!(rt;
-            verb_without_attempt(b"get"),
-            Ok((b"get".as_slice(), b"".as_slice()))
-        );
-        assert_eq!(rt; verb_without_attempt(b"go"), Err(REFUSED));
-    }
-
-    #[test]
-    fn words_of_a_text(rt: HostRuntime) {
-        assert_eq!(rt; first_word("a\u{e9} b"), Ok(("a\u{e9}", " b")));
-        assert_eq!(rt; first_word(" b"), Err(REFUSED));
-    }
-}

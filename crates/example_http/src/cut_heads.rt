@@ -1,47 +1,30 @@
 //! Heads that come window by window.
 
-use crate::head::{Head, Runs, read_head};
+use crate::head::{Head, request_head};
 use crate::whole_heads::{HELLO, HELLO_PARTS, parts_of};
-use combine::error::UnexpectedParse;
-use combine::parser::{Answer, Parser, cuts_fit, parse_cuts};
-use combine::stream::position::Windowed;
-use combine::stream::{MaybePartialStream, StreamOnce};
+use combine::error::ParseError;
+use combine::parser::byte::ShowsBytes;
+use combine::parser::{Answer, cuts_fit, parse_cuts};
+use combine::stream::position::{DefaultPositioned, Windowed};
+use combine::stream::{Range, RangeStream};
 use std::alloc::{AllocError, Global};
 
-/// An input that is parsed window by window.
-#[derive(Drop)]
-struct Windows<'c, S> {
-    whole: S,
-    cuts: &'c [usize],
-}
-
-impl<'c, S: Windowed> Runs<MaybePartialStream<S::Located>> for Windows<'c, S> {
-    type Answer = Option<
-        (
-            usize,
-            Answer<Head<<S::Located as StreamOnce>::Range>, <S::Located as StreamOnce>::Error>,
-        ),
-    >;
-
-    fn run<
-        P: Parser<MaybePartialStream<S::Located>, Output = Head<<S::Located as StreamOnce>::Range>>
-            + Drop,
-    >(self, head: P) -> Self::Answer {
-        if !cuts_fit(self.whole, self.cuts) {
-            return None;
-        }
-        let mut head = head;
-        parse_cuts(&mut head, self.whole, self.cuts).ok()
-    }
-}
-
 /// Parses the head that an input begins with, and returns how many windows ask for more, and the answer to the whole. `None` where the cuts don't fit, and where no memory is left.
-fn request_head_over<'a>(
+fn request_head_over<S, I, R>(
     alloc: Global,
-    whole: &'a [u8],
+    whole: S,
     cuts: &[usize],
-) -> Option<(usize, Answer<Head<&'a [u8]>, UnexpectedParse>)> {
-    read_head(alloc, Windows { whole, cuts })
+) -> Option<(usize, Answer<Head<R>, I::Error>)>
+where
+    S: Windowed + DefaultPositioned<Located = I>,
+    I: RangeStream<Token = u8, Range = R>,
+    R: Range + ShowsBytes,
+    I::Error: ParseError<u8, R, I::Position>,
+{
+    if !cuts_fit(whole, cuts) {
+        return None;
+    }
+    parse_cuts(&mut request_head(alloc), whole, cuts).ok()
 }
 
 /// A head of 22 bytes, and a byte after it.

@@ -1,14 +1,22 @@
 //! The grammar of the head of an HTTP/1 request: a line with its method, target and version, a line for each header, and an empty line. The parts of a head are parts of the input, so nothing is copied.
+//!
+//! `I` is the stream, and `R` its ranges.
 
 use combine::error::ParseError;
-use combine::parser::Parser;
+use combine::parser::byte::types::{Bytes, CrLf, Digit};
 use combine::parser::byte::{ShowsBytes, bytes, crlf, digit};
-use combine::parser::combinator::attempt;
+use combine::parser::combinator::types::{Map, Try};
+use combine::parser::combinator::{attempt, map};
+use combine::parser::range::types::{Recognize, TakeWhile, TakeWhile1};
 use combine::parser::range::{recognize, take_while, take_while1};
+use combine::parser::repeat::types::{Many, SkipMany};
 use combine::parser::repeat::{many, skip_many};
+use combine::parser::sequence::skip;
+use combine::parser::sequence::types::Skip;
 use combine::parser::token::token;
-use combine::stream::{Range, RangeStream, Stream};
-use combine::struct_parser;
+use combine::parser::token::types::Token;
+use combine::stream::Range;
+use combine::{Function, Parser, RangeStream};
 use std::alloc::Global;
 
 /// A header. Blanks around its value are left out.
@@ -27,60 +35,123 @@ pub struct Head<R> {
     pub headers: Vec<Header<R>>,
 }
 
-/// Returns whether a byte is allowed in a method, or in the name of a header.
-fn is_token_byte(byte: u8) -> bool {
-    match byte {
-        b'!' | b'#' | b'$' | b'%' | b'&' | b'\'' | b'*' | b'+' => true,
-        b'-' | b'.' | b'^' | b'_' | b'`' | b'|' | b'~' => true,
-        _ => byte.is_ascii_alphanumeric(),
+/// A class of bytes.
+#[derive(Clone, Copy, Drop)]
+pub enum Class {
+    /// Bytes of methods and of names of headers.
+    Token,
+    /// Bytes that are neither a space nor a control: a target is made of these, and so are the words of a value.
+    Visible,
+    /// A space or a tab.
+    Blank,
+}
+
+impl Function<u8> for Class {
+    type Output = bool;
+
+    fn call(&self, byte: u8) -> bool {
+        match self {
+            Class::Token => match byte {
+                b'!' | b'#' | b'$' | b'%' | b'&' | b'\'' | b'*' | b'+' => true,
+                b'-' | b'.' | b'^' | b'_' | b'`' | b'|' | b'~' => true,
+                _ => byte.is_ascii_alphanumeric(),
+            },
+            Class::Visible => byte > b' ' && byte != 0x7f,
+            Class::Blank => byte == b' ' || byte == b'\t',
+        }
     }
 }
 
-/// Returns whether a byte is neither a space nor a control: a target is made of these, and so are the words of a value.
-fn is_visible(byte: u8) -> bool {
-    byte > b' ' && byte != 0x7f
+/// Makes a header of its parts.
+#[derive(Clone, Copy, Drop)]
+pub struct ToHeader;
+
+impl<R: Copy> Function<(R, R)> for ToHeader {
+    type Output = Header<R>;
+
+    fn call(&self, (name, value): (R, R)) -> Header<R> {
+        Header { name, value }
+    }
 }
 
-/// Returns whether a byte is a space or a tab.
-fn is_blank(byte: u8) -> bool {
-    byte == b' ' || byte == b'\t'
+/// Makes a head of its parts.
+#[derive(Clone, Copy, Drop)]
+pub struct ToHead;
+
+impl<R: Copy> Function<(R, R, R, Vec<Header<R>>)> for ToHead {
+    type Output = Head<R>;
+
+    fn call(&self, (method, target, version, headers): (R, R, R, Vec<Header<R>>)) -> Head<R> {
+        Head {
+            method,
+            target,
+            version,
+            headers,
+        }
+    }
 }
 
-/// What the parser of a head is handed to.
-pub trait Runs<Input: Stream> {
-    type Answer;
+pub type Name<I, R> = Skip<TakeWhile1<I, Class>, (Token<I, u8>, TakeWhile<I, Class>), R>;
 
-    /// Runs the parser, and returns what comes of it.
-    fn run<P: Parser<Input, Output = Head<Input::Range>> + Drop>(self, head: P) -> Self::Answer
-        requires { P.lawful head };
+/// Parses the name of a header, a colon, and blanks.
+pub fn name<I, R>() -> Name<I, R> {
+    skip(
+        take_while1(Class::Token),
+        (token(b':'), take_while(Class::Blank)),
+    )
 }
 
-/// Hands on the parser of a head.
-///
-/// It is over any stream of bytes that hands out ranges: values that hold parts of a slice can't be collected in a function that names the slice.
-pub fn read_head<Input: Stream<Token = u8> + RangeStream, D: Runs<Input>>(
+pub type Word<I> = Try<(TakeWhile<I, Class>, TakeWhile1<I, Class>)>;
+
+pub type Value<I, R> = Skip<Recognize<SkipMany<Word<I>>>, (TakeWhile<I, Class>, CrLf<I>), R>;
+
+/// Parses the value of a header, blanks, and the end of the line.
+pub fn value<I, R>() -> Value<I, R> {
+    let word = attempt((take_while(Class::Blank), take_while1(Class::Visible)));
+    skip(
+        recognize(skip_many(word)),
+        (take_while(Class::Blank), crlf()),
+    )
+}
+
+pub type Field<I, R> = Map<(Name<I, R>, Value<I, R>), ToHeader, Header<R>>;
+
+/// Parses a header.
+pub fn field<I, R>() -> Field<I, R> {
+    map((name(), value()), ToHeader)
+}
+
+pub type Parts<I, R> = (
+    Skip<TakeWhile1<I, Class>, Token<I, u8>, R>,
+    Skip<TakeWhile1<I, Class>, Token<I, u8>, R>,
+    Skip<Recognize<(Bytes<I>, Digit<I>)>, CrLf<I>, R>,
+    Skip<Many<Vec<Header<R>>, Field<I, R>>, CrLf<I>, Vec<Header<R>>>,
+);
+
+pub type RequestHead<I, R> = Map<Parts<I, R>, ToHead, Head<R>>;
+
+/// Parses a head.
+pub fn request_head<I, R>(alloc: Global) -> RequestHead<I, R> {
+    let parts = (
+        skip(take_while1(Class::Token), token(b' ')),
+        skip(take_while1(Class::Visible), token(b' ')),
+        skip(recognize((bytes(b"HTTP/1."), digit())), crlf()),
+        skip(many(alloc, field()), crlf()),
+    );
+    map(parts, ToHead)
+}
+
+/// Reads a head. A stream in which there is none is left at the place of the mistake.
+pub fn read_head<I: RangeStream<Token = u8>>(
     alloc: Global,
-    driver: D,
-) -> D::Answer
+    input: &mut I,
+) -> Result<Head<I::Range>, I::Error>
 where
-    Input::Range: Range + ShowsBytes,
-    Input::Error: ParseError<u8, Input::Range, Input::Position>,
+    I::Range: Range + ShowsBytes,
+    I::Error: ParseError<u8, I::Range, I::Position>,
 {
-    let word = attempt((take_while(is_blank), take_while1(is_visible)));
-    let header = struct_parser!(Header {
-        name: take_while1(is_token_byte),
-        _: (token(b':'), take_while(is_blank)),
-        value: recognize(skip_many(word)),
-        _: (take_while(is_blank), crlf()),
-    });
-    driver.run(struct_parser!(Head {
-        method: take_while1(is_token_byte),
-        _: token(b' '),
-        target: take_while1(is_visible),
-        _: token(b' '),
-        version: recognize((bytes(b"HTTP/1."), digit())),
-        _: crlf(),
-        headers: many::<Vec<Header<Input::Range>>, _>(alloc, header),
-        _: crlf(),
-    }))
+    match request_head(alloc).parse_stream(input).into_result() {
+        Ok((head, _commit)) => Ok(head),
+        Err(error) => Err(error.into_inner().error),
+    }
 }

@@ -12,10 +12,9 @@ mod head;
 mod whole_heads;
 
 use combine::error::UnexpectedParse;
-use combine::parser::Parser;
-use combine::stream::{Kind, Positioned, RangeStream, Stream, position};
+use combine::stream::{Kind, Positioned, RangeStream, position};
 use example_program::Program;
-use head::{Head, Runs, read_head};
+use head::{Head, read_head};
 use std::io::{self, Read};
 use std::process::ExitCode;
 
@@ -37,22 +36,6 @@ fn main(rt: HostRuntime) -> ExitCode {
     HTTP.run(&rt, |(): ()| print_heads(&rt))
 }
 
-/// A stream in which a head is next. Where there is none the stream is left at the place of the mistake.
-struct Next<'s, Input>(&'s mut Input);
-
-impl<'s, Input: Stream> Runs<Input> for Next<'s, Input> {
-    type Answer = Result<Head<Input::Range>, Input::Error>;
-
-    fn run<P: Parser<Input, Output = Head<Input::Range>> + Drop>(self, head: P) -> Self::Answer {
-        let Next(input) = self;
-        let mut head = head;
-        match head.parse_stream(input).into_result() {
-            Ok((head, _commit)) => Ok(head),
-            Err(error) => Err(error.into_inner().error),
-        }
-    }
-}
-
 /// Prints each head of standard input, up to what is none.
 fn print_heads(rt: &HostRuntime) -> io::Result<ExitCode> {
     let mut input = Vec::new(rt.alloc());
@@ -63,7 +46,7 @@ fn print_heads(rt: &HostRuntime) -> io::Result<ExitCode> {
         if stream.range().is_empty() {
             break;
         }
-        match read_head(rt.alloc(), Next(&mut stream)) {
+        match read_head(rt.alloc(), &mut stream) {
             Ok(head) => print_head(rt, &head)?,
             Err(UnexpectedParse(Kind::Memory)) => {
                 return Err(io::Error::from(io::ErrorKind::OutOfMemory));

@@ -1,9 +1,8 @@
 //! Heads of a whole slice.
 
-use crate::head::{Head, Runs, read_head};
+use crate::head::{Head, read_head};
 use combine::error::UnexpectedParse;
-use combine::parser::Parser;
-use combine::stream::{Kind, Stream};
+use combine::stream::Kind;
 use std::alloc::{AllocError, Global};
 
 /// The request that RFC 9110 shows first.
@@ -14,25 +13,14 @@ pub const HELLO: &[u8] =
 pub const HELLO_PARTS: &[u8] =
     b"GET\n/hello.txt\nHTTP/1.1\nUser-Agent\ncurl/7.64.1\nHost\nwww.example.com\nAccept-Language\nen, mi\n";
 
-/// A stream that is parsed once.
-struct Whole<Input>(Input);
-
-impl<Input: Stream> Runs<Input> for Whole<Input> {
-    type Answer = Result<(Head<Input::Range>, Input), Input::Error>;
-
-    fn run<P: Parser<Input, Output = Head<Input::Range>> + Drop>(self, head: P) -> Self::Answer {
-        let Whole(input) = self;
-        let mut head = head;
-        head.parse(input)
-    }
-}
-
 /// Parses the head that a slice begins with, and returns it with the rest of the input.
 fn request_head<'a>(
     alloc: Global,
     input: &'a [u8],
 ) -> Result<(Head<&'a [u8]>, &'a [u8]), UnexpectedParse> {
-    read_head(alloc, Whole(input))
+    let mut rest = input;
+    let head = read_head(alloc, &mut rest)?;
+    Ok((head, rest))
 }
 
 /// Returns the parts of a head, each with a line feed after it, since none has one in it.

@@ -1,6 +1,4 @@
 //! The integers of a grammar.
-ghost use Rattle.std.specs.Prelude.{◌≡◌, IfErr};
-ghost use Rattle.combine_base.specs.declared.stream.Kind.TheVariants as kinds;
 
 use combine::error::{Info, StreamError};
 
@@ -9,9 +7,7 @@ use combine::error::{Info, StreamError};
 /// # Errors
 ///
 /// What is no `i64` is refused, with the message that it is too large.
-pub fn parse_integer<R, E: StreamError<char, R>>(digits: String) -> Result<i64, E>
-    ensures { IfErr result (λ said. E.kind said ≡ kinds.Refused) }
-{
+pub fn parse_integer<R, E: StreamError<char, R>>(digits: String) -> Result<i64, E> {
     match digits.as_str().parse::<i64>() {
         Ok(number) => Ok(number),
         Err(_error) => Err(E::message(Info::Static("number too large"))),

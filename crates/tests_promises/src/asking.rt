@@ -2,12 +2,11 @@
 ghost use Rattle.std.specs.Prelude.{◌≡◌, nat_eq};
 ghost use Rattle.tests_promises.specs.NeedsOfMore.{AsksExactly};
 
+use combine::dispatch;
 use combine::error::{ParseError, ParseResult};
 use combine::parser::Parser;
 use combine::parser::byte::{bytes, bytes_cmp};
-use combine::parser::choice::{
-    Dispatch3, Dispatch4, Dispatch5, Dispatch6, Dispatch7, Dispatch8, Slice, choice, optional, or,
-};
+use combine::parser::choice::{Dispatch3, Slice, choice, optional, or};
 use combine::parser::combinator::Either;
 use combine::parser::sequence::then;
 use combine::parser::token::types::{Any, Token};
@@ -49,25 +48,10 @@ where
 {
     let right: Either<Any<Input>, Token<Input, u8>> = Either::Right(token(b'a'));
     let _either = call_afresh(right, input);
-    let second: Dispatch3<Any<Input>, Token<Input, u8>, Any<Input>> = Dispatch3::B(token(b'a'));
+    let second: Dispatch3<Any<Input>, Token<Input, u8>, Any<Input>> = Either::Right(Either::Left(
+        token(b'a'),
+    ));
     let _dispatch = call_afresh(second, input);
-}
-
-/// One of more: the last of each.
-fn more_variants<Input: Stream, P: Parser<Input> + Copy + Drop>(part: P, input: &mut Input)
-    requires lawful { P.lawful part }
-    requires determined { P.determined part }
-{
-    let fourth: Dispatch4<P, P, P, P> = Dispatch4::D(part);
-    let _fourth = call_afresh(fourth, input);
-    let fifth: Dispatch5<P, P, P, P, P> = Dispatch5::E(part);
-    let _fifth = call_afresh(fifth, input);
-    let sixth: Dispatch6<P, P, P, P, P, P> = Dispatch6::F(part);
-    let _sixth = call_afresh(sixth, input);
-    let seventh: Dispatch7<P, P, P, P, P, P, P> = Dispatch7::G(part);
-    let _seventh = call_afresh(seventh, input);
-    let eighth: Dispatch8<P, P, P, P, P, P, P, P> = Dispatch8::H(part);
-    let _eighth = call_afresh(eighth, input);
 }
 
 /// A parser that a function answers.
@@ -76,11 +60,14 @@ where
     Input::Error: ParseError<u8, Input::Range, Input::Position>,
 {
     let _token = call_afresh(then(any(), |byte: u8| token(byte)), input);
-    let by_kind = then(any(), |kind: u8| match kind {
-        b'1' => Dispatch3::A(any()),
-        b'2' => Dispatch3::B(token(kind)),
-        _ => Dispatch3::C(value(kind)),
-    });
+    let by_kind = then(
+        any(),
+        |kind: u8| dispatch!(kind;
+        b'1' => any(),
+        b'2' => token(kind),
+        _ => value(kind),
+    ),
+    );
     let _dispatch = call_afresh(by_kind, input);
 }
 
@@ -108,7 +95,6 @@ fn asked(rt: HostRuntime) {
     let alloc = rt.alloc();
     choices(&mut fed::Stream::<u8>::new(alloc));
     variants(&mut fed::Stream::<u8>::new(alloc));
-    more_variants(any(), &mut fed::Stream::<u8>::new(alloc));
     answered(&mut fed::Stream::<u8>::new(alloc));
     lists(&mut fed::Stream::<u8>::new(alloc));
     any_lists(&mut fed::Stream::<u8>::new(alloc));

@@ -2,9 +2,7 @@
 
 use crate::promises::keeps_without_memory;
 use combine::error::ParseError;
-use combine::parser::choice::{
-    Dispatch3, Dispatch4, Dispatch5, Dispatch6, Dispatch7, Dispatch8, Slice, choice, optional, or,
-};
+use combine::parser::choice::{Dispatch3, Slice, choice, optional, or};
 use combine::parser::combinator::Either;
 use combine::parser::token::types::{Any, Token};
 use combine::parser::token::{any, token};
@@ -54,30 +52,10 @@ where
 {
     let right: Either<Any<Input>, Token<Input, u8>> = Either::Right(token(b'a'));
     keeps_without_memory::<Input, _>(right);
-    let second: Dispatch3<Any<Input>, Token<Input, u8>, Any<Input>> = Dispatch3::B(token(b'a'));
+    let second: Dispatch3<Any<Input>, Token<Input, u8>, Any<Input>> = Either::Right(Either::Left(
+        token(b'a'),
+    ));
     keeps_without_memory::<Input, _>(second);
-}
-
-type Of4<I> = Dispatch4<Any<I>, Any<I>, Any<I>, Token<I, u8>>;
-
-type Of5<I> = Dispatch5<Any<I>, Any<I>, Any<I>, Any<I>, Token<I, u8>>;
-
-type Of6<I> = Dispatch6<Any<I>, Any<I>, Any<I>, Any<I>, Any<I>, Token<I, u8>>;
-
-type Of7<I> = Dispatch7<Any<I>, Any<I>, Any<I>, Any<I>, Any<I>, Any<I>, Token<I, u8>>;
-
-type Of8<I> = Dispatch8<Any<I>, Any<I>, Any<I>, Any<I>, Any<I>, Any<I>, Any<I>, Token<I, u8>>;
-
-/// One of several.
-fn more_variants<Input: Stream<Token = u8>>()
-where
-    Input::Error: ParseError<u8, Input::Range, Input::Position>,
-{
-    keeps_without_memory::<Input, Of4<Input>>(Dispatch4::D(token(b'a')));
-    keeps_without_memory::<Input, Of5<Input>>(Dispatch5::E(token(b'a')));
-    keeps_without_memory::<Input, Of6<Input>>(Dispatch6::F(token(b'a')));
-    keeps_without_memory::<Input, Of7<Input>>(Dispatch7::G(token(b'a')));
-    keeps_without_memory::<Input, Of8<Input>>(Dispatch8::H(token(b'a')));
 }
 
 #[test]
@@ -86,5 +64,4 @@ fn promised() {
     tuples::<fed::Stream<u8>>();
     longer_tuples::<fed::Stream<u8>>();
     variants::<fed::Stream<u8>>();
-    more_variants::<fed::Stream<u8>>();
 }

@@ -1,6 +1,6 @@
 //! Callers' functions that may be called on the values of their part alone: on digits.
 ghost use Rattle.std.specs.Char.{is_ascii_digit};
-ghost use Rattle.std.specs.Prelude.{◌≡◌, true, IfErr};
+ghost use Rattle.std.specs.Prelude.{◌≡◌, true};
 
 use combine::error::UnexpectedParse;
 use combine::parser::byte::digit;
@@ -54,7 +54,6 @@ fn small_digit(alloc: Global, pieces: &[&[u8]]) -> InPieces<u8> {
         digit(),
         |digit: u8| -> Result<u8, UnexpectedParse>
             requires { is_ascii_digit digit ≡ true }
-            ensures { IfErr result (λ e. e.0 ≡ Kind.Refused) }
         { below_eight(digit - b'0') },
     );
     parse_pieces(alloc, value, pieces)
@@ -66,16 +65,13 @@ fn small_digit_flat(alloc: Global, pieces: &[&[u8]]) -> InPieces<u8> {
         digit(),
         |digit: u8| -> Result<u8, UnexpectedParse>
             requires { is_ascii_digit digit ≡ true }
-            ensures { IfErr result (λ e. e.0 ≡ Kind.Refused) }
         { below_eight(digit - b'0') },
     );
     parse_pieces(alloc, value, pieces)
 }
 
 /// The number, if it is less than eight.
-fn below_eight(number: u8) -> Result<u8, UnexpectedParse>
-    ensures { IfErr result (λ e. e.0 ≡ Kind.Refused) }
-{
+fn below_eight(number: u8) -> Result<u8, UnexpectedParse> {
     if number < 8 { Ok(number) } else { Err(REFUSED) }
 }
 

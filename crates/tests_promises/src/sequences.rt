@@ -1,8 +1,8 @@
 //! Parsers one after another.
 
 use crate::promises::keeps_without_memory;
+use combine::dispatch;
 use combine::error::ParseError;
-use combine::parser::choice::Dispatch3;
 use combine::parser::sequence::{between, skip, then, then_partial, then_ref, with};
 use combine::parser::token::{any, token, value};
 use combine::stream::{Stream, fed};
@@ -48,11 +48,14 @@ where
     keeps_without_memory::<Input, _>(then(any(), |byte: u8| token(byte)));
     keeps_without_memory::<Input, _>(then_partial(any(), |byte: &mut u8| token(*byte)));
     keeps_without_memory::<Input, _>(then_ref(any(), |byte: &u8| token(*byte)));
-    keeps_without_memory::<Input, _>(then(any(), |kind: u8| match kind {
-        b'1' => Dispatch3::A(any()),
-        b'2' => Dispatch3::B(token(kind)),
-        _ => Dispatch3::C(value(kind)),
-    }));
+    keeps_without_memory::<Input, _>(then(
+        any(),
+        |kind: u8| dispatch!(kind;
+        b'1' => any(),
+        b'2' => token(kind),
+        _ => value(kind),
+    ),
+    ));
 }
 
 #[test]

@@ -4,7 +4,7 @@ use crate::rows::{Driver, Rows};
 use combine::choice;
 use combine::error::ParseError;
 use combine::parser::char::{digit, letter, string};
-use combine::parser::choice::{Slice, choice};
+use combine::parser::choice::Slice;
 use combine::parser::combinator::{attempt, map};
 use combine::parser::repeat::many1;
 use combine::parser::token::token;

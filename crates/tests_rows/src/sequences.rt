@@ -5,14 +5,14 @@ use combine::error::ParseError;
 use combine::parser::Parser;
 use combine::parser::byte::digit;
 use combine::parser::char::string;
-use combine::parser::choice::{Dispatch4, optional};
+use combine::parser::choice::optional;
 use combine::parser::combinator::map;
 use combine::parser::repeat::many;
 use combine::parser::sequence::{between, then, then_ref};
 use combine::parser::token::{any, satisfy, token, value};
 use combine::stream::position::{SliceStream, TextStream};
 use combine::stream::{MaybePartialStream, Stream};
-use combine::struct_parser;
+use combine::{dispatch, struct_parser};
 use std::alloc::{AllocError, Global};
 
 #[derive(Drop)]
@@ -53,12 +53,12 @@ where
         then_ref(digit(), |byte: &u8| token(*byte)),
         &[("11", "1,1 taken 2 committed")],
     )?;
-    let by_first = |byte: u8| match byte {
-        b'a' => Dispatch4::A(token(b'a')),
-        b'b' => Dispatch4::B(satisfy(|byte: u8| byte == b'b')),
-        b'c' => Dispatch4::C(any()),
-        _ => Dispatch4::D(token(b'd')),
-    };
+    let by_first = |byte: u8| dispatch!(byte;
+        b'a' => token(b'a'),
+        b'b' => satisfy(|byte: u8| byte == b'b'),
+        b'c' => any(),
+        _ => token(b'd'),
+    );
     rows.check(
         then(any(), by_first),
         &[("cd", "d taken 2 committed"), ("ab", "refused committed")],

@@ -1,8 +1,8 @@
 //! A parser that is one of two.
+ghost use Rattle.std.specs.Prelude.{◌≡◌};
 ghost use Rattle.combine_choice_dispatch.specs.HeldParser.{Started};
 ghost use Rattle.combine_choice_dispatch.specs.Variants2.{each_2, pick_left, pick_right};
 
-use super::passed_on;
 use combine_base::error::{ErrorOffset, ParseResult, Tracked};
 use combine_base::parser::{Outputs, ParseMode, Parser};
 use combine_base::stream::Stream;
@@ -29,6 +29,19 @@ use std::mem::take;
 pub enum Either<L, R> {
     Left(L),
     Right(R),
+}
+
+/// Returns the same result, made anew in each case: so what asks for the case next is compiled after each variant, and not after the place where their results meet.
+#[inline(always)]
+fn passed_on<O, E>(answer: ParseResult<O, E>) -> ParseResult<O, E>
+    ensures { result ≡ answer }
+{
+    match answer {
+        ParseResult::CommitOk(value) => ParseResult::CommitOk(value),
+        ParseResult::PeekOk(value) => ParseResult::PeekOk(value),
+        ParseResult::CommitErr(error) => ParseResult::CommitErr(error),
+        ParseResult::PeekErr(refusal) => ParseResult::PeekErr(refusal),
+    }
 }
 
 impl<L: Default, R: Default> Default for Either<L, R> {

@@ -12,7 +12,7 @@ pub use super::look::{LookAhead, NoPartial, NotFollowedBy};
 pub use super::values::{Ignore, Nothing, Pick, Picked};
 use combine_base::distance::{measure, pass_tokens};
 use combine_base::error::{ErrorOffset, ParseError, ParseResult, Tracked, accepted_after};
-use combine_base::maps::Maps;
+use combine_base::function::Function;
 use combine_base::parser::{Outputs, ParseMode, Parser};
 use combine_base::stream::{Kind, Positioned, ResetStream, Stream, StreamOnce, needs_more};
 use std::marker::PhantomData;
@@ -44,7 +44,7 @@ impl<Input, P, F, B: Drop> Outputs<Input> for Map<P, F, B> {
     type Output = B;
 }
 
-impl<Input: Stream, P: Parser<Input>, B: Drop, F: Maps<P::Output, B>> Parser<Input>
+impl<Input: Stream, P: Parser<Input>, B: Drop, F: Function<P::Output, Output = B>> Parser<Input>
     for Map<P, F, B> {
     type PartialState = P::PartialState;
 
@@ -54,15 +54,15 @@ impl<Input: Stream, P: Parser<Input>, B: Drop, F: Maps<P::Output, B>> Parser<Inp
 
     ghost valid = { P.valid };
 
-    ghost meaning = { λ p. mapped (P.meaning (map_part p)) (F.answers (map_function p)) };
+    ghost meaning = { λ p. mapped (P.meaning (map_part p)) (F.returns (map_function p)) };
 
     ghost parts = { λ p. P.parts (map_part p) };
 
     ghost default_valid = { P.default_valid };
 
-    ghost laws = { λ p l. mapped_is_meaning P.PartialState.is_default P.valid (P.meaning (map_part p)) (F.answers (map_function p)) (P.laws (map_part p) l.0) };
+    ghost laws = { λ p l. mapped_is_meaning P.PartialState.is_default P.valid (P.meaning (map_part p)) (F.returns (map_function p)) (P.laws (map_part p) l.0) };
 
-    ghost single = { λ p l d. mapped_means_one P.valid (P.meaning (map_part p)) (F.answers (map_function p)) (P.single (map_part p) l.0 d) };
+    ghost single = { λ p l d. mapped_means_one P.valid (P.meaning (map_part p)) (F.returns (map_function p)) (P.single (map_part p) l.0 d) };
 
     #[inline(always)]
     fn parse_mode<M: ParseMode>(
@@ -72,8 +72,8 @@ impl<Input: Stream, P: Parser<Input>, B: Drop, F: Maps<P::Output, B>> Parser<Inp
         state: &mut Self::PartialState,
     ) -> ParseResult<B, Input::Error> {
         match self.part.parse_mode(mode, input, state) {
-            ParseResult::CommitOk(value) => ParseResult::CommitOk(self.function.map_one(value)),
-            ParseResult::PeekOk(value) => ParseResult::PeekOk(self.function.map_one(value)),
+            ParseResult::CommitOk(value) => ParseResult::CommitOk(self.function.call(value)),
+            ParseResult::PeekOk(value) => ParseResult::PeekOk(self.function.call(value)),
             ParseResult::CommitErr(error) => ParseResult::CommitErr(error),
             ParseResult::PeekErr(refusal) => ParseResult::PeekErr(refusal),
         }

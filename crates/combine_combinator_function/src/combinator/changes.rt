@@ -2,11 +2,12 @@
 ghost use Rattle.std.specs.Prelude.{◌≡◌, ◌⊎◌, Result, Ok, Err};
 ghost use Rattle.std.specs.Str.{IsUtf8};
 ghost use Rattle.combine_base.specs.declared.stream.Kind.TheVariants as kinds;
-ghost use Rattle.combine_combinator_function.specs.Changes.{AnsweredItem, AnsweredKind, ErrorKinds, GivesAt, AnswerLeavesStream, ItemKinds, MadeOf, MadeSaying, Misread, unreadable};
+ghost use Rattle.combine_combinator_function.specs.Changes.{AnsweredItem, AnsweredKind, GivesAt, AnswerLeavesStream, MadeOf, MadeSaying, Misread, RefusedFor, RefusedWith, unreadable, value_kind};
 
 use super::changed::ValueChange;
 use super::text::StrLike;
 use combine_base::error::{DetailedError, ErrorOffset, Info, ParseError, StreamError};
+use combine_base::function::Function;
 use combine_base::stream::{Kind, Stream, StreamOnce};
 use std::marker::PhantomData;
 use std::str::FromStr;
@@ -15,19 +16,21 @@ use std::str::FromStr;
 #[derive(Clone, Copy, Drop)]
 pub struct FlatMapFn<F>(pub(super) F);
 
-impl<Input: Stream, A, B: Drop, F: Fn(A) -> Result<B, Input::Error>> ValueChange<Input, A>
-    for FlatMapFn<F> {
+impl<Input: Stream, A, B: Drop, F: Function<A, Output = Result<B, Input::Error>>> ValueChange<
+    Input,
+    A,
+> for FlatMapFn<F> {
     type Output = B;
 
-    ghost callable = { λ f a. F.pre f.0 a × ErrorKinds Input.Error.observers.kind (F.post f.0 a) };
+    ghost callable = { λ f a. F.callable f.0 a };
 
-    ghost gives = { λ f at a b. F.post f.0 a (Ok b) };
+    ghost gives = { λ f at a b. F.returns f.0 a (Ok b) };
 
-    ghost denies = { λ f a. AnsweredKind Input.Error.observers.kind (F.post f.0) kinds.Refused a };
+    ghost denies = { λ f a. AnsweredKind Input.Error.observers.kind (F.returns f.0) kinds.Refused a };
 
-    ghost starves = { λ f a. AnsweredKind Input.Error.observers.kind (F.post f.0) kinds.Memory a };
+    ghost starves = { λ f a. AnsweredKind Input.Error.observers.kind (F.returns f.0) kinds.Memory a };
 
-    ghost says = { λ f at a e. F.post f.0 a (Err e) };
+    ghost says = { λ f. RefusedFor Input.Error.observers Input.Position.cmp (F.returns f.0) };
 
     ghost counted = { λ n. n };
 
@@ -38,7 +41,10 @@ impl<Input: Stream, A, B: Drop, F: Fn(A) -> Result<B, Input::Error>> ValueChange
         began: Input::Position,
         input: &mut Input,
     ) -> Result<B, Input::Error> {
-        (self.0)(value)
+        match self.0.call(value) {
+            Ok(value) => Ok(value),
+            Err(why) => Err(refused_with(why, began, input)),
+        }
     }
 
     /// Counts as the part does.
@@ -59,22 +65,22 @@ impl<
     E: Into<
         <Input::Error as DetailedError<Input::Token, Input::Range, Input::Position>>::StreamError,
     >,
-    F: Fn(A) -> Result<B, E>,
+    F: Function<A, Output = Result<B, E>>,
 > ValueChange<Input, A> for AndThenFn<F>
 where
     Input::Error: DetailedError<Input::Token, Input::Range, Input::Position>,
 {
     type Output = B;
 
-    ghost callable = { λ f a. F.pre f.0 a × ItemKinds Input.Error.StreamError.kind (F.post f.0 a) E.converts };
+    ghost callable = { λ f a. F.callable f.0 a };
 
-    ghost gives = { λ f at a b. F.post f.0 a (Ok b) };
+    ghost gives = { λ f at a b. F.returns f.0 a (Ok b) };
 
-    ghost denies = { λ f a. AnsweredItem Input.Error.StreamError.kind (F.post f.0) E.converts kinds.Refused a };
+    ghost denies = { λ f a. AnsweredItem Input.Error.StreamError.kind (F.returns f.0) E.converts kinds.Refused a };
 
-    ghost starves = { λ f a. AnsweredItem Input.Error.StreamError.kind (F.post f.0) E.converts kinds.Memory a };
+    ghost starves = { λ f a. AnsweredItem Input.Error.StreamError.kind (F.returns f.0) E.converts kinds.Memory a };
 
-    ghost says = { λ f at a. MadeOf Input.Error.observers Input.Error.StreamError.items (F.post f.0) E.converts at a };
+    ghost says = { λ f at a. MadeOf Input.Error.observers Input.Error.StreamError.items (F.returns f.0) E.converts at a };
 
     ghost counted = { λ n. n };
 
@@ -85,11 +91,11 @@ where
         began: Input::Position,
         input: &mut Input,
     ) -> Result<B, Input::Error> {
-        match (self.0)(value) {
+        match self.0.call(value) {
             Ok(value) => Ok(value),
             Err(why) => {
                 let item = why.into();
-                let mut error = input.new_error(item.kind(), began);
+                let mut error = input.new_error(value_kind(item.kind()), began);
                 error.add(item);
                 Err(error)
             }
@@ -100,6 +106,33 @@ where
     #[inline]
     fn count(part: ErrorOffset) -> ErrorOffset {
         part
+    }
+}
+
+/// Returns the kind with which a value is refused for an error of that kind.
+#[inline]
+fn value_kind(kind: Kind) -> Kind
+    ensures { result ≡ value_kind kind }
+{
+    match kind {
+        Kind::Memory => Kind::Memory,
+        Kind::Refused | Kind::End | Kind::Read | Kind::Reset | Kind::Lost => Kind::Refused,
+    }
+}
+
+/// Returns the error with which a value is refused for that error: a refusal and out of memory as they are, an end joined with a refusal, and for another fault a refusal alone.
+#[inline]
+fn refused_with<Input: Stream>(
+    why: Input::Error,
+    began: Input::Position,
+    input: &Input,
+) -> Input::Error
+    ensures { RefusedWith Input.Error.observers Input.Position.cmp began why result }
+{
+    match why.kind() {
+        Kind::Refused | Kind::Memory => why,
+        Kind::End => input.new_error(Kind::Refused, began).merge(why),
+        Kind::Read | Kind::Reset | Kind::Lost => input.new_error(Kind::Refused, began),
     }
 }
 

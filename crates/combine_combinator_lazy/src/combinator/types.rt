@@ -3,49 +3,19 @@ ghost use Rattle.std.specs.Prelude.{◌≡◌};
 ghost use Rattle.combine_base.specs.Error.Errors.{AddsNothing};
 ghost use Rattle.combine_base.specs.Parser.KeptParsers.{KeptOf};
 ghost use Rattle.combine_base.specs.Stream.View.{View};
-ghost use Rattle.combine_combinator_lazy.specs.MadeParsers.{Adds, MakerLeavesStream, MadeAt, MakesOne, at_any, at_any_lasts, by_factory, by_lazy, factory_maker, is_unmade_valid, lazy_maker, made_meaning, made_at_lasts, made_is_meaning, made_means_one, valid_made};
+ghost use Rattle.combine_combinator_lazy.specs.MadeParsers.{Adds, MadeBySome, MakerLeavesStream, MadeAt, MakesOne, at_any, at_any_lasts, by_factory, factory_maker, is_unmade_valid, lazy_maker, made_meaning, made_at_lasts, made_is_meaning, made_means_one, valid_made};
 
 pub use super::made::{Made, MadeState};
 use super::made::{make_and_run, resume_made, run_made};
 use combine_base::error::{ErrorOffset, ParseResult, Tracked};
+use combine_base::function::Maker;
 use combine_base::parser::{Outputs, ParseMode, Parser};
 use combine_base::sequence::take_state;
 use combine_base::stream::Stream;
 
-/// A function that makes a parser. Our own.
+/// A function that makes a parser for a stream. Our own.
 ///
-/// By it the value of a [`Lazy`] is known without its maker's signature, of which an impl of `Outputs` can say nothing.
-pub trait Makes {
-    ghost use Rattle.std.specs.Prelude.{◌≡◌};
-
-    /// The parser that it makes.
-    type Made;
-
-    ghost callable: { Self → Type 0 };
-
-    /// Which parsers it may make.
-    ghost makes: { Self → Self.Made → Type 0 };
-
-    /// Makes a parser.
-    fn make(&self) -> Self::Made
-        requires { callable self.now }
-        ensures { makes self.now result };
-}
-
-impl<N, F: Fn() -> N> Makes for F {
-    type Made = N;
-
-    ghost callable = { λ f. F.IsAlwaysCallable f };
-
-    ghost makes = { λ f. F.post f };
-
-    #[inline(always)]
-    fn make(&self) -> N {
-        self()
-    }
-}
-
-/// A function that makes a parser for a stream. Our own, as [`Makes`].
+/// By it the value of a [`Factory`] is known without its maker's signature, of which an impl of `Outputs` can say nothing.
 pub trait MakesAt<Input> {
     /// The parser that it makes.
     type Made;
@@ -72,31 +42,31 @@ impl<Input, N, F: Fn(&mut Input) -> N> MakesAt<Input> for F {
 #[derive(Clone, Copy, Drop)]
 pub struct Lazy<F>(pub(super) F);
 
-impl<Input, F: Makes> Outputs<Input> for Lazy<F>
+impl<Input, F: Maker> Outputs<Input> for Lazy<F>
 where
-    F::Made: Outputs<Input>,
+    F::Output: Outputs<Input>,
 {
-    type Output = <F::Made as Outputs<Input>>::Output;
+    type Output = <F::Output as Outputs<Input>>::Output;
 }
 
-impl<Input: Stream, N: Parser<Input> + Drop, F: Fn() -> N> Parser<Input> for Lazy<F> {
+impl<Input: Stream, N: Parser<Input> + Drop, F: Maker<Output = N>> Parser<Input> for Lazy<F> {
     type PartialState = MadeState<N, N::PartialState>;
 
-    ghost lawful = { λ p. F.IsAlwaysCallable (lazy_maker p) × ((n : N) → F.post (lazy_maker p) n → N.lawful n) };
+    ghost lawful = { λ p. F.callable (lazy_maker p) × ((n : N) → F.returns (lazy_maker p) n → N.lawful n) };
 
-    ghost determined = { λ p. ((n : N) → by_lazy F.Fn N.lawful n → N.determined n) × MakesOne (at_any (F.post (lazy_maker p))) (λ n. (N.meaning n).whole) };
+    ghost determined = { λ p. ((n : N) → MadeBySome F.callable F.returns N.lawful n → N.determined n) × MakesOne (at_any (F.returns (lazy_maker p))) (λ n. (N.meaning n).whole) };
 
-    ghost valid = { valid_made (KeptOf N.lawful N.meaning (by_lazy F.Fn N.lawful)) N.valid };
+    ghost valid = { valid_made (KeptOf N.lawful N.meaning (MadeBySome F.callable F.returns N.lawful)) N.valid };
 
-    ghost meaning = { λ p. made_meaning (at_any (F.post (lazy_maker p))) (by_lazy F.Fn N.lawful) N.meaning (Adds (F.post (lazy_maker p)) N.meaning) };
+    ghost meaning = { λ p. made_meaning (at_any (F.returns (lazy_maker p))) (MadeBySome F.callable F.returns N.lawful) N.meaning (Adds (F.returns (lazy_maker p)) N.meaning) };
 
     ghost parts = { λ p. 1 };
 
-    ghost default_valid = { is_unmade_valid (KeptOf N.lawful N.meaning (by_lazy F.Fn N.lawful)) N.valid };
+    ghost default_valid = { is_unmade_valid (KeptOf N.lawful N.meaning (MadeBySome F.callable F.returns N.lawful)) N.valid };
 
-    ghost laws = { λ p l. made_is_meaning _ (by_lazy F.Fn N.lawful) N.meaning _ N.lawful (at_any_lasts (F.post (lazy_maker p))) N.laws (λ v. l.1) };
+    ghost laws = { λ p l. made_is_meaning _ (MadeBySome F.callable F.returns N.lawful) N.meaning _ N.lawful (at_any_lasts (F.returns (lazy_maker p))) N.laws (λ v. l.1) };
 
-    ghost single = { λ p l d. made_means_one _ (by_lazy F.Fn N.lawful) N.meaning _ N.lawful (λ n i. N.single n (i.all n i.made) (d.0 n i)) d.1 };
+    ghost single = { λ p l d. made_means_one _ (MadeBySome F.callable F.returns N.lawful) N.meaning _ N.lawful (λ n i. N.single n (i.all n i.made) (d.0 n i)) d.1 };
 
     #[inline(always)]
     fn parse_mode<M: ParseMode>(
@@ -108,7 +78,7 @@ impl<Input: Stream, N: Parser<Input> + Drop, F: Fn() -> N> Parser<Input> for Laz
         if let MadeState::Kept(made) = take_state(mode, state) {
             return resume_made(mode, input, made, state);
         }
-        let parser = (self.0)();
+        let parser = self.0.make();
         let made = Made {
             parser,
             state: N::PartialState::default(),
@@ -119,7 +89,7 @@ impl<Input: Stream, N: Parser<Input> + Drop, F: Fn() -> N> Parser<Input> for Laz
     /// Adds what a parser of the maker adds.
     #[inline]
     fn add_error(&mut self, error: &mut Tracked<Input::Error>) {
-        let mut parser = (self.0)();
+        let mut parser = self.0.make();
         parser.add_error(error);
     }
 

@@ -3,7 +3,7 @@ ghost use Rattle.std.specs.Prelude.{◌≡◌};
 ghost use Rattle.combine_error.specs.Easy.{inner_stream};
 
 use crate::easy::Errors;
-use combine_base::maps::Maps;
+use combine_base::function::Function;
 use combine_base::stream::{self, Failures, Kind, Positioned, ResetStream, StreamOnce};
 use combine_stream::position;
 use combine_stream::range::{Range, RangeStream};
@@ -167,7 +167,10 @@ where
     }
 
     #[inline(always)]
-    fn uncons_while<F: Maps<S::Token, bool>>(&mut self, f: &F) -> Result<S::Range, Kind> {
+    fn uncons_while<F: Function<S::Token, Output = bool>>(
+        &mut self,
+        f: &F,
+    ) -> Result<S::Range, Kind> {
         self.inner.uncons_while(f)
     }
 

@@ -4,7 +4,7 @@ ghost use Rattle.combine_expression.specs.ExpressionParts.{BeginsPart, MakesOute
 
 use super::operands::{Fault, Operands};
 use super::{Fixity, Item, Operator};
-use combine_combinator_lazy::combinator::types::Makes;
+use combine_base::function::Maker;
 use combine_nested::nested::asked::{IfElse, Test};
 use combine_nested::nested::types::Nested;
 use combine_nested::nested::{Frame, Next};
@@ -140,14 +140,12 @@ impl<O, V, const N: usize> Outermost<O, V, N> {
     }
 }
 
-impl<O: Drop, V: Drop, const N: usize> Makes for Outermost<O, V, N> {
+impl<O: Drop, V: Drop, const N: usize> Maker for Outermost<O, V, N> {
     ghost use Rattle.std.specs.Prelude.{false};
 
-    type Made = Part<O, V, N>;
+    type Output = Part<O, V, N>;
 
-    ghost callable = { λ _. Unit {0} };
-
-    ghost makes = { λ r p. BeginsPart r.levels false p };
+    ghost returns = { λ r p. BeginsPart r.levels false p };
 
     #[inline]
     fn make(&self) -> Part<O, V, N> {

@@ -10,10 +10,10 @@ use super::asked::Ask;
 use super::steps::{Did, Frames, run_step};
 pub use super::steps::{NestedState, RunningStep};
 use combine_base::error::{ErrorOffset, ParseResult, Tracked};
+use combine_base::function::Maker;
 use combine_base::parser::{FirstMode, Outputs, ParseMode, Parser};
 use combine_base::sequence::take_state;
 use combine_base::stream::Stream;
-use combine_combinator_lazy::combinator::types::Makes;
 use std::alloc::Global;
 
 /// The parser of [`nested`](crate::nested::nested).
@@ -26,35 +26,35 @@ pub struct Nested<R, S> {
     pub(super) asked: S,
 }
 
-impl<Input, R: Makes, S> Outputs<Input> for Nested<R, S>
+impl<Input, R: Maker, S> Outputs<Input> for Nested<R, S>
 where
-    R::Made: Frame,
+    R::Output: Frame,
 {
-    type Output = <R::Made as Frame>::Value;
+    type Output = <R::Output as Frame>::Value;
 }
 
 impl<
     Input: Stream,
     F: Frame,
     N: Parser<Input, Output = F::Item> + Drop,
-    R: Makes<Made = F>,
+    R: Maker<Output = F>,
     S: Ask<F, Parser = N>,
 > Parser<Input> for Nested<R, S> {
     type PartialState = NestedState<F, N, N::PartialState>;
 
     ghost lawful = { λ p. R.callable (root_part p) × S.callable (step_asker p) × ((f : F) (n : N) → S.answers (step_asker p) f n → N.lawful n) };
 
-    ghost determined = { λ p. ((n : N) → asked_by_some S.callable S.answers N.lawful n → N.determined n) × NestsOne (R.makes (root_part p)) (S.answers (step_asker p)) F.takes F.joins (asked_by_some S.callable S.answers N.lawful) N.meaning N.valid F.alike F.alike_items F.alike_values };
+    ghost determined = { λ p. ((n : N) → asked_by_some S.callable S.answers N.lawful n → N.determined n) × NestsOne (R.returns (root_part p)) (S.answers (step_asker p)) F.takes F.joins (asked_by_some S.callable S.answers N.lawful) N.meaning N.valid F.alike F.alike_items F.alike_values };
 
     ghost valid = { valid_steps (KeptOf N.lawful N.meaning (asked_by_some S.callable S.answers N.lawful)) N.valid };
 
-    ghost meaning = { λ p. nesting Input.step Input.Error.observers (depth_part p) (R.makes (root_part p)) (S.answers (step_asker p)) F.takes F.joins (asked_by_some S.callable S.answers N.lawful) N.meaning };
+    ghost meaning = { λ p. nesting Input.step Input.Error.observers (depth_part p) (R.returns (root_part p)) (S.answers (step_asker p)) F.takes F.joins (asked_by_some S.callable S.answers N.lawful) N.meaning };
 
     ghost parts = { λ _. 1 };
 
     ghost default_valid = { steps_start_valid (KeptOf N.lawful N.meaning (asked_by_some S.callable S.answers N.lawful)) N.valid };
 
-    ghost laws = { λ p l. nesting_is_meaning Input.step (depth_part p) (R.makes (root_part p)) (S.answers (step_asker p)) F.takes F.joins (asked_by_some S.callable S.answers N.lawful) N.meaning N.lawful N.laws l.2 Input.Error.observers };
+    ghost laws = { λ p l. nesting_is_meaning Input.step (depth_part p) (R.returns (root_part p)) (S.answers (step_asker p)) F.takes F.joins (asked_by_some S.callable S.answers N.lawful) N.meaning N.lawful N.laws l.2 Input.Error.observers };
 
     ghost single = { λ p l d. nesting_means_one Input.step (depth_part p) d.1 N.lawful (λ n i. N.single n (i.all n i.made) (d.0 n i)) (asked_so (step_asker p) l.1 l.2) Input.Error.observers };
 

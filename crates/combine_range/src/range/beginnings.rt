@@ -12,7 +12,7 @@ use crate::kept_distance::{
     begin, hand_out, is_undecided_end, keep_distance, not_passed, pass_items, refused_here,
 };
 use combine_base::error::{ErrorOffset, ParseResult, Tracked};
-use combine_base::maps::Maps;
+use combine_base::function::Function;
 use combine_base::parser::{Outputs, ParseMode, Parser};
 use combine_base::stream::{Kind, Positioned, ResetStream, Stream, StreamOnce};
 use combine_stream::range::{Range, RangeStream};
@@ -34,7 +34,7 @@ pub struct TakeWhile1<Input, F> {
 
 // Makes one call. An empty beginning is refused where `some` is true.
 #[inline(always)]
-fn take_beginning<Input: RangeStream, F: Maps<Input::Token, bool>>(
+fn take_beginning<Input: RangeStream, F: Function<Input::Token, Output = bool>>(
     test: &F,
     some: bool,
     first: bool,
@@ -45,8 +45,8 @@ where
     Input::Range: Range,
     requires { (t : Input.Token) → F.callable test.now t }
     ensures passes { Passes (Input.marks input.old) (Input.marks input.new) (Input.failures input.old) (Input.failures input.new) }
-    ensures answers { AnswersCall Input.StreamOnce Input.Error.observers ⟦<Distance as Default>⟧.is_default (takes_beginning Input.Error.observers Input.size Input.spells (F.answers test.now) some) first state.old state.new input.old input.new result }
-    ensures refuses { ReasonedCall Input.Error.observers (takes_beginning Input.Error.observers Input.size Input.spells (F.answers test.now) some) first state.old (Input.view input.old) (Input.view input.new) result }
+    ensures answers { AnswersCall Input.StreamOnce Input.Error.observers ⟦<Distance as Default>⟧.is_default (takes_beginning Input.Error.observers Input.size Input.spells (F.returns test.now) some) first state.old state.new input.old input.new result }
+    ensures refuses { ReasonedCall Input.Error.observers (takes_beginning Input.Error.observers Input.size Input.spells (F.returns test.now) some) first state.old (Input.view input.old) (Input.view input.new) result }
 {
     let start = input.checkpoint();
     let position = input.position();
@@ -78,7 +78,8 @@ impl<Input: StreamOnce, F> Outputs<Input> for TakeWhile<Input, F> {
     type Output = Input::Range;
 }
 
-impl<Input: RangeStream, F: Maps<Input::Token, bool>> Parser<Input> for TakeWhile<Input, F>
+impl<Input: RangeStream, F: Function<Input::Token, Output = bool>> Parser<Input>
+    for TakeWhile<Input, F>
 where
     Input::Range: Range,
 {
@@ -86,11 +87,11 @@ where
 
     ghost lawful = { λ p. (t : Input.Token) → F.callable p.predicate t };
 
-    ghost determined = { λ p. IsPredicate (F.answers p.predicate) };
+    ghost determined = { λ p. IsPredicate (F.returns p.predicate) };
 
     ghost valid = { λ s. Unit {0} };
 
-    ghost meaning = { λ p. takes_beginning Input.Error.observers Input.size Input.spells (F.answers p.predicate) false };
+    ghost meaning = { λ p. takes_beginning Input.Error.observers Input.size Input.spells (F.returns p.predicate) false };
 
     ghost parts = { λ p. 1 };
 
@@ -123,7 +124,8 @@ impl<Input: StreamOnce, F> Outputs<Input> for TakeWhile1<Input, F> {
     type Output = Input::Range;
 }
 
-impl<Input: RangeStream, F: Maps<Input::Token, bool>> Parser<Input> for TakeWhile1<Input, F>
+impl<Input: RangeStream, F: Function<Input::Token, Output = bool>> Parser<Input>
+    for TakeWhile1<Input, F>
 where
     Input::Range: Range,
 {
@@ -131,11 +133,11 @@ where
 
     ghost lawful = { λ p. (t : Input.Token) → F.callable p.predicate t };
 
-    ghost determined = { λ p. IsPredicate (F.answers p.predicate) };
+    ghost determined = { λ p. IsPredicate (F.returns p.predicate) };
 
     ghost valid = { λ s. Unit {0} };
 
-    ghost meaning = { λ p. takes_beginning Input.Error.observers Input.size Input.spells (F.answers p.predicate) true };
+    ghost meaning = { λ p. takes_beginning Input.Error.observers Input.size Input.spells (F.returns p.predicate) true };
 
     ghost parts = { λ p. 1 };
 

@@ -162,8 +162,8 @@ module _ {P T R A E : Type 0} (step : P → T → P) (errors : Observers T R P E
     Own : (is : committed ≡ true) (refuses : MeantRefusal s.reads s.refuses v w true e) → RefusesHere s g v w committed e
     -- it is missing, and its own refusal is the answer
     TurnMissing : (is : committed ≡ false) (few : is_enough b g ≡ false) (owned : keeps_refusal b g ≡ true) (refuses : MeantRefusal s.reads s.refuses v w false e) → RefusesHere s g v w committed e
-    -- it is missing, and it is said how many are
-    Few : (is : committed ≡ false) (few : is_enough b g ≡ false) (other : keeps_refusal b g ≡ false) (own : E) (refuses : MeantRefusal s.reads s.refuses v w false own) (told : HasItems errors kinds.Refused v.position (Only (Message (Count (missing_turns b g)))) e) → RefusesHere s g v w committed e
+    -- it is missing, and it is said how many are; the kind is that of its own refusal
+    Few : (is : committed ≡ false) (few : is_enough b g ≡ false) (other : keeps_refusal b g ≡ false) (own : E) (refuses : MeantRefusal s.reads s.refuses v w false own) (told : HasItems errors (errors.kind own) v.position (Only (Message (Count (missing_turns b g)))) e) → RefusesHere s g v w committed e
     -- it is accepted, and takes nothing
     Idle : (is : committed ≡ true) (value : A) (count : ℕ) (kind : Bool) (accepted : s.reads v (Accepted value count kind)) (on : ending value ≡ false) (nothing : is_block_at b g count kind ≡ false) (told : HasItems errors kinds.Refused v.position (Only (Message (Fixed (codes "repetition takes nothing")))) e) → RefusesHere s g v w committed e
 

@@ -5,7 +5,7 @@ use crate::position::{DefaultPositioned, Windowed};
 use crate::range::RangeStream;
 use crate::range::slices::count_while;
 use combine_base::error::UnexpectedParse;
-use combine_base::maps::Maps;
+use combine_base::function::Function;
 use combine_base::stream::{Failures, Kind, Positioned, ResetStream, Stream, StreamOnce};
 use std::alloc::AllocError;
 
@@ -228,7 +228,7 @@ impl<'a, T: Copy> RangeStream for SliceStream<'a, T> {
     }
 
     #[inline(always)]
-    fn uncons_while<F: Maps<T, bool>>(&mut self, f: &F) -> Result<&'a [T], Kind> {
+    fn uncons_while<F: Function<T, Output = bool>>(&mut self, f: &F) -> Result<&'a [T], Kind> {
         let unread = self.unread();
         let n = count_while(unread, f);
         self.at += n;

@@ -12,7 +12,7 @@ use crate::position::{DefaultPositioned, Windowed};
 use crate::range::texts::{bytes_while, cut};
 use crate::range::{Range, RangeStream};
 use combine_base::error::UnexpectedParse;
-use combine_base::maps::Maps;
+use combine_base::function::Function;
 use combine_base::stream::{
     Failures, Kind, Positioned, ResetStream, Stream, StreamOnce, split_first,
 };
@@ -273,7 +273,7 @@ impl<'a> RangeStream for TextStream<'a> {
     }
 
     #[inline(always)]
-    fn uncons_while<F: Maps<char, bool>>(&mut self, f: &F) -> Result<&'a str, Kind> {
+    fn uncons_while<F: Function<char, Output = bool>>(&mut self, f: &F) -> Result<&'a str, Kind> {
         let n = bytes_while(self.rest, f);
         self.uncons_range(n)
     }

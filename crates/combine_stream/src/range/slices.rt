@@ -3,7 +3,7 @@ ghost use Rattle.std.specs.Prelude.{◌≡◌, length};
 ghost use Rattle.combine_stream.specs.Range.Ranges.{LongestItems};
 
 use crate::range::{ByteRange, Range, RangeStream};
-use combine_base::maps::Maps;
+use combine_base::function::Function;
 use combine_base::stream::{Kind, ResetStream, StreamOnce};
 
 impl<'a, T: Copy> Range for &'a [T] {
@@ -52,7 +52,7 @@ impl<'a, T: Copy> RangeStream for &'a [T] {
     }
 
     #[inline(always)]
-    fn uncons_while<F: Maps<T, bool>>(&mut self, f: &F) -> Result<&'a [T], Kind> {
+    fn uncons_while<F: Function<T, Output = bool>>(&mut self, f: &F) -> Result<&'a [T], Kind> {
         let n = count_while(self, f);
         let (range, rest) = self.split_at(n);
         *self = rest;
@@ -75,9 +75,9 @@ const BLOCK: usize = 8;
 
 // Returns how many tokens the longest beginning under a test has.
 #[inline(always)]
-pub(crate) fn count_while<T: Copy, F: Maps<T, bool>>(tokens: &[T], f: &F) -> usize
+pub(crate) fn count_while<T: Copy, F: Function<T, Output = bool>>(tokens: &[T], f: &F) -> usize
     requires { (t : T) → F.callable f.now t }
-    ensures { LongestItems (λ t. 1) (F.answers f.now) tokens.now result }
+    ensures { LongestItems (λ t. 1) (F.returns f.now) tokens.now result }
 {
     let mut n = 0;
     let mut rest = tokens;
@@ -98,13 +98,13 @@ pub(crate) fn count_while<T: Copy, F: Maps<T, bool>>(tokens: &[T], f: &F) -> usi
 
 // Returns the same as `count_while`, token by token.
 #[inline(always)]
-fn count_each<T: Copy, F: Maps<T, bool>>(tokens: &[T], f: &F) -> usize
+fn count_each<T: Copy, F: Function<T, Output = bool>>(tokens: &[T], f: &F) -> usize
     requires { (t : T) → F.callable f.now t }
-    ensures { LongestItems (λ t. 1) (F.answers f.now) tokens.now result }
+    ensures { LongestItems (λ t. 1) (F.returns f.now) tokens.now result }
 {
     let mut n = 0;
     for token in tokens {
-        if !f.map_one(*token) {
+        if !f.call(*token) {
             return n;
         }
         n += 1;

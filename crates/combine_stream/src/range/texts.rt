@@ -8,7 +8,7 @@ ghost use Rattle.combine_base.specs.Stream.Texts.{text_view, less_char};
 ghost use Rattle.combine_stream.specs.Range.TextRanges.{Cut, uncut, text_of};
 
 use crate::range::{ByteRange, Range, RangeStream};
-use combine_base::maps::Maps;
+use combine_base::function::Function;
 use combine_base::stream::{Kind, ResetStream, StreamOnce, split_first};
 
 impl<'a> Range for &'a str {
@@ -52,7 +52,7 @@ impl<'a> RangeStream for &'a str {
     }
 
     #[inline(always)]
-    fn uncons_while<F: Maps<char, bool>>(&mut self, f: &F) -> Result<&'a str, Kind> {
+    fn uncons_while<F: Function<char, Output = bool>>(&mut self, f: &F) -> Result<&'a str, Kind> {
         let n = bytes_while(self, f);
         self.uncons_range(n)
     }
@@ -100,16 +100,16 @@ fn all(text: &str) -> &str
 
 // Returns how many bytes the longest beginning under a test has.
 #[inline(always)]
-pub(crate) fn bytes_while<F: Maps<char, bool>>(text: &str, f: &F) -> usize
+pub(crate) fn bytes_while<F: Function<char, Output = bool>>(text: &str, f: &F) -> usize
     requires { (t : ℕ) → F.callable f.now t }
-    ensures { LongestItems len_utf8 (F.answers f.now) (chars text.now) result }
+    ensures { LongestItems len_utf8 (F.returns f.now) (chars text.now) result }
 {
     let mut rest = text;
     let mut passed = 0;
     loop {
         match split_first(rest) {
             Some((first, after)) => {
-                if !f.map_one(first) {
+                if !f.call(first) {
                     return passed;
                 }
                 passed += rest.len() - after.len();

@@ -20,8 +20,8 @@ any_parser = record { reads = record {} }
 abbrev pub satisfy_parser : {Input F : Type 0} → F → Satisfy Input F
 satisfy_parser f = record { predicate = f; reads = record {} }
 
-abbrev pub satisfy_map_parser : {Input F B : Type 0} → F → SatisfyMap Input F B
-satisfy_map_parser f = record { predicate = f; reads = record {}; gives = record {} }
+abbrev pub satisfy_map_parser : {Input F : Type 0} → F → SatisfyMap Input F
+satisfy_map_parser f = record { predicate = f; reads = record {} }
 
 abbrev pub token_parser : {Input T : Type 0} → T → Token Input T
 token_parser t = record { token = t; reads = record {} }
@@ -32,8 +32,8 @@ position_parser = record { reads = record {} }
 abbrev pub value_parser : {Input T : Type 0} → T → Value Input T
 value_parser v = record { value = v; reads = record {} }
 
-abbrev pub produce_parser : {Input F B : Type 0} → F → Produce Input F B
-produce_parser f = record { function = f; reads = record {}; gives = record {} }
+abbrev pub produce_parser : {Input F : Type 0} → F → Produce Input F
+produce_parser f = record { function = f; reads = record {} }
 
 abbrev pub eof_parser : {Input : Type 0} → Eof Input
 eof_parser = record { reads = record {} }

@@ -10,7 +10,7 @@ pub use crate::token::among::types::{NoneOf, OneOf};
 pub use crate::token::lists::types::{Tokens, TokensCmp};
 use crate::token::reading::{one_token, token_if, token_map};
 use combine_base::error::{ErrorOffset, Info, ParseError, ParseResult, Tracked};
-use combine_base::maps::Maps;
+use combine_base::function::{Function, Maker};
 use combine_base::parser::{Outputs, ParseMode, Parser};
 use combine_base::stream::{Kind, Stream, StreamOnce};
 use std::marker::PhantomData;
@@ -33,10 +33,9 @@ pub struct Satisfy<Input, F> {
 /// The parser of [`satisfy_map`](crate::token::satisfy_map).
 #[derive(Drop)]
 #[derive_where(Clone, Copy; F)]
-pub struct SatisfyMap<Input, F, B> {
+pub struct SatisfyMap<Input, F> {
     pub(super) predicate: F,
     pub(super) reads: PhantomData<Input>,
-    pub(super) gives: PhantomData<B>,
 }
 
 /// The parser of [`token`](crate::token::token), with the stream's tokens as `T`.
@@ -67,10 +66,9 @@ pub struct Value<Input, T> {
 /// The parser of [`produce`](crate::token::produce).
 #[derive(Drop)]
 #[derive_where(Clone, Copy; F)]
-pub struct Produce<Input, F, B> {
+pub struct Produce<Input, F> {
     pub(super) function: F,
     pub(super) reads: PhantomData<Input>,
-    pub(super) gives: PhantomData<B>,
 }
 
 /// The parser of [`eof`](crate::token::eof).
@@ -131,16 +129,16 @@ impl<Input: StreamOnce, F> Outputs<Input> for Satisfy<Input, F> {
     type Output = Input::Token;
 }
 
-impl<Input: Stream, F: Maps<Input::Token, bool>> Parser<Input> for Satisfy<Input, F> {
+impl<Input: Stream, F: Function<Input::Token, Output = bool>> Parser<Input> for Satisfy<Input, F> {
     type PartialState = ();
 
     ghost lawful = { λ p. (t : Input.Token) → F.callable p.predicate t };
 
-    ghost determined = { λ p. IsPredicate (F.answers p.predicate) };
+    ghost determined = { λ p. IsPredicate (F.returns p.predicate) };
 
     ghost valid = { λ s. Unit {0} };
 
-    ghost meaning = { λ p. takes_one Input.Error.observers (satisfied (F.answers p.predicate)) (Unit {0}) AddsNothing };
+    ghost meaning = { λ p. takes_one Input.Error.observers (satisfied (F.returns p.predicate)) (Unit {0}) AddsNothing };
 
     ghost parts = { λ p. 1 };
 
@@ -155,8 +153,8 @@ impl<Input: Stream, F: Maps<Input::Token, bool>> Parser<Input> for Satisfy<Input
         token_if(
             |token: Input::Token| -> bool
                 requires { F.callable predicate.now token }
-                ensures { F.answers predicate.entry.now token result }
-            { predicate.map_one(token) },
+                ensures { F.returns predicate.entry.now token result }
+            { predicate.call(token) },
             input,
         )
     }
@@ -171,26 +169,27 @@ impl<Input: Stream, F: Maps<Input::Token, bool>> Parser<Input> for Satisfy<Input
 
     ghost default_valid = { λ s d. tt };
 
-    ghost laws = { λ p l. takes_one_is_meaning Input.Error.observers (satisfied (F.answers p.predicate)) _ _ _ _ };
+    ghost laws = { λ p l. takes_one_is_meaning Input.Error.observers (satisfied (F.returns p.predicate)) _ _ _ _ };
 
-    ghost single = { λ p l d. takes_one_means_one Input.Error.observers (satisfied (F.answers p.predicate)) _ _ _ (satisfied_is_test _ d) };
+    ghost single = { λ p l d. takes_one_means_one Input.Error.observers (satisfied (F.returns p.predicate)) _ _ _ (satisfied_is_test _ d) };
 }
 
-impl<Input, B: Drop, F> Outputs<Input> for SatisfyMap<Input, F, B> {
+impl<Input: StreamOnce, B: Drop, F: Function<Input::Token, Output = Option<B>>> Outputs<Input>
+    for SatisfyMap<Input, F> {
     type Output = B;
 }
 
-impl<Input: Stream, B: Drop, F: Maps<Input::Token, Option<B>>> Parser<Input>
-    for SatisfyMap<Input, F, B> {
+impl<Input: Stream, B: Drop, F: Function<Input::Token, Output = Option<B>>> Parser<Input>
+    for SatisfyMap<Input, F> {
     type PartialState = ();
 
     ghost lawful = { λ p. (t : Input.Token) → F.callable p.predicate t };
 
-    ghost determined = { λ p. IsTest (F.answers p.predicate) };
+    ghost determined = { λ p. IsTest (F.returns p.predicate) };
 
     ghost valid = { λ s. Unit {0} };
 
-    ghost meaning = { λ p. takes_one Input.Error.observers (of_token (F.answers p.predicate)) (Unit {0}) AddsNothing };
+    ghost meaning = { λ p. takes_one Input.Error.observers (of_token (F.returns p.predicate)) (Unit {0}) AddsNothing };
 
     ghost parts = { λ p. 1 };
 
@@ -205,8 +204,8 @@ impl<Input: Stream, B: Drop, F: Maps<Input::Token, Option<B>>> Parser<Input>
         token_map(
             |token: Input::Token| -> Option<B>
                 requires { F.callable predicate.now token }
-                ensures { F.answers predicate.entry.now token result }
-            { predicate.map_one(token) },
+                ensures { F.returns predicate.entry.now token result }
+            { predicate.call(token) },
             input,
         )
     }
@@ -221,9 +220,9 @@ impl<Input: Stream, B: Drop, F: Maps<Input::Token, Option<B>>> Parser<Input>
 
     ghost default_valid = { λ s d. tt };
 
-    ghost laws = { λ p l. takes_one_is_meaning Input.Error.observers (of_token (F.answers p.predicate)) _ _ _ _ };
+    ghost laws = { λ p l. takes_one_is_meaning Input.Error.observers (of_token (F.returns p.predicate)) _ _ _ _ };
 
-    ghost single = { λ p l d. takes_one_means_one Input.Error.observers (of_token (F.answers p.predicate)) _ _ _ (of_token_is_test _ d) };
+    ghost single = { λ p l d. takes_one_means_one Input.Error.observers (of_token (F.returns p.predicate)) _ _ _ (of_token_is_test _ d) };
 }
 
 impl<Input, T: Drop> Outputs<Input> for Token<Input, T> {
@@ -366,20 +365,26 @@ impl<Input: Stream, T: Clone> Parser<Input> for Value<Input, T> {
     ghost single = { λ p l d. gives_means_one (λ at v. T.is_clone p.value v) _ _ _ };
 }
 
-impl<Input, B: Drop, F> Outputs<Input> for Produce<Input, F, B> {
-    type Output = B;
+impl<Input, F: Maker> Outputs<Input> for Produce<Input, F>
+where
+    F::Output: Drop,
+{
+    type Output = F::Output;
 }
 
-impl<Input: Stream, B: Drop, F: Fn() -> B> Parser<Input> for Produce<Input, F, B> {
+impl<Input: Stream, F: Maker> Parser<Input> for Produce<Input, F>
+where
+    F::Output: Drop,
+{
     type PartialState = ();
 
-    ghost lawful = { λ p. F.IsAlwaysCallable p.function };
+    ghost lawful = { λ p. F.callable p.function };
 
     ghost determined = { λ p. Unit {0} };
 
     ghost valid = { λ s. Unit {0} };
 
-    ghost meaning = { λ p. given_meaning (λ at v. F.post p.function v) (Unit {0}) AddsNothing };
+    ghost meaning = { λ p. given_meaning (λ at v. F.returns p.function v) (Unit {0}) AddsNothing };
 
     ghost parts = { λ p. 1 };
 
@@ -389,8 +394,8 @@ impl<Input: Stream, B: Drop, F: Fn() -> B> Parser<Input> for Produce<Input, F, B
         mode: M,
         input: &mut Input,
         state: &mut (),
-    ) -> ParseResult<B, Input::Error> {
-        ParseResult::PeekOk((self.function)())
+    ) -> ParseResult<F::Output, Input::Error> {
+        ParseResult::PeekOk(self.function.make())
     }
 
     #[inline]
@@ -403,9 +408,9 @@ impl<Input: Stream, B: Drop, F: Fn() -> B> Parser<Input> for Produce<Input, F, B
 
     ghost default_valid = { λ s d. tt };
 
-    ghost laws = { λ p l. gives_is_meaning (λ at v. F.post p.function v) _ _ _ _ };
+    ghost laws = { λ p l. gives_is_meaning (λ at v. F.returns p.function v) _ _ _ _ };
 
-    ghost single = { λ p l d. gives_means_one (λ at v. F.post p.function v) _ _ _ };
+    ghost single = { λ p l d. gives_means_one (λ at v. F.returns p.function v) _ _ _ };
 }
 
 impl<Input> Outputs<Input> for Eof<Input> {

@@ -14,4 +14,4 @@ returns-then-is_enough-clause-halted g c = λ p later r n a.
     EndedByRefusal (sym c.is_enough.ensures ∙ c.if-is_enough.true) (turn_put_back (ran_answers _ _ _ _ _ _ n _ a) e i.1) e refl
 
 pub returns-clause-refuses : goal.returns-clause-refuses
-returns-clause-refuses g c = λ p later. record { is = λ first s v q x. record { is = (refl, Few refl (sym c.is_enough.ensures ∙ c.if-is_enough.false) (sym c.keeps_refusal.ensures ∙ c.if-keeps_refusal.false) c.args.refusal.error x (rw (q, ← c.missing.ensures, c.from.ensures) c.too_few-error.ensures.says)) } }
+returns-clause-refuses g c = λ p later. record { is = λ first s v q x. record { is = (refl, Few refl (sym c.is_enough.ensures ∙ c.if-is_enough.false) (sym c.keeps_refusal.ensures ∙ c.if-keeps_refusal.false) c.args.refusal.error x (rw (q, ← c.missing-missing.ensures, ← c.kind.ensures, c.from.ensures) c.too_few-error.ensures)) } }

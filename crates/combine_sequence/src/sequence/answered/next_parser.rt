@@ -1,6 +1,8 @@
 //! Functions that are asked for a parser, by what they take.
 ghost use Rattle.std.specs.Prelude.{◌≡◌};
 
+use combine_base::function::Function;
+
 /// A function that returns a parser for a value, by what it takes of the value. Our own.
 pub trait NextParser<A> {
     ghost use Rattle.std.specs.Prelude.{◌≡◌};
@@ -30,23 +32,23 @@ pub trait NextParser<A> {
 #[derive(Clone, Copy, Drop)]
 pub struct ByValue<F>(pub(crate) F);
 
-impl<A, N, F: Fn(A) -> N> NextParser<A> for ByValue<F> {
+impl<A, F: Function<A>> NextParser<A> for ByValue<F> {
     ghost use Rattle.combine_sequence.specs.Then.{forget};
 
-    type Parser = N;
+    type Parser = F::Output;
 
     type Kept = ();
 
-    ghost callable = { λ f. F.pre f.0 };
+    ghost callable = { λ f. F.callable f.0 };
 
-    ghost answers = { λ f. F.post f.0 };
+    ghost answers = { λ f. F.returns f.0 };
 
     ghost keeps = { forget };
 
     #[inline(always)]
     /// Returns that nothing is kept of the value, and the parser.
-    fn ask(&self, value: A) -> ((), N) {
-        ((), (self.0)(value))
+    fn ask(&self, value: A) -> ((), F::Output) {
+        ((), self.0.call(value))
     }
 }
 

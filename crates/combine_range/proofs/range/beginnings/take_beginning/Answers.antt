@@ -67,7 +67,7 @@ pub returns-in-Err-clause-refuses : goal.returns-in-Err-clause-refuses
 returns-in-Err-clause-refuses g c =
     let s = g.Input.Error.ParseError.observers in
     let size = g.Input.RangeStream.size in
-    let answers = g.F.Maps.answers c.args.test.now in
+    let answers = g.F.Function.returns c.args.test.now in
     let own = refuses_beginning s answers c.args.some in
     let d = c.begin-distance.result in
     let old = g.Input.StreamOnce.view c.args.input.now in
@@ -98,7 +98,7 @@ returns-then-some-clause-refuses g c =
     let l = none_taken z _ d g.met.Input.RangeStream.measured g.met.Input.RangeStream.filled (let a = c.len.ensures in omega arith) in
     let s = g.Input.Error.ParseError.observers in
     let size = g.Input.RangeStream.size in
-    let answers = g.F.Maps.answers c.args.test.now in
+    let answers = g.F.Function.returns c.args.test.now in
     let own = refuses_beginning s answers c.args.some in
     let n = c.begin-distance.result in
     let old = g.Input.StreamOnce.view c.args.input.now in

@@ -10,7 +10,7 @@ pub overflow_add-n : goal.overflow_add-n
 overflow_add-n g c =
     let split = c.in-Some.ensures.cases in
     let block = rw split.1 at c.count_each-passed.ensures in
-    let m = few (g.F.Maps.answers c.args.f.now) (take 8 c.walk.rest.now) _ block in
+    let m = few (g.F.Function.returns c.args.f.now) (take 8 c.walk.rest.now) _ block in
     let e = length-take-le 8 c.walk.rest.now split.0 in
     let w = block_within _ _ _ _ c.walk.invariant c.count_each-passed.result (omega arith) in
     omega arith

@@ -4,8 +4,8 @@ use Rattle.std.specs.Str.{chars}
 use Rattle.combine_stream.proofs.TokenWalks.{PassesTest, passed_more, passed_stop, passed_end}
 use Rattle.combine_stream.proofs.range.texts.bytes_while.Goals as goal
 
-pub returns-then-not-map_one : goal.returns-then-not-map_one
-returns-then-not-map_one g c = passed_stop _ _ _ _ _ c.loop-first.invariant.passed _ _ c.in-Some.ensures.characters c.if-not-map_one.ensures
+pub returns-then-not-call : goal.returns-then-not-call
+returns-then-not-call g c = passed_stop _ _ _ _ _ c.loop-first.invariant.passed _ _ c.in-Some.ensures.characters c.if-not-call.ensures
 
 pub loop-first-preserved : goal.loop-first-preserved
 loop-first-preserved g c =
@@ -15,7 +15,7 @@ loop-first-preserved g c =
     record {
       text = i.text;
       size = let z = c.loop-first.invariant.size in omega arith;
-      passed = subst (PassesTest len_utf8 (g.F.Maps.answers c.args.f.now) (chars c.args.text.now) (chars c.in-Some.after.now)) e (passed_more _ _ _ _ _ c.loop-first.invariant.passed _ _ i.characters c.if-not-map_one.ensures);
+      passed = subst (PassesTest len_utf8 (g.F.Function.returns c.args.f.now) (chars c.args.text.now) (chars c.in-Some.after.now)) e (passed_more _ _ _ _ _ c.loop-first.invariant.passed _ _ i.characters c.if-not-call.ensures);
     }
 
 pub returns-in-None : goal.returns-in-None

@@ -10,7 +10,7 @@ abbrev pub invariant-loop-first : goal.invariant-loop-first
 invariant-loop-first g l = record {
   text : shadow (Utf8 l.rest);
   size : l.passed + length l.rest ≡ length l.fn.text;
-  passed : PassesTest len_utf8 (g.F.Maps.answers l.fn.f) (chars l.fn.text) (chars l.rest) l.passed;
+  passed : PassesTest len_utf8 (g.F.Function.returns l.fn.f) (chars l.fn.text) (chars l.rest) l.passed;
 }
 
 abbrev pub decreases-loop-first : goal.decreases-loop-first

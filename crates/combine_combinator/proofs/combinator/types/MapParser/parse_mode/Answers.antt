@@ -4,11 +4,11 @@ use Rattle.combine_base.specs.Parser.ValueMap.{mapped_means_same}
 use Rattle.combine_base.proofs.Errors.CallReasons.{reasons_err, reasons_peek_err}
 use Rattle.combine_combinator.proofs.combinator.types.MapParser.parse_mode.Goals as goal
 
-pub map_one-requires : goal.map_one-requires
-map_one-requires g c = good_ok _ _ _ _ _ _ c.requires.lawful.1 c.requires.valid c.in-CommitOk.ensures.answers
+pub call-requires : goal.call-requires
+call-requires g c = good_ok _ _ _ _ _ _ c.requires.lawful.1 c.requires.valid c.in-CommitOk.ensures.answers
 
-pub map_one-requires-in-PeekOk : goal.map_one-requires-in-PeekOk
-map_one-requires-in-PeekOk g c = good_peek_ok _ _ _ _ _ _ c.requires.lawful.1 c.requires.valid c.in-PeekOk.ensures.answers
+pub call-requires-in-PeekOk : goal.call-requires-in-PeekOk
+call-requires-in-PeekOk g c = good_peek_ok _ _ _ _ _ _ c.requires.lawful.1 c.requires.valid c.in-PeekOk.ensures.answers
 
 pub returns-in-CommitOk-clause-same : goal.returns-in-CommitOk-clause-same
 returns-in-CommitOk-clause-same g c = mapped_means_same _ _ _ c.parse_mode.ensures.same
@@ -35,10 +35,10 @@ pub returns-in-PeekErr-clause-refuses : goal.returns-in-PeekErr-clause-refuses
 returns-in-PeekErr-clause-refuses g c = reasons_peek_err _ _ _ _ c.in-PeekErr.ensures.refuses
 
 pub returns-in-CommitOk-clause-answers : goal.returns-in-CommitOk-clause-answers
-returns-in-CommitOk-clause-answers g c = mapped_ok _ _ _ _ _ _ c.map_one.ensures c.in-CommitOk.ensures.answers
+returns-in-CommitOk-clause-answers g c = mapped_ok _ _ _ _ _ _ c.call.ensures c.in-CommitOk.ensures.answers
 
 pub returns-in-PeekOk-clause-answers : goal.returns-in-PeekOk-clause-answers
-returns-in-PeekOk-clause-answers g c = mapped_peek_ok _ _ _ _ _ _ c.map_one-in-PeekOk.ensures c.in-PeekOk.ensures.answers
+returns-in-PeekOk-clause-answers g c = mapped_peek_ok _ _ _ _ _ _ c.call-in-PeekOk.ensures c.in-PeekOk.ensures.answers
 
 pub returns-in-CommitOk-clause-refuses : goal.returns-in-CommitOk-clause-refuses
 returns-in-CommitOk-clause-refuses g c = λ committed e h. absurd h.is

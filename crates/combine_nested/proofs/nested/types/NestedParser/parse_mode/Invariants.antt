@@ -12,7 +12,7 @@ invariant-steps g l =
       self : l.self ≡ l.fn.self;
       passes : Passes (g.Input.StreamOnce.marks l.fn.input) (g.Input.StreamOnce.marks l.input) (g.Input.StreamOnce.failures l.fn.input) (g.Input.StreamOnce.failures l.input);
       leads : leads_to g.N.Parser g.Input.StreamOnce g.Input.Error.ParseError.observers g.N.PartialState.Default.is_default (depth_part l.fn.self)
-          (g.R.Makes.makes (root_part l.fn.self)) (g.S.Ask.answers (step_asker l.fn.self)) g.F.Frame.takes g.F.Frame.joins some
+          (g.R.Maker.returns (root_part l.fn.self)) (g.S.Ask.answers (step_asker l.fn.self)) g.F.Frame.takes g.F.Frame.joins some
           (g.M.ParseMode.first l.fn.mode) l.fn.state l.state (g.Input.StreamOnce.view l.fn.input) (g.Input.StreamOnce.view l.input) (g.Input.StreamOnce.failures l.fn.input) (g.Input.StreamOnce.failures l.input) l.next;
     }
 

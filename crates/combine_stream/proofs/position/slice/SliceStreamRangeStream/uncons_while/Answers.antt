@@ -21,6 +21,6 @@ slice_bounds-result-end g c = sym (length-take-le c.count_while-n.result c.unrea
 
 pub returns-clause-read : goal.returns-clause-read
 returns-clause-read g c =
-    let longest = longest_same (g.F.Maps.answers c.args.f.now) _ _ _ c.unread-unread.ensures c.count_while-n.ensures in
+    let longest = longest_same (g.F.Function.returns c.args.f.now) _ _ _ c.unread-unread.ensures c.count_while-n.ensures in
     let m = few _ _ _ longest in
     while_by_range (λ t. omega arith) longest (record { is = (_, slice_place _ _ m, record { taken = index_takes c.args.self.now _ m; spelled = ap (take c.count_while-n.result) c.unread-unread.ensures; failures = λ s. refl }) })

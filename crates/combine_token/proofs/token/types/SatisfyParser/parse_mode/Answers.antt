@@ -12,4 +12,4 @@ pub returns-clause-same : goal.returns-clause-same
 returns-clause-same g c = same_none _
 
 pub returns-clause-refuses : goal.returns-clause-refuses
-returns-clause-refuses g c = token_reasons g.Input.Error.ParseError.observers (satisfied (g.F.Maps.answers c.args.self.now.predicate)) (Unit {0}) AddsNothing (g.M.ParseMode.first c.args.mode) c.args.state.now _ _ _ c.token_if.ensures.refuses
+returns-clause-refuses g c = token_reasons g.Input.Error.ParseError.observers (satisfied (g.F.Function.returns c.args.self.now.predicate)) (Unit {0}) AddsNothing (g.M.ParseMode.first c.args.mode) c.args.state.now _ _ _ c.token_if.ensures.refuses
