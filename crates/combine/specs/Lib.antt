@@ -15,7 +15,7 @@ pub use Rattle.combine_base.specs.Parser.ValueMap
 pub use Rattle.combine_base.specs.Parser.Meaning
 pub use Rattle.combine_base.specs.Error.NoItems
 pub use Rattle.combine_base.specs.Parser.Outcome
-pub use Rattle.combine_base.specs.Parser.Pieces
+pub use Rattle.combine_session.specs.Pieces
 pub use Rattle.combine_base.specs.Sequence.Longer
 pub use Rattle.combine_base.specs.Sequence.Places
 pub use Rattle.combine_base.specs.Distances
@@ -26,7 +26,7 @@ pub use Rattle.combine_base.specs.Sequence.Readings
 pub use Rattle.combine_base.specs.Parser.Reasons
 pub use Rattle.combine_base.specs.Parser.RunOnce
 pub use Rattle.combine_base.specs.Sequence.Meanings
-pub use Rattle.combine_base.specs.Parser.Sessions
+pub use Rattle.combine_session.specs.Sessions
 pub use Rattle.combine_base.specs.Stream.Slices
 pub use Rattle.combine_base.specs.Stream.Calls
 pub use Rattle.combine_base.specs.Sequence.Tuples
@@ -112,7 +112,7 @@ pub use Rattle.combine_repeat_until.specs.Next
 pub use Rattle.combine_repeat_until.specs.Until
 pub use Rattle.combine_repeat_until.specs.UntilParsers
 pub use Rattle.combine_repeat_until.specs.UntilTurn
-pub use Rattle.combine_stream_cuts.specs.Cuts
+pub use Rattle.combine_session.specs.Cuts
 pub use Rattle.combine_repeat_iterate.specs.ItemErrors
 pub use Rattle.combine_repeat_iterate.specs.IteratorValues
 pub use Rattle.combine_combinator_lazy.specs.MadeCalls

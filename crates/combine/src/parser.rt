@@ -9,11 +9,11 @@ pub mod repeat;
 pub mod sequence;
 
 pub use combine_base::parser::{
-    Answer, Calls, FirstMode, Outputs, ParseMode, Parser, PartialMode, Session, SessionError,
-    judge, parse_pieces,
+    Answer, Calls, FirstMode, Outputs, ParseMode, Parser, PartialMode, judge,
 };
 pub use combine_char::char;
 pub use combine_combinator_function::function;
 pub use combine_error::easy::EasyParser;
-pub use combine_stream_cuts::{cuts_fit, parse_cuts};
+pub use combine_session::cuts::{cuts_fit, parse_cuts};
+pub use combine_session::session::{Session, SessionError, parse_pieces};
 pub use combine_token::token;

@@ -8,11 +8,9 @@ use crate::stream::{Kind, Stream};
 mod answer;
 mod calls;
 mod references;
-mod session;
 
 pub use answer::{Answer, judge};
 pub use calls::Calls;
-pub use session::{Session, SessionError, parse_pieces};
 
 /// How a call begins: afresh, or from a kept state.
 pub trait ParseMode: Copy {

@@ -1,9 +1,9 @@
 -- a decoder that is fed one piece after another, until there is an end
 use Rattle.std.proofs.Common.{ℕ, ◌+◌, ◌^◌, ◌<◌, ◌≤◌, ◌≡◌, ◌≢◌, refl, sym, ◌∙◌, ap, subst, List, [], ◌∷◌, ◌++◌, length, take, drop, get_or, arith, Result, Ok, Err, ⊎_elim}
 use Rattle.std.proofs.lemmas.List.{append-nil, length-append, length-drop, take_all, take_more, take-append-drop}
-use Rattle.combine_base.proofs.Parsers.Pieces.{concatenated_append, concatenated_more}
+use Rattle.combine_session.proofs.Pieces.{concatenated_append, concatenated_more}
 use Rattle.combine_base.specs.Parser.Meaning.{Meaning, IsReading, Reading}
-use Rattle.combine_base.specs.Parser.Pieces.{concatenated}
+use Rattle.combine_session.specs.Pieces.{concatenated}
 use Rattle.combine_decode.proofs.MessageDivision.{ended_longer, further_messages}
 use Rattle.combine_decode.specs.Decoders.{Decodes, Decoding, DecoderGoesOn, by_phase, decodes, phase_after}
 use Rattle.combine_decode.specs.Messages.{After, DividesMessages, GivesMessages, Messages, made_reading, on_open, ends_messages}

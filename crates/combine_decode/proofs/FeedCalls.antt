@@ -2,11 +2,11 @@
 use Rattle.std.proofs.Common.{ℕ, ◌+◌, ◌^◌, ◌<◌, ◌≡◌, ◌↔◌, ◌&&◌, nat_eq, refl, sym, ◌∙◌, ap, subst, List, ◌++◌, length, Bool, true, false, arith, eqb-true, eq-eqb, Result, Ok, Err}
 use Rattle.std.proofs.lemmas.List.{length-append, length-drop}
 use Rattle.combine_base.specs.Parser.Meaning.{Meaning}
-use Rattle.combine_base.specs.Parser.Sessions.{Course, Feeds, by_stage}
-use Rattle.combine_base.specs.Parser.Sessions as session
+use Rattle.combine_session.specs.Sessions.{Course, Feeds, by_stage}
+use Rattle.combine_session.specs.Sessions as session
 use Rattle.combine_base.specs.declared.error.UnexpectedParse.{UnexpectedParse}
 use Rattle.combine_base.specs.declared.parser.answer.Answer.{Answer}
-use Rattle.combine_base.specs.declared.parser.session.SessionError.{SessionError}
+use Rattle.combine_session.specs.declared.session.SessionError.{SessionError}
 use Rattle.combine_base.specs.declared.stream.Kind.{Kind}
 use Rattle.combine_base.specs.declared.stream.Kind.TheVariants as kinds
 use Rattle.combine_decode.specs.declared.decode.Batch.{Batch}

@@ -3,7 +3,7 @@ use Rattle.std.proofs.Common.{ℕ, ◌<◌, ◌≡◌, ◌≢◌, refl, sym, ◌
 use Rattle.std.proofs.lemmas.List.{drop-append-le}
 use Rattle.combine_base.specs.Parser.Outcome.{Outcome, Accepted, Refused, Undecided, IsDecided, shape}
 use Rattle.combine_base.specs.Parser.Meaning.{Meaning, Reading, IsMeaning, IsReading, IsSingle, MeansOne}
-use Rattle.combine_base.specs.Parser.Pieces.{concatenated}
+use Rattle.combine_session.specs.Pieces.{concatenated}
 use Rattle.combine_decode.specs.declared.decode.BatchEnd.{BatchEnd}
 use Rattle.combine_decode.specs.declared.decode.BatchEnd.TheVariants as ends
 use Rattle.combine_decode.specs.MessageLaws.{AreOne, CutsAgree, GoOn}

@@ -3,14 +3,14 @@ use Rattle.std.proofs.Common.{ℕ, ◌+◌, ◌<◌, ◌≤◌, ◌≡◌, ◌�
 use Rattle.std.proofs.lemmas.List.{drop-append-le, drop-drop, length-append, length-drop}
 use Rattle.combine_base.specs.Parser.Outcome.{Outcome, Accepted, Refused, Undecided}
 use Rattle.combine_base.specs.Parser.Meaning.{Meaning, Reading}
-use Rattle.combine_base.specs.Parser.Sessions.{Course, BeginsSession, BeginsAgain, Feeds, anew_by_stage, by_stage, left_of_session}
-use Rattle.combine_base.specs.Parser.Sessions as session
+use Rattle.combine_session.specs.Sessions.{Course, BeginsSession, BeginsAgain, Feeds, anew_by_stage, by_stage, left_of_session}
+use Rattle.combine_session.specs.Sessions as session
 use Rattle.combine_base.specs.declared.error.UnexpectedParse.{UnexpectedParse}
 use Rattle.combine_base.specs.declared.parser.answer.Answer.{Answer}
 use Rattle.combine_base.specs.declared.parser.answer.Answer.TheVariants as answers
-use Rattle.combine_base.specs.declared.parser.session.SessionError.{SessionError}
-use Rattle.combine_base.specs.declared.parser.session.Stage.{Stage}
-use Rattle.combine_base.specs.declared.parser.session.Stage.TheVariants as stages
+use Rattle.combine_session.specs.declared.session.SessionError.{SessionError}
+use Rattle.combine_session.specs.declared.session.Stage.{Stage}
+use Rattle.combine_session.specs.declared.session.Stage.TheVariants as stages
 use Rattle.combine_decode.specs.declared.decode.Batch.{Batch}
 use Rattle.combine_decode.specs.declared.decode.BatchEnd.TheVariants as ends
 use Rattle.combine_decode.specs.Messages.{After, DividesMessages, GivesMessages, AnswersMessage, made_reading, on_open, ends_messages, answers_message}

@@ -1,7 +1,7 @@
 -- what a decoder is seen as, and what its calls promise
 use Rattle.std.specs.Prelude.{ℕ, ◌+◌, ◌^◌, ◌<◌, ◌≤◌, ◌≡◌, ◌↔◌, List, ◌++◌, Bool, true, length, None, Result, Ok, Err}
 use Rattle.combine_base.specs.Parser.Meaning.{Meaning}
-use Rattle.combine_base.specs.Parser.Sessions.{Course}
+use Rattle.combine_session.specs.Sessions.{Course}
 use Rattle.combine_base.specs.declared.stream.Kind.TheVariants as kinds
 use Rattle.combine_decode.specs.Messages.{After, GivesMessages, made_reading}
 use Rattle.combine_decode.specs.declared.decode.Batch.{Batch}

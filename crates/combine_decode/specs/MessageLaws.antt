@@ -1,7 +1,7 @@
 -- what messages are beside one another
 use Rattle.std.specs.Prelude.{ℕ, ◌≡◌, List, ◌++◌, length, Ok}
 use Rattle.combine_base.specs.Parser.Meaning.{Reading}
-use Rattle.combine_base.specs.Parser.Pieces.{concatenated}
+use Rattle.combine_session.specs.Pieces.{concatenated}
 use Rattle.combine_decode.specs.Messages.{DividesMessages, Messages}
 use Rattle.combine_decode.specs.DecodedPieces.{DecodesPieces}
 use Rattle.combine_decode.specs.declared.decode.Batch.{Batch}

@@ -10,10 +10,11 @@ mod pieces;
 pub mod types;
 
 use combine_base::error::UnexpectedParse;
-use combine_base::parser::{Answer, Parser, Session, SessionError};
+use combine_base::parser::{Answer, Parser};
 use combine_base::stream::{Kind, fed};
 use combine_byte_num::num::be_u16;
 use combine_sequence::sequence::types::Answered;
+use combine_session::session::{Session, SessionError};
 use framing::Framing;
 pub use pieces::decode_pieces;
 use std::alloc::Global;

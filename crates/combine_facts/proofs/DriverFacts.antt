@@ -10,15 +10,15 @@ use Rattle.combine_base.specs.Parser.Meaning.{Meaning, Reading}
 use Rattle.combine_base.specs.Parser.Answer.{World, Answers}
 use Rattle.combine_base.specs.Parser.Answer.{Accepts as AcceptsNow}
 use Rattle.combine_base.specs.Parser.Drivers.{StartResults, afresh}
-use Rattle.combine_base.specs.Parser.Pieces.{ParsesPieces, concatenated, parses_pieces}
-use Rattle.combine_base.specs.Parser.Sessions.{AcceptsPiece, AsksAfterPiece, BeginsSession, Course, left_of_session}
+use Rattle.combine_session.specs.Pieces.{ParsesPieces, concatenated, parses_pieces}
+use Rattle.combine_session.specs.Sessions.{AcceptsPiece, AsksAfterPiece, BeginsSession, Course, left_of_session}
 use Rattle.combine_base.specs.declared.stream.Failures.{Failures}
 use Rattle.combine_base.specs.declared.error.ParseResult.{ParseResult}
 use Rattle.combine_base.specs.declared.error.ParseResult.TheVariants.{CommitOk, PeekOk, CommitErr, PeekErr}
 use Rattle.combine_base.specs.declared.error.UnexpectedParse.{UnexpectedParse}
 use Rattle.combine_base.specs.declared.parser.answer.Answer.{Answer}
 use Rattle.combine_base.specs.declared.parser.answer.Answer.TheVariants as answers
-use Rattle.combine_base.specs.declared.parser.session.SessionError.{SessionError}
+use Rattle.combine_session.specs.declared.session.SessionError.{SessionError}
 use Rattle.combine_facts.specs.DriverReads.{Fed, IfAccepted}
 use Rattle.combine_facts.specs.Reads.{Reads}
 

@@ -1,6 +1,6 @@
 //! An attribute of a tag.
 ghost use Rattle.std.specs.Prelude.{◌≡◌, map, nat_eq, not};
-ghost use Rattle.combine_base.specs.Parser.Pieces.{concatenated};
+ghost use Rattle.combine_session.specs.Pieces.{concatenated};
 ghost use Rattle.combine_facts.specs.DriverReads.{IfAccepted};
 ghost use Rattle.example_callers.specs.Attributes.{IsAttribute};
 

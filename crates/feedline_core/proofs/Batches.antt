@@ -4,9 +4,9 @@ use Rattle.std.proofs.lemmas.List.{append-nil, drop-map, length-append, length-d
 use Rattle.std.proofs.KnownBytes.{Appends-nil, Appends-trans}
 use Rattle.std.specs.Global.{Vec}
 use Rattle.std.specs.Io.KnownBytes.{Appends}
-use Rattle.combine_base.proofs.Parsers.Pieces.{concatenated_append, concatenated_more}
+use Rattle.combine_session.proofs.Pieces.{concatenated_append, concatenated_more}
 use Rattle.combine_base.specs.Parser.Meaning.{Meaning, IsReading}
-use Rattle.combine_base.specs.Parser.Pieces.{concatenated}
+use Rattle.combine_session.specs.Pieces.{concatenated}
 use Rattle.combine_decode.proofs.MessageDivision.{ended_longer}
 use Rattle.combine_decode.proofs.DecodedPieces.{DecoderWasFed, decoder_fed_nothing, behind_within, gives_now, decoder_goes_on_at, messages_now}
 use Rattle.combine_decode.specs.Decoders.{Decoding, DecoderGoesOn}

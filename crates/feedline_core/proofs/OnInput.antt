@@ -4,7 +4,7 @@ use Rattle.std.proofs.lemmas.List.{append-nil, length-drop, take-append-drop, ta
 use Rattle.std.proofs.lemmas.List.Sums.{sum_by-cons}
 use Rattle.combine_base.specs.Parser.Outcome.{Undecided}
 use Rattle.combine_base.specs.Parser.Meaning.{Reading, IsSingle}
-use Rattle.combine_base.specs.Parser.Pieces.{concatenated, on}
+use Rattle.combine_session.specs.Pieces.{concatenated, on}
 use Rattle.feedline_core.specs.Cut.{pieces_of}
 use Rattle.feedline_core.specs.Runs.{Prints, RunsPieces}
 use Rattle.feedline_core.specs.OnInput.{PrintsOn, RunsOnInput}

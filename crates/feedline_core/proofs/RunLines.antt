@@ -5,9 +5,9 @@ use Rattle.std.proofs.KnownBytes.{Appends-nil, Appends-trans}
 use Rattle.std.specs.Io.KnownBytes.{Appends}
 use Rattle.combine_base.specs.Parser.Outcome.{Accepted, Refused}
 use Rattle.combine_base.specs.Parser.Meaning.{Reading}
-use Rattle.combine_base.specs.Parser.Pieces.{concatenated, AsksAfterFirst, Decided, undecided_at}
-use Rattle.combine_base.specs.Parser.Sessions.{admits}
-use Rattle.combine_base.proofs.Parsers.Pieces.{concatenated_more}
+use Rattle.combine_session.specs.Pieces.{concatenated, AsksAfterFirst, Decided, undecided_at}
+use Rattle.combine_session.specs.Sessions.{admits}
+use Rattle.combine_session.proofs.Pieces.{concatenated_more}
 use Rattle.combine_base.specs.declared.error.UnexpectedParse.{UnexpectedParse}
 use Rattle.combine_base.specs.declared.parser.answer.Answer.{Answer}
 use Rattle.combine_base.specs.declared.parser.answer.Answer.TheVariants as answers

@@ -4,15 +4,15 @@ use Rattle.std.proofs.lemmas.List.{length-append, length-drop, length-take-le, t
 use Rattle.combine_base.specs.Parser.Meaning.{Meaning}
 use Rattle.combine_base.specs.Stream.View.{extended}
 use Rattle.combine_base.specs.Parser.Outcome.{Outcome, Undecided, after}
-use Rattle.combine_base.specs.Parser.Pieces.{concatenated, on, undecided_at}
-use Rattle.combine_base.specs.Parser.Sessions.{Course, Feeds, admits, by_stage}
-use Rattle.combine_base.specs.Parser.Sessions as session
-use Rattle.combine_base.proofs.Parsers.Pieces.{AskedAfterPieces, no_longer}
+use Rattle.combine_session.specs.Pieces.{concatenated, on, undecided_at}
+use Rattle.combine_session.specs.Sessions.{Course, Feeds, admits, by_stage}
+use Rattle.combine_session.specs.Sessions as session
+use Rattle.combine_session.proofs.Pieces.{AskedAfterPieces, no_longer}
 use Rattle.combine_base.specs.declared.error.UnexpectedParse.{UnexpectedParse}
 use Rattle.combine_base.specs.declared.parser.answer.Answer.{Answer}
 use Rattle.combine_base.specs.declared.parser.answer.Answer.TheVariants as answers
-use Rattle.combine_base.specs.declared.parser.session.SessionError.{SessionError}
-use Rattle.combine_base.specs.declared.parser.session.Stage.TheVariants as stages
+use Rattle.combine_session.specs.declared.session.SessionError.{SessionError}
+use Rattle.combine_session.specs.declared.session.Stage.TheVariants as stages
 use Rattle.feedline_core.specs.Runs.{LeavesBytes}
 use Rattle.feedline_core.specs.declared.message.Message.{Message}
 

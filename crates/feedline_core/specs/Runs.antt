@@ -3,12 +3,12 @@ use Rattle.std.specs.Prelude.{ℕ, ◌≡◌, ◌+◌, ◌<◌, ◌≤◌, ◌�
 use Rattle.std.specs.Io.KnownBytes.{Appends}
 use Rattle.combine_base.specs.Parser.Outcome.{Outcome, Accepted, Refused, Undecided, after}
 use Rattle.combine_base.specs.Parser.Meaning.{Reading}
-use Rattle.combine_base.specs.Parser.Pieces.{concatenated, on, Decides, AsksAfterFirst, undecided_at}
-use Rattle.combine_base.specs.Parser.Sessions.{admits}
+use Rattle.combine_session.specs.Pieces.{concatenated, on, Decides, AsksAfterFirst, undecided_at}
+use Rattle.combine_session.specs.Sessions.{admits}
 use Rattle.combine_base.specs.declared.parser.answer.Answer.{Answer}
 use Rattle.combine_base.specs.declared.parser.answer.Answer.TheVariants as answers
-use Rattle.combine_base.specs.declared.parser.session.SessionError.{SessionError}
-use Rattle.combine_base.specs.declared.parser.session.SessionError.TheVariants as errors
+use Rattle.combine_session.specs.declared.session.SessionError.{SessionError}
+use Rattle.combine_session.specs.declared.session.SessionError.TheVariants as errors
 use Rattle.combine_base.specs.declared.stream.Kind.TheVariants as kinds
 use Rattle.feedline_core.specs.Lines.{more_line, accepted_line, refused_line, decision_line}
 use Rattle.feedline_core.specs.declared.message.Message.{Message}

@@ -1,7 +1,7 @@
 //! Decodes an input piece by piece, and writes the lines of its messages.
 ghost use Rattle.std.specs.Prelude.{◌≡◌, ◌^◌, ◌<◌, ◌&&◌, ◌⊎◌, Ok, MatchResult, length, map, nat_eq};
 ghost use Rattle.std.specs.Io.KnownBytes.{Appends};
-ghost use Rattle.combine_base.specs.Parser.Pieces.{concatenated};
+ghost use Rattle.combine_session.specs.Pieces.{concatenated};
 ghost use Rattle.combine_decode.specs.Decoders.{Decodes};
 ghost use Rattle.combine_decode.specs.Frames.{frame_of};
 ghost use Rattle.combine_decode.specs.Messages.{IsMade, made_reading};

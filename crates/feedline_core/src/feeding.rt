@@ -3,9 +3,9 @@ ghost use Rattle.std.specs.Prelude.{◌≡◌, ◌≢◌, ◌+◌, ◌^◌, ◌<
 ghost use Rattle.std.specs.Char.{is_ascii_digit, is_ascii_lowercase};
 ghost use Rattle.feedline_core.specs.OnInput.{RunsOnInput};
 ghost use Rattle.feedline_core.specs.Messages.{message, delete_after, or_set};
-ghost use Rattle.combine_base.specs.Parser.Pieces.{concatenated};
-ghost use Rattle.combine_base.specs.Parser.Sessions.{BeginsSession, Feeds, EndsSession, admits};
-ghost use Rattle.combine_base.specs.declared.parser.session.Stage.TheVariants as stages;
+ghost use Rattle.combine_session.specs.Pieces.{concatenated};
+ghost use Rattle.combine_session.specs.Sessions.{BeginsSession, Feeds, EndsSession, admits};
+ghost use Rattle.combine_session.specs.declared.session.Stage.TheVariants as stages;
 ghost use Rattle.std.specs.Io.KnownBytes.{Appends};
 ghost use Rattle.feedline_core.specs.Runs.{RunsPieces, IsWantOfMemory, answer_line, answer_accepts};
 
@@ -14,10 +14,11 @@ use crate::lines::{write_accepted, write_more, write_refused};
 use crate::message::Message;
 use crate::pieces::cut;
 use combine_base::error::UnexpectedParse;
-use combine_base::parser::{Answer, Parser, Session, SessionError};
+use combine_base::parser::{Answer, Parser};
 use combine_base::stream::{Kind, fed};
 use combine_combinator::combinator::{attempt, map};
 use combine_repeat::repeat::many1;
+use combine_session::session::{Session, SessionError};
 use combine_token::choice::or;
 use combine_token::token::{satisfy, token};
 use std::alloc::Global;

@@ -1,5 +1,5 @@
 use Rattle.std.proofs.Common.{◌≡◌, take, map}
-use Rattle.combine_base.specs.Parser.Pieces.{concatenated}
+use Rattle.combine_session.specs.Pieces.{concatenated}
 use Rattle.feedline_core.proofs.Batches.{WrittenMessages}
 use Rattle.feedline_core.proofs.decoding.decode.Given as goal
 

@@ -1,5 +1,5 @@
 use Rattle.std.proofs.Common.{◌<◌, ◌^◌, rules, map, length, ap, sym, subst, ◌∙◌}
-use Rattle.combine_base.specs.Parser.Pieces.{concatenated}
+use Rattle.combine_session.specs.Pieces.{concatenated}
 use Rattle.feedline_core.proofs.OnInput.{joined_whole}
 use Rattle.feedline_core.proofs.Frames.{decodes_as, has_frame}
 use Rattle.feedline_core.specs.Frames.{frame}

@@ -1,7 +1,7 @@
 use Rattle.std.proofs.Common.{◌≡◌, ◌<◌, ◌≤◌, ◌∙◌, map, length, arith}
 use Rattle.std.proofs.lemmas.List.{length-map, get_or-map}
 use Rattle.std.proofs.lemmas.Result.{err_from_is_err_and}
-use Rattle.combine_base.proofs.Parsers.Pieces.{further_at, limit_stays, stops_at, decided_after_pieces}
+use Rattle.combine_session.proofs.Pieces.{further_at, limit_stays, stops_at, decided_after_pieces}
 use Rattle.feedline_core.proofs.RunLines.{one_more_at, lines_decided, fits_all, fits_at, gives_up}
 use Rattle.feedline_core.proofs.SessionRoom.{asked_so_far, feeds_end, feeds_within, has_room, leaves_unread}
 use Rattle.feedline_core.proofs.feeding.drive.Goals as goal

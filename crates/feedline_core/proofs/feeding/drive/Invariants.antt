@@ -1,5 +1,5 @@
 use Rattle.std.proofs.Common.{◌≡◌, take, map, length}
-use Rattle.combine_base.proofs.Parsers.Pieces.{AskedAfterPieces}
+use Rattle.combine_session.proofs.Pieces.{AskedAfterPieces}
 use Rattle.feedline_core.proofs.RunLines.{WrittenPieces}
 use Rattle.feedline_core.proofs.feeding.drive.Given as goal
 

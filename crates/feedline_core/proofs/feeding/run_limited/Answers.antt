@@ -1,5 +1,5 @@
 use Rattle.std.proofs.Common.{ℕ, ◌<◌, ◌^◌, rules, map, length, ap, sym, subst, ◌∙◌}
-use Rattle.combine_base.specs.Parser.Pieces.{concatenated}
+use Rattle.combine_session.specs.Pieces.{concatenated}
 use Rattle.combine_base.specs.Parser.Meaning.{Meaning}
 use Rattle.combine_base.specs.declared.error.UnexpectedParse.{UnexpectedParse}
 use Rattle.combine_base.specs.declared.sequence.SequenceState.{SequenceState}

@@ -1,5 +1,5 @@
 use Rattle.std.proofs.Common.{◌≡◌, take, map}
-use Rattle.combine_base.specs.Parser.Pieces.{concatenated}
+use Rattle.combine_session.specs.Pieces.{concatenated}
 use Rattle.combine_decode.proofs.DecodedPieces.{DecoderWasFed}
 use Rattle.combine_decode.proofs.decode.pieces.decode_pieces.Given as goal
 

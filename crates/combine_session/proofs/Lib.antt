@@ -1,0 +1,5 @@
+mod CutRuns
+mod Windows
+mod CutFits
+pub mod Pieces
+pub mod Sessions

@@ -1,0 +1,4 @@
+pub use Rattle.combine_base.specs.Parser.Meaning
+pub mod Cuts
+pub mod Pieces
+pub mod Sessions

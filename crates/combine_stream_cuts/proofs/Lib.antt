@@ -1,3 +1,0 @@
-mod CutRuns
-mod Windows
-mod CutFits

@@ -1,5 +1,0 @@
-use Rattle.combine_stream_cuts.proofs.CutFits.{FitSoFar}
-use Rattle.combine_stream_cuts.proofs.cuts_fit.Given as goal
-
-abbrev pub invariant-loop-cut : goal.invariant-loop-cut
-invariant-loop-cut g l = FitSoFar (g.S.Windowed.places l.fn.whole) l.fn.cuts l.cut-index l.last
