@@ -263,8 +263,18 @@ fn comes_to(
             ),
             Outcome::Written(text),
         ) => Ok(taken == length && committed && is_written(alloc, &value, text)?),
-        (Ok(Answer::Refused { error, committed }), Outcome::Refused(kind, is_committed)) => {
-            Ok(error == UnexpectedParse(kind) && committed == is_committed)
+        (
+            Ok(
+                Answer::Refused {
+                    error,
+                    taken,
+                    committed,
+                },
+            ),
+            Outcome::Refused(kind, is_committed),
+        ) => {
+            let is_so = error == UnexpectedParse(kind) && committed == is_committed;
+            Ok(is_so && taken <= length)
         }
         _ => Ok(false),
     }

@@ -84,10 +84,11 @@ fn accepted<T>(value: T, taken: u64) -> InPieces<T> {
     })
 }
 
-/// A refusal.
-fn refused<T>(committed: bool) -> InPieces<T> {
+/// A refusal after so many tokens.
+fn refused<T>(taken: u64, committed: bool) -> InPieces<T> {
     Ok(Answer::Refused {
         error: REFUSED,
+        taken,
         committed,
     })
 }
@@ -96,15 +97,15 @@ fn refused<T>(committed: bool) -> InPieces<T> {
 fn digits(rt: HostRuntime) -> Result<(), AllocError> {
     let alloc = rt.alloc();
     assert_eq!(rt; one_digit(alloc, &[b"", b"7", b"b"]), accepted(7, 1));
-    assert_eq!(rt; one_digit(alloc, &[b"b"]), refused(false));
+    assert_eq!(rt; one_digit(alloc, &[b"b"]), refused(0, false));
     let values = Vec::from_array(alloc, [7, 0, 9])?;
     assert_eq!(rt;
         all_digits(alloc, &[b"7", b"09", b"b"]),
         accepted(values, 3)
     );
-    assert_eq!(rt; all_digits(alloc, &[b"b7"]), refused(false));
+    assert_eq!(rt; all_digits(alloc, &[b"b7"]), refused(0, false));
     assert_eq!(rt; ended_digit(alloc, &[b"7", b";b"]), accepted((7, b';'), 2));
-    assert_eq!(rt; ended_digit(alloc, &[b"77"]), refused(true));
+    assert_eq!(rt; ended_digit(alloc, &[b"77"]), refused(1, true));
     Ok(())
 }
 
@@ -112,7 +113,7 @@ fn digits(rt: HostRuntime) -> Result<(), AllocError> {
 fn small_digits(rt: HostRuntime) {
     let alloc = rt.alloc();
     assert_eq!(rt; small_digit(alloc, &[b"", b"7"]), accepted(7, 1));
-    assert_eq!(rt; small_digit(alloc, &[b"8"]), refused(true));
+    assert_eq!(rt; small_digit(alloc, &[b"8"]), refused(1, true));
     assert_eq!(rt; small_digit_flat(alloc, &[b"", b"7"]), accepted(7, 1));
-    assert_eq!(rt; small_digit_flat(alloc, &[b"8"]), refused(true));
+    assert_eq!(rt; small_digit_flat(alloc, &[b"8"]), refused(1, true));
 }

@@ -23,12 +23,7 @@ fn written<V: Show>(alloc: Global, answers: Vec<Answered<V>>) -> Result<String, 
         match answer {
             Ok(batch) => {
                 batch.messages.show(alloc, &mut text)?;
-                text.push_str(match batch.end {
-                    BatchEnd::More => " more",
-                    BatchEnd::Refused { committed: true } => " refused committed",
-                    BatchEnd::Refused { committed: false } => " refused peeked",
-                    BatchEnd::EmptyMessage => " empty message",
-                })?;
+                show_end(alloc, batch.end, &mut text)?;
             }
             Err(DecodeError::Closed) => text.push_str("closed")?,
             Err(_error) => text.push_str("another error")?,
@@ -38,6 +33,19 @@ fn written<V: Show>(alloc: Global, answers: Vec<Answered<V>>) -> Result<String, 
     Ok(text)
 }
 
+/// Writes why no more messages follow.
+fn show_end(alloc: Global, end: BatchEnd, text: &mut String) -> Result<(), AllocError> {
+    match end {
+        BatchEnd::More => text.push_str(" more"),
+        BatchEnd::Refused { taken, committed } => {
+            let said = format!(in alloc; " refused after {taken}")?;
+            text.push_str(said.as_str())?;
+            text.push_str(if committed { " committed" } else { " peeked" })
+        }
+        BatchEnd::EmptyMessage => text.push_str(" empty message"),
+    }
+}
+
 #[test]
 fn messages(rt: HostRuntime) -> Result<(), AllocError> {
     let alloc = rt.alloc();
@@ -45,7 +53,12 @@ fn messages(rt: HostRuntime) -> Result<(), AllocError> {
     let given = answers(alloc, word, &[b"ab;c", b"d;;", b"x"])?;
     assert_eq!(rt;
         written(alloc, given)?.as_str(),
-        "[[ab]] more; [[cd]] refused peeked; closed; "
+        "[[ab]] more; [[cd]] refused after 0 peeked; closed; "
+    );
+    let given = answers(alloc, word, &[b"ab;c", b"d1"])?;
+    assert_eq!(rt;
+        written(alloc, given)?.as_str(),
+        "[[ab]] more; [] refused after 2 committed; "
     );
     let given = answers(alloc, || value(b'1'), &[b""])?;
     assert_eq!(rt; written(alloc, given)?.as_str(), "[] empty message, all; ");
