@@ -8,7 +8,7 @@ use combine::nested::{Frame, Next, always, nested};
 use combine::parser::choice::optional;
 use combine::parser::combinator::map;
 use combine::parser::token::{any, satisfy_map};
-use combine::stream::{Stream, fed};
+use combine::stream::Stream;
 use std::alloc::{AllocError, Global};
 
 /// A brace that is open, or what stands round them all; any other token closes it.
@@ -89,10 +89,4 @@ where
         always(lexeme),
         always(last),
     ));
-}
-
-#[test]
-fn promised(rt: HostRuntime) {
-    braces::<fed::Stream<u8>>(rt.alloc());
-    sums::<fed::Stream<u8>>(rt.alloc());
 }
