@@ -3,7 +3,7 @@ ghost use Rattle.std.specs.Prelude.{◌≡◌};
 
 use crate::promises::{keeps, keeps_alone};
 use combine::error::ParseError;
-use combine::expression::{Fixity, Item, Operator, expression};
+use combine::expression::{Fixity, Item, Operator, OperatorError, expression};
 use combine::nested::{Frame, Next, always, nested};
 use combine::parser::choice::optional;
 use combine::parser::combinator::map;
@@ -53,12 +53,12 @@ struct Plus;
 impl Operator for Plus {
     type Value = u8;
 
-    fn change(self, operand: u8) -> Result<u8, &'static str> {
+    fn change(self, operand: u8) -> Result<u8, OperatorError> {
         Ok(operand)
     }
 
-    fn join(self, left: u8, right: u8) -> Result<u8, &'static str> {
-        left.checked_add(right).ok_or("sum too large")
+    fn join(self, left: u8, right: u8) -> Result<u8, OperatorError> {
+        left.checked_add(right).ok_or(OperatorError::Refused("sum too large"))
     }
 }
 
