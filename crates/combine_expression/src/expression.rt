@@ -107,6 +107,8 @@ pub enum Item<O, V> {
 
 /// Parses an expression of operators with levels, and with brackets inside one another, at most `depth` of them.
 ///
+/// `awaited: Fn(&Part<O, O::Value, N>) -> P, P: Parser<Input, Output = Item<O, O::Value>>`, or `always`; so are `inside` and `outside`.
+///
 /// `levels` says how the operators of each level stand and group, the level first that binds least. An operator of a level that it doesn't have fits nowhere. The value is that of the expression in which what is in brackets is an operand; it is committed exactly if a step was.
 ///
 /// Three functions return the parsers of the steps:
@@ -115,7 +117,7 @@ pub enum Item<O, V> {
 /// - `inside` that of what stands after an operand in brackets: an operator, or [`Item::Close`] for the closing bracket.
 /// - `outside` that of what stands after an operand outside of brackets: an operator, or [`Item::Close`] where no operator follows, as `map(optional(operator), |next| next.unwrap_or(Item::Close))`.
 ///
-/// Each is as a step of [`nested`]: [`always`](combine_nested::nested::always) for a parser that is `Copy`, [`always_with`](combine_nested::nested::always_with) for a function that makes it, or a function of the part that is open, `|_: &types::Part<O, O::Value, N>| ..`.
+/// A closure has to write its parameter's type, that of the part that is open: `|_: &Part<O, V, N>| ..`, with `Part` of [`types`]. [`always`](combine_nested::nested::always) takes a parser that is `Copy`, [`always_with`](combine_nested::nested::always_with) a function that makes it. Each is as a step of [`nested`].
 ///
 /// # Errors
 ///
