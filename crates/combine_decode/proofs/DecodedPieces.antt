@@ -6,7 +6,7 @@ use Rattle.combine_base.specs.Parser.Meaning.{Meaning, IsReading, Reading}
 use Rattle.combine_session.specs.Pieces.{concatenated}
 use Rattle.combine_decode.proofs.MessageDivision.{ended_longer, further_messages}
 use Rattle.combine_decode.specs.Decoders.{Decodes, Decoding, DecoderGoesOn, by_phase, decodes, phase_after}
-use Rattle.combine_decode.specs.Messages.{After, DividesMessages, GivesMessages, Messages, made_reading, on_open, ends_messages}
+use Rattle.combine_decode.specs.Messages.{After, DividesMessages, GivesMessages, Messages, made_reading, on_open, ends_messages, refused_at, refused_within}
 use Rattle.combine_decode.specs.DecodedPieces.{DecodesPieces, FeedsMore}
 use Rattle.combine_decode.specs.declared.decode.Batch.{Batch}
 use Rattle.combine_decode.specs.declared.decode.BatchEnd.{BatchEnd}
@@ -18,6 +18,12 @@ use Rattle.combine_decode.specs.declared.decode.DecodeError.TheVariants as error
 pub behind_within : {T V : Type 0} (message : Reading ℕ T V) (l : List T) (vs : List V) (behind : List T) → DividesMessages message l vs behind → length behind ≤ length l
 behind_within message l [] behind d = let e = ap length d in omega arith
 behind_within message l (v ∷ vs) behind d = let h = behind_within message (drop d.0 l) vs behind d.4 in omega (arith, length-drop d.0 l)
+
+-- what a refusal counts where a session refused is within what is behind the messages
+within_behind : {T : Type 0} (l unread : List T) (e : BatchEnd) → refused_at l unread e → refused_within l e
+within_behind l unread ends.More h = tt
+within_behind l unread (ends.Refused t k) h = h.0
+within_behind l unread ends.EmptyMessage h = tt
 
 module _ {F P T R E V S : Type 0} (makes : F → P → Type 0) (meaning : P → Meaning ℕ T R E V S) (from : F) where
   -- a decoder of this maker that was fed these tokens, and gave these messages
@@ -48,6 +54,7 @@ module _ {F P T R E V S : Type 0} (makes : F → P → Type 0) (meaning : P → 
           behind = gives_now.behind;
           divided = subst (λ ws. DividesMessages (made_reading meaning (makes from)) (fed ++ piece) ws gives_now.behind) (sym j) divided_now;
           stop = subst (ends_messages (on_open (made_reading meaning (makes from)) gives_now.behind)) i gives_now.stop;
+          refused = subst (refused_within gives_now.behind) i (within_behind gives_now.behind new.course.seen.unread b.end gives_now.refused);
           number = refl;
         }
 

@@ -1,13 +1,22 @@
 -- messages of more tokens, and messages that are the only ones
-use Rattle.std.proofs.Common.{ℕ, ◌<◌, ◌≡◌, ◌≢◌, refl, sym, ◌∙◌, ap, subst, List, [], ◌∷◌, ◌++◌, length, drop, Bool, true, arith}
-use Rattle.std.proofs.lemmas.List.{drop-append-le}
+use Rattle.std.proofs.Common.{ℕ, ◌<◌, ◌≤◌, ◌≡◌, ◌≢◌, refl, sym, ◌∙◌, ap, subst, List, [], ◌∷◌, ◌++◌, length, drop, Bool, true, arith}
+use Rattle.std.proofs.lemmas.List.{drop-append-le, length-append}
 use Rattle.combine_base.specs.Parser.Outcome.{Outcome, Accepted, Refused, Undecided, IsDecided, shape}
 use Rattle.combine_base.specs.Parser.Meaning.{Meaning, Reading, IsMeaning, IsReading, IsSingle, MeansOne}
 use Rattle.combine_session.specs.Pieces.{concatenated}
 use Rattle.combine_decode.specs.declared.decode.BatchEnd.{BatchEnd}
 use Rattle.combine_decode.specs.declared.decode.BatchEnd.TheVariants as ends
 use Rattle.combine_decode.specs.MessageLaws.{AreOne, CutsAgree, GoOn}
-use Rattle.combine_decode.specs.Messages.{DividesMessages, IsMade, Messages, SharesMeaning, made_reading, on_open, ends_messages}
+use Rattle.combine_decode.specs.Messages.{DividesMessages, IsMade, Messages, SameEnd, SharesMeaning, made_reading, on_open, ends_messages, refused_within}
+
+-- what a refusal counts is within a longer list too
+refused_longer : {T : Type 0} (l x : List T) (e : BatchEnd) → refused_within l e → refused_within (l ++ x) e
+refused_longer l x ends.More h = tt
+refused_longer l x (ends.Refused t k) h =
+    let i : t ≤ length l = h in
+    let r : t ≤ length (l ++ x) = omega (arith, length-append l x) in
+    r
+refused_longer l x ends.EmptyMessage h = tt
 
 module _ {T V : Type 0} (message : Reading ℕ T V) where
   module _ (law : IsReading message) where
@@ -25,7 +34,7 @@ module _ {T V : Type 0} (message : Reading ℕ T V) where
     -- and why no message follows, where it is an end
     stops_longer : (l x : List T) (e : BatchEnd) → e ≢ ends.More → ends_messages (on_open message l) e → ends_messages (on_open message (l ++ x)) e
     stops_longer l x ends.More n h = absurd (n refl)
-    stops_longer l x (ends.Refused k) n h = on_longer l x (Refused k) tt h
+    stops_longer l x (ends.Refused t k) n h = on_longer l x (Refused k) tt h
     stops_longer l x ends.EmptyMessage n h = (h.0, h.1, on_longer l x (Accepted h.0 0 h.1) tt h.2)
 
   -- messages, and then those behind them
@@ -41,6 +50,7 @@ module _ {T V : Type 0} (message : Reading ℕ T V) where
     behind = h.behind;
     divided = further_messages law l x vs ws behind h.behind d h.divided;
     stop = h.stop;
+    refused = h.refused;
     number = h.number;
   }
 
@@ -50,6 +60,7 @@ module _ {T V : Type 0} (message : Reading ℕ T V) where
     behind = h.behind ++ x;
     divided = divides_longer law l vs h.behind x h.divided;
     stop = stops_longer law h.behind x e i h.stop;
+    refused = refused_longer h.behind x e h.refused;
     number = refl;
   }
 
@@ -60,21 +71,21 @@ module _ {T V : Type 0} (message : Reading ℕ T V) where
     -- no message begins where they stop
     begins_not : (l : List T) (e : BatchEnd) → ends_messages (on_open message l) e → (v : V) (t : ℕ) (k : Bool) → 0 < t → on_open message l (Accepted v t k) → ⊥
     begins_not l ends.More s v t k i h = let e : Undecided ≡ Accepted tt t k = one_at l Undecided (Accepted v t k) s h in cc
-    begins_not l (ends.Refused c) s v t k i h = let e : Refused c ≡ Accepted tt t k = one_at l (Refused c) (Accepted v t k) s h in cc
+    begins_not l (ends.Refused n c) s v t k i h = let e : Refused c ≡ Accepted tt t k = one_at l (Refused c) (Accepted v t k) s h in cc
     begins_not l ends.EmptyMessage s v t k i h =
         let e : Accepted tt 0 s.1 ≡ Accepted tt t k = one_at l (Accepted s.0 0 s.1) (Accepted v t k) s.2 h in
         let z : 0 ≡ t = cc in
         omega arith
 
-    one_stop : (l : List T) (e f : BatchEnd) → ends_messages (on_open message l) e → ends_messages (on_open message l) f → e ≡ f
+    one_stop : (l : List T) (e f : BatchEnd) → ends_messages (on_open message l) e → ends_messages (on_open message l) f → SameEnd e f
     one_stop l ends.More ends.More s t = refl
-    one_stop l ends.More (ends.Refused c) s t = absurd (let e : Undecided ≡ Refused c = one_at l Undecided (Refused c) s t in cc)
+    one_stop l ends.More (ends.Refused m c) s t = absurd (let e : Undecided ≡ Refused c = one_at l Undecided (Refused c) s t in cc)
     one_stop l ends.More ends.EmptyMessage s t = absurd (let e : Undecided ≡ Accepted tt 0 t.1 = one_at l Undecided (Accepted t.0 0 t.1) s t.2 in cc)
-    one_stop l (ends.Refused k) ends.More s t = absurd (let e : Refused k ≡ Undecided = one_at l (Refused k) Undecided s t in cc)
-    one_stop l (ends.Refused k) (ends.Refused c) s t = let e : Refused k ≡ Refused c = one_at l (Refused k) (Refused c) s t in let i : k ≡ c = cc in ap (λ b. ends.Refused b) i
-    one_stop l (ends.Refused k) ends.EmptyMessage s t = absurd (let e : Refused k ≡ Accepted tt 0 t.1 = one_at l (Refused k) (Accepted t.0 0 t.1) s t.2 in cc)
+    one_stop l (ends.Refused n k) ends.More s t = absurd (let e : Refused k ≡ Undecided = one_at l (Refused k) Undecided s t in cc)
+    one_stop l (ends.Refused n k) (ends.Refused m c) s t = let e : Refused k ≡ Refused c = one_at l (Refused k) (Refused c) s t in let i : k ≡ c = cc in ap (λ b. ends.Refused 0 b) i
+    one_stop l (ends.Refused n k) ends.EmptyMessage s t = absurd (let e : Refused k ≡ Accepted tt 0 t.1 = one_at l (Refused k) (Accepted t.0 0 t.1) s t.2 in cc)
     one_stop l ends.EmptyMessage ends.More s t = absurd (let e : Accepted tt 0 s.1 ≡ Undecided = one_at l (Accepted s.0 0 s.1) Undecided s.2 t in cc)
-    one_stop l ends.EmptyMessage (ends.Refused c) s t = absurd (let e : Accepted tt 0 s.1 ≡ Refused c = one_at l (Accepted s.0 0 s.1) (Refused c) s.2 t in cc)
+    one_stop l ends.EmptyMessage (ends.Refused m c) s t = absurd (let e : Accepted tt 0 s.1 ≡ Refused c = one_at l (Accepted s.0 0 s.1) (Refused c) s.2 t in cc)
     one_stop l ends.EmptyMessage ends.EmptyMessage s t = refl
 
     -- two messages at one place take the same tokens
@@ -105,7 +116,7 @@ module _ {T V : Type 0} (message : Reading ℕ T V) where
       left_the_same : h.behind ≡ i.behind
       left_the_same = same_blocks l vs ws h.behind i.behind h.divided i.divided counted
 
-      same_end : e ≡ f
+      same_end : SameEnd e f
       same_end = one_stop i.behind e f (subst (λ us. ends_messages (on_open message us) e) left_the_same h.stop) i.stop
 
       same_number : n ≡ m

@@ -13,7 +13,7 @@ use Rattle.combine_session.specs.declared.session.Stage.{Stage}
 use Rattle.combine_session.specs.declared.session.Stage.TheVariants as stages
 use Rattle.combine_decode.specs.declared.decode.Batch.{Batch}
 use Rattle.combine_decode.specs.declared.decode.BatchEnd.TheVariants as ends
-use Rattle.combine_decode.specs.Messages.{After, DividesMessages, GivesMessages, AnswersMessage, made_reading, on_open, ends_messages, answers_message}
+use Rattle.combine_decode.specs.Messages.{After, DividesMessages, GivesMessages, AnswersMessage, made_reading, on_open, ends_messages, answers_message, refused_at}
 
 module _ {P T R E V S : Type 0} (meaning : P → Meaning ℕ T R E V S) where
   -- a session of a parser that was made stands at the beginning of a message
@@ -62,15 +62,15 @@ module _ {P T R E V S : Type 0} (meaning : P → Meaning ℕ T R E V S) where
     tells (answers.Accepted v t k) h =
         let e = h.is.all in
         (far.left piece (Accepted v t k) h.is.means.is, subst (λ n. n ≤ length (l ++ piece)) e (left_within h.is.leaves), left_unread h.is.leaves ∙ ap (λ n. drop n (l ++ piece)) e)
-    tells (answers.Refused e k) h =
-        let u = ap length (left_unread h.is.leaves) in
-        (far.left piece (Refused k) h.is.means.is, omega (arith, length-drop new.seen.position (l ++ piece)))
+    tells (answers.Refused x t k) h =
+        let e = h.is.all in
+        (far.left piece (Refused k) h.is.means.is, subst (λ n. n ≤ length (l ++ piece)) e (left_within h.is.leaves), left_unread h.is.leaves ∙ ap (λ n. drop n (l ++ piece)) e)
 
     -- it is open where the parse was
     stays_open : (a : Answer V UnexpectedParse) → session.ParsesPiece meaning valid c new piece true (Ok a) → new.seen.is_open ≡ true
     stays_open answers.More h = h.is.leaves.is_open
     stays_open (answers.Accepted v t k) h = h.is.leaves.is_open
-    stays_open (answers.Refused e k) h = h.is.leaves.is_open
+    stays_open (answers.Refused e t k) h = h.is.leaves.is_open
 
     parses_told : (a : Answer V UnexpectedParse) → session.ParsesPiece meaning valid c new piece true (Ok a) → AnswersMessage message meaning (l ++ piece) new a
     parses_told a h = record { is = tells a h; is_open = stays_open a h }
@@ -85,7 +85,7 @@ module _ {P T R E V S : Type 0} (meaning : P → Meaning ℕ T R E V S) where
       opened : (b : Answer V UnexpectedParse) → session.ParsesPiece meaning valid c new piece true (Ok b) → new.seen.is_open ≡ true
       opened answers.More i = i.is.leaves.is_open
       opened (answers.Accepted v t k) i = i.is.leaves.is_open
-      opened (answers.Refused e k) i = i.is.leaves.is_open
+      opened (answers.Refused e t k) i = i.is.leaves.is_open
 
       by_its_stage : (s : Stage) → by_stage meaning valid c new piece true (session.feeds_session meaning valid c new piece true) s (Ok a) → new.seen.is_open ≡ true
       by_its_stage stages.Running i = opened a i.1
@@ -110,7 +110,7 @@ module _ {P T R E V S : Type 0} (meaning : P → Meaning ℕ T R E V S) where
 abbrev pub remaining : {V : Type 0} → ℕ → Answer V UnexpectedParse → ℕ
 remaining u answers.More = u
 remaining u (answers.Accepted v t k) = u + (if nat_lt 0 t then 1 else 0)
-remaining u (answers.Refused e k) = u
+remaining u (answers.Refused e t k) = u
 
 pub smaller : {V : Type 0} (u : ℕ) (a : Answer V UnexpectedParse) (v : V) (t : ℕ) (k : Bool) → a ≡ answers.Accepted v t k → 0 < t → (n : ℕ) → n ≤ u → n < remaining u a
 smaller u a v t k e i n h = subst (λ z. n < remaining u z) (sym e) (subst (λ b. n < u + (if b then 1 else 0)) (sym (lt-ltb 0 t i)) (omega arith))
@@ -141,15 +141,17 @@ module _ {P T R E V S : Type 0} (message : Reading ℕ T V) (meaning : P → Mea
       behind = h.behind;
       divided = h.divided;
       stop = subst (ends_messages (on_open message h.behind)) (sym e) h.told.is.0;
+      refused = subst (refused_at h.behind c.seen.unread) (sym e) tt;
       goes_on = λ i. h.told.is.1;
       boundary = h.boundary;
     }
 
-    pub gives_refused : (e : UnexpectedParse) (k : Bool) → b.end ≡ ends.Refused k → GaveMessages l b.messages.items c (answers.Refused e k) at → GivesMessages message meaning l c at b
-    gives_refused x k e h = record {
+    pub gives_refused : (e : UnexpectedParse) (t : ℕ) (k : Bool) → b.end ≡ ends.Refused t k → GaveMessages l b.messages.items c (answers.Refused e t k) at → GivesMessages message meaning l c at b
+    gives_refused x t k e h = record {
       behind = h.behind;
       divided = h.divided;
       stop = subst (ends_messages (on_open message h.behind)) (sym e) h.told.is.0;
+      refused = subst (refused_at h.behind c.seen.unread) (sym e) (h.told.is.1, h.told.is.2);
       goes_on = λ i. absurd (let j = sym e ∙ i in cc);
       boundary = h.boundary;
     }
@@ -159,6 +161,7 @@ module _ {P T R E V S : Type 0} (message : Reading ℕ T V) (meaning : P → Mea
       behind = h.behind;
       divided = h.divided;
       stop = subst (ends_messages (on_open message h.behind)) (sym e) (v, k, subst (λ n. on_open message h.behind (Accepted v n k)) z h.told.is.0);
+      refused = subst (refused_at h.behind c.seen.unread) (sym e) tt;
       goes_on = λ i. absurd (let j = sym e ∙ i in cc);
       boundary = h.boundary;
     }
@@ -180,4 +183,4 @@ module _ {P T R E V S : Type 0} (message : Reading ℕ T V) (meaning : P → Mea
       by_test : (b : Bool) → nat_lt 0 t ≡ b → length c.seen.unread ≡ length (drop t l) → t ≤ length l → length c.seen.unread + (if b then 1 else 0) ≤ length l
       by_test true i e w = let j = ltb-true 0 t i in omega (arith, length-drop t l)
       by_test false i e w = omega (arith, length-drop t l)
-  less_to_decode l c (answers.Refused e k) h = h.is.1
+  less_to_decode l c (answers.Refused e t k) h = let i = ap length h.is.2 in omega (arith, length-drop t l)

@@ -22,7 +22,7 @@ pub record Decoding (Maker Parser Token State : Type 0) : Type 0 where
 -- how far a decoder is after such an end
 abbrev pub phase_after : BatchEnd → Phase
 phase_after ends.More = phases.Running
-phase_after (ends.Refused committed) = phases.Closed
+phase_after (ends.Refused taken committed) = phases.Closed
 phase_after ends.EmptyMessage = phases.Closed
 
 -- what a call answers that comes after an end or a fault

@@ -29,8 +29,30 @@ pub record SharesMeaning {P T R E V S : Type 0} (meaning : P → Meaning ℕ T R
 -- why no message follows, by the outcomes there
 abbrev pub ends_messages : {V : Type 0} → (Outcome V → Type 0) → BatchEnd → Type 0
 ends_messages r ends.More = r Undecided
-ends_messages r (ends.Refused k) = r (Refused k)
+ends_messages r (ends.Refused t k) = r (Refused k)
 ends_messages {V} r ends.EmptyMessage = (v : V) × (k : Bool) × r (Accepted v 0 k)
+
+-- an end without the number of tokens that a refusal counts
+abbrev pub uncounted : BatchEnd → BatchEnd
+uncounted ends.More = ends.More
+uncounted (ends.Refused t k) = ends.Refused 0 k
+uncounted ends.EmptyMessage = ends.EmptyMessage
+
+-- two ends are the same but for that number, which no meaning fixes
+abbrev pub SameEnd : BatchEnd → BatchEnd → Type 0
+SameEnd e f = uncounted e ≡ uncounted f
+
+-- the tokens that a refusal counts are tokens of this list
+abbrev pub refused_within : {T : Type 0} → List T → BatchEnd → Type 0
+refused_within l ends.More = Unit {0}
+refused_within l (ends.Refused t k) = t ≤ length l
+refused_within l ends.EmptyMessage = Unit {0}
+
+-- and where a session refused, those behind them are unread
+abbrev pub refused_at : {T : Type 0} → List T → List T → BatchEnd → Type 0
+refused_at l unread ends.More = Unit {0}
+refused_at l unread (ends.Refused t k) = (t ≤ length l) × (unread ≡ drop t l)
+refused_at l unread ends.EmptyMessage = Unit {0}
 
 module _ {T V : Type 0} (message : Reading ℕ T V) where
   -- an outcome of a message on this list, open, as at a beginning
@@ -47,6 +69,7 @@ module _ {T V : Type 0} (message : Reading ℕ T V) where
     pub behind : List T
     pub divided : DividesMessages l vs behind
     pub stop : ends_messages (on_open behind) e
+    pub refused : refused_within behind e
     pub number : n ≡ length behind
 
   module _ {P R E S : Type 0} (meaning : P → Meaning ℕ T R E V S) where
@@ -61,7 +84,7 @@ module _ {T V : Type 0} (message : Reading ℕ T V) where
     abbrev pub answers_message : List T → Course P T S → Answer V UnexpectedParse → Type 0
     answers_message l c answers.More = on_open l Undecided × After l c
     answers_message l c (answers.Accepted v t k) = on_open l (Accepted v t k) × (t ≤ length l) × (c.seen.unread ≡ drop t l)
-    answers_message l c (answers.Refused e k) = on_open l (Refused k) × (length c.seen.unread ≤ length l)
+    answers_message l c (answers.Refused e t k) = on_open l (Refused k) × (t ≤ length l) × (c.seen.unread ≡ drop t l)
 
     pub record AnswersMessage (l : List T) (c : Course P T S) (a : Answer V UnexpectedParse) : Type 0 where
       pub is : answers_message l c a
@@ -72,6 +95,7 @@ module _ {T V : Type 0} (message : Reading ℕ T V) where
       pub behind : List T
       pub divided : DividesMessages l b.messages.items behind
       pub stop : ends_messages (on_open behind) b.end
+      pub refused : refused_at behind c.seen.unread b.end
       pub goes_on : b.end ≡ ends.More → After behind c
       pub boundary : (at ≡ true) ↔ (length behind ≡ 0)
 

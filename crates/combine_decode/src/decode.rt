@@ -26,8 +26,13 @@ use types::Frame;
 pub enum BatchEnd {
     /// More input is needed.
     More,
-    /// The next message is refused.
-    Refused { committed: bool },
+    /// The next message is refused. The tokens of the messages before it, and `taken` more, stand before that place.
+    Refused {
+        /// How many tokens had been taken, from the beginning of the message, where it was refused.
+        taken: u64,
+        /// Set if it is committed.
+        committed: bool,
+    },
     /// The next message takes nothing.
     EmptyMessage,
 }
@@ -167,7 +172,7 @@ impl<F: Fn() -> P, P: Parser<fed::Stream<T>> + Drop, T: Copy + 'static> Decoder<
     ///
     /// The end is `More` exactly where the next message is undecided on the tokens after the last one, open. It goes on with the next piece from where it stopped, and what its parser put back is read again then.
     ///
-    /// Each message is given with the piece that decides it. However the tokens are cut, the messages are the same, where the maker's parsers share one meaning that has one outcome.
+    /// Each message is given with the piece that decides it. However the tokens are cut, the messages are the same, and so is the end but for how many tokens a refusal counts, where the maker's parsers share one meaning that has one outcome.
     pub fn feed(&mut self, piece: &[T]) -> Result<Batch<P::Output>, DecodeError>
         requires callable { F.IsAlwaysCallable self.old.maker }
         requires lawful { IsMade (F.post self.old.maker) P.lawful }
@@ -304,11 +309,15 @@ fn drain<F: Fn() -> P, P: Parser<fed::Stream<T>> + Drop, T: Copy + 'static>(
                     end: BatchEnd::More,
                 });
             }
-            Answer::Refused { committed, .. } => {
+            Answer::Refused {
+                taken,
+                committed,
+                ..
+            } => {
                 *boundary = at_boundary;
                 return Ok(Batch {
                     messages,
-                    end: BatchEnd::Refused { committed },
+                    end: BatchEnd::Refused { taken, committed },
                 });
             }
             Answer::Accepted { value, taken, .. } => {

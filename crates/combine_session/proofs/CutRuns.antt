@@ -8,6 +8,7 @@ use Rattle.combine_base.specs.Parser.Outcome.{Outcome, Accepted, Refused, Undeci
 use Rattle.combine_base.specs.Parser.Meaning.{Meaning, IsReading, IsSingle, IsMeaning, MeansSame}
 use Rattle.combine_session.specs.Cuts as places
 use Rattle.combine_session.specs.Cuts.{on, Decides, decided, DecidedAfterCuts, RunsCuts, ParsesWindow}
+use Rattle.combine_session.specs.Pieces.{refused_within}
 use Rattle.combine_base.proofs.Parsers.SameMeanings.{answers_same}
 use Rattle.combine_base.proofs.Parsers.Progress.{after_none}
 use Rattle.combine_session.proofs.Windows.{WindowReached, reached_later, window_judged}
@@ -90,9 +91,10 @@ module _ {P T R E A S : Type 0} (never_allocates : Type 0) (step : P → T → P
       here : WindowReached never_allocates step start m whole s t cut
       here = reached_later never_allocates step start m whole (last_cut at i) cut (next_cut (length whole) number at fit i h) s t (fit.within i h) far.reached
 
-      answered : (a : Answer A E) (o : Outcome A) → (Decides never_allocates start m whole o → decided never_allocates start m whole a) → IsDecided o → on never_allocates start m (take cut whole) true o → DecidedAfterCuts never_allocates start m whole number at i a
-      answered a o f d p = record {
+      answered : (a : Answer A E) (o : Outcome A) → (Decides never_allocates start m whole o → decided never_allocates start m whole a) → refused_within whole a → IsDecided o → on never_allocates start m (take cut whole) true o → DecidedAfterCuts never_allocates start m whole number at i a
+      answered a o f r d p = record {
         answer = f (decides o (on_all false o (stays cut false (length whole) o (fit.within i h) d p)));
+        refused = r;
         within = omega arith;
         here = far.asked;
         only = earlier;
@@ -111,8 +113,13 @@ module _ {P T R E A S : Type 0} (never_allocates : Type 0) (step : P → T → P
 
         decided_here : (a : Answer A E) → a ≢ answers.More → Parsed (Ok a) → DecidedAfterCuts never_allocates start m whole number at i a
         decided_here answers.More d p = absurd (d refl)
-        decided_here (answers.Accepted v n k) d p = answered (answers.Accepted v n k) (Accepted v n k) (λ x. x) tt (window_judged never_allocates step start m whole s t cut here counts_failures kind fresh left true taken _ p)
-        decided_here (answers.Refused e k) d p = answered (answers.Refused e k) (Refused k) (λ x. x) tt (window_judged never_allocates step start m whole s t cut here counts_failures kind fresh left true taken _ p)
+        decided_here (answers.Accepted v n k) d p = answered (answers.Accepted v n k) (Accepted v n k) (λ x. x) tt tt (window_judged never_allocates step start m whole s t cut here counts_failures kind fresh left true taken _ p)
+        decided_here (answers.Refused e n k) d p =
+            let q = window_judged never_allocates step start m whole s t cut here counts_failures kind fresh left true taken _ p in
+            let w = fit.within i h in
+            let u : n ≤ at i = q.1 in
+            let r : n ≤ length whole = omega arith in
+            answered (answers.Refused e n k) (Refused k) (λ x. x) r tt q.0
 
         -- n windows asked, one at each cut before this one
         pub decided_at_cut : (n : ℕ) → n ≡ i → (a : Answer A E) (r : Result (Answer A E) Kind) → a ≢ answers.More → r ≡ Ok a → Parsed r → RunsCuts never_allocates start m whole number at (Ok (n, a))
@@ -148,13 +155,15 @@ module _ {P T R E A S : Type 0} (never_allocates : Type 0) (step : P → T → P
 
         -- all cuts were gone through
         module _ (all : i ≡ number) where
-          all_asked : (a : Answer A E) → decided never_allocates start m whole a → DecidedAfterCuts never_allocates start m whole number at i a
-          all_asked a d = record { answer = d; within = l; here = far.asked; only = λ z j k u. omega arith }
+          all_asked : (a : Answer A E) → decided never_allocates start m whole a → refused_within whole a → DecidedAfterCuts never_allocates start m whole number at i a
+          all_asked a d r = record { answer = d; refused = r; within = l; here = far.asked; only = λ z j k u. omega arith }
 
           decided_there : (a : Answer A E) → Ended (Ok a) → DecidedAfterCuts never_allocates start m whole number at i a
           decided_there answers.More p = absurd (let q = (window_judged never_allocates step start m whole s t (length whole) there counts_failures kind fresh left false taken _ p).0 in cc)
-          decided_there (answers.Accepted v n k) p = all_asked (answers.Accepted v n k) (decides (Accepted v n k) (on_all false (Accepted v n k) (window_judged never_allocates step start m whole s t (length whole) there counts_failures kind fresh left false taken _ p)))
-          decided_there (answers.Refused e k) p = all_asked (answers.Refused e k) (decides (Refused k) (on_all false (Refused k) (window_judged never_allocates step start m whole s t (length whole) there counts_failures kind fresh left false taken _ p)))
+          decided_there (answers.Accepted v n k) p = all_asked (answers.Accepted v n k) (decides (Accepted v n k) (on_all false (Accepted v n k) (window_judged never_allocates step start m whole s t (length whole) there counts_failures kind fresh left false taken _ p))) tt
+          decided_there (answers.Refused e n k) p =
+              let q = window_judged never_allocates step start m whole s t (length whole) there counts_failures kind fresh left false taken _ p in
+              all_asked (answers.Refused e n k) (decides (Refused k) (on_all false (Refused k) q.0)) q.1
 
           -- n windows asked, as many as there are cuts
           pub decided_after_cuts : (n : ℕ) → n ≡ i → (a : Answer A E) (r : Result (Answer A E) Kind) → r ≡ Ok a → Ended r → RunsCuts never_allocates start m whole number at (Ok (n, a))

@@ -8,7 +8,7 @@ use Rattle.combine_base.specs.Parser.Outcome.{Outcome, Accepted, Refused, Undeci
 use Rattle.combine_base.specs.Parser.Meaning.{Meaning, IsReading, IsSingle, MeansSame}
 use Rattle.combine_session.specs.Sessions.{Course, left_of_session, BeginsSession, Feeds, EndsSession, by_stage}
 use Rattle.combine_session.specs.Sessions as session
-use Rattle.combine_session.specs.Pieces.{concatenated, on, Decides, decides, undecided_at, AsksAfterFirst, Decided, ParsesPieces, refusal_kind}
+use Rattle.combine_session.specs.Pieces.{concatenated, on, Decides, decides, undecided_at, AsksAfterFirst, Decided, ParsesPieces, refusal_kind, refused_within}
 use Rattle.combine_base.specs.Parser.DriverAnswers.{IsRefusal}
 use Rattle.combine_base.specs.declared.stream.Kind.{Kind}
 use Rattle.combine_base.specs.declared.stream.Kind.TheVariants as kinds
@@ -150,7 +150,7 @@ module _ {P T R E A S : Type 0} (meaning : P → Meaning ℕ T R E A S) (m : Mea
       pub decided_at_piece : (a : Answer A UnexpectedParse) → a ≢ answers.More → Feeds meaning valid c new piece true (Ok a) → Decided m.whole whole (length fed) a
       decided_at_piece answers.More d h = absurd (d refl)
       decided_at_piece (answers.Accepted v t k) d h = answered (answers.Accepted v t k) (Accepted v t k) (λ x. x) tt (fed_now _ h).1.is.means.is
-      decided_at_piece (answers.Refused e k) d h = answered (answers.Refused e k) (Refused k) (λ x. x) tt (fed_now _ h).1.is.means.is
+      decided_at_piece (answers.Refused e t k) d h = answered (answers.Refused e t k) (Refused k) (λ x. x) tt (fed_now _ h).1.is.means.is
 
   module _ (valid : S → Type 0) (fed : List (List T)) (c : Course P T S) (far : AskedAfterPieces fed c) (new : Course P T S) where
     last : (o : Outcome A) → left_of_session meaning c [] false o → Decides m.whole (concatenated fed) o
@@ -168,7 +168,7 @@ module _ {P T R E A S : Type 0} (meaning : P → Meaning ℕ T R E A S) (m : Mea
     pub decided_at_end : (a : Answer A UnexpectedParse) → EndsSession meaning valid c new [] false (Ok a) → Decided m.whole fed (length fed) a
     decided_at_end answers.More h = absurd (let e = (ended_now _ h).is.is_open in cc)
     decided_at_end (answers.Accepted v t k) h = ended (answers.Accepted v t k) (last (Accepted v t k) (ended_now _ h).is.means.is)
-    decided_at_end (answers.Refused e k) h = ended (answers.Refused e k) (last (Refused k) (ended_now _ h).is.means.is)
+    decided_at_end (answers.Refused e t k) h = ended (answers.Refused e t k) (last (Refused k) (ended_now _ h).is.means.is)
 
 -- nothing is fed yet
 pub before_any_piece : {P T R E A S : Type 0} {most : Option ℕ} (meaning : P → Meaning ℕ T R E A S) (valid : S → Type 0) (determined : P → Type 0) (p : P) (c : Course P T S) → BeginsSession meaning valid determined most p c → AskedAfterPieces meaning (meaning p) [] c
@@ -224,11 +224,24 @@ module _ {P T R E A S : Type 0} (meaning : P → Meaning ℕ T R E A S) (m : Mea
     kind_at : (a : Answer A UnexpectedParse) → Feeds meaning valid c new piece true (Ok a) → refusal_kind a
     kind_at answers.More h = tt
     kind_at (answers.Accepted v t k) h = tt
-    kind_at (answers.Refused e k) h = open_kind e.0 (fed_now meaning m valid (take n pieces) c far piece new _ h).1.is.kind
+    kind_at (answers.Refused e t k) h = open_kind e.0 (fed_now meaning m valid (take n pieces) c far piece new _ h).1.is.kind
+
+    -- what a refusal counts was fed
+    refused_at : (a : Answer A UnexpectedParse) → Feeds meaning valid c new piece true (Ok a) → refused_within (concatenated pieces) a
+    refused_at answers.More h = tt
+    refused_at (answers.Accepted v t k) h = tt
+    refused_at (answers.Refused e t k) h =
+        let p = (fed_now meaning m valid (take n pieces) c far piece new _ h).1.is in
+        let a = p.all in
+        let b = p.leaves.taken in
+        let d = p.leaves.within in
+        let f = no_longer in
+        let r : t ≤ length (concatenated pieces) = omega (arith, length-append c.seen.unread piece) in
+        r
 
     -- the answer to all pieces, where the session decided at this one
     pub decides_at : IsReading m.whole → (a : Answer A UnexpectedParse) → a ≢ answers.More → Feeds meaning valid c new piece true (Ok a) → ParsesPieces m.whole m.heapless pieces (Ok a)
-    decides_at law a d h = record { is = ((stops_at law a d h).answer, kind_at a h) }
+    decides_at law a d h = record { is = record { answer = (stops_at law a d h).answer; kind = kind_at a h; refused = refused_at a h } }
 
     -- why there is none, where it failed at this one and had no limit
     pub fails_at_piece : c.limit ≡ None → (e : SessionError) → Feeds meaning valid c new piece true (Err e) → ParsesPieces m.whole m.heapless pieces (Err e)
@@ -248,11 +261,24 @@ module _ {P T R E A S : Type 0} (meaning : P → Meaning ℕ T R E A S) (m : Mea
     kind_at_end : (a : Answer A UnexpectedParse) → EndsSession meaning valid c new [] false (Ok a) → refusal_kind a
     kind_at_end answers.More h = tt
     kind_at_end (answers.Accepted v t k) h = tt
-    kind_at_end (answers.Refused e k) h = (ended_now meaning m valid (take n pieces) c far new _ h).is.kind
+    kind_at_end (answers.Refused e t k) h = (ended_now meaning m valid (take n pieces) c far new _ h).is.kind
+
+    refused_at_end : (a : Answer A UnexpectedParse) → EndsSession meaning valid c new [] false (Ok a) → refused_within (concatenated pieces) a
+    refused_at_end answers.More h = tt
+    refused_at_end (answers.Accepted v t k) h = tt
+    refused_at_end (answers.Refused e t k) h =
+        let p = (ended_now meaning m valid (take n pieces) c far new _ h).is in
+        let a = p.all in
+        let b = p.leaves.taken in
+        let d = p.leaves.within in
+        let f = far_all.within in
+        let u = ap length far_all.unread in
+        let r : t ≤ length (concatenated pieces) = omega (arith, length-append c.seen.unread [], length-drop c.seen.position (concatenated pieces)) in
+        r
 
     -- the answer at the end
     pub answers_at_end : (r : Result (Answer A UnexpectedParse) SessionError) → EndsSession meaning valid c new [] false r → ParsesPieces m.whole m.heapless pieces r
-    answers_at_end (Ok a) h = record { is = ((decided_after_pieces a h).answer, kind_at_end a h) }
+    answers_at_end (Ok a) h = record { is = record { answer = (decided_after_pieces a h).answer; kind = kind_at_end a h; refused = refused_at_end a h } }
     answers_at_end (Err errors.Memory) h = record { is = tt }
     answers_at_end (Err (errors.Fault k)) h = let f = (ended_now meaning m valid (take n pieces) c far new _ h).is in record { is = (f.memory, λ l. f.wanted (far.same.heapless.0 l)) }
     answers_at_end (Err errors.TooLong) h = absurd (ended_now meaning m valid (take n pieces) c far new _ h)

@@ -66,8 +66,8 @@ module _ {P T R A S : Type 0} (fresh : S → Type 0) (meaning : P → Meaning �
       all = refl;
     }
 
-    refuses : (e : UnexpectedParse) (k : Bool) → IsRefusal more e.0 → Refuses (over_fed fresh) (meaning old.parser) then k → session.RefusesPiece meaning valid old new piece more e k
-    refuses e k i h = record { means = means (Refused k) (Refused k) refl h.meant; leaves = leaves h.leaves.count h.leaves.taken; kind = i }
+    refuses : (e : UnexpectedParse) (k : Bool) → IsRefusal more e.0 → Refuses (over_fed fresh) (meaning old.parser) then k → session.RefusesPiece meaning valid old new piece more e new.seen.position k
+    refuses e k i h = record { means = means (Refused k) (Refused k) refl h.meant; leaves = leaves h.leaves.count h.leaves.taken; all = refl; kind = i }
 
     onward : Asks (over_fed fresh) (meaning old.parser) then → more ≡ true → (x : List T) (m : Bool) (o : Outcome A) → left_of_session meaning new x m o → left_of_session meaning old (piece ++ x) m o
     onward h i x m o p =
@@ -85,11 +85,11 @@ module _ {P T R A S : Type 0} (fresh : S → Type 0) (meaning : P → Meaning �
       none = λ k. let c = h.none k in let t = taken_count h.count (extended piece more old.seen) new.seen h.taken in omega arith;
     }
 
-    at_end : (e : UnexpectedParse) (b : Bool) → more ≡ b → e.0 ≡ kinds.End → asks_or_refuses (over_fed fresh) (meaning old.parser) then b → session.parsed_piece meaning valid old new piece more (answer_to_error e b kinds.End)
+    at_end : (e : UnexpectedParse) (b : Bool) → more ≡ b → e.0 ≡ kinds.End → asks_or_refuses (over_fed fresh) (meaning old.parser) then b → session.parsed_piece meaning valid old new piece more (answer_to_error e b new.seen.position kinds.End)
     at_end e true i j h = asks i h
     at_end e false i j h = refuses e true (rw (i, j) tt) h
 
-    failing : (e : UnexpectedParse) (k : Kind) → e.0 ≡ k → fails (over_fed fresh) (meaning old.parser) then k → session.parsed_piece meaning valid old new piece more (answer_to_error e more k)
+    failing : (e : UnexpectedParse) (k : Kind) → e.0 ≡ k → fails (over_fed fresh) (meaning old.parser) then k → session.parsed_piece meaning valid old new piece more (answer_to_error e more new.seen.position k)
     failing e kinds.Refused j h = refuses e true (rw j tt) h
     failing e kinds.End j h = at_end e more refl j h
     failing e kinds.Memory j h = record { memory = refl; wanted = h.0 tt; leaves = leaves h.1.count h.1.taken }
@@ -97,7 +97,7 @@ module _ {P T R A S : Type 0} (fresh : S → Type 0) (meaning : P → Meaning �
     failing e kinds.Reset j h = absurd (let c = h.0 in omega arith)
     failing e kinds.Lost j h = absurd (found h.0)
 
-    peeking : (e : UnexpectedParse) (k : Kind) → e.0 ≡ k → peeks (over_fed fresh) (meaning old.parser) then k → session.RefusesPiece meaning valid old new piece more e false
+    peeking : (e : UnexpectedParse) (k : Kind) → e.0 ≡ k → peeks (over_fed fresh) (meaning old.parser) then k → session.RefusesPiece meaning valid old new piece more e new.seen.position false
     peeking e kinds.Refused j h = refuses e false (rw j tt) h
     peeking e kinds.End j h = refuses e false (rw (h.0, j) tt) h.1
     peeking e kinds.Memory j h = absurd h
@@ -110,7 +110,7 @@ module _ {P T R A S : Type 0} (fresh : S → Type 0) (meaning : P → Meaning �
     parsed (PeekOk a) h = accepts a false h.is
     parsed (CommitErr e) h =
         let i = same_mark (over_fed fresh) (meaning old.parser) then e h in
-        subst (λ b. session.parsed_piece meaning valid old new piece more (answer_to_error e b e.0)) (sym i) (failing e e.0 refl h.is)
+        subst (λ b. session.parsed_piece meaning valid old new piece more (answer_to_error e b new.seen.position e.0)) (sym i) (failing e e.0 refl h.is)
     parsed (PeekErr t) h = peeking t.error t.error.0 refl h.is
 
   -- what a parser answered on the piece behind the unread tokens, as the session answers it
@@ -181,13 +181,13 @@ module _ {P T R E A S : Type 0} (meaning : P → Meaning ℕ T R E A S) (valid :
   pub leaves_few : (r : Result (Answer A UnexpectedParse) Kind) → session.ParsesPiece meaning valid old new piece more r → length new.seen.unread ≤ length old.seen.unread + length piece
   leaves_few (Ok answers.More) h = few_left h.is.leaves
   leaves_few (Ok (answers.Accepted v t k)) h = few_left h.is.leaves
-  leaves_few (Ok (answers.Refused e k)) h = few_left h.is.leaves
+  leaves_few (Ok (answers.Refused e t k)) h = few_left h.is.leaves
   leaves_few (Err k) h = few_left h.is.leaves
 
   pub keeps_none : (r : Result (Answer A UnexpectedParse) Kind) → session.ParsesPiece meaning valid old new piece more r → stage_after r ≡ stages.Running → (meaning new.parser).keeps → new.seen.unread ≡ []
   keeps_none (Ok answers.More) h e k = h.is.all (h.same.keeps.1 k)
   keeps_none (Ok (answers.Accepted v t c)) h e k = absurd (cc)
-  keeps_none (Ok (answers.Refused x c)) h e k = absurd (cc)
+  keeps_none (Ok (answers.Refused x t c)) h e k = absurd (cc)
   keeps_none (Err x) h e k = absurd (cc)
 
 -- fewer tokens are within a limit too

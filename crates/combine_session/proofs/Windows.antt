@@ -148,18 +148,18 @@ module _ {P T R E A S : Type 0} (never_allocates : Type 0) (step : P → T → P
         abbrev pub IsWindowAnswer : Result (Answer A E) Kind → Type 0
         IsWindowAnswer (Ok answers.More) = (more ≡ true) × on never_allocates start m (take c whole) more Undecided × WindowReached left taken c
         IsWindowAnswer (Ok (answers.Accepted value n committed)) = on never_allocates start m (take c whole) more (Accepted value n committed)
-        IsWindowAnswer (Ok (answers.Refused error committed)) = on never_allocates start m (take c whole) more (Refused committed)
+        IsWindowAnswer (Ok (answers.Refused error n committed)) = on never_allocates start m (take c whole) more (Refused committed) × (n ≤ c)
         IsWindowAnswer (Err k) = (k ≡ kinds.Memory) × (never_allocates → m.heapless → ⊥)
 
         accepted : (a : A) (k : Bool) → Accepts world m run a k → on never_allocates start m (take c whole) more (Accepted a taken k)
         accepted a k p = subst (λ n. on never_allocates start m (take c whole) more (Accepted a n k)) (sym (place_after p.count taken p.taken e)) (window_outcome more (Accepted a p.count k) p.meant)
 
-        at_end : (x : E) (b : Bool) → more ≡ b → asks_or_refuses world m run b → IsWindowAnswer (answer_to_error x b kinds.End)
+        at_end : (x : E) (b : Bool) → more ≡ b → asks_or_refuses world m run b → IsWindowAnswer (answer_to_error x b taken kinds.End)
         at_end x true i p = (i, window_outcome more Undecided p.meant, asked taken e p)
-        at_end x false i p = window_outcome more (Refused true) p.meant
+        at_end x false i p = (window_outcome more (Refused true) p.meant, omega arith)
 
-        failed : (x : E) (k : Kind) → fails world m run k → IsWindowAnswer (answer_to_error x more k)
-        failed x kinds.Refused p = window_outcome more (Refused true) p.meant
+        failed : (x : E) (k : Kind) → fails world m run k → IsWindowAnswer (answer_to_error x more taken k)
+        failed x kinds.Refused p = (window_outcome more (Refused true) p.meant, omega arith)
         failed x kinds.End p = at_end x more refl p
         failed x kinds.Memory p = (refl, p.0)
         failed x kinds.Read p = absurd (let a = p.0 in omega arith)
@@ -178,7 +178,7 @@ module _ {P T R E A S : Type 0} (never_allocates : Type 0) (step : P → T → P
         judging (CommitOk a) h = accepted a true h.is
         judging (PeekOk a) h = accepted a false h.is
         judging (CommitErr x) h = failed x (kind x) h.is
-        judging (PeekErr x) h = peeked (kind x.error) h.is
+        judging (PeekErr x) h = (peeked (kind x.error) h.is, omega arith)
 
     pub window_judged : (counts_failures : Type 0) (kind : E → Kind) (fresh : S → Type 0) (left : S) (more : Bool) (taken : ℕ) (result : Result (Answer A E) Kind) (p : ParsesWindow never_allocates counts_failures step kind fresh start m s left whole t c more taken result) → IsWindowAnswer counts_failures kind fresh left more p.new p.failures taken p.place result
     window_judged counts_failures kind fresh left more taken result p = subst (IsWindowAnswer counts_failures kind fresh left more p.new p.failures taken p.place) (sym p.is) (judging counts_failures kind fresh left more p.new p.failures taken p.place p.parsed p.answers)

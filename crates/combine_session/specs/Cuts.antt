@@ -6,6 +6,7 @@ use Rattle.combine_base.specs.Parser.Meaning.{Meaning, IsSingle}
 use Rattle.combine_base.specs.Error.Errors.{Observers}
 use Rattle.combine_base.specs.Parser.Answer.{Answers}
 use Rattle.combine_base.specs.Parser.DriverAnswers.{answer_to}
+use Rattle.combine_session.specs.Pieces.{refused_within}
 use Rattle.combine_base.specs.declared.stream.Kind.{Kind}
 use Rattle.combine_base.specs.declared.stream.Kind.TheVariants as kinds
 use Rattle.combine_base.specs.declared.stream.Failures.{Failures}
@@ -41,12 +42,13 @@ module _ {P T R E Value State : Type 0} (never_allocates : Type 0) (start : P) (
   abbrev pub decided : List T → Answer Value E → Type 0
   decided x answers.More = ⊥
   decided x (answers.Accepted value taken committed) = Decides x (Accepted value taken committed)
-  decided x (answers.Refused error committed) = Decides x (Refused committed)
+  decided x (answers.Refused error taken committed) = Decides x (Refused committed)
 
   module _ (whole : List T) (number : ℕ) (at : ℕ → ℕ) where
     -- There are so many cuts, each behind so many tokens. The answer is one on the whole, and more was asked for at the first n cuts: before each of them it is undecided, and where there is only one outcome, before no other.
     pub record DecidedAfterCuts (n : ℕ) (a : Answer Value E) : Type 0 where
       pub answer : decided whole a
+      pub refused : refused_within whole a
       pub within : n ≤ number
       pub here : (i : ℕ) → i < n → on (take (at i) whole) true Undecided
       pub only : IsSingle m.whole → (i : ℕ) → i < number → on (take (at i) whole) true Undecided → i < n

@@ -28,7 +28,7 @@ module _ {Token Value : Type 0} (r : Reading ℕ Token Value) where
   abbrev pub decides : {E : Type 0} → List Token → Answer Value E → Type 0
   decides x answers.More = ⊥
   decides x (answers.Accepted value taken committed) = Decides x (Accepted value taken committed)
-  decides x (answers.Refused error committed) = Decides x (Refused committed)
+  decides x (answers.Refused error taken committed) = Decides x (Refused committed)
 
   module _ (pieces : List (List Token)) where
     -- at the end of the piece with this index, more being open, it is undecided
@@ -51,12 +51,24 @@ module _ {Token Value : Type 0} (r : Reading ℕ Token Value) where
 abbrev pub refusal_kind : {Value : Type 0} → Answer Value UnexpectedParse → Type 0
 refusal_kind answers.More = Unit {0}
 refusal_kind (answers.Accepted value taken committed) = Unit {0}
-refusal_kind (answers.Refused error committed) = IsRefusal false error.0
+refusal_kind (answers.Refused error taken committed) = IsRefusal false error.0
+
+-- the tokens that a refusal counts are tokens of this list
+abbrev pub refused_within : {Token Value E : Type 0} → List Token → Answer Value E → Type 0
+refused_within x answers.More = Unit {0}
+refused_within x (answers.Accepted value taken committed) = Unit {0}
+refused_within x (answers.Refused error taken committed) = taken ≤ length x
+
+-- the answer is an outcome on these tokens, ended, and says no more tokens and no other error than it may
+pub record AnswersWhole {Token Value : Type 0} (r : Reading ℕ Token Value) (x : List Token) (a : Answer Value UnexpectedParse) : Type 0 where
+  pub answer : decides r x a
+  pub kind : refusal_kind a
+  pub refused : refused_within x a
 
 module _ {Token Value : Type 0} (r : Reading ℕ Token Value) (heapless : Type 0) (pieces : List (List Token)) where
   -- the answer is an outcome on all pieces concatenated, ended; or there was no memory, or more than 2^64 - 1 tokens
   abbrev pub parses_pieces : Result (Answer Value UnexpectedParse) SessionError → Type 0
-  parses_pieces (Ok a) = decides r (concatenated pieces) a × refusal_kind a
+  parses_pieces (Ok a) = AnswersWhole r (concatenated pieces) a
   parses_pieces (Err errors.Memory) = Unit {0}
   parses_pieces (Err (errors.Fault k)) = (k ≡ kinds.Memory) × (heapless → ⊥)
   parses_pieces (Err errors.TooLong) = 2 ^ 64 ≤ length (concatenated pieces)

@@ -42,7 +42,7 @@ session_answer v parsed = answer_to (λ e. e.0) v.is_open v.position parsed
 abbrev pub stage_after : {Value E : Type 0} → Result (Answer Value E) Kind → Stage
 stage_after (Ok answers.More) = stages.Running
 stage_after (Ok (answers.Accepted value taken committed)) = stages.Decided
-stage_after (Ok (answers.Refused error committed)) = stages.Decided
+stage_after (Ok (answers.Refused error taken committed)) = stages.Decided
 stage_after (Err k) = stages.Failed
 
 -- an answer, or a fault as a session's
@@ -114,9 +114,10 @@ module _ {Parser Token Range Error Value State : Type 0} (meaning : Parser → M
         pub leaves : LeavesUnread
         pub all : new.seen.position ≡ taken
 
-      pub record RefusesPiece (error : UnexpectedParse) (committed : Bool) : Type 0 where
+      pub record RefusesPiece (error : UnexpectedParse) (taken : ℕ) (committed : Bool) : Type 0 where
         pub means : Means (Refused committed)
         pub leaves : LeavesUnread
+        pub all : new.seen.position ≡ taken
         pub kind : IsRefusal more error.0
 
       pub record FailsOnPiece (why : Kind) : Type 0 where
@@ -127,7 +128,7 @@ module _ {Parser Token Range Error Value State : Type 0} (meaning : Parser → M
       abbrev pub parsed_piece : Result (Answer Value UnexpectedParse) Kind → Type 0
       parsed_piece (Ok answers.More) = AsksAfterPiece
       parsed_piece (Ok (answers.Accepted value taken committed)) = AcceptsPiece value taken committed
-      parsed_piece (Ok (answers.Refused error committed)) = RefusesPiece error committed
+      parsed_piece (Ok (answers.Refused error taken committed)) = RefusesPiece error taken committed
       parsed_piece (Err k) = FailsOnPiece k
 
       -- a parse of the piece behind the unread tokens

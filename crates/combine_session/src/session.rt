@@ -134,6 +134,8 @@ impl<P: Parser<fed::Stream<T>>, T: Copy + 'static> Session<P, T> {
 
     /// Feeds a piece, which may be empty, and returns what the parser makes of the input so far.
     ///
+    /// After a refusal `unread` begins with the token that comes after the `taken` ones, so this is where it refused.
+    ///
     /// # Errors
     ///
     /// - `Closed` after a decision, and `Failed` after a fault.
@@ -181,7 +183,7 @@ impl<P: Parser<fed::Stream<T>>, T: Copy + 'static> Session<P, T> {
     ///
     /// What follows is fed as before. Before a decision, what the parser has taken so far is let go. No token is moved, and the session takes no memory.
     ///
-    /// The position is 0 again, so an acceptance counts the tokens of its own parse, and only those count for `TooLong`. The limit stays.
+    /// The position is 0 again, so an acceptance and a refusal count the tokens of their own parse, and only those count for `TooLong`. The limit stays.
     ///
     /// # Errors
     ///
@@ -217,7 +219,7 @@ impl<P: Parser<fed::Stream<T>>, T: Copy + 'static> Session<P, T> {
 
 /// Parses the pieces as one input, which then ends. Our own.
 ///
-/// However the input is cut, the result is what the parser means on all of it. An acceptance counts the tokens from its beginning. The error of a refusal is of kind `Refused`, or `End` where the input ended too soon. Pieces after a decision are not looked at.
+/// However the input is cut, the result is what the parser means on all of it. An acceptance counts the tokens from its beginning, and so does a refusal: `taken` of them, at most all, had been taken where it refused. The error of a refusal is of kind `Refused`, or `End` where the input ended too soon. Pieces after a decision are not looked at.
 ///
 /// # Errors
 ///

@@ -21,7 +21,7 @@ pub fn messages_go_on<F: Fn() -> P, P: Parser<fed::Stream<T>>, T: Copy + 'static
 
 /// The law that tokens have one division into messages, and one end, where the maker's parsers share one meaning that has one outcome.
 ///
-/// A message's value is any that the meaning allows.
+/// A message's value is any that the meaning allows. How many tokens a refusal counts is not said by a meaning, so ends are compared without it.
 pub fn messages_are_one<F: Fn() -> P, P: Parser<fed::Stream<T>>, T: Copy + 'static>(maker: &F)
     requires lawful { IsMade (F.post maker.now) P.lawful }
     requires determined { IsMade (F.post maker.now) P.determined }
@@ -30,6 +30,8 @@ pub fn messages_are_one<F: Fn() -> P, P: Parser<fed::Stream<T>>, T: Copy + 'stat
 {}
 
 /// The law that however the same tokens are cut into pieces, there are as many messages, and the same end, where the maker's parsers share one meaning that has one outcome.
+///
+/// The ends may differ in how many tokens a refusal counts.
 pub fn cuts_agree<F: Fn() -> P, P: Parser<fed::Stream<T>>, T: Copy + 'static>(maker: &F)
     requires lawful { IsMade (F.post maker.now) P.lawful }
     requires determined { IsMade (F.post maker.now) P.determined }

@@ -9,7 +9,7 @@ pub returns-in-More : goal.returns-in-More
 returns-in-More g c tokens h b = (gives_more _ _ tokens _ _ _ refl (rw c.in-More.is at (c.messages.invariant.far tokens h b)), c.messages.invariant.limit)
 
 pub returns-in-Refused : goal.returns-in-Refused
-returns-in-Refused g c tokens h b = (gives_refused _ _ tokens _ _ _ _ _ refl (rw c.in-Refused.is at (c.messages.invariant.far tokens h b)), c.messages.invariant.limit)
+returns-in-Refused g c tokens h b = (gives_refused _ _ tokens _ _ _ _ _ _ refl (rw c.in-Refused.is at (c.messages.invariant.far tokens h b)), c.messages.invariant.limit)
 
 pub returns-then-taken-eq0 : goal.returns-then-taken-eq0
 returns-then-taken-eq0 g c tokens h b = (gives_empty _ _ tokens _ _ _ _ _ _ c.if-taken-eq0.true refl (rw c.in-Accepted.is at (c.messages.invariant.far tokens h b)), c.messages.invariant.limit)
