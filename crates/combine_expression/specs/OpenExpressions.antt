@@ -118,6 +118,11 @@ abbrev pub unless_memory : Type 0 → OperatorError → Type 0
 unless_memory refuses (operator_errors.Refused m) = refuses
 unless_memory refuses operator_errors.Memory = Unit {0}
 
+-- and so an expression doesn't go on
+abbrev pub fault_of : OperatorError → Fault
+fault_of (operator_errors.Refused m) = faults.Refused m
+fault_of operator_errors.Memory = faults.Memory
+
 module _ {O V : Type 0} (refuses_operand : O → V → Type 0) (refuses_operands : O → V → V → Type 0) where
   -- an operator refuses its operands
   pub data OperatorRefuses : Type 0 where

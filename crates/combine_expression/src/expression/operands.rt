@@ -2,7 +2,7 @@
 ghost use Rattle.std.specs.Prelude.{◌≡◌, [], ◌∷◌, ◌++◌, MatchResult, None, length, reverse, slice_get, vec_items};
 ghost use Rattle.combine_expression.specs.Levels.{IsExpression, Infix, Operand, Postfix, Prefix};
 ghost use Rattle.combine_expression.specs.Shapes.{fits_behind, fits_in_front, sides_of};
-ghost use Rattle.combine_expression.specs.OpenExpressions.{EndsEarly, AddsThing, HoldsOperand, Misfits, Reduced, ReducedAbove, StandsIn, asked_level, blames, makes_of, operator_refuses, unless_memory};
+ghost use Rattle.combine_expression.specs.OpenExpressions.{EndsEarly, AddsThing, HoldsOperand, Misfits, Reduced, ReducedAbove, StandsIn, asked_level, blames, fault_of, makes_of, operator_refuses, unless_memory};
 
 use super::{Fixity, Operator, OperatorError};
 use std::alloc::{AllocError, Global};
@@ -160,6 +160,16 @@ fn operate<O: Operator>(
     }
 }
 
+/// Returns why an expression doesn't go on whose operator makes no value.
+fn fault_of(error: OperatorError) -> Fault
+    ensures { result ≡ fault_of error }
+{
+    match error {
+        OperatorError::Refused(message) => Fault::Refused(message),
+        OperatorError::Memory => Fault::Memory,
+    }
+}
+
 /// Returns an operator with its operands, as an operand.
 fn reduce<O: Operator>(
     waits: Pending<O, O::Value>,
@@ -175,8 +185,7 @@ fn reduce<O: Operator>(
     } = waits;
     match operate(operator, left, right) {
         Ok(value) => Ok(Held { value, level }),
-        Err(OperatorError::Refused(message)) => Err(Fault::Refused(message)),
-        Err(OperatorError::Memory) => Err(Fault::Memory),
+        Err(error) => Err(fault_of(error)),
     }
 }
 
