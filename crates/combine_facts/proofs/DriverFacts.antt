@@ -50,8 +50,8 @@ pieces_read {T} {A} {r} {says} {heapless} {pieces} {result} {holds} h z f = by_c
   where
     by_case : (result : Result (Answer A UnexpectedParse) SessionError) → parses_pieces r heapless pieces result → IfAccepted result holds
     by_case (Ok answers.More) w = tt
-    by_case (Ok (answers.Accepted a n k)) w = let x = outcome_says h (record { position = 0; unread = concatenated pieces; is_open = false }) a n k w.0.is in f a n x.0 x.1 x.2 x.3 x.4
-    by_case (Ok (answers.Refused e k)) w = tt
+    by_case (Ok (answers.Accepted a n k)) w = let x = outcome_says h (record { position = 0; unread = concatenated pieces; is_open = false }) a n k w.answer.is in f a n x.0 x.1 x.2 x.3 x.4
+    by_case (Ok (answers.Refused e n k)) w = tt
     by_case (Err e) w = tt
 
 -- a session: what it was fed, from its beginning to the piece that decides

@@ -9,7 +9,7 @@ use Rattle.combine_base.specs.declared.parser.answer.Answer.TheVariants.{More, A
 abbrev pub IfAccepted : {A E F : Type 0} → Result (Answer A E) F → (A → ℕ → Type 0) → Type 0
 IfAccepted (Ok More) P = Unit {0}
 IfAccepted (Ok (Accepted value taken committed)) P = P value taken
-IfAccepted (Ok (Refused error committed)) P = Unit {0}
+IfAccepted (Ok (Refused error taken committed)) P = Unit {0}
 IfAccepted (Err e) P = Unit {0}
 
 -- with these tokens before them, what is left on further ones is an outcome of the reading on all

@@ -30,11 +30,11 @@ module _ {T V : Type 0} (r q : Reading ℕ T V) (has : (v : View ℕ T) (o : Out
 
   stops_as : (l : List T) (e : BatchEnd) → ends_messages (on_open r l) e → ends_messages (on_open q l) e
   stops_as l ends.More s = has (record { position = 0; unread = l; is_open = true }) Undecided s
-  stops_as l (ends.Refused k) s = has (record { position = 0; unread = l; is_open = true }) (Refused k) s
+  stops_as l (ends.Refused n k) s = has (record { position = 0; unread = l; is_open = true }) (Refused k) s
   stops_as l ends.EmptyMessage s = (s.0, s.1, has (record { position = 0; unread = l; is_open = true }) (Accepted s.0 0 s.1) s.2)
 
   messages_as : (l : List T) (vs : List V) (e : BatchEnd) (n : ℕ) → Messages r l vs e n → Messages q l vs e n
-  messages_as l vs e n m = record { behind = m.behind; divided = divides_as l vs m.behind m.divided; stop = stops_as m.behind e m.stop; number = m.number }
+  messages_as l vs e n m = record { behind = m.behind; divided = divides_as l vs m.behind m.divided; stop = stops_as m.behind e m.stop; refused = m.refused; number = m.number }
 
 -- what is written of the messages by one is what is to be written of those by the other
 pub decodes_as : (r q : Reading ℕ ℕ (Vec ℕ)) (has : (v : View ℕ ℕ) (o : Outcome (Vec ℕ)) → r v o → q v o) (input : List ℕ) (old new : Option (List ℕ)) (result : Result Bool Fault) → DecodesInput r input old new result → DecodesInput q input old new result

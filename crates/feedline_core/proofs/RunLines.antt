@@ -168,9 +168,9 @@ module _ {S : Type 0} (r : Reading ℕ ℕ Message) (kept : S → Reading ℕ �
         Appends-trans old now new (more_lines w.unread) _ w.lines h.1,
       );
     }
-    lines_decided (answers.Refused e k) d (Ok accepted) h = record {
+    lines_decided (answers.Refused e t k) d (Ok accepted) h = record {
       is = (
-        more_lines w.unread ++ answer_line (answers.Refused e k),
+        more_lines w.unread ++ answer_line (answers.Refused e t k),
         record { outcome = Refused k; decides = d.answer; unread = w.unread; asked = asked d.asked; leaves = left; fit = fit; lines = refl; accepts = h.0 },
         Appends-trans old now new (more_lines w.unread) _ w.lines h.1,
       );

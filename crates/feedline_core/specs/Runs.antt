@@ -24,12 +24,12 @@ is_accepted Undecided = false
 abbrev pub answer_line : {E : Type 0} → Answer Message E → List ℕ
 answer_line answers.More = []
 answer_line (answers.Accepted m taken committed) = accepted_line m taken
-answer_line (answers.Refused error committed) = refused_line committed
+answer_line (answers.Refused error taken committed) = refused_line committed
 
 abbrev pub answer_accepts : {E : Type 0} → Answer Message E → Bool
 answer_accepts answers.More = false
 answer_accepts (answers.Accepted m taken committed) = true
-answer_accepts (answers.Refused error committed) = false
+answer_accepts (answers.Refused error taken committed) = false
 
 -- a line for each number of unread bytes
 abbrev pub more_lines : List ℕ → List ℕ
