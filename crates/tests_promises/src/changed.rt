@@ -7,8 +7,8 @@ use combine::parser::combinator::{ignore, map, recognize, spanned};
 use combine::parser::error::{expected, message, silent, unexpected, unexpected_any};
 use combine::parser::repeat::Sink;
 use combine::parser::token::any;
-use combine::stream::span::{self, SpannedError};
 use combine::stream::Stream;
+use combine::stream::span::{self, SpannedError};
 use std::alloc::Global;
 
 fn changed<Input: Stream<Token = u8>>(alloc: Global)

@@ -58,7 +58,8 @@ impl Operator for Plus {
     }
 
     fn join(self, left: u8, right: u8) -> Result<u8, OperatorError> {
-        left.checked_add(right).ok_or(OperatorError::Refused("sum too large"))
+        left.checked_add(right)
+            .ok_or(OperatorError::Refused("sum too large"))
     }
 }
 
